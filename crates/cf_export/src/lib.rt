@@ -1,0 +1,46 @@
+//! The exports of all stacks, and which stack pins which export.
+#![tactic(auto)]
+
+ghost use Rattle.std.specs.Prelude.{◌≡◌, ◌&&◌, not, find, option_copied};
+ghost use Rattle.std.specs.List.{list_any};
+ghost use Rattle.std.specs.Str.{bytes_eq};
+ghost use Rattle.cf_export.specs.Export.{holds_name, pins_name};
+
+use cf_tree::{Listing, Txt};
+
+/// An exported output of a stack (User Guide, exporting stack output values): its name is that of one stack alone.
+#[derive(Drop, PartialEq, Eq)]
+pub struct Export {
+    pub name: Txt,
+    pub value: Txt,
+    pub stack: Txt,
+}
+
+/// The exports of all stacks, by name.
+pub type Exports = Listing<Export>;
+
+/// A stack, and the name of an export that it imports or means to make.
+#[derive(Drop, PartialEq, Eq)]
+pub struct Pin {
+    pub stack: Txt,
+    pub name: Txt,
+}
+
+/// Which stack pins, or claims, which export.
+pub type Pins = Listing<Pin>;
+
+/// The export of a name: the first in the list that has it, and None exactly where none has. It takes no memory.
+pub fn holder<'a>(all: &'a Exports, name: &Txt) -> Option<&'a Export>
+    ensures { option_copied result ≡ find (holds_name name.now) all.now }
+{
+    all.as_slice().iter().find(|export| export.name == *name)
+}
+
+/// Whether a stack other than `except` pins the name. It takes no memory.
+pub fn pinned(pins: &Pins, name: &Txt, except: &Txt) -> bool
+    ensures { result ≡ list_any (pins_name name.now except.now) pins.now }
+{
+    pins.as_slice()
+        .iter()
+        .any(|pin| pin.name == *name && pin.stack != *except)
+}
