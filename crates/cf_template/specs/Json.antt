@@ -1,0 +1,22 @@
+-- The JSON value that bytes are (RFC 8259), as `serde_json` reads it.
+use Rattle.std.specs.Prelude.{◌≡◌, ℕ, suc, List, Option, None, if◌then◌else◌, ⊤}
+use Rattle.std.specs.Str.{is_utf8}
+use Rattle.serde_json.specs.Data.{Data, Members, no_members, member}
+use Rattle.serde_json.specs.Read.{read}
+use Rattle.cf_template.specs.declared.fault.TemplateFault.{TemplateFault}
+use Rattle.cf_template.specs.declared.fault.TemplateFault.TheVariants.{NotJson, NoMemory, NotYet}
+
+-- the value, where the bytes are the UTF-8 text of one that nests no deeper than 127
+abbrev pub json_of : List ℕ → Option Data
+json_of bytes = if is_utf8 bytes then read bytes else None
+
+-- why bytes are read as no value
+abbrev pub IsJsonFault : List ℕ → TemplateFault → Type 0
+IsJsonFault bytes NotJson = json_of bytes ≡ None
+IsJsonFault bytes NoMemory = ⊤
+IsJsonFault bytes NotYet = ⊥
+
+-- how many members an object has
+abbrev pub count : Members → ℕ
+count no_members = 0
+count (member k d ms) = suc (count ms)
