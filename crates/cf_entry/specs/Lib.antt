@@ -1,0 +1,4 @@
+pub mod Bytes
+pub mod Value
+pub mod Status
+pub mod Entry

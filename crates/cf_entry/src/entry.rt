@@ -1,0 +1,55 @@
+//! What the journal says: its entries.
+use crate::status::Status;
+use cf_tree::{Code, Dict, Listing, Names, Request, Txt};
+
+/// The lanes of an opening, in the order in which they were handed in: the name and the resource
+/// type of each.
+pub type LaneNames = Listing<(Txt, Txt)>;
+
+/// One entry of the journal.
+#[derive(Drop)]
+pub enum Entry {
+    /// The engine was opened over these lanes; the epochs count the openings from 1.
+    Opened {
+        epoch: u64,
+        lanes: LaneNames,
+    },
+    /// A request is about to be made of a lane, for the resource at a path, under a token that no
+    /// other request has.
+    Intent {
+        number: u64,
+        token: u64,
+        lane: Txt,
+        path: Txt,
+        request: Request,
+    },
+    /// What a request came to, with the number of the lane's faults before and after the call.
+    Outcome {
+        number: u64,
+        token: u64,
+        answer: Reply,
+        before: u64,
+        after: u64,
+    },
+    /// An operation ended in a status; the paths are those that failed.
+    Done {
+        number: u64,
+        status: Status,
+        failed: Names,
+    },
+}
+
+/// What a request came to.
+#[derive(Drop)]
+pub enum Reply {
+    /// It was done: the resource's physical id and its attributes, which are empty after a
+    /// deletion.
+    Success { physical: Txt, attrs: Dict },
+    /// It was refused, and nothing changed.
+    Failed { code: Code },
+    /// The call broke off, and may have acted or not.
+    Doubt,
+}
+
+/// The entries of a journal, in their order.
+pub type Entries = Listing<Entry>;

@@ -1,0 +1,12 @@
+//! The entries of the journal, and the one spelling of each in bytes.
+#![tactic(auto)]
+
+mod entry;
+mod put;
+mod size;
+mod status;
+
+pub use entry::{Entries, Entry, LaneNames, Reply};
+pub use put::entry::write_entry;
+pub use size::entry_size;
+pub use status::Status;

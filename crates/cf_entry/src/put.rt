@@ -1,0 +1,93 @@
+//! The pieces that every entry is written from. Each needs its room and takes no memory.
+ghost use Rattle.std.specs.Prelude.{◌<◌, ◌^◌, [], ◌∷◌, length};
+ghost use Rattle.cf_entry.specs.Bytes.{four_bytes, eight_bytes, text_bytes, list_bytes, pair_bytes, IsText, IsPair, AreAll, HasRoom, Adds};
+
+pub mod entry;
+mod value;
+
+use cf_tree::Txt;
+pub use value::{put_dict, put_value};
+
+/// Bytes as they are.
+pub fn put_bytes(to: &mut Vec<u8>, bytes: &[u8])
+    requires { HasRoom to.old bytes.now }
+    ensures { Adds to.old to.new bytes.now }
+{
+    match to.extend_from_slice(bytes) {
+        Ok(()) => {}
+        Err(_) => unreachable!(),
+    }
+}
+
+/// One byte.
+pub fn put_byte(to: &mut Vec<u8>, byte: u8)
+    requires { HasRoom to.old (byte ∷ []) }
+    ensures { Adds to.old to.new (byte ∷ []) }
+{
+    to.push_reserved(byte);
+}
+
+/// A number in four bytes.
+pub fn put_four(to: &mut Vec<u8>, number: u32)
+    requires { HasRoom to.old (four_bytes number) }
+    ensures { Adds to.old to.new (four_bytes number) }
+{
+    put_bytes(to, &number.to_be_bytes());
+}
+
+/// A number in eight bytes.
+pub fn put_eight(to: &mut Vec<u8>, number: u64)
+    requires { HasRoom to.old (eight_bytes number) }
+    ensures { Adds to.old to.new (eight_bytes number) }
+{
+    put_bytes(to, &number.to_be_bytes());
+}
+
+/// Bytes behind their length.
+pub fn put_run(to: &mut Vec<u8>, bytes: &[u8])
+    requires small { length bytes.now < 2 ^ 32 }
+    requires room { HasRoom to.old (text_bytes bytes.now) }
+    ensures { Adds to.old to.new (text_bytes bytes.now) }
+{
+    put_four(to, bytes.len() as u32);
+    put_bytes(to, bytes);
+}
+
+/// A text behind its length.
+pub fn put_text(to: &mut Vec<u8>, text: &Txt)
+    requires small { length (text_bytes text.now) < 2 ^ 32 }
+    requires room { HasRoom to.old (text_bytes text.now) }
+    ensures added { Adds to.old to.new (text_bytes text.now) }
+    ensures fits { IsText text.now }
+{
+    put_run(to, text.as_str().as_bytes());
+}
+
+/// Texts behind their number.
+#[tactic(auto, using(crate::proofs::Counts::few_texts))]
+pub fn put_texts(to: &mut Vec<u8>, texts: &[Txt])
+    requires small { length (list_bytes text_bytes texts.now) < 2 ^ 32 }
+    requires room { HasRoom to.old (list_bytes text_bytes texts.now) }
+    ensures added { Adds to.old to.new (list_bytes text_bytes texts.now) }
+    ensures fits { AreAll IsText texts.now }
+{
+    put_four(to, texts.len() as u32);
+    for text in texts.iter() {
+        put_text(to, text);
+    }
+}
+
+/// Pairs of texts behind their number.
+#[tactic(auto, using(crate::proofs::Counts::few_pairs))]
+pub fn put_pairs(to: &mut Vec<u8>, pairs: &[(Txt, Txt)])
+    requires small { length (list_bytes pair_bytes pairs.now) < 2 ^ 32 }
+    requires room { HasRoom to.old (list_bytes pair_bytes pairs.now) }
+    ensures added { Adds to.old to.new (list_bytes pair_bytes pairs.now) }
+    ensures fits { AreAll IsPair pairs.now }
+{
+    put_four(to, pairs.len() as u32);
+    for pair in pairs.iter() {
+        put_text(to, &pair.0);
+        put_text(to, &pair.1);
+    }
+}

@@ -1,0 +1,142 @@
+//! How entries are written.
+ghost use Rattle.std.specs.Prelude.{◌≡◌, ◌+◌, ◌<◌, ◌≤◌, ◌^◌, ◌++◌, length, vec_len, vec_capacity, IsTrue};
+ghost use Rattle.cf_entry.specs.Bytes.{HasRoom, Adds};
+ghost use Rattle.cf_entry.specs.Status.{is_end};
+ghost use Rattle.cf_entry.specs.Entry.{spelling_of, request_bytes, reply_bytes, IsEntry, IsProper, IsRequest, IsReply};
+
+use crate::entry::{Entry, LaneNames, Reply};
+use crate::put::{put_byte, put_dict, put_eight, put_pairs, put_text, put_texts};
+use crate::status::Status;
+use cf_tree::{Names, Request, Txt};
+
+/// Appends the one spelling of an entry, of `entry_size` bytes; it takes no memory.
+///
+/// The vector has the room already, and the spelling has fewer than 2^32 bytes. What is written is
+/// read back by `read_entry`, if an operation that ends has one of the statuses in which
+/// operations end.
+pub fn write_entry(entry: &Entry, to: &mut Vec<u8>)
+    requires small { length (spelling_of entry.now) < 2 ^ 32 }
+    requires room { vec_len to.old + length (spelling_of entry.now) ≤ vec_capacity to.old }
+    ensures appended { to.new.items ≡ to.old.items ++ spelling_of entry.now }
+    ensures length { vec_len to.new ≡ vec_len to.old + length (spelling_of entry.now) }
+    ensures capacity { vec_capacity to.old ≤ vec_capacity to.new }
+    ensures readable { IsProper entry.now → IsEntry entry.now }
+{
+    match entry {
+        Entry::Opened { epoch, lanes } => put_opened(to, *epoch, lanes),
+        Entry::Intent {
+            number,
+            token,
+            lane,
+            path,
+            request,
+        } => put_intent(to, *number, *token, lane, path, request),
+        Entry::Outcome {
+            number,
+            token,
+            answer,
+            before,
+            after,
+        } => put_outcome(to, (*number, *token), answer, (*before, *after)),
+        Entry::Done {
+            number,
+            status,
+            failed,
+        } => put_done(to, *number, *status, failed),
+    }
+}
+
+fn put_opened(to: &mut Vec<u8>, epoch: u64, lanes: &LaneNames)
+    requires small { length (spelling_of (Entry.Opened epoch lanes.now)) < 2 ^ 32 }
+    requires room { HasRoom to.old (spelling_of (Entry.Opened epoch lanes.now)) }
+    ensures added { Adds to.old to.new (spelling_of (Entry.Opened epoch lanes.now)) }
+    ensures fits { IsEntry (Entry.Opened epoch lanes.now) }
+{
+    put_byte(to, 1);
+    put_eight(to, epoch);
+    put_pairs(to, lanes.as_slice());
+}
+
+fn put_intent(to: &mut Vec<u8>, number: u64, token: u64, lane: &Txt, path: &Txt, request: &Request)
+    requires small { length (spelling_of (Entry.Intent number token lane.now path.now request.now)) < 2 ^ 32 }
+    requires room { HasRoom to.old (spelling_of (Entry.Intent number token lane.now path.now request.now)) }
+    ensures added { Adds to.old to.new (spelling_of (Entry.Intent number token lane.now path.now request.now)) }
+    ensures fits { IsEntry (Entry.Intent number token lane.now path.now request.now) }
+{
+    put_byte(to, 4);
+    put_eight(to, number);
+    put_eight(to, token);
+    put_text(to, lane);
+    put_text(to, path);
+    put_request(to, request);
+}
+
+fn put_outcome(to: &mut Vec<u8>, numbers: (u64, u64), answer: &Reply, counts: (u64, u64))
+    requires small { length (spelling_of (Entry.Outcome numbers.0 numbers.1 answer.now counts.0 counts.1)) < 2 ^ 32 }
+    requires room { HasRoom to.old (spelling_of (Entry.Outcome numbers.0 numbers.1 answer.now counts.0 counts.1)) }
+    ensures added { Adds to.old to.new (spelling_of (Entry.Outcome numbers.0 numbers.1 answer.now counts.0 counts.1)) }
+    ensures fits { IsEntry (Entry.Outcome numbers.0 numbers.1 answer.now counts.0 counts.1) }
+{
+    put_byte(to, 5);
+    put_eight(to, numbers.0);
+    put_eight(to, numbers.1);
+    put_reply(to, answer);
+    put_eight(to, counts.0);
+    put_eight(to, counts.1);
+}
+
+fn put_done(to: &mut Vec<u8>, number: u64, status: Status, failed: &Names)
+    requires small { length (spelling_of (Entry.Done number status failed.now)) < 2 ^ 32 }
+    requires room { HasRoom to.old (spelling_of (Entry.Done number status failed.now)) }
+    ensures added { Adds to.old to.new (spelling_of (Entry.Done number status failed.now)) }
+    ensures fits { IsTrue (is_end status) → IsEntry (Entry.Done number status failed.now) }
+{
+    put_byte(to, 7);
+    put_eight(to, number);
+    put_byte(to, status.number());
+    put_texts(to, failed.as_slice());
+}
+
+fn put_request(to: &mut Vec<u8>, request: &Request)
+    requires small { length (request_bytes request.now) < 2 ^ 32 }
+    requires room { HasRoom to.old (request_bytes request.now) }
+    ensures added { Adds to.old to.new (request_bytes request.now) }
+    ensures fits { IsRequest request.now }
+{
+    match request {
+        Request::Create { kind, props } => {
+            put_byte(to, 1);
+            put_text(to, kind);
+            put_dict(to, props);
+        }
+        Request::Update { physical, props } => {
+            put_byte(to, 2);
+            put_text(to, physical);
+            put_dict(to, props);
+        }
+        Request::Delete { physical } => {
+            put_byte(to, 3);
+            put_text(to, physical);
+        }
+    }
+}
+
+fn put_reply(to: &mut Vec<u8>, reply: &Reply)
+    requires small { length (reply_bytes reply.now) < 2 ^ 32 }
+    requires room { HasRoom to.old (reply_bytes reply.now) }
+    ensures added { Adds to.old to.new (reply_bytes reply.now) }
+    ensures fits { IsReply reply.now }
+{
+    match reply {
+        Reply::Success { physical, attrs } => {
+            put_byte(to, 1);
+            put_text(to, physical);
+            put_dict(to, attrs);
+        }
+        Reply::Failed { code } => {
+            put_byte(to, 2);
+            put_byte(to, code.number());
+        }
+        Reply::Doubt => put_byte(to, 3),
+    }
+}

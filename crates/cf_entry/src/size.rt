@@ -1,0 +1,101 @@
+//! How long the spelling of an entry is.
+ghost use Rattle.std.specs.Prelude.{◌≡◌, length};
+ghost use Rattle.cf_tree.specs.SizeOf.{capped};
+ghost use Rattle.cf_entry.specs.Bytes.{text_bytes, list_bytes, pair_bytes};
+ghost use Rattle.cf_entry.specs.Value.{dict_bytes};
+ghost use Rattle.cf_entry.specs.Entry.{spelling_of, request_bytes, reply_bytes};
+
+use crate::entry::{Entry, Reply};
+use cf_tree::{Dict, Request, Txt, size_of_txt, sum_of_sizes};
+
+/// How long the spelling of an entry is, where 2^63 stands for every greater length; it takes no
+/// memory.
+pub fn entry_size(entry: &Entry) -> u64
+    ensures { result ≡ capped (length (spelling_of entry.now)) }
+{
+    match entry {
+        Entry::Opened { epoch: _, lanes } => sum_of_sizes(9, pairs_size(lanes.as_slice())),
+        Entry::Intent {
+            number: _,
+            token: _,
+            lane,
+            path,
+            request,
+        } => {
+            let places = sum_of_sizes(text_size(lane), text_size(path));
+            sum_of_sizes(17, sum_of_sizes(places, request_size(request)))
+        }
+        Entry::Outcome {
+            number: _,
+            token: _,
+            answer,
+            before: _,
+            after: _,
+        } => sum_of_sizes(33, reply_size(answer)),
+        Entry::Done {
+            number: _,
+            status: _,
+            failed,
+        } => sum_of_sizes(10, texts_size(failed.as_slice())),
+    }
+}
+
+fn text_size(text: &Txt) -> u64
+    ensures { result ≡ capped (length (text_bytes text.now)) }
+{
+    size_of_txt(text.as_str())
+}
+
+#[tactic(auto, using(crate::proofs::Sizes::dict_is_long))]
+fn dict_size(pairs: &Dict) -> u64
+    ensures { result ≡ capped (length (dict_bytes pairs.now)) }
+{
+    pairs.size()
+}
+
+fn texts_size(texts: &[Txt]) -> u64
+    ensures { result ≡ capped (length (list_bytes text_bytes texts.now)) }
+{
+    let mut total = 4;
+    for text in texts.iter() {
+        total = sum_of_sizes(total, text_size(text));
+    }
+    total
+}
+
+fn pairs_size(pairs: &[(Txt, Txt)]) -> u64
+    ensures { result ≡ capped (length (list_bytes pair_bytes pairs.now)) }
+{
+    let mut total = 4;
+    for pair in pairs.iter() {
+        total = sum_of_sizes(total, text_size(&pair.0));
+        total = sum_of_sizes(total, text_size(&pair.1));
+    }
+    total
+}
+
+fn request_size(request: &Request) -> u64
+    ensures { result ≡ capped (length (request_bytes request.now)) }
+{
+    match request {
+        Request::Create { kind, props } => {
+            sum_of_sizes(1, sum_of_sizes(text_size(kind), dict_size(props)))
+        }
+        Request::Update { physical, props } => {
+            sum_of_sizes(1, sum_of_sizes(text_size(physical), dict_size(props)))
+        }
+        Request::Delete { physical } => sum_of_sizes(1, text_size(physical)),
+    }
+}
+
+fn reply_size(reply: &Reply) -> u64
+    ensures { result ≡ capped (length (reply_bytes reply.now)) }
+{
+    match reply {
+        Reply::Success { physical, attrs } => {
+            sum_of_sizes(1, sum_of_sizes(text_size(physical), dict_size(attrs)))
+        }
+        Reply::Failed { code: _ } => 2,
+        Reply::Doubt => 1,
+    }
+}
