@@ -1,0 +1,50 @@
+//! Copies of values.
+ghost use Rattle.std.specs.Prelude.{◌≡◌, IfOk};
+
+use crate::by_name::ByName;
+use crate::list::Listing;
+use crate::names::Names;
+use crate::text::Txt;
+use crate::value::Dict;
+use std::alloc::{AllocError, Global};
+
+/// What can be copied; the copy is the same value.
+pub trait TryClone: Sized {
+    /// A copy of the value.
+    fn try_clone(&self, alloc: Global) -> Result<Self, AllocError>
+        ensures { IfOk result (λ x. x ≡ self.now) };
+}
+
+impl TryClone for Txt {
+    fn try_clone(&self, alloc: Global) -> Result<Txt, AllocError> {
+        Txt::from_str(alloc, self.as_str())
+    }
+}
+
+impl<T: TryClone + Drop> Listing<T> {
+    /// A copy of the list.
+    pub fn try_clone(&self, alloc: Global) -> Result<Listing<T>, AllocError>
+        ensures { IfOk result (λ l. l ≡ self.now) }
+    {
+        let mut items = Vec::new(alloc);
+        for item in self.as_slice() {
+            items.push(item.try_clone(alloc)?)?;
+        }
+        Ok(Listing::from_vec(items))
+    }
+}
+
+impl<V: TryClone + Drop> ByName<V> {
+    /// A copy of the map.
+    pub fn try_clone(&self, alloc: Global) -> Result<ByName<V>, AllocError>
+        ensures { IfOk result (λ m. m ≡ self.now) }
+    {
+        let mut pairs = Vec::new(alloc);
+        for (name, value) in self.as_slice() {
+            let name = name.try_clone(alloc)?;
+            let value = value.try_clone(alloc)?;
+            pairs.push((name, value))?;
+        }
+        Ok(ByName::from_vec(pairs))
+    }
+}
