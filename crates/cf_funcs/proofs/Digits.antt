@@ -1,5 +1,5 @@
 -- What `parse` reads of digits is their value.
-use Rattle.std.proofs.Common.{eqb-true, sym, ◌++◌, ◌∙◌, ◌≡◌, ◌≢◌, false, ℕ, ◌<◌, ◌≤◌, ◌^◌, List, length, true, Bool, Result, None, refl, ap, rules, arith, nat_lt, nat_le, ◌∷◌, []}
+use Rattle.std.proofs.Common.{eqb-true, sym, ◌++◌, ◌∙◌, ◌≡◌, ◌≢◌, false, ℕ, ◌<◌, ◌≤◌, ◌^◌, List, length, true, Result, None, refl, ap, rules, arith, nat_lt, nat_le, ◌∷◌, []}
 use Rattle.std.specs.Prelude.{IfSome}
 use Rattle.std.specs.Result.{result_ok}
 use Rattle.std.specs.Cmp.{first_so, second_so}
@@ -10,6 +10,7 @@ use Rattle.std.proofs.lemmas.Str.Parse.{IsNumeralModel, numerals_by_value, parse
 use Rattle.std.specs.Char.{encode_utf8}
 use Rattle.std.proofs.lemmas.Str.{encode_ascii}
 use Rattle.std.proofs.lemmas.Bool.Decides.{nat_tests}
+use Rattle.cf_funcs.proofs.Found.{false_from}
 use Rattle.cf_funcs.specs.Number.{are_digits, digits_of, number_of, size_of}
 
 own : IsNumeralModel (λ ds. list_all is_ascii_digit ds ≡ true) (digits_value 10)
@@ -28,10 +29,6 @@ parsed most ds r small h p =
     let within = lengths (length ds) most some few in
     let value = digits_value_short own ds 18 all (omega arith) in
     rw (parse_gives own 64 ds r p all within.0 (omega arith), h) (refl, digits_value_short own ds (length ds) all (omega arith))
-
-false_from : (b : Bool) → (b ≡ true → ⊥) → b ≡ false
-false_from true n = absurd (n refl)
-false_from false n = refl
 
 no_minus : (text : List ℕ) → ((rest : List ℕ) → text ≢ 45 ∷ rest) → starts_with_minus text ≡ false
 no_minus [] h = refl

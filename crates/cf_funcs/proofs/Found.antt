@@ -9,7 +9,8 @@ use Rattle.std.specs.Str.Pattern.{LacksTextAt, FindsText, SplitsAroundMatch}
 use Rattle.cf_funcs.specs.Pieces.{cut_at}
 use denote.Ref.{Bor}
 
-false_from : (b : Bool) → (b ≡ true → ⊥) → b ≡ false
+-- a test that can't be true is false
+pub false_from : (b : Bool) → (b ≡ true → ⊥) → b ≡ false
 false_from true n = absurd (n refl)
 false_from false n = refl
 
@@ -17,7 +18,7 @@ starts_no : (d s : List ℕ) → LacksTextAt d s 0 → starts_with nat_eq s d �
 starts_no d s l =
     false_from _ (λ e. l (drop (length d) s) (sym (take-append-drop (length d) s) ∙ ap (λ t. t ++ drop (length d) s) (sym ((bytes_eq-Decides d (take (length d) s)).0 e))))
 
-starts_yes : (d s rest : List ℕ) → s ≡ d ++ rest → starts_with nat_eq s d ≡ true
+pub starts_yes : (d s rest : List ℕ) → s ≡ d ++ rest → starts_with nat_eq s d ≡ true
 starts_yes d s rest e = (bytes_eq-Decides d (take (length d) s)).1 (sym (ap (take (length d)) e ∙ take-append_seam d rest))
 
 drops : (i : ℕ) → length (drop {A = ℕ} i []) ≡ 0

@@ -1,2 +1,4 @@
 pub mod Found
 pub mod Digits
+pub mod Parts
+pub mod Trims
