@@ -1,0 +1,5 @@
+pub mod Lane
+pub mod Answered
+pub mod Name
+pub mod Move
+pub mod File
