@@ -1,0 +1,24 @@
+-- What the stores in memory hold, and which of their calls fail.
+use Rattle.std.specs.Prelude.{◌≡◌, ◌≢◌, ◌==◌, ◌&&◌, ℕ, Bool, true, false, not, List, [], ◌∷◌, map, Result, Err}
+use Rattle.std.specs.List.{list_any}
+use Rattle.std.specs.Global.{Vec}
+use Rattle.cf_io.specs.Library.{Texts}
+
+-- the names and bytes of a list of texts
+abbrev pub texts_of : List (List ℕ × Vec ℕ) → Texts
+texts_of items = map (λ t. (t.0, t.1.items)) items
+
+-- whether the call of this number, counted from 1, is one of those that are to fail (this project's own)
+abbrev pub is_planned : List ℕ → ℕ → Bool
+is_planned fails call = list_any (λ n. n == call) fails
+
+-- a call that is to fail gives this failure, and no other call does
+abbrev pub FailsWhere : {A E : Type 0} → E → Bool → Result A E → Type 0
+FailsWhere failure true result = result ≡ Err failure
+FailsWhere failure false result = result ≢ Err failure
+
+-- whether a name may stand for a file of a folder: it is not empty, does not begin with a dot (46) and holds
+-- no slash (47) (this project's own)
+abbrev pub is_file_name : List ℕ → Bool
+is_file_name [] = false
+is_file_name (b ∷ bytes) = not (b == 46) && not (list_any (λ c. c == 47) (b ∷ bytes))
