@@ -32,15 +32,13 @@ impl MemoryLibrary {
         ensures uncalled { IfOk result (λ l. l.calls ≡ 0) }
     {
         let held = SteadyLibrary::new(alloc, texts)?;
-        match Vec::from_slice(alloc, fails) {
-            Ok(fails) => Ok(MemoryLibrary {
-                held,
-                fails,
-                calls: 0,
-                faults: 0,
-            }),
-            Err(_) => Err(NoMemory),
-        }
+        let fails = Vec::from_slice(alloc, fails)?;
+        Ok(MemoryLibrary {
+            held,
+            fails,
+            calls: 0,
+            faults: 0,
+        })
     }
 }
 

@@ -25,15 +25,13 @@ impl MemorySink {
         ensures planned { IfOk result (λ s. s.fails.items ≡ fails.now) }
         ensures uncalled { IfOk result (λ s. s.calls ≡ 0) }
     {
-        match Vec::from_slice(alloc, fails) {
-            Ok(fails) => Ok(MemorySink {
-                held: SteadySink::new(alloc),
-                fails,
-                calls: 0,
-                faults: 0,
-            }),
-            Err(_) => Err(NoMemory),
-        }
+        let fails = Vec::from_slice(alloc, fails)?;
+        Ok(MemorySink {
+            held: SteadySink::new(alloc),
+            fails,
+            calls: 0,
+            faults: 0,
+        })
     }
 
     /// The bytes put so far.

@@ -5,7 +5,7 @@ ghost use Rattle.cf_io.specs.Stores.{texts_of};
 
 use crate::library::{FetchFault, Library};
 use cf_tree::{NoMemory, Txt};
-use std::alloc::{AllocError, Global};
+use std::alloc::Global;
 
 /// A library in memory that never fails: its count of faults is the constant 0.
 #[derive(Drop)]
@@ -16,7 +16,7 @@ pub struct SteadyLibrary {
 }
 
 // A copy of named texts.
-fn copied_texts(alloc: Global, texts: &[(Txt, Vec<u8>)]) -> Result<Vec<(Txt, Vec<u8>)>, AllocError>
+fn copied_texts(alloc: Global, texts: &[(Txt, Vec<u8>)]) -> Result<Vec<(Txt, Vec<u8>)>, NoMemory>
     ensures { IfOk result (λ copies. texts_of copies.items ≡ texts_of texts.now) }
 {
     let mut copies = Vec::new(alloc);
@@ -46,14 +46,12 @@ impl SteadyLibrary {
         ensures holds { IfOk result (λ l. ⟦<SteadyLibrary as Library>⟧.texts l ≡ Some (texts_of texts.now)) }
         ensures unmissed { IfOk result (λ l. ⟦<SteadyLibrary as Library>⟧.missed l ≡ 0) }
     {
-        match copied_texts(alloc, texts) {
-            Ok(texts) => Ok(SteadyLibrary {
-                alloc,
-                texts,
-                misses: 0,
-            }),
-            Err(_) => Err(NoMemory),
-        }
+        let texts = copied_texts(alloc, texts)?;
+        Ok(SteadyLibrary {
+            alloc,
+            texts,
+            misses: 0,
+        })
     }
 }
 
