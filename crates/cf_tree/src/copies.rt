@@ -21,6 +21,18 @@ impl TryClone for Txt {
     }
 }
 
+impl TryClone for Names {
+    fn try_clone(&self, alloc: Global) -> Result<Names, AllocError> {
+        Names::try_clone(self, alloc)
+    }
+}
+
+impl TryClone for Dict {
+    fn try_clone(&self, alloc: Global) -> Result<Dict, AllocError> {
+        Dict::try_clone(self, alloc)
+    }
+}
+
 impl<T: TryClone + Drop> Listing<T> {
     /// A copy of the list.
     pub fn try_clone(&self, alloc: Global) -> Result<Listing<T>, AllocError>
