@@ -1,6 +1,6 @@
 //! Conditions of a template.
 ghost use Rattle.std.specs.Prelude.{◌≡◌, [], ◌∷◌, ◌++◌, length, IfOk, OnErr};
-ghost use Rattle.cf_tree.specs.Tests.{cond, place_of_test, test_node_in};
+ghost use Rattle.cf_tree.specs.Tests.{cond, place_of_test};
 ghost use Rattle.cf_tree.specs.Test.{test_node_of};
 
 use crate::expr::Expr;
@@ -95,7 +95,7 @@ impl Cond {
 
     /// What stands there.
     pub fn node(&self) -> &CondNode
-        ensures { test_node_of result.now ≡ test_node_in self.now }
+        ensures { self.now ≡ cond (place_of_test self.now) (test_node_of result.now) }
     {
         &self.node
     }
