@@ -45,6 +45,10 @@ IsText t = (length t < 2 ^ 32) × IsUtf8 t
 abbrev pub IsPair : List ℕ × List ℕ → Type 0
 IsPair p = IsText p.0 × IsText p.1
 
+-- a template: its name, and its bytes
+abbrev pub IsTemplate : List ℕ × List ℕ → Type 0
+IsTemplate p = IsText p.0 × IsRun p.1
+
 -- a number that eight bytes hold
 abbrev pub IsEight : ℕ → Type 0
 IsEight n = n < 2 ^ 64

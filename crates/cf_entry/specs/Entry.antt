@@ -1,15 +1,49 @@
 -- The one spelling of each entry of the journal (this project's own format): a byte for the kind of entry, and its fields.
-use Rattle.std.specs.Prelude.{ℕ, IsTrue, List, [], ◌∷◌, ◌++◌}
+use Rattle.std.specs.Prelude.{◌≡◌, ℕ, Bool, true, ◌&&◌, IsTrue, List, [], ◌∷◌, ◌++◌, Option, Some, None}
 use Rattle.cf_tree.specs.Codes.{number_of}
 use Rattle.cf_tree.specs.declared.request.Request.{Request}
 use Rattle.cf_tree.specs.declared.request.Request.TheVariants as request
+use Rattle.cf_tree.specs.declared.source.Source.{Source}
+use Rattle.cf_tree.specs.Keys.{ascends, bytes_lt}
 use Rattle.cf_entry.specs.declared.entry.Entry.{Entry}
 use Rattle.cf_entry.specs.declared.entry.Entry.TheVariants as entry
+use Rattle.cf_entry.specs.declared.entry.Begun.{Begun}
+use Rattle.cf_entry.specs.declared.entry.Begun.TheVariants as begun
 use Rattle.cf_entry.specs.declared.entry.Reply.{Reply}
 use Rattle.cf_entry.specs.declared.entry.Reply.TheVariants as reply
 use Rattle.cf_entry.specs.Status.{status_number, is_end}
-use Rattle.cf_entry.specs.Bytes.{eight_bytes, text_bytes, list_bytes, pair_bytes, IsText, IsEight, AreAll, IsPair}
+use Rattle.cf_entry.specs.Bytes.{eight_bytes, text_bytes, list_bytes, option_bytes, pair_bytes, IsTemplate, IsText, IsEight, AreAll, IsPair}
 use Rattle.cf_entry.specs.Value.{dict_bytes, IsDict}
+
+-- a source, but for the stack and the number that serve pseudo parameters
+abbrev pub source_bytes : Source → List ℕ
+source_bytes s = text_bytes s.root ++ (list_bytes pair_bytes s.texts ++ (list_bytes pair_bytes s.given ++ list_bytes pair_bytes s.imports))
+
+-- the number of what an operation sets out to do
+abbrev pub kind_number : Begun → ℕ
+kind_number (begun.Create source) = 1
+kind_number (begun.Update source) = 2
+kind_number (begun.Delete paths) = 3
+kind_number (begun.Continue paths) = 4
+
+-- its source, which creations and updates have
+abbrev pub source_of : Begun → Option Source
+source_of (begun.Create source) = Some source
+source_of (begun.Update source) = Some source
+source_of _ = None
+
+-- its paths: those to keep of a deletion, and those to skip of a rollback that goes on
+abbrev pub paths_of : Begun → List (List ℕ)
+paths_of (begun.Delete paths) = paths
+paths_of (begun.Continue paths) = paths
+paths_of _ = []
+
+-- a number, a source where there is one, and paths
+abbrev pub parts_bytes : ℕ → Option Source → List (List ℕ) → List ℕ
+parts_bytes n s ps = n ∷ (option_bytes source_bytes s ++ list_bytes text_bytes ps)
+
+abbrev pub begun_bytes : Begun → List ℕ
+begun_bytes b = parts_bytes (kind_number b) (source_of b) (paths_of b)
 
 -- a request: what to make, change or delete
 abbrev pub request_bytes : Request → List ℕ
@@ -25,16 +59,44 @@ reply_bytes reply.Doubt = 3 ∷ []
 
 abbrev pub spelling_of : Entry → List ℕ
 spelling_of (entry.Opened epoch lanes) = 1 ∷ (eight_bytes epoch ++ list_bytes pair_bytes lanes)
+spelling_of (entry.Begin number stack kind) = 2 ∷ (eight_bytes number ++ (text_bytes stack ++ begun_bytes kind))
 spelling_of (entry.Intent number token lane path request) = 4 ∷ (eight_bytes number ++ (eight_bytes token ++ (text_bytes lane ++ (text_bytes path ++ request_bytes request))))
 spelling_of (entry.Outcome number token answer before after) = 5 ∷ (eight_bytes number ++ (eight_bytes token ++ (reply_bytes answer ++ (eight_bytes before ++ eight_bytes after))))
 spelling_of (entry.Done number status failed) = 7 ∷ (eight_bytes number ++ (status_number status ∷ list_bytes text_bytes failed))
 
--- what the types leave open: an operation ends in one of those statuses
+-- each text is below the next in the order of their bytes, and the first above k
+abbrev pub texts_ascend_from : List ℕ → List (List ℕ) → Bool
+texts_ascend_from k [] = true
+texts_ascend_from k (t ∷ ts) = bytes_lt k t && texts_ascend_from t ts
+
+-- each text is below the next
+abbrev pub texts_ascend : List (List ℕ) → Bool
+texts_ascend [] = true
+texts_ascend (t ∷ ts) = texts_ascend_from t ts
+
+-- the source of an operation tells the stack of the operation, and the number 0
+abbrev pub IsTied : List ℕ → Begun → Type 0
+IsTied stack (begun.Create source) = (source.stack ≡ stack) × (source.number ≡ 0)
+IsTied stack (begun.Update source) = (source.stack ≡ stack) × (source.number ≡ 0)
+IsTied stack (begun.Delete paths) = IsTrue (texts_ascend paths)
+IsTied stack (begun.Continue paths) = IsTrue (texts_ascend paths)
+
+-- what the types leave open: a source tells the stack of its operation, paths ascend, and an operation ends in one of the statuses for it
 abbrev pub IsProper : Entry → Type 0
+IsProper (entry.Begin number stack kind) = IsTied stack kind
 IsProper (entry.Done number status failed) = IsTrue (is_end status)
 IsProper _ = Unit {0}
 
 -- what can stand in a journal: the parts fit their fields, texts are texts, keys ascend
+abbrev pub IsSource : Source → Type 0
+IsSource s = IsText s.root × (AreAll IsTemplate s.texts × IsTrue (ascends s.texts)) × (AreAll IsPair s.given × IsTrue (ascends s.given)) × (AreAll IsPair s.imports × IsTrue (ascends s.imports))
+
+abbrev pub IsBegun : List ℕ → Begun → Type 0
+IsBegun stack (begun.Create source) = IsSource source × IsTied stack (begun.Create source)
+IsBegun stack (begun.Update source) = IsSource source × IsTied stack (begun.Update source)
+IsBegun stack (begun.Delete paths) = AreAll IsText paths × IsTied stack (begun.Delete paths)
+IsBegun stack (begun.Continue paths) = AreAll IsText paths × IsTied stack (begun.Continue paths)
+
 abbrev pub IsRequest : Request → Type 0
 IsRequest (request.Create kind props) = IsText kind × IsDict props
 IsRequest (request.Update physical props) = IsText physical × IsDict props
@@ -47,6 +109,7 @@ IsReply reply.Doubt = Unit {0}
 
 abbrev pub IsEntry : Entry → Type 0
 IsEntry (entry.Opened epoch lanes) = IsEight epoch × AreAll IsPair lanes
+IsEntry (entry.Begin number stack kind) = IsEight number × IsText stack × IsBegun stack kind
 IsEntry (entry.Intent number token lane path request) = IsEight number × IsEight token × IsText lane × IsText path × IsRequest request
 IsEntry (entry.Outcome number token answer before after) = IsEight number × IsEight token × IsReply answer × IsEight before × IsEight after
 IsEntry (entry.Done number status failed) = IsEight number × IsTrue (is_end status) × AreAll IsText failed

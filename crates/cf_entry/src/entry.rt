@@ -1,6 +1,6 @@
 //! What the journal says: its entries.
 use crate::status::Status;
-use cf_tree::{Code, Dict, Listing, Names, Request, Txt};
+use cf_tree::{Code, Dict, Listing, Names, Request, Source, Txt};
 
 /// The lanes of an opening, in the order in which they were handed in: the name and the resource
 /// type of each.
@@ -13,6 +13,12 @@ pub enum Entry {
     Opened {
         epoch: u64,
         lanes: LaneNames,
+    },
+    /// An operation on a stack began; the numbers count the operations from 1.
+    Begin {
+        number: u64,
+        stack: Txt,
+        kind: Begun,
     },
     /// A request is about to be made of a lane, for the resource at a path, under a token that no
     /// other request has.
@@ -37,6 +43,20 @@ pub enum Entry {
         status: Status,
         failed: Names,
     },
+}
+
+/// What an operation sets out to do.
+#[derive(Drop)]
+pub enum Begun {
+    /// Make the stack from a source.
+    Create { source: Source },
+    /// Give the stack another source.
+    Update { source: Source },
+    /// Delete the stack, and keep the resources at these paths, which strictly ascend.
+    Delete { paths: Names },
+    /// Go on with a rollback that failed, and skip the resources at these paths, which strictly
+    /// ascend.
+    Continue { paths: Names },
 }
 
 /// What a request came to.

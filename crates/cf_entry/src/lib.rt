@@ -6,7 +6,7 @@ mod put;
 mod size;
 mod status;
 
-pub use entry::{Entries, Entry, LaneNames, Reply};
+pub use entry::{Begun, Entries, Entry, LaneNames, Reply};
 pub use put::entry::write_entry;
 pub use size::entry_size;
 pub use status::Status;

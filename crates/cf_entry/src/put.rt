@@ -1,11 +1,11 @@
 //! The pieces that every entry is written from. Each needs its room and takes no memory.
 ghost use Rattle.std.specs.Prelude.{◌<◌, ◌^◌, [], ◌∷◌, length};
-ghost use Rattle.cf_entry.specs.Bytes.{four_bytes, eight_bytes, text_bytes, list_bytes, pair_bytes, IsText, IsPair, AreAll, HasRoom, Adds};
+ghost use Rattle.cf_entry.specs.Bytes.{four_bytes, eight_bytes, text_bytes, list_bytes, pair_bytes, IsText, IsPair, IsTemplate, AreAll, HasRoom, Adds};
 
 pub mod entry;
 mod value;
 
-use cf_tree::Txt;
+use cf_tree::{Bytes, Txt};
 pub use value::{put_dict, put_value};
 
 /// Bytes as they are.
@@ -89,5 +89,20 @@ pub fn put_pairs(to: &mut Vec<u8>, pairs: &[(Txt, Txt)])
     for pair in pairs.iter() {
         put_text(to, &pair.0);
         put_text(to, &pair.1);
+    }
+}
+
+/// Names with their templates, behind their number.
+#[tactic(auto, using(crate::proofs::Counts::few_pairs))]
+pub fn put_templates(to: &mut Vec<u8>, templates: &[(Txt, Bytes)])
+    requires small { length (list_bytes pair_bytes templates.now) < 2 ^ 32 }
+    requires room { HasRoom to.old (list_bytes pair_bytes templates.now) }
+    ensures added { Adds to.old to.new (list_bytes pair_bytes templates.now) }
+    ensures fits { AreAll IsTemplate templates.now }
+{
+    put_four(to, templates.len() as u32);
+    for template in templates.iter() {
+        put_text(to, &template.0);
+        put_run(to, template.1.as_slice());
     }
 }

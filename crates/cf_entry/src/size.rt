@@ -3,10 +3,10 @@ ghost use Rattle.std.specs.Prelude.{◌≡◌, length};
 ghost use Rattle.cf_tree.specs.SizeOf.{capped};
 ghost use Rattle.cf_entry.specs.Bytes.{text_bytes, list_bytes, pair_bytes};
 ghost use Rattle.cf_entry.specs.Value.{dict_bytes};
-ghost use Rattle.cf_entry.specs.Entry.{spelling_of, request_bytes, reply_bytes};
+ghost use Rattle.cf_entry.specs.Entry.{spelling_of, begun_bytes, source_bytes, request_bytes, reply_bytes};
 
-use crate::entry::{Entry, Reply};
-use cf_tree::{Dict, Request, Txt, size_of_txt, sum_of_sizes};
+use crate::entry::{Begun, Entry, Reply};
+use cf_tree::{Bytes, Dict, Request, Source, Txt, size_of_txt, sum_of_sizes};
 
 /// How long the spelling of an entry is, where 2^63 stands for every greater length; it takes no
 /// memory.
@@ -15,6 +15,11 @@ pub fn entry_size(entry: &Entry) -> u64
 {
     match entry {
         Entry::Opened { epoch: _, lanes } => sum_of_sizes(9, pairs_size(lanes.as_slice())),
+        Entry::Begin {
+            number: _,
+            stack,
+            kind,
+        } => sum_of_sizes(9, sum_of_sizes(text_size(stack), begun_size(kind))),
         Entry::Intent {
             number: _,
             token: _,
@@ -38,6 +43,49 @@ pub fn entry_size(entry: &Entry) -> u64
             failed,
         } => sum_of_sizes(10, texts_size(failed.as_slice())),
     }
+}
+
+fn begun_size(kind: &Begun) -> u64
+    ensures { result ≡ capped (length (begun_bytes kind.now)) }
+{
+    match kind {
+        Begun::Create { source } => sum_of_sizes(6, source_size(source)),
+        Begun::Update { source } => sum_of_sizes(6, source_size(source)),
+        Begun::Delete { paths } => sum_of_sizes(2, texts_size(paths.as_slice())),
+        Begun::Continue { paths } => sum_of_sizes(2, texts_size(paths.as_slice())),
+    }
+}
+
+fn source_size(source: &Source) -> u64
+    ensures { result ≡ capped (length (source_bytes source.now)) }
+{
+    let texts = sum_of_sizes(
+        text_size(&source.root),
+        templates_size(source.texts.as_slice()),
+    );
+    let pairs = sum_of_sizes(
+        pairs_size(source.given.as_slice()),
+        pairs_size(source.imports.as_slice()),
+    );
+    sum_of_sizes(texts, pairs)
+}
+
+/// The length of a name with its template.
+fn template_size(template: &(Txt, Bytes)) -> u64
+    ensures { result ≡ capped (length (pair_bytes (template.now.0, template.now.1))) }
+{
+    let bytes = template.1.as_slice().len() as u64;
+    sum_of_sizes(text_size(&template.0), sum_of_sizes(4, bytes))
+}
+
+fn templates_size(templates: &[(Txt, Bytes)]) -> u64
+    ensures { result ≡ capped (length (list_bytes pair_bytes templates.now)) }
+{
+    let mut total = 4;
+    for template in templates.iter() {
+        total = sum_of_sizes(total, template_size(template));
+    }
+    total
 }
 
 fn text_size(text: &Txt) -> u64

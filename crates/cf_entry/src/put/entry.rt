@@ -1,19 +1,22 @@
 //! How entries are written.
-ghost use Rattle.std.specs.Prelude.{◌≡◌, ◌+◌, ◌<◌, ◌≤◌, ◌^◌, ◌++◌, length, vec_len, vec_capacity, IsTrue};
-ghost use Rattle.cf_entry.specs.Bytes.{HasRoom, Adds};
+ghost use Rattle.std.specs.Prelude.{◌≡◌, ◌+◌, ◌<◌, ◌≤◌, ◌^◌, ◌++◌, length, vec_len, vec_capacity, IsTrue, List, ℕ, [], Some, None};
+ghost use Rattle.cf_entry.specs.Bytes.{HasRoom, Adds, AreAll, IsText};
 ghost use Rattle.cf_entry.specs.Status.{is_end};
-ghost use Rattle.cf_entry.specs.Entry.{spelling_of, request_bytes, reply_bytes, IsEntry, IsProper, IsRequest, IsReply};
+ghost use Rattle.cf_entry.specs.Entry.{spelling_of, begun_bytes, parts_bytes, source_bytes, request_bytes, reply_bytes, IsEntry, IsProper, IsTied, IsBegun, IsSource, IsRequest, IsReply};
 
-use crate::entry::{Entry, LaneNames, Reply};
-use crate::put::{put_byte, put_dict, put_eight, put_pairs, put_text, put_texts};
+use crate::entry::{Begun, Entry, LaneNames, Reply};
+use crate::put::{
+    put_byte, put_dict, put_eight, put_four, put_pairs, put_templates, put_text, put_texts,
+};
 use crate::status::Status;
-use cf_tree::{Names, Request, Txt};
+use cf_tree::{Names, Request, Source, Txt};
 
 /// Appends the one spelling of an entry, of `entry_size` bytes; it takes no memory.
 ///
 /// The vector has the room already, and the spelling has fewer than 2^32 bytes. What is written is
-/// read back by `read_entry`, if an operation that ends has one of the statuses in which
-/// operations end.
+/// read back by `read_entry`, if the entry is a proper one: the source of an operation tells that
+/// operation's stack and the number 0, paths ascend, and an operation ends in one of the statuses
+/// in which operations end.
 pub fn write_entry(entry: &Entry, to: &mut Vec<u8>)
     requires small { length (spelling_of entry.now) < 2 ^ 32 }
     requires room { vec_len to.old + length (spelling_of entry.now) ≤ vec_capacity to.old }
@@ -24,6 +27,11 @@ pub fn write_entry(entry: &Entry, to: &mut Vec<u8>)
 {
     match entry {
         Entry::Opened { epoch, lanes } => put_opened(to, *epoch, lanes),
+        Entry::Begin {
+            number,
+            stack,
+            kind,
+        } => put_begin(to, *number, stack, kind),
         Entry::Intent {
             number,
             token,
@@ -55,6 +63,69 @@ fn put_opened(to: &mut Vec<u8>, epoch: u64, lanes: &LaneNames)
     put_byte(to, 1);
     put_eight(to, epoch);
     put_pairs(to, lanes.as_slice());
+}
+
+fn put_begin(to: &mut Vec<u8>, number: u64, stack: &Txt, kind: &Begun)
+    requires small { length (spelling_of (Entry.Begin number stack.now kind.now)) < 2 ^ 32 }
+    requires room { HasRoom to.old (spelling_of (Entry.Begin number stack.now kind.now)) }
+    ensures added { Adds to.old to.new (spelling_of (Entry.Begin number stack.now kind.now)) }
+    ensures fits { IsTied stack.now kind.now → IsEntry (Entry.Begin number stack.now kind.now) }
+{
+    put_byte(to, 2);
+    put_eight(to, number);
+    put_text(to, stack);
+    put_begun(to, kind);
+}
+
+fn put_begun(to: &mut Vec<u8>, kind: &Begun)
+    requires small { length (begun_bytes kind.now) < 2 ^ 32 }
+    requires room { HasRoom to.old (begun_bytes kind.now) }
+    ensures added { Adds to.old to.new (begun_bytes kind.now) }
+    ensures fits { (stack : List ℕ) → IsTied stack kind.now → IsBegun stack kind.now }
+{
+    match kind {
+        Begun::Create { source } => put_with_source(to, 1, source),
+        Begun::Update { source } => put_with_source(to, 2, source),
+        Begun::Delete { paths } => put_with_paths(to, 3, paths),
+        Begun::Continue { paths } => put_with_paths(to, 4, paths),
+    }
+}
+
+/// The number of a kind with a source, and the source.
+fn put_with_source(to: &mut Vec<u8>, number: u8, source: &Source)
+    requires small { length (parts_bytes number (Some source.now) []) < 2 ^ 32 }
+    requires room { HasRoom to.old (parts_bytes number (Some source.now) []) }
+    ensures added { Adds to.old to.new (parts_bytes number (Some source.now) []) }
+    ensures fits { IsSource source.now }
+{
+    put_byte(to, number);
+    put_byte(to, 1);
+    put_source(to, source);
+    put_four(to, 0);
+}
+
+/// The number of a kind with paths, and the paths.
+fn put_with_paths(to: &mut Vec<u8>, number: u8, paths: &Names)
+    requires small { length (parts_bytes number None paths.now) < 2 ^ 32 }
+    requires room { HasRoom to.old (parts_bytes number None paths.now) }
+    ensures added { Adds to.old to.new (parts_bytes number None paths.now) }
+    ensures fits { AreAll IsText paths.now }
+{
+    put_byte(to, number);
+    put_byte(to, 0);
+    put_texts(to, paths.as_slice());
+}
+
+fn put_source(to: &mut Vec<u8>, source: &Source)
+    requires small { length (source_bytes source.now) < 2 ^ 32 }
+    requires room { HasRoom to.old (source_bytes source.now) }
+    ensures added { Adds to.old to.new (source_bytes source.now) }
+    ensures fits { IsSource source.now }
+{
+    put_text(to, &source.root);
+    put_templates(to, source.texts.as_slice());
+    put_pairs(to, source.given.as_slice());
+    put_pairs(to, source.imports.as_slice());
 }
 
 fn put_intent(to: &mut Vec<u8>, number: u64, token: u64, lane: &Txt, path: &Txt, request: &Request)
