@@ -1,4 +1,17 @@
 pub mod Fault
+pub mod Refusals
 pub mod Json
 pub mod Words
 pub mod Plain
+pub mod Places
+pub mod Walk
+pub mod Functions
+pub mod Subs
+pub mod Shapes
+pub mod Exprs
+pub mod Conds
+pub mod Params
+pub mod Maps
+pub mod Resources
+pub mod Outputs
+pub mod Whole

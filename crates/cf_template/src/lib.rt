@@ -2,12 +2,18 @@
 #![tactic(auto)]
 
 mod fault;
+mod function;
 mod plain;
+mod refusal;
+mod subs;
 mod value;
+mod walk;
 mod words;
 
 pub use fault::TemplateFault;
 pub use plain::read_template;
+pub use refusal::ReadFault;
+pub use subs::SubFault;
 
 #[cfg(test)]
 mod tests;

@@ -1,0 +1,53 @@
+-- What a part of a template gives when it is read: what it is, or the first refusal.
+use Rattle.std.specs.Prelude.{◌≡◌, ℕ, Bool, Option, Some, None, Result, Ok, Err, if◌then◌else◌}
+use Rattle.std.proofs.Common.{◌⊎◌}
+use Rattle.cf_template.specs.declared.refusal.ReadFault.{ReadFault}
+use Rattle.cf_template.specs.declared.refusal.ReadFault.TheVariants.{NotJson, TooLong, WrongShape, UnknownSection, BadVersion, NullValue, BadNumber, BadName, TooMany, UnknownFunction, Unsupported, NoMemory}
+
+-- the numbers of the faults (this project's own)
+abbrev pub fault_number : ReadFault → ℕ
+fault_number NotJson = 1
+fault_number (TooLong n) = 2
+fault_number (WrongShape p) = 3
+fault_number (UnknownSection k) = 4
+fault_number BadVersion = 5
+fault_number (NullValue p) = 6
+fault_number (BadNumber p) = 7
+fault_number (BadName p) = 8
+fault_number (TooMany k n) = 9
+fault_number (UnknownFunction p) = 10
+fault_number (Unsupported p k) = 11
+fault_number NoMemory = 12
+
+-- what reading gives: a value, or why there is none
+abbrev pub Reading : Type 0 → Type 0
+Reading A = Result A ReadFault
+
+-- what follows on a value that was read, or the refusal that came before
+abbrev pub after : {A B : Type 0} → Reading A → (A → Reading B) → Reading B
+after (Ok a) f = f a
+after (Err e) f = Err e
+
+-- f of what was read, or the refusal that came before
+abbrev pub mapped : {A B : Type 0} → (A → B) → Reading A → Reading B
+mapped f (Ok a) = Ok (f a)
+mapped f (Err e) = Err e
+
+-- the first refusal, where one comes before another
+abbrev pub first_of : Option ReadFault → Option ReadFault → Option ReadFault
+first_of (Some e) later = Some e
+first_of None later = later
+
+-- what is read where a test holds, else the refusal
+abbrev pub provided : {A : Type 0} → Bool → ReadFault → Reading A → Reading A
+provided b e r = if b then r else Err e
+
+-- what is read where nothing is refused
+abbrev pub unless : {A : Type 0} → Option ReadFault → Reading A → Reading A
+unless None r = r
+unless (Some e) r = Err e
+
+-- what a reader answers: just what the rules give, or that memory was not there
+abbrev pub Gives : {A : Type 0} → Reading A → Reading A → Type 0
+Gives r (Ok a) = r ≡ Ok a
+Gives r (Err e) = (e ≡ NoMemory) ⊎ (r ≡ Err e)
