@@ -1,0 +1,4 @@
+pub mod JsonLemmas
+pub mod Spelled
+pub mod Naming
+pub mod Equal
