@@ -1,0 +1,70 @@
+-- What the public calls are to answer.
+use Rattle.std.specs.Prelude.{◌≡◌, ℕ, List, Bool, Option, None, Result, Ok, Err, map, option_map, ⊤}
+use Rattle.cf_tree.specs.Datum.{Data}
+use Rattle.cf_tree.specs.Forms.{Form}
+use Rattle.cf_tree.specs.Keys.{value_at}
+use Rattle.cf_tree.specs.declared.template.Template.{Template}
+use Rattle.cf_tree.specs.declared.bound.Setting.{Setting}
+use Rattle.cf_tree.specs.declared.bound.Verdict.{Verdict}
+use Rattle.cf_eval.specs.declared.env.Env as given
+use Rattle.cf_eval.specs.declared.fault.EvalFault.{EvalFault}
+use Rattle.cf_eval.specs.declared.fault.EvalFault.TheVariants as answer
+use Rattle.cf_eval.specs.declared.fault.EvalWhy.TheVariants.{UnknownName}
+use Rattle.cf_eval.specs.declared.got.Got.{Got}
+use Rattle.cf_eval.specs.Outcome.{Outcome, got, later, bad, fault, undecided}
+use Rattle.cf_eval.specs.Scope.{Scope, open_to, closed_to, held_at}
+use Rattle.cf_eval.specs.Texts.{Found}
+use Rattle.cf_eval.specs.Value.{form_found}
+use Rattle.cf_eval.specs.Conditions.{conditions_found}
+use Rattle.cf_eval.specs.Gives.{found_of}
+use Rattle.cf_eval.specs.ScopeOf.{setting_of, verdict_of}
+
+-- the scope of a resource or an output
+abbrev pub scope_in : given.Env → Scope
+scope_in env = record {
+  params = λ name. option_map setting_of (value_at name env.bound.now);
+  mapping = λ name. value_at name env.mappings.now;
+  pseudo = env.pseudo.now;
+  decided = λ at name. held_at at name (option_map verdict_of (value_at name env.conds.now));
+  beyond = open_to env.seen.now env.imports.now;
+}
+
+-- a condition that is not declared is an unknown name
+abbrev pub plain : {A : Type 0} → Outcome A → Outcome A
+plain (bad (undecided name at)) = bad (fault UnknownName at)
+plain (bad (fault why at)) = bad (fault why at)
+plain (got a) = got a
+plain later = later
+
+-- what an expression comes to
+abbrev pub value_of : given.Env → Form → Found
+value_of env e = plain (form_found (scope_in env) None e)
+
+-- the scope of a condition
+abbrev pub scope_within : Template → List (List ℕ × Setting) → List (List ℕ × Data) → Scope
+scope_within template bound pseudo = record {
+  params = λ name. option_map setting_of (value_at name bound);
+  mapping = λ name. value_at name template.mappings;
+  pseudo = pseudo;
+  decided = λ at name. bad (undecided name at);
+  beyond = closed_to (map (λ r. r.name) template.resources);
+}
+
+-- what the conditions of a template come to
+abbrev pub conditions_of : Template → List (List ℕ × Setting) → List (List ℕ × Data) → Outcome (List (List ℕ × Option Bool))
+conditions_of template bound pseudo = conditions_found (scope_within template bound pseudo) template.conds
+
+-- the fault of a nested stack at this path
+abbrev pub Refuses : {A : Type 0} → List ℕ → Outcome A → EvalFault → Type 0
+Refuses stack o (answer.Bad why path at) = (o ≡ bad (fault why at)) × (path ≡ stack)
+Refuses stack o answer.NoMemory = ⊤
+
+-- `eval` answers what the definition gives
+abbrev pub Evaluates : List ℕ → Found → Result Got EvalFault → Type 0
+Evaluates stack f (Ok g) = f ≡ found_of g
+Evaluates stack f (Err e) = Refuses stack f e
+
+-- `conditions` does
+abbrev pub Decides : List ℕ → Outcome (List (List ℕ × Option Bool)) → Result (List (List ℕ × Verdict)) EvalFault → Type 0
+Decides stack o (Ok conds) = o ≡ got (map (λ c. (c.0, verdict_of c.1)) conds)
+Decides stack o (Err e) = Refuses stack o e

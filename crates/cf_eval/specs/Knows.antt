@@ -1,0 +1,101 @@
+-- Knowing more never changes what was known: what it is to know more, and what stays.
+use Rattle.std.specs.Prelude.{◌≡◌, ℕ, List, Bool, true, false, ◌&&◌, not, Option, Some, None, IsTrue, ⊤}
+use Rattle.cf_tree.specs.Datum.{Data}
+use Rattle.cf_tree.specs.Forms.{Form, Node, Forms, Fields, expr, lit, ref, get_att, sub, join, select, split, choice, find_in_map, import_value, base64, no_forms, form, no_fields, field}
+use Rattle.cf_tree.specs.Forms as node
+use Rattle.cf_tree.specs.Keys.{value_at}
+use Rattle.cf_eval.specs.declared.env.Sight.{Sight}
+use Rattle.cf_eval.specs.declared.env.Sight.TheVariants as sight
+use Rattle.cf_eval.specs.declared.env.OutputSight.{OutputSight}
+use Rattle.cf_eval.specs.declared.env.OutputSight.TheVariants as output
+use Rattle.cf_eval.specs.Outcome.{Outcome, got, later, bad}
+use Rattle.cf_eval.specs.Scope.{Scope, Beyond, open_to, closed_to}
+use Rattle.cf_eval.specs.Value.{form_found}
+
+-- what was known stays so; what was not may be anything
+abbrev pub Keeps : {A : Type 0} → Option A → Option A → Type 0
+Keeps (Some a) o = o ≡ Some a
+Keeps None o = ⊤
+
+-- the same name is there, and what it was bound to stays so
+abbrev pub KeepsSetting : Option (Option Data) → Option (Option Data) → Type 0
+KeepsSetting None o = o ≡ None
+KeepsSetting (Some v) None = ⊥
+KeepsSetting (Some v) (Some w) = Keeps v w
+
+abbrev pub KeepsOutput : Option OutputSight → Option OutputSight → Type 0
+KeepsOutput (Some (output.Made v)) (Some (output.Made w)) = Keeps v w
+KeepsOutput (Some (output.Made v)) o = ⊥
+KeepsOutput (Some output.NotMade) o = o ≡ Some output.NotMade
+KeepsOutput None o = o ≡ None
+
+abbrev pub KeepsSight : Option Sight → Option Sight → Type 0
+KeepsSight (Some (sight.Made p a)) (Some (sight.Made q b)) = Keeps p q × Keeps a b
+KeepsSight (Some (sight.Made p a)) o = ⊥
+KeepsSight (Some (sight.Nested i outs)) (Some (sight.Nested j others)) = (j ≡ i) × ((name : List ℕ) → KeepsOutput (value_at name outs) (value_at name others))
+KeepsSight (Some (sight.Nested i outs)) o = ⊥
+KeepsSight (Some sight.NotMade) o = o ≡ Some sight.NotMade
+KeepsSight None o = o ≡ None
+
+abbrev pub KeepsBeyond : Beyond → Beyond → Type 0
+KeepsBeyond (open_to seen imports) (open_to others more) = ((id : List ℕ) → KeepsSight (value_at id seen) (value_at id others)) × (more ≡ imports)
+KeepsBeyond (open_to seen imports) b = ⊥
+KeepsBeyond (closed_to names) b = b ≡ closed_to names
+
+-- a condition that was decided stays so
+abbrev pub KeepsOutcome : {A : Type 0} → Outcome A → Outcome A → Type 0
+KeepsOutcome (got a) o = o ≡ got a
+KeepsOutcome later o = ⊤
+KeepsOutcome (bad w) o = o ≡ bad w
+
+-- t agrees with s, and may know what is Later in s
+pub record KnowsMore (s t : Scope) : Type 0 where
+  pub params : (name : List ℕ) → KeepsSetting (s.params name) (t.params name)
+  pub mapping : (name : List ℕ) → t.mapping name ≡ s.mapping name
+  pub pseudo : t.pseudo ≡ s.pseudo
+  pub decided : (at name : List ℕ) → KeepsOutcome (s.decided at name) (t.decided at name)
+  pub beyond : KeepsBeyond s.beyond t.beyond
+
+-- an outcome is a fault
+abbrev pub is_fault : {A : Type 0} → Outcome A → Bool
+is_fault (got a) = false
+is_fault later = false
+is_fault (bad w) = true
+
+abbrev pub is_later : {A : Type 0} → Outcome A → Bool
+is_later (got a) = false
+is_later later = true
+is_later (bad w) = false
+
+-- Whether no import's name is Later. One that is Later is a fault, and the only fault that may go when more is known.
+abbrev mutual
+  pub names_imports : Scope → Form → Bool
+  names_imports s (expr at n) = node_names_imports s at n
+
+  pub node_names_imports : Scope → List ℕ → Node → Bool
+  node_names_imports s at (import_value e) = not (is_later (form_found s (Some at) e)) && names_imports s e
+  node_names_imports s at (node.list es) = all_name_imports s es
+  node_names_imports s at (node.dict ps) = fields_name_imports s ps
+  node_names_imports s at (lit d) = true
+  node_names_imports s at (ref name) = true
+  node_names_imports s at (get_att id a) = names_imports s a
+  node_names_imports s at (sub parts own) = fields_name_imports s own
+  node_names_imports s at (join d e) = names_imports s e
+  node_names_imports s at (select i e) = names_imports s i && names_imports s e
+  node_names_imports s at (split d e) = names_imports s e
+  node_names_imports s at (choice name y n) = names_imports s y && names_imports s n
+  node_names_imports s at (find_in_map m k l) = names_imports s m && (names_imports s k && names_imports s l)
+  node_names_imports s at (base64 e) = names_imports s e
+
+  pub all_name_imports : Scope → Forms → Bool
+  all_name_imports s no_forms = true
+  all_name_imports s (form e es) = names_imports s e && all_name_imports s es
+
+  pub fields_name_imports : Scope → Fields → Bool
+  fields_name_imports s no_fields = true
+  fields_name_imports s (field name e ps) = names_imports s e && fields_name_imports s ps
+
+-- what stays of an expression where more is known: a value or NoValue, and a fault that rests on no import whose name is Later
+pub record Stays (s t : Scope) (around : Option (List ℕ)) (e : Form) : Type 0 where
+  pub value : (v : Option Data) → form_found s around e ≡ got v → form_found t around e ≡ got v
+  pub fault : IsTrue (names_imports s e) → IsTrue (is_fault (form_found s around e)) → IsTrue (is_fault (form_found t around e))

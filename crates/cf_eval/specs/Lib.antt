@@ -1,0 +1,11 @@
+pub mod Outcome
+pub mod Scope
+pub mod Texts
+pub mod Functions
+pub mod Value
+pub mod Conditions
+pub mod Env
+pub mod Knows
+pub mod ScopeOf
+pub mod Gives
+pub mod Memory

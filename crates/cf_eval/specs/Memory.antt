@@ -1,0 +1,6 @@
+-- Want of memory.
+use Rattle.cf_eval.specs.declared.fault.Stop.{Stop}
+use Rattle.cf_eval.specs.declared.fault.Stop.TheVariants as stop
+
+abbrev pub out_of_memory : Stop
+out_of_memory = stop.NoMemory

@@ -1,0 +1,42 @@
+-- What the evaluation of a part gives, and how parts come together: they are evaluated from first to last, the first fault is the answer, and else one part that is Later makes the whole Later (this project's own order).
+use Rattle.std.specs.Prelude.{ℕ, List, [], ◌∷◌, Option, Some, None}
+use Rattle.cf_eval.specs.declared.fault.EvalWhy.{EvalWhy}
+use Rattle.cf_eval.specs.declared.fault.EvalWhy.TheVariants.{WrongKind}
+
+-- why an evaluation stops and at which place; or which condition is asked for at which place, where it is not decided
+pub data Stop : Type 0 where
+  fault : EvalWhy → List ℕ → Stop
+  undecided : List ℕ → List ℕ → Stop
+
+pub data Outcome (A : Type 0) : Type 0 where
+  got : A → Outcome A
+  later : Outcome A
+  bad : Stop → Outcome A
+
+-- what f makes of a part once it is known
+abbrev pub on_got : {A B : Type 0} → Outcome A → (A → Outcome B) → Outcome B
+on_got (got a) f = f a
+on_got later f = later
+on_got (bad s) f = bad s
+
+-- Later, but for a fault that comes after it
+abbrev pub after_later : {A B : Type 0} → Outcome A → Outcome B
+after_later (got a) = later
+after_later later = later
+after_later (bad s) = bad s
+
+-- what f makes of two parts once both are known
+abbrev pub both : {A B C : Type 0} → Outcome A → Outcome B → (A → B → Outcome C) → Outcome C
+both (got a) y f = on_got y (f a)
+both later y f = after_later y
+both (bad s) y f = bad s
+
+-- the parts of a list
+abbrev pub each : {A : Type 0} → List (Outcome A) → Outcome (List A)
+each [] = got []
+each (x ∷ xs) = both x (each xs) (λ a rest. got (a ∷ rest))
+
+-- WrongKind, where there is nothing
+abbrev pub or_wrong : {A : Type 0} → List ℕ → Option A → Outcome A
+or_wrong at (Some a) = got a
+or_wrong at None = bad (fault WrongKind at)

@@ -1,0 +1,297 @@
+//! What names stand for: `Ref`, `Fn::GetAtt`, the names of conditions, mappings and imports.
+ghost use Rattle.std.specs.Prelude.{◌≡◌, codes, option_map};
+ghost use Rattle.cf_funcs.specs.Pieces.{cut_at};
+ghost use Rattle.cf_eval.specs.Functions.{ref_found, resource_ref, id_of, attribute_of, attribute_in, get_att_found, output_found, mapped, under_key, under_second, import_found, find_found, pseudo_ref, why_not, imported, name_found};
+ghost use Rattle.cf_eval.specs.Outcome.{bad, fault};
+ghost use Rattle.cf_eval.specs.declared.fault.EvalWhy.TheVariants.{UnknownAttribute};
+ghost use Rattle.cf_eval.specs.Gives.{found_of, Gives};
+ghost use Rattle.cf_eval.specs.ScopeOf.{scope_of, beyond_of};
+
+use crate::env::{OutputSight, Sight};
+use crate::fault::{EvalWhy, Stop};
+use crate::got::Got;
+use crate::scope::{Beyond, Scope};
+use crate::texts::{as_text, wanted_text};
+use cf_tree::{ByName, Dict, Names, Setting, Txt, Val};
+use std::alloc::Global;
+
+/// `Ref`: a parameter, else a pseudo parameter, else a resource.
+pub(crate) fn reference(alloc: Global, scope: &Scope, at: &Txt, name: &Txt) -> Result<Got, Stop>
+    ensures { Gives (ref_found (scope_of scope.now) at.now name.now) result }
+{
+    match scope.params.get(name.as_str()) {
+        Some(Setting::Value(value)) => Ok(Got::Value(value.try_clone(alloc)?)),
+        Some(Setting::Later) => Ok(Got::Later),
+        None => beside_params(alloc, scope, at, name),
+    }
+}
+
+fn beside_params(alloc: Global, scope: &Scope, at: &Txt, name: &Txt) -> Result<Got, Stop>
+    ensures { Gives (pseudo_ref (scope_of scope.now) at.now name.now) result }
+{
+    if name.is("AWS::NoValue") {
+        return Ok(Got::NoValue);
+    }
+    match scope.pseudo.get(name.as_str()) {
+        Some(value) => Ok(Got::Value(value.try_clone(alloc)?)),
+        None => resource(alloc, &scope.beyond, at, name),
+    }
+}
+
+fn resource(alloc: Global, beyond: &Beyond, at: &Txt, name: &Txt) -> Result<Got, Stop>
+    ensures { Gives (resource_ref (beyond_of beyond.now) at.now name.now) result }
+{
+    match beyond {
+        Beyond::Open { seen, imports: _ } => match seen.get(name.as_str()) {
+            Some(sight) => id_of(alloc, at, sight),
+            None => Err(Stop::Bad {
+                why: EvalWhy::UnknownName,
+                at: at.try_clone(alloc)?,
+            }),
+        },
+        Beyond::Closed { resources } => Err(Stop::Bad {
+            why: barred(resources, name),
+            at: at.try_clone(alloc)?,
+        }),
+    }
+}
+
+fn barred(resources: &Names, name: &Txt) -> EvalWhy
+    ensures { result ≡ why_not name.now resources.now }
+{
+    for resource in resources.as_slice() {
+        if name.is(resource.as_str()) {
+            return EvalWhy::WrongKind;
+        }
+    }
+    EvalWhy::UnknownName
+}
+
+/// The physical id of a resource, or the stack id of a nested stack.
+fn id_of(alloc: Global, at: &Txt, sight: &Sight) -> Result<Got, Stop>
+    ensures { Gives (id_of at.now sight.now) result }
+{
+    match sight {
+        Sight::NotMade => Err(Stop::Bad {
+            why: EvalWhy::NotMade,
+            at: at.try_clone(alloc)?,
+        }),
+        Sight::Made {
+            physical: Some(id),
+            attrs: _,
+        } => Ok(Got::Value(Val::Text(id.try_clone(alloc)?))),
+        Sight::Made {
+            physical: None,
+            attrs: _,
+        } => Ok(Got::Later),
+        Sight::Nested { id, outputs: _ } => Ok(Got::Value(Val::Text(id.try_clone(alloc)?))),
+    }
+}
+
+/// `Fn::GetAtt`.
+pub(crate) fn get_att(
+    alloc: Global,
+    scope: &Scope,
+    at: &Txt,
+    id: &Txt,
+    name: &Got,
+) -> Result<Got, Stop>
+    ensures { Gives (get_att_found (scope_of scope.now) at.now id.now (found_of name.now)) result }
+{
+    match as_text(alloc, at, name)? {
+        Some(name) => attribute(alloc, &scope.beyond, at, id.as_str(), name.as_str()),
+        None => Ok(Got::Later),
+    }
+}
+
+fn attribute(alloc: Global, beyond: &Beyond, at: &Txt, id: &str, name: &str) -> Result<Got, Stop>
+    ensures { Gives (attribute_in (beyond_of beyond.now) at.now id.now name.now) result }
+{
+    match beyond {
+        Beyond::Open { seen, imports: _ } => match seen.get(id) {
+            Some(sight) => attribute_of(alloc, at, sight, name),
+            None => Err(Stop::Bad {
+                why: EvalWhy::UnknownName,
+                at: at.try_clone(alloc)?,
+            }),
+        },
+        Beyond::Closed { resources: _ } => Err(Stop::Bad {
+            why: EvalWhy::WrongKind,
+            at: at.try_clone(alloc)?,
+        }),
+    }
+}
+
+/// An attribute of a resource, or an output of a nested stack.
+fn attribute_of(alloc: Global, at: &Txt, sight: &Sight, name: &str) -> Result<Got, Stop>
+    ensures { Gives (attribute_of at.now sight.now name.now) result }
+{
+    match sight {
+        Sight::NotMade => Err(Stop::Bad {
+            why: EvalWhy::NotMade,
+            at: at.try_clone(alloc)?,
+        }),
+        Sight::Made {
+            physical: _,
+            attrs: Some(attrs),
+        } => match attrs.get(name) {
+            Some(value) => Ok(Got::Value(value.try_clone(alloc)?)),
+            None => unknown_attribute(alloc, at),
+        },
+        Sight::Made {
+            physical: _,
+            attrs: None,
+        } => Ok(Got::Later),
+        Sight::Nested { id: _, outputs } => match outputs.get(name) {
+            Some(output) => output_found(alloc, at, output),
+            None => unknown_attribute(alloc, at),
+        },
+    }
+}
+
+fn unknown_attribute(alloc: Global, at: &Txt) -> Result<Got, Stop>
+    ensures { Gives (bad (fault UnknownAttribute at.now)) result }
+{
+    Err(Stop::Bad {
+        why: EvalWhy::UnknownAttribute,
+        at: at.try_clone(alloc)?,
+    })
+}
+
+fn output_found(alloc: Global, at: &Txt, output: &OutputSight) -> Result<Got, Stop>
+    ensures { Gives (output_found at.now output.now) result }
+{
+    match output {
+        OutputSight::NotMade => Err(Stop::Bad {
+            why: EvalWhy::NotMade,
+            at: at.try_clone(alloc)?,
+        }),
+        OutputSight::Made { value: Some(value) } => {
+            Ok(Got::Value(Val::Text(value.try_clone(alloc)?)))
+        }
+        OutputSight::Made { value: None } => Ok(Got::Later),
+    }
+}
+
+/// `Fn::ImportValue`.
+pub(crate) fn import(alloc: Global, scope: &Scope, at: &Txt, name: &Got) -> Result<Got, Stop>
+    ensures { Gives (import_found (scope_of scope.now) at.now (found_of name.now)) result }
+{
+    match as_text(alloc, at, name)? {
+        Some(name) => imported(alloc, &scope.beyond, at, name.as_str()),
+        None => Err(Stop::Bad {
+            why: EvalWhy::WrongKind,
+            at: at.try_clone(alloc)?,
+        }),
+    }
+}
+
+fn imported(alloc: Global, beyond: &Beyond, at: &Txt, name: &str) -> Result<Got, Stop>
+    ensures { Gives (imported (beyond_of beyond.now) at.now name.now) result }
+{
+    match beyond {
+        Beyond::Open { seen: _, imports } => match imports.get(name) {
+            Some(value) => Ok(Got::Value(Val::Text(value.try_clone(alloc)?))),
+            None => Err(Stop::Bad {
+                why: EvalWhy::UnknownImport,
+                at: at.try_clone(alloc)?,
+            }),
+        },
+        Beyond::Closed { resources: _ } => Err(Stop::Bad {
+            why: EvalWhy::WrongKind,
+            at: at.try_clone(alloc)?,
+        }),
+    }
+}
+
+/// `Fn::FindInMap`.
+pub(crate) fn find_in_map(
+    alloc: Global,
+    scope: &Scope,
+    at: &Txt,
+    name: &Got,
+    first: &Got,
+    second: &Got,
+) -> Result<Got, Stop>
+    ensures { Gives (find_found (scope_of scope.now) at.now (found_of name.now) (found_of first.now) (found_of second.now)) result }
+{
+    match (name, first, second) {
+        (Got::Later, _, _) | (_, Got::Later, _) | (_, _, Got::Later) => Ok(Got::Later),
+        (Got::Value(name), Got::Value(first), Got::Value(second)) => {
+            let name = wanted_text(alloc, at, name)?;
+            let first = wanted_text(alloc, at, first)?;
+            let second = wanted_text(alloc, at, second)?;
+            mapped(alloc, scope, at, &name, &first, &second)
+        }
+        _ => Err(Stop::Bad {
+            why: EvalWhy::WrongKind,
+            at: at.try_clone(alloc)?,
+        }),
+    }
+}
+
+fn mapped(
+    alloc: Global,
+    scope: &Scope,
+    at: &Txt,
+    name: &Txt,
+    first: &Txt,
+    second: &Txt,
+) -> Result<Got, Stop>
+    ensures { Gives (mapped (scope_of scope.now) at.now name.now first.now second.now) result }
+{
+    match scope.mappings.get(name.as_str()) {
+        Some(keys) => under_key(alloc, at, keys, first, second),
+        None => Err(Stop::Bad {
+            why: EvalWhy::UnknownName,
+            at: at.try_clone(alloc)?,
+        }),
+    }
+}
+
+fn under_key(
+    alloc: Global,
+    at: &Txt,
+    keys: &ByName<Dict>,
+    first: &Txt,
+    second: &Txt,
+) -> Result<Got, Stop>
+    ensures { Gives (under_key at.now first.now second.now keys.now) result }
+{
+    match keys.get(first.as_str()) {
+        Some(values) => under_second(alloc, at, values, second),
+        None => Err(Stop::Bad {
+            why: EvalWhy::UnknownMapKey,
+            at: at.try_clone(alloc)?,
+        }),
+    }
+}
+
+fn under_second(alloc: Global, at: &Txt, values: &Dict, second: &Txt) -> Result<Got, Stop>
+    ensures { Gives (under_second at.now second.now values.now) result }
+{
+    match values.get(second.as_str()) {
+        Some(value) => Ok(Got::Value(value.try_clone(alloc)?)),
+        None => Err(Stop::Bad {
+            why: EvalWhy::UnknownMapKey,
+            at: at.try_clone(alloc)?,
+        }),
+    }
+}
+
+/// A name in a text: as `Ref`, or as `Fn::GetAtt` where a dot stands in it.
+pub(crate) fn named(alloc: Global, scope: &Scope, at: &Txt, name: &Txt) -> Result<Got, Stop>
+    ensures { Gives (name_found (scope_of scope.now) at.now name.now) result }
+{
+    match cut(name.as_str()) {
+        Some((id, attr)) => attribute(alloc, &scope.beyond, at, id, attr),
+        None => reference(alloc, scope, at, name),
+    }
+}
+
+/// What stands before the first dot, and what follows it.
+fn cut(name: &str) -> Option<(&str, &str)>
+    ensures { option_map (λ c. (c.0.now, c.1.now)) result ≡ cut_at (codes ".") name.now }
+{
+    name.split_once(".")
+}
