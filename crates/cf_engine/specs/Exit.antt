@@ -1,0 +1,62 @@
+-- How a command ended, and the line that says so (this project's own).
+use Rattle.std.specs.Prelude.{ℕ, List, [], ◌∷◌, decimal, codes}
+use Rattle.cf_template.specs.declared.fault.TemplateFault.{TemplateFault}
+use Rattle.cf_template.specs.declared.fault.TemplateFault.TheVariants as unread
+use Rattle.cf_engine.specs.declared.exit.Exit.{Exit}
+use Rattle.cf_engine.specs.declared.exit.Exit.TheVariants as exit
+use Rattle.cf_engine.specs.declared.exit.Refusal.{Refusal}
+use Rattle.cf_engine.specs.declared.exit.Refusal.TheVariants as refusal
+use Rattle.cf_engine.specs.declared.exit.DesiredFault.{DesiredFault}
+use Rattle.cf_engine.specs.declared.exit.DesiredFault.TheVariants as desired
+use Rattle.cf_engine.specs.Line.{line_of, text_word, texts_word}
+
+-- the number of an exit, which is the status of the process
+abbrev pub number_of : Exit → ℕ
+number_of exit.Done = 0
+number_of exit.BadWords = 1
+number_of (exit.TemplateRefused fault) = 2
+number_of (exit.Failed blamed) = 5
+number_of exit.LibraryFault = 6
+number_of exit.SinkFault = 8
+number_of exit.NoMemory = 9
+
+-- the name of an exit
+abbrev pub name_of : Exit → List ℕ
+name_of exit.Done = codes "Done"
+name_of exit.BadWords = codes "BadWords"
+name_of (exit.TemplateRefused fault) = codes "TemplateRefused"
+name_of (exit.Failed blamed) = codes "Failed"
+name_of exit.LibraryFault = codes "LibraryFault"
+name_of exit.SinkFault = codes "SinkFault"
+name_of exit.NoMemory = codes "NoMemory"
+
+-- why a template was not read
+abbrev pub unread_words : TemplateFault → List (List ℕ)
+unread_words unread.NotJson = codes "NotJson" ∷ []
+unread_words unread.NoMemory = codes "NoMemory" ∷ []
+unread_words unread.NotYet = codes "NotYet" ∷ []
+
+-- why no desired resources came of it
+abbrev pub desired_words : DesiredFault → List (List ℕ)
+desired_words (desired.TemplateMissing name) = codes "TemplateMissing" ∷ text_word name ∷ []
+desired_words desired.NoMemory = codes "NoMemory" ∷ []
+
+-- why a template was refused: the variant's name and then its fields
+abbrev pub refusal_words : Refusal → List (List ℕ)
+refusal_words (refusal.Read name fault) = codes "Read" ∷ text_word name ∷ unread_words fault
+refusal_words (refusal.Plan fault) = codes "Plan" ∷ desired_words fault
+refusal_words (refusal.UnknownType path name) = codes "UnknownType" ∷ text_word path ∷ text_word name ∷ []
+
+-- the fields of an exit
+abbrev pub field_words : Exit → List (List ℕ)
+field_words exit.Done = []
+field_words exit.BadWords = []
+field_words (exit.TemplateRefused fault) = refusal_words fault
+field_words (exit.Failed blamed) = texts_word blamed ∷ []
+field_words exit.LibraryFault = []
+field_words exit.SinkFault = []
+field_words exit.NoMemory = []
+
+-- the line of an exit: `exit`, its number, its name, and its fields in order
+abbrev pub exit_line : Exit → List ℕ
+exit_line e = line_of (codes "exit") (decimal (number_of e) ∷ name_of e ∷ field_words e)

@@ -1,0 +1,4 @@
+pub mod Line
+pub mod Words
+pub mod Exit
+pub mod Report

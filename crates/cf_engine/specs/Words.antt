@@ -1,0 +1,38 @@
+-- What the words of a command line ask for: the table of commands.
+use Rattle.std.specs.Prelude.{ℕ, ◌==◌, ◌&&◌, ◌||◌, Bool, false, if◌then◌else◌, List, [], ◌∷◌, length, nat_le, Option, None, Some, codes}
+use Rattle.std.specs.List.{list_all}
+use Rattle.std.specs.Str.{bytes_eq}
+use Rattle.std.specs.Char.{is_ascii_alphabetic, is_ascii_alphanumeric}
+use Rattle.cf_engine.specs.declared.words.Command.{Command}
+use Rattle.cf_engine.specs.declared.words.Command.TheVariants as command
+
+-- a letter, digit or `-` (45)
+abbrev pub is_name_byte : ℕ → Bool
+is_name_byte b = is_ascii_alphanumeric b || b == 45
+
+-- the name of a stack: a letter, then letters, digits and `-`, at most 128 (CloudFormation API, CreateStack, StackName)
+abbrev pub is_stack_name : List ℕ → Bool
+is_stack_name [] = false
+is_stack_name (b ∷ bytes) = is_ascii_alphabetic b && (list_all is_name_byte bytes && nat_le (length (b ∷ bytes)) 128)
+
+-- the name of a template: 1 to 128 bytes (this project's own)
+abbrev pub is_template_name : List ℕ → Bool
+is_template_name name = nat_le 1 (length name) && nat_le (length name) 128
+
+-- `deploy STACK TEMPLATE`
+abbrev pub deploy_of : List (List ℕ) → Option Command
+deploy_of (stack ∷ template ∷ []) =
+    if is_stack_name stack && is_template_name template then Some (command.Deploy stack template) else None
+deploy_of _ = None
+
+-- `describe STACK`
+abbrev pub describe_of : List (List ℕ) → Option Command
+describe_of (stack ∷ []) = if is_stack_name stack then Some (command.Describe stack) else None
+describe_of _ = None
+
+-- the command that the words ask for, by the first of them; None where no row of the table fits
+abbrev pub command_of : List (List ℕ) → Option Command
+command_of [] = None
+command_of (word ∷ words) =
+    if bytes_eq (codes "deploy") word then deploy_of words
+    else (if bytes_eq (codes "describe") word then describe_of words else None)

@@ -1,0 +1,8 @@
+//! A stack engine on one machine.
+#![tactic(auto)]
+
+mod exit;
+mod line;
+mod words;
+
+fn main(_rt: HostRuntime) {}
