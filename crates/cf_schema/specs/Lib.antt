@@ -4,3 +4,4 @@ pub mod Reading
 pub mod Past
 pub mod Spelling
 pub mod Change
+pub mod Kinds

@@ -4,6 +4,7 @@
 mod changed;
 mod described;
 mod fault;
+mod kinds;
 mod members;
 mod pointers;
 mod reading;
@@ -11,4 +12,5 @@ mod reading;
 pub use changed::{Difference, differs};
 pub use described::Schema;
 pub use fault::SchemaFault;
+pub use kinds::Schemas;
 pub use reading::read_schema;

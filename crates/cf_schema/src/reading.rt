@@ -76,3 +76,96 @@ fn fields(alloc: Global, root: &Value) -> Result<Schema, SchemaFault>
         identifier,
     })
 }
+
+#[cfg(test)]
+mod tests {
+    use super::*;
+    use cf_tree::{Names, Txt};
+    use std::process::Abort;
+    use std::test::Fail;
+
+    const RECORD: &str =
+        "{\"typeName\":\"Local::Records::Record\",\"properties\":{\"Key\":{},\"Value\":{},\"Class\":{},\"Id\":{},\"Length\":{}},\"required\":[\"Key\",\"Value\"],\"createOnlyProperties\":[\"/properties/Key\"],\"conditionalCreateOnlyProperties\":[\"/properties/Class\"],\"readOnlyProperties\":[\"/properties/Id\",\"/properties/Length\"],\"primaryIdentifier\":[\"/properties/Id\"]}";
+
+    fn holds(names: &Names, texts: &[&str]) -> bool {
+        if names.len() != texts.len() {
+            return false;
+        }
+        for (name, text) in names.as_slice().iter().zip(texts) {
+            if !name.is(*text) {
+                return false;
+            }
+        }
+        true
+    }
+
+    #[test]
+    fn a_schema_is_read(rt: HostRuntime) -> Result<(), Fail> {
+        let schema = read_schema(rt.alloc(), RECORD.as_bytes())?;
+        assert!(rt; schema.kind.is("Local::Records::Record"));
+        assert!(rt; holds(&schema.props, &["Class", "Id", "Key", "Length", "Value"]));
+        assert!(rt; holds(&schema.required, &["Key", "Value"]));
+        assert!(rt; holds(&schema.create_only, &["Key"]));
+        assert!(rt; holds(&schema.conditional, &["Class"]));
+        assert!(rt; holds(&schema.read_only, &["Id", "Length"]));
+        assert!(rt; holds(&schema.identifier, &["Id"]));
+        Ok(())
+    }
+
+    fn refused(rt: HostRuntime, text: &str) -> Result<SchemaFault, Fail> {
+        Ok(
+            read_schema(rt.alloc(), text.as_bytes())
+                .err()
+                .ok_or("a fault")?,
+        )
+    }
+
+    #[test]
+    fn faults_come_in_order(rt: HostRuntime) -> Result<(), Fail> {
+        let alloc = rt.alloc();
+        assert_eq!(rt; refused(rt, "{")?, SchemaFault::NotJson);
+        assert_eq!(rt;
+            refused(rt, "[]")?,
+            SchemaFault::WrongShape {
+                name: Txt::from_str(alloc, "")?
+            }
+        );
+        assert_eq!(rt;
+            refused(rt, "{}")?,
+            SchemaFault::Missing {
+                name: Txt::from_str(alloc, "typeName")?
+            }
+        );
+        assert_eq!(rt;
+            refused(rt, "{\"typeName\":1}")?,
+            SchemaFault::WrongShape {
+                name: Txt::from_str(alloc, "typeName")?
+            }
+        );
+        assert_eq!(rt;
+            refused(rt, "{\"typeName\":\"X\"}")?,
+            SchemaFault::Missing {
+                name: Txt::from_str(alloc, "properties")?
+            }
+        );
+        assert_eq!(rt;
+            refused(
+                rt,
+                "{\"typeName\":\"X\",\"properties\":{\"a/b\":{}},\"primaryIdentifier\":[\"/properties/a~1b\"],\"required\":[\"c\"]}"
+            )?,
+            SchemaFault::BadPointer {
+                text: Txt::from_str(alloc, "c")?
+            }
+        );
+        assert_eq!(rt;
+            refused(
+                rt,
+                "{\"typeName\":\"X\",\"properties\":{\"a\":{}},\"primaryIdentifier\":[\"/properties/a/b\"],\"required\":7}"
+            )?,
+            SchemaFault::BadPointer {
+                text: Txt::from_str(alloc, "/properties/a/b")?
+            }
+        );
+        Ok(())
+    }
+}
