@@ -1,2 +1,4 @@
 pub mod Texts
 pub mod Spaced
+pub mod Lanes
+pub mod Runs

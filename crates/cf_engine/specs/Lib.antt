@@ -2,3 +2,6 @@ pub mod Line
 pub mod Words
 pub mod Exit
 pub mod Report
+pub mod Lanes
+pub mod Step
+pub mod Create

@@ -1,6 +1,7 @@
 //! A stack engine on one machine.
 #![tactic(auto)]
 
+mod create;
 mod exit;
 mod line;
 mod words;

@@ -12,15 +12,15 @@ use Rattle.cf_handler.specs.declared.settled.Settlement.TheVariants.{Success, Fa
 use Rattle.cf_handler.specs.declared.settled.Settled.{Settled}
 use Rattle.cf_handler.specs.Lane.{LaneState, live_of, has_id, is_used, settlement_of}
 
--- a count of faults rose; at its last value it counts as risen in each call
-abbrev pub Rose : ℕ → ℕ → Type 0
-Rose before after = (before < after) ⊎ (before ≡ 2 ^ 64 - 1)
+-- a count of faults rose; one at its last value, 2 ^ 64 - 1, counts as risen in each call
+abbrev pub HasRisen : ℕ → ℕ → Type 0
+HasRisen before after = before < 2 ^ 64 - 1 → before < after
 
 -- a refusal and a fault come only where the count rose
 abbrev pub IsBlamed : Answer → ℕ → ℕ → Type 0
 IsBlamed (answer.Success physical attrs) before after = Unit {0}
-IsBlamed (answer.Failed code) before after = Rose before after
-IsBlamed answer.Fault before after = Rose before after
+IsBlamed (answer.Failed code) before after = HasRisen before after
+IsBlamed answer.Fault before after = HasRisen before after
 IsBlamed answer.NoMemory before after = Unit {0}
 
 -- the count never falls, and each refusal and fault has it for its cause
