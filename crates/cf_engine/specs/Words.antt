@@ -1,7 +1,8 @@
 -- What the words of a command line ask for: the table of commands.
-use Rattle.std.specs.Prelude.{ℕ, ◌==◌, ◌&&◌, ◌||◌, Bool, false, if◌then◌else◌, List, [], ◌∷◌, length, nat_le, Option, None, Some, codes}
+use Rattle.std.specs.Prelude.{ℕ, ◌==◌, ◌&&◌, ◌||◌, ◌+◌, ◌-◌, ◌*◌, Bool, true, false, if◌then◌else◌, List, [], ◌∷◌, length, nat_le, Option, None, Some, codes}
 use Rattle.std.specs.List.{list_all}
 use Rattle.std.specs.Str.{bytes_eq}
+use Rattle.std.specs.Int.{is_in_range}
 use Rattle.std.specs.Char.{is_ascii_alphabetic, is_ascii_alphanumeric}
 use Rattle.cf_engine.specs.declared.words.Command.{Command}
 use Rattle.cf_engine.specs.declared.words.Command.TheVariants as command
@@ -36,3 +37,17 @@ command_of [] = None
 command_of (word ∷ words) =
     if bytes_eq (codes "deploy") word then deploy_of words
     else (if bytes_eq (codes "describe") word then describe_of words else None)
+
+-- whether a command changes a stack, and so drives handlers
+abbrev pub drives : Command → Bool
+drives (command.Deploy stack template) = true
+drives (command.Describe stack) = false
+
+-- the number of workers that a word names: a decimal number from 1 to 64 without a leading zero, of one digit
+-- or two (this project's own)
+abbrev pub workers_of : List ℕ → Option ℕ
+workers_of (one ∷ []) = if is_in_range 49 57 one then Some (one - 48) else None
+workers_of (ten ∷ one ∷ []) =
+    let number = 10 * (ten - 48) + (one - 48) in
+    if is_in_range 49 57 ten && (is_in_range 48 57 one && nat_le number 64) then Some number else None
+workers_of _ = None

@@ -156,3 +156,70 @@ fn push_unread(line: &mut String, fault: &TemplateFault) -> Result<(), NoMemory>
         TemplateFault::NotYet => push_word(line, "NotYet"),
     }
 }
+
+#[cfg(test)]
+mod tests {
+    use super::*;
+    use std::test::Fail;
+
+    // Whether the line of an exit is this text.
+    fn prints(alloc: Global, exit: Exit, line: &str) -> Result<bool, NoMemory> {
+        let mut text = String::new(alloc);
+        exit.push_line(alloc, &mut text)?;
+        Ok(text.as_str() == line)
+    }
+
+    #[test]
+    fn lines_of_exits(rt: HostRuntime) -> Result<(), Fail> {
+        let alloc = rt.alloc();
+        assert!(rt; prints(alloc, Exit::Done, "exit 0 Done\n")?);
+        assert!(rt; prints(alloc, Exit::BadWords, "exit 1 BadWords\n")?);
+        let mut blamed = Names::new(alloc);
+        blamed.push(Txt::from_str(alloc, "B")?)?;
+        assert!(rt; prints(alloc, Exit::Failed { blamed }, "exit 5 Failed [\"B\"]\n")?);
+        assert!(rt; prints(alloc, Exit::LibraryFault, "exit 6 LibraryFault\n")?);
+        assert!(rt; prints(alloc, Exit::SinkFault, "exit 8 SinkFault\n")?);
+        assert!(rt; prints(alloc, Exit::NoMemory, "exit 9 NoMemory\n")?);
+        Ok(())
+    }
+
+    #[test]
+    fn lines_of_refusals(rt: HostRuntime) -> Result<(), Fail> {
+        let alloc = rt.alloc();
+        let fault = DesiredFault::TemplateMissing {
+            name: Txt::from_str(alloc, "x")?,
+        };
+        let fault = Refusal::Plan { fault };
+        assert!(rt;
+            prints(
+                alloc,
+                Exit::TemplateRefused { fault },
+                "exit 2 TemplateRefused Plan TemplateMissing \"x\"\n"
+            )?
+        );
+        let fault = Refusal::Read {
+            name: Txt::from_str(alloc, "x")?,
+            fault: TemplateFault::NotJson,
+        };
+        assert!(rt;
+            prints(
+                alloc,
+                Exit::TemplateRefused { fault },
+                "exit 2 TemplateRefused Read \"x\" NotJson\n"
+            )?
+        );
+        let path = Txt::from_str(alloc, "A")?;
+        let fault = Refusal::UnknownType {
+            path,
+            name: Txt::from_str(alloc, "No::Such")?,
+        };
+        assert!(rt;
+            prints(
+                alloc,
+                Exit::TemplateRefused { fault },
+                "exit 2 TemplateRefused UnknownType \"A\" \"No::Such\"\n"
+            )?
+        );
+        Ok(())
+    }
+}

@@ -4,6 +4,7 @@
 mod create;
 mod exit;
 mod line;
+mod report;
 mod words;
 
 fn main(_rt: HostRuntime) {}

@@ -2,7 +2,7 @@
 
 ghost use Rattle.std.specs.Prelude.{◌≡◌, IfOk};
 ghost use Rattle.std.specs.List.{list_all};
-ghost use Rattle.cf_engine.specs.Words.{command_of, deploy_of, describe_of, is_stack_name, is_template_name, is_name_byte};
+ghost use Rattle.cf_engine.specs.Words.{command_of, drives, workers_of, deploy_of, describe_of, is_stack_name, is_template_name, is_name_byte};
 
 use cf_tree::{NoMemory, Txt};
 use std::alloc::Global;
@@ -14,6 +14,18 @@ pub enum Command {
     Deploy { stack: Txt, template: Txt },
     /// `describe STACK`: report on the stack.
     Describe { stack: Txt },
+}
+
+impl Command {
+    /// Whether the command changes a stack, and so drives handlers.
+    pub fn drives(&self) -> bool
+        ensures { result ≡ drives self.now }
+    {
+        match self {
+            Command::Deploy { .. } => true,
+            Command::Describe { .. } => false,
+        }
+    }
 }
 
 /// The command that the words ask for, and None exactly where no row of the table of commands fits.
@@ -33,6 +45,21 @@ pub fn read_words(alloc: Global, words: &[Txt]) -> Result<Option<Command>, NoMem
         return read_describe(alloc, rest);
     }
     Ok(None)
+}
+
+/// The number of workers that a word names, and None exactly where the word is no decimal number from 1 to
+/// 64 without a leading zero. It takes no memory.
+pub fn read_workers(word: &Txt) -> Option<u32>
+    ensures { result ≡ workers_of word.now }
+{
+    match word.as_str().as_bytes() {
+        [one] if b'1' <= *one && *one <= b'9' => Some(u32::from(*one - b'0')),
+        [ten, one] if b'1' <= *ten && *ten <= b'9' && one.is_ascii_digit() => {
+            let number = 10 * u32::from(*ten - b'0') + u32::from(*one - b'0');
+            if number <= 64 { Some(number) } else { None }
+        }
+        _ => None,
+    }
 }
 
 // The words after `deploy`.
@@ -87,4 +114,80 @@ fn is_template_name(name: &str) -> bool
     ensures { result ≡ is_template_name name.now }
 {
     1 <= name.len() && name.len() <= 128
+}
+
+#[cfg(test)]
+mod tests {
+    use super::*;
+    use std::test::Fail;
+
+    // The words of a line.
+    fn words_of(alloc: Global, line: &str) -> Result<Vec<Txt>, NoMemory> {
+        let mut words = Vec::new(alloc);
+        for word in line.split_ascii_whitespace() {
+            words.push(Txt::from_str(alloc, word)?)?;
+        }
+        Ok(words)
+    }
+
+    // Whether the words of a line ask for nothing that there is.
+    fn is_refused(alloc: Global, line: &str) -> Result<bool, NoMemory> {
+        let words = words_of(alloc, line)?;
+        Ok(read_words(alloc, words.as_slice())?.is_none())
+    }
+
+    #[test]
+    fn the_table_of_commands(rt: HostRuntime) -> Result<(), Fail> {
+        let alloc = rt.alloc();
+        let app = Txt::from_str(alloc, "app-1")?;
+        let one = Txt::from_str(alloc, "one.json")?;
+        let words = words_of(alloc, "deploy app-1 one.json")?;
+        let deploy = Command::Deploy {
+            stack: app,
+            template: one,
+        };
+        assert!(rt; read_words(alloc, words.as_slice())? == Some(deploy));
+        let app = Txt::from_str(alloc, "app-1")?;
+        let words = words_of(alloc, "describe app-1")?;
+        assert!(rt; read_words(alloc, words.as_slice())? == Some(Command::Describe { stack: app }));
+        for line in [
+            "",
+            "deploy app",
+            "deploy app one K=V",
+            "deploy 1app one",
+            "deploy a_b one",
+            "list",
+            "describe",
+        ] {
+            assert!(rt; is_refused(alloc, line)?, "at {line}");
+        }
+        Ok(())
+    }
+
+    #[test]
+    fn numbers_of_workers(rt: HostRuntime) -> Result<(), Fail> {
+        let cases = [
+            ("1", Some(1)),
+            ("10", Some(10)),
+            ("64", Some(64)),
+            ("65", None),
+            ("0", None),
+            ("01", None),
+        ];
+        for (word, workers) in cases {
+            assert_eq!(rt;
+                read_workers(&Txt::from_str(rt.alloc(), word)?),
+                workers,
+                "at {word}"
+            );
+        }
+        for word in ["", "+1", "1 ", "640", "x"] {
+            assert_eq!(rt;
+                read_workers(&Txt::from_str(rt.alloc(), word)?),
+                None,
+                "at {word}"
+            );
+        }
+        Ok(())
+    }
 }
