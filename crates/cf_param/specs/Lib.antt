@@ -1,0 +1,4 @@
+pub mod Pattern
+pub mod Offered
+pub mod Binding
+pub mod Fault
