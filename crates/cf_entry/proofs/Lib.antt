@@ -1,3 +1,12 @@
 pub mod Counts
 pub mod Sizes
 pub mod Joined
+pub mod Texts
+pub mod Many
+pub mod Ascend
+pub mod Codec
+pub mod Fields
+pub mod Tagged
+pub mod Values
+pub mod Entries
+pub mod Spelled

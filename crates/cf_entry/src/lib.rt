@@ -5,8 +5,11 @@ mod entry;
 mod put;
 mod size;
 mod status;
+mod take;
+mod unread;
 
 pub use entry::{Begun, Entries, Entry, LaneNames, Reply};
 pub use put::entry::write_entry;
 pub use size::entry_size;
 pub use status::Status;
+pub use take::entry::read_entry;
