@@ -8,6 +8,14 @@ use Rattle.cf_engine.specs.declared.exit.Refusal.{Refusal}
 use Rattle.cf_engine.specs.declared.exit.Refusal.TheVariants as refusal
 use Rattle.cf_engine.specs.declared.exit.DesiredFault.{DesiredFault}
 use Rattle.cf_engine.specs.declared.exit.DesiredFault.TheVariants as desired
+use Rattle.cf_engine.specs.declared.exit.StackFault.{StackFault}
+use Rattle.cf_engine.specs.declared.exit.StackFault.TheVariants as stack
+use Rattle.cf_engine.specs.declared.cause.Cause.{Cause}
+use Rattle.cf_engine.specs.declared.cause.Cause.TheVariants as cause
+use Rattle.cf_engine.specs.declared.cause.Reason.{Reason}
+use Rattle.cf_engine.specs.declared.cause.Reason.TheVariants as reason
+use Rattle.cf_tree.specs.Codes.{name_of as code_name}
+use Rattle.cf_engine.specs.StatusName.{status_name}
 use Rattle.cf_engine.specs.Line.{line_of, text_word, texts_word}
 
 -- the number of an exit, which is the status of the process
@@ -15,20 +23,34 @@ abbrev pub number_of : Exit → ℕ
 number_of exit.Done = 0
 number_of exit.BadWords = 1
 number_of (exit.TemplateRefused fault) = 2
+number_of (exit.StackRefused fault) = 3
 number_of (exit.Failed blamed) = 5
 number_of exit.LibraryFault = 6
+number_of exit.DiskFault = 7
 number_of exit.SinkFault = 8
 number_of exit.NoMemory = 9
+number_of (exit.NotAJournal offset) = 10
+number_of (exit.LaneMissing name) = 11
+number_of (exit.LaneTwice name) = 11
+number_of (exit.Full length need room) = 14
+number_of (exit.Unrolled cause) = 15
 
 -- the name of an exit
 abbrev pub name_of : Exit → List ℕ
 name_of exit.Done = codes "Done"
 name_of exit.BadWords = codes "BadWords"
 name_of (exit.TemplateRefused fault) = codes "TemplateRefused"
+name_of (exit.StackRefused fault) = codes "StackRefused"
 name_of (exit.Failed blamed) = codes "Failed"
 name_of exit.LibraryFault = codes "LibraryFault"
+name_of exit.DiskFault = codes "DiskFault"
 name_of exit.SinkFault = codes "SinkFault"
 name_of exit.NoMemory = codes "NoMemory"
+name_of (exit.NotAJournal offset) = codes "NotAJournal"
+name_of (exit.LaneMissing name) = codes "LaneMissing"
+name_of (exit.LaneTwice name) = codes "LaneTwice"
+name_of (exit.Full length need room) = codes "Full"
+name_of (exit.Unrolled cause) = codes "Unrolled"
 
 -- why a template was not read
 abbrev pub unread_words : TemplateFault → List (List ℕ)
@@ -47,15 +69,38 @@ refusal_words (refusal.Read name fault) = codes "Read" ∷ text_word name ∷ un
 refusal_words (refusal.Plan fault) = codes "Plan" ∷ desired_words fault
 refusal_words (refusal.UnknownType path name) = codes "UnknownType" ∷ text_word path ∷ text_word name ∷ []
 
+-- why a stack was refused
+abbrev pub stack_words : StackFault → List (List ℕ)
+stack_words stack.NoStack = codes "NoStack" ∷ []
+stack_words (stack.WrongStatus status) = codes "WrongStatus" ∷ status_name status ∷ []
+
+-- what a handler answered: the name of its code, or that it failed without one
+abbrev pub reason_word : Reason → List ℕ
+reason_word (reason.Code code) = code_name code
+reason_word reason.Fault = codes "Fault"
+
+-- why an operation went no further; the text of a plan's fault is printed as it is
+abbrev pub cause_words : Cause → List (List ℕ)
+cause_words (cause.Handler path r) = codes "Handler" ∷ text_word path ∷ reason_word r ∷ []
+cause_words (cause.Plan fault) = codes "Plan" ∷ fault ∷ []
+cause_words (cause.Export name) = codes "Export" ∷ text_word name ∷ []
+
 -- the fields of an exit
 abbrev pub field_words : Exit → List (List ℕ)
 field_words exit.Done = []
 field_words exit.BadWords = []
 field_words (exit.TemplateRefused fault) = refusal_words fault
+field_words (exit.StackRefused fault) = stack_words fault
 field_words (exit.Failed blamed) = texts_word blamed ∷ []
 field_words exit.LibraryFault = []
+field_words exit.DiskFault = []
 field_words exit.SinkFault = []
 field_words exit.NoMemory = []
+field_words (exit.NotAJournal offset) = decimal offset ∷ []
+field_words (exit.LaneMissing name) = text_word name ∷ []
+field_words (exit.LaneTwice name) = text_word name ∷ []
+field_words (exit.Full length need room) = decimal length ∷ decimal need ∷ decimal room ∷ []
+field_words (exit.Unrolled cause) = cause_words cause
 
 -- the line of an exit: `exit`, its number, its name, and its fields in order
 abbrev pub exit_line : Exit → List ℕ

@@ -1,5 +1,6 @@
 pub mod Line
 pub mod Words
+pub mod StatusName
 pub mod Exit
 pub mod Report
 pub mod Lanes

@@ -1,10 +1,13 @@
 //! How a command ended.
 
-ghost use Rattle.std.specs.Prelude.{◌≡◌, ◌++◌, IfOk, string_bytes};
+ghost use Rattle.std.specs.Prelude.{◌≡◌, ◌++◌, [], ◌∷◌, decimal, IfOk, string_bytes};
 ghost use Rattle.cf_engine.specs.Line.{spaced};
-ghost use Rattle.cf_engine.specs.Exit.{number_of, name_of, unread_words, desired_words, refusal_words, field_words, exit_line};
+ghost use Rattle.cf_engine.specs.Exit.{number_of, name_of, unread_words, desired_words, refusal_words, stack_words, field_words, exit_line};
 
+use crate::cause::Cause;
 use crate::line::{push_number, push_text, push_texts, push_word};
+use crate::status_name::name_of_status;
+use cf_entry::Status;
 use cf_template::TemplateFault;
 use cf_tree::{Names, NoMemory, Txt};
 use std::alloc::Global;
@@ -18,14 +21,28 @@ pub enum Exit {
     BadWords,
     /// The template was refused before anything was done.
     TemplateRefused { fault: Refusal },
+    /// The stack was refused before anything was done.
+    StackRefused { fault: StackFault },
     /// The operation failed at these paths.
     Failed { blamed: Names },
     /// The library of templates failed.
     LibraryFault,
+    /// The disk failed.
+    DiskFault,
     /// The report could not be printed.
     SinkFault,
     /// Memory was not there.
     NoMemory,
+    /// The disk's bytes are no journal's from this offset on.
+    NotAJournal { offset: u64 },
+    /// A lane that the journal names was not handed in.
+    LaneMissing { name: Txt },
+    /// Two lanes have this name.
+    LaneTwice { name: Txt },
+    /// The journal's length and the bytes that the next entry needs pass the disk's room.
+    Full { length: u64, need: u64, room: u64 },
+    /// The operation failed for this cause and is in progress still, since it can't be rolled back yet.
+    Unrolled { cause: Cause },
 }
 
 /// Why a template was refused.
@@ -37,6 +54,15 @@ pub enum Refusal {
     Plan { fault: DesiredFault },
     /// No lane has the type of the resource at this path.
     UnknownType { path: Txt, name: Txt },
+}
+
+/// Why a stack was refused.
+#[derive(Debug, Drop, PartialEq, Eq)]
+pub enum StackFault {
+    /// There is no stack of the name.
+    NoStack,
+    /// No operation of the kind begins from this status.
+    WrongStatus { status: Status },
 }
 
 /// Why no desired resources came of a template.
@@ -57,10 +83,16 @@ impl Exit {
             Exit::Done => 0,
             Exit::BadWords => 1,
             Exit::TemplateRefused { .. } => 2,
+            Exit::StackRefused { .. } => 3,
             Exit::Failed { .. } => 5,
             Exit::LibraryFault => 6,
+            Exit::DiskFault => 7,
             Exit::SinkFault => 8,
             Exit::NoMemory => 9,
+            Exit::NotAJournal { .. } => 10,
+            Exit::LaneMissing { .. } | Exit::LaneTwice { .. } => 11,
+            Exit::Full { .. } => 14,
+            Exit::Unrolled { .. } => 15,
         }
     }
 
@@ -72,10 +104,17 @@ impl Exit {
             Exit::Done => "Done",
             Exit::BadWords => "BadWords",
             Exit::TemplateRefused { .. } => "TemplateRefused",
+            Exit::StackRefused { .. } => "StackRefused",
             Exit::Failed { .. } => "Failed",
             Exit::LibraryFault => "LibraryFault",
+            Exit::DiskFault => "DiskFault",
             Exit::SinkFault => "SinkFault",
             Exit::NoMemory => "NoMemory",
+            Exit::NotAJournal { .. } => "NotAJournal",
+            Exit::LaneMissing { .. } => "LaneMissing",
+            Exit::LaneTwice { .. } => "LaneTwice",
+            Exit::Full { .. } => "Full",
+            Exit::Unrolled { .. } => "Unrolled",
         }
     }
 
@@ -85,9 +124,19 @@ impl Exit {
     {
         match self {
             Exit::TemplateRefused { fault } => fault.push_to(alloc, line),
+            Exit::StackRefused { fault } => fault.push_to(line),
             Exit::Failed { blamed } => push_texts(alloc, line, blamed.as_slice()),
-            Exit::Done | Exit::BadWords | Exit::LibraryFault | Exit::SinkFault | Exit::NoMemory =>
-                Ok(()),
+            Exit::NotAJournal { offset } => push_number(alloc, line, *offset),
+            Exit::LaneMissing { name } => push_text(alloc, line, name),
+            Exit::LaneTwice { name } => push_text(alloc, line, name),
+            Exit::Full { length, need, room } => push_sizes(alloc, line, *length, *need, *room),
+            Exit::Unrolled { cause } => cause.push_to(alloc, line),
+            Exit::Done
+            | Exit::BadWords
+            | Exit::LibraryFault
+            | Exit::DiskFault
+            | Exit::SinkFault
+            | Exit::NoMemory => Ok(()),
         }
     }
 
@@ -130,6 +179,22 @@ impl Refusal {
     }
 }
 
+impl StackFault {
+    // Adds the name of the variant and its field, each after a space.
+    fn push_to(&self, line: &mut String) -> Result<(), NoMemory>
+        ensures { IfOk result (λ _. string_bytes line.new ≡ string_bytes line.old ++ spaced (stack_words self.now)) }
+    {
+        match self {
+            StackFault::NoStack => push_word(line, "NoStack"),
+            StackFault::WrongStatus { status } => {
+                push_word(line, "WrongStatus")?;
+                push_word(line, name_of_status(*status))?;
+                Ok(())
+            }
+        }
+    }
+}
+
 impl DesiredFault {
     // Adds the name of the variant and its fields, each after a space.
     fn push_to(&self, alloc: Global, line: &mut String) -> Result<(), NoMemory>
@@ -146,6 +211,23 @@ impl DesiredFault {
     }
 }
 
+// Adds three sizes, each after a space.
+fn push_sizes(
+    alloc: Global,
+    line: &mut String,
+    length: u64,
+    need: u64,
+    room: u64,
+) -> Result<(), NoMemory>
+    ensures { IfOk result (λ _. string_bytes line.new
+        ≡ string_bytes line.old ++ spaced (decimal length ∷ decimal need ∷ decimal room ∷ [])) }
+{
+    push_number(alloc, line, length)?;
+    push_number(alloc, line, need)?;
+    push_number(alloc, line, room)?;
+    Ok(())
+}
+
 // Adds why a template was not read, after a space.
 fn push_unread(line: &mut String, fault: &TemplateFault) -> Result<(), NoMemory>
     ensures { IfOk result (λ _. string_bytes line.new ≡ string_bytes line.old ++ spaced (unread_words fault.now)) }
@@ -160,6 +242,8 @@ fn push_unread(line: &mut String, fault: &TemplateFault) -> Result<(), NoMemory>
 #[cfg(test)]
 mod tests {
     use super::*;
+    use crate::cause::Reason;
+    use cf_tree::Code;
     use std::test::Fail;
 
     // Whether the line of an exit is this text.
@@ -180,6 +264,75 @@ mod tests {
         assert!(rt; prints(alloc, Exit::LibraryFault, "exit 6 LibraryFault\n")?);
         assert!(rt; prints(alloc, Exit::SinkFault, "exit 8 SinkFault\n")?);
         assert!(rt; prints(alloc, Exit::NoMemory, "exit 9 NoMemory\n")?);
+        assert!(rt;
+            prints(
+                alloc,
+                Exit::NotAJournal { offset: 1 },
+                "exit 10 NotAJournal 1\n"
+            )?
+        );
+        let name = Txt::from_str(alloc, "f1")?;
+        assert!(rt;
+            prints(
+                alloc,
+                Exit::LaneTwice { name },
+                "exit 11 LaneTwice \"f1\"\n"
+            )?
+        );
+        let full = Exit::Full {
+            length: 10,
+            need: 46,
+            room: 20,
+        };
+        assert!(rt; prints(alloc, full, "exit 14 Full 10 46 20\n")?);
+        Ok(())
+    }
+
+    #[test]
+    fn lines_of_stacks_that_are_refused_or_left(rt: HostRuntime) -> Result<(), Fail> {
+        let alloc = rt.alloc();
+        let fault = StackFault::WrongStatus {
+            status: Status::CreateInProgress,
+        };
+        assert!(rt;
+            prints(
+                alloc,
+                Exit::StackRefused { fault },
+                "exit 3 StackRefused WrongStatus CREATE_IN_PROGRESS\n"
+            )?
+        );
+        let fault = StackFault::NoStack;
+        assert!(rt;
+            prints(
+                alloc,
+                Exit::StackRefused { fault },
+                "exit 3 StackRefused NoStack\n"
+            )?
+        );
+        let path = Txt::from_str(alloc, "B")?;
+        let cause = Cause::Handler {
+            path,
+            reason: Reason::Code(Code::ServiceInternalError),
+        };
+        assert!(rt;
+            prints(
+                alloc,
+                Exit::Unrolled { cause },
+                "exit 15 Unrolled Handler \"B\" ServiceInternalError\n"
+            )?
+        );
+        let path = Txt::from_str(alloc, "B")?;
+        let cause = Cause::Handler {
+            path,
+            reason: Reason::Fault,
+        };
+        assert!(rt;
+            prints(
+                alloc,
+                Exit::Unrolled { cause },
+                "exit 15 Unrolled Handler \"B\" Fault\n"
+            )?
+        );
         Ok(())
     }
 
