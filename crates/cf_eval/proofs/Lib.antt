@@ -1,3 +1,5 @@
 pub mod Wholes
 pub mod Each
 pub mod Lists
+pub mod Gots
+pub mod Tells

@@ -1,5 +1,5 @@
 -- What the conditions of a template come to (template reference, condition functions).
-use Rattle.std.specs.Prelude.{ℕ, zero, suc, Bool, not, List, [], ◌∷◌, length, Option, Some, None, map, option_map, if◌then◌else◌}
+use Rattle.std.specs.Prelude.{ℕ, zero, suc, Bool, not, List, [], ◌∷◌, length, Option, Some, None, map, option_map, unwrap_or, if◌then◌else◌}
 use Rattle.std.specs.List.{list_all, list_any}
 use Rattle.std.specs.Str.{bytes_eq}
 use Rattle.cf_tree.specs.Datum.{Data, Items, text, whole, truth, list, dict, no_items, item}
@@ -10,7 +10,7 @@ use Rattle.cf_eval.specs.Outcome.{Outcome, got, later, bad, fault, on_got, both,
 use Rattle.cf_eval.specs.Scope.{Scope}
 use Rattle.cf_eval.specs.Texts.{truth_text}
 use Rattle.cf_eval.specs.Functions.{or_fault}
-use Rattle.cf_eval.specs.Value.{form_found, blamed}
+use Rattle.cf_eval.specs.Value.{form_found}
 use Rattle.std.specs.Fmt.{signed_decimal}
 use Rattle.cf_eval.specs.declared.fault.EvalWhy.TheVariants.{UnknownName, CircularCondition}
 
@@ -53,7 +53,7 @@ abbrev mutual
   test_node_found s around at (negation c) = on_got (test_found s (Some at) c) (λ b. got (not b))
   test_node_found s around at (all_of cs) = on_got (each (tests_found s (Some at) cs)) (λ bs. got (list_all (λ b. b) bs))
   test_node_found s around at (any_of cs) = on_got (each (tests_found s (Some at) cs)) (λ bs. got (list_any (λ b. b) bs))
-  test_node_found s around at (named name) = s.decided (blamed around at) name
+  test_node_found s around at (named name) = s.decided (unwrap_or around at) name
 
   pub tests_found : Scope → Option (List ℕ) → Tests → List (Outcome Bool)
   tests_found s around no_tests = []

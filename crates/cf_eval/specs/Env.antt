@@ -1,7 +1,7 @@
 -- What the public calls are to answer.
 use Rattle.std.specs.Prelude.{◌≡◌, ℕ, List, Bool, Option, None, Result, Ok, Err, map, option_map, ⊤}
 use Rattle.cf_tree.specs.Datum.{Data}
-use Rattle.cf_tree.specs.Forms.{Form}
+use Rattle.cf_tree.specs.Forms.{Form, fields_of}
 use Rattle.cf_tree.specs.Keys.{value_at}
 use Rattle.cf_tree.specs.declared.template.Template.{Template}
 use Rattle.cf_tree.specs.declared.bound.Setting.{Setting}
@@ -14,9 +14,11 @@ use Rattle.cf_eval.specs.declared.got.Got.{Got}
 use Rattle.cf_eval.specs.Outcome.{Outcome, got, later, bad, fault, undecided}
 use Rattle.cf_eval.specs.Scope.{Scope, open_to, closed_to, held_at}
 use Rattle.cf_eval.specs.Texts.{Found}
-use Rattle.cf_eval.specs.Value.{form_found}
+use Rattle.cf_eval.specs.Value.{form_found, fields_found, pairs_found}
 use Rattle.cf_eval.specs.Conditions.{conditions_found}
-use Rattle.cf_eval.specs.Gives.{found_of}
+use Rattle.cf_eval.specs.Gives.{found_of, part_of}
+use Rattle.cf_eval.specs.declared.fault.Stop as stopped
+use Rattle.cf_eval.specs.declared.fault.Stop.TheVariants as stop
 use Rattle.cf_eval.specs.ScopeOf.{setting_of, verdict_of}
 
 -- the scope of a resource or an output
@@ -39,6 +41,10 @@ plain later = later
 -- what an expression comes to
 abbrev pub value_of : given.Env → Form → Found
 value_of env e = plain (form_found (scope_in env) None e)
+
+-- what an object of expressions comes to, as the properties of a resource do
+abbrev pub props_of : given.Env → List (List ℕ × Form) → Outcome (List (List ℕ × Data))
+props_of env ps = plain (pairs_found (fields_found (scope_in env) None (fields_of ps)))
 
 -- the scope of a condition
 abbrev pub scope_within : Template → List (List ℕ × Setting) → List (List ℕ × Data) → Scope
@@ -63,6 +69,18 @@ Refuses stack o answer.NoMemory = ⊤
 abbrev pub Evaluates : List ℕ → Found → Result Got EvalFault → Type 0
 Evaluates stack f (Ok g) = f ≡ found_of g
 Evaluates stack f (Err e) = Refuses stack f e
+
+-- `eval_props` does, where None is Later
+abbrev pub EvaluatesAll : List ℕ → Outcome (List (List ℕ × Data)) → Result (Option (List (List ℕ × Data))) EvalFault → Type 0
+EvaluatesAll stack o (Ok p) = o ≡ part_of p
+EvaluatesAll stack o (Err e) = Refuses stack o e
+
+-- why an evaluation stopped, as a fault of a nested stack
+abbrev pub Tells : List ℕ → stopped.Stop → EvalFault → Type 0
+Tells stack (stop.Bad why at) (answer.Bad w path place) = (w ≡ why) × (path ≡ stack) × (place ≡ at)
+Tells stack (stop.Undecided name at) (answer.Bad w path place) = (w ≡ UnknownName) × (path ≡ stack) × (place ≡ at)
+Tells stack stop.NoMemory (answer.Bad w path place) = ⊥
+Tells stack s answer.NoMemory = ⊤
 
 -- `conditions` does
 abbrev pub Decides : List ℕ → Outcome (List (List ℕ × Option Bool)) → Result (List (List ℕ × Verdict)) EvalFault → Type 0

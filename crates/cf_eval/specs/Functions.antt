@@ -98,9 +98,13 @@ piece_found s at own (Name name) = unwrap_or (value_at name own) (name_found s a
 abbrev pub put_together : List ℕ → List (Option Data) → Found
 put_together at pieces = on_got (each (map (wanted_text at) pieces)) (λ ts. text_value (concat ts))
 
+-- the outcomes of an object's members
+abbrev pub outcomes : List (List ℕ × Found) → List Found
+outcomes members = map (λ m. m.1) members
+
 -- `Fn::Sub`: the map's members, then the text's names
 abbrev pub sub_found : Scope → List ℕ → List (List ℕ × Found) → List Part → Found
-sub_found s at own parts = both (each (map (λ m. m.1) own)) (each (map (piece_found s at own) parts)) (λ _ pieces. put_together at pieces)
+sub_found s at own parts = both (each (outcomes own)) (each (map (piece_found s at own) parts)) (λ _ pieces. put_together at pieces)
 
 -- texts behind a delimiter, one after another
 abbrev pub led_by : List ℕ → List (List ℕ) → List ℕ
@@ -117,9 +121,13 @@ abbrev pub join_found : List ℕ → List ℕ → Found → Found
 join_found at d members =
     on_got (as_list at members) (λ ds. on_got (each (map (λ m. wanted_text at (Some m)) ds)) (λ ts. text_value (joined_by d ts)))
 
--- `Fn::Split`: the pieces of a text, cut at each place of the delimiter
+-- `Fn::Split`: the pieces of a text, cut at each place of the delimiter; the reader of templates refuses an empty one
+abbrev pub split_at : List ℕ → List ℕ → List ℕ → Found
+split_at at [] t = bad (fault WrongKind at)
+split_at at (b ∷ bs) t = known (list (items_of (map text (pieces_of (b ∷ bs) t))))
+
 abbrev pub split_found : List ℕ → List ℕ → Found → Found
-split_found at d x = on_got (as_text at x) (λ t. known (list (items_of (map text (pieces_of d t)))))
+split_found at d x = on_got (as_text at x) (split_at at d)
 
 -- the member at an index, counted from 0
 abbrev pub nth : List ℕ → List Data → ℤ → Found

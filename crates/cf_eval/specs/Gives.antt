@@ -1,5 +1,5 @@
 -- What a call answers where the definition gives an outcome; want of memory may come in its place.
-use Rattle.std.specs.Prelude.{◌≡◌, ℕ, List, Option, Some, None, Result, Ok, Err, Vec, ⊤}
+use Rattle.std.specs.Prelude.{◌≡◌, ℕ, Bool, true, false, ◌||◌, List, [], ◌∷◌, Option, Some, None, Result, Ok, Err, Vec, map, ⊤}
 use Rattle.std.specs.declared.alloc.Global.{Global}
 use Rattle.std.specs.Borrow.{Bor}
 use Rattle.cf_tree.specs.Datum.{Data}
@@ -8,8 +8,9 @@ use Rattle.cf_eval.specs.declared.got.Got.{Got}
 use Rattle.cf_eval.specs.declared.got.Got.TheVariants as it
 use Rattle.cf_eval.specs.declared.fault.Stop as broken
 use Rattle.cf_eval.specs.declared.fault.Stop.TheVariants as stop
-use Rattle.cf_eval.specs.Outcome.{Outcome, got, later, bad, fault, undecided}
+use Rattle.cf_eval.specs.Outcome.{Outcome, got, later, bad, fault, undecided, each}
 use Rattle.cf_eval.specs.Texts.{Found, known}
+use Rattle.cf_eval.specs.Functions.{outcomes}
 
 -- what an answer says
 abbrev pub found_of : Got → Found
@@ -55,3 +56,38 @@ GivesMembers o (Err s) = Stops o s
 abbrev pub GivesTexts : Outcome (List (List ℕ)) → Result (Vec (List ℕ) Global) broken.Stop → Type 0
 GivesTexts o (Ok texts) = o ≡ got texts.items
 GivesTexts o (Err s) = Stops o s
+
+-- the outcomes of a list's members, up to the first fault
+abbrev pub GivesAll : List Found → Result (Vec Got Global) broken.Stop → Type 0
+GivesAll fs (Ok gots) = fs ≡ map found_of gots.items
+GivesAll fs (Err s) = Stops (each fs) s
+
+-- and of an object's members, under their names
+abbrev pub binding_of : List ℕ × Got → List ℕ × Found
+binding_of b = (b.0, found_of b.1)
+
+abbrev pub GivesBindings : List (List ℕ × Found) → Result (Vec (List ℕ × Got) Global) broken.Stop → Type 0
+GivesBindings fs (Ok bound) = fs ≡ map binding_of bound.items
+GivesBindings fs (Err s) = Stops (each (outcomes fs)) s
+
+-- what is known of the outcomes that the code holds, and whether one is Later
+abbrev pub value_in : Got → Option Data
+value_in (it.Value v) = Some (datum_of v)
+value_in it.NoValue = None
+value_in it.Later = None
+
+abbrev pub is_late : Got → Bool
+is_late (it.Value v) = false
+is_late it.NoValue = false
+is_late it.Later = true
+
+abbrev pub any_late : List Got → Bool
+any_late [] = false
+any_late (g ∷ gs) = is_late g || any_late gs
+
+abbrev pub late_binding : List (List ℕ × Got) → Bool
+late_binding [] = false
+late_binding (b ∷ bs) = is_late b.1 || late_binding bs
+
+abbrev pub named_value : List ℕ × Got → List ℕ × Option Data
+named_value b = (b.0, value_in b.1)

@@ -27,29 +27,32 @@ pairs_found parts = on_got (each (map named parts)) (λ ps. got (fold put_known 
 abbrev pub dict_found : List (List ℕ × Found) → Found
 dict_found parts = on_got (pairs_found parts) (λ ms. known (dict (members_of ms)))
 
--- where a fault is blamed that no function of its own holds: on the innermost function around it, or else on the value itself
-abbrev pub blamed : Option (List ℕ) → List ℕ → List ℕ
-blamed around at = unwrap_or around at
+-- where a fault of an expression is blamed: on a function itself; of a value, on the innermost function around it, and else on the value
+abbrev pub blamed : Option (List ℕ) → List ℕ → Node → List ℕ
+blamed around at (lit d) = unwrap_or around at
+blamed around at (node.list es) = unwrap_or around at
+blamed around at (node.dict ps) = unwrap_or around at
+blamed around at _ = at
 
 abbrev mutual
   -- an expression, where the innermost function around it stands at `around`
   pub form_found : Scope → Option (List ℕ) → Form → Found
-  form_found s around (expr at n) = node_found s around at n
+  form_found s around (expr at n) = within (blamed around at n) (node_found s around at n)
 
   pub node_found : Scope → Option (List ℕ) → List ℕ → Node → Found
-  node_found s around at (lit d) = within (blamed around at) (known d)
-  node_found s around at (node.list es) = within (blamed around at) (list_found (forms_found s around es))
-  node_found s around at (node.dict ps) = within (blamed around at) (dict_found (fields_found s around ps))
-  node_found s around at (ref name) = within at (ref_found s at name)
-  node_found s around at (get_att id a) = within at (get_att_found s at id (form_found s (Some at) a))
-  node_found s around at (sub parts own) = within at (sub_found s at (fields_found s (Some at) own) parts)
-  node_found s around at (join d e) = within at (join_found at d (form_found s (Some at) e))
-  node_found s around at (select i e) = within at (select_found at (form_found s (Some at) i) (form_found s (Some at) e))
-  node_found s around at (split d e) = within at (split_found at d (form_found s (Some at) e))
-  node_found s around at (choice name y n) = within at (if_found (s.decided at name) (form_found s (Some at) y) (form_found s (Some at) n))
-  node_found s around at (find_in_map m k l) = within at (find_found s at (form_found s (Some at) m) (form_found s (Some at) k) (form_found s (Some at) l))
-  node_found s around at (import_value e) = within at (import_found s at (form_found s (Some at) e))
-  node_found s around at (base64 e) = within at (base64_found at (form_found s (Some at) e))
+  node_found s around at (lit d) = known d
+  node_found s around at (node.list es) = list_found (forms_found s around es)
+  node_found s around at (node.dict ps) = dict_found (fields_found s around ps)
+  node_found s around at (ref name) = ref_found s at name
+  node_found s around at (get_att id a) = get_att_found s at id (form_found s (Some at) a)
+  node_found s around at (sub parts own) = sub_found s at (fields_found s (Some at) own) parts
+  node_found s around at (join d e) = join_found at d (form_found s (Some at) e)
+  node_found s around at (select i e) = select_found at (form_found s (Some at) i) (form_found s (Some at) e)
+  node_found s around at (split d e) = split_found at d (form_found s (Some at) e)
+  node_found s around at (choice name y n) = if_found (s.decided at name) (form_found s (Some at) y) (form_found s (Some at) n)
+  node_found s around at (find_in_map m k l) = find_found s at (form_found s (Some at) m) (form_found s (Some at) k) (form_found s (Some at) l)
+  node_found s around at (import_value e) = import_found s at (form_found s (Some at) e)
+  node_found s around at (base64 e) = base64_found at (form_found s (Some at) e)
 
   pub forms_found : Scope → Option (List ℕ) → Forms → List Found
   forms_found s around no_forms = []

@@ -31,6 +31,7 @@ pub enum OutputSight {
 /// What an expression is evaluated over.
 ///
 /// It borrows all its parts, so it costs nothing to make, and every look-up is a search by halves.
+#[derive(Drop)]
 pub struct Env<'a> {
     /// What each parameter of the template is bound to.
     pub bound: &'a Bound,

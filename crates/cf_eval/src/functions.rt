@@ -2,8 +2,9 @@
 ghost use Rattle.std.specs.Prelude.{◌≡◌, IfOk, Some, map, option_map, string_bytes};
 ghost use Rattle.cf_tree.specs.Value.{datum_of, data_of};
 ghost use Rattle.cf_eval.specs.Texts.{wanted_text};
-ghost use Rattle.cf_eval.specs.Functions.{base64_found, split_found, join_found, select_found, nth, joined_by};
+ghost use Rattle.cf_eval.specs.Functions.{base64_found, split_found, split_at, join_found, select_found, nth, joined_by};
 ghost use Rattle.cf_eval.specs.Outcome.{got, bad, fault, each};
+ghost use Rattle.cf_tree.specs.Datum.{text};
 ghost use Rattle.cf_eval.specs.declared.fault.EvalWhy.TheVariants.{IndexOutside};
 ghost use Rattle.cf_eval.specs.Gives.{found_of, Gives, GivesNow, GivesTexts};
 
@@ -104,4 +105,38 @@ fn outside(alloc: Global, at: &Txt) -> Result<Got, Stop>
         why: EvalWhy::IndexOutside,
         at: at.try_clone(alloc)?,
     })
+}
+
+/// `Fn::Split`.
+pub(crate) fn split(alloc: Global, at: &Txt, delimiter: &Txt, part: &Got) -> Result<Got, Stop>
+    ensures { Gives (split_found at.now delimiter.now (found_of part.now)) result }
+{
+    match as_text(alloc, at, part)? {
+        Some(text) => split_at(alloc, at, delimiter, &text),
+        None => Ok(Got::Later),
+    }
+}
+
+fn split_at(alloc: Global, at: &Txt, delimiter: &Txt, text: &Txt) -> Result<Got, Stop>
+    ensures { Gives (split_at at.now delimiter.now text.now) result }
+{
+    if delimiter.as_str().is_empty() {
+        return Err(Stop::Bad {
+            why: EvalWhy::WrongKind,
+            at: at.try_clone(alloc)?,
+        });
+    }
+    let pieces = cf_funcs::split(alloc, delimiter.as_str(), text.as_str())?;
+    let values = texts_as_values(alloc, pieces.as_slice())?;
+    Ok(Got::Value(Val::List(values)))
+}
+
+fn texts_as_values(alloc: Global, texts: &[String]) -> Result<Vals, AllocError>
+    ensures { IfOk result (λ v. v ≡ map text (map string_bytes texts.now)) }
+{
+    let mut values = Vals::new(alloc);
+    for text in texts {
+        values.push(Val::Text(Txt::from_str(alloc, text.as_str())?))?;
+    }
+    Ok(values)
 }

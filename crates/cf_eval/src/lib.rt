@@ -1,14 +1,19 @@
 //! Conditions, mappings and intrinsic functions of templates.
 #![tactic(auto)]
 
+mod collect;
 mod env;
+mod evaluation;
 mod fault;
 mod functions;
 mod got;
 mod names;
 mod scope;
+mod sub;
 mod texts;
+mod value;
 
 pub use env::{Env, OutputSight, Sight};
+pub use evaluation::{eval, eval_props};
 pub use fault::{EvalFault, EvalWhy};
 pub use got::Got;

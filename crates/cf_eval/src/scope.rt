@@ -3,6 +3,7 @@ use crate::env::Sight;
 use cf_tree::{Bound, ByName, CondMap, Dict, Mappings, Names, Pairs};
 
 /// What lies beyond parameters, mappings and conditions.
+#[derive(Drop)]
 pub(crate) enum Beyond<'a> {
     /// In a resource or an output: the resources and the exports of other stacks.
     Open {
@@ -16,6 +17,7 @@ pub(crate) enum Beyond<'a> {
 }
 
 /// What an expression is evaluated over.
+#[derive(Drop)]
 pub(crate) struct Scope<'a> {
     pub params: &'a Bound,
     pub mappings: &'a Mappings,

@@ -1,0 +1,16 @@
+-- Why an evaluation stopped is the fault of its outcome.
+use Rattle.std.proofs.Common.{◌≡◌, ℕ, List, ap, refl, ◌∙◌, sym}
+use Rattle.cf_eval.specs.Outcome.{Outcome, bad, fault}
+use Rattle.cf_eval.specs.Env.{plain, Refuses, Tells}
+use Rattle.cf_eval.specs.Gives.{Stops}
+use Rattle.cf_eval.specs.declared.fault.EvalFault.{EvalFault}
+use Rattle.cf_eval.specs.declared.fault.EvalFault.TheVariants as answer
+use Rattle.cf_eval.specs.declared.fault.EvalWhy.{EvalWhy}
+use Rattle.cf_eval.specs.declared.fault.Stop as stopped
+use Rattle.cf_eval.specs.declared.fault.Stop.TheVariants as stop
+
+pub told : {A : Type 0} (stack : List ℕ) (o : Outcome A) (s : stopped.Stop) (e : EvalFault) → Stops o s → Tells stack s e → Refuses stack (plain o) e
+told stack o (stop.Bad why at) (answer.Bad w path place) h t = (ap plain h ∙ ap (λ v. bad (fault v at)) (sym t.0) ∙ ap (λ p. bad (fault w p)) (sym t.2), t.1)
+told stack o (stop.Undecided name at) (answer.Bad w path place) h t = (ap plain h ∙ ap (λ v. bad (fault v at)) (sym t.0) ∙ ap (λ p. bad (fault w p)) (sym t.2), t.1)
+told stack o stop.NoMemory (answer.Bad w path place) h t = absurd t
+told stack o s answer.NoMemory h t = tt

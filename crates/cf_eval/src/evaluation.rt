@@ -1,0 +1,84 @@
+//! The evaluation of expressions.
+ghost use Rattle.std.specs.Prelude.{◌≡◌};
+ghost use Rattle.cf_eval.specs.Env.{scope_in, value_of, props_of, Evaluates, EvaluatesAll, Tells};
+ghost use Rattle.cf_eval.specs.ScopeOf.{scope_of};
+
+use crate::env::Env;
+use crate::fault::{EvalFault, EvalWhy, Stop};
+use crate::got::Got;
+use crate::scope::{Beyond, Scope};
+use crate::value::{properties, value};
+use cf_tree::{Dict, Expr, ExprDict, Txt};
+use std::alloc::Global;
+
+/// What an expression comes to.
+///
+/// Parts are evaluated from first to last. The first fault among them is the answer; else, where
+/// one of them is Later, the whole is.
+///
+/// # Errors
+///
+/// `Bad` exactly where the expression has a fault, with the first one: why, the path of the nested
+/// stack, and the place of the innermost function around it, or of the value where there is none.
+/// `NoMemory`, where there is no memory for the value.
+#[tactic(auto, using(crate::proofs::Tells::told))]
+pub fn eval(alloc: Global, expr: &Expr, env: &Env) -> Result<Got, EvalFault>
+    ensures { Evaluates env.now.stack.now (value_of env.now expr.now) result }
+{
+    let scope = open_scope(env);
+    match value(alloc, &scope, None, expr) {
+        Ok(got) => Ok(got),
+        Err(stop) => Err(told(alloc, env.stack, stop)),
+    }
+}
+
+/// What an object of expressions comes to, as the properties of a resource do: a member that is
+/// `AWS::NoValue` is left out, and the whole is `None` where a member is Later.
+///
+/// # Errors
+///
+/// As `eval`, with the first fault among the members.
+#[tactic(auto, using(crate::proofs::Tells::told))]
+pub fn eval_props(alloc: Global, props: &ExprDict, env: &Env) -> Result<Option<Dict>, EvalFault>
+    ensures { EvaluatesAll env.now.stack.now (props_of env.now props.now) result }
+{
+    let scope = open_scope(env);
+    match properties(alloc, &scope, props) {
+        Ok(values) => Ok(values),
+        Err(stop) => Err(told(alloc, env.stack, stop)),
+    }
+}
+
+fn open_scope<'a>(env: &'a Env) -> Scope<'a>
+    ensures { scope_of result ≡ scope_in env.now }
+{
+    Scope {
+        params: env.bound,
+        mappings: env.mappings,
+        pseudo: env.pseudo,
+        conds: env.conds,
+        beyond: Beyond::Open {
+            seen: env.seen,
+            imports: env.imports,
+        },
+    }
+}
+
+/// Why an evaluation stopped, as a fault of the nested stack at a path. A condition that is asked
+/// for and not decided is not declared.
+pub(crate) fn told(alloc: Global, stack: &Txt, stop: Stop) -> EvalFault
+    ensures { Tells stack.now stop result }
+{
+    let Ok(stack) = stack.try_clone(alloc) else {
+        return EvalFault::NoMemory;
+    };
+    match stop {
+        Stop::Bad { why, at } => EvalFault::Bad { why, stack, at },
+        Stop::Undecided { name: _, at } => EvalFault::Bad {
+            why: EvalWhy::UnknownName,
+            stack,
+            at,
+        },
+        Stop::NoMemory => EvalFault::NoMemory,
+    }
+}
