@@ -22,7 +22,7 @@ use Rattle.cf_param.specs.declared.fault.BindFault.{BindFault}
 use Rattle.cf_param.specs.declared.fault.BindFault.TheVariants as fault
 use Rattle.cf_param.specs.declared.offered.Piece.{Piece}
 use Rattle.cf_param.specs.declared.offered.Piece.TheVariants as piece
-use Rattle.cf_param.specs.Pattern.{is_usable, matches_whole}
+use Rattle.cf_param.specs.Pattern.{is_usable, any_unmatched}
 
 -- the texts that the constraints of a parameter look at: its text, or the members of its list
 abbrev pub parts_of : Kind → List ℕ → List (List ℕ)
@@ -70,8 +70,8 @@ is_foreign allowed t = option_map_or (λ names. not (list_any (λ name. bytes_eq
 abbrev pub is_unusable : Option (List ℕ) → Bool
 is_unusable pattern = option_map_or (λ q. not (is_usable q)) pattern false
 
-abbrev pub is_unmatched : Option (List ℕ) → List ℕ → Bool
-is_unmatched pattern t = option_map_or (λ q. not (matches_whole q t)) pattern false
+abbrev pub is_unmatched : Option (List ℕ) → List (List ℕ) → Bool
+is_unmatched pattern ts = option_map_or (λ q. any_unmatched q ts) pattern false
 
 -- the texts of a parameter break a constraint
 abbrev pub breaks : Param → List (List ℕ) → Breach → Bool
@@ -82,7 +82,7 @@ breaks p ts breach.TooSmall = has_size p.kind && list_any (is_smaller p.min_valu
 breaks p ts breach.TooLarge = has_size p.kind && list_any (is_larger p.max_value) ts
 breaks p ts breach.NotAllowed = list_any (is_foreign p.allowed) ts
 breaks p ts breach.BadPattern = has_pattern p.kind && is_unusable p.pattern
-breaks p ts breach.NoMatch = has_pattern p.kind && list_any (is_unmatched p.pattern) ts
+breaks p ts breach.NoMatch = has_pattern p.kind && is_unmatched p.pattern ts
 
 -- the constraints in the order in which they are looked at: those on the pattern come last
 abbrev pub plain_constraints : List Breach

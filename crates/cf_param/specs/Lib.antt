@@ -2,3 +2,4 @@ pub mod Pattern
 pub mod Offered
 pub mod Binding
 pub mod Fault
+pub mod Tested

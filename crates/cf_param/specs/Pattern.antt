@@ -1,5 +1,6 @@
 -- Patterns by the grammar of `regex`, and whether one matches a whole text.
-use Rattle.std.specs.Prelude.{ℕ, ◌++◌, List, Option, Some, None, Bool, false, ◌&&◌, codes, chars, nat_le, is_some}
+use Rattle.std.specs.Prelude.{ℕ, ◌++◌, List, Option, Some, None, Bool, false, ◌&&◌, codes, chars, nat_le, is_some, not}
+use Rattle.std.specs.List.{list_any}
 use Rattle.regex.specs.Patterns.{Re, find_str, default_config}
 use Rattle.regex_syntax.specs.Grammar.{read, Names}
 use Rattle.regex_syntax.specs.Brackets.{Nested}
@@ -28,3 +29,7 @@ found_in value (Some x) = is_some (find_str x.0.value value 0)
 -- a search for the anchored pattern finds something in the value
 abbrev pub matches_whole : List ℕ → List ℕ → Bool
 matches_whole pattern value = found_in value (read default_config (chars (anchored pattern)))
+
+-- a text is there that the pattern doesn't match as a whole
+abbrev pub any_unmatched : List ℕ → List (List ℕ) → Bool
+any_unmatched pattern ts = list_any (λ t. not (matches_whole pattern t)) ts

@@ -1,4 +1,4 @@
-use cf_tree::Txt;
+use cf_tree::{NoMemory, Txt};
 use std::alloc::AllocError;
 
 /// Why a template's parameters aren't bound. Each names the parameter.
@@ -35,6 +35,17 @@ impl From<AllocError> for BindFault {
     ghost from_gives = { λ _ e. e ≡ no_memory };
 
     fn from(_refused: AllocError) -> BindFault {
+        BindFault::NoMemory
+    }
+}
+
+impl From<NoMemory> for BindFault {
+    ghost use Rattle.std.specs.Prelude.{◌≡◌};
+    ghost use Rattle.cf_param.specs.Fault.{no_memory};
+
+    ghost from_gives = { λ _ e. e ≡ no_memory };
+
+    fn from(_refused: NoMemory) -> BindFault {
         BindFault::NoMemory
     }
 }

@@ -1,9 +1,12 @@
 //! Binding of a template's parameters to the texts that are given for them.
 #![tactic(auto)]
 
+mod binding;
 mod constraints;
 mod fault;
 mod offered;
+mod patterns;
 
+pub use binding::bind;
 pub use fault::BindFault;
 pub use offered::{Given, Piece};
