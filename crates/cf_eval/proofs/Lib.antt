@@ -3,3 +3,4 @@ pub mod Each
 pub mod Lists
 pub mod Gots
 pub mod Tells
+pub mod Knowing

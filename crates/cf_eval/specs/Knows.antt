@@ -10,7 +10,10 @@ use Rattle.cf_eval.specs.declared.env.OutputSight.{OutputSight}
 use Rattle.cf_eval.specs.declared.env.OutputSight.TheVariants as output
 use Rattle.cf_eval.specs.Outcome.{Outcome, got, later, bad}
 use Rattle.cf_eval.specs.Scope.{Scope, Beyond, open_to, closed_to}
+use Rattle.cf_eval.specs.Texts.{Found}
 use Rattle.cf_eval.specs.Value.{form_found}
+use Rattle.cf_eval.specs.Env.{scope_in, value_of}
+use Rattle.cf_eval.specs.declared.env.Env as given
 
 -- what was known stays so; what was not may be anything
 abbrev pub Keeps : {A : Type 0} → Option A → Option A → Type 0
@@ -95,7 +98,11 @@ abbrev mutual
   fields_name_imports s no_fields = true
   fields_name_imports s (field name e ps) = names_imports s e && fields_name_imports s ps
 
--- what stays of an expression where more is known: a value or NoValue, and a fault that rests on no import whose name is Later
-pub record Stays (s t : Scope) (around : Option (List ℕ)) (e : Form) : Type 0 where
-  pub value : (v : Option Data) → form_found s around e ≡ got v → form_found t around e ≡ got v
-  pub fault : IsTrue (names_imports s e) → IsTrue (is_fault (form_found s around e)) → IsTrue (is_fault (form_found t around e))
+-- what stays of x where y is what more knowledge makes of it: a value or NoValue; and a fault, where no import's name is Later
+pub record Stays (x y : Found) (named : Bool) : Type 0 where
+  pub value : (v : Option Data) → x ≡ got v → y ≡ got v
+  pub fault : IsTrue named → IsTrue (is_fault x) → IsTrue (is_fault y)
+
+-- knowing more never changes what was known
+abbrev pub KnownStays : Type 0
+KnownStays = (a b : given.Env) → KnowsMore (scope_in a) (scope_in b) → (e : Form) → Stays (value_of a e) (value_of b e) (names_imports (scope_in a) e)

@@ -1,6 +1,7 @@
 //! The evaluation of expressions.
 ghost use Rattle.std.specs.Prelude.{◌≡◌};
 ghost use Rattle.cf_eval.specs.Env.{scope_in, value_of, props_of, Evaluates, EvaluatesAll, Tells};
+ghost use Rattle.cf_eval.specs.Knows.{KnownStays};
 ghost use Rattle.cf_eval.specs.ScopeOf.{scope_of};
 
 use crate::env::Env;
@@ -82,3 +83,12 @@ pub(crate) fn told(alloc: Global, stack: &Txt, stop: Stop) -> EvalFault
         Stop::NoMemory => EvalFault::NoMemory,
     }
 }
+
+/// Knowing more never changes what was known.
+///
+/// Where an environment that agrees, and in which something is bound, seen or decided that was
+/// Later, is put in place of another one, a value or `NoValue` stays the same. A fault stays a
+/// fault, unless it rests on an import whose name was Later. It does nothing when it runs.
+pub fn known_stays()
+    ensures { KnownStays }
+{}

@@ -14,6 +14,6 @@ mod texts;
 mod value;
 
 pub use env::{Env, OutputSight, Sight};
-pub use evaluation::{eval, eval_props};
+pub use evaluation::{eval, eval_props, known_stays};
 pub use fault::{EvalFault, EvalWhy};
 pub use got::Got;
