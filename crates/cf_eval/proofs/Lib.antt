@@ -3,4 +3,8 @@ pub mod Each
 pub mod Lists
 pub mod Gots
 pub mod Tells
+pub mod Compared
+pub mod TestFalls
+pub mod Verdicts
+pub mod Agreeing
 pub mod Knowing

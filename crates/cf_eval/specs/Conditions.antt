@@ -1,5 +1,5 @@
 -- What the conditions of a template come to (template reference, condition functions).
-use Rattle.std.specs.Prelude.{ℕ, zero, suc, Bool, not, List, [], ◌∷◌, length, Option, Some, None, map, option_map, unwrap_or, if◌then◌else◌}
+use Rattle.std.specs.Prelude.{ℕ, zero, suc, Bool, not, List, [], ◌∷◌, ◌++◌, length, Option, Some, None, map, option_map, unwrap_or, if◌then◌else◌}
 use Rattle.std.specs.List.{list_all, list_any}
 use Rattle.std.specs.Str.{bytes_eq}
 use Rattle.cf_tree.specs.Datum.{Data, Items, text, whole, truth, list, dict, no_items, item}
@@ -8,7 +8,7 @@ use Rattle.cf_tree.specs.Same.{same_data}
 use Rattle.cf_tree.specs.Tests.{Test, TestNode, Tests, cond, equals, negation, all_of, any_of, named, no_tests, test, place_of_test}
 use Rattle.cf_eval.specs.Outcome.{Outcome, got, later, bad, fault, on_got, both, each, or_wrong}
 use Rattle.cf_eval.specs.Scope.{Scope}
-use Rattle.cf_eval.specs.Texts.{truth_text}
+use Rattle.cf_eval.specs.Texts.{Found, truth_text}
 use Rattle.cf_eval.specs.Functions.{or_fault}
 use Rattle.cf_eval.specs.Value.{form_found}
 use Rattle.std.specs.Fmt.{signed_decimal}
@@ -43,16 +43,27 @@ equal_values (Some a) (Some b) = equal_if (compared a) (compared b)
 equal_values (Some a) None = None
 equal_values None b = None
 
+-- `Fn::Equals`: whether two values are equal
+abbrev pub equals_found : List ℕ → Found → Found → Outcome Bool
+equals_found at left right = both left right (λ a b. or_wrong at (equal_values a b))
+
+-- `Fn::And` and `Fn::Or`: whether all conditions hold, or one of them
+abbrev pub all_found : List (Outcome Bool) → Outcome Bool
+all_found parts = on_got (each parts) (λ bs. got (list_all (λ b. b) bs))
+
+abbrev pub any_found : List (Outcome Bool) → Outcome Bool
+any_found parts = on_got (each parts) (λ bs. got (list_any (λ b. b) bs))
+
 abbrev mutual
   -- a condition, where the innermost function around it stands at `around`
   pub test_found : Scope → Option (List ℕ) → Test → Outcome Bool
   test_found s around (cond at n) = test_node_found s around at n
 
   pub test_node_found : Scope → Option (List ℕ) → List ℕ → TestNode → Outcome Bool
-  test_node_found s around at (equals a b) = both (form_found s (Some at) a) (form_found s (Some at) b) (λ v w. or_wrong at (equal_values v w))
+  test_node_found s around at (equals a b) = equals_found at (form_found s (Some at) a) (form_found s (Some at) b)
   test_node_found s around at (negation c) = on_got (test_found s (Some at) c) (λ b. got (not b))
-  test_node_found s around at (all_of cs) = on_got (each (tests_found s (Some at) cs)) (λ bs. got (list_all (λ b. b) bs))
-  test_node_found s around at (any_of cs) = on_got (each (tests_found s (Some at) cs)) (λ bs. got (list_any (λ b. b) bs))
+  test_node_found s around at (all_of cs) = all_found (tests_found s (Some at) cs)
+  test_node_found s around at (any_of cs) = any_found (tests_found s (Some at) cs)
   test_node_found s around at (named name) = s.decided (unwrap_or around at) name
 
   pub tests_found : Scope → Option (List ℕ) → Tests → List (Outcome Bool)
@@ -67,12 +78,12 @@ is_one_of name ns = list_any (λ n. bytes_eq n name) ns
 abbrev pub decided_by : (List ℕ → List ℕ → Outcome Bool) → Scope → Scope
 decided_by f s = record s { decided = f }
 
--- What a condition comes to, asked for at a place while those of `under` are being decided: it needs itself where it is one of these. `left` is how many conditions there are beside them.
+-- What a condition comes to, asked for at a place while those of `under` are being decided, in the order in which they were asked for: it needs itself where it is one of these. `left` is how many conditions there are beside them.
 abbrev pub condition_found : ℕ → Scope → List (List ℕ × Test) → List (List ℕ) → List ℕ → List ℕ → Outcome Bool
 condition_found zero s conds under at name = bad (fault (if is_one_of name under then CircularCondition else UnknownName) at)
 condition_found (suc left) s conds under at name =
     if is_one_of name under then bad (fault CircularCondition at)
-    else on_got (or_fault UnknownName at (value_at name conds)) (test_found (decided_by (condition_found left s conds (name ∷ under)) s) None)
+    else on_got (or_fault UnknownName at (value_at name conds)) (test_found (decided_by (condition_found left s conds (under ++ name ∷ [])) s) None)
 
 -- a condition that is Later is noted as None
 abbrev pub noted : Outcome Bool → Outcome (Option Bool)

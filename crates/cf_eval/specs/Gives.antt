@@ -11,6 +11,8 @@ use Rattle.cf_eval.specs.declared.fault.Stop.TheVariants as stop
 use Rattle.cf_eval.specs.Outcome.{Outcome, got, later, bad, fault, undecided, each}
 use Rattle.cf_eval.specs.Texts.{Found, known}
 use Rattle.cf_eval.specs.Functions.{outcomes}
+use Rattle.cf_eval.specs.ScopeOf.{verdict_of}
+use Rattle.cf_tree.specs.declared.bound.Verdict.{Verdict}
 
 -- what an answer says
 abbrev pub found_of : Got → Found
@@ -91,3 +93,8 @@ late_binding (b ∷ bs) = is_late b.1 || late_binding bs
 
 abbrev pub named_value : List ℕ × Got → List ℕ × Option Data
 named_value b = (b.0, value_in b.1)
+
+-- what a condition comes to
+abbrev pub GivesVerdict : Outcome Bool → Result Verdict broken.Stop → Type 0
+GivesVerdict o (Ok v) = o ≡ part_of (verdict_of v)
+GivesVerdict o (Err s) = Stops o s

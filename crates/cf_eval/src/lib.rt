@@ -2,6 +2,7 @@
 #![tactic(auto)]
 
 mod collect;
+mod compare;
 mod env;
 mod evaluation;
 mod fault;
@@ -12,6 +13,7 @@ mod scope;
 mod sub;
 mod texts;
 mod value;
+mod verdict;
 
 pub use env::{Env, OutputSight, Sight};
 pub use evaluation::{eval, eval_props, known_stays};
