@@ -6,3 +6,8 @@ pub mod Report
 pub mod Lanes
 pub mod Step
 pub mod Create
+pub mod Refusals
+pub mod Deploy
+pub mod Print
+pub mod Alive
+pub mod Alone

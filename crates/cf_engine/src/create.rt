@@ -143,7 +143,6 @@ pub fn create_all<H: Handler>(
     requires empty { made.old.items ≡ [] }
     requires known { find (is_unknown (map H.of_kind lanes.old.items)) resources.now ≡ None }
     requires fresh { AreFresh 1 (map H.told lanes.old.items) }
-    requires few { length resources.now < 2 ^ 32 }
     ensures names { map H.label lanes.new.items ≡ map H.label lanes.old.items }
     ensures kinds { map H.of_kind lanes.new.items ≡ map H.of_kind lanes.old.items }
     ensures told { RunTells (map H.of_kind lanes.old.items) (map H.told lanes.old.items) (map H.told lanes.new.items) resources.now made.new.items result }

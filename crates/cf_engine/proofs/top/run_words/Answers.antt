@@ -1,0 +1,10 @@
+use Rattle.std.proofs.Common.{refl, inl, inr, [], rules}
+use Rattle.cf_engine.specs.declared.deploy.Outcome.TheVariants.{Refused}
+use Rattle.cf_engine.specs.declared.exit.Exit.TheVariants as exit
+use Rattle.cf_engine.proofs.top.run_words.Goals as goal
+
+pub returns-in-Ok-None : goal.returns-in-Ok-None
+returns-in-Ok-None g c = ([], Refused exit.BadWords, inl (refl, search rules, (refl, refl, refl)), c.print_exit.ensures.tells)
+
+pub returns-in-Err : goal.returns-in-Err
+returns-in-Err g c = ([], Refused exit.NoMemory, inr (inl (refl, (refl, refl, refl))), c.print_exit-in-Err.ensures.tells)
