@@ -3,7 +3,7 @@ ghost use Rattle.std.specs.Option.{option_copied};
 ghost use Rattle.cf_tree.specs.Keys.{value_at};
 ghost use Rattle.cf_param.specs.Offered.{are_distinct, has_name};
 
-use cf_tree::Txt;
+use cf_tree::{ByName, Txt};
 use std::alloc::Global;
 use std::marker::Model;
 
@@ -52,6 +52,16 @@ impl Given {
             Some(Given { items })
         } else {
             None
+        }
+    }
+
+    /// What a map gives, in the order of its names; it takes no memory.
+    #[tactic(auto, using(crate::proofs::Ascending::distinct))]
+    pub fn from_names(pieces: ByName<Piece>) -> Given
+        ensures { result ≡ pieces }
+    {
+        Given {
+            items: pieces.into_vec(),
         }
     }
 
