@@ -1,0 +1,6 @@
+mod Moments
+mod Heads
+mod Bodies
+mod Pieces
+mod Appending
+mod Entries
