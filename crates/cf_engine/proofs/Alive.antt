@@ -54,11 +54,11 @@ read_there (y ∷ told) (suc i) f = read_there told i f
 grows_at-by : (k i token : ℕ) (r : Planned) (s : Settlement) (told : Told) (b : Bool) → (k == i) ≡ b → Grows (get_or told k None) (get_or (settled_at (Some i) token r s told) k None) (cond b (made_by r s) [])
 grows_at-by k i token r s told true e =
     subst (λ (j : ℕ). Grows (get_or told j None) (get_or (settled_at (Some i) token r s told) j None) (made_by r s)) (sym (eqb-true k i e))
-        (subst (λ (x : Option LaneState). Grows (get_or told i None) x (made_by r s)) (sym (read_there told i (settled_by token r s))) (grows_by token r s (get_or told i None)))
+    (subst (λ (x : Option LaneState). Grows (get_or told i None) x (made_by r s)) (sym (read_there told i (settled_by token r s))) (grows_by token r s (get_or told i None)))
 grows_at-by k i token r s told false e =
     subst (λ (x : Option LaneState). Grows (get_or told k None) x [])
-        (sym (get_or-set_other told i k (option_map (settled_by token r s) (get_or told i None)) None (λ q. true≢false (sym (eq-eqb k i q) ∙ e))))
-        (grows_not (get_or told k None))
+    (sym (get_or-set_other told i k (option_map (settled_by token r s) (get_or told i None)) None (λ q. true≢false (sym (eq-eqb k i q) ∙ e))))
+    (grows_not (get_or told k None))
 
 grows_at : (lane : Option ℕ) (k token : ℕ) (r : Planned) (s : Settlement) (told : Told) → Grows (get_or told k None) (get_or (settled_at lane token r s told) k None) (made_at k lane r s)
 grows_at None k token r s told = grows_not (get_or told k None)
@@ -76,8 +76,8 @@ creates_live kinds told token (r ∷ rs) (m ∷ ms) k =
     let next : Told = settled_at (lane_for kinds r.kind) token r (Success m.physical m.attrs) told in
     let after : Told = after_creates kinds next (token + 1) rs ms in
     subst (Grows (get_or told k None) (get_or after k None)) (more_at k (lane_for kinds r.kind) r m (lives_at kinds k rs ms))
-        (grows_both (get_or told k None) (get_or next k None) (get_or after k None) (made_at k (lane_for kinds r.kind) r (Success m.physical m.attrs)) (lives_at kinds k rs ms)
-            (grows_at (lane_for kinds r.kind) k token r (Success m.physical m.attrs) told) (creates_live kinds next (token + 1) rs ms k))
+    (grows_both (get_or told k None) (get_or next k None) (get_or after k None) (made_at k (lane_for kinds r.kind) r (Success m.physical m.attrs)) (lives_at kinds k rs ms)
+    (grows_at (lane_for kinds r.kind) k token r (Success m.physical m.attrs) told) (creates_live kinds next (token + 1) rs ms k))
 
 made_short : (b : Bool) (r : Planned) (s : Settlement) → length (cond b (made_by r s) []) ≤ 1
 made_short true r (Success physical attrs) = omega arith

@@ -48,16 +48,19 @@ cut_whole o p words stack outcome c a = record {
 }
 
 refused_says : (o : Outside) (p : Printing) (words : List (List ℕ)) (stack template : List ℕ) (e : Exit) → deploy_words words ≡ Some (stack, template) → DeployTells o template (Refused e) → Appends p.held p.held' (exit_line e) → Says o p words e
-refused_says o p words stack template (exit.TemplateRefused fault) s d a = (record {
-  stack = stack;
-  template = template;
-  found = d.0.0;
-  said = s;
-  stands = d.0.1;
-  refused = d.0.2;
-  missed = d.0.3;
-  nothing = d.1;
-}, a)
+refused_says o p words stack template (exit.TemplateRefused fault) s d a = (
+  record {
+    stack = stack;
+    template = template;
+    found = d.0.0;
+    said = s;
+    stands = d.0.1;
+    refused = d.0.2;
+    missed = d.0.3;
+    nothing = d.1;
+  },
+  a,
+)
 refused_says o p words stack template exit.LibraryFault s d a = (((stack, template), s), d.0, a)
 refused_says o p words stack template exit.NoMemory s d a = cut_whole o p words stack (Refused exit.NoMemory) (inr (inr (template, s, d))) a
 refused_says o p words stack template _ s d a = absurd d.0

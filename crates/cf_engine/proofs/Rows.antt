@@ -9,7 +9,6 @@ use Rattle.cf_engine.specs.declared.exit.Exit.TheVariants.{Failed}
 use Rattle.cf_engine.specs.Report.{Row, resource_line, report_of}
 use Rattle.cf_engine.specs.Print.{rows_of, PrintTells}
 
-
 pub rows_none : (rs : List Planned) → rows_of rs [] ≡ []
 rows_none [] = refl
 rows_none (r ∷ rs) = refl
@@ -39,10 +38,10 @@ prints_on start report report' rs ms at r m d g e i f =
     let line : List ℕ = resource_line (record { path = r.name; kind = r.kind; physical = m.physical; status = codes "CREATE_COMPLETE" }) in
     let rest : List ℕ = flat_map resource_line (rows_of (drop (suc at) rs) (drop (suc at) ms)) in
     subst (λ (k : ℕ). start ++ flat_map resource_line (rows_of rs ms) ≡ report' ++ flat_map resource_line (rows_of (drop k rs) (drop k ms))) (sym (add-one at))
-        (i
-        ∙ ap (λ (xs : List Row). report ++ flat_map resource_line xs) (rows_step rs ms at r m d g e)
-        ∙ sym (append_assoc report line rest)
-        ∙ ap (λ (x : List ℕ). x ++ rest) (sym f))
+    (i
+    ∙ ap (λ (xs : List Row). report ++ flat_map resource_line xs) (rows_step rs ms at r m d g e)
+    ∙ sym (append_assoc report line rest)
+    ∙ ap (λ (x : List ℕ). x ++ rest) (sym f))
 
 -- all rows are printed
 pub prints_all : (start report : List ℕ) (rs : List Planned) (ms : List Made) (at : ℕ) → length ms ≤ at → start ++ flat_map resource_line (rows_of rs ms) ≡ report ++ flat_map resource_line (rows_of (drop at rs) (drop at ms)) → report ≡ start ++ flat_map resource_line (rows_of rs ms)
@@ -58,4 +57,4 @@ none_tells held held' faults faults' stack status rows failed e result d t = sub
 pub failed_tells : (held held' : Option (List ℕ)) (faults faults' : ℕ) (stack status : List ℕ) (rows : List Row) (failed blamed paths : List (List ℕ)) (result : Exit) → failed ≡ paths → blamed ≡ paths → PrintTells held held' faults faults' (report_of stack status 1 rows failed (Failed blamed)) (Failed blamed) result → PrintTells held held' faults faults' (report_of stack status 1 rows paths (Failed paths)) (Failed paths) result
 failed_tells held held' faults faults' stack status rows failed blamed paths result e d t =
     subst (λ (xs : List (List ℕ)). PrintTells held held' faults faults' (report_of stack status 1 rows xs (Failed paths)) (Failed paths) result) e
-        (subst (λ (xs : List (List ℕ)). PrintTells held held' faults faults' (report_of stack status 1 rows failed (Failed xs)) (Failed xs) result) d t)
+    (subst (λ (xs : List (List ℕ)). PrintTells held held' faults faults' (report_of stack status 1 rows failed (Failed xs)) (Failed xs) result) d t)

@@ -12,7 +12,7 @@ use Rattle.cf_handler.specs.declared.settled.Settlement.TheVariants.{Success, Fa
 use Rattle.cf_handler.specs.Lane.{LaneState, settlement_of}
 use Rattle.cf_handler.specs.Move.{HasRisen}
 use Rattle.cf_engine.specs.declared.create.Made.{Made}
-use Rattle.cf_engine.specs.Lanes.{Told, lane_for, is_unknown, settled_by, settled_at, IsFresh, AreFresh, AreLater, RoseAt}
+use Rattle.cf_engine.specs.Lanes.{Told, lane_for, is_unknown, settled_by, settled_at, IsFresh, AreFresh, AreLater, RoseAt, AreUnsettled}
 use Rattle.cf_engine.specs.Create.{after_creates, StandsAt, StopsAt, RunTells, RunBlames}
 use Rattle.cf_engine.specs.declared.create.RunEnd.TheVariants.{Stopped}
 
@@ -155,3 +155,7 @@ stop_blames kinds counts counts_now counts_after rs at kinds_now r k f d l b =
 
 pub known_now : (kinds kinds_now : List (List ℕ)) (rs : List Planned) (at : ℕ) (r : Planned) → kinds_now ≡ kinds → find (is_unknown kinds) rs ≡ None → at < length rs → r ≡ get_or rs at r → is_unknown kinds_now r ≡ false
 known_now kinds kinds_now rs at r k e h d = subst (λ (ks : List (List ℕ)). is_unknown ks r ≡ false) (sym k) (known_at kinds rs at r e h d)
+
+-- where nothing is settled, each token is fresh
+pub fresh_first : (told : Told) → AreUnsettled told → AreFresh 1 told
+fresh_first told u = λ k lane t e h. subst (λ (ss : List Settled). settlement_of t ss ≡ None) (sym (u k lane e)) refl

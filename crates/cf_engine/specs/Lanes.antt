@@ -45,3 +45,7 @@ AreLater before after = (k : ℕ) → slice_index_or before k 0 ≤ slice_index_
 abbrev pub RoseAt : Option ℕ → List ℕ → List ℕ → Type 0
 RoseAt None before after = ⊥
 RoseAt (Some k) before after = HasRisen (slice_index_or before k 0) (slice_index_or after k 0)
+
+-- the lanes have settled nothing yet
+abbrev pub AreUnsettled : Told → Type 0
+AreUnsettled told = (k : ℕ) (lane : LaneState) → slice_index_or told k None ≡ Some lane → lane.settled ≡ []

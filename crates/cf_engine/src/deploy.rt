@@ -6,11 +6,11 @@ ghost use Rattle.cf_engine.specs.declared.exit.DesiredFault.TheVariants.{Templat
 ghost use Rattle.cf_engine.specs.Refusals.{ReadsAs, RefusesAs, UnreadAs};
 ghost use Rattle.cf_engine.specs.Deploy.{DeployTells, MakeTells};
 
-use crate::create::{create_all, first_unknown, Made, RunEnd};
+use crate::create::{Made, RunEnd, create_all, first_unknown};
 use crate::exit::{DesiredFault, Exit, Refusal};
 use cf_handler::Handler;
 use cf_io::{FetchFault, Library};
-use cf_template::{read_template, TemplateFault};
+use cf_template::{TemplateFault, read_template};
 use cf_tree::{NoMemory, Planned, Plans, Txt};
 use std::alloc::Global;
 
@@ -68,7 +68,10 @@ fn unread(alloc: Global, name: &Txt, fault: TemplateFault) -> Exit
 fn unknown(alloc: Global, resource: &Planned) -> Exit
     ensures { RefusesAs (UnknownType resource.now.name resource.now.kind) result }
 {
-    match (resource.name.try_clone(alloc), resource.kind.try_clone(alloc)) {
+    match (
+        resource.name.try_clone(alloc),
+        resource.kind.try_clone(alloc),
+    ) {
         (Ok(path), Ok(name)) => Exit::TemplateRefused {
             fault: Refusal::UnknownType { path, name },
         },
@@ -107,17 +110,17 @@ pub fn deploy<L: Library, H: Handler>(
     ensures names { map H.label lanes.new.items ≡ map H.label lanes.old.items }
     ensures kinds { map H.of_kind lanes.new.items ≡ map H.of_kind lanes.old.items }
     ensures tells { DeployTells (record {
-        texts = L.texts library.old;
-        faults = L.count library.old;
-        faults' = L.count library.new;
-        misses = L.missed library.old;
-        misses' = L.missed library.new;
-        kinds = map H.of_kind lanes.old.items;
-        told = map H.told lanes.old.items;
-        told' = map H.told lanes.new.items;
-        counts = map H.count lanes.old.items;
-        counts' = map H.count lanes.new.items
-      }) template.now result }
+      texts = L.texts library.old;
+      faults = L.count library.old;
+      faults' = L.count library.new;
+      misses = L.missed library.old;
+      misses' = L.missed library.new;
+      kinds = map H.of_kind lanes.old.items;
+      told = map H.told lanes.old.items;
+      told' = map H.told lanes.new.items;
+      counts = map H.count lanes.old.items;
+      counts' = map H.count lanes.new.items;
+    }) template.now result }
 {
     match read(alloc, library, template) {
         Ok(resources) => deploy_read(alloc, lanes, resources),
@@ -137,5 +140,9 @@ fn deploy_read<H: Handler>(alloc: Global, lanes: &mut Vec<H>, resources: Plans) 
     }
     let mut made = Vec::new(alloc);
     let end = create_all(alloc, lanes, resources.as_slice(), &mut made);
-    Outcome::Ran { resources, made, end }
+    Outcome::Ran {
+        resources,
+        made,
+        end,
+    }
 }

@@ -202,3 +202,11 @@ fn print_run<K: Sink>(
         RunEnd::NoMemory => print_exit(alloc, out, Exit::NoMemory),
     }
 }
+
+/// Prints a text that is no report, and answers `Done` where the sink took it.
+pub fn print_text<K: Sink>(out: &mut K, text: &str) -> Exit
+    ensures faults { K.count out.old ≤ K.count out.new }
+    ensures tells { PrintTells (K.held out.old) (K.held out.new) (K.count out.old) (K.count out.new) text.now Done result }
+{
+    put(out, text, Exit::Done)
+}
