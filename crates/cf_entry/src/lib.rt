@@ -13,3 +13,6 @@ pub use put::entry::write_entry;
 pub use size::entry_size;
 pub use status::Status;
 pub use take::entry::read_entry;
+
+#[cfg(test)]
+mod tests;

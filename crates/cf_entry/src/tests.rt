@@ -1,0 +1,165 @@
+//! Each call once, on bytes that were put together by hand from the format.
+use crate::*;
+use cf_tree::{Code, Request, Val};
+use std::alloc::Global;
+use std::test::Fail;
+
+// The epoch 1, and the lane f1 of the type Local::Files::File.
+const OPENED: &[u8; 41] =
+    b"\x01\0\0\0\0\0\0\0\x01\0\0\0\x01\0\0\0\x02f1\0\0\0\x12Local::Files::File";
+
+// The creation of site, operation 1, from the template one, whose text is {}, with A given as b.
+const BEGIN: &[u8; 65] =
+    b"\x02\0\0\0\0\0\0\0\x01\0\0\0\x04site\x01\x01\0\0\0\x03one\0\0\0\x01\0\0\0\x03one\0\0\0\x02{}\0\0\0\x01\0\0\0\x01A\0\0\0\x01b\0\0\0\0\0\0\0\0";
+
+// The continuation of a rollback of site, operation 2, that skips A and B.
+const CONTINUE: &[u8; 33] =
+    b"\x02\0\0\0\0\0\0\0\x02\0\0\0\x04site\x04\0\0\0\0\x02\0\0\0\x01A\0\0\0\x01B";
+
+// In operation 1 and under token 3: lane r1 is to make a T at A, whose Key is the list of -1 and true.
+const INTENT: &[u8; 61] =
+    b"\x04\0\0\0\0\0\0\0\x01\0\0\0\0\0\0\0\x03\0\0\0\x02r1\0\0\0\x01A\x01\0\0\0\x01T\0\0\0\x01\0\0\0\x03Key\x04\0\0\0\x02\x02\xff\xff\xff\xff\xff\xff\xff\xff\x03\x01";
+
+// Token 3 came to r1:3 with no attributes, and the lane's faults stayed 5.
+const OUTCOME: &[u8; 46] =
+    b"\x05\0\0\0\0\0\0\0\x01\0\0\0\0\0\0\0\x03\x01\0\0\0\x04r1:3\0\0\0\0\0\0\0\0\0\0\0\x05\0\0\0\0\0\0\0\x05";
+
+// Token 3 was refused with the code of NotFound, and the lane's faults rose to 6.
+const REFUSED: &[u8; 35] =
+    b"\x05\0\0\0\0\0\0\0\x01\0\0\0\0\0\0\0\x03\x02\x06\0\0\0\0\0\0\0\x05\0\0\0\0\0\0\0\x06";
+
+// Operation 2 ended in DELETE_FAILED, and A failed.
+const DONE: &[u8; 19] = b"\x07\0\0\0\0\0\0\0\x02\x0f\0\0\0\x01\0\0\0\x01A";
+
+/// The entry of these bytes, if they are written again as they were.
+fn read_and_written(alloc: Global, bytes: &[u8]) -> Result<Entry, Fail> {
+    let entry = read_entry(alloc, bytes)?.ok_or("no entry")?;
+    let size = entry_size(&entry);
+    if size >= 1 << 32 {
+        return Err("too long".into());
+    }
+    let mut written = Vec::with_capacity(alloc, size as usize)?;
+    write_entry(&entry, &mut written);
+    if written.as_slice() == bytes {
+        Ok(entry)
+    } else {
+        Err("other bytes".into())
+    }
+}
+
+#[test]
+fn an_opening(rt: HostRuntime) -> Result<(), Fail> {
+    let entry = read_and_written(rt.alloc(), OPENED)?;
+    assert_eq!(rt; entry_size(&entry), 41);
+    Ok(())
+}
+
+fn tells_source(entry: &Entry) -> bool {
+    match entry {
+        Entry::Begin {
+            number: 1,
+            stack: _,
+            kind: Begun::Create { source },
+        } => source.stack.is("site") && source.number == 0,
+        _ => false,
+    }
+}
+
+#[test]
+fn a_creation(rt: HostRuntime) -> Result<(), Fail> {
+    let entry = read_and_written(rt.alloc(), BEGIN)?;
+    assert!(rt; tells_source(&entry));
+    Ok(())
+}
+
+#[test]
+fn a_rollback_that_goes_on(rt: HostRuntime) -> Result<(), Fail> {
+    let _entry = read_and_written(rt.alloc(), CONTINUE)?;
+    Ok(())
+}
+
+fn asks_for_list(entry: &Entry) -> bool {
+    match entry {
+        Entry::Intent {
+            number: _,
+            token: 3,
+            lane: _,
+            path: _,
+            request: Request::Create { kind: _, props },
+        } => matches!(props.get("Key"), Some(Val::List(_))),
+        _ => false,
+    }
+}
+
+#[test]
+fn an_intent(rt: HostRuntime) -> Result<(), Fail> {
+    let entry = read_and_written(rt.alloc(), INTENT)?;
+    assert!(rt; asks_for_list(&entry));
+    Ok(())
+}
+
+#[test]
+fn an_outcome(rt: HostRuntime) -> Result<(), Fail> {
+    let _entry = read_and_written(rt.alloc(), OUTCOME)?;
+    Ok(())
+}
+
+fn code_of(entry: &Entry) -> Option<Code> {
+    match entry {
+        Entry::Outcome {
+            number: _,
+            token: _,
+            answer: Reply::Failed { code },
+            before: _,
+            after: _,
+        } => Some(*code),
+        _ => None,
+    }
+}
+
+#[test]
+fn a_refusal(rt: HostRuntime) -> Result<(), Fail> {
+    let entry = read_and_written(rt.alloc(), REFUSED)?;
+    assert_eq!(rt; code_of(&entry), Some(Code::NotFound));
+    Ok(())
+}
+
+fn status_of(entry: &Entry) -> Option<Status> {
+    match entry {
+        Entry::Done {
+            number: 2,
+            status,
+            failed: _,
+        } => Some(*status),
+        _ => None,
+    }
+}
+
+#[test]
+fn an_end(rt: HostRuntime) -> Result<(), Fail> {
+    let entry = read_and_written(rt.alloc(), DONE)?;
+    assert_eq!(rt; status_of(&entry), Some(Status::DeleteFailed));
+    Ok(())
+}
+
+fn is_no_entry(alloc: Global, bytes: &[u8]) -> Result<bool, Fail> {
+    Ok(read_entry(alloc, bytes)?.is_none())
+}
+
+#[test]
+fn bytes_behind_an_entry(rt: HostRuntime) -> Result<(), Fail> {
+    assert!(rt; is_no_entry(rt.alloc(), b"\x07\0\0\0\0\0\0\0\x02\x0f\0\0\0\0\0")?);
+    Ok(())
+}
+
+#[test]
+fn a_kind_that_no_entry_has(rt: HostRuntime) -> Result<(), Fail> {
+    assert!(rt; is_no_entry(rt.alloc(), b"\x09")?);
+    Ok(())
+}
+
+#[test]
+fn an_end_that_is_in_progress(rt: HostRuntime) -> Result<(), Fail> {
+    assert!(rt; is_no_entry(rt.alloc(), b"\x07\0\0\0\0\0\0\0\x02\x0d\0\0\0\0")?);
+    Ok(())
+}
