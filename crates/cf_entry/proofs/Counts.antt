@@ -7,6 +7,9 @@ use Rattle.cf_tree.specs.declared.value.Val.{Val}
 use Rattle.cf_tree.specs.declared.value.Pair.{Pair}
 use Rattle.std.specs.List.{flat_map, AllByRecursion}
 use Rattle.cf_entry.specs.Bytes.{text_bytes, pair_bytes, list_bytes}
+use Rattle.cf_tree.specs.declared.row.Detail.{Detail}
+use Rattle.cf_tree.specs.declared.row.Row.{Row}
+use Rattle.cf_entry.specs.Entry.{row_bytes, detail_bytes}
 use Rattle.cf_entry.specs.Value.{value_bytes, items_bytes, members_bytes, number_of_items, number_of_members, values_bytes, dict_bytes, pairs_of_members, AreValues, AreMembers}
 
 value_is_longer : (d : Data) → 1 ≤ length (value_bytes d)
@@ -74,3 +77,9 @@ few_pairs ps h = omega (arith, counted pair_bytes (λ p. omega arith) ps)
 
 pub none_left : {X : Type 0} (Is : X → Type 0) (xs : List X) (i : ℕ) → length xs ≤ i → AllByRecursion Is (drop i xs)
 none_left Is xs i h = rw (drop_of_length-le xs h) tt
+
+pub few_rows : (rs : List Row) → length (list_bytes row_bytes rs) < 2 ^ 32 → length rs < 2 ^ 32
+few_rows rs h = omega (arith, counted row_bytes (λ r. omega arith) rs)
+
+pub few_details : (ds : List Detail) → length (list_bytes detail_bytes ds) < 2 ^ 32 → length ds < 2 ^ 32
+few_details ds h = omega (arith, counted detail_bytes (λ d. omega arith) ds)

@@ -7,6 +7,8 @@ use Rattle.cf_tree.specs.Datum.{Data, members_of}
 use Rattle.cf_tree.specs.Keys.{ascends}
 use Rattle.cf_tree.specs.declared.code.Code.{Code}
 use Rattle.cf_tree.specs.declared.code.Code.TheVariants as code
+use Rattle.cf_tree.specs.declared.row.Detail.{Detail}
+use Rattle.cf_tree.specs.declared.row.Row.{Row}
 use Rattle.cf_tree.specs.declared.request.Request.{Request}
 use Rattle.cf_tree.specs.declared.request.Request.TheVariants as request
 use Rattle.cf_tree.specs.declared.source.Source.{Source}
@@ -16,16 +18,21 @@ use Rattle.cf_entry.specs.declared.entry.Reply.{Reply}
 use Rattle.cf_entry.specs.declared.entry.Reply.TheVariants as reply
 use Rattle.cf_entry.specs.declared.status.Status.{Status}
 use Rattle.cf_entry.specs.declared.status.Status.TheVariants as status
+use Rattle.cf_entry.specs.declared.turn.Cause.{Cause}
+use Rattle.cf_entry.specs.declared.turn.Cause.TheVariants as cause
+use Rattle.cf_entry.specs.declared.turn.Reason.{Reason}
+use Rattle.cf_entry.specs.Numbers.{reason_number, reason_of, action_number, attribute_number, recreation_number, evaluation_number, replacement_number}
 use Rattle.cf_entry.specs.Status.{status_number, status_numbered, all_statuses, is_end}
-use Rattle.cf_entry.specs.Bytes.{text_bytes, list_bytes, option_bytes, pair_bytes, IsText, IsPair, IsTemplate, AreAll}
+use Rattle.cf_entry.specs.Bytes.{truth_byte, text_bytes, list_bytes, option_bytes, pair_bytes, IsText, IsPair, IsTemplate, AreAll}
 use Rattle.cf_entry.specs.Value.{dict_bytes, IsDict}
-use Rattle.cf_entry.specs.Entry.{source_bytes, begun_bytes, request_bytes, reply_bytes, texts_ascend, IsSource, IsBegun, IsRequest, IsReply}
+use Rattle.cf_entry.specs.Entry.{source_bytes, begun_bytes, request_bytes, reply_bytes, cause_bytes, detail_bytes, row_bytes, texts_ascend, IsFor, IsSource, IsBegun, IsRequest, IsReply, IsCause, IsDetail, IsRow}
 use Rattle.cf_entry.specs.Reading.{then_at, pick_at, byte_at, text_at, list_at, option_at, pair_at, template_at, ordered_of}
-use Rattle.cf_entry.specs.EntryReading.{properties_at, source_for, source_at, begun_of, begun_at, request_at, reply_at, end_of}
+use Rattle.cf_entry.specs.EntryReading.{properties_at, source_for, source_at, begun_of, begun_at, request_at, reply_at, cause_at, detail_of, detail_at, row_of, row_at, end_of}
 use Rattle.cf_entry.proofs.Codec.{IsBytes, IsBytes-rest, some_is, if_some, test_bind, test_some, Taken, Codes, codes_then, codes_pick, pick_again}
 use Rattle.cf_entry.proofs.Fields.{codes_byte, codes_text, codes_list, codes_option, codes_pair, codes_template}
+use Rattle.cf_entry.proofs.Numbers.{found_holds, codes_code, codes_reason, codes_action, codes_attribute, codes_recreation, codes_evaluation, codes_replacement}
 use Rattle.cf_entry.proofs.Tagged.{tagged, first_of_3}
-use Rattle.cf_entry.proofs.Values.{codes_value, dict_codes, levels_of_members, levels_few_members}
+use Rattle.cf_entry.proofs.Values.{codes_truth, codes_value, dict_codes, levels_of_members, levels_few_members}
 
 -- ---- properties
 
@@ -77,39 +84,6 @@ request_again (request.Delete physical) rest h = pick_again text_bytes IsText te
 pub codes_request : Codes request_bytes IsRequest request_at
 codes_request = record { takes = request_takes; again = request_again }
 
--- what is found by a test passes it
-found_holds : {X : Type 0} (test : X → Bool) (xs : List X) (x : X) → find test xs ≡ Some x → test x ≡ true
-found_holds test [] x e = absurd cc
-found_holds test (y ∷ ys) x e =
-    elim (if_some (test y) (Some y) (find test ys) x e) [
-      | inl a ↦ subst (λ z. test z ≡ true) (some_is y x a.1) a.0
-      | inr a ↦ found_holds test ys x a.1
-    ]
-
-code_there : (n : ℕ) (c : Code) → code_of n ≡ Some c → n ≡ number_of c
-code_there n c e = sym (eqb-true _ _ (found_holds (λ d. number_of d == n) all_codes c e))
-
-code_back : (c : Code) → (number_of c < 256) × (code_of (number_of c) ≡ Some c)
-code_back code.NotUpdatable = (omega arith, refl)
-code_back code.InvalidRequest = (omega arith, refl)
-code_back code.AccessDenied = (omega arith, refl)
-code_back code.InvalidCredentials = (omega arith, refl)
-code_back code.AlreadyExists = (omega arith, refl)
-code_back code.NotFound = (omega arith, refl)
-code_back code.ResourceConflict = (omega arith, refl)
-code_back code.Throttling = (omega arith, refl)
-code_back code.ServiceLimitExceeded = (omega arith, refl)
-code_back code.NotStabilized = (omega arith, refl)
-code_back code.GeneralServiceException = (omega arith, refl)
-code_back code.ServiceInternalError = (omega arith, refl)
-code_back code.NetworkFailure = (omega arith, refl)
-code_back code.InternalFailure = (omega arith, refl)
-
-codes_code : Codes (λ c. number_of c ∷ []) (λ c. Unit {0}) (pick_at code_of byte_at)
-codes_code = codes_pick (λ b. b ∷ []) (λ b. b < 256) byte_at code_of (λ c. number_of c ∷ []) (λ c. Unit {0}) codes_byte
-    (λ n c fits e. (ap (λ m. m ∷ []) (code_there n c e), tt))
-    (λ c h. (number_of c, (code_back c).0, (code_back c).1, refl))
-
 reply_takes_at : (k : ℕ) (bytes : List ℕ) (x : Reply) (rest : List ℕ) → IsBytes bytes → reply_at (k ∷ bytes) ≡ Some (x, rest) → Taken reply_bytes IsReply (k ∷ bytes) x rest
 unfolding reply_at
 reply_takes_at k bytes x rest h e =
@@ -156,9 +130,9 @@ codes_fields =
 
 -- a source that tells this stack, and the number 0
 abbrev pub IsSourceFor : List ℕ → Source → Type 0
-IsSourceFor stack s = IsSource s × ((s.stack ≡ stack) × (s.number ≡ 0))
+IsSourceFor stack s = IsSource s × IsFor stack s
 
-codes_source : (stack : List ℕ) → Codes source_bytes (IsSourceFor stack) (source_at stack)
+pub codes_source : (stack : List ℕ) → Codes source_bytes (IsSourceFor stack) (source_at stack)
 unfolding source_at
 codes_source stack = codes_pick _ _ _ (source_for stack) source_bytes (IsSourceFor stack) codes_fields
     (λ p s fits e. subst (λ z. ((text_bytes p.0 ++ (list_bytes pair_bytes p.1.0 ++ (list_bytes pair_bytes p.1.1.0 ++ list_bytes pair_bytes p.1.1.1))) ≡ source_bytes z) × IsSourceFor stack z) (some_is (record { root = p.0; texts = p.1.0; given = p.1.1.0; imports = p.1.1.1; stack = stack; number = 0 }) s e) (refl, ((fits.0, fits.1.0, fits.1.1.0, fits.1.1.1), (refl, refl))))
@@ -236,3 +210,59 @@ pub codes_end : Codes (λ s. status_number s ∷ []) (λ s. IsTrue (is_end s)) (
 codes_end = codes_pick _ _ _ end_of (λ s. status_number s ∷ []) (λ s. IsTrue (is_end s)) codes_status
     (λ a b fits e. let t = test_some (is_end a) a b e in (ap (λ s. status_number s ∷ []) t.1, subst (λ s. IsTrue (is_end s)) t.1 t.0))
     (λ b h. (b, status_back b h, rw h refl, refl))
+
+-- ---- causes
+
+abbrev Blame : Type 0
+Blame = List ℕ × Reason
+
+abbrev blame_bytes : Blame → List ℕ
+blame_bytes p = text_bytes p.0 ++ (reason_number p.1 ∷ [])
+
+abbrev IsBlame : Blame → Type 0
+IsBlame p = IsText p.0 × Unit {0}
+
+codes_blame : Codes blame_bytes IsBlame (then_at text_at (pick_at reason_of byte_at))
+codes_blame = codes_then _ _ _ _ _ _ codes_text codes_reason
+
+cause_takes_at : (k : ℕ) (bytes : List ℕ) (x : Cause) (rest : List ℕ) → IsBytes bytes → cause_at (k ∷ bytes) ≡ Some (x, rest) → Taken cause_bytes IsCause (k ∷ bytes) x rest
+unfolding cause_at
+cause_takes_at k bytes x rest h e =
+    let Goal : ℕ → Type 0 = λ n. Taken cause_bytes IsCause (n ∷ bytes) x rest in
+    first_of_3 (x, rest) (Goal k) k 1 2 3
+    (pick_at (λ p. Some (cause.Handler p.0 p.1)) (then_at text_at (pick_at reason_of byte_at)) bytes) (pick_at (λ t. Some (cause.Plan t)) text_at bytes) (pick_at (λ t. Some (cause.Export t)) text_at bytes)
+    e
+    (λ i f. subst Goal (sym i) (tagged 1 (λ p. Some (cause.Handler p.0 p.1)) blame_bytes IsBlame (then_at text_at (pick_at reason_of byte_at)) cause_bytes IsCause codes_blame
+    (λ p y fits g. subst (λ z. (1 ∷ blame_bytes p ≡ cause_bytes z) × IsCause z) (some_is (cause.Handler p.0 p.1) y g) (refl, fits.0)) bytes x rest h f))
+    (λ i f. subst Goal (sym i) (tagged 2 (λ t. Some (cause.Plan t)) text_bytes IsText text_at cause_bytes IsCause codes_text
+    (λ t y fits g. subst (λ z. (2 ∷ text_bytes t ≡ cause_bytes z) × IsCause z) (some_is (cause.Plan t) y g) (refl, fits)) bytes x rest h f))
+    (λ i f. subst Goal (sym i) (tagged 3 (λ t. Some (cause.Export t)) text_bytes IsText text_at cause_bytes IsCause codes_text
+    (λ t y fits g. subst (λ z. (3 ∷ text_bytes t ≡ cause_bytes z) × IsCause z) (some_is (cause.Export t) y g) (refl, fits)) bytes x rest h f))
+
+cause_takes : (bytes : List ℕ) (x : Cause) (rest : List ℕ) → IsBytes bytes → cause_at bytes ≡ Some (x, rest) → Taken cause_bytes IsCause bytes x rest
+unfolding cause_at
+cause_takes [] x rest h e = absurd cc
+cause_takes (k ∷ bytes) x rest h e = cause_takes_at k bytes x rest (IsBytes-rest k bytes h) e
+
+cause_again : (x : Cause) (rest : List ℕ) → IsCause x → cause_at (cause_bytes x ++ rest) ≡ Some (x, rest)
+unfolding cause_at
+cause_again (cause.Handler path reason) rest h = pick_again blame_bytes IsBlame (then_at text_at (pick_at reason_of byte_at)) (λ p. Some (cause.Handler p.0 p.1)) codes_blame (path, reason) (cause.Handler path reason) rest (h, tt) refl
+cause_again (cause.Plan fault) rest h = pick_again text_bytes IsText text_at (λ t. Some (cause.Plan t)) codes_text fault (cause.Plan fault) rest h refl
+cause_again (cause.Export name) rest h = pick_again text_bytes IsText text_at (λ t. Some (cause.Export t)) codes_text name (cause.Export name) rest h refl
+
+pub codes_cause : Codes cause_bytes IsCause cause_at
+codes_cause = record { takes = cause_takes; again = cause_again }
+
+-- ---- rows
+
+codes_detail : Codes detail_bytes IsDetail detail_at
+unfolding detail_at
+codes_detail = codes_pick _ _ _ detail_of detail_bytes IsDetail (codes_then _ _ _ _ _ _ codes_attribute (codes_then _ _ _ _ _ _ codes_text (codes_then _ _ _ _ _ _ codes_recreation codes_evaluation)))
+    (λ p d fits e. subst (λ z. (((attribute_number p.0 ∷ []) ++ (text_bytes p.1.0 ++ ((recreation_number p.1.1.0 ∷ []) ++ (evaluation_number p.1.1.1 ∷ [])))) ≡ detail_bytes z) × IsDetail z) (some_is (record { attribute = p.0; name = p.1.0; recreation = p.1.1.0; evaluation = p.1.1.1 }) d e) (refl, fits.1.0))
+    (λ d h. ((d.attribute, (d.name, (d.recreation, d.evaluation))), (tt, (h, (tt, tt))), refl, refl))
+
+pub codes_row : Codes row_bytes IsRow row_at
+unfolding row_at
+codes_row = codes_pick _ _ _ row_of row_bytes IsRow (codes_then _ _ _ _ _ _ codes_action (codes_then _ _ _ _ _ _ codes_text (codes_then _ _ _ _ _ _ codes_text (codes_then _ _ _ _ _ _ codes_replacement (codes_then _ _ _ _ _ _ codes_truth (codes_list detail_bytes IsDetail detail_at codes_detail))))))
+    (λ p r fits e. subst (λ z. (((action_number p.0 ∷ []) ++ (text_bytes p.1.0 ++ (text_bytes p.1.1.0 ++ ((replacement_number p.1.1.1.0 ∷ []) ++ ((truth_byte p.1.1.1.1.0 ∷ []) ++ list_bytes detail_bytes p.1.1.1.1.1))))) ≡ row_bytes z) × IsRow z) (some_is (record { action = p.0; path = p.1.0; kind = p.1.1.0; replacement = p.1.1.1.0; unsure = p.1.1.1.1.0; details = p.1.1.1.1.1 }) r e) (refl, (fits.1.0, fits.1.1.0, fits.1.1.1.1.1)))
+    (λ r h. ((r.action, (r.path, (r.kind, (r.replacement, (r.unsure, r.details))))), (tt, (h.0, (h.1, (tt, (tt, h.2))))), refl, refl))

@@ -10,3 +10,4 @@ pub mod Tagged
 pub mod Values
 pub mod Entries
 pub mod Spelled
+pub mod Numbers

@@ -25,3 +25,6 @@ module _ {A : Type 0} (z : A) (P : Type 0) where
 
   pub first_of_5 : (k l m n o p : ℕ) (r s t u v : Option A) → cond (eqb k l) r (cond (eqb k m) s (cond (eqb k n) t (cond (eqb k o) u (cond (eqb k p) v None)))) ≡ Some z → (k ≡ l → r ≡ Some z → P) → (k ≡ m → s ≡ Some z → P) → (k ≡ n → t ≡ Some z → P) → (k ≡ o → u ≡ Some z → P) → (k ≡ p → v ≡ Some z → P) → P
   first_of_5 k l m n o p r s t u v e f g h i j = chosen k l r _ e f (λ d. chosen k m s _ d g (λ c. first_of_3 k n o p t u v c h i j))
+
+  pub first_of_8 : (k : ℕ) (r s t u v w x y : Option A) → cond (eqb k 1) r (cond (eqb k 2) s (cond (eqb k 3) t (cond (eqb k 4) u (cond (eqb k 5) v (cond (eqb k 6) w (cond (eqb k 7) x (cond (eqb k 8) y None))))))) ≡ Some z → (k ≡ 1 → r ≡ Some z → P) → (k ≡ 2 → s ≡ Some z → P) → (k ≡ 3 → t ≡ Some z → P) → (k ≡ 4 → u ≡ Some z → P) → (k ≡ 5 → v ≡ Some z → P) → (k ≡ 6 → w ≡ Some z → P) → (k ≡ 7 → x ≡ Some z → P) → (k ≡ 8 → y ≡ Some z → P) → P
+  first_of_8 k r s t u v w x y e f g h i j l m n = chosen k 1 r _ e f (λ a. chosen k 2 s _ a g (λ b. chosen k 3 t _ b h (λ c. first_of_5 k 4 5 6 7 8 u v w x y c i j l m n)))

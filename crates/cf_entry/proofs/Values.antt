@@ -157,7 +157,7 @@ truth_small : (b : Bool) → truth_byte b < 256
 truth_small false = omega arith
 truth_small true = omega arith
 
-codes_truth : Codes (λ b. truth_byte b ∷ []) (λ b. Unit {0}) (pick_at truth_of byte_at)
+pub codes_truth : Codes (λ b. truth_byte b ∷ []) (λ b. Unit {0}) (pick_at truth_of byte_at)
 codes_truth = codes_pick (λ b. b ∷ []) (λ b. b < 256) byte_at truth_of (λ b. truth_byte b ∷ []) (λ b. Unit {0}) codes_byte
     (λ n b fits e. (ap (λ m. m ∷ []) (truth_there n b e), tt))
     (λ b h. (truth_byte b, truth_small b, truth_back b, refl))

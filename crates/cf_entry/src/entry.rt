@@ -1,6 +1,7 @@
 //! What the journal says: its entries.
 use crate::status::Status;
-use cf_tree::{Code, Dict, Listing, Names, Request, Source, Txt};
+use crate::turn::{Cause, Phase, Why};
+use cf_tree::{Code, Dict, Listing, Names, Request, Rows, Source, Txt};
 
 /// The lanes of an opening, in the order in which they were handed in: the name and the resource
 /// type of each.
@@ -20,6 +21,14 @@ pub enum Entry {
         stack: Txt,
         kind: Begun,
     },
+    /// A resource went off its stack's list and became a leftover; the physical id is empty where it
+    /// is not known.
+    Kept {
+        number: u64,
+        path: Txt,
+        physical: Txt,
+        why: Why,
+    },
     /// A request is about to be made of a lane, for the resource at a path, under a token that no
     /// other request has.
     Intent {
@@ -37,11 +46,26 @@ pub enum Entry {
         before: u64,
         after: u64,
     },
+    /// An operation entered a phase; it has a cause exactly where it turns back.
+    Phase {
+        number: u64,
+        phase: Phase,
+        cause: Option<Cause>,
+    },
     /// An operation ended in a status; the paths are those that failed.
     Done {
         number: u64,
         status: Status,
         failed: Names,
+    },
+    /// A change set was made for a stack; the numbers count the change sets from 1. `outputs` tells
+    /// whether outputs differ or may differ.
+    ChangeSet {
+        number: u64,
+        stack: Txt,
+        source: Source,
+        rows: Rows,
+        outputs: bool,
     },
 }
 

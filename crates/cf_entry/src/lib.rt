@@ -6,6 +6,7 @@ mod put;
 mod size;
 mod status;
 mod take;
+mod turn;
 mod unread;
 
 pub use entry::{Begun, Entries, Entry, LaneNames, Reply};
@@ -13,6 +14,7 @@ pub use put::entry::write_entry;
 pub use size::entry_size;
 pub use status::Status;
 pub use take::entry::read_entry;
+pub use turn::{Cause, Phase, Reason, Why};
 
 #[cfg(test)]
 mod tests;

@@ -1,11 +1,15 @@
 //! The pieces that every entry is written from. Each needs its room and takes no memory.
 ghost use Rattle.std.specs.Prelude.{◌<◌, ◌^◌, [], ◌∷◌, length};
-ghost use Rattle.cf_entry.specs.Bytes.{four_bytes, eight_bytes, text_bytes, list_bytes, pair_bytes, IsText, IsPair, IsTemplate, AreAll, HasRoom, Adds};
+ghost use Rattle.cf_entry.specs.Bytes.{truth_byte, four_bytes, eight_bytes, text_bytes, list_bytes, pair_bytes, IsText, IsPair, IsTemplate, AreAll, HasRoom, Adds};
 
 pub mod entry;
+mod row;
+mod turn;
 mod value;
 
 use cf_tree::{Bytes, Txt};
+pub use row::put_rows;
+pub use turn::put_cause_if_any;
 pub use value::{put_dict, put_value};
 
 /// Bytes as they are.
@@ -25,6 +29,14 @@ pub fn put_byte(to: &mut Vec<u8>, byte: u8)
     ensures { Adds to.old to.new (byte ∷ []) }
 {
     to.push_reserved(byte);
+}
+
+/// A truth value.
+pub fn put_truth(to: &mut Vec<u8>, truth: bool)
+    requires { HasRoom to.old (truth_byte truth ∷ []) }
+    ensures { Adds to.old to.new (truth_byte truth ∷ []) }
+{
+    put_byte(to, u8::from(truth));
 }
 
 /// A number in four bytes.

@@ -1,12 +1,13 @@
 //! How long the spelling of an entry is.
 ghost use Rattle.std.specs.Prelude.{◌≡◌, length};
 ghost use Rattle.cf_tree.specs.SizeOf.{capped};
-ghost use Rattle.cf_entry.specs.Bytes.{text_bytes, list_bytes, pair_bytes};
+ghost use Rattle.cf_entry.specs.Bytes.{text_bytes, list_bytes, option_bytes, pair_bytes};
 ghost use Rattle.cf_entry.specs.Value.{dict_bytes};
-ghost use Rattle.cf_entry.specs.Entry.{spelling_of, begun_bytes, source_bytes, request_bytes, reply_bytes};
+ghost use Rattle.cf_entry.specs.Entry.{spelling_of, begun_bytes, source_bytes, request_bytes, reply_bytes, cause_bytes, row_bytes, detail_bytes};
 
 use crate::entry::{Begun, Entry, Reply};
-use cf_tree::{Bytes, Dict, Request, Source, Txt, size_of_txt, sum_of_sizes};
+use crate::turn::Cause;
+use cf_tree::{Bytes, Detail, Dict, Request, Row, Source, Txt, size_of_txt, sum_of_sizes};
 
 /// How long the spelling of an entry is, where 2^63 stands for every greater length; it takes no
 /// memory.
@@ -20,6 +21,12 @@ pub fn entry_size(entry: &Entry) -> u64
             stack,
             kind,
         } => sum_of_sizes(9, sum_of_sizes(text_size(stack), begun_size(kind))),
+        Entry::Kept {
+            number: _,
+            path,
+            physical,
+            why: _,
+        } => sum_of_sizes(10, sum_of_sizes(text_size(path), text_size(physical))),
         Entry::Intent {
             number: _,
             token: _,
@@ -37,11 +44,26 @@ pub fn entry_size(entry: &Entry) -> u64
             before: _,
             after: _,
         } => sum_of_sizes(33, reply_size(answer)),
+        Entry::Phase {
+            number: _,
+            phase: _,
+            cause,
+        } => sum_of_sizes(10, cause_size(cause)),
         Entry::Done {
             number: _,
             status: _,
             failed,
         } => sum_of_sizes(10, texts_size(failed.as_slice())),
+        Entry::ChangeSet {
+            number: _,
+            stack,
+            source,
+            rows,
+            outputs: _,
+        } => {
+            let front = sum_of_sizes(text_size(stack), source_size(source));
+            sum_of_sizes(10, sum_of_sizes(front, rows_size(rows.as_slice())))
+        }
     }
 }
 
@@ -146,4 +168,49 @@ fn reply_size(reply: &Reply) -> u64
         Reply::Failed { code: _ } => 2,
         Reply::Doubt => 1,
     }
+}
+
+/// The length of a cause, or of the byte that says that there is none.
+fn cause_size(cause: &Option<Cause>) -> u64
+    ensures { result ≡ capped (length (option_bytes cause_bytes cause.now)) }
+{
+    match cause {
+        None => 1,
+        Some(Cause::Handler { path, reason: _ }) => sum_of_sizes(3, text_size(path)),
+        Some(Cause::Plan { fault }) => sum_of_sizes(2, text_size(fault)),
+        Some(Cause::Export { name }) => sum_of_sizes(2, text_size(name)),
+    }
+}
+
+fn rows_size(rows: &[Row]) -> u64
+    ensures { result ≡ capped (length (list_bytes row_bytes rows.now)) }
+{
+    let mut total = 4;
+    for row in rows.iter() {
+        total = sum_of_sizes(total, row_size(row));
+    }
+    total
+}
+
+fn row_size(row: &Row) -> u64
+    ensures { result ≡ capped (length (row_bytes row.now)) }
+{
+    let texts = sum_of_sizes(text_size(&row.path), text_size(&row.kind));
+    sum_of_sizes(3, sum_of_sizes(texts, details_size(row.details.as_slice())))
+}
+
+fn details_size(details: &[Detail]) -> u64
+    ensures { result ≡ capped (length (list_bytes detail_bytes details.now)) }
+{
+    let mut total = 4;
+    for detail in details.iter() {
+        total = sum_of_sizes(total, detail_size(detail));
+    }
+    total
+}
+
+fn detail_size(detail: &Detail) -> u64
+    ensures { result ≡ capped (length (detail_bytes detail.now)) }
+{
+    sum_of_sizes(3, text_size(&detail.name))
 }

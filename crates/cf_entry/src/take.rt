@@ -3,13 +3,16 @@ ghost use Rattle.std.specs.Prelude.{◌≡◌, ℕ, List, Option};
 ghost use Rattle.cf_entry.specs.Reading.{Gives, byte_at, four_at, eight_at, run_at, text_at, list_at, many_at, pair_at, template_at};
 
 pub mod entry;
+mod row;
+mod turn;
 mod value;
 
 use crate::unread::Unread;
 use cf_tree::{Bytes, Txt};
 use std::alloc::Global;
 use std::str;
-pub use value::{take_dict, take_value};
+pub use turn::{take_cause_if_any, take_phase, take_why};
+pub use value::{take_dict, take_truth};
 
 /// One byte.
 pub fn take_byte(bytes: &[u8]) -> Result<(u8, &[u8]), Unread>

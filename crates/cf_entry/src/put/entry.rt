@@ -1,15 +1,18 @@
 //! How entries are written.
 ghost use Rattle.std.specs.Prelude.{◌≡◌, ◌+◌, ◌<◌, ◌≤◌, ◌^◌, ◌++◌, length, vec_len, vec_capacity, IsTrue, List, ℕ, [], Some, None};
 ghost use Rattle.cf_entry.specs.Bytes.{HasRoom, Adds, AreAll, IsText};
+ghost use Rattle.cf_entry.specs.Numbers.{has_cause};
 ghost use Rattle.cf_entry.specs.Status.{is_end};
-ghost use Rattle.cf_entry.specs.Entry.{spelling_of, begun_bytes, parts_bytes, source_bytes, request_bytes, reply_bytes, IsEntry, IsProper, IsTied, IsBegun, IsSource, IsRequest, IsReply};
+ghost use Rattle.cf_entry.specs.Entry.{spelling_of, begun_bytes, parts_bytes, source_bytes, request_bytes, reply_bytes, IsEntry, IsProper, IsFor, IsTied, IsBegun, IsSource, IsRequest, IsReply};
 
 use crate::entry::{Begun, Entry, LaneNames, Reply};
 use crate::put::{
-    put_byte, put_dict, put_eight, put_four, put_pairs, put_templates, put_text, put_texts,
+    put_byte, put_cause_if_any, put_dict, put_eight, put_four, put_pairs, put_rows, put_templates,
+    put_text, put_texts, put_truth,
 };
 use crate::status::Status;
-use cf_tree::{Names, Request, Source, Txt};
+use crate::turn::{Cause, Phase, Why};
+use cf_tree::{Names, Request, Rows, Source, Txt};
 
 /// Appends the one spelling of an entry, of `entry_size` bytes; it takes no memory.
 ///
@@ -32,6 +35,12 @@ pub fn write_entry(entry: &Entry, to: &mut Vec<u8>)
             stack,
             kind,
         } => put_begin(to, *number, stack, kind),
+        Entry::Kept {
+            number,
+            path,
+            physical,
+            why,
+        } => put_kept(to, *number, path, physical, *why),
         Entry::Intent {
             number,
             token,
@@ -46,11 +55,23 @@ pub fn write_entry(entry: &Entry, to: &mut Vec<u8>)
             before,
             after,
         } => put_outcome(to, (*number, *token), answer, (*before, *after)),
+        Entry::Phase {
+            number,
+            phase,
+            cause,
+        } => put_phase(to, *number, *phase, cause),
         Entry::Done {
             number,
             status,
             failed,
         } => put_done(to, *number, *status, failed),
+        Entry::ChangeSet {
+            number,
+            stack,
+            source,
+            rows,
+            outputs,
+        } => put_change_set(to, *number, stack, source, rows, *outputs),
     }
 }
 
@@ -128,6 +149,19 @@ fn put_source(to: &mut Vec<u8>, source: &Source)
     put_pairs(to, source.imports.as_slice());
 }
 
+fn put_kept(to: &mut Vec<u8>, number: u64, path: &Txt, physical: &Txt, why: Why)
+    requires small { length (spelling_of (Entry.Kept number path.now physical.now why)) < 2 ^ 32 }
+    requires room { HasRoom to.old (spelling_of (Entry.Kept number path.now physical.now why)) }
+    ensures added { Adds to.old to.new (spelling_of (Entry.Kept number path.now physical.now why)) }
+    ensures fits { IsEntry (Entry.Kept number path.now physical.now why) }
+{
+    put_byte(to, 3);
+    put_eight(to, number);
+    put_text(to, path);
+    put_text(to, physical);
+    put_byte(to, why.number());
+}
+
 fn put_intent(to: &mut Vec<u8>, number: u64, token: u64, lane: &Txt, path: &Txt, request: &Request)
     requires small { length (spelling_of (Entry.Intent number token lane.now path.now request.now)) < 2 ^ 32 }
     requires room { HasRoom to.old (spelling_of (Entry.Intent number token lane.now path.now request.now)) }
@@ -156,6 +190,18 @@ fn put_outcome(to: &mut Vec<u8>, numbers: (u64, u64), answer: &Reply, counts: (u
     put_eight(to, counts.1);
 }
 
+fn put_phase(to: &mut Vec<u8>, number: u64, phase: Phase, cause: &Option<Cause>)
+    requires small { length (spelling_of (Entry.Phase number phase cause.now)) < 2 ^ 32 }
+    requires room { HasRoom to.old (spelling_of (Entry.Phase number phase cause.now)) }
+    ensures added { Adds to.old to.new (spelling_of (Entry.Phase number phase cause.now)) }
+    ensures fits { IsTrue (has_cause phase cause.now) → IsEntry (Entry.Phase number phase cause.now) }
+{
+    put_byte(to, 6);
+    put_eight(to, number);
+    put_byte(to, phase.number());
+    put_cause_if_any(to, cause);
+}
+
 fn put_done(to: &mut Vec<u8>, number: u64, status: Status, failed: &Names)
     requires small { length (spelling_of (Entry.Done number status failed.now)) < 2 ^ 32 }
     requires room { HasRoom to.old (spelling_of (Entry.Done number status failed.now)) }
@@ -166,6 +212,27 @@ fn put_done(to: &mut Vec<u8>, number: u64, status: Status, failed: &Names)
     put_eight(to, number);
     put_byte(to, status.number());
     put_texts(to, failed.as_slice());
+}
+
+fn put_change_set(
+    to: &mut Vec<u8>,
+    number: u64,
+    stack: &Txt,
+    source: &Source,
+    rows: &Rows,
+    outputs: bool,
+)
+    requires small { length (spelling_of (Entry.ChangeSet number stack.now source.now rows.now outputs)) < 2 ^ 32 }
+    requires room { HasRoom to.old (spelling_of (Entry.ChangeSet number stack.now source.now rows.now outputs)) }
+    ensures added { Adds to.old to.new (spelling_of (Entry.ChangeSet number stack.now source.now rows.now outputs)) }
+    ensures fits { IsFor stack.now source.now → IsEntry (Entry.ChangeSet number stack.now source.now rows.now outputs) }
+{
+    put_byte(to, 8);
+    put_eight(to, number);
+    put_text(to, stack);
+    put_source(to, source);
+    put_rows(to, rows.as_slice());
+    put_truth(to, outputs);
 }
 
 fn put_request(to: &mut Vec<u8>, request: &Request)

@@ -5,7 +5,7 @@ ghost use Rattle.cf_tree.specs.Value.{datum_of};
 ghost use Rattle.cf_entry.specs.Bytes.{HasRoom, Adds};
 ghost use Rattle.cf_entry.specs.Value.{value_bytes, values_bytes, dict_bytes, IsValue, IsList, IsDict};
 
-use crate::put::{put_byte, put_eight, put_four, put_text};
+use crate::put::{put_byte, put_eight, put_four, put_text, put_truth};
 use cf_tree::{Dict, Val, Vals};
 
 /// A value behind the byte for its kind.
@@ -27,7 +27,7 @@ pub fn put_value(to: &mut Vec<u8>, value: &Val)
         }
         Val::Truth(truth) => {
             put_byte(to, 3);
-            put_byte(to, u8::from(*truth));
+            put_truth(to, *truth);
         }
         Val::List(values) => {
             put_byte(to, 4);

@@ -5,13 +5,18 @@ ghost use Rattle.cf_tree.specs.Codes.{code_of};
 ghost use Rattle.cf_entry.specs.Entry.{spelling_of, texts_ascend, IsEntry};
 ghost use Rattle.cf_entry.specs.declared.entry.Entry.{Entry};
 ghost use Rattle.cf_entry.specs.Status.{status_numbered};
-ghost use Rattle.cf_entry.specs.EntryReading.{properties_at, source_at, begun_at, begun_of, request_at, reply_at, end_of, opened_at, begin_at, intent_at, outcome_at, done_at, entry_at, entry_of};
+ghost use Rattle.cf_entry.specs.EntryReading.{properties_at, source_at, begun_at, begun_of, request_at, reply_at, end_of, opened_at, begin_at, kept_at, intent_at, outcome_at, phase_at, done_at, change_set_at, row_at, entry_at, entry_of};
 
 use crate::entry::{Begun, Entry, Reply};
 use crate::status::Status;
-use crate::take::{take_byte, take_dict, take_eight, take_list, take_text};
+use crate::take::{
+    take_byte, take_cause_if_any, take_dict, take_eight, take_list, take_phase, take_text,
+    take_truth, take_why,
+};
 use crate::unread::Unread;
-use cf_tree::{ByName, Code, Dict, Listing, Names, NoMemory, Pairs, Request, Source, Texts, Txt};
+use cf_tree::{
+    ByName, Code, Dict, Listing, Names, NoMemory, Pairs, Request, Rows, Source, Texts, Txt,
+};
 use std::alloc::Global;
 
 /// The entry whose spelling these bytes are, all of them, and None exactly where no entry has just
@@ -59,9 +64,12 @@ fn take_entry(alloc: Global, bytes: &[u8]) -> Result<(Entry, &[u8]), Unread>
     match kind {
         1 => take_opened(alloc, rest),
         2 => take_begin(alloc, rest),
+        3 => take_kept(alloc, rest),
         4 => take_intent(alloc, rest),
         5 => take_outcome(alloc, rest),
+        6 => take_phase_entry(alloc, rest),
         7 => take_done(alloc, rest),
+        8 => take_change_set(alloc, rest),
         _ => Err(Unread::NoEntry),
     }
 }
@@ -209,6 +217,23 @@ fn take_names(alloc: Global, bytes: &[u8]) -> Result<(Names, &[u8]), Unread>
     Ok((Names::from_vec(names), rest))
 }
 
+#[tactic(auto, unfolding(crate::specs::EntryReading::kept_at))]
+fn take_kept(alloc: Global, bytes: &[u8]) -> Result<(Entry, &[u8]), Unread>
+    ensures { Gives (λ x. (x.0, x.1.now)) result (kept_at bytes.now) }
+{
+    let (number, rest) = take_eight(bytes)?;
+    let (path, rest) = take_text(alloc, rest)?;
+    let (physical, rest) = take_text(alloc, rest)?;
+    let (why, rest) = take_why(rest)?;
+    let kept = Entry::Kept {
+        number,
+        path,
+        physical,
+        why,
+    };
+    Ok((kept, rest))
+}
+
 #[tactic(auto, unfolding(crate::specs::EntryReading::intent_at))]
 fn take_intent(alloc: Global, bytes: &[u8]) -> Result<(Entry, &[u8]), Unread>
     ensures { Gives (λ x. (x.0, x.1.now)) result (intent_at bytes.now) }
@@ -308,6 +333,24 @@ fn take_code(bytes: &[u8]) -> Result<(Code, &[u8]), Unread>
     }
 }
 
+#[tactic(auto, unfolding(crate::specs::EntryReading::phase_at))]
+fn take_phase_entry(alloc: Global, bytes: &[u8]) -> Result<(Entry, &[u8]), Unread>
+    ensures { Gives (λ x. (x.0, x.1.now)) result (phase_at bytes.now) }
+{
+    let (number, rest) = take_eight(bytes)?;
+    let (phase, rest) = take_phase(rest)?;
+    let (cause, rest) = take_cause_if_any(alloc, rest)?;
+    if !phase.has_cause(&cause) {
+        return Err(Unread::NoEntry);
+    }
+    let turn = Entry::Phase {
+        number,
+        phase,
+        cause,
+    };
+    Ok((turn, rest))
+}
+
 #[tactic(auto, unfolding(crate::specs::EntryReading::done_at))]
 fn take_done(alloc: Global, bytes: &[u8]) -> Result<(Entry, &[u8]), Unread>
     ensures { Gives (λ x. (x.0, x.1.now)) result (done_at bytes.now) }
@@ -332,4 +375,30 @@ fn take_end(bytes: &[u8]) -> Result<(Status, &[u8]), Unread>
         Some(status) if status.is_end() => Ok((status, rest)),
         _ => Err(Unread::NoEntry),
     }
+}
+
+#[tactic(auto, unfolding(crate::specs::EntryReading::change_set_at))]
+fn take_change_set(alloc: Global, bytes: &[u8]) -> Result<(Entry, &[u8]), Unread>
+    ensures { Gives (λ x. (x.0, x.1.now)) result (change_set_at bytes.now) }
+{
+    let (number, rest) = take_eight(bytes)?;
+    let (stack, rest) = take_text(alloc, rest)?;
+    let (source, rest) = take_source(alloc, &stack, rest)?;
+    let (rows, rest) = take_rows(alloc, rest)?;
+    let (outputs, rest) = take_truth(rest)?;
+    let set = Entry::ChangeSet {
+        number,
+        stack,
+        source,
+        rows,
+        outputs,
+    };
+    Ok((set, rest))
+}
+
+fn take_rows(alloc: Global, bytes: &[u8]) -> Result<(Rows, &[u8]), Unread>
+    ensures { Gives (λ x. (x.0, x.1.now)) result (list_at row_at bytes.now) }
+{
+    let (rows, rest) = take_list(alloc, bytes)?;
+    Ok((Rows::from_vec(rows), rest))
 }

@@ -11,7 +11,7 @@ use std::alloc::Global;
 /// A value behind the byte for its kind, of at most so many levels of lists and dictionaries.
 #[cycle(take_value)]
 #[tactic(auto, unfolding(crate::specs::Reading::value_at))]
-pub fn take_value(alloc: Global, depth: usize, bytes: &[u8]) -> Result<(Val, &[u8]), Unread>
+fn take_value(alloc: Global, depth: usize, bytes: &[u8]) -> Result<(Val, &[u8]), Unread>
     ensures { Gives (λ x. (datum_of x.0, x.1.now)) result (value_at depth bytes.now) }
 {
     if depth == 0 {
@@ -43,7 +43,8 @@ pub fn take_value(alloc: Global, depth: usize, bytes: &[u8]) -> Result<(Val, &[u
     }
 }
 
-fn take_truth(bytes: &[u8]) -> Result<(bool, &[u8]), Unread>
+/// A truth value.
+pub fn take_truth(bytes: &[u8]) -> Result<(bool, &[u8]), Unread>
     ensures { Gives (λ x. (x.0, x.1.now)) result (pick_at truth_of byte_at bytes.now) }
 {
     let (truth, rest) = take_byte(bytes)?;
