@@ -9,6 +9,8 @@ mod line;
 mod print;
 mod report;
 mod status_name;
+#[cfg(test)]
+mod tests;
 mod top;
 mod words;
 
