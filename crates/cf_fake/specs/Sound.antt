@@ -1,0 +1,38 @@
+-- What the handler in memory keeps true: each success is of an id that a token made, with short attributes; so is each live resource.
+use Rattle.std.specs.Prelude.{ℕ, ◌^◌, Bool, true, ◌&&◌, List, [], nat_le, nat_lt, IsTrue}
+use Rattle.std.specs.Str.{bytes_eq}
+use Rattle.std.specs.List.{list_all, list_any}
+use Rattle.cf_tree.specs.SizeOf.{size_of_dict}
+use Rattle.cf_handler.specs.Lane.{LaneState, Live, live_of}
+use Rattle.cf_handler.specs.declared.settled.Settlement.{Settlement}
+use Rattle.cf_handler.specs.declared.settled.Settlement.TheVariants.{Success, Failed}
+use Rattle.cf_handler.specs.declared.settled.Settled.{Settled}
+use Rattle.cf_fake.specs.Table.{id_of}
+use Rattle.cf_fake.specs.Live.{differ}
+
+-- the id is that of a settled token
+abbrev pub is_made_by : List ℕ → List ℕ → Settled → Bool
+is_made_by name id s = bytes_eq (id_of name s.token) id && nat_lt s.token (2 ^ 64)
+
+abbrev pub is_known : List ℕ → List Settled → List ℕ → Bool
+is_known name settled id = list_any (is_made_by name id) settled
+
+abbrev pub is_sound : List ℕ → List Settled → Settlement → Bool
+is_sound name all (Success physical attrs) = is_known name all physical && nat_le (size_of_dict attrs) 524288
+is_sound name all (Failed code) = true
+
+abbrev pub are_sound : List ℕ → List Settled → List Settled → Bool
+are_sound name all settled = list_all (λ s. is_sound name all s.settlement) settled
+
+abbrev pub are_known : List ℕ → List Settled → List Live → Bool
+are_known name settled live = list_all (λ r. is_known name settled r.id) live
+
+-- what the handler tells: nothing was live at first
+abbrev pub lane_of : List Settled → LaneState
+lane_of settled = record { base = []; settled = settled }
+
+-- what the handler keeps true of the settled calls: their answers are sound, and what is live has ids of settled tokens, which differ
+pub record IsKept (name : List ℕ) (settled : List Settled) : Type 0 where
+  pub sound : IsTrue (are_sound name settled settled)
+  pub known : IsTrue (are_known name settled (live_of (lane_of settled)))
+  pub differ : IsTrue (differ (live_of (lane_of settled)))

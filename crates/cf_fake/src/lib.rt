@@ -1,0 +1,14 @@
+//! Handlers in memory, which answer by a table and fail by plan.
+#![tactic(auto)]
+
+mod answer;
+mod live;
+mod memory;
+mod plan;
+mod planned;
+mod table;
+mod types;
+
+pub use memory::MemoryHandler;
+pub use plan::Plan;
+pub use planned::{Break, Planned};

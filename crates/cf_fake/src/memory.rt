@@ -1,0 +1,278 @@
+//! The handler in memory.
+ghost use Rattle.std.specs.Prelude.{◌≡◌, [], ◌∷◌, ◌++◌, IsTrue, IfOk, IfSome, OnErr, Some, None, is_some, codes};
+ghost use Rattle.std.specs.Coded.{Coded-set, coded_list};
+ghost use Rattle.cf_fake.specs.Codes.{live_code};
+ghost use Rattle.cf_fake.specs.Types.{file_schema, record_schema};
+ghost use Rattle.cf_handler.specs.Lane.{settlement_of, changed_by, live_of};
+ghost use Rattle.cf_handler.specs.Name.{is_lane_name};
+ghost use Rattle.cf_handler.specs.Move.{HasCause, IsShort, LaneMove};
+ghost use Rattle.cf_fake.specs.Live.{lives, differ};
+ghost use Rattle.cf_fake.specs.Sound.{lane_of, IsKept};
+ghost use Rattle.cf_fake.specs.Table.{answer_to};
+ghost use Rattle.cf_fake.specs.Refusable.{may_break};
+ghost use Rattle.cf_fake.specs.Plan.{break_at, settled_by, told_by, IsWorked, new_entry, AnswersByTable, next, counted, IsSameBut};
+
+use crate::answer::{answer_to, told_by};
+use crate::live::{LiveResource, apply};
+use crate::plan::{Plan, break_at};
+use crate::planned::Break;
+use crate::types::{file_schema, record_schema};
+use cf_handler::{Handler, Settled, Settlement, settlement_of};
+use cf_schema::Schema;
+use cf_tree::{Answer, Request, Txt};
+use std::alloc::{AllocError, Global};
+
+/// A handler of one type that keeps its resources in memory.
+///
+/// A Create makes a resource whose id is the lane's name, a colon and the token in decimal. A Create or an Update is
+/// refused as `InvalidRequest` where a property is none of the type's or read-only, a value is no text, a required
+/// property is missing, or all encode to more than 262,144 bytes; a Create as `AlreadyExists` where the create-only
+/// and conditional properties all equal those of a live resource, absent ones counted as equal; an Update or a Delete
+/// of an id that is not live as `NotFound`; an Update as `NotUpdatable` where it changes a create-only property, or a
+/// conditional one whose old value is the text `sealed`. The attributes are all properties, `Id`, and `Length`, the
+/// bytes of `Content` if that property is there, else of `Value`. The calls of its plan are broken as that says.
+#[derive(Drop)]
+pub struct MemoryHandler {
+    alloc: Global,
+    name: Txt,
+    schema: Schema,
+    plan: Plan,
+    calls: u64,
+    faults: u64,
+    settled: Vec<Settled>,
+    live: Vec<LiveResource>,
+    ghost named: { IsTrue (is_lane_name name) },
+    ghost kept: { IsKept name settled.items },
+    ghost same: { lives live.items ≡ live_of (lane_of settled.items) } by { Coded-set (coded_list live_code) (lives live.items) (live_of (lane_of settled.items)) },
+}
+
+/// The count of refusals and faults after an answer.
+fn faults_after(faults: u64, is_broken: bool, answer: &Answer) -> u64
+    ensures value { result ≡ counted is_broken answer.now faults }
+    ensures cause { HasCause faults result answer.now }
+{
+    match answer {
+        Answer::Success {
+            physical: _,
+            attrs: _,
+        } => {
+            if is_broken {
+                faults.saturating_add(1)
+            } else {
+                faults
+            }
+        }
+        Answer::Failed { code: _ } => faults.saturating_add(1),
+        Answer::Fault => faults.saturating_add(1),
+        Answer::NoMemory => faults,
+    }
+}
+
+/// Settles a token and does to the live resources what that says. After an error both are as they were.
+fn keep(
+    alloc: Global,
+    settled: &mut Vec<Settled>,
+    live: &mut Vec<LiveResource>,
+    token: u64,
+    request: &Request,
+    settlement: Settlement,
+) -> Result<(), AllocError>
+    requires { IsTrue (differ (lives live.old.items)) }
+    ensures settled { IfOk result (λ _. settled.new.items ≡ settled.old.items ++ record { token = token; request = request.now; settlement = settlement } ∷ []) }
+    ensures live { IfOk result (λ _. lives live.new.items ≡ changed_by request.now settlement (lives live.old.items)) }
+    ensures settled_before { OnErr result (settled.new.items ≡ settled.old.items) }
+    ensures live_before { OnErr result (live.new.items ≡ live.old.items) }
+{
+    let kept = request.try_clone(alloc)?;
+    settled.reserve(1)?;
+    apply(alloc, live, request, &settlement)?;
+    settled.push(Settled {
+        token,
+        request: kept,
+        settlement,
+    })?;
+    Ok(())
+}
+
+impl MemoryHandler {
+    /// A handler of that name and type in which nothing is live, whose plan breaks calls.
+    ///
+    /// The name is a lane's: 1 to 64 letters, digits and hyphens. Where memory is wanting there is no handler.
+    pub fn new(
+        alloc: Global,
+        name: &str,
+        schema: Schema,
+        plan: Plan,
+    ) -> Result<MemoryHandler, AllocError>
+        requires { IsTrue (is_lane_name name.now) }
+        ensures tells { IfOk result (λ h. (⟦<MemoryHandler as Handler>⟧.label h ≡ name.now) × (⟦<MemoryHandler as Handler>⟧.of_kind h ≡ schema.kind) × (⟦<MemoryHandler as Handler>⟧.told h ≡ Some (record { base = []; settled = [] })) × (⟦<MemoryHandler as Handler>⟧.count h ≡ 0)) }
+        ensures plan { IfOk result (λ h. (h.schema ≡ schema) × (h.plan ≡ plan) × (h.calls ≡ 0)) }
+    {
+        Ok(MemoryHandler {
+            alloc,
+            name: Txt::from_str(alloc, name)?,
+            schema,
+            plan,
+            calls: 0,
+            faults: 0,
+            settled: Vec::new(alloc),
+            live: Vec::new(alloc),
+        })
+    }
+
+    /// A handler of files.
+    pub fn files(alloc: Global, name: &str, plan: Plan) -> Result<MemoryHandler, AllocError>
+        requires { IsTrue (is_lane_name name.now) }
+        ensures tells { IfOk result (λ h. (⟦<MemoryHandler as Handler>⟧.label h ≡ name.now) × (⟦<MemoryHandler as Handler>⟧.of_kind h ≡ codes "Local::Files::File") × (⟦<MemoryHandler as Handler>⟧.told h ≡ Some (record { base = []; settled = [] })) × (⟦<MemoryHandler as Handler>⟧.count h ≡ 0)) }
+        ensures plan { IfOk result (λ h. (h.schema ≡ file_schema) × (h.plan ≡ plan) × (h.calls ≡ 0)) }
+    {
+        MemoryHandler::new(alloc, name, file_schema(alloc)?, plan)
+    }
+
+    /// A handler of records.
+    pub fn records(alloc: Global, name: &str, plan: Plan) -> Result<MemoryHandler, AllocError>
+        requires { IsTrue (is_lane_name name.now) }
+        ensures tells { IfOk result (λ h. (⟦<MemoryHandler as Handler>⟧.label h ≡ name.now) × (⟦<MemoryHandler as Handler>⟧.of_kind h ≡ codes "Local::Records::Record") × (⟦<MemoryHandler as Handler>⟧.told h ≡ Some (record { base = []; settled = [] })) × (⟦<MemoryHandler as Handler>⟧.count h ≡ 0)) }
+        ensures plan { IfOk result (λ h. (h.schema ≡ record_schema) × (h.plan ≡ plan) × (h.calls ≡ 0)) }
+    {
+        MemoryHandler::new(alloc, name, record_schema(alloc)?, plan)
+    }
+
+    /// The answer of the table to a new token.
+    fn work(&self, token: u64, request: &Request) -> Result<Settlement, AllocError>
+        ensures { IfOk result (λ s. s ≡ answer_to self.now.schema self.now.name token (live_of (lane_of self.now.settled.items)) request.now) }
+    {
+        answer_to(
+            self.alloc,
+            &self.schema,
+            self.name.as_str(),
+            token,
+            self.live.as_slice(),
+            request,
+        )
+    }
+
+    /// What a new token is settled with.
+    fn decide(
+        &self,
+        token: u64,
+        request: &Request,
+        planned: Option<Break>,
+    ) -> Result<Settlement, AllocError>
+        ensures { IfOk result (λ s. s ≡ settled_by planned (answer_to self.now.schema self.now.name token (live_of (lane_of self.now.settled.items)) request.now)) }
+    {
+        match planned {
+            Some(Break::Refuse(code)) => Ok(Settlement::Failed { code }),
+            _ => self.work(token, request),
+        }
+    }
+
+    /// Settles a new token.
+    fn settle(
+        &mut self,
+        token: u64,
+        request: &Request,
+        planned: Option<Break>,
+    ) -> Result<Answer, AllocError>
+        requires new { settlement_of token self.old.settled.items ≡ None }
+        requires fits { IfSome planned (λ b. IsTrue (may_break b)) }
+        ensures stays { IsSameBut self.old.name self.old.schema self.old.plan self.old.calls self.old.faults self.new.name self.new.schema self.new.plan self.new.calls self.new.faults }
+        ensures ok { IfOk result (λ a. (a ≡ told_by planned (new_entry planned self.old.schema self.old.name token request.now self.old.settled.items).settlement) × (self.new.settled.items ≡ self.old.settled.items ++ new_entry planned self.old.schema self.old.name token request.now self.old.settled.items ∷ [])) }
+        ensures err { OnErr result (self.new.settled.items ≡ self.old.settled.items) }
+    {
+        let settlement = self.decide(token, request, planned)?;
+        let answer = told_by(self.alloc, planned, &settlement)?;
+        keep(
+            self.alloc,
+            &mut self.settled,
+            &mut self.live,
+            token,
+            request,
+            settlement,
+        )?;
+        Ok(answer)
+    }
+
+    /// The answer to a token that is worked: of a settled one again, or of a new one.
+    fn answer(
+        &mut self,
+        token: u64,
+        request: &Request,
+        planned: Option<Break>,
+    ) -> Result<Answer, AllocError>
+        requires { IfSome planned (λ b. IsTrue (may_break b)) }
+        ensures stays { IsSameBut self.old.name self.old.schema self.old.plan self.old.calls self.old.faults self.new.name self.new.schema self.new.plan self.new.calls self.new.faults }
+        ensures ok { IfOk result (λ a. IsWorked planned (settlement_of token self.old.settled.items) (new_entry planned self.old.schema self.old.name token request.now self.old.settled.items) self.old.settled.items self.new.settled.items a) }
+        ensures err { OnErr result (self.new.settled.items ≡ self.old.settled.items) }
+    {
+        match settlement_of(self.settled.as_slice(), token) {
+            Some(settlement) => told_by(self.alloc, planned, settlement),
+            None => self.settle(token, request, planned),
+        }
+    }
+
+    /// The answer to a call of which this is planned.
+    fn answer_planned(&mut self, token: u64, request: &Request, planned: Option<Break>) -> Answer
+        requires { IfSome planned (λ b. IsTrue (may_break b)) }
+        ensures stays { IsSameBut self.old.name self.old.schema self.old.plan self.old.calls self.old.faults self.new.name self.new.schema self.new.plan self.new.calls self.new.faults }
+        ensures table { AnswersByTable planned self.old.schema self.old.name token request.now self.old.settled.items self.new.settled.items result }
+    {
+        if let Some(Break::FaultBefore) = planned {
+            return Answer::Fault;
+        }
+        match self.answer(token, request, planned) {
+            Ok(answer) => answer,
+            Err(_) => Answer::NoMemory,
+        }
+    }
+
+    /// Answers a call, as `Handler::call` does.
+    ///
+    /// The call's number, counted from 1, says whether the plan breaks it. A settled token answers as it was settled
+    /// and changes nothing; a new one is settled by the table's answer, or by the code of a refusal. Each refusal and
+    /// fault raises the count of faults, and so does each broken call. `NoMemory` changes no resource, settles
+    /// nothing and raises no count.
+    pub fn answer_call(&mut self, token: u64, request: &Request) -> Answer
+        ensures table { AnswersByTable (break_at self.new.calls self.old.plan) self.old.schema self.old.name token request.now self.old.settled.items self.new.settled.items result }
+        ensures number { self.new.calls ≡ next self.old.calls }
+        ensures count { self.new.faults ≡ counted (is_some (break_at self.new.calls self.old.plan)) result self.old.faults }
+        ensures stays { (self.new.name ≡ self.old.name) × (self.new.schema ≡ self.old.schema) × (self.new.plan ≡ self.old.plan) }
+        ensures cause { HasCause self.old.faults self.new.faults result }
+        ensures moves { IsShort result × LaneMove self.old.name (lane_of self.old.settled.items) (lane_of self.new.settled.items) token request.now result }
+    {
+        self.calls = self.calls.saturating_add(1);
+        let planned = break_at(&self.plan, self.calls);
+        let answer = self.answer_planned(token, request, planned);
+        self.faults = faults_after(self.faults, planned.is_some(), &answer);
+        answer
+    }
+}
+
+impl Handler for MemoryHandler {
+    ghost use Rattle.std.specs.Prelude.{Some};
+    ghost use Rattle.cf_fake.specs.Sound.{lane_of};
+
+    ghost label = { λ h. h.name };
+
+    ghost of_kind = { λ h. h.schema.kind };
+
+    ghost count = { λ h. h.faults };
+
+    ghost told = { λ h. Some (lane_of h.settled.items) };
+
+    fn name(&self) -> &str {
+        self.name.as_str()
+    }
+
+    fn kind(&self) -> &str {
+        self.schema.kind.as_str()
+    }
+
+    fn faults(&self) -> u64 {
+        self.faults
+    }
+
+    fn call(&mut self, token: u64, request: &Request) -> Answer {
+        self.answer_call(token, request)
+    }
+}
