@@ -30,9 +30,9 @@ abbrev pub Says : Outside → Printing → List (List ℕ) → Exit → Type 0
 Says o p words exit.Done = IsMade o p words
 Says o p words (exit.Failed blamed) = HasFailed o p words blamed
 Says o p words (exit.TemplateRefused fault) = IsRefused o words fault × Appends p.held p.held' (exit_line (exit.TemplateRefused fault))
-Says o p words exit.BadWords = (deploy_words words ≡ None) × Appends p.held p.held' (exit_line exit.BadWords)
+Says o p words exit.BadWords = (deploy_words words ≡ None) × (o.told' ≡ o.told) × Appends p.held p.held' (exit_line exit.BadWords)
 Says o p words exit.LibraryFault =
-    ((said : List ℕ × List ℕ) × (deploy_words words ≡ Some said)) × HasRisen o.faults o.faults' × Appends p.held p.held' (exit_line exit.LibraryFault)
+    ((said : List ℕ × List ℕ) × (deploy_words words ≡ Some said)) × HasRisen o.faults o.faults' × (o.told' ≡ o.told) × Appends p.held p.held' (exit_line exit.LibraryFault)
 Says o p words exit.SinkFault = HasRisen p.faults p.faults' × IsCutShort o p words
 Says o p words exit.NoMemory = IsCutShort o p words
 Says o p words _ = ⊥
@@ -61,7 +61,7 @@ refused_says o p words stack template (exit.TemplateRefused fault) s d a = (
   },
   a,
 )
-refused_says o p words stack template exit.LibraryFault s d a = (((stack, template), s), d.0, a)
+refused_says o p words stack template exit.LibraryFault s d a = (((stack, template), s), d.0, d.1, a)
 refused_says o p words stack template exit.NoMemory s d a = cut_whole o p words stack (Refused exit.NoMemory) (inr (inr (template, s, d))) a
 refused_says o p words stack template _ s d a = absurd d.0
 
@@ -108,7 +108,7 @@ deploy_says o p words stack template (Ran rs ms end) s d a = ran_says o p words 
 
 said_by : (o : Outside) (p : Printing) (words : List (List ℕ)) (stack : List ℕ) (outcome : Outcome) → Comes o words stack outcome → Appends p.held p.held' (text_of stack outcome) → Says o p words (exit_of outcome)
 said_by o p words stack outcome (inl (q, n, u)) a =
-    subst (λ (x : Outcome). Says o p words (exit_of x)) (sym q) (n, subst (λ (x : Outcome). Appends p.held p.held' (text_of stack x)) q a)
+    subst (λ (x : Outcome). Says o p words (exit_of x)) (sym q) (n, u.0, subst (λ (x : Outcome). Appends p.held p.held' (text_of stack x)) q a)
 said_by o p words stack outcome (inr (inl (q, u))) a =
     subst (λ (x : Outcome). Says o p words (exit_of x)) (sym q) (cut_whole o p words stack outcome (inr (inl (q, u))) a)
 said_by o p words stack outcome (inr (inr (template, s, d))) a = deploy_says o p words stack template outcome s d a
@@ -185,9 +185,9 @@ printed_by o p words exit.Done s = tt
 printed_by o p words (exit.Failed blamed) s = tt
 printed_by o p words exit.SinkFault s = s.1
 printed_by o p words exit.NoMemory s = s
-printed_by o p words exit.BadWords s = s.1
+printed_by o p words exit.BadWords s = s.2
 printed_by o p words (exit.TemplateRefused fault) s = s.1
-printed_by o p words exit.LibraryFault s = s.2
+printed_by o p words exit.LibraryFault s = s.3
 printed_by o p words _ s = absurd s
 
 -- all of it
@@ -198,8 +198,8 @@ answers_of o p words result t =
       done = said o p words result exit.Done s;
       failed = λ blamed. said o p words result (exit.Failed blamed) s;
       refused = λ fault e. (said o p words result (exit.TemplateRefused fault) s e).0;
-      bad_words = λ e. (said o p words result exit.BadWords s e).0;
-      library = λ e. (said o p words result exit.LibraryFault s e).1;
+      bad_words = λ e. let t = said o p words result exit.BadWords s e in (t.0, t.1);
+      library = λ e. let t = said o p words result exit.LibraryFault s e in (t.1, t.2);
       sink = λ e. (said o p words result exit.SinkFault s e).0;
       no_deploy = no_deploy o p words result s;
       refuses = λ stack template texts fault. refuses o p words result stack template texts fault s;

@@ -137,10 +137,10 @@ pub record IsAnswered (o : Outside) (p : Printing) (words : List (List ℕ)) (re
   pub failed : (blamed : List (List ℕ)) → result ≡ exit.Failed blamed → HasFailed o p words blamed
   -- TemplateRefused comes only where the library or the types refuse
   pub refused : (fault : Refusal) → result ≡ exit.TemplateRefused fault → IsRefused o words fault
-  -- BadWords comes only where the words are no deployment
-  pub bad_words : result ≡ exit.BadWords → deploy_words words ≡ None
-  -- LibraryFault and SinkFault come only where that count rose
-  pub library : result ≡ exit.LibraryFault → HasRisen o.faults o.faults'
+  -- BadWords comes only where the words are no deployment, and nothing is made
+  pub bad_words : result ≡ exit.BadWords → (deploy_words words ≡ None) × (o.told' ≡ o.told)
+  -- LibraryFault and SinkFault come only where that count rose; after the first nothing was made
+  pub library : result ≡ exit.LibraryFault → HasRisen o.faults o.faults' × (o.told' ≡ o.told)
   pub sink : result ≡ exit.SinkFault → HasRisen p.faults p.faults'
   -- where the words are no deployment, BadWords comes, unless it can't be printed
   pub no_deploy : deploy_words words ≡ None → IsOneOf result (exit.BadWords ∷ exit.SinkFault ∷ exit.NoMemory ∷ [])
