@@ -26,126 +26,222 @@ use Rattle.cf_eval.specs.Value.{form_found, node_found, forms_found, fields_foun
 use Rattle.cf_eval.specs.Value as values
 use Rattle.cf_eval.specs.Conditions.{decided_by, test_found, test_node_found, tests_found, equal_values}
 
+module _ (P : List ℕ → List ℕ → Type 0) where
+  -- each condition that is asked for, at its place, is one that P allows
+  abbrev pub Asks : {A : Type 0} → Outcome A → Type 0
+  Asks (got a) = ⊤
+  Asks later = ⊤
+  Asks (bad (fault why at)) = ⊤
+  Asks (bad (undecided name at)) = P at name
+
+  asks_on : {A B : Type 0} (x : Outcome A) (f : A → Outcome B) → Asks x → ((a : A) → Asks (f a)) → Asks (on_got x f)
+  asks_on (got a) f h k = k a
+  asks_on later f h k = tt
+  asks_on (bad (fault why at)) f h k = tt
+  asks_on (bad (undecided name at)) f h k = h
+
+  asks_wrong : {A : Type 0} (at : List ℕ) (o : Option A) → Asks (or_wrong at o)
+  asks_wrong at (Some a) = tt
+  asks_wrong at None = tt
+
+  asks_fault : {A : Type 0} (why : EvalWhy) (at : List ℕ) (o : Option A) → Asks (or_fault why at o)
+  asks_fault why at (Some a) = tt
+  asks_fault why at None = tt
+
+  asks_later : {A : Type 0} (o : Option A) → Asks (or_later o)
+  asks_later (Some a) = tt
+  asks_later None = tt
+
+  asks_text : (at : List ℕ) (o : Option Data) → Asks (wanted_text at o)
+  asks_text at None = tt
+  asks_text at (Some d) = asks_wrong at _
+
+  asks_list : (at : List ℕ) (o : Option Data) → Asks (wanted_list at o)
+  asks_list at None = tt
+  asks_list at (Some d) = asks_wrong at _
+
+  asks_index : (at : List ℕ) (o : Option Data) → Asks (wanted_index at o)
+  asks_index at None = tt
+  asks_index at (Some d) = asks_wrong at _
+
+  asks_both : {A B C : Type 0} (x : Outcome A) (y : Outcome B) (f : A → B → Outcome C) → Asks x → Asks y → ((a : A) (c : B) → Asks (f a c)) → Asks (both x y f)
+  asks_both (got a) y f h k l = asks_on y (f a) k (l a)
+  asks_both later (got c) f h k l = tt
+  asks_both later later f h k l = tt
+  asks_both later (bad (fault why at)) f h k l = tt
+  asks_both later (bad (undecided name at)) f h k l = k
+  asks_both (bad (fault why at)) y f h k l = tt
+  asks_both (bad (undecided name at)) y f h k l = h
+
+  asks_texts : (at : List ℕ) (os : List (Option Data)) → Asks (each (map (wanted_text at) os))
+  asks_texts at [] = tt
+  asks_texts at (o ∷ os) = asks_both (wanted_text at o) (each (map (wanted_text at) os)) _ (asks_text at o) (asks_texts at os) (λ a c. tt)
+
+  asks_members : (at : List ℕ) (ds : List Data) → Asks (each (map (λ m. wanted_text at (Some m)) ds))
+  asks_members at [] = tt
+  asks_members at (d ∷ ds) = asks_both (wanted_text at (Some d)) (each (map (λ m. wanted_text at (Some m)) ds)) _ (asks_text at (Some d)) (asks_members at ds) (λ a c. tt)
+
+  asks_id : (at : List ℕ) (s : Sight) → Asks (id_of at s)
+  asks_id at sight.NotMade = tt
+  asks_id at (sight.Made p a) = asks_on (or_later p) text_value (asks_later p) (λ t. tt)
+  asks_id at (sight.Nested i o) = tt
+
+  asks_resource : (m : Beyond) (at name : List ℕ) → Asks (resource_ref m at name)
+  asks_resource (open_to seen imports) at name = asks_on (or_fault UnknownName at (value_at name seen)) (id_of at) (asks_fault UnknownName at _) (asks_id at)
+  asks_resource (closed_to names) at name = tt
+
+  asks_pseudo : (c : Bool) (o : Option Data) (x : Found) → Asks x → Asks (cond c (got None) (unwrap_or (option_map known o) x))
+  asks_pseudo true o x h = tt
+  asks_pseudo false (Some d) x h = tt
+  asks_pseudo false None x h = h
+
+  asks_setting : (p : Option (Option Data)) (x : Found) → Asks x → Asks (unwrap_or (option_map setting_found p) x)
+  asks_setting None x h = h
+  asks_setting (Some None) x h = tt
+  asks_setting (Some (Some d)) x h = tt
+
+  asks_ref : (s : Scope) (at name : List ℕ) → Asks (ref_found s at name)
+  asks_ref s at name = asks_setting (s.params name) _ (asks_pseudo (bytes_eq (codes "AWS::NoValue") name) (value_at name s.pseudo) _ (asks_resource s.beyond at name))
+
+  asks_output : (at : List ℕ) (o : OutputSight) → Asks (output_found at o)
+  asks_output at output.NotMade = tt
+  asks_output at (output.Made v) = asks_on (or_later v) text_value (asks_later v) (λ t. tt)
+
+  asks_attribute : (at : List ℕ) (s : Sight) (name : List ℕ) → Asks (attribute_of at s name)
+  asks_attribute at sight.NotMade name = tt
+  asks_attribute at (sight.Made p a) name =
+      asks_on (or_later a) _ (asks_later a) (λ all. asks_on (or_fault UnknownAttribute at (value_at name all)) known (asks_fault UnknownAttribute at _) (λ d. tt))
+  asks_attribute at (sight.Nested i o) name = asks_on (or_fault UnknownAttribute at (value_at name o)) (output_found at) (asks_fault UnknownAttribute at _) (asks_output at)
+
+  asks_attribute_in : (m : Beyond) (at id name : List ℕ) → Asks (attribute_in m at id name)
+  asks_attribute_in (open_to seen imports) at id name =
+      asks_on (or_fault UnknownName at (value_at id seen)) _ (asks_fault UnknownName at _) (λ s. asks_attribute at s name)
+  asks_attribute_in (closed_to names) at id name = tt
+
+  asks_cut : (s : Scope) (at name : List ℕ) (o : Option (List ℕ × List ℕ)) → Asks (cut_found s at name o)
+  asks_cut s at name None = asks_ref s at name
+  asks_cut s at name (Some c) = asks_attribute_in s.beyond at c.0 c.1
+
+  asks_mapped : (s : Scope) (at name first second : List ℕ) → Asks (mapped s at name first second)
+  asks_mapped s at name first second =
+      asks_on (or_fault UnknownName at (s.mapping name)) _ (asks_fault UnknownName at _) (λ keys.
+      asks_on (or_fault _ at (value_at first keys)) _ (asks_fault _ at _) (λ values.
+      asks_on (or_fault _ at (value_at second values)) known (asks_fault _ at _) (λ d. tt)))
+
+  asks_imported : (m : Beyond) (at name : List ℕ) → Asks (imported m at name)
+  asks_imported (open_to seen imports) at name = asks_on (or_fault _ at (value_at name imports)) text_value (asks_fault _ at _) (λ t. tt)
+  asks_imported (closed_to names) at name = tt
+
+  asks_nth : (at : List ℕ) (ds : List Data) (n : ℤ) → Asks (nth at ds n)
+  asks_nth at ds (pos n) = asks_on (or_fault _ at (slice_get ds n)) known (asks_fault _ at _) (λ d. tt)
+  asks_nth at ds (negsuc n) = tt
+
+  asks_split : (at d t : List ℕ) → Asks (split_at at d t)
+  asks_split at [] t = tt
+  asks_split at (b ∷ bs) t = tt
+
+  asks_limit : (at : List ℕ) (d : Data) (c : Bool) → Asks {A = Option Data} (cond c (bad (fault TooBig at)) (known d))
+  asks_limit at d true = tt
+  asks_limit at d false = tt
+
+  asks_within : (at : List ℕ) (o : Option Data) → Asks (within at (got o))
+  asks_within at None = tt
+  asks_within at (Some d) = asks_limit at d (nat_lt most_bytes (size_of d))
+
+  asks_limited : (at : List ℕ) (x : Found) → Asks x → Asks (within at x)
+  asks_limited at (got o) h = asks_within at o
+  asks_limited at later h = tt
+  asks_limited at (bad (fault why place)) h = tt
+  asks_limited at (bad (undecided name place)) h = h
+
+  abbrev AllAsk : {A : Type 0} → List (Outcome A) → Type 0
+  AllAsk [] = ⊤
+  AllAsk (x ∷ xs) = Asks x × AllAsk xs
+
+  asks_each : {A : Type 0} (xs : List (Outcome A)) → AllAsk xs → Asks (each xs)
+  asks_each [] h = tt
+  asks_each (x ∷ xs) h = asks_both x (each xs) _ h.0 (asks_each xs h.1) (λ a c. tt)
+
+  asks_named : (fs : List (List ℕ × Found)) → AllAsk (outcomes fs) → AllAsk (map values.named fs)
+  asks_named [] h = tt
+  asks_named (p ∷ ps) h = (asks_on p.1 _ h.0 (λ o. tt), asks_named ps h.1)
+
+  asks_own_by : (c : Bool) (x : Found) (p : Option Found) (y : Found) → Asks x → Asks (unwrap_or p y) → Asks (unwrap_or (cond c (Some x) p) y)
+  asks_own_by true x p y h k = h
+  asks_own_by false x p y h k = k
+
+  asks_own : (name : List ℕ) (fs : List (List ℕ × Found)) (y : Found) → AllAsk (outcomes fs) → Asks y → Asks (unwrap_or (value_at name fs) y)
+  asks_own name [] y h k = k
+  asks_own name (p ∷ ps) y h k = asks_own_by (bytes_eq name p.0) p.1 (value_at name ps) y h.0 (asks_own name ps y h.1 k)
+
+  asks_taken : (c : Bool) (x y : Found) → Asks x → Asks y → Asks (cond c x y)
+  asks_taken true x y h k = h
+  asks_taken false x y h k = k
+
+  module _ (s : Scope) (decides : (at name : List ℕ) → Asks (s.decided at name)) where
+    asks_pieces : (at : List ℕ) (own : List (List ℕ × Found)) → AllAsk (outcomes own) → (ps : List Part) → AllAsk (map (piece_found s at own) ps)
+    asks_pieces at own h [] = tt
+    asks_pieces at own h (Plain t ∷ ps) = (tt, asks_pieces at own h ps)
+    asks_pieces at own h (Name name ∷ ps) = (asks_own name own _ h (asks_cut s at name (cut_at (codes ".") name)), asks_pieces at own h ps)
+
+    asks_import : (at : List ℕ) (x : Found) → Asks x → Asks (import_found s at x)
+    asks_import at (got v) h = asks_on (wanted_text at v) _ (asks_text at v) (asks_imported s.beyond at)
+    asks_import at later h = tt
+    asks_import at (bad (fault why place)) h = tt
+    asks_import at (bad (undecided name place)) h = h
+
+    mutual
+      asks_form : (around : Option (List ℕ)) (e : Form) → Asks (form_found s around e)
+      asks_form around (expr at n) = asks_limited (blamed around at n) _ (asks_node around at n)
+
+      asks_node : (around : Option (List ℕ)) (at : List ℕ) (n : Node) → Asks (node_found s around at n)
+      asks_node around at (lit d) = tt
+      asks_node around at (node.list es) = asks_on _ _ (asks_each _ (asks_forms around es)) (λ os. tt)
+      asks_node around at (node.dict ps) = asks_on _ _ (asks_on _ _ (asks_each _ (asks_named _ (asks_fields around ps))) (λ os. tt)) (λ ms. tt)
+      asks_node around at (ref name) = asks_ref s at name
+      asks_node around at (get_att id x) = asks_on _ _ (asks_on _ _ (asks_form (Some at) x) (asks_text at)) (λ name. asks_attribute_in s.beyond at id name)
+      asks_node around at (sub parts own) =
+          asks_both _ _ _ (asks_each _ (asks_fields (Some at) own)) (asks_each _ (asks_pieces at _ (asks_fields (Some at) own) parts)) (λ os pieces.
+          asks_on (each (map (wanted_text at) pieces)) _ (asks_texts at pieces) (λ ts. tt))
+      asks_node around at (join d e) = asks_on _ _ (asks_on _ _ (asks_form (Some at) e) (asks_list at)) (λ ds. asks_on (each (map (λ m. wanted_text at (Some m)) ds)) _ (asks_members at ds) (λ ts. tt))
+      asks_node around at (select i e) =
+          asks_both _ _ _ (asks_form (Some at) i) (asks_form (Some at) e) (λ v l. asks_on (wanted_index at v) _ (asks_index at v) (λ n. asks_on (wanted_list at l) _ (asks_list at l) (λ ds. asks_nth at ds n)))
+      asks_node around at (split d e) = asks_on _ _ (asks_on _ _ (asks_form (Some at) e) (asks_text at)) (λ x. asks_split at d x)
+      asks_node around at (choice name y n) = asks_on _ _ (decides at name) (λ c. asks_taken c _ _ (asks_form (Some at) y) (asks_form (Some at) n))
+      asks_node around at (find_in_map m k l) =
+          asks_both _ _ _ (asks_both _ _ paired (asks_form (Some at) m) (asks_form (Some at) k) (λ a c. tt)) (asks_form (Some at) l) (λ p o.
+          asks_on (wanted_text at p.0) _ (asks_text at p.0) (λ name.
+          asks_on (wanted_text at p.1) _ (asks_text at p.1) (λ first.
+          asks_on (wanted_text at o) _ (asks_text at o) (λ second. asks_mapped s at name first second))))
+      asks_node around at (import_value e) = asks_import at _ (asks_form (Some at) e)
+      asks_node around at (base64 e) = asks_on _ _ (asks_on _ _ (asks_form (Some at) e) (asks_text at)) (λ x. tt)
+
+      asks_forms : (around : Option (List ℕ)) (es : Forms) → AllAsk (forms_found s around es)
+      asks_forms around no_forms = tt
+      asks_forms around (form e es) = (asks_form around e, asks_forms around es)
+
+      asks_fields : (around : Option (List ℕ)) (ps : Fields) → AllAsk (outcomes (fields_found s around ps))
+      asks_fields around no_fields = tt
+      asks_fields around (field name e ps) = (asks_form around e, asks_fields around ps)
+
+    mutual
+      pub asks_test : (around : Option (List ℕ)) (c : Test) → Asks (test_found s around c)
+      asks_test around (tests.cond at n) = asks_test_node around at n
+
+      asks_test_node : (around : Option (List ℕ)) (at : List ℕ) (n : TestNode) → Asks (test_node_found s around at n)
+      asks_test_node around at (equals a b) = asks_both _ _ _ (asks_form (Some at) a) (asks_form (Some at) b) (λ v w. asks_wrong at (equal_values v w))
+      asks_test_node around at (negation c) = asks_on _ _ (asks_test (Some at) c) (λ b. tt)
+      asks_test_node around at (all_of cs) = asks_on _ _ (asks_each _ (asks_tests (Some at) cs)) (λ bs. tt)
+      asks_test_node around at (any_of cs) = asks_on _ _ (asks_each _ (asks_tests (Some at) cs)) (λ bs. tt)
+      asks_test_node around at (named name) = decides (unwrap_or around at) name
+
+      asks_tests : (around : Option (List ℕ)) (cs : Tests) → AllAsk (tests_found s around cs)
+      asks_tests around no_tests = tt
+      asks_tests around (test c cs) = (asks_test around c, asks_tests around cs)
+
 -- no condition is asked for
-abbrev pub AsksNothing : {A : Type 0} → Outcome A → Type 0
-AsksNothing (got a) = ⊤
-AsksNothing later = ⊤
-AsksNothing (bad (fault why at)) = ⊤
-AsksNothing (bad (undecided name at)) = ⊥
-
-asks_on : {A B : Type 0} (x : Outcome A) (f : A → Outcome B) → AsksNothing x → ((a : A) → AsksNothing (f a)) → AsksNothing (on_got x f)
-asks_on (got a) f h k = k a
-asks_on later f h k = tt
-asks_on (bad (fault why at)) f h k = tt
-asks_on (bad (undecided name at)) f h k = absurd h
-
-asks_wrong : {A : Type 0} (at : List ℕ) (o : Option A) → AsksNothing (or_wrong at o)
-asks_wrong at (Some a) = tt
-asks_wrong at None = tt
-
-asks_fault : {A : Type 0} (why : EvalWhy) (at : List ℕ) (o : Option A) → AsksNothing (or_fault why at o)
-asks_fault why at (Some a) = tt
-asks_fault why at None = tt
-
-asks_later : {A : Type 0} (o : Option A) → AsksNothing (or_later o)
-asks_later (Some a) = tt
-asks_later None = tt
-
-asks_text : (at : List ℕ) (o : Option Data) → AsksNothing (wanted_text at o)
-asks_text at None = tt
-asks_text at (Some d) = asks_wrong at _
-
-asks_list : (at : List ℕ) (o : Option Data) → AsksNothing (wanted_list at o)
-asks_list at None = tt
-asks_list at (Some d) = asks_wrong at _
-
-asks_index : (at : List ℕ) (o : Option Data) → AsksNothing (wanted_index at o)
-asks_index at None = tt
-asks_index at (Some d) = asks_wrong at _
-
-asks_both : {A B C : Type 0} (x : Outcome A) (y : Outcome B) (f : A → B → Outcome C) → AsksNothing x → AsksNothing y → ((a : A) (c : B) → AsksNothing (f a c)) → AsksNothing (both x y f)
-asks_both (got a) y f h k l = asks_on y (f a) k (l a)
-asks_both later (got c) f h k l = tt
-asks_both later later f h k l = tt
-asks_both later (bad (fault why at)) f h k l = tt
-asks_both later (bad (undecided name at)) f h k l = absurd k
-asks_both (bad (fault why at)) y f h k l = tt
-asks_both (bad (undecided name at)) y f h k l = absurd h
-
-asks_texts : (at : List ℕ) (os : List (Option Data)) → AsksNothing (each (map (wanted_text at) os))
-asks_texts at [] = tt
-asks_texts at (o ∷ os) = asks_both (wanted_text at o) (each (map (wanted_text at) os)) _ (asks_text at o) (asks_texts at os) (λ a c. tt)
-
-asks_members : (at : List ℕ) (ds : List Data) → AsksNothing (each (map (λ m. wanted_text at (Some m)) ds))
-asks_members at [] = tt
-asks_members at (d ∷ ds) = asks_both (wanted_text at (Some d)) (each (map (λ m. wanted_text at (Some m)) ds)) _ (asks_text at (Some d)) (asks_members at ds) (λ a c. tt)
-
-asks_id : (at : List ℕ) (s : Sight) → AsksNothing (id_of at s)
-asks_id at sight.NotMade = tt
-asks_id at (sight.Made p a) = asks_on (or_later p) text_value (asks_later p) (λ t. tt)
-asks_id at (sight.Nested i o) = tt
-
-asks_resource : (m : Beyond) (at name : List ℕ) → AsksNothing (resource_ref m at name)
-asks_resource (open_to seen imports) at name = asks_on (or_fault UnknownName at (value_at name seen)) (id_of at) (asks_fault UnknownName at _) (asks_id at)
-asks_resource (closed_to names) at name = tt
-
-asks_pseudo : (c : Bool) (o : Option Data) (x : Found) → AsksNothing x → AsksNothing (cond c (got None) (unwrap_or (option_map known o) x))
-asks_pseudo true o x h = tt
-asks_pseudo false (Some d) x h = tt
-asks_pseudo false None x h = h
-
-asks_setting : (p : Option (Option Data)) (x : Found) → AsksNothing x → AsksNothing (unwrap_or (option_map setting_found p) x)
-asks_setting None x h = h
-asks_setting (Some None) x h = tt
-asks_setting (Some (Some d)) x h = tt
-
-asks_ref : (s : Scope) (at name : List ℕ) → AsksNothing (ref_found s at name)
-asks_ref s at name = asks_setting (s.params name) _ (asks_pseudo (bytes_eq (codes "AWS::NoValue") name) (value_at name s.pseudo) _ (asks_resource s.beyond at name))
-
-asks_output : (at : List ℕ) (o : OutputSight) → AsksNothing (output_found at o)
-asks_output at output.NotMade = tt
-asks_output at (output.Made v) = asks_on (or_later v) text_value (asks_later v) (λ t. tt)
-
-asks_attribute : (at : List ℕ) (s : Sight) (name : List ℕ) → AsksNothing (attribute_of at s name)
-asks_attribute at sight.NotMade name = tt
-asks_attribute at (sight.Made p a) name =
-    asks_on (or_later a) _ (asks_later a) (λ all. asks_on (or_fault UnknownAttribute at (value_at name all)) known (asks_fault UnknownAttribute at _) (λ d. tt))
-asks_attribute at (sight.Nested i o) name = asks_on (or_fault UnknownAttribute at (value_at name o)) (output_found at) (asks_fault UnknownAttribute at _) (asks_output at)
-
-asks_attribute_in : (m : Beyond) (at id name : List ℕ) → AsksNothing (attribute_in m at id name)
-asks_attribute_in (open_to seen imports) at id name =
-    asks_on (or_fault UnknownName at (value_at id seen)) _ (asks_fault UnknownName at _) (λ s. asks_attribute at s name)
-asks_attribute_in (closed_to names) at id name = tt
-
-asks_cut : (s : Scope) (at name : List ℕ) (o : Option (List ℕ × List ℕ)) → AsksNothing (cut_found s at name o)
-asks_cut s at name None = asks_ref s at name
-asks_cut s at name (Some c) = asks_attribute_in s.beyond at c.0 c.1
-
-asks_mapped : (s : Scope) (at name first second : List ℕ) → AsksNothing (mapped s at name first second)
-asks_mapped s at name first second =
-    asks_on (or_fault UnknownName at (s.mapping name)) _ (asks_fault UnknownName at _) (λ keys.
-    asks_on (or_fault _ at (value_at first keys)) _ (asks_fault _ at _) (λ values.
-    asks_on (or_fault _ at (value_at second values)) known (asks_fault _ at _) (λ d. tt)))
-
-asks_imported : (m : Beyond) (at name : List ℕ) → AsksNothing (imported m at name)
-asks_imported (open_to seen imports) at name = asks_on (or_fault _ at (value_at name imports)) text_value (asks_fault _ at _) (λ t. tt)
-asks_imported (closed_to names) at name = tt
-
-asks_nth : (at : List ℕ) (ds : List Data) (n : ℤ) → AsksNothing (nth at ds n)
-asks_nth at ds (pos n) = asks_on (or_fault _ at (slice_get ds n)) known (asks_fault _ at _) (λ d. tt)
-asks_nth at ds (negsuc n) = tt
-
-asks_split : (at d t : List ℕ) → AsksNothing (split_at at d t)
-asks_split at [] t = tt
-asks_split at (b ∷ bs) t = tt
-
-asks_limit : (at : List ℕ) (d : Data) (c : Bool) → AsksNothing {A = Option Data} (cond c (bad (fault TooBig at)) (known d))
-asks_limit at d true = tt
-asks_limit at d false = tt
-
-asks_within : (at : List ℕ) (o : Option Data) → AsksNothing (within at (got o))
-asks_within at None = tt
-asks_within at (Some d) = asks_limit at d (nat_lt most_bytes (size_of d))
+abbrev nobody : List ℕ → List ℕ → Type 0
+nobody at name = ⊥
 
 -- g is what each condition comes to, asked for at a place
 module _ (g : List ℕ → List ℕ → Outcome Bool) where
@@ -155,7 +251,7 @@ module _ (g : List ℕ → List ℕ → Outcome Bool) where
   Agrees (bad (fault why at)) y = y ≡ bad (fault why at)
   Agrees (bad (undecided name at)) y = (w : Stop) → g at name ≡ bad w → y ≡ bad w
 
-  itself : {A : Type 0} (x : Outcome A) → AsksNothing x → Agrees x x
+  itself : {A : Type 0} (x : Outcome A) → Asks nobody x → Agrees x x
   itself (got a) h = refl
   itself later h = refl
   itself (bad (fault why at)) h = refl
@@ -190,7 +286,7 @@ module _ (g : List ℕ → List ℕ → Outcome Bool) where
   agree_each _ _ h = absurd h
 
   agree_within : (at : List ℕ) (x y : Found) → Agrees x y → Agrees (within at x) (within at y)
-  agree_within at (got o) y e = subst (λ z. Agrees (within at (got o)) (within at z)) (sym e) (itself (within at (got o)) (asks_within at o))
+  agree_within at (got o) y e = subst (λ z. Agrees (within at (got o)) (within at z)) (sym e) (itself (within at (got o)) (asks_within nobody at o))
   agree_within at later y e = ap (within at) e
   agree_within at (bad (fault why place)) y e = ap (within at) e
   agree_within at (bad (undecided name place)) y e = λ w i. ap (within at) (e w i)
@@ -229,7 +325,7 @@ module _ (g : List ℕ → List ℕ → Outcome Bool) where
   module _ (f : List ℕ → List ℕ → Outcome Bool) (o : Scope) (decides : (at name : List ℕ) → Agrees (f at name) (g at name)) where
     piece_agrees : (at : List ℕ) (own more : List (List ℕ × Found)) → AgreeNamed own more → (p : Part) → Agrees (piece_found (decided_by f o) at own p) (piece_found (decided_by g o) at more p)
     piece_agrees at own more h (Plain t) = refl
-    piece_agrees at own more h (Name name) = own_agrees name own more _ _ h (itself (name_found (decided_by f o) at name) (asks_cut (decided_by f o) at name (cut_at (codes ".") name)))
+    piece_agrees at own more h (Name name) = own_agrees name own more _ _ h (itself (name_found (decided_by f o) at name) (asks_cut nobody (decided_by f o) at name (cut_at (codes ".") name)))
 
     pieces_agree : (at : List ℕ) (own more : List (List ℕ × Found)) → AgreeNamed own more → (ps : List Part) → AgreeAll (map (piece_found (decided_by f o) at own) ps) (map (piece_found (decided_by g o) at more) ps)
     pieces_agree at own more h [] = tt
@@ -238,25 +334,25 @@ module _ (g : List ℕ → List ℕ → Outcome Bool) where
     sub_agrees : (at : List ℕ) (own more : List (List ℕ × Found)) (ps : List Part) → AgreeNamed own more → Agrees (sub_found (decided_by f o) at own ps) (sub_found (decided_by g o) at more ps)
     sub_agrees at own more ps h =
         agree_both _ _ _ _ _ _ (agree_each _ _ (outcomes_agree own more h)) (agree_each _ _ (pieces_agree at own more h ps)) (λ os pieces.
-        itself (put_together at pieces) (asks_on (each (map (wanted_text at) pieces)) _ (asks_texts at pieces) (λ ts. tt)))
+        itself (put_together at pieces) (asks_on nobody (each (map (wanted_text at) pieces)) _ (asks_texts nobody at pieces) (λ ts. tt)))
 
     text_agrees : (at : List ℕ) (x y : Found) → Agrees x y → Agrees (as_text at x) (as_text at y)
-    text_agrees at x y h = agree_on x y (wanted_text at) (wanted_text at) h (λ v. itself (wanted_text at v) (asks_text at v))
+    text_agrees at x y h = agree_on x y (wanted_text at) (wanted_text at) h (λ v. itself (wanted_text at v) (asks_text nobody at v))
 
     list_agrees : (at : List ℕ) (x y : Found) → Agrees x y → Agrees (as_list at x) (as_list at y)
-    list_agrees at x y h = agree_on x y (wanted_list at) (wanted_list at) h (λ v. itself (wanted_list at v) (asks_list at v))
+    list_agrees at x y h = agree_on x y (wanted_list at) (wanted_list at) h (λ v. itself (wanted_list at v) (asks_list nobody at v))
 
     find_agrees : (at : List ℕ) (x y z u v w : Found) → Agrees x u → Agrees y v → Agrees z w → Agrees (find_found (decided_by f o) at x y z) (find_found (decided_by g o) at u v w)
     find_agrees at x y z u v w h i j =
         agree_both _ _ z w _ _ (agree_both x u y v paired paired h i (λ a c. refl)) j (λ p l.
-        itself _ (asks_on (wanted_text at p.0) _ (asks_text at p.0) (λ name.
-        asks_on (wanted_text at p.1) _ (asks_text at p.1) (λ first.
-        asks_on (wanted_text at l) _ (asks_text at l) (λ second. asks_mapped (decided_by f o) at name first second)))))
+        itself _ (asks_on nobody (wanted_text at p.0) _ (asks_text nobody at p.0) (λ name.
+        asks_on nobody (wanted_text at p.1) _ (asks_text nobody at p.1) (λ first.
+        asks_on nobody (wanted_text at l) _ (asks_text nobody at l) (λ second. asks_mapped nobody (decided_by f o) at name first second)))))
 
     import_agrees : (at : List ℕ) (x y : Found) → Agrees x y → Agrees (import_found (decided_by f o) at x) (import_found (decided_by g o) at y)
     import_agrees at (got v) y e =
         subst (λ z. Agrees (import_found (decided_by f o) at (got v)) (import_found (decided_by g o) at z)) (sym e)
-        (itself (import_found (decided_by f o) at (got v)) (asks_on (wanted_text at v) _ (asks_text at v) (asks_imported o.beyond at)))
+        (itself (import_found (decided_by f o) at (got v)) (asks_on nobody (wanted_text at v) _ (asks_text nobody at v) (asks_imported nobody o.beyond at)))
     import_agrees at later y e = ap (import_found (decided_by g o) at) e
     import_agrees at (bad (fault why place)) y e = ap (import_found (decided_by g o) at) e
     import_agrees at (bad (undecided name place)) y e = λ w i. ap (import_found (decided_by g o) at) (e w i)
@@ -269,15 +365,15 @@ module _ (g : List ℕ → List ℕ → Outcome Bool) where
       node_agrees around at (lit d) = refl
       node_agrees around at (node.list es) = agree_on _ _ _ _ (agree_each _ _ (forms_agree around es)) (λ os. refl)
       node_agrees around at (node.dict ps) = agree_on _ _ _ _ (agree_on _ _ _ _ (agree_each _ _ (named_agree _ _ (fields_agree around ps))) (λ os. refl)) (λ ms. refl)
-      node_agrees around at (ref name) = itself (ref_found (decided_by f o) at name) (asks_ref (decided_by f o) at name)
+      node_agrees around at (ref name) = itself (ref_found (decided_by f o) at name) (asks_ref nobody (decided_by f o) at name)
       node_agrees around at (get_att id x) =
-          agree_on _ _ _ _ (text_agrees at _ _ (form_agrees (Some at) x)) (λ name. itself (attribute_in o.beyond at id name) (asks_attribute_in o.beyond at id name))
+          agree_on _ _ _ _ (text_agrees at _ _ (form_agrees (Some at) x)) (λ name. itself (attribute_in o.beyond at id name) (asks_attribute_in nobody o.beyond at id name))
       node_agrees around at (sub parts own) = sub_agrees at _ _ parts (fields_agree (Some at) own)
       node_agrees around at (join d e) =
-          agree_on _ _ _ _ (list_agrees at _ _ (form_agrees (Some at) e)) (λ ds. itself _ (asks_on (each (map (λ m. wanted_text at (Some m)) ds)) _ (asks_members at ds) (λ ts. tt)))
+          agree_on _ _ _ _ (list_agrees at _ _ (form_agrees (Some at) e)) (λ ds. itself _ (asks_on nobody (each (map (λ m. wanted_text at (Some m)) ds)) _ (asks_members nobody at ds) (λ ts. tt)))
       node_agrees around at (select i e) =
-          agree_both _ _ _ _ _ _ (form_agrees (Some at) i) (form_agrees (Some at) e) (λ v l. itself _ (asks_on (wanted_index at v) _ (asks_index at v) (λ n. asks_on (wanted_list at l) _ (asks_list at l) (λ ds. asks_nth at ds n))))
-      node_agrees around at (split d e) = agree_on _ _ _ _ (text_agrees at _ _ (form_agrees (Some at) e)) (λ x. itself (split_at at d x) (asks_split at d x))
+          agree_both _ _ _ _ _ _ (form_agrees (Some at) i) (form_agrees (Some at) e) (λ v l. itself _ (asks_on nobody (wanted_index at v) _ (asks_index nobody at v) (λ n. asks_on nobody (wanted_list at l) _ (asks_list nobody at l) (λ ds. asks_nth nobody at ds n))))
+      node_agrees around at (split d e) = agree_on _ _ _ _ (text_agrees at _ _ (form_agrees (Some at) e)) (λ x. itself (split_at at d x) (asks_split nobody at d x))
       node_agrees around at (choice name y n) =
           agree_on _ _ _ _ (decides at name) (λ c. taken c _ _ _ _ (form_agrees (Some at) y) (form_agrees (Some at) n))
       node_agrees around at (find_in_map m k l) = find_agrees at _ _ _ _ _ _ (form_agrees (Some at) m) (form_agrees (Some at) k) (form_agrees (Some at) l)
@@ -297,7 +393,7 @@ module _ (g : List ℕ → List ℕ → Outcome Bool) where
       test_agrees around (tests.cond at n) = test_node_agrees around at n
 
       test_node_agrees : (around : Option (List ℕ)) (at : List ℕ) (n : TestNode) → Agrees (test_node_found (decided_by f o) around at n) (test_node_found (decided_by g o) around at n)
-      test_node_agrees around at (equals a b) = agree_both _ _ _ _ _ _ (form_agrees (Some at) a) (form_agrees (Some at) b) (λ v w. itself _ (asks_wrong at (equal_values v w)))
+      test_node_agrees around at (equals a b) = agree_both _ _ _ _ _ _ (form_agrees (Some at) a) (form_agrees (Some at) b) (λ v w. itself _ (asks_wrong nobody at (equal_values v w)))
       test_node_agrees around at (negation c) = agree_on _ _ _ _ (test_agrees (Some at) c) (λ b. refl)
       test_node_agrees around at (all_of cs) = agree_on _ _ _ _ (agree_each _ _ (tests_agree (Some at) cs)) (λ bs. refl)
       test_node_agrees around at (any_of cs) = agree_on _ _ _ _ (agree_each _ _ (tests_agree (Some at) cs)) (λ bs. refl)

@@ -7,4 +7,5 @@ pub mod Compared
 pub mod TestFalls
 pub mod Verdicts
 pub mod Agreeing
+pub mod Noting
 pub mod Knowing

@@ -12,14 +12,14 @@ use Rattle.cf_eval.specs.declared.fault.EvalFault.TheVariants as answer
 use Rattle.cf_eval.specs.declared.fault.EvalWhy.TheVariants.{UnknownName}
 use Rattle.cf_eval.specs.declared.got.Got.{Got}
 use Rattle.cf_eval.specs.Outcome.{Outcome, got, later, bad, fault, undecided}
-use Rattle.cf_eval.specs.Scope.{Scope, open_to, closed_to, held_at}
+use Rattle.cf_eval.specs.Scope.{Scope, open_to, closed_to}
 use Rattle.cf_eval.specs.Texts.{Found}
 use Rattle.cf_eval.specs.Value.{form_found, fields_found, pairs_found}
 use Rattle.cf_eval.specs.Conditions.{conditions_found}
 use Rattle.cf_eval.specs.Gives.{found_of, part_of}
 use Rattle.cf_eval.specs.declared.fault.Stop as stopped
 use Rattle.cf_eval.specs.declared.fault.Stop.TheVariants as stop
-use Rattle.cf_eval.specs.ScopeOf.{setting_of, verdict_of}
+use Rattle.cf_eval.specs.ScopeOf.{setting_of, verdict_of, among}
 
 -- the scope of a resource or an output
 abbrev pub scope_in : given.Env → Scope
@@ -27,7 +27,7 @@ scope_in env = record {
   params = λ name. option_map setting_of (value_at name env.bound.now);
   mapping = λ name. value_at name env.mappings.now;
   pseudo = env.pseudo.now;
-  decided = λ at name. held_at at name (option_map verdict_of (value_at name env.conds.now));
+  decided = among env.conds.now;
   beyond = open_to env.seen.now env.imports.now;
 }
 

@@ -9,3 +9,4 @@ pub mod Knows
 pub mod ScopeOf
 pub mod Gives
 pub mod Memory
+pub mod Deciding

@@ -1,0 +1,228 @@
+-- A condition that is noted is right, whatever else is under way.
+use Rattle.std.proofs.Common.{◌≡◌, ◌≢◌, ℕ, zero, suc, ◌+◌, ◌<◌, ◌≤◌, List, [], ◌∷◌, ◌++◌, length, Bool, true, false, ◌||◌, Option, Some, None, refl, sym, ap, subst, ◌∙◌, true≢false, arith}
+use Rattle.std.specs.Prelude.{cond, option_map}
+use Rattle.std.specs.List.{list_any}
+use Rattle.std.specs.Ordering.{nat_cmp, match_ordering}
+use Rattle.std.specs.Str.{bytes_eq}
+use Rattle.std.specs.declared.cmp.Ordering.{Ordering}
+use Rattle.std.specs.declared.cmp.Ordering.TheVariants.{Less, Equal, Greater}
+use Rattle.std.specs.Cmp.Lexicographic.{slice_cmp, texts_ties}
+use Rattle.std.proofs.lemmas.Slice.Eq.{bytes_eq-Decides}
+use Rattle.cf_tree.specs.Keys.{value_at, put}
+use Rattle.cf_tree.specs.Tests.{Test}
+use Rattle.cf_tree.specs.declared.bound.Verdict.{Verdict}
+use Rattle.cf_tree.specs.declared.bound.Verdict.TheVariants as verdict
+use Rattle.cf_eval.specs.declared.fault.EvalWhy.TheVariants.{UnknownName, CircularCondition}
+use Rattle.cf_eval.specs.Outcome.{Outcome, Stop, fault, undecided, got, later, bad, on_got}
+use Rattle.cf_eval.specs.Scope.{Scope, held_at}
+use Rattle.cf_eval.specs.ScopeOf.{among, verdict_of}
+use Rattle.cf_eval.specs.Functions.{or_fault}
+use Rattle.cf_eval.specs.Conditions.{test_found, condition_found, decided_by, is_one_of}
+use Rattle.cf_eval.specs.Gives.{part_of}
+use Rattle.cf_eval.specs.Deciding.{left_of, Apart, IsRight, Extends}
+use Rattle.cf_eval.proofs.Agreeing.{Agrees, test_agrees}
+
+-- look-ups after a name is put in
+same_key : (k l : List ℕ) → slice_cmp nat_cmp k l ≡ Equal → bytes_eq k l ≡ true
+same_key k l e = texts_ties k l ∙ rw e refl
+
+other_less : (k l : List ℕ) → slice_cmp nat_cmp k l ≡ Less → bytes_eq k l ≡ false
+other_less k l e = texts_ties k l ∙ rw e refl
+
+other_greater : (k l : List ℕ) → slice_cmp nat_cmp k l ≡ Greater → bytes_eq k l ≡ false
+other_greater k l e = texts_ties k l ∙ rw e refl
+
+itself_key : (k : List ℕ) → bytes_eq k k ≡ true
+itself_key k = (bytes_eq-Decides k k).1 refl
+
+module _ {X : Type 0} where
+  put_here_by : (k : List ℕ) (v : X) (p : List ℕ × X) (ps : List (List ℕ × X)) (o : Ordering) → slice_cmp nat_cmp k p.0 ≡ o → value_at k (put k v ps) ≡ Some v
+      → value_at k (match_ordering o ((k, v) ∷ p ∷ ps) ((p.0, v) ∷ ps) (p ∷ put k v ps)) ≡ Some v
+  put_here_by k v p ps Less e h = rw (itself_key k) refl
+  put_here_by k v p ps Equal e h = rw (same_key k p.0 e) refl
+  put_here_by k v p ps Greater e h = rw (other_greater k p.0 e) h
+
+  pub put_here : (k : List ℕ) (v : X) (ps : List (List ℕ × X)) → value_at k (put k v ps) ≡ Some v
+  put_here k v [] = rw (itself_key k) refl
+  put_here k v (p ∷ ps) = put_here_by k v p ps (slice_cmp nat_cmp k p.0) refl (put_here k v ps)
+
+  chosen : (b c : Bool) (x y z : Option X) → b ≡ c → y ≡ z → cond b x y ≡ cond c x z
+  chosen b c x y z h k = λ i. cond (h i) x (k i)
+
+  put_else_by : (m k : List ℕ) (v : X) (p : List ℕ × X) (ps : List (List ℕ × X)) (o : Ordering) → slice_cmp nat_cmp k p.0 ≡ o → bytes_eq m k ≡ false → value_at m (put k v ps) ≡ value_at m ps
+      → value_at m (match_ordering o ((k, v) ∷ p ∷ ps) ((p.0, v) ∷ ps) (p ∷ put k v ps)) ≡ value_at m (p ∷ ps)
+  put_else_by m k v p ps Less e n h = rw n refl
+  put_else_by m k v p ps Equal e n h =
+      let same : k ≡ p.0 = (bytes_eq-Decides k p.0).0 (same_key k p.0 e) in
+      let other : bytes_eq m p.0 ≡ false = subst (λ l. bytes_eq m l ≡ false) same n in
+      rw other refl
+  put_else_by m k v p ps Greater e n h = ap (λ o. cond (bytes_eq m p.0) (Some p.1) o) h
+
+  pub put_else : (m k : List ℕ) (v : X) (ps : List (List ℕ × X)) → bytes_eq m k ≡ false → value_at m (put k v ps) ≡ value_at m ps
+  put_else m k v [] n = rw n refl
+  put_else m k v (p ∷ ps) n = put_else_by m k v p ps (slice_cmp nat_cmp k p.0) refl n (put_else m k v ps n)
+
+-- one more name that is under way
+or_first : (a b : Bool) → a ≡ true → (a || b) ≡ true
+or_first true b h = refl
+or_first false b h = absurd (true≢false (sym h))
+
+or_second : (a b : Bool) → b ≡ true → (a || b) ≡ true
+or_second true b h = refl
+or_second false b h = h
+
+either : (a b : Bool) (P : Type 0) → (a || b) ≡ true → (a ≡ true → P) → (b ≡ true → P) → P
+either true b P h f g = f refl
+either false b P h f g = g h
+
+pub entered : (m n : List ℕ) (under : List (List ℕ)) → is_one_of m (under ++ n ∷ []) ≡ (is_one_of m under || bytes_eq n m)
+entered m n [] = or_false (bytes_eq n m) where
+  or_false : (b : Bool) → (b || false) ≡ b
+  or_false true = refl
+  or_false false = refl
+entered m n (u ∷ us) = ap (λ b. bytes_eq u m || b) (entered m n us) ∙ sym (or_assoc (bytes_eq u m) (is_one_of m us) (bytes_eq n m)) where
+  or_assoc : (a b c : Bool) → ((a || b) || c) ≡ (a || (b || c))
+  or_assoc true b c = refl
+  or_assoc false b c = refl
+
+-- fewer are left once a condition is entered
+branch : (b : Bool) (m n : ℕ) → ℕ
+branch b m n = cond b m n
+
+no_more : (b c : Bool) (m n : ℕ) → (b ≡ true → c ≡ true) → m ≤ n → cond c m (suc m) ≤ cond b n (suc n)
+no_more true c m n h l = subst (λ d. cond d m (suc m) ≤ n) (sym (h refl)) l
+no_more false true m n h l = omega arith
+no_more false false m n h l = omega arith
+
+stays_entered : (m n : List ℕ) (under : List (List ℕ)) → is_one_of m under ≡ true → is_one_of m (under ++ n ∷ []) ≡ true
+stays_entered m n under h = entered m n under ∙ or_first _ _ h
+
+fewer_left : (n : List ℕ) (under : List (List ℕ)) (cs : List (List ℕ × Test)) → left_of (under ++ n ∷ []) cs ≤ left_of under cs
+fewer_left n under [] = omega arith
+fewer_left n under (c ∷ cs) = no_more (is_one_of c.0 under) (is_one_of c.0 (under ++ n ∷ [])) _ _ (stays_entered c.0 n under) (fewer_left n under cs)
+
+one_less_by : (n : List ℕ) (under : List (List ℕ)) (c : List ℕ × Test) (cs : List (List ℕ × Test)) (b : Bool) → bytes_eq n c.0 ≡ b → is_one_of n under ≡ false → (b ≡ false → left_of (under ++ n ∷ []) cs < left_of under cs)
+    → left_of (under ++ n ∷ []) (c ∷ cs) < left_of under (c ∷ cs)
+one_less_by n under c cs true e out less =
+    let same : n ≡ c.0 = (bytes_eq-Decides n c.0).0 e in
+    let before : is_one_of c.0 under ≡ false = subst (λ m. is_one_of m under ≡ false) same out in
+    let after : is_one_of c.0 (under ++ n ∷ []) ≡ true = entered c.0 n under ∙ or_second (is_one_of c.0 under) _ e in
+    let fewer = fewer_left n under cs in
+    rw (before, after) (omega arith)
+one_less_by n under c cs false e out less = step (is_one_of c.0 under) (is_one_of c.0 (under ++ n ∷ [])) (stays_entered c.0 n under) (less refl) where
+  step : (b d : Bool) → (b ≡ true → d ≡ true) → left_of (under ++ n ∷ []) cs < left_of under cs → cond d (left_of (under ++ n ∷ []) cs) (suc (left_of (under ++ n ∷ []) cs)) < cond b (left_of under cs) (suc (left_of under cs))
+  step true d h l = subst (λ f. cond f (left_of (under ++ n ∷ []) cs) (suc (left_of (under ++ n ∷ []) cs)) < left_of under cs) (sym (h refl)) l
+  step false true h l = omega arith
+  step false false h l = omega arith
+
+declared_after : (n : List ℕ) (c : List ℕ × Test) (cs : List (List ℕ × Test)) (d : Test) → bytes_eq n c.0 ≡ false → value_at n (c ∷ cs) ≡ Some d → value_at n cs ≡ Some d
+declared_after n c cs d e h = rw e at h
+
+pub one_less : (n : List ℕ) (under : List (List ℕ)) (cs : List (List ℕ × Test)) (d : Test) → value_at n cs ≡ Some d → is_one_of n under ≡ false → left_of (under ++ n ∷ []) cs < left_of under cs
+one_less n under [] d h out = let no : ⊥ = cc in absurd no
+one_less n under (c ∷ cs) d h out = one_less_by n under c cs (bytes_eq n c.0) refl out (λ e. one_less n under cs d (declared_after n c cs d e h) out)
+
+pub all_left : (cs : List (List ℕ × Test)) → left_of [] cs ≡ length cs
+all_left [] = refl
+all_left (c ∷ cs) = ap suc (all_left cs)
+
+-- over what is noted, and over all
+module _ (s : Scope) (conds : List (List ℕ × Test)) (done : List (List ℕ × Verdict)) (right : IsRight s conds done) where
+  agree_at : (left : ℕ) (under : List (List ℕ)) (at name : List ℕ) → Apart under done → left_of under conds ≤ left → (o : Option Verdict) → value_at name done ≡ o
+      → Agrees (condition_found left s conds under) (held_at at name (option_map verdict_of o)) (condition_found left s conds under at name)
+  agree_at left under at name apart enough (Some verdict.True) e = right name _ e left under at apart enough
+  agree_at left under at name apart enough (Some verdict.False) e = right name _ e left under at apart enough
+  agree_at left under at name apart enough (Some verdict.Later) e = right name _ e left under at apart enough
+  agree_at left under at name apart enough None e = λ w h. h
+
+  pub looked_at : (left : ℕ) (under : List (List ℕ)) (c : Test) → Apart under done → left_of under conds ≤ left
+      → Agrees (condition_found left s conds under) (test_found (decided_by (among done) s) None c) (test_found (decided_by (condition_found left s conds under) s) None c)
+  looked_at left under c apart enough =
+      test_agrees (condition_found left s conds under) (among done) s (λ at name. agree_at left under at name apart enough (value_at name done) refl) None c
+
+-- what the code reads off a condition that it looked at
+module _ (s : Scope) (conds : List (List ℕ × Test)) where
+  plain_part : (g : List ℕ → List ℕ → Outcome Bool) (v : Verdict) (x y : Outcome Bool) → x ≡ part_of (verdict_of v) → Agrees g x y → y ≡ part_of (verdict_of v)
+  plain_part g verdict.True x y e a = let b : Agrees g (got true) y = subst (λ z. Agrees g z y) e a in b
+  plain_part g verdict.False x y e a = let b : Agrees g (got false) y = subst (λ z. Agrees g z y) e a in b
+  plain_part g verdict.Later x y e a = let b : Agrees g later y = subst (λ z. Agrees g z y) e a in b
+
+  some_no : (v : Verdict) (o : Option Verdict) → o ≡ Some v → o ≡ None → ⊥
+  some_no v o h k = cc
+
+  declared : (left : ℕ) (under : List (List ℕ)) (at name : List ℕ) (c : Test) → is_one_of name under ≡ false → value_at name conds ≡ Some c
+      → condition_found (suc left) s conds under at name ≡ test_found (decided_by (condition_found left s conds (under ++ name ∷ [])) s) None c
+  declared left under at name c out h = rw (out, h) refl
+
+  -- one condition more is noted
+  noted_one : (done : List (List ℕ × Verdict)) (name : List ℕ) (v : Verdict) (c : Test) → IsRight s conds done → value_at name done ≡ None → value_at name conds ≡ Some c
+      → test_found (decided_by (among done) s) None c ≡ part_of (verdict_of v)
+      → (left : ℕ) (under : List (List ℕ)) (at : List ℕ) → Apart under (put name v done) → left_of under conds ≤ left → condition_found left s conds under at name ≡ part_of (verdict_of v)
+  noted_one done name v c right fresh is verdict left under at apart enough =
+      by_left left enough where
+        out_by : (b : Bool) → is_one_of name under ≡ b → b ≡ false
+        out_by true e = absurd (some_no v (value_at name (put name v done)) (put_here name v done) (apart name e))
+        out_by false e = refl
+
+        out : is_one_of name under ≡ false
+        out = out_by (is_one_of name under) refl
+
+        older : (m : List ℕ) (b : Bool) → bytes_eq m name ≡ b → is_one_of m under ≡ true → value_at m done ≡ None
+        older m true e h = subst (λ k. value_at k done ≡ None) (sym ((bytes_eq-Decides m name).0 e)) fresh
+        older m false e h = sym (put_else m name v done e) ∙ apart m h
+
+        apart_now : Apart (under ++ name ∷ []) done
+        apart_now m h = either (is_one_of m under) (bytes_eq name m) (value_at m done ≡ None) (sym (entered m name under) ∙ h) (older m (bytes_eq m name) refl)
+            (λ e. subst (λ k. value_at k done ≡ None) ((bytes_eq-Decides name m).0 e) fresh)
+
+        less : left_of (under ++ name ∷ []) conds < left_of under conds
+        less = one_less name under conds c is out
+
+        by_left : (l : ℕ) → left_of under conds ≤ l → condition_found l s conds under at name ≡ part_of (verdict_of v)
+        by_left zero g = absurd (omega (arith, less))
+        by_left (suc l) g =
+            declared l under at name c out is
+            ∙ plain_part (condition_found l s conds (under ++ name ∷ [])) v _ _ verdict (looked_at s conds done right l (under ++ name ∷ []) c apart_now (omega (arith, less)))
+
+  pub right_put : (done : List (List ℕ × Verdict)) (name : List ℕ) (v : Verdict) (c : Test) → IsRight s conds done → value_at name done ≡ None → value_at name conds ≡ Some c
+      → test_found (decided_by (among done) s) None c ≡ part_of (verdict_of v) → IsRight s conds (put name v done)
+  right_put done name v c right fresh is verdict m w h left under at apart enough = by_name (bytes_eq m name) refl where
+    by_name : (b : Bool) → bytes_eq m name ≡ b → condition_found left s conds under at m ≡ part_of (verdict_of w)
+    by_name true e =
+        let same : m ≡ name = (bytes_eq-Decides m name).0 e in
+        let value : value_at name (put name v done) ≡ Some w = subst (λ k. value_at k (put name v done) ≡ Some w) same h in
+        let vw : v ≡ w = cc (put_here name v done) in
+        subst (λ k. condition_found left s conds under at k ≡ part_of (verdict_of w)) (sym same)
+        (subst (λ x. condition_found left s conds under at name ≡ part_of (verdict_of x)) vw (noted_one done name v c right fresh is verdict left under at apart enough))
+    by_name false e = right m w (sym (put_else m name v done e) ∙ h) left under at older enough where
+      older : Apart under done
+      older k g = by_key (bytes_eq k name) refl where
+        by_key : (b : Bool) → bytes_eq k name ≡ b → value_at k done ≡ None
+        by_key true i = subst (λ l. value_at l done ≡ None) (sym ((bytes_eq-Decides k name).0 i)) fresh
+        by_key false i = sym (put_else k name v done i) ∙ apart k g
+
+  pub extends_put : (old done : List (List ℕ × Verdict)) (name : List ℕ) (v : Verdict) → Extends old done → value_at name done ≡ None → Extends old (put name v done)
+  extends_put old done name v ext fresh m w h = by_name (bytes_eq m name) refl where
+    by_name : (b : Bool) → bytes_eq m name ≡ b → value_at m (put name v done) ≡ Some w
+    by_name true e = absurd (some_no w (value_at m done) (ext m w h) (subst (λ k. value_at k done ≡ None) (sym ((bytes_eq-Decides m name).0 e)) fresh))
+    by_name false e = put_else m name v done e ∙ ext m w h
+
+  pub apart_put : (under : List (List ℕ)) (done : List (List ℕ × Verdict)) (name : List ℕ) (v : Verdict) → Apart under done → is_one_of name under ≡ false → Apart under (put name v done)
+  apart_put under done name v apart out m h = by_name (bytes_eq m name) refl where
+    by_name : (b : Bool) → bytes_eq m name ≡ b → value_at m (put name v done) ≡ None
+    by_name true e = absurd (true≢false (sym h ∙ ap (λ k. is_one_of k under) ((bytes_eq-Decides m name).0 e) ∙ out))
+    by_name false e = put_else m name v done e ∙ apart m h
+
+  pub apart_enter : (under : List (List ℕ)) (done : List (List ℕ × Verdict)) (name : List ℕ) → Apart under done → value_at name done ≡ None → Apart (under ++ name ∷ []) done
+  apart_enter under done name apart fresh m h =
+      either (is_one_of m under) (bytes_eq name m) (value_at m done ≡ None) (sym (entered m name under) ∙ h) (apart m)
+      (λ e. subst (λ k. value_at k done ≡ None) ((bytes_eq-Decides name m).0 e) fresh)
+
+  pub apart_leave : (under : List (List ℕ)) (done : List (List ℕ × Verdict)) (name : List ℕ) → Apart (under ++ name ∷ []) done → Apart under done
+  apart_leave under done name apart m h = apart m (stays_entered m name under h)
+
+  pub entered_fresh : (under : List (List ℕ)) (done : List (List ℕ × Verdict)) (name : List ℕ) → Apart (under ++ name ∷ []) done → value_at name done ≡ None
+  entered_fresh under done name apart = apart name (entered name name under ∙ or_second (is_one_of name under) _ (itself_key name))
+
+  pub right_nothing : IsRight s conds []
+  right_nothing m v h = let no : ⊥ = cc in absurd no
