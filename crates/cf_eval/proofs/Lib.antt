@@ -8,4 +8,5 @@ pub mod TestFalls
 pub mod Verdicts
 pub mod Agreeing
 pub mod Noting
+pub mod Settling
 pub mod Knowing

@@ -1,6 +1,6 @@
 -- A condition that is noted is right, whatever else is under way.
 use Rattle.std.proofs.Common.{◌≡◌, ◌≢◌, ℕ, zero, suc, ◌+◌, ◌<◌, ◌≤◌, List, [], ◌∷◌, ◌++◌, length, Bool, true, false, ◌||◌, Option, Some, None, refl, sym, ap, subst, ◌∙◌, true≢false, arith}
-use Rattle.std.specs.Prelude.{cond, option_map}
+use Rattle.std.specs.Prelude.{cond, option_map, is_some, IsSome}
 use Rattle.std.specs.List.{list_any}
 use Rattle.std.specs.Ordering.{nat_cmp, match_ordering}
 use Rattle.std.specs.Str.{bytes_eq}
@@ -18,9 +18,12 @@ use Rattle.cf_eval.specs.Scope.{Scope, held_at}
 use Rattle.cf_eval.specs.ScopeOf.{among, verdict_of}
 use Rattle.cf_eval.specs.Functions.{or_fault}
 use Rattle.cf_eval.specs.Conditions.{test_found, condition_found, decided_by, is_one_of}
-use Rattle.cf_eval.specs.Gives.{part_of}
-use Rattle.cf_eval.specs.Deciding.{left_of, Apart, IsRight, Extends}
-use Rattle.cf_eval.proofs.Agreeing.{Agrees, test_agrees}
+use Rattle.cf_eval.specs.Gives.{part_of, Stops}
+use Rattle.cf_eval.specs.declared.fault.Stop as broken
+use Rattle.cf_eval.specs.declared.fault.Stop.TheVariants as stop
+use Rattle.cf_eval.specs.declared.fault.EvalWhy.{EvalWhy}
+use Rattle.cf_eval.specs.Deciding.{left_of, open_of, Apart, IsRight, IsSettled, IsNoted, Extends}
+use Rattle.cf_eval.proofs.Agreeing.{Agrees, Asks, asks_test, test_agrees}
 
 -- look-ups after a name is put in
 same_key : (k l : List ℕ) → slice_cmp nat_cmp k l ≡ Equal → bytes_eq k l ≡ true
@@ -226,3 +229,93 @@ module _ (s : Scope) (conds : List (List ℕ × Test)) where
 
   pub right_nothing : IsRight s conds []
   right_nothing m v h = let no : ⊥ = cc in absurd no
+
+-- a condition that is asked for is not decided
+asked_at : (done : List (List ℕ × Verdict)) (at name : List ℕ) (o : Option Verdict) → value_at name done ≡ o → Asks (λ place m. value_at m done ≡ None) (held_at at name (option_map verdict_of o))
+asked_at done at name (Some verdict.True) e = tt
+asked_at done at name (Some verdict.False) e = tt
+asked_at done at name (Some verdict.Later) e = tt
+asked_at done at name None e = e
+
+pub asked_fresh : (s : Scope) (done : List (List ℕ × Verdict)) (c : Test) (name at : List ℕ) → test_found (decided_by (among done) s) None c ≡ bad (undecided name at) → value_at name done ≡ None
+asked_fresh s done c name at e =
+    let open' : Asks (λ place m. value_at m done ≡ None) (test_found (decided_by (among done) s) None c) =
+    asks_test (λ place m. value_at m done ≡ None) (decided_by (among done) s) (λ place m. asked_at done place m (value_at m done) refl) None c in
+    let open'' : Asks (λ place m. value_at m done ≡ None) {A = Bool} (bad (undecided name at)) = subst (Asks (λ place m. value_at m done ≡ None) {A = Bool}) e open' in
+    open''
+
+-- each condition that is decided leaves fewer
+fewer_open_by : (b c : Bool) (m n : ℕ) → (b ≡ true → c ≡ true) → m ≤ n → cond c m (suc m) ≤ cond b n (suc n)
+fewer_open_by b c m n h l = no_more b c m n h l
+
+still_there : (old new : List (List ℕ × Verdict)) (m : List ℕ) → Extends old new → (o : Option Verdict) → value_at m old ≡ o → is_some o ≡ true → is_some (value_at m new) ≡ true
+still_there old new m ext (Some v) e h = ap is_some (ext m v e)
+still_there old new m ext None e h = absurd (true≢false (sym h))
+
+open_stays : (old new : List (List ℕ × Verdict)) (cs : List (List ℕ × Test)) → Extends old new → open_of new cs ≤ open_of old cs
+open_stays old new [] ext = omega arith
+open_stays old new (c ∷ cs) ext = no_more (is_some (value_at c.0 old)) (is_some (value_at c.0 new)) _ _ (still_there old new c.0 ext (value_at c.0 old) refl) (open_stays old new cs ext)
+
+open_less_by : (old new : List (List ℕ × Verdict)) (name : List ℕ) (v : Verdict) (c : List ℕ × Test) (cs : List (List ℕ × Test)) → Extends old new → value_at name old ≡ None → value_at name new ≡ Some v
+    → (b : Bool) → bytes_eq name c.0 ≡ b → (b ≡ false → open_of new cs < open_of old cs) → open_of new (c ∷ cs) < open_of old (c ∷ cs)
+open_less_by old new name v c cs ext fresh noted true e less =
+    let same : name ≡ c.0 = (bytes_eq-Decides name c.0).0 e in
+    let before : value_at c.0 old ≡ None = subst (λ m. value_at m old ≡ None) same fresh in
+    let after : value_at c.0 new ≡ Some v = subst (λ m. value_at m new ≡ Some v) same noted in
+    let fewer = open_stays old new cs ext in
+    rw (before, after) (omega arith)
+open_less_by old new name v c cs ext fresh noted false e less =
+    step (is_some (value_at c.0 old)) (is_some (value_at c.0 new)) (still_there old new c.0 ext (value_at c.0 old) refl) (less refl) where
+      step : (b d : Bool) → (b ≡ true → d ≡ true) → open_of new cs < open_of old cs → cond d (open_of new cs) (suc (open_of new cs)) < cond b (open_of old cs) (suc (open_of old cs))
+      step true d h l = subst (λ f. cond f (open_of new cs) (suc (open_of new cs)) < open_of old cs) (sym (h refl)) l
+      step false true h l = omega arith
+      step false false h l = omega arith
+
+pub open_less : (old new : List (List ℕ × Verdict)) (name : List ℕ) (v : Verdict) (cs : List (List ℕ × Test)) → Extends old new → value_at name old ≡ None → value_at name new ≡ Some v → IsSome (value_at name cs) → open_of new cs < open_of old cs
+open_less old new name v [] ext fresh noted h = absurd (true≢false (sym h))
+open_less old new name v (c ∷ cs) ext fresh noted h =
+    open_less_by old new name v c cs ext fresh noted (bytes_eq name c.0) refl (λ e. open_less old new name v cs ext fresh noted (subst (λ b. IsSome (cond b (Some c.1) (value_at name cs))) e h))
+
+-- what the loop of `decide` keeps
+pub record IsDeciding (s : Scope) (conds : List (List ℕ × Test)) (under : List (List ℕ)) (old now : List (List ℕ × Verdict)) : Type 0 where
+  pub right : IsRight s conds now
+  pub apart : Apart under now
+  pub extends : Extends old now
+
+pub extends_itself : (done : List (List ℕ × Verdict)) → Extends done done
+extends_itself done m v h = h
+
+pub extends_further : (a b c : List (List ℕ × Verdict)) → Extends a b → Extends b c → Extends a c
+extends_further a b c f g m v h = g m v (f m v h)
+
+-- what the calls that decide conditions answer
+pub stop_asked : (g : List ℕ → List ℕ → Outcome Bool) (x y : Outcome Bool) (name at : List ℕ) (s : broken.Stop) → x ≡ bad (undecided name at) → Agrees g x y → Stops (g at name) s → Stops y s
+stop_asked g x y name at (stop.Bad why place) e a h = let b : Agrees g {A = Bool} (bad (undecided name at)) y = subst (λ z. Agrees g z y) e a in b (fault why place) h
+stop_asked g x y name at (stop.Undecided n place) e a h = let b : Agrees g {A = Bool} (bad (undecided name at)) y = subst (λ z. Agrees g z y) e a in b (undecided n place) h
+stop_asked g x y name at stop.NoMemory e a h = tt
+
+pub stop_bad : (g : List ℕ → List ℕ → Outcome Bool) (x y : Outcome Bool) (why : EvalWhy) (at : List ℕ) → x ≡ bad (fault why at) → Agrees g x y → y ≡ bad (fault why at)
+stop_bad g x y why at e a = let b : Agrees g {A = Bool} (bad (fault why at)) y = subst (λ z. Agrees g z y) e a in b
+
+pub noted_all : (s : Scope) (conds : List (List ℕ × Test)) (under : List (List ℕ)) (old done : List (List ℕ × Verdict)) (name : List ℕ) (v : Verdict) (c : Test) → IsSettled s conds (under ++ name ∷ []) old done c v → value_at name conds ≡ Some c → is_one_of name under ≡ false
+    → IsNoted s conds under old (put name v done) name v
+noted_all s conds under old done name v c settled is out =
+    let fresh = entered_fresh s conds under done name settled.apart in
+    record {
+      right = right_put s conds done name v c settled.right fresh is settled.verdict;
+      extends = extends_put s conds old done name v settled.extends fresh;
+      apart = apart_put s conds under done name v (apart_leave s conds under done name settled.apart) out;
+      noted = put_here name v done;
+      declared = ap is_some is;
+    }
+
+pub one_at_least : (under : List (List ℕ)) (conds : List (List ℕ × Test)) (name : List ℕ) (c : Test) (left : ℕ) → value_at name conds ≡ Some c → is_one_of name under ≡ false → left_of under conds ≤ left → left_of (under ++ name ∷ []) conds + 1 ≤ left
+one_at_least under conds name c left is out enough = omega (arith, one_less name under conds c is out)
+
+pub descended : (s : Scope) (conds : List (List ℕ × Test)) (under : List (List ℕ)) (name : List ℕ) (c : Test) (l left : ℕ) (w : broken.Stop) → left ≡ suc l → value_at name conds ≡ Some c → is_one_of name under ≡ false
+    → Stops (test_found (decided_by (condition_found l s conds (under ++ name ∷ [])) s) None c) w → (at : List ℕ) → Stops (condition_found left s conds under at name) w
+descended s conds under name c l left w e is out h at =
+    subst (λ n. Stops (condition_found n s conds under at name) w) (sym e) (subst (λ o. Stops o w) (sym (declared s conds l under at name c out is)) h)
+
+pub pushed : {new : List (List ℕ)} (old : List (List ℕ)) {a b : List ℕ} → new ≡ old ++ a ∷ [] → a ≡ b → new ≡ old ++ b ∷ []
+pushed old e h = e ∙ ap (λ x. old ++ x ∷ []) h

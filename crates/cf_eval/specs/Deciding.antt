@@ -1,13 +1,13 @@
 -- How conditions are decided, each one once: what is noted of those that are decided, and what stays to be done.
-use Rattle.std.specs.Prelude.{◌≡◌, ℕ, suc, ◌≤◌, Bool, true, List, [], ◌∷◌, ◌++◌, Option, Some, None, Result, Ok, Err, Vec, if◌then◌else◌}
-use Rattle.std.specs.declared.alloc.Global.{Global}
+use Rattle.std.specs.Prelude.{◌≡◌, ℕ, suc, ◌≤◌, Bool, length, map, true, List, [], ◌∷◌, ◌++◌, Option, Some, None, IsSome, is_some, Result, Ok, Err, option_map, if◌then◌else◌}
+use Rattle.cf_eval.specs.declared.decide.Ground as over
 use Rattle.cf_tree.specs.Keys.{value_at}
 use Rattle.cf_tree.specs.Tests.{Test}
 use Rattle.cf_tree.specs.declared.bound.Verdict.{Verdict}
 use Rattle.cf_eval.specs.declared.fault.Stop as broken
-use Rattle.cf_eval.specs.Outcome.{Outcome, got}
-use Rattle.cf_eval.specs.Scope.{Scope}
-use Rattle.cf_eval.specs.ScopeOf.{among, verdict_of}
+use Rattle.cf_eval.specs.Outcome.{Outcome, got, bad, undecided}
+use Rattle.cf_eval.specs.Scope.{Scope, closed_to}
+use Rattle.cf_eval.specs.ScopeOf.{among, setting_of, verdict_of}
 use Rattle.cf_eval.specs.Conditions.{test_found, condition_found, decided_by, is_one_of}
 use Rattle.cf_eval.specs.Gives.{part_of, Stops}
 
@@ -43,3 +43,42 @@ pub record IsNoted (s : Scope) (conds : List (List ℕ × Test)) (under : List (
   pub extends : Extends old new
   pub apart : Apart under new
   pub noted : value_at name new ≡ Some v
+  pub declared : IsSome (value_at name conds)
+
+-- what is decided over: parameters, mappings, pseudo parameters, and the names of the resources, none of which may be referred to
+abbrev pub ground_of : over.Ground → Scope
+ground_of g = record {
+  params = λ name. option_map setting_of (value_at name g.params.now);
+  mapping = λ name. value_at name g.mappings.now;
+  pseudo = g.pseudo.now;
+  decided = λ at name. bad (undecided name at);
+  beyond = closed_to g.resources.now;
+}
+
+-- how many conditions are not decided
+abbrev pub open_of : List (List ℕ × Verdict) → List (List ℕ × Test) → ℕ
+open_of done [] = 0
+open_of done (c ∷ cs) = if is_some (value_at c.0 done) then open_of done cs else suc (open_of done cs)
+
+-- what `decide` answers: a verdict, or the fault that the condition has while those of `under` are under way
+abbrev pub Settles : over.Ground → ℕ → List (List ℕ) → List (List ℕ) → List (List ℕ × Verdict) → List (List ℕ × Verdict) → Test → Result Verdict broken.Stop → Type 0
+Settles g left under still old new c (Ok v) = IsSettled (ground_of g) g.conds.now under old new c v × (still ≡ under)
+Settles g left under still old new c (Err w) = Stops (test_found (decided_by (condition_found left (ground_of g) g.conds.now under) (ground_of g)) None c) w
+
+-- what `enter` and `descend` answer
+abbrev pub Notes : over.Ground → List (List ℕ) → List (List ℕ) → List (List ℕ × Verdict) → List (List ℕ × Verdict) → List ℕ → (broken.Stop → Type 0) → Result Verdict broken.Stop → Type 0
+Notes g under still old new name stops (Ok v) = IsNoted (ground_of g) g.conds.now under old new name v × (still ≡ under)
+Notes g under still old new name stops (Err w) = stops w
+
+-- what `settle` answers of a condition that nothing is under way for
+abbrev pub Answers : Scope → List (List ℕ × Test) → List ℕ → List (List ℕ × Verdict) → Result Verdict broken.Stop → Type 0
+Answers s conds name new (Ok v) = IsRight s conds new × ((at : List ℕ) → condition_found (length conds) s conds [] at name ≡ part_of (verdict_of v))
+Answers s conds name new (Err w) = (at : List ℕ) → Stops (condition_found (length conds) s conds [] at name) w
+
+-- a condition with its verdict, None being Later
+abbrev pub noted_of : List ℕ × Verdict → List ℕ × Option Bool
+noted_of c = (c.0, verdict_of c.1)
+
+abbrev pub GivesConds : Outcome (List (List ℕ × Option Bool)) → Result (List (List ℕ × Verdict)) broken.Stop → Type 0
+GivesConds o (Ok conds) = o ≡ got (map noted_of conds)
+GivesConds o (Err w) = Stops o w

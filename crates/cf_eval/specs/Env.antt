@@ -46,19 +46,22 @@ value_of env e = plain (form_found (scope_in env) None e)
 abbrev pub props_of : given.Env → List (List ℕ × Form) → Outcome (List (List ℕ × Data))
 props_of env ps = plain (pairs_found (fields_found (scope_in env) None (fields_of ps)))
 
--- the scope of a condition
-abbrev pub scope_within : Template → List (List ℕ × Setting) → List (List ℕ × Data) → Scope
-scope_within template bound pseudo = record {
+-- the scope of a condition, where resources have these names
+abbrev pub scope_over : Template → List (List ℕ × Setting) → List (List ℕ × Data) → List (List ℕ) → Scope
+scope_over template bound pseudo names = record {
   params = λ name. option_map setting_of (value_at name bound);
   mapping = λ name. value_at name template.mappings;
   pseudo = pseudo;
   decided = λ at name. bad (undecided name at);
-  beyond = closed_to (map (λ r. r.name) template.resources);
+  beyond = closed_to names;
 }
+
+abbrev pub scope_within : Template → List (List ℕ × Setting) → List (List ℕ × Data) → Scope
+scope_within template bound pseudo = scope_over template bound pseudo (map (λ r. r.name) template.resources)
 
 -- what the conditions of a template come to
 abbrev pub conditions_of : Template → List (List ℕ × Setting) → List (List ℕ × Data) → Outcome (List (List ℕ × Option Bool))
-conditions_of template bound pseudo = conditions_found (scope_within template bound pseudo) template.conds
+conditions_of template bound pseudo = plain (conditions_found (scope_within template bound pseudo) template.conds)
 
 -- the fault of a nested stack at this path
 abbrev pub Refuses : {A : Type 0} → List ℕ → Outcome A → EvalFault → Type 0

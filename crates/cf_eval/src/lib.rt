@@ -3,6 +3,8 @@
 
 mod collect;
 mod compare;
+mod condition_map;
+mod decide;
 mod env;
 mod evaluation;
 mod fault;
@@ -15,6 +17,7 @@ mod texts;
 mod value;
 mod verdict;
 
+pub use condition_map::conditions;
 pub use env::{Env, OutputSight, Sight};
 pub use evaluation::{eval, eval_props, known_stays};
 pub use fault::{EvalFault, EvalWhy};

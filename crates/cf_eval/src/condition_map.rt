@@ -1,0 +1,96 @@
+//! What the conditions of a template come to.
+ghost use Rattle.std.specs.Prelude.{◌≡◌, Some, IfOk, map};
+ghost use Rattle.cf_tree.specs.Keys.{value_at};
+ghost use Rattle.cf_eval.specs.Conditions.{conditions_found};
+ghost use Rattle.cf_eval.specs.Deciding.{Answers, IsRight, GivesConds, ground_of};
+ghost use Rattle.cf_eval.specs.Env.{Decides, conditions_of};
+
+use crate::decide::{Ground, descend};
+use crate::evaluation::told;
+use crate::fault::{EvalFault, Stop};
+use cf_tree::{Bound, Cond, CondMap, Dict, Names, Resources, Template, Txt, Verdict};
+use std::alloc::{AllocError, Global};
+
+/// What each condition of a template comes to.
+///
+/// Conditions are decided in the order of their names, and one that another one asks for is decided
+/// then, each of them once. `pseudo` has the pseudo parameters but `AWS::NoValue`. A condition may
+/// refer to no resource, attribute or import.
+///
+/// # Errors
+///
+/// `Bad` exactly where a condition has a fault, with the first one: why, the path `stack`, and the
+/// place of the innermost function around it. A condition that needs itself is
+/// `CircularCondition`, at the reference that comes back to it. `NoMemory`, where there is no
+/// memory for the map.
+#[tactic(auto, using(crate::proofs::Tells::told))]
+pub fn conditions(
+    alloc: Global,
+    template: &Template,
+    bound: &Bound,
+    pseudo: &Dict,
+    stack: &Txt,
+) -> Result<CondMap, EvalFault>
+    ensures { Decides stack.now (conditions_of template.now bound.now pseudo.now) result }
+{
+    let Ok(resources) = names_of(alloc, &template.resources) else {
+        return Err(EvalFault::NoMemory);
+    };
+    let ground = Ground {
+        params: bound,
+        mappings: &template.mappings,
+        pseudo,
+        resources: &resources,
+        conds: &template.conds,
+    };
+    match decide_all(alloc, &ground) {
+        Ok(conds) => Ok(conds),
+        Err(stop) => Err(told(alloc, stack, stop)),
+    }
+}
+
+/// The logical ids of resources.
+fn names_of(alloc: Global, resources: &Resources) -> Result<Names, AllocError>
+    ensures { IfOk result (λ n. n ≡ map (λ r. r.name) resources.now) }
+{
+    let mut names = Names::new(alloc);
+    for resource in resources.as_slice() {
+        names.push(resource.name.try_clone(alloc)?)?;
+    }
+    Ok(names)
+}
+
+/// All conditions in the order of their names, up to the first fault.
+fn decide_all(alloc: Global, ground: &Ground) -> Result<CondMap, Stop>
+    ensures { GivesConds (conditions_found (ground_of ground.now) ground.now.conds.now) result }
+{
+    let mut done = CondMap::new(alloc);
+    let mut verdicts = Vec::new(alloc);
+    for condition in ground.conds.as_slice() {
+        match settle(alloc, ground, &condition.0, &condition.1, &mut done) {
+            Ok(verdict) => verdicts.push((condition.0.try_clone(alloc)?, verdict))?,
+            Err(stop) => return Err(stop),
+        }
+    }
+    Ok(CondMap::from_vec(verdicts))
+}
+
+/// A condition that is decided, or is decided now.
+fn settle(
+    alloc: Global,
+    ground: &Ground,
+    name: &Txt,
+    cond: &Cond,
+    done: &mut CondMap,
+) -> Result<Verdict, Stop>
+    requires right { IsRight (ground_of ground.now) ground.now.conds.now done.old }
+    requires declared { value_at name.now ground.now.conds.now ≡ Some cond.now }
+    ensures { Answers (ground_of ground.now) ground.now.conds.now name.now done.new result }
+{
+    if let Some(verdict) = done.get(name.as_str()) {
+        return Ok(*verdict);
+    }
+    let mut under = Vec::new(alloc);
+    let left = ground.conds.len();
+    descend(alloc, ground, left, &mut under, name, cond, done)
+}
