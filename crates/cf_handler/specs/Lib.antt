@@ -3,3 +3,4 @@ pub mod Answered
 pub mod Name
 pub mod Move
 pub mod File
+pub mod Fence

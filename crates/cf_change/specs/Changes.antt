@@ -1,0 +1,237 @@
+-- What a new template changes of what a stack holds (User Guide: change sets; DescribeChangeSet). What counts as unknown, and so which details are Dynamic and which replacements Conditional, is this project's own.
+use Rattle.std.specs.Prelude.{ℕ, Bool, true, false, ◌&&◌, ◌||◌, not, List, [], ◌∷◌, ◌++◌, Option, Some, None, find, filter, filter_map, flat_map, fold, map, is_some, if◌then◌else◌}
+use Rattle.std.specs.List.{list_any}
+use Rattle.std.specs.Option.{option_map_or}
+use Rattle.std.specs.Str.{bytes_eq}
+use Rattle.cf_tree.specs.Datum.{Data}
+use Rattle.cf_tree.specs.Keys.{value_at, put, bytes_lt}
+use Rattle.cf_tree.specs.Same.{same_data}
+use Rattle.cf_tree.specs.declared.row.Row.{Row}
+use Rattle.cf_tree.specs.declared.row.Detail.{Detail}
+use Rattle.cf_tree.specs.declared.row.Action.TheVariants as action
+use Rattle.cf_tree.specs.declared.row.Replacement.{Replacement}
+use Rattle.cf_tree.specs.declared.row.Replacement.TheVariants as replacement
+use Rattle.cf_tree.specs.declared.row.Attribute.{Attribute}
+use Rattle.cf_tree.specs.declared.row.Attribute.TheVariants as attribute
+use Rattle.cf_tree.specs.declared.row.Recreation.{Recreation}
+use Rattle.cf_tree.specs.declared.row.Recreation.TheVariants as recreation
+use Rattle.cf_tree.specs.declared.row.Evaluation.{Evaluation}
+use Rattle.cf_tree.specs.declared.row.Evaluation.TheVariants as evaluation
+use Rattle.cf_tree.specs.declared.source.Source.{Source}
+use Rattle.cf_tree.specs.declared.template.Deletion.{Deletion}
+use Rattle.cf_tree.specs.declared.template.Deletion.TheVariants as deletion
+use Rattle.cf_tree.specs.declared.template.Replace.{Replace}
+use Rattle.cf_tree.specs.declared.template.Replace.TheVariants as replace
+use Rattle.cf_schema.specs.declared.described.Schema.{Schema}
+use Rattle.cf_eval.specs.Outcome.{Outcome, got, later, bad}
+use Rattle.cf_desired.specs.Flaw.{Flaw}
+use Rattle.cf_desired.specs.Plan.{Seen, SeenAt, Evaluated, flawed, evaluated, Wanted, WantedOutput, Plan, plan_of}
+use Rattle.cf_desired.specs.Whole.{wanted_at}
+
+-- a resource as a stack holds it
+pub record HeldAt : Type 0 where
+  pub path : List ℕ
+  pub kind : List ℕ
+  pub physical : List ℕ
+  pub props : List (List ℕ × Data)
+  pub attrs : List (List ℕ × Data)
+  pub deletion : Deletion
+  pub replace : Replace
+  pub unsure : Bool
+
+pub record HeldOutput : Type 0 where
+  pub name : List ℕ
+  pub value : List ℕ
+  pub export : Option (List ℕ)
+
+abbrev pub held_at : List ℕ → List HeldAt → Option HeldAt
+held_at path hs = find (λ h. bytes_eq path h.path) hs
+
+abbrev pub is_listed : List ℕ → List (List ℕ) → Bool
+is_listed name names = list_any (λ n. bytes_eq name n) names
+
+abbrev pub schema_of : List ℕ → List Schema → Option Schema
+schema_of kind schemas = find (λ g. bytes_eq kind g.kind) schemas
+
+-- whether a change of the property replaces the resource
+abbrev pub recreation_by : Schema → List ℕ → Recreation
+recreation_by g name = if is_listed name g.create_only then recreation.Always else if is_listed name g.conditional then recreation.Conditionally else recreation.Never
+
+abbrev pub recreation_of : Option Schema → List ℕ → Recreation
+recreation_of None name = recreation.Never
+recreation_of (Some g) name = recreation_by g name
+
+-- A property whose value is Later has a Dynamic detail; one whose known value differs, or that stands on one side alone, a Static one.
+abbrev pub differs : Option Data → Option (Option Data) → Option Evaluation
+differs old (Some None) = Some evaluation.Dynamic
+differs (Some a) (Some (Some b)) = if same_data a b then None else Some evaluation.Static
+differs None (Some (Some b)) = Some evaluation.Static
+differs (Some a) None = Some evaluation.Static
+differs None None = None
+
+abbrev pub property_detail : Option Schema → List (List ℕ × Data) → List (List ℕ × Option Data) → List ℕ → List Detail
+property_detail g old new name =
+    option_map_or (λ e. record { attribute = attribute.Properties; name = name; recreation = recreation_of g name; evaluation = e } ∷ []) (differs (value_at name old) (value_at name new)) []
+
+-- the names on either side, each once, in byte order
+abbrev pub names_of : List (List ℕ × Data) → List (List ℕ × Option Data) → List (List ℕ)
+names_of old new = map (λ p. p.0) (fold (λ all (n : List ℕ × Bool). put n.0 n.1 all) (map (λ p. (p.0, true)) old) (map (λ p. (p.0, true)) new))
+
+abbrev pub property_details : Option Schema → List (List ℕ × Data) → List (List ℕ × Option Data) → List Detail
+property_details g old new = flat_map (property_detail g old new) (names_of old new)
+
+-- a changed policy is a detail that never replaces
+abbrev pub same_deletion : Deletion → Deletion → Bool
+same_deletion deletion.Delete deletion.Delete = true
+same_deletion deletion.Retain deletion.Retain = true
+same_deletion deletion.RetainExceptOnCreate deletion.RetainExceptOnCreate = true
+same_deletion _ _ = false
+
+abbrev pub same_replace : Replace → Replace → Bool
+same_replace replace.Delete replace.Delete = true
+same_replace replace.Retain replace.Retain = true
+same_replace _ _ = false
+
+abbrev pub policy_details : HeldAt → Wanted → List Detail
+policy_details h w =
+    (if same_deletion h.deletion w.deletion then [] else record { attribute = attribute.DeletionPolicy; name = []; recreation = recreation.Never; evaluation = evaluation.Static } ∷ [])
+    ++ (if same_replace h.replace w.replace then [] else record { attribute = attribute.UpdateReplacePolicy; name = []; recreation = recreation.Never; evaluation = evaluation.Static } ∷ [])
+
+-- Replacement: True where a create-only property has a Static detail; else Conditional where one has a Dynamic detail or a conditional one has any; else False.
+abbrev pub is_always_static : Recreation → Evaluation → Bool
+is_always_static recreation.Always evaluation.Static = true
+is_always_static _ _ = false
+
+abbrev pub is_never : Recreation → Bool
+is_never recreation.Never = true
+is_never _ = false
+
+abbrev pub replacement_of : List Detail → Replacement
+replacement_of ds =
+    if list_any (λ d. is_always_static d.recreation d.evaluation) ds then replacement.True
+    else if list_any (λ d. not (is_never d.recreation)) ds then replacement.Conditional
+    else replacement.False
+
+abbrev pub props_or_none : Evaluated → List (List ℕ × Option Data)
+props_or_none (flawed f) = []
+props_or_none (evaluated ps) = ps
+
+abbrev pub is_empty : {A : Type 0} → List A → Bool
+is_empty [] = true
+is_empty (a ∷ rest) = false
+
+-- the row of a path that is in both: it is there exactly where something changes, or the resource is unsure
+abbrev pub modify_row : HeldAt → Wanted → List Detail → Option Row
+modify_row h w ds =
+    if is_empty ds && not h.unsure then None
+    else Some (record { action = action.Modify; path = w.path; kind = w.kind; replacement = Some (replacement_of ds); unsure = h.unsure; details = ds })
+
+abbrev pub row_for : List Schema → Option HeldAt → Wanted → Option Row
+row_for schemas None w = Some (record { action = action.Add; path = w.path; kind = w.kind; replacement = None; unsure = false; details = [] })
+row_for schemas (Some h) w = modify_row h w (property_details (schema_of w.kind schemas) h.props (props_or_none w.props) ++ policy_details h w)
+
+-- What of a resource is seen by those that need it: unknown are the id of one that is added or may be replaced, and the attributes of one that is added, has a property detail or is unsure.
+abbrev pub is_property_attribute : Attribute → Bool
+is_property_attribute attribute.Properties = true
+is_property_attribute _ = false
+
+abbrev pub is_property : Detail → Bool
+is_property d = is_property_attribute d.attribute
+
+abbrev pub keeps_id : Option Replacement → Bool
+keeps_id (Some replacement.False) = true
+keeps_id _ = false
+
+abbrev pub seen_held : HeldAt → Option Row → SeenAt
+seen_held h None = record { physical = Some h.physical; attrs = Some h.attrs }
+seen_held h (Some r) = record {
+  physical = if keeps_id r.replacement then Some h.physical else None;
+  attrs = if list_any is_property r.details || h.unsure then None else Some h.attrs;
+}
+
+abbrev pub seen_after : Option HeldAt → Option Row → SeenAt
+seen_after None row = record { physical = None; attrs = None }
+seen_after (Some h) row = seen_held h row
+
+-- The rows are found along the needs: each path is evaluated over what is seen of the paths before it.
+pub record Found : Type 0 where
+  pub rows : List Row
+  pub seen : Seen
+  pub clash : List (List ℕ)
+
+abbrev pub row_list : Option Row → List Row
+row_list None = []
+row_list (Some r) = r ∷ []
+
+abbrev pub is_other_kind : Option HeldAt → Wanted → Bool
+is_other_kind None w = false
+is_other_kind (Some h) w = not (bytes_eq h.kind w.kind)
+
+abbrev pub found_with : List Schema → List HeldAt → Found → Wanted → Found
+found_with schemas held f w =
+    if is_other_kind (held_at w.path held) w then record f { clash = f.clash ++ w.path ∷ []; seen = f.seen ++ (w.path, seen_after (held_at w.path held) None) ∷ [] }
+    else record f { rows = f.rows ++ row_list (row_for schemas (held_at w.path held) w); seen = f.seen ++ (w.path, seen_after (held_at w.path held) (row_for schemas (held_at w.path held) w)) ∷ [] }
+
+abbrev pub found_at : List Schema → List HeldAt → Source → Found → List ℕ → Found
+found_at schemas held source f path = option_map_or (found_with schemas held f) (wanted_at path (plan_of source f.seen)) f
+
+-- the paths of the new template, in the order of work
+abbrev pub new_paths : Source → List (List ℕ)
+new_paths source = map (λ w. w.path) (plan_of source []).wanted
+
+abbrev pub found_of : List Schema → List HeldAt → Source → Found
+found_of schemas held source = fold (found_at schemas held source) (record { rows = []; seen = []; clash = [] }) (new_paths source)
+
+-- what is held and not wanted any more is removed
+abbrev pub removed_row : HeldAt → Row
+removed_row h = record { action = action.Remove; path = h.path; kind = h.kind; replacement = None; unsure = false; details = [] }
+
+abbrev pub removed_rows : List HeldAt → Source → List Row
+removed_rows held source = map removed_row (filter (λ h. not (is_listed h.path (new_paths source))) held)
+
+-- by path
+abbrev pub put_row : List Row → Row → List Row
+put_row [] r = r ∷ []
+put_row (q ∷ qs) r = if bytes_lt q.path r.path then q ∷ put_row qs r else r ∷ q ∷ qs
+
+-- whether the evaluated outputs and exports differ from those that are held, or may
+abbrev pub is_same_text : List ℕ → Outcome (List ℕ) → Bool
+is_same_text t (got v) = bytes_eq t v
+is_same_text t _ = false
+
+abbrev pub is_same_export : Option (List ℕ) → Option (Outcome (List ℕ)) → Bool
+is_same_export None None = true
+is_same_export (Some a) (Some b) = is_same_text a b
+is_same_export _ _ = false
+
+abbrev pub are_same_outputs : List HeldOutput → List WantedOutput → Bool
+are_same_outputs [] [] = true
+are_same_outputs (h ∷ hs) (w ∷ ws) = bytes_eq h.name w.name && (is_same_text h.value w.value && (is_same_export h.export w.export && are_same_outputs hs ws))
+are_same_outputs _ _ = false
+
+abbrev pub is_kept_export : List (List ℕ × Outcome (List ℕ)) → List ℕ × List ℕ → Bool
+is_kept_export new e = list_any (λ n. bytes_eq e.0 n.0 && is_same_text e.1 n.1) new
+
+abbrev pub is_old_export : List (List ℕ × List ℕ) → List ℕ × Outcome (List ℕ) → Bool
+is_old_export old n = list_any (λ e. bytes_eq e.0 n.0 && is_same_text e.1 n.1) old
+
+abbrev pub are_same_exports : List (List ℕ × List ℕ) → List (List ℕ × Outcome (List ℕ)) → Bool
+are_same_exports old new = not (list_any (λ e. not (is_kept_export new e)) old) && not (list_any (λ n. not (is_old_export old n)) new)
+
+-- what changes: rows by path, whether the outputs differ or may, the paths that are held with another type, and the flaws of the template
+pub record Changes : Type 0 where
+  pub rows : List Row
+  pub outputs_differ : Bool
+  pub clash : List (List ℕ)
+  pub flaws : List Flaw
+
+abbrev pub changes_of : List Schema → List HeldAt → List HeldOutput → List (List ℕ × List ℕ) → Source → Changes
+changes_of schemas held outputs exports source =
+    let f = found_of schemas held source in
+    let p = plan_of source f.seen in
+    record {
+      rows = fold put_row [] (f.rows ++ removed_rows held source);
+      outputs_differ = not (are_same_outputs outputs p.outputs && are_same_exports exports p.exports);
+      clash = f.clash;
+      flaws = p.flaws;
+    }

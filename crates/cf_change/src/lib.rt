@@ -1,0 +1,2 @@
+//! What an update would change.
+#![tactic(auto)]

@@ -1,0 +1,114 @@
+-- What is evaluated in one template: properties one by one, outputs, and the parameters of a nested stack.
+use Rattle.std.specs.Prelude.{ℕ, Bool, true, false, List, [], ◌∷◌, ◌++◌, Option, Some, None, filter, map, option_map, unwrap_or, if◌then◌else◌, codes}
+use Rattle.std.specs.List.{join_by}
+use Rattle.cf_tree.specs.Datum.{Data, Items, Members, text, whole, truth, list, dict, no_items, item, no_members, member}
+use Rattle.cf_tree.specs.Keys.{value_at}
+use Rattle.cf_tree.specs.Forms.{Form, Node, Fields, expr, choice, no_fields, field}
+use Rattle.cf_tree.specs.Forms as node
+use Rattle.cf_tree.specs.declared.bound.Setting.{Setting}
+use Rattle.cf_tree.specs.declared.bound.Verdict.{Verdict}
+use Rattle.cf_tree.specs.declared.template.Template.{Template}
+use Rattle.cf_tree.specs.declared.template.Out.{Out}
+use Rattle.cf_eval.specs.declared.env.Sight.{Sight}
+use Rattle.cf_eval.specs.declared.fault.EvalWhy.TheVariants.{WrongKind, UnknownName}
+use Rattle.cf_eval.specs.Outcome.{Outcome, Stop, got, later, bad, fault, undecided, on_got, or_wrong}
+use Rattle.cf_eval.specs.Scope.{Scope, open_to, held_at}
+use Rattle.cf_eval.specs.ScopeOf.{setting_of, verdict_of}
+use Rattle.cf_eval.specs.Texts.{Found, known, text_of}
+use Rattle.cf_eval.specs.Value.{form_found, blamed}
+use Rattle.cf_eval.specs.Env.{plain}
+use Rattle.cf_param.specs.declared.offered.Piece.{Piece}
+use Rattle.cf_param.specs.declared.offered.Piece.TheVariants.{Text, Later}
+use Rattle.cf_desired.specs.Flaw.{Flaw, eval}
+
+-- the scope of a template's resources and outputs
+abbrev pub scope_over : Template → List (List ℕ × Setting) → List (List ℕ × Verdict) → List (List ℕ × Data) → List (List ℕ × Sight) → List (List ℕ × List ℕ) → Scope
+scope_over t bound conds pseudo seen imports = record {
+  params = λ name. option_map setting_of (value_at name bound);
+  mapping = λ name. value_at name t.mappings;
+  pseudo = pseudo;
+  decided = λ at name. held_at at name (option_map verdict_of (value_at name conds));
+  beyond = open_to seen imports;
+}
+
+abbrev pub value_in : Scope → Form → Found
+value_in s e = plain (form_found s None e)
+
+-- where an evaluation stops, as a flaw of the stack at a path
+abbrev pub flaw_at : List ℕ → Stop → Flaw
+flaw_at stack (fault why at) = eval why stack at
+flaw_at stack (undecided name at) = eval UnknownName stack at
+
+-- Properties, one by one: one that is NoValue is left out, one that is Later is None; the first fault is the answer.
+pub data Props : Type 0 where
+  known_props : List (List ℕ × Option Data) → Props
+  bad_props : Stop → Props
+
+abbrev pub with_prop : List ℕ → Found → Props → Props
+with_prop name (bad s) rest = bad_props s
+with_prop name found (bad_props s) = bad_props s
+with_prop name (got None) (known_props ps) = known_props ps
+with_prop name (got (Some d)) (known_props ps) = known_props ((name, Some d) ∷ ps)
+with_prop name later (known_props ps) = known_props ((name, None) ∷ ps)
+
+abbrev pub props_in : Scope → List (List ℕ × Form) → Props
+props_in s [] = known_props []
+props_in s (p ∷ ps) = with_prop p.0 (value_in s p.1) (props_in s ps)
+
+-- A value that is wanted as a text where no function holds it: its own place is blamed.
+abbrev pub place_in : Form → List ℕ
+place_in (expr at n) = at
+
+abbrev pub text_wanted : List ℕ → Option Data → Outcome (List ℕ)
+text_wanted at None = bad (fault WrongKind at)
+text_wanted at (Some d) = or_wrong at (text_of d)
+
+abbrev pub text_in : Scope → Form → Outcome (List ℕ)
+text_in s e = on_got (value_in s e) (text_wanted (place_in e))
+
+-- The value of a nested parameter: a text, a whole number or a truth value, or a list of texts joined with commas.
+abbrev pub text_only : Data → Option (List ℕ)
+text_only (text t) = Some t
+text_only _ = None
+
+abbrev pub texts_of : Items → Option (List (List ℕ))
+texts_of no_items = Some []
+texts_of (item (text t) ds) = option_map (λ ts. t ∷ ts) (texts_of ds)
+texts_of (item _ ds) = None
+
+abbrev pub joined : List (List ℕ) → List ℕ
+joined ts = join_by (λ t. t) (codes ",") ts
+
+abbrev pub piece_text : Data → Option (List ℕ)
+piece_text (list ds) = option_map joined (texts_of ds)
+piece_text d = text_of d
+
+abbrev pub piece_wanted : List ℕ → Option Data → Outcome (Option Piece)
+piece_wanted at None = got None
+piece_wanted at (Some d) = on_got (or_wrong at (piece_text d)) (λ t. got (Some (Text t)))
+
+abbrev pub or_later_piece : Outcome (Option Piece) → Outcome (Option Piece)
+or_later_piece later = got (Some Later)
+or_later_piece o = o
+
+-- where a value is to blame: the function that it is, or itself
+abbrev pub piece_found : Scope → Option (List ℕ) → Form → Outcome (Option Piece)
+piece_found s around (expr at n) = or_later_piece (on_got (plain (form_found s around (expr at n))) (piece_wanted (blamed around at n)))
+
+abbrev pub with_piece : List ℕ → Option Piece → List (List ℕ × Piece) → List (List ℕ × Piece)
+with_piece name None ps = ps
+with_piece name (Some p) ps = (name, p) ∷ ps
+
+abbrev pub pieces_in : Scope → Option (List ℕ) → Fields → Outcome (List (List ℕ × Piece))
+pieces_in s around no_fields = got []
+pieces_in s around (field k e fs) = on_got (piece_found s around e) (λ p. on_got (pieces_in s around fs) (λ ps. got (with_piece k p ps)))
+
+-- the members of `Parameters`: a map, or the taken branch of an Fn::If
+abbrev mutual
+  pub parameters_in : Scope → Option (List ℕ) → Form → Outcome (List (List ℕ × Piece))
+  parameters_in s around (expr at n) = node_parameters s around at n
+
+  pub node_parameters : Scope → Option (List ℕ) → List ℕ → Node → Outcome (List (List ℕ × Piece))
+  node_parameters s around at (node.dict fs) = pieces_in s around fs
+  node_parameters s around at (choice name y n) = on_got (s.decided at name) (λ b. if b then parameters_in s (Some at) y else parameters_in s (Some at) n)
+  node_parameters s around at n = on_got (plain (form_found s around (expr at n))) (λ _. bad (fault WrongKind (blamed around at n)))

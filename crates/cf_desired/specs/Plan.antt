@@ -1,0 +1,400 @@
+-- What a template wants of each path (User Guide: working with nested stacks; limits, and how far a nested stack may rest on what is not known yet, are this project's own).
+use Rattle.std.specs.Prelude.{ℕ, zero, suc, ◌+◌, ◌==◌, Bool, true, false, ◌&&◌, ◌||◌, not, List, [], ◌∷◌, ◌++◌, Option, Some, None, Result, Ok, Err, find, filter, filter_map, flat_map, map, option_map, option_and_then, unwrap_or, is_some, fold, length, nat_lt, codes, if◌then◌else◌}
+use Rattle.std.specs.List.{list_any, list_all}
+use Rattle.std.specs.Option.{option_or, option_map_or}
+use Rattle.std.specs.Result.{result_ok}
+use Rattle.std.specs.Str.{bytes_eq}
+use Rattle.cf_tree.specs.Datum.{Data}
+use Rattle.cf_tree.specs.Keys.{value_at}
+use Rattle.cf_tree.specs.Forms.{Form}
+use Rattle.cf_tree.specs.Named.{found}
+use Rattle.cf_tree.specs.declared.bound.Setting.{Setting}
+use Rattle.cf_tree.specs.declared.bound.Verdict.{Verdict}
+use Rattle.cf_tree.specs.declared.bound.Verdict.TheVariants as verdict
+use Rattle.cf_tree.specs.declared.template.Template.{Template}
+use Rattle.cf_tree.specs.declared.template.Res.{Res}
+use Rattle.cf_tree.specs.declared.template.Out.{Out}
+use Rattle.cf_tree.specs.declared.template.Deletion.{Deletion}
+use Rattle.cf_tree.specs.declared.template.Deletion.TheVariants as deletion
+use Rattle.cf_tree.specs.declared.template.Replace.{Replace}
+use Rattle.cf_tree.specs.declared.template.Replace.TheVariants as replace
+use Rattle.cf_tree.specs.declared.source.Source.{Source}
+use Rattle.cf_template.specs.Whole.{template_of}
+use Rattle.cf_eval.specs.declared.env.Sight.{Sight}
+use Rattle.cf_eval.specs.declared.env.Sight.TheVariants as sight
+use Rattle.cf_eval.specs.declared.env.OutputSight.{OutputSight}
+use Rattle.cf_eval.specs.declared.env.OutputSight.TheVariants as output
+use Rattle.cf_eval.specs.declared.fault.EvalWhy.TheVariants.{UnknownName, WrongKind}
+use Rattle.cf_eval.specs.Outcome.{Outcome, Stop, got, later, bad, fault, on_got}
+use Rattle.cf_eval.specs.Scope.{Scope}
+use Rattle.cf_eval.specs.Texts.{text_of}
+use Rattle.cf_eval.specs.Env.{conditions_of}
+use Rattle.cf_graph.specs.Mentions.{Mention, by_ref, by_attribute, fields_mentions}
+use Rattle.cf_graph.specs.Needs.{Tangle, needs_of, is_made, is_false, holds_in, is_one, first_in}
+use Rattle.cf_tree.specs.Forms.{fields_of}
+use Rattle.cf_param.specs.declared.offered.Piece.{Piece}
+use Rattle.cf_param.specs.declared.offered.Piece.TheVariants.{Text, Later}
+use Rattle.cf_param.specs.declared.fault.BindFault.{BindFault}
+use Rattle.cf_param.specs.Binding.{binding_of}
+use Rattle.cf_desired.specs.Names.{path_in, name_in, stack_id, pseudo_of}
+use Rattle.cf_desired.specs.Flaw.{Flaw, bind, eval, graph, shape, template_missing, too_deep, too_many, dynamic_condition, dynamic_template}
+use Rattle.cf_desired.specs.Evaluate.{scope_over, value_in, flaw_at, Props, known_props, bad_props, props_in, place_in, text_in, parameters_in}
+
+-- what is known of a resource's physical id and of its attributes, by path
+pub record SeenAt : Type 0 where
+  pub physical : Option (List ℕ)
+  pub attrs : Option (List (List ℕ × Data))
+
+abbrev pub Seen : Type 0
+Seen = List (List ℕ × SeenAt)
+
+-- the evaluation of a path: a flaw, or its properties, each a value or None while it is Later
+pub data Evaluated : Type 0 where
+  flawed : Flaw → Evaluated
+  evaluated : List (List ℕ × Option Data) → Evaluated
+
+-- what is wanted at a path
+pub record Wanted : Type 0 where
+  pub path : List ℕ
+  pub kind : List ℕ
+  pub deletion : Deletion
+  pub replace : Replace
+  pub needs : List (List ℕ)
+  pub props : Evaluated
+
+-- an output: its value and the name that it is exported by, where it is; either Later or at fault
+pub record WantedOutput : Type 0 where
+  pub name : List ℕ
+  pub value : Outcome (List ℕ)
+  pub export : Option (Outcome (List ℕ))
+
+-- a nested stack: the path of its stack resource, what that needs, and why its parameters can't be bound
+pub record Inner : Type 0 where
+  pub path : List ℕ
+  pub needs : List (List ℕ)
+  pub fault : Option Flaw
+
+-- what the templates of a source want: paths in the order of work, outputs, nested stacks, and every flaw in the order in which it is met
+pub record Plan : Type 0 where
+  pub wanted : List Wanted
+  pub outputs : List WantedOutput
+  pub nested : List Inner
+  pub unmade : List (List ℕ)
+  pub exports : List (List ℕ × Outcome (List ℕ))
+  pub flaws : List Flaw
+  pub templates : ℕ
+  pub members : ℕ
+
+-- a template that is entered: at which path, as which stack, with which parameters, policies and needs
+pub record Entering : Type 0 where
+  pub path : List ℕ
+  pub stack : List ℕ
+  pub template : Template
+  pub given : List (List ℕ × Piece)
+  pub deletion : Option Deletion
+  pub replace : Option Replace
+  pub needs : List (List ℕ)
+
+abbrev pub no_plan : ℕ → ℕ → List Flaw → Plan
+no_plan templates members flaws = record { wanted = []; outputs = []; nested = []; unmade = []; exports = []; flaws = flaws; templates = templates; members = members }
+
+-- What is settled of a template's resources so far: the plan, what is seen of each, which paths each stands for, and the flaw of a nested stack's outputs.
+pub record Course : Type 0 where
+  pub plan : Plan
+  pub sights : List (List ℕ × Sight)
+  pub stands : List (List ℕ × List (List ℕ))
+  pub broken : List (List ℕ × Flaw)
+
+abbrev pub is_stack : Res → Bool
+is_stack r = bytes_eq r.kind (codes "AWS::CloudFormation::Stack")
+
+-- A resource without a policy of its own takes that of the nearest enclosing stack resource that has one, or else Delete.
+abbrev pub deletion_for : Entering → Res → Option Deletion
+deletion_for e r = option_or r.deletion e.deletion
+
+abbrev pub replace_for : Entering → Res → Option Replace
+replace_for e r = option_or r.replace e.replace
+
+-- What a logical id stands for: a resource for its own path, a nested stack for all paths in it and all that it needs.
+abbrev pub stood_for : Course → List (List ℕ) → List (List ℕ)
+stood_for c ids = flat_map (λ id. option_map_or (λ ps. ps) (value_at id c.stands) []) ids
+
+abbrev pub unique : List (List ℕ) → List (List ℕ)
+unique [] = []
+unique (p ∷ ps) = if is_one p ps then unique ps else p ∷ unique ps
+
+abbrev pub needed_paths : Entering → Course → List (List ℕ) → List (List ℕ)
+needed_paths e c ids = unique (stood_for c ids ++ e.needs)
+
+-- What is seen of a resource that is made.
+abbrev pub seen_as : Option SeenAt → Sight
+seen_as None = sight.Made None None
+seen_as (Some s) = sight.Made s.physical s.attrs
+
+-- The flaw of a nested stack's output is the flaw of what refers to it.
+abbrev pub is_of_id : List ℕ → Mention → Bool
+is_of_id id (by_attribute name) = bytes_eq id name
+is_of_id id (by_ref name) = false
+
+abbrev pub broken_for : Course → List (List ℕ × Verdict) → Res → Option Flaw
+broken_for c conds r = option_map (λ b. b.1) (find (λ b. list_any (is_of_id b.0) (fields_mentions (holds_in conds) (fields_of r.props))) c.broken)
+
+abbrev pub has_later : List (List ℕ × Option Data) → Bool
+has_later ps = list_any (λ p. not (is_some p.1)) ps
+
+abbrev pub known_or_broken : Option Flaw → List (List ℕ × Option Data) → Evaluated
+known_or_broken None ps = evaluated ps
+known_or_broken (Some f) ps = if has_later ps then flawed f else evaluated ps
+
+abbrev pub evaluation_of : Entering → Option Flaw → Props → Evaluated
+evaluation_of e b (bad_props s) = flawed (flaw_at e.path s)
+evaluation_of e b (known_props ps) = known_or_broken b ps
+
+abbrev pub flaws_of : Evaluated → List Flaw
+flaws_of (flawed f) = f ∷ []
+flaws_of (evaluated ps) = []
+
+-- A resource's condition that is not declared is an unknown name.
+abbrev pub condition_flaw : Entering → List (List ℕ × Verdict) → List ℕ → Option (List ℕ) → Option Flaw
+condition_flaw e conds at None = None
+condition_flaw e conds at (Some name) = if is_some (value_at name conds) then None else Some (eval UnknownName e.path at)
+
+abbrev pub resource_place : List ℕ → List ℕ
+resource_place id = codes "/Resources/" ++ id ++ codes "/Condition"
+
+abbrev pub output_place : List ℕ → List ℕ
+output_place name = codes "/Outputs/" ++ name ++ codes "/Condition"
+
+abbrev pub unless_flaw : Option Flaw → Evaluated → Evaluated
+unless_flaw None v = v
+unless_flaw (Some f) v = flawed f
+
+-- A resource joins the plan.
+abbrev pub joined_to : Plan → Wanted → Plan
+joined_to p w = record p { wanted = p.wanted ++ w ∷ []; flaws = p.flaws ++ flaws_of w.props }
+
+abbrev pub with_resource : Entering → Scope → List (List ℕ × Verdict) → Seen → Course → Res → List (List ℕ) → Course
+with_resource e s conds seen c r ids =
+    let path = path_in e.path r.name in
+    record c {
+      plan = joined_to c.plan (record {
+        path = path;
+        kind = r.kind;
+        deletion = unwrap_or (deletion_for e r) deletion.Delete;
+        replace = unwrap_or (replace_for e r) replace.Delete;
+        needs = needed_paths e c ids;
+        props = unless_flaw (condition_flaw e conds (resource_place r.name) r.condition) (evaluation_of e (broken_for c conds r) (props_in s r.props));
+      });
+      sights = c.sights ++ (r.name, seen_as (value_at path seen)) ∷ [];
+      stands = c.stands ++ (r.name, path ∷ []) ∷ [];
+    }
+
+-- A nested stack: the properties that it may have, its parameters, its template by name, and the limits, in this order.
+abbrev pub is_stack_property : List ℕ → Bool
+is_stack_property name = is_one name (codes "NotificationARNs" ∷ codes "Parameters" ∷ codes "Tags" ∷ codes "TemplateURL" ∷ codes "TimeoutInMinutes" ∷ [])
+
+abbrev pub has_stack_shape : Res → Bool
+has_stack_shape r = list_all (λ p. is_stack_property p.0) r.props && is_some (value_at (codes "TemplateURL") r.props)
+
+abbrev pub parameters_of : Scope → Res → Outcome (List (List ℕ × Piece))
+parameters_of s r = option_map_or (parameters_in s None) (value_at (codes "Parameters") r.props) (got [])
+
+-- a template's name is a text; where it is NoValue the shape is wrong, where it is Later it can't be told
+pub data Url : Type 0 where
+  url : List ℕ → Url
+  no_url : Flaw → Url
+
+abbrev pub url_from : List ℕ → List ℕ → Outcome (Option (List ℕ)) → Url
+url_from stack path (got (Some name)) = url name
+url_from stack path (got None) = no_url (shape path)
+url_from stack path later = no_url (dynamic_template path)
+url_from stack path (bad s) = no_url (flaw_at stack s)
+
+abbrev pub maybe_text : List ℕ → Option Data → Outcome (Option (List ℕ))
+maybe_text at None = got None
+maybe_text at (Some d) = option_map_or (λ t. got (Some t)) (text_of d) (bad (fault WrongKind at))
+
+abbrev pub accepted : {E : Type 0} → Result Template E → Option Template
+accepted (Ok t) = Some t
+accepted (Err f) = None
+
+-- the template of a name among the source's texts; one that is refused counts as not there
+abbrev pub template_named : List ℕ → Source → Option Template
+template_named name source = option_and_then (λ bytes. accepted (template_of bytes)) (value_at name source.texts)
+
+abbrev pub Laying : Type 0
+Laying = Entering → ℕ → ℕ → Plan
+
+-- the limits, on entering a nested stack: depth, templates, the template itself, the members of all together
+abbrev pub entered : Option Laying → Plan → List ℕ → List ℕ → Option Template → (Template → Entering) → Plan
+entered None p path name t entering = no_plan p.templates p.members (too_deep path ∷ [])
+entered (Some lay) p path name None entering = if nat_lt 16 (p.templates + 1) then no_plan p.templates p.members (too_many (p.templates + 1) ∷ []) else no_plan p.templates p.members (template_missing name ∷ [])
+entered (Some lay) p path name (Some t) entering =
+    if nat_lt 16 (p.templates + 1) then no_plan p.templates p.members (too_many (p.templates + 1) ∷ [])
+    else if nat_lt 2000 (p.members + length t.resources) then no_plan p.templates p.members (too_many (p.members + length t.resources) ∷ [])
+    else lay (entering t) (p.templates + 1) (p.members + length t.resources)
+
+abbrev pub nested_at_url : Option Laying → Source → Entering → Course → Res → List (List ℕ) → List (List ℕ × Piece) → Url → Plan
+nested_at_url lay source e c r ids given (no_url f) = no_plan c.plan.templates c.plan.members (f ∷ [])
+nested_at_url lay source e c r ids given (url name) = entered lay c.plan (path_in e.path r.name) name (template_named name source) (λ t. record {
+  path = path_in e.path r.name;
+  stack = name_in e.stack r.name;
+  template = t;
+  given = given;
+  deletion = deletion_for e r;
+  replace = replace_for e r;
+  needs = needed_paths e c ids;
+})
+
+abbrev pub url_of : Entering → Scope → Res → Url
+url_of e s r =
+    let form = value_at (codes "TemplateURL") r.props in
+    url_from e.path (path_in e.path r.name) (option_map_or (λ f. on_got (value_in s f) (maybe_text (place_in f))) form (got None))
+
+abbrev pub nested_given : Option Laying → Source → Entering → Scope → Course → Res → List (List ℕ) → Outcome (List (List ℕ × Piece)) → Plan
+nested_given lay source e s c r ids (got given) = nested_at_url lay source e c r ids given (url_of e s r)
+nested_given lay source e s c r ids later = no_plan c.plan.templates c.plan.members (dynamic_template (path_in e.path r.name) ∷ [])
+nested_given lay source e s c r ids (bad f) = no_plan c.plan.templates c.plan.members (flaw_at e.path f ∷ [])
+
+abbrev pub nested_plan : Option Laying → Source → Entering → Scope → List (List ℕ × Verdict) → Course → Res → List (List ℕ) → Option Flaw → Plan
+nested_plan lay source e s conds c r ids (Some f) = no_plan c.plan.templates c.plan.members (f ∷ [])
+nested_plan lay source e s conds c r ids None =
+    if has_stack_shape r then nested_given lay source e s c r ids (parameters_of s r) else no_plan c.plan.templates c.plan.members (shape (path_in e.path r.name) ∷ [])
+
+-- what is seen of a nested output; one that is Later or at fault has no value
+abbrev pub value_seen : Outcome (List ℕ) → Option (List ℕ)
+value_seen (got v) = Some v
+value_seen _ = None
+
+abbrev pub output_seen : WantedOutput → List ℕ × OutputSight
+output_seen o = (codes "Outputs." ++ o.name, output.Made (value_seen o.value))
+
+abbrev pub outputs_not_made : List (List ℕ) → List (List ℕ × OutputSight)
+outputs_not_made names = map (λ n. (codes "Outputs." ++ n, output.NotMade)) names
+
+abbrev pub bad_stop : Outcome (List ℕ) → Option Stop
+bad_stop (bad s) = Some s
+bad_stop _ = None
+
+abbrev pub broken_output : List ℕ → List WantedOutput → Option Flaw
+broken_output path outputs = option_map (flaw_at path) (first_in (filter_map (λ o. bad_stop o.value) outputs))
+
+-- the nested stack's plan joins the plan around it
+abbrev pub merged : Plan → Plan → Inner → Plan
+merged p q inner = record {
+  wanted = p.wanted ++ q.wanted;
+  outputs = p.outputs;
+  nested = p.nested ++ (inner ∷ q.nested);
+  unmade = p.unmade;
+  exports = p.exports ++ q.exports;
+  flaws = p.flaws ++ q.flaws;
+  templates = q.templates;
+  members = q.members;
+}
+
+abbrev pub is_bind_at : List ℕ → Flaw → Bool
+is_bind_at path (bind at f) = bytes_eq path at
+is_bind_at path _ = false
+
+abbrev pub bind_flaw_at : List ℕ → List Flaw → Option Flaw
+bind_flaw_at path flaws = find (is_bind_at path) flaws
+
+abbrev pub with_nested : Option Laying → Source → ℕ → Entering → Scope → List (List ℕ × Verdict) → Course → Res → List (List ℕ) → Course
+with_nested lay source number e s conds c r ids =
+    let path = path_in e.path r.name in
+    let q = nested_plan lay source e s conds c r ids (condition_flaw e conds (resource_place r.name) r.condition) in
+    record {
+      plan = merged c.plan q (record { path = path; needs = needed_paths e c ids; fault = bind_flaw_at path q.flaws });
+      sights = c.sights ++ (r.name, sight.Nested (stack_id (name_in e.stack r.name) number) (map output_seen q.outputs ++ outputs_not_made q.unmade)) ∷ [];
+      stands = c.stands ++ (r.name, map (λ w. w.path) q.wanted ++ needed_paths e c ids) ∷ [];
+      broken = c.broken ++ option_map_or (λ f. (r.name, f) ∷ []) (broken_output path q.outputs) [];
+    }
+
+-- The resources in the order of work.
+abbrev pub with_member : Option Laying → Source → Seen → ℕ → Entering → List (List ℕ × Setting) → List (List ℕ × Verdict) → Course → List ℕ × List (List ℕ) → Course
+with_member lay source seen number e bound conds c m =
+    let s = scope_over e.template bound conds (pseudo_of e.stack number) c.sights source.imports in
+    option_map_or (λ r. if is_stack r then with_nested lay source number e s conds c r m.1 else with_resource e s conds seen c r m.1) (found (λ r. r.name) m.0 e.template.resources) c
+
+abbrev pub not_made : List (List ℕ × Verdict) → Template → List (List ℕ × Sight)
+not_made conds t = map (λ r. (r.name, sight.NotMade)) (filter (λ r. not (is_made conds r)) t.resources)
+
+-- Outputs whose condition isn't false: the export before the value; an export's name may not be Later.
+abbrev pub is_output_made : List (List ℕ × Verdict) → Out → Bool
+is_output_made conds o = not (option_map_or (λ c. is_false (value_at c conds)) o.condition false)
+
+abbrev pub export_wanted : Form → Outcome (List ℕ) → Outcome (List ℕ)
+export_wanted f later = bad (fault WrongKind (place_in f))
+export_wanted f o = o
+
+abbrev pub output_flaw : Entering → List (List ℕ × Verdict) → Out → Option Stop
+output_flaw e conds o = option_map_or (λ c. if is_some (value_at c conds) then None else Some (fault UnknownName (output_place o.name))) o.condition None
+
+abbrev pub wanted_output : Scope → Option Stop → Out → WantedOutput
+wanted_output s (Some stop) o = record { name = o.name; value = bad stop; export = None }
+wanted_output s None o = record { name = o.name; value = text_in s o.value; export = option_map (λ f. export_wanted f (text_in s f)) o.export }
+
+abbrev pub stops_of : WantedOutput → List Stop
+stops_of o = option_map_or (λ x. option_map_or (λ s. s ∷ []) (bad_stop x) []) o.export [] ++ option_map_or (λ s. s ∷ []) (bad_stop o.value) []
+
+abbrev pub exported : WantedOutput → List (List ℕ × Outcome (List ℕ))
+exported o = option_map_or (λ x. option_map_or (λ name. (name, o.value) ∷ []) (value_seen x) []) o.export []
+
+abbrev pub with_outputs : Entering → Scope → List (List ℕ × Verdict) → Plan → Plan
+with_outputs e s conds p =
+    let outputs = map (λ o. wanted_output s (output_flaw e conds o) o) (filter (is_output_made conds) e.template.outputs) in
+    record p {
+      outputs = outputs;
+      unmade = map (λ o. o.name) (filter (λ o. not (is_output_made conds o)) e.template.outputs);
+      exports = p.exports ++ flat_map exported outputs;
+      flaws = p.flaws ++ map (flaw_at e.path) (flat_map stops_of outputs);
+    }
+
+-- One template: its parameters bound, its conditions decided, its order found, then its resources and its outputs.
+abbrev pub planned : Option Laying → Source → Seen → ℕ → Entering → List (List ℕ × Setting) → List (List ℕ × Verdict) → Plan → Result (List (List ℕ × List (List ℕ))) Tangle → Plan
+planned lay source seen number e bound conds p (Err t) = record p { flaws = p.flaws ++ graph e.path t ∷ [] }
+planned lay source seen number e bound conds p (Ok order) =
+    let c = fold (with_member lay source seen number e bound conds) (record { plan = p; sights = not_made conds e.template; stands = []; broken = [] }) order in
+    with_outputs e (scope_over e.template bound conds (pseudo_of e.stack number) c.sights source.imports) conds c.plan
+
+abbrev pub verdict_from : Option Bool → Verdict
+verdict_from None = verdict.Later
+verdict_from (Some true) = verdict.True
+verdict_from (Some false) = verdict.False
+
+abbrev pub first_later : List (List ℕ × Option Bool) → Option (List ℕ)
+first_later conds = option_map (λ c. c.0) (find (λ c. not (is_some c.1)) conds)
+
+abbrev pub decided_plan : Option Laying → Source → Seen → ℕ → Entering → List (List ℕ × Setting) → Plan → Outcome (List (List ℕ × Option Bool)) → Plan
+decided_plan lay source seen number e bound p (bad s) = record p { flaws = p.flaws ++ flaw_at e.path s ∷ [] }
+decided_plan lay source seen number e bound p later = p
+decided_plan lay source seen number e bound p (got conds) =
+    let verdicts = map (λ c. (c.0, verdict_from c.1)) conds in
+    option_map_or (λ name. record p { flaws = p.flaws ++ dynamic_condition e.path name ∷ [] }) (first_later conds) (planned lay source seen number e bound verdicts p (needs_of e.template verdicts))
+
+abbrev pub bound_plan : Option Laying → Source → Seen → ℕ → Entering → Plan → List (List ℕ × Setting) → Plan
+bound_plan lay source seen number e p bound = decided_plan lay source seen number e bound p (conditions_of e.template bound (pseudo_of e.stack number))
+
+-- Where a nested stack's parameters can't be bound over what is seen, the paths in it are planned with these parameters as Later: policies and needs don't rest on them.
+abbrev pub all_later : List (List ℕ × Piece) → List (List ℕ × Piece)
+all_later given = map (λ g. (g.0, Later)) given
+
+abbrev pub bound_or_later : Option Laying → Source → Seen → ℕ → Entering → Plan → Result (List (List ℕ × Setting)) BindFault → Plan
+bound_or_later lay source seen number e p (Ok bound) = bound_plan lay source seen number e p bound
+bound_or_later lay source seen number e p (Err f) =
+    let q = record p { flaws = p.flaws ++ bind e.path f ∷ [] } in
+    option_map_or (bound_plan lay source seen number e q) (result_ok (binding_of e.template.params (all_later e.given))) q
+
+-- a template entered at a depth, where so many more may be entered below it
+abbrev pub laid : ℕ → Source → Seen → ℕ → Laying
+laid zero source seen number e templates members = bound_or_later None source seen number e (no_plan templates members []) (binding_of e.template.params e.given)
+laid (suc n) source seen number e templates members = bound_or_later (Some (laid n source seen number)) source seen number e (no_plan templates members []) (binding_of e.template.params e.given)
+
+-- the root: the number is that of the operation that created the stack
+abbrev pub root_of : Source → Template → Entering
+root_of source t = record { path = []; stack = source.stack; template = t; given = map (λ g. (g.0, Text g.1)) source.given; deletion = None; replace = None; needs = [] }
+
+-- what a source wants over what is seen; depth is 8 at the most, the root's being 1
+abbrev pub plan_of : Source → Seen → Plan
+plan_of source seen =
+    option_map_or (λ t. laid 7 source seen source.number (root_of source t) 1 (length t.resources)) (template_named source.root source) (no_plan 0 0 (template_missing source.root ∷ []))

@@ -1,0 +1,97 @@
+-- A source's plan as it is needed once all is known, and what of it rests on no resource.
+use Rattle.std.specs.Prelude.{ℕ, Bool, true, false, ◌&&◌, List, [], ◌∷◌, ◌++◌, Option, Some, None, find, map, filter_map, option_map, is_some, if◌then◌else◌}
+use Rattle.std.specs.List.{list_all}
+use Rattle.std.specs.Option.{option_map_or}
+use Rattle.std.specs.Str.{bytes_eq}
+use Rattle.cf_tree.specs.Datum.{Data}
+use Rattle.cf_tree.specs.declared.template.Deletion.{Deletion}
+use Rattle.cf_tree.specs.declared.template.Replace.{Replace}
+use Rattle.cf_tree.specs.declared.source.Source.{Source}
+use Rattle.cf_eval.specs.Outcome.{Outcome, got, later, bad}
+use Rattle.cf_desired.specs.Flaw.{Flaw}
+use Rattle.cf_desired.specs.Plan.{Seen, Evaluated, flawed, evaluated, Wanted, WantedOutput, Inner, Plan, plan_of}
+
+-- the plan of a path
+abbrev pub is_wanted_at : List ℕ → Wanted → Bool
+is_wanted_at path w = bytes_eq path w.path
+
+abbrev pub wanted_at : List ℕ → Plan → Option Wanted
+wanted_at path p = find (is_wanted_at path) p.wanted
+
+-- properties without one that is Later
+abbrev pub known_props_from : List (List ℕ × Option Data) → Option (List (List ℕ × Data))
+known_props_from [] = Some []
+known_props_from ((name, None) ∷ ps) = None
+known_props_from ((name, Some d) ∷ ps) = option_map (λ rest. (name, d) ∷ rest) (known_props_from ps)
+
+abbrev pub known_of : Evaluated → Option (List (List ℕ × Data))
+known_of (flawed f) = None
+known_of (evaluated ps) = known_props_from ps
+
+-- a resource, an output, all of whose parts are known
+pub record Right : Type 0 where
+  pub path : List ℕ
+  pub kind : List ℕ
+  pub deletion : Deletion
+  pub replace : Replace
+  pub needs : List (List ℕ)
+  pub props : List (List ℕ × Data)
+
+pub record RightOutput : Type 0 where
+  pub name : List ℕ
+  pub value : List ℕ
+  pub export : Option (List ℕ)
+
+abbrev pub right_of : Wanted → Option Right
+right_of w = option_map (λ props. record { path = w.path; kind = w.kind; deletion = w.deletion; replace = w.replace; needs = w.needs; props = props }) (known_of w.props)
+
+abbrev pub got_of : Outcome (List ℕ) → Option (List ℕ)
+got_of (got v) = Some v
+got_of _ = None
+
+abbrev pub export_of : Option (Outcome (List ℕ)) → Option (Option (List ℕ))
+export_of None = Some None
+export_of (Some o) = option_map (λ name. Some name) (got_of o)
+
+abbrev pub with_export : WantedOutput → List ℕ → Option (Option (List ℕ)) → Option RightOutput
+with_export o value None = None
+with_export o value (Some export) = Some (record { name = o.name; value = value; export = export })
+
+abbrev pub right_output : WantedOutput → Option RightOutput
+right_output o = option_map_or (λ value. with_export o value (export_of o.export)) (got_of o.value) None
+
+-- f of each of a list, where it is there for all
+abbrev pub all_of : {A B : Type 0} → (A → Option B) → List A → Option (List B)
+all_of f [] = Some []
+all_of f (a ∷ rest) = option_map_or (λ b. option_map (λ bs. b ∷ bs) (all_of f rest)) (f a) None
+
+abbrev pub right_export : List ℕ × Outcome (List ℕ) → Option (List ℕ × List ℕ)
+right_export e = option_map (λ value. (e.0, value)) (got_of e.1)
+
+-- the whole map: every path, output and export, where nothing is Later or at fault
+pub record Whole : Type 0 where
+  pub wanted : List Right
+  pub outputs : List RightOutput
+  pub exports : List (List ℕ × List ℕ)
+
+abbrev pub whole_with : List Right → List RightOutput → Option (List (List ℕ × List ℕ)) → Option Whole
+whole_with rights outputs None = None
+whole_with rights outputs (Some exports) = Some (record { wanted = rights; outputs = outputs; exports = exports })
+
+abbrev pub whole_from : Plan → Option (List Right) → Option (List RightOutput) → Option Whole
+whole_from p (Some rights) (Some outputs) = whole_with rights outputs (all_of right_export p.exports)
+whole_from p _ _ = None
+
+abbrev pub unless_flawed : List Flaw → Option Whole → Option Whole
+unless_flawed [] whole = whole
+unless_flawed (f ∷ fs) whole = None
+
+abbrev pub whole_in : Plan → Option Whole
+whole_in p = unless_flawed p.flaws (whole_from p (all_of right_of p.wanted) (all_of right_output p.outputs))
+
+abbrev pub whole_of : Source → Seen → Option Whole
+whole_of source seen = whole_in (plan_of source seen)
+
+-- the names that a source exports: they rest on no resource
+abbrev pub export_names_of : Source → List (List ℕ)
+export_names_of source = map (λ e. e.0) (plan_of source []).exports

@@ -1,0 +1,2 @@
+//! What the resources of a stack are to be.
+#![tactic(auto)]

@@ -1,0 +1,2 @@
+//! Which resource of a template needs which.
+#![tactic(auto)]

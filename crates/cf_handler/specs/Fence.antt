@@ -1,0 +1,74 @@
+-- Openings, fences and calls that act late (the handler contract of the CloudFormation registry lets a handler work on after its caller is gone; epochs, fences and tokens are this project's own).
+use Rattle.std.specs.Prelude.{◌≡◌, ℕ, ◌+◌, ◌<◌, ◌≤◌, List, [], ◌∷◌, ◌++◌, slice_get, remove, find, Option, Some, None, ◌⊎◌, ◌==◌}
+use Rattle.std.specs.Str.{bytes_eq}
+use Rattle.cf_tree.specs.declared.request.Request.{Request}
+use Rattle.cf_tree.specs.declared.request.Answer.{Answer}
+use Rattle.cf_tree.specs.declared.request.Answer.TheVariants as answer
+use Rattle.cf_handler.specs.declared.settled.Settlement.{Settlement}
+use Rattle.cf_handler.specs.declared.settled.Settled.{Settled}
+use Rattle.cf_handler.specs.Lane.{LaneState, Live, live_of, settlement_of}
+use Rattle.cf_handler.specs.Move.{HasRisen, MaySettle, LaneMove, with_settled}
+
+-- a call that broke off and may act later: the opening that made it, its token, and what was asked
+pub record Flying : Type 0 where
+  pub epoch : ℕ
+  pub token : ℕ
+  pub request : Request
+
+-- a lane between openings: what it holds, what may act later, and the least epoch from which it takes calls
+pub record FencedLane : Type 0 where
+  pub state : LaneState
+  pub flying : List Flying
+  pub fence : ℕ
+
+-- the live resource of an id, and the call by which a token was settled
+abbrev pub live_at : List ℕ → FencedLane → Option Live
+live_at id lane = find (λ r. bytes_eq id r.id) (live_of lane.state)
+
+abbrev pub settled_at : ℕ → FencedLane → Option Settled
+settled_at token lane = find (λ s. token == s.token) lane.state.settled
+
+-- the lane with one more call that may act later
+abbrev pub with_flying : FencedLane → Flying → FencedLane
+with_flying lane f = record lane { flying = lane.flying ++ f ∷ [] }
+
+-- the call does to what the lane holds what a call may do
+abbrev pub MovesState : List ℕ → FencedLane → FencedLane → ℕ → Request → Answer → Type 0
+MovesState name before after token request a = (state : LaneState) × LaneMove name before.state state token request a × (after ≡ record before { state = state })
+
+-- it may act later: its token isn't settled
+abbrev pub MayActLater : FencedLane → FencedLane → ℕ → ℕ → Request → Type 0
+MayActLater before after epoch token request = (settlement_of token before.state.settled ≡ None) × (after ≡ with_flying before (record { epoch = epoch; token = token; request = request }))
+
+-- what a call of an opening may do to a lane: an answer and a fault come only where the fence lets it through, and after a fault it may also act later
+abbrev pub CallMove : List ℕ → FencedLane → FencedLane → ℕ → ℕ → Request → Answer → Type 0
+CallMove name before after epoch token request answer.Fault = (before.fence ≤ epoch) × (MovesState name before after token request answer.Fault ⊎ MayActLater before after epoch token request)
+CallMove name before after epoch token request answer.NoMemory = after ≡ before
+CallMove name before after epoch token request a = (before.fence ≤ epoch) × MovesState name before after token request a
+
+-- a call of an opening before the fence is refused as stale: it tells the fence and changes nothing
+abbrev pub IsStale : FencedLane → FencedLane → ℕ → ℕ → Type 0
+IsStale before after epoch fence = (epoch < before.fence) × (fence ≡ before.fence) × (after ≡ before)
+
+-- a late effect: a call that no fence has passed, and whose token isn't settled, becomes settled and flies no more
+pub record LateMove (name : List ℕ) (before after : FencedLane) (place : ℕ) (s : Settlement) : Type 0 where
+  pub flying : Flying
+  pub stands : slice_get before.flying place ≡ Some flying
+  pub passes : before.fence ≤ flying.epoch
+  pub is_new : settlement_of flying.token before.state.settled ≡ None
+  pub fits : MaySettle name before.state flying.request s
+  pub leaves : after ≡ record before { state = with_settled before.state (record { token = flying.token; request = flying.request; settlement = s }); flying = remove before.flying place }
+
+-- raising the fence: it becomes the epoch where it is below it, else the lane is ahead; after a fault it is the old one or the epoch
+pub data FenceAnswer : Type 0 where
+  Raised : FenceAnswer
+  Ahead : (fence : ℕ) → FenceAnswer
+  Broken : FenceAnswer
+
+abbrev pub raised_to : FencedLane → ℕ → FencedLane
+raised_to lane epoch = record lane { fence = epoch }
+
+abbrev pub FenceMove : FencedLane → FencedLane → ℕ → FenceAnswer → ℕ → ℕ → Type 0
+FenceMove before after epoch Raised count counted = (before.fence < epoch) × (after ≡ raised_to before epoch)
+FenceMove before after epoch (Ahead fence) count counted = (epoch ≤ before.fence) × (fence ≡ before.fence) × (after ≡ before)
+FenceMove before after epoch Broken count counted = HasRisen count counted × (before.fence < epoch) × ((after ≡ before) ⊎ (after ≡ raised_to before epoch))

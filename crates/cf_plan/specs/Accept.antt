@@ -1,0 +1,83 @@
+-- When a source is accepted before anything is called: its texts are templates, its plan has no flaw, its types have lanes, its imports are just those that it uses, no export is taken, and something changes.
+use Rattle.std.specs.Prelude.{◌≡◌, ◌≢◌, ℕ, ◌==◌, ◌⊎◌, Bool, true, false, ◌&&◌, ◌||◌, not, List, [], ◌∷◌, ◌++◌, Option, Some, None, IsTrue, filter, find, map, length, if◌then◌else◌}
+use Rattle.std.specs.List.{list_any, list_all}
+use Rattle.std.specs.Str.{bytes_eq}
+use Rattle.cf_tree.specs.Keys.{value_at}
+use Rattle.cf_tree.specs.declared.row.Row.{Row}
+use Rattle.cf_tree.specs.declared.source.Source.{Source}
+use Rattle.cf_export.specs.declared.Export.{Export}
+use Rattle.cf_export.specs.Export.{pins_name}
+use Rattle.cf_schema.specs.declared.described.Schema.{Schema}
+use Rattle.cf_stacks.specs.declared.held.Held.{Held}
+use Rattle.cf_stacks.specs.declared.held.Output.{Output}
+use Rattle.cf_stacks.specs.declared.state.StackState.{StackState}
+use Rattle.cf_stacks.specs.declared.state.World.{World}
+use Rattle.cf_stacks.specs.Words.{is_among}
+use Rattle.cf_change.specs.Changes.{HeldAt, HeldOutput, Changes, Found, changes_of, found_of, is_empty}
+use Rattle.cf_desired.specs.Plan.{Seen, Plan, plan_of}
+
+-- what a stack holds, as a change set compares it
+abbrev pub held_as : Held → HeldAt
+held_as h = record { path = h.path; kind = h.kind; physical = h.physical; props = h.props; attrs = h.attrs; deletion = h.deletion; replace = h.replace; unsure = h.unsure }
+
+abbrev pub output_as : Output → HeldOutput
+output_as o = record { name = o.name; value = o.value; export = o.export }
+
+abbrev pub held_by : StackState → List HeldAt
+held_by s = map held_as s.held
+
+abbrev pub exports_by : List ℕ → World → List (List ℕ × List ℕ)
+exports_by name x = map (λ e. (e.name, e.value)) (filter (λ e. bytes_eq name e.stack) x.exports)
+
+abbrev pub changes_on : List Schema → List ℕ → World → StackState → Source → Changes
+changes_on schemas name x s source = changes_of schemas (held_by s) (map output_as s.outputs) (exports_by name x) source
+
+-- what is seen before anything is called: of each path what its row leaves known
+abbrev pub seen_before : List Schema → StackState → Source → Seen
+seen_before schemas s source = (found_of schemas (held_by s) source).seen
+
+-- Imports: each is an export of another stack with its value of now; with all of these the source would come to the same; without one of them it would not.
+abbrev pub exports_of_others : List ℕ → World → List (List ℕ × List ℕ)
+exports_of_others name x = map (λ e. (e.name, e.value)) (filter (λ e. not (bytes_eq name e.stack)) x.exports)
+
+abbrev pub with_imports : Source → List (List ℕ × List ℕ) → Source
+with_imports source imports = record source { imports = imports }
+
+abbrev pub without_import : List ℕ → List (List ℕ × List ℕ) → List (List ℕ × List ℕ)
+without_import name imports = filter (λ i. not (bytes_eq name i.0)) imports
+
+pub record ImportsWhatItUses (name : List ℕ) (x : World) (source : Source) (seen : Seen) : Type 0 where
+  pub are_exports : (n v : List ℕ) → value_at n source.imports ≡ Some v → value_at n (exports_of_others name x) ≡ Some v
+  pub enough : plan_of source seen ≡ plan_of (with_imports source (exports_of_others name x)) seen
+  pub all_used : (n v : List ℕ) → value_at n source.imports ≡ Some v → plan_of (with_imports source (without_import n source.imports)) seen ≢ plan_of source seen
+
+-- A name is taken where another stack exports or claims it, or where two outputs export it.
+abbrev pub is_exported_elsewhere : List ℕ → World → List ℕ → Bool
+is_exported_elsewhere name x export = list_any (λ e. bytes_eq export e.name && not (bytes_eq name e.stack)) x.exports || list_any (pins_name export name) x.claims
+
+abbrev pub are_unique : List (List ℕ) → Bool
+are_unique [] = true
+are_unique (n ∷ ns) = not (is_among n ns) && are_unique ns
+
+abbrev pub are_free : List ℕ → World → List (List ℕ) → Bool
+are_free name x exports = are_unique exports && not (list_any (is_exported_elsewhere name x) exports)
+
+-- something changes: a row, or an output
+abbrev pub Changing : Changes → Type 0
+Changing c = (is_empty c.rows ≡ false) ⊎ (c.outputs_differ ≡ true)
+
+-- The source is accepted where these are the types that there are.
+pub record IsAccepted (schemas : List Schema) (kinds : List (List ℕ)) (name : List ℕ) (x : World) (s : StackState) (source : Source) : Type 0 where
+  pub no_flaw : (changes_on schemas name x s source).flaws ≡ []
+  pub known_types : IsTrue (list_all (λ w. is_among w.kind kinds) (plan_of source (seen_before schemas s source)).wanted)
+  pub same_types : (changes_on schemas name x s source).clash ≡ []
+  pub imports : ImportsWhatItUses name x source (seen_before schemas s source)
+  pub free : IsTrue (are_free name x (map (λ e. e.0) (plan_of source (seen_before schemas s source)).exports))
+  pub changing : s.held ≡ [] ⊎ Changing (changes_on schemas name x s source)
+
+-- A change set is kept where its source is accepted over all known types, and has just the rows that it has now.
+pub record IsReviewed (schemas : List Schema) (name : List ℕ) (x : World) (s : StackState) (source : Source) (rows : List Row) (outputs : Bool) : Type 0 where
+  pub accepted : IsAccepted schemas (map (λ g. g.kind) schemas) name x s source
+  pub changing : Changing (changes_on schemas name x s source)
+  pub rows_are : rows ≡ (changes_on schemas name x s source).rows
+  pub outputs_are : outputs ≡ (changes_on schemas name x s source).outputs_differ

@@ -1,0 +1,33 @@
+-- Which resource of a stack needs which (User Guide, DependsOn and references: what is needed is made before and deleted after what needs it).
+use Rattle.std.specs.Prelude.{ℕ, Bool, true, false, ◌&&◌, ◌||◌, not, List, [], ◌∷◌, ◌++◌, Option, Some, None, filter, if◌then◌else◌}
+use Rattle.std.specs.List.{list_any}
+use Rattle.std.specs.Str.{bytes_eq}
+use Rattle.cf_stacks.specs.declared.held.Held.{Held}
+use Rattle.cf_stacks.specs.declared.held.Pending.{Pending}
+use Rattle.cf_stacks.specs.declared.state.StackState.{StackState}
+use Rattle.cf_desired.specs.Plan.{Wanted}
+use Rattle.cf_stacks.specs.Words.{current_at, resource_at, is_create}
+use Rattle.cf_stacks.specs.Fold.{is_physical_of, wanted_in, needs_of_wanted, seen_in}
+
+-- the resource is the held one at one of these paths
+abbrev pub is_held_at_one : List (List ℕ) → StackState → Held → Bool
+is_held_at_one paths s r = list_any (λ p. is_physical_of r.physical (current_at p s.held)) paths
+
+-- the resource is the made one, or else the held one, at one of these paths
+abbrev pub is_at_one : List (List ℕ) → StackState → Held → Bool
+is_at_one paths s r = list_any (λ p. is_physical_of r.physical (resource_at p s)) paths
+
+-- the paths that a path needs in the operation's template
+abbrev pub needs_at : List ℕ → StackState → List (List ℕ)
+needs_at path s = needs_of_wanted (wanted_in s.going (seen_in s.before) path)
+
+-- a held resource needs the held ones at the paths that its record names
+abbrev pub is_needed_by_held : StackState → Held → Bool
+is_needed_by_held s r = list_any (λ h. is_held_at_one h.needs s r) (filter (λ h. not h.superseded) s.held)
+
+-- a made resource, and a create that is open, needs at each path that its own path needs the made one, or else the held one
+abbrev pub is_needed_by_made : StackState → Held → Bool
+is_needed_by_made s r = list_any (λ m. is_at_one (needs_at m.path s) s r) s.made
+
+abbrev pub is_needed_by_create : StackState → Held → Bool
+is_needed_by_create s r = list_any (λ p. is_create p.request && is_at_one (needs_at p.path s) s r) s.tokens

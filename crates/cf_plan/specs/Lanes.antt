@@ -1,0 +1,88 @@
+-- The lanes that are handed in, and what the journal and the lanes tell of an id and of a token.
+use Rattle.std.specs.Prelude.{◌≡◌, ◌≢◌, ℕ, ◌==◌, ◌⊎◌, Bool, true, false, ◌&&◌, ◌||◌, not, List, [], ◌∷◌, ◌++◌, Option, Some, None, IsTrue, is_some, find, filter, map, flat_map, if◌then◌else◌}
+use Rattle.std.specs.List.{list_any}
+use Rattle.std.specs.Str.{bytes_eq}
+use Rattle.cf_tree.specs.Datum.{Data}
+use Rattle.cf_tree.specs.declared.request.Request.{Request}
+use Rattle.cf_tree.specs.declared.request.Request.TheVariants as request
+use Rattle.cf_tree.specs.declared.code.Code.TheVariants as code
+use Rattle.cf_handler.specs.declared.settled.Settlement.{Settlement}
+use Rattle.cf_handler.specs.declared.settled.Settlement.TheVariants.{Success, Failed}
+use Rattle.cf_handler.specs.declared.settled.Settled.{Settled}
+use Rattle.cf_handler.specs.Fence.{FencedLane, settled_at}
+use Rattle.cf_entry.specs.declared.entry.Reply.{Reply}
+use Rattle.cf_entry.specs.declared.entry.Reply.TheVariants as reply
+use Rattle.cf_stacks.specs.declared.held.Held.{Held}
+use Rattle.cf_stacks.specs.declared.held.Leftover.{Leftover}
+use Rattle.cf_stacks.specs.declared.held.Pending.{Pending}
+use Rattle.cf_stacks.specs.declared.held.GivenUp.{GivenUp}
+use Rattle.cf_stacks.specs.declared.state.StackState.{StackState}
+use Rattle.cf_stacks.specs.declared.state.World.{World}
+use Rattle.cf_stacks.specs.Words.{resources_of, is_id, id_named}
+use Rattle.cf_stacks.specs.Fold.{unknown_id}
+
+-- a lane that is handed in
+pub record Lane : Type 0 where
+  pub name : List ℕ
+  pub kind : List ℕ
+  pub state : FencedLane
+
+abbrev pub lane_at : List ℕ → List Lane → Option Lane
+lane_at name lanes = find (λ l. bytes_eq name l.name) lanes
+
+-- What all stacks have.
+abbrev pub all_resources : World → List Held
+all_resources x = flat_map (λ s. resources_of s.1) x.stacks
+
+abbrev pub all_leftovers : World → List Leftover
+all_leftovers x = flat_map (λ s. s.1.leftovers) x.stacks
+
+abbrev pub all_tokens : World → List Pending
+all_tokens x = flat_map (λ s. s.1.tokens) x.stacks
+
+abbrev pub all_abandoned : World → List GivenUp
+all_abandoned x = flat_map (λ s. s.1.abandoned) x.stacks
+
+-- the physical ids of held, made and leftover resources; what is listed without an id has none
+abbrev pub ids_of : World → List (List ℕ)
+ids_of x = map (λ r. r.physical) (all_resources x) ++ filter (λ id. not (bytes_eq id unknown_id)) (map (λ l. l.physical) (all_leftovers x))
+
+abbrev pub differ : List (List ℕ) → Bool
+differ [] = true
+differ (id ∷ ids) = not (list_any (λ other. bytes_eq id other) ids) && differ ids
+
+abbrev pub is_leftover : List ℕ → World → Bool
+is_leftover physical x = list_any (λ l. bytes_eq physical l.physical) (all_leftovers x)
+
+abbrev pub is_abandoned : ℕ → World → Bool
+is_abandoned token x = list_any (λ g. token == g.token) (all_abandoned x)
+
+abbrev pub open_at : ℕ → World → Option Pending
+open_at token x = find (λ p. token == p.token) (all_tokens x)
+
+-- a journal's answer is a lane's
+abbrev pub told_of : Settlement → Reply
+told_of (Success physical attrs) = reply.Success physical attrs
+told_of (Failed code) = reply.Failed code
+
+-- What an answered request did to an id: it is gone, or it was made or set with these properties and attributes.
+abbrev pub gone_by : Request → Settlement → Option (List ℕ)
+gone_by (request.Delete physical) (Success id attrs) = Some physical
+gone_by (request.Delete physical) (Failed code.NotFound) = Some physical
+gone_by _ _ = None
+
+pub data Effect : Type 0 where
+  Nothing : Effect
+  Made : (id kind : List ℕ) (props attrs : List (List ℕ × Data)) → Effect
+  Set : (id : List ℕ) (props attrs : List (List ℕ × Data)) → Effect
+
+abbrev pub effect_of : Request → Settlement → Effect
+effect_of (request.Create kind props) (Success id attrs) = Made id kind props attrs
+effect_of (request.Update physical props) (Success id attrs) = Set physical props attrs
+effect_of _ _ = Nothing
+
+-- an open token, settled on its lane
+pub record IsAnswered (x : World) (lanes : List Lane) (p : Pending) (lane : Lane) (s : Settled) : Type 0 where
+  pub is_open : open_at p.token x ≡ Some p
+  pub at_home : lane_at p.lane lanes ≡ Some lane
+  pub settled : settled_at p.token lane.state ≡ Some s

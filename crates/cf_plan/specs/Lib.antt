@@ -1,0 +1,9 @@
+pub mod FlawText
+pub mod Between
+pub mod Forward
+pub mod Accept
+pub mod Follow
+pub mod Lanes
+pub mod Agrees
+pub mod Ends
+pub mod Life

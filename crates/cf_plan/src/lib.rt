@@ -1,0 +1,2 @@
+//! Which entry may follow.
+#![tactic(auto)]

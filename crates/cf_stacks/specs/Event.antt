@@ -1,0 +1,75 @@
+-- The lines that `events` prints of a stack, one for each entry that concerns it (DescribeStackEvents; the form of a line is this project's own).
+use Rattle.std.specs.Prelude.{ℕ, List, [], ◌∷◌, ◌++◌, Option, Some, None, codes}
+use Rattle.std.specs.Fmt.{decimal}
+use Rattle.cf_tree.specs.Codes.{name_of}
+use Rattle.cf_tree.specs.declared.request.Request.{Request}
+use Rattle.cf_tree.specs.declared.request.Request.TheVariants as request
+use Rattle.cf_tree.specs.declared.code.Code.{Code}
+use Rattle.cf_tree.specs.declared.code.Code.TheVariants as code
+use Rattle.cf_entry.specs.declared.entry.Entry.{Entry}
+use Rattle.cf_entry.specs.declared.entry.Reply.{Reply}
+use Rattle.cf_entry.specs.declared.status.Status.{Status}
+use Rattle.cf_entry.specs.declared.turn.Why.{Why}
+use Rattle.cf_stacks.specs.declared.state.StackState.{StackState}
+use Rattle.cf_stacks.specs.declared.held.Pending.{Pending}
+use Rattle.cf_entry.specs.declared.entry.Entry.TheVariants as entry
+use Rattle.cf_entry.specs.declared.entry.Reply.TheVariants as reply
+use Rattle.cf_entry.specs.declared.status.Status.TheVariants as status
+use Rattle.cf_entry.specs.declared.turn.Why.TheVariants as why
+use Rattle.cf_stacks.specs.Status.{begun, turned}
+use Rattle.cf_stacks.specs.Words.{pending_of}
+
+-- the name of a status
+abbrev pub status_name : Status → List ℕ
+status_name status.CreateInProgress = codes "CREATE_IN_PROGRESS"
+status_name status.CreateComplete = codes "CREATE_COMPLETE"
+status_name status.RollbackInProgress = codes "ROLLBACK_IN_PROGRESS"
+status_name status.RollbackComplete = codes "ROLLBACK_COMPLETE"
+status_name status.RollbackFailed = codes "ROLLBACK_FAILED"
+status_name status.UpdateInProgress = codes "UPDATE_IN_PROGRESS"
+status_name status.UpdateCompleteCleanupInProgress = codes "UPDATE_COMPLETE_CLEANUP_IN_PROGRESS"
+status_name status.UpdateComplete = codes "UPDATE_COMPLETE"
+status_name status.UpdateRollbackInProgress = codes "UPDATE_ROLLBACK_IN_PROGRESS"
+status_name status.UpdateRollbackCompleteCleanupInProgress = codes "UPDATE_ROLLBACK_COMPLETE_CLEANUP_IN_PROGRESS"
+status_name status.UpdateRollbackComplete = codes "UPDATE_ROLLBACK_COMPLETE"
+status_name status.UpdateRollbackFailed = codes "UPDATE_ROLLBACK_FAILED"
+status_name status.DeleteInProgress = codes "DELETE_IN_PROGRESS"
+status_name status.DeleteComplete = codes "DELETE_COMPLETE"
+status_name status.DeleteFailed = codes "DELETE_FAILED"
+status_name status.ReviewInProgress = codes "REVIEW_IN_PROGRESS"
+
+-- what a request does to a resource
+abbrev pub action_name : Request → List ℕ
+action_name (request.Create kind props) = codes "CREATE"
+action_name (request.Update physical props) = codes "UPDATE"
+action_name (request.Delete physical) = codes "DELETE"
+
+-- `event PLACE SUBJECT WHAT`
+abbrev pub event_line : ℕ → List ℕ → List ℕ → List ℕ
+event_line place subject what = codes "event " ++ decimal place ++ codes " " ++ subject ++ codes " " ++ what
+
+-- what came of a call; a deletion that finds nothing is complete
+abbrev pub reply_name : Request → Reply → List ℕ
+reply_name r (reply.Success physical attrs) = action_name r ++ codes "_COMPLETE"
+reply_name (request.Delete physical) (reply.Failed code.NotFound) = codes "DELETE_COMPLETE"
+reply_name r (reply.Failed c) = action_name r ++ codes "_FAILED " ++ name_of c
+reply_name r reply.Doubt = action_name r ++ codes "_FAILED Fault"
+
+-- a resource that is kept was passed over, or could not be deleted
+abbrev pub kept_name : Why → List ℕ
+kept_name why.Retained = codes "DELETE_SKIPPED"
+kept_name _ = codes "DELETE_FAILED"
+
+abbrev pub reply_line : ℕ → Reply → Option Pending → List (List ℕ)
+reply_line place answer None = []
+reply_line place answer (Some p) = event_line place p.path (reply_name p.request answer) ∷ []
+
+-- the line of the entry at this place, over the stack as it was before it
+abbrev pub lines_of : ℕ → Entry → StackState → List (List ℕ)
+lines_of place (entry.Begin number stack kind) s = event_line place (codes "-") (status_name (begun kind)) ∷ []
+lines_of place (entry.Kept number path physical why) s = event_line place path (kept_name why) ∷ []
+lines_of place (entry.Intent number token lane path request) s = event_line place path (action_name request ++ codes "_IN_PROGRESS") ∷ []
+lines_of place (entry.Outcome number token answer before after) s = reply_line place answer (pending_of token s)
+lines_of place (entry.Phase number phase cause) s = event_line place (codes "-") (status_name (turned s.status phase)) ∷ []
+lines_of place (entry.Done number status failed) s = event_line place (codes "-") (status_name status) ∷ []
+lines_of place _ s = []

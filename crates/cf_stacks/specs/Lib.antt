@@ -1,0 +1,5 @@
+pub mod Status
+pub mod Words
+pub mod Operation
+pub mod Event
+pub mod Fold

@@ -1,0 +1,54 @@
+-- The statuses of a stack (User Guide, stack status codes) and the phases of an operation in them.
+use Rattle.std.specs.Prelude.{Bool, true, false, Option, Some, None, is_some}
+use Rattle.cf_entry.specs.declared.status.Status.{Status}
+use Rattle.cf_entry.specs.declared.entry.Begun.{Begun}
+use Rattle.cf_entry.specs.declared.turn.Phase.{Phase}
+use Rattle.cf_entry.specs.declared.status.Status.TheVariants as status
+use Rattle.cf_entry.specs.declared.entry.Begun.TheVariants as begin
+use Rattle.cf_entry.specs.declared.turn.Phase.TheVariants as phase
+
+-- what an operation is doing: making and changing; deleting what is superseded; taking back; deleting what was made; deleting all
+pub data Stage : Type 0 where
+  Forward : Stage
+  Clean : Stage
+  Back : Stage
+  BackClean : Stage
+  Gone : Stage
+
+-- the stage of an operation in progress
+abbrev pub stage_of : Status → Option Stage
+stage_of status.CreateInProgress = Some Forward
+stage_of status.UpdateInProgress = Some Forward
+stage_of status.UpdateCompleteCleanupInProgress = Some Clean
+stage_of status.RollbackInProgress = Some Back
+stage_of status.UpdateRollbackInProgress = Some Back
+stage_of status.UpdateRollbackCompleteCleanupInProgress = Some BackClean
+stage_of status.DeleteInProgress = Some Gone
+stage_of _ = None
+
+-- an operation is in progress
+abbrev pub is_in_progress : Status → Bool
+is_in_progress s = is_some (stage_of s)
+
+-- the status with which an operation begins
+abbrev pub begun : Begun → Status
+begun (begin.Create source) = status.CreateInProgress
+begun (begin.Update source) = status.UpdateInProgress
+begun (begin.Delete paths) = status.DeleteInProgress
+begun (begin.Continue paths) = status.UpdateRollbackInProgress
+
+-- the status of a later phase: a create has only one, which takes back what was made
+abbrev pub turned : Status → Phase → Status
+turned status.CreateInProgress phase.Back = status.RollbackInProgress
+turned _ phase.Back = status.UpdateRollbackInProgress
+turned _ phase.Clean = status.UpdateCompleteCleanupInProgress
+turned _ phase.BackClean = status.UpdateRollbackCompleteCleanupInProgress
+
+-- the operation ended as it was meant to, or took all back
+abbrev pub is_complete : Status → Bool
+is_complete status.CreateComplete = true
+is_complete status.RollbackComplete = true
+is_complete status.UpdateComplete = true
+is_complete status.UpdateRollbackComplete = true
+is_complete status.DeleteComplete = true
+is_complete _ = false
