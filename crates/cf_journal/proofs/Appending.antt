@@ -1,30 +1,24 @@
 -- What a crash leaves while a frame is put behind the last gate.
-use Rattle.std.proofs.Common.{◌≡◌, ◌≢◌, ◌⊎◌, inl, inr, ℕ, ◌+◌, ◌-◌, ◌<◌, ◌≤◌, ◌^◌, max, List, [], ◌∷◌, ◌++◌, length, take, drop, get_or, Option, Some, None, Ok, Err, refl, sym, ◌∙◌, ap, subst, arith, append_assoc, length-append, length-take, length-drop, take-append-drop}
+use Rattle.std.proofs.Common.{◌≡◌, ◌≢◌, ◌⊎◌, inl, inr, ℕ, ◌+◌, ◌-◌, ◌<◌, ◌≤◌, ◌^◌, List, [], ◌∷◌, ◌++◌, length, take, drop, get_or, Option, Some, Ok, refl, sym, ◌∙◌, ap, arith, append_assoc, length-append, take-append-drop}
 use Rattle.std.proofs.lemmas.Bool.{cases_eq}
-use Rattle.std.proofs.lemmas.List.{take_at, drop_at, drop_more, append-nil, take-append-le}
+use Rattle.std.proofs.lemmas.Bool.Decides.{nat_tests}
+use Rattle.std.proofs.lemmas.List.{take_at, drop_at, drop_more, append-nil}
 use Rattle.std.proofs.lemmas.Nat.{from_be_bytes-to_be_bytes_4}
 use Rattle.std.specs.Int.{w32, to_be_bytes, from_be_bytes}
-use Rattle.cf_disk.specs.Disk.{overwritten, Torn}
-use Rattle.cf_journal.specs.Head.{head_of, made, IsShut, IsEmpty, IsBegun}
+use Rattle.cf_disk.specs.Disk.{Torn}
+use Rattle.cf_journal.specs.Head.{head_of, made}
 use Rattle.cf_journal.specs.Frames.{Reading, frame_of, body_size, with_frame, frames_of, read_by_head, reading_by, with_front}
-use Rattle.cf_journal.specs.Runs.{staged, opened, IsMidway}
+use Rattle.cf_journal.specs.Runs.{staged, opened}
 use Rattle.cf_journal.specs.declared.head.Head.{Head}
-use Rattle.cf_journal.specs.declared.head.Head.TheVariants.{New, Foreign, Made}
-use Rattle.cf_journal.proofs.Heads.{head_made}
+use Rattle.cf_journal.specs.declared.head.Head.TheVariants.{Made}
 use Rattle.cf_journal.proofs.Bodies.{frame_then, gate_shut, Parts, parts}
+
+head_made : (frames : List ℕ) → head_of (made frames) ≡ Made
+head_made frames = grind (arith, nat_tests)
 
 module _ {E : Type 0} (entry_of : List ℕ → Option E) where
   pub reading_made : (frames : List ℕ) → reading_by entry_of (made frames) ≡ frames_of entry_of 9 frames
   reading_made frames = ap (λ (h : Head). read_by_head entry_of h (made frames)) (head_made frames)
-
-  -- an empty journal, whichever it is
-  pub reading_empty : (file : List ℕ) → IsEmpty file → reading_by entry_of file ≡ Ok ([], 10)
-  reading_empty file (inl new) = ap (λ (h : Head). read_by_head entry_of h file) new
-  reading_empty file (inr begun) = ap (λ (h : Head). read_by_head entry_of h file) begun.0 ∙ shut_first (drop 9 file) begun.1
-    where
-      shut_first : (frames : List ℕ) → IsShut frames → frames_of entry_of 9 frames ≡ Ok ([], 10)
-      shut_first [] shut = absurd shut
-      shut_first (gate ∷ rest) shut = gate_shut entry_of 9 gate rest shut
 
   module _ (file : List ℕ) (is_made : file ≡ made (drop 9 file)) (es : List E) (end : ℕ) (read : reading_by entry_of file ≡ Ok (es, end)) where
     p : Parts entry_of 9 (drop 9 file) es end

@@ -1,10 +1,9 @@
 -- What frames of a journal say.
-use Rattle.std.proofs.Common.{◌≡◌, ◌≢◌, inl, inr, ℕ, zero, suc, ◌+◌, ◌-◌, ◌<◌, ◌≤◌, ◌^◌, Bool, true, false, cond, List, [], ◌∷◌, ◌++◌, length, take, drop, nat_lt, nat_eq, Option, Some, None, Ok, Err, refl, sym, ◌∙◌, ap, subst, arith, append_assoc, length-append, length-take, length-drop, take-append-drop}
-use Rattle.std.proofs.lemmas.Bool.{cases_eq, cases_Bool, false≢true}
+use Rattle.std.proofs.Common.{◌≡◌, ◌≢◌, inl, inr, ℕ, zero, suc, ◌+◌, ◌<◌, ◌≤◌, Bool, true, false, cond, List, [], ◌∷◌, ◌++◌, length, take, drop, nat_lt, nat_eq, Option, Some, None, Ok, Err, refl, sym, ◌∙◌, ap, subst, arith, append_assoc, length-append, length-drop, take-append-drop}
+use Rattle.std.proofs.lemmas.Bool.{cases_eq, cases_Bool}
 use Rattle.std.proofs.lemmas.Bool.Decides.{nat_tests}
 use Rattle.std.proofs.lemmas.List.{take_at, drop_at, take-append-le, drop-append-le, take-take, drop-take, length-take-le}
-use Rattle.std.proofs.lemmas.Nat.{from_be_bytes-to_be_bytes_4}
-use Rattle.std.specs.Int.{w32, to_be_bytes, from_be_bytes}
+use Rattle.std.specs.Int.{w32, from_be_bytes}
 use Rattle.cf_journal.specs.Frames.{Reading, body_size, is_whole, body_of, next_of, with_frame, frames_from, frames_of, length_in, with_front}
 
 front_again : {E : Type 0} (at : ℕ) (e : E) (es : List E) (read : Reading E) → with_frame at (Some e) (with_front es read) ≡ with_front (e ∷ es) read
@@ -90,9 +89,6 @@ module _ {E : Type 0} (entry_of : List ℕ → Option E) where
   -- a gate that is not open ends them, whatever follows
   pub gate_shut : (at gate : ℕ) (bytes : List ℕ) → gate ≢ 1 → frames_of entry_of at (gate ∷ bytes) ≡ Ok ([], at + 1)
   gate_shut at gate bytes shut = grind (arith, nat_tests)
-
-  pub gate_missing : (at : ℕ) → frames_of entry_of at [] ≡ Err at
-  gate_missing at = refl
 
   -- a frame, by its length and its body, and a gate behind it
   pub frame_then : (at : ℕ) (head : List ℕ) (size : ℕ) (tail : List ℕ) → length head ≡ 4 + size → body_size head ≡ size → 0 < length tail

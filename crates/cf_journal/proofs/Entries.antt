@@ -1,15 +1,13 @@
 -- What an entry that is put behind the others leaves, in terms of entries.
-use Rattle.std.proofs.Common.{◌≡◌, ◌⊎◌, inl, inr, arith, length-append, ℕ, ◌+◌, ◌<◌, ◌≤◌, ◌^◌, Bool, List, [], ◌∷◌, ◌++◌, length, drop, Result, Ok, Err, Some, IsOk, is_ok, refl, sym, ◌∙◌, ap}
+use Rattle.std.proofs.Common.{◌≡◌, inl, inr, arith, length-append, ℕ, ◌+◌, ◌<◌, ◌≤◌, ◌^◌, List, [], ◌∷◌, ◌++◌, length, drop, Result, Ok, Err, Some, IsOk, is_ok, sym, ◌∙◌, ap}
 use Rattle.std.specs.Int.{w32, to_be_bytes}
-use Rattle.cf_disk.specs.Disk.{Torn}
 use Rattle.cf_entry.specs.EntryReading.{entry_of}
 use Rattle.cf_entry.specs.declared.entry.Entry.{Entry}
-use Rattle.cf_journal.specs.Head.{made, IsEmpty, IsBegun}
+use Rattle.cf_journal.specs.Head.{made}
 use Rattle.cf_journal.specs.Frames.{Reading, frame_of, length_in, record_in}
 use Rattle.cf_journal.specs.Record.{reading_of, record_of, length_of, one_more, IsBeforeOrAfter}
 use Rattle.cf_journal.specs.Runs.{opened, IsMidway}
-use Rattle.cf_journal.proofs.Appending.{reading_empty, long, torn_behind, torn_gate, reading_opened, opened_made}
-use Rattle.cf_journal.proofs.Heads.{begun_empty}
+use Rattle.cf_journal.proofs.Appending.{long, torn_behind, torn_gate, reading_opened, opened_made}
 
 -- entries were read, and the journal has this length
 pub record IsRead (read : Reading Entry) (end : ℕ) : Type 0 where
@@ -71,10 +69,3 @@ holds file new end size e body is_made ok ends spells small is grown =
       length_is = ap (λ (f : List ℕ). length_of f) is ∙ after.1 ∙ omega (arith, frame_size body, grown);
       has = ap (λ (f : List ℕ). record_of f) is ∙ added file is_made end r e body spells small;
     }
-
--- a journal without entries
-pub empty_read : (file : List ℕ) → IsEmpty file → IsRead (reading_of file) 10
-empty_read file empty = record { entries = []; is = reading_empty entry_of file empty }
-
-pub empty_record : (file : List ℕ) → IsEmpty file → record_of file ≡ Ok []
-empty_record file empty = ap record_in (reading_empty entry_of file empty)

@@ -1,5 +1,4 @@
 mod Moments
-mod Heads
 mod Bodies
 mod Pieces
 mod Appending

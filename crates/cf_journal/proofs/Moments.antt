@@ -1,5 +1,5 @@
 -- How a run of calls of a disk goes on.
-use Rattle.std.proofs.Common.{◌≡◌, ◌⊎◌, inl, inr, ⊎_elim, ℕ, ◌≤◌, ◌+◌, List, length, refl, ◌∙◌, subst, arith}
+use Rattle.std.proofs.Common.{◌≡◌, inl, inr, ⊎_elim, ℕ, List, refl, ◌∙◌, subst, arith}
 use Rattle.cf_disk.specs.Disk.{Elapses, LeavesOnly, Follows, NoneNew, Only, Torn}
 use Rattle.cf_journal.specs.Runs.{Unchanged}
 
@@ -18,15 +18,6 @@ module _ {D : Type 0} (moment : D → ℕ) (left_since : D → ℕ → List ℕ 
     later = omega (arith, so_far.later, time.later);
     each = λ c left. ⊎_elim (so_far.each c) (here c) (time.nothing_else (moment old) c so_far.later left);
     before = λ t c le left. ⊎_elim (so_far.before t c le) (λ now. inr (here c now)) (time.nothing_else t c (omega (arith, le, so_far.later)) left);
-  }
-
-  -- a run and then another
-  pub then_run : (old mid new : D) (P Q : List ℕ → Type 0) → LeavesOnly moment left_since old mid P → LeavesOnly moment left_since mid new Q
-      → ((c : List ℕ) → Q c → P c) → LeavesOnly moment left_since old new P
-  then_run old mid new P Q first second here = record {
-    later = omega (arith, first.later, second.later);
-    each = λ c left. ⊎_elim (first.each c) (here c) (second.before (moment old) c first.later left);
-    before = λ t c le left. ⊎_elim (first.before t c le) (λ q. inr (here c q)) (second.before t c (omega (arith, le, first.later)) left);
   }
 
   -- of what has P, more is known
@@ -56,23 +47,11 @@ module _ {D : Type 0} (moment : D → ℕ) (left_since : D → ℕ → List ℕ 
         let kept : (c : List ℕ) → may_leave new c → P c = λ c now. let from = follows c (fewer c now) in subst (λ f. Torn at n f c) (only from.0 from.1) from.2 in
         goes_on old mid new P (may_leave new) (torn_run old mid at n only follows first) second kept
 
-    -- nothing was called
-    pub unchanged : (d : D) → Unchanged seen may_leave moment left_since d d
-    unchanged d = record { same = refl; fewer = λ c now. now; moments = started d (may_leave d) (only_now d) }
-
-    -- and a call that changes nothing
+    -- calls that change nothing, and one more
     pub still_unchanged : (old mid new : D) → Unchanged seen may_leave moment left_since old mid → seen new ≡ seen mid → NoneNew (may_leave mid) (may_leave new)
         → Elapses (moment mid) (moment new) (left_since mid) (left_since new) (may_leave new) → Unchanged seen may_leave moment left_since old new
     still_unchanged old mid new so_far same fewer time = record {
       same = same ∙ so_far.same;
       fewer = λ c now. so_far.fewer c (fewer c now);
       moments = goes_on old mid new (may_leave old) (may_leave new) so_far.moments time (λ c now. so_far.fewer c (fewer c now));
-    }
-
-    -- two runs that change nothing
-    pub unchanged_twice : (old mid new : D) → Unchanged seen may_leave moment left_since old mid → Unchanged seen may_leave moment left_since mid new → Unchanged seen may_leave moment left_since old new
-    unchanged_twice old mid new first second = record {
-      same = second.same ∙ first.same;
-      fewer = λ c now. first.fewer c (second.fewer c now);
-      moments = then_run old mid new (may_leave old) (may_leave mid) first.moments second.moments first.fewer;
     }

@@ -1,6 +1,6 @@
 -- What the bytes of a disk say: the bodies of its frames (this project's own format, docs/JOURNAL.md). A frame is a gate, the length of
 -- its body in four bytes, the body, and the gate of the next one. It counts if its gate is open, a 1.
-use Rattle.std.specs.Prelude.{◌+◌, ◌-◌, ◌==◌, ℕ, zero, suc, Bool, List, [], ◌∷◌, ◌++◌, length, take, drop, nat_lt, if◌then◌else◌, Option, Some, None, Result, Ok, Err}
+use Rattle.std.specs.Prelude.{◌+◌, ◌==◌, ℕ, zero, suc, Bool, List, [], ◌∷◌, ◌++◌, length, take, drop, nat_lt, if◌then◌else◌, Option, Some, None, Result, Ok, Err}
 use Rattle.std.specs.Int.{w32, to_be_bytes, from_be_bytes}
 use Rattle.cf_journal.specs.Head.{head_of}
 use Rattle.cf_journal.specs.declared.head.Head.{Head}

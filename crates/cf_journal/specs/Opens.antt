@@ -1,5 +1,5 @@
 -- How opening the journal of a disk ends.
-use Rattle.std.specs.Prelude.{◌≡◌, ℕ, List, Result, Ok, Err}
+use Rattle.std.specs.Prelude.{◌≡◌, List, Result, Ok, Err}
 use Rattle.cf_entry.specs.declared.entry.Entry.{Entry}
 use Rattle.cf_journal.specs.Frames.{Reading}
 use Rattle.cf_journal.specs.Record.{journal_length}

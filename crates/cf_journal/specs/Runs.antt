@@ -1,5 +1,5 @@
 -- Runs of calls of a disk.
-use Rattle.std.specs.Prelude.{◌≡◌, ◌⊎◌, ◌+◌, ◌-◌, ℕ, List, [], ◌∷◌, length}
+use Rattle.std.specs.Prelude.{◌≡◌, ◌⊎◌, ◌-◌, ℕ, List, [], ◌∷◌, length}
 use Rattle.cf_disk.specs.Disk.{overwritten, Torn, NoneNew, LeavesOnly}
 
 -- The calls changed nothing: a read gives the same, and a crash during them or now leaves only what it might have left before.

@@ -1,5 +1,4 @@
-use Rattle.std.proofs.Common.{rules}
-use Rattle.cf_journal.proofs.Moments.{torn_run, kept_run}
+use Rattle.cf_journal.proofs.Moments.{kept_run}
 use Rattle.cf_journal.proofs.calls.write_through.Goals as goal
 
 pub returns-clause-moments : goal.returns-clause-moments

@@ -1,4 +1,4 @@
-use Rattle.std.proofs.Common.{rules, ◌≡◌, ◌+◌, ◌-◌, ◌∷◌, ◌++◌, [], ◌≤◌, ℕ, List, Bool, true, Some, length, take, drop, get_or, ap, sym, ◌∙◌, subst, arith}
+use Rattle.std.proofs.Common.{rules, ◌≡◌, ◌+◌, ◌-◌, ◌∷◌, ℕ, List, true, Some, length, take, drop, get_or, ap, sym, ◌∙◌, subst, arith}
 use Rattle.std.proofs.lemmas.List.{take_rest, drop_more}
 use Rattle.cf_entry.specs.EntryReading.{entry_of}
 use Rattle.cf_entry.specs.declared.entry.Entry.{Entry}

@@ -1,10 +1,10 @@
-use Rattle.std.proofs.Common.{◌≡◌, ◌+◌, ◌<◌, ◌^◌, ℕ, List, length, refl, ◌∙◌, ap, subst, arith}
+use Rattle.std.proofs.Common.{IsTrue, ◌≡◌, ◌+◌, ◌<◌, ◌^◌, ℕ, List, length, refl, ◌∙◌, ap, subst, arith}
 use Rattle.cf_entry.specs.Entry.{spelling_of}
 use Rattle.cf_journal.specs.Frames.{frame_of}
 use Rattle.cf_journal.specs.Runs.{opened, IsMidway}
 use Rattle.cf_journal.specs.Record.{reading_of, record_of, IsBeforeOrAfter}
 use Rattle.cf_journal.proofs.Moments.{weaker}
-use Rattle.cf_journal.proofs.Entries.{read_whole, starts, midway, holds}
+use Rattle.cf_journal.proofs.Entries.{read_whole, starts, midway, Holds, holds}
 use Rattle.cf_entry.proofs.Spelled.{spelled_is_read}
 use Rattle.cf_journal.proofs.journal.Journal.append.Goals as goal
 
@@ -24,10 +24,16 @@ returns-in-Ok-clause-acknowledged g c =
     let body = spelling_of e in
     let small : length body < 2 ^ 32 = omega (arith, s.room) in
     let frame : c.as_slice.result.now ≡ frame_of body = c.as_slice.ensures.value ∙ c.build.ensures.bytes in
-    let h = λ (told : _).
+    let h : IsTrue g.D.Disk.tells → Holds file new (end + (5 + length body)) e = λ told.
     let written : new ≡ opened file end (frame_of body) = c.in-Ok.ensures.written told ∙ ap (λ (f : List ℕ). opened file end f) frame in
-    holds file new end _ e body (s.is_made told) (s.is_read told) (s.length_is told) (spelled_is_read (spelling_of e) e (c.build.ensures.readable c.requires.proper) refl) small written (omega arith) in
-    record { is_made = λ told. (h told).is_made; is_read = λ told. (h told).is_read; length_is = λ told. (h told).length_is; durable = λ told. c.in-Ok.ensures.durable told; room = omega (arith, s.room, c.append_frame.ensures.room) }
+    holds file new end (end + (5 + length body)) e body (s.is_made told) (s.is_read told) (s.length_is told) (spelled_is_read (spelling_of e) e (c.build.ensures.readable c.requires.proper) refl) small written refl in
+    record {
+      is_made = λ told. (h told).is_made;
+      is_read = λ told. (h told).is_read;
+      length_is = λ told. (h told).length_is ∙ omega arith;
+      durable = λ told. c.in-Ok.ensures.durable told;
+      room = omega (arith, s.room, c.append_frame.ensures.room);
+    }
 
 pub returns-in-Ok-clause-added : goal.returns-in-Ok-clause-added
 returns-in-Ok-clause-added g c told =
