@@ -12,3 +12,6 @@ mod types;
 pub use memory::MemoryHandler;
 pub use plan::Plan;
 pub use planned::{Break, Planned};
+
+#[cfg(test)]
+mod tests;

@@ -6,6 +6,8 @@ mod constraints;
 mod fault;
 mod offered;
 mod patterns;
+#[cfg(test)]
+mod tests;
 
 pub use binding::bind;
 pub use fault::BindFault;
