@@ -13,6 +13,8 @@ mod got;
 mod names;
 mod scope;
 mod sub;
+#[cfg(test)]
+mod tests;
 mod texts;
 mod value;
 mod verdict;
