@@ -1,5 +1,5 @@
 -- What a new template changes of what a stack holds (User Guide: change sets; DescribeChangeSet). What counts as unknown, and so which details are Dynamic and which replacements Conditional, is this project's own.
-use Rattle.std.specs.Prelude.{ℕ, Bool, true, false, ◌&&◌, ◌||◌, not, List, [], ◌∷◌, ◌++◌, Option, Some, None, find, filter, filter_map, flat_map, fold, map, is_some, if◌then◌else◌}
+use Rattle.std.specs.Prelude.{ℕ, zero, suc, Bool, true, false, ◌&&◌, ◌||◌, not, List, [], ◌∷◌, ◌++◌, Option, Some, None, find, filter, filter_map, flat_map, fold, map, option_map, is_some, if◌then◌else◌}
 use Rattle.std.specs.List.{list_any}
 use Rattle.std.specs.Option.{option_map_or}
 use Rattle.std.specs.Str.{bytes_eq}
@@ -175,19 +175,24 @@ found_with schemas held f w =
 abbrev pub found_at : List Schema → List HeldAt → Source → Found → List ℕ → Found
 found_at schemas held source f path = option_map_or (found_with schemas held f) (wanted_at path (plan_of source f.seen)) f
 
--- the paths of the new template, in the order of work
-abbrev pub new_paths : Source → List (List ℕ)
-new_paths source = map (λ w. w.path) (plan_of source []).wanted
+-- the next path in the order of work, over what is seen of those before it
+abbrev pub next_path : Source → Found → Option (List ℕ)
+next_path source f = option_map (λ w. w.path) (find (λ w. not (is_some (value_at w.path f.seen))) (plan_of source f.seen).wanted)
 
+abbrev pub found_by : ℕ → List Schema → List HeldAt → Source → Found → Found
+found_by zero schemas held source f = f
+found_by (suc left) schemas held source f = option_map_or (λ path. found_by left schemas held source (found_at schemas held source f path)) (next_path source f) f
+
+-- a stack has 2,000 resources at the most
 abbrev pub found_of : List Schema → List HeldAt → Source → Found
-found_of schemas held source = fold (found_at schemas held source) (record { rows = []; seen = []; clash = [] }) (new_paths source)
+found_of schemas held source = found_by 2000 schemas held source (record { rows = []; seen = []; clash = [] })
 
 -- what is held and not wanted any more is removed
 abbrev pub removed_row : HeldAt → Row
 removed_row h = record { action = action.Remove; path = h.path; kind = h.kind; replacement = None; unsure = false; details = [] }
 
-abbrev pub removed_rows : List HeldAt → Source → List Row
-removed_rows held source = map removed_row (filter (λ h. not (is_listed h.path (new_paths source))) held)
+abbrev pub removed_rows : List HeldAt → Seen → List Row
+removed_rows held seen = map removed_row (filter (λ h. not (is_some (value_at h.path seen))) held)
 
 -- by path
 abbrev pub put_row : List Row → Row → List Row
@@ -230,7 +235,7 @@ changes_of schemas held outputs exports source =
     let f = found_of schemas held source in
     let p = plan_of source f.seen in
     record {
-      rows = fold put_row [] (f.rows ++ removed_rows held source);
+      rows = fold put_row [] (f.rows ++ removed_rows held f.seen);
       outputs_differ = not (are_same_outputs outputs p.outputs && are_same_exports exports p.exports);
       clash = f.clash;
       flaws = p.flaws;

@@ -67,10 +67,6 @@ abbrev pub text_in : Scope → Form → Outcome (List ℕ)
 text_in s e = on_got (value_in s e) (text_wanted (place_in e))
 
 -- The value of a nested parameter: a text, a whole number or a truth value, or a list of texts joined with commas.
-abbrev pub text_only : Data → Option (List ℕ)
-text_only (text t) = Some t
-text_only _ = None
-
 abbrev pub texts_of : Items → Option (List (List ℕ))
 texts_of no_items = Some []
 texts_of (item (text t) ds) = option_map (λ ts. t ∷ ts) (texts_of ds)
@@ -103,7 +99,11 @@ abbrev pub pieces_in : Scope → Option (List ℕ) → Fields → Outcome (List 
 pieces_in s around no_fields = got []
 pieces_in s around (field k e fs) = on_got (piece_found s around e) (λ p. on_got (pieces_in s around fs) (λ ps. got (with_piece k p ps)))
 
--- the members of `Parameters`: a map, or the taken branch of an Fn::If
+-- the members of `Parameters`: a map, or the taken branch of an Fn::If; without a value there are none
+abbrev pub no_map : List ℕ → Option Data → Outcome (List (List ℕ × Piece))
+no_map at None = got []
+no_map at (Some d) = bad (fault WrongKind at)
+
 abbrev mutual
   pub parameters_in : Scope → Option (List ℕ) → Form → Outcome (List (List ℕ × Piece))
   parameters_in s around (expr at n) = node_parameters s around at n
@@ -111,4 +111,27 @@ abbrev mutual
   pub node_parameters : Scope → Option (List ℕ) → List ℕ → Node → Outcome (List (List ℕ × Piece))
   node_parameters s around at (node.dict fs) = pieces_in s around fs
   node_parameters s around at (choice name y n) = on_got (s.decided at name) (λ b. if b then parameters_in s (Some at) y else parameters_in s (Some at) n)
-  node_parameters s around at n = on_got (plain (form_found s around (expr at n))) (λ _. bad (fault WrongKind (blamed around at n)))
+  node_parameters s around at n = on_got (plain (form_found s around (expr at n))) (no_map (blamed around at n))
+
+-- the same where faults are passed over: what is at fault counts as not known yet
+abbrev pub piece_despite : Outcome (Option Piece) → Option Piece
+piece_despite (got p) = p
+piece_despite _ = Some Later
+
+abbrev pub pieces_despite : Scope → Option (List ℕ) → Fields → List (List ℕ × Piece)
+pieces_despite s around no_fields = []
+pieces_despite s around (field k e fs) = with_piece k (piece_despite (piece_found s around e)) (pieces_despite s around fs)
+
+abbrev pub branch_despite : Outcome Bool → List (List ℕ × Piece) → List (List ℕ × Piece) → List (List ℕ × Piece)
+branch_despite (got true) first second = first
+branch_despite (got false) first second = second
+branch_despite _ first second = []
+
+abbrev mutual
+  pub parameters_despite : Scope → Option (List ℕ) → Form → List (List ℕ × Piece)
+  parameters_despite s around (expr at n) = node_despite s around at n
+
+  pub node_despite : Scope → Option (List ℕ) → List ℕ → Node → List (List ℕ × Piece)
+  node_despite s around at (node.dict fs) = pieces_despite s around fs
+  node_despite s around at (choice name y n) = branch_despite (s.decided at name) (parameters_despite s (Some at) y) (parameters_despite s (Some at) n)
+  node_despite s around at n = []

@@ -2,10 +2,9 @@
 use Rattle.std.specs.Prelude.{ℕ, zero, suc, ◌+◌, ◌==◌, Bool, true, false, ◌&&◌, ◌||◌, not, List, [], ◌∷◌, ◌++◌, Option, Some, None, Result, Ok, Err, find, filter, filter_map, flat_map, map, option_map, option_and_then, unwrap_or, is_some, fold, length, nat_lt, codes, if◌then◌else◌}
 use Rattle.std.specs.List.{list_any, list_all}
 use Rattle.std.specs.Option.{option_or, option_map_or}
-use Rattle.std.specs.Result.{result_ok}
 use Rattle.std.specs.Str.{bytes_eq}
 use Rattle.cf_tree.specs.Datum.{Data}
-use Rattle.cf_tree.specs.Keys.{value_at}
+use Rattle.cf_tree.specs.Keys.{value_at, put}
 use Rattle.cf_tree.specs.Forms.{Form}
 use Rattle.cf_tree.specs.Named.{found}
 use Rattle.cf_tree.specs.declared.bound.Setting.{Setting}
@@ -25,20 +24,20 @@ use Rattle.cf_eval.specs.declared.env.Sight.TheVariants as sight
 use Rattle.cf_eval.specs.declared.env.OutputSight.{OutputSight}
 use Rattle.cf_eval.specs.declared.env.OutputSight.TheVariants as output
 use Rattle.cf_eval.specs.declared.fault.EvalWhy.TheVariants.{UnknownName, WrongKind}
-use Rattle.cf_eval.specs.Outcome.{Outcome, Stop, got, later, bad, fault, on_got}
+use Rattle.cf_eval.specs.Outcome.{Outcome, Stop, got, later, bad, fault, undecided, on_got}
 use Rattle.cf_eval.specs.Scope.{Scope}
 use Rattle.cf_eval.specs.Texts.{text_of}
 use Rattle.cf_eval.specs.Env.{conditions_of}
-use Rattle.cf_graph.specs.Mentions.{Mention, by_ref, by_attribute, fields_mentions}
-use Rattle.cf_graph.specs.Needs.{Tangle, needs_of, is_made, is_false, holds_in, is_one, first_in}
-use Rattle.cf_tree.specs.Forms.{fields_of}
+use Rattle.cf_graph.specs.Needs.{Tangle, needs_of, is_made, is_false, is_one}
 use Rattle.cf_param.specs.declared.offered.Piece.{Piece}
 use Rattle.cf_param.specs.declared.offered.Piece.TheVariants.{Text, Later}
 use Rattle.cf_param.specs.declared.fault.BindFault.{BindFault}
+use Rattle.cf_param.specs.declared.fault.BindFault.TheVariants as unbound
+use Rattle.cf_tree.specs.declared.template.Param.{Param}
 use Rattle.cf_param.specs.Binding.{binding_of}
 use Rattle.cf_desired.specs.Names.{path_in, name_in, stack_id, pseudo_of}
 use Rattle.cf_desired.specs.Flaw.{Flaw, bind, eval, graph, shape, template_missing, too_deep, too_many, dynamic_condition, dynamic_template}
-use Rattle.cf_desired.specs.Evaluate.{scope_over, value_in, flaw_at, Props, known_props, bad_props, props_in, place_in, text_in, parameters_in}
+use Rattle.cf_desired.specs.Evaluate.{scope_over, value_in, flaw_at, Props, known_props, bad_props, props_in, place_in, text_in, parameters_in, parameters_despite}
 
 -- what is known of a resource's physical id and of its attributes, by path
 pub record SeenAt : Type 0 where
@@ -62,11 +61,12 @@ pub record Wanted : Type 0 where
   pub needs : List (List ℕ)
   pub props : Evaluated
 
--- an output: its value and the name that it is exported by, where it is; either Later or at fault
+-- an output: its value and the name that it is exported by, where it is, and why it is at fault
 pub record WantedOutput : Type 0 where
   pub name : List ℕ
   pub value : Outcome (List ℕ)
   pub export : Option (Outcome (List ℕ))
+  pub fault : Option Flaw
 
 -- a nested stack: the path of its stack resource, what that needs, and why its parameters can't be bound
 pub record Inner : Type 0 where
@@ -98,12 +98,18 @@ pub record Entering : Type 0 where
 abbrev pub no_plan : ℕ → ℕ → List Flaw → Plan
 no_plan templates members flaws = record { wanted = []; outputs = []; nested = []; unmade = []; exports = []; flaws = flaws; templates = templates; members = members }
 
--- What is settled of a template's resources so far: the plan, what is seen of each, which paths each stands for, and the flaw of a nested stack's outputs.
+-- an output of a nested stack that is at fault: of which logical id, under which attribute, and why
+pub record Broken : Type 0 where
+  pub id : List ℕ
+  pub attribute : List ℕ
+  pub flaw : Flaw
+
+-- What is settled of a template's resources so far: the plan, what is seen of each, which paths each stands for, and the outputs of nested stacks that are at fault; these are seen as not known yet.
 pub record Course : Type 0 where
   pub plan : Plan
   pub sights : List (List ℕ × Sight)
   pub stands : List (List ℕ × List (List ℕ))
-  pub broken : List (List ℕ × Flaw)
+  pub broken : List Broken
 
 abbrev pub is_stack : Res → Bool
 is_stack r = bytes_eq r.kind (codes "AWS::CloudFormation::Stack")
@@ -119,36 +125,69 @@ replace_for e r = option_or r.replace e.replace
 abbrev pub stood_for : Course → List (List ℕ) → List (List ℕ)
 stood_for c ids = flat_map (λ id. option_map_or (λ ps. ps) (value_at id c.stands) []) ids
 
-abbrev pub unique : List (List ℕ) → List (List ℕ)
-unique [] = []
-unique (p ∷ ps) = if is_one p ps then unique ps else p ∷ unique ps
+-- each once, in byte order
+abbrev pub put_name : List (List ℕ × Bool) → List ℕ → List (List ℕ × Bool)
+put_name all name = put name true all
+
+abbrev pub in_order : List (List ℕ) → List (List ℕ)
+in_order names = map (λ p. p.0) (fold put_name [] names)
 
 abbrev pub needed_paths : Entering → Course → List (List ℕ) → List (List ℕ)
-needed_paths e c ids = unique (stood_for c ids ++ e.needs)
+needed_paths e c ids = in_order (stood_for c ids ++ e.needs)
 
 -- What is seen of a resource that is made.
 abbrev pub seen_as : Option SeenAt → Sight
 seen_as None = sight.Made None None
 seen_as (Some s) = sight.Made s.physical s.attrs
 
--- The flaw of a nested stack's output is the flaw of what refers to it.
-abbrev pub is_of_id : List ℕ → Mention → Bool
-is_of_id id (by_attribute name) = bytes_eq id name
-is_of_id id (by_ref name) = false
+-- Who refers to an output that is at fault has that output's flaw. Such an output is looked for by taking it for one that is not made: what then becomes a fault refers to it.
+abbrev pub is_broken_at : List ℕ → List ℕ → Broken → Bool
+is_broken_at id attribute b = bytes_eq id b.id && bytes_eq attribute b.attribute
 
-abbrev pub broken_for : Course → List (List ℕ × Verdict) → Res → Option Flaw
-broken_for c conds r = option_map (λ b. b.1) (find (λ b. list_any (is_of_id b.0) (fields_mentions (holds_in conds) (fields_of r.props))) c.broken)
+abbrev pub marked_output : List Broken → List ℕ → List ℕ × OutputSight → List ℕ × OutputSight
+marked_output bs id o = if list_any (is_broken_at id o.0) bs then (o.0, output.NotMade) else o
 
-abbrev pub has_later : List (List ℕ × Option Data) → Bool
-has_later ps = list_any (λ p. not (is_some p.1)) ps
+abbrev pub marked_sight : List Broken → List ℕ → Sight → Sight
+marked_sight bs id sight.NotMade = sight.NotMade
+marked_sight bs id (sight.Made physical attrs) = sight.Made physical attrs
+marked_sight bs id (sight.Nested stack outputs) = sight.Nested stack (map (marked_output bs id) outputs)
 
-abbrev pub known_or_broken : Option Flaw → List (List ℕ × Option Data) → Evaluated
-known_or_broken None ps = evaluated ps
-known_or_broken (Some f) ps = if has_later ps then flawed f else evaluated ps
+abbrev pub marked : List Broken → List (List ℕ × Sight) → List (List ℕ × Sight)
+marked bs sights = map (λ s. (s.0, marked_sight bs s.0 s.1)) sights
 
-abbrev pub evaluation_of : Entering → Option Flaw → Props → Evaluated
-evaluation_of e b (bad_props s) = flawed (flaw_at e.path s)
-evaluation_of e b (known_props ps) = known_or_broken b ps
+abbrev pub place_of_stop : Stop → List ℕ
+place_of_stop (fault why at) = at
+place_of_stop (undecided name at) = at
+
+abbrev pub stops_at : List ℕ → Option Stop → Bool
+stops_at at None = false
+stops_at at (Some stop) = bytes_eq at (place_of_stop stop)
+
+-- the broken output whose mark alone stops the evaluation at this place
+abbrev pub breaks_at : (List (List ℕ × Sight) → Option Stop) → Course → List ℕ → Broken → Bool
+breaks_at stop_over c at b = stops_at at (stop_over (marked (b ∷ []) c.sights))
+
+abbrev pub flaw_for : (List (List ℕ × Sight) → Option Stop) → List ℕ → Course → Stop → Flaw
+flaw_for stop_over stack c stop =
+    if stops_at (place_of_stop stop) (stop_over c.sights) then flaw_at stack stop
+    else option_map_or (λ b. b.flaw) (find (breaks_at stop_over c (place_of_stop stop)) c.broken) (flaw_at stack stop)
+
+-- the flaw of what stops so, over what is seen
+abbrev pub flaw_over : (List (List ℕ × Sight) → Option Stop) → List ℕ → Course → Option Flaw
+flaw_over stop_over stack c = option_map (flaw_for stop_over stack c) (stop_over (marked c.broken c.sights))
+
+abbrev pub stop_of_props : Props → Option Stop
+stop_of_props (bad_props s) = Some s
+stop_of_props (known_props ps) = None
+
+abbrev pub stop_in : {A : Type 0} → Outcome A → Option Stop
+stop_in (bad s) = Some s
+stop_in _ = None
+
+abbrev pub evaluation_of : Option Flaw → Props → Evaluated
+evaluation_of (Some f) props = flawed f
+evaluation_of None (known_props ps) = evaluated ps
+evaluation_of None (bad_props s) = evaluated []
 
 abbrev pub flaws_of : Evaluated → List Flaw
 flaws_of (flawed f) = f ∷ []
@@ -173,8 +212,12 @@ unless_flaw (Some f) v = flawed f
 abbrev pub joined_to : Plan → Wanted → Plan
 joined_to p w = record p { wanted = p.wanted ++ w ∷ []; flaws = p.flaws ++ flaws_of w.props }
 
-abbrev pub with_resource : Entering → Scope → List (List ℕ × Verdict) → Seen → Course → Res → List (List ℕ) → Course
-with_resource e s conds seen c r ids =
+-- the scope of the template's resources over what is seen
+abbrev pub Scoping : Type 0
+Scoping = List (List ℕ × Sight) → Scope
+
+abbrev pub with_resource : Entering → Scoping → List (List ℕ × Verdict) → Seen → Course → Res → List (List ℕ) → Course
+with_resource e scope conds seen c r ids =
     let path = path_in e.path r.name in
     record c {
       plan = joined_to c.plan (record {
@@ -183,7 +226,7 @@ with_resource e s conds seen c r ids =
         deletion = unwrap_or (deletion_for e r) deletion.Delete;
         replace = unwrap_or (replace_for e r) replace.Delete;
         needs = needed_paths e c ids;
-        props = unless_flaw (condition_flaw e conds (resource_place r.name) r.condition) (evaluation_of e (broken_for c conds r) (props_in s r.props));
+        props = unless_flaw (condition_flaw e conds (resource_place r.name) r.condition) (evaluation_of (flaw_over (λ sights. stop_of_props (props_in (scope sights) r.props)) e.path c) (props_in (scope c.sights) r.props));
       });
       sights = c.sights ++ (r.name, seen_as (value_at path seen)) ∷ [];
       stands = c.stands ++ (r.name, path ∷ []) ∷ [];
@@ -198,6 +241,9 @@ has_stack_shape r = list_all (λ p. is_stack_property p.0) r.props && is_some (v
 
 abbrev pub parameters_of : Scope → Res → Outcome (List (List ℕ × Piece))
 parameters_of s r = option_map_or (parameters_in s None) (value_at (codes "Parameters") r.props) (got [])
+
+abbrev pub given_despite : Scope → Res → List (List ℕ × Piece)
+given_despite s r = option_map_or (parameters_despite s None) (value_at (codes "Parameters") r.props) []
 
 -- a template's name is a text; where it is NoValue the shape is wrong, where it is Later it can't be told
 pub data Url : Type 0 where
@@ -251,15 +297,31 @@ url_of e s r =
     let form = value_at (codes "TemplateURL") r.props in
     url_from e.path (path_in e.path r.name) (option_map_or (λ f. on_got (value_in s f) (maybe_text (place_in f))) form (got None))
 
-abbrev pub nested_given : Option Laying → Source → Entering → Scope → Course → Res → List (List ℕ) → Outcome (List (List ℕ × Piece)) → Plan
-nested_given lay source e s c r ids (got given) = nested_at_url lay source e c r ids given (url_of e s r)
-nested_given lay source e s c r ids later = no_plan c.plan.templates c.plan.members (dynamic_template (path_in e.path r.name) ∷ [])
-nested_given lay source e s c r ids (bad f) = no_plan c.plan.templates c.plan.members (flaw_at e.path f ∷ [])
+-- Parameters at fault are a flaw of the stack resource; the paths of the nested stack are planned with what is at fault as not known yet. Parameters that as a whole are not known yet are no map.
+abbrev pub with_first : Flaw → Plan → Plan
+with_first f p = record p { flaws = f ∷ p.flaws }
 
-abbrev pub nested_plan : Option Laying → Source → Entering → Scope → List (List ℕ × Verdict) → Course → Res → List (List ℕ) → Option Flaw → Plan
-nested_plan lay source e s conds c r ids (Some f) = no_plan c.plan.templates c.plan.members (f ∷ [])
-nested_plan lay source e s conds c r ids None =
-    if has_stack_shape r then nested_given lay source e s c r ids (parameters_of s r) else no_plan c.plan.templates c.plan.members (shape (path_in e.path r.name) ∷ [])
+abbrev pub despite : Option Flaw → Plan → Plan
+despite None p = p
+despite (Some f) p = with_first f p
+
+abbrev pub given_or_despite : Scope → Res → Outcome (List (List ℕ × Piece)) → List (List ℕ × Piece)
+given_or_despite s r (got given) = given
+given_or_despite s r _ = given_despite s r
+
+abbrev pub parameters_stop : Res → Outcome (List (List ℕ × Piece)) → Option Stop
+parameters_stop r (got given) = None
+parameters_stop r later = Some (fault WrongKind (codes "/Resources/" ++ r.name ++ codes "/Properties/Parameters"))
+parameters_stop r (bad s) = Some s
+
+abbrev pub parameters_flaw : Entering → Scoping → Course → Res → Option Flaw
+parameters_flaw e scope c r = flaw_over (λ sights. parameters_stop r (parameters_of (scope sights) r)) e.path c
+
+abbrev pub nested_plan : Option Laying → Source → Entering → Scoping → Course → Res → List (List ℕ) → Option Flaw → Plan
+nested_plan lay source e scope c r ids (Some f) = no_plan c.plan.templates c.plan.members (f ∷ [])
+nested_plan lay source e scope c r ids None =
+    if has_stack_shape r then despite (parameters_flaw e scope c r) (nested_at_url lay source e c r ids (given_or_despite (scope c.sights) r (parameters_of (scope c.sights) r)) (url_of e (scope c.sights) r))
+    else no_plan c.plan.templates c.plan.members (shape (path_in e.path r.name) ∷ [])
 
 -- what is seen of a nested output; one that is Later or at fault has no value
 abbrev pub value_seen : Outcome (List ℕ) → Option (List ℕ)
@@ -272,12 +334,8 @@ output_seen o = (codes "Outputs." ++ o.name, output.Made (value_seen o.value))
 abbrev pub outputs_not_made : List (List ℕ) → List (List ℕ × OutputSight)
 outputs_not_made names = map (λ n. (codes "Outputs." ++ n, output.NotMade)) names
 
-abbrev pub bad_stop : Outcome (List ℕ) → Option Stop
-bad_stop (bad s) = Some s
-bad_stop _ = None
-
-abbrev pub broken_output : List ℕ → List WantedOutput → Option Flaw
-broken_output path outputs = option_map (flaw_at path) (first_in (filter_map (λ o. bad_stop o.value) outputs))
+abbrev pub broken_output : List ℕ → WantedOutput → List Broken
+broken_output id o = option_map_or (λ f. record { id = id; attribute = codes "Outputs." ++ o.name; flaw = f } ∷ []) o.fault []
 
 -- the nested stack's plan joins the plan around it
 abbrev pub merged : Plan → Plan → Inner → Plan
@@ -299,22 +357,21 @@ is_bind_at path _ = false
 abbrev pub bind_flaw_at : List ℕ → List Flaw → Option Flaw
 bind_flaw_at path flaws = find (is_bind_at path) flaws
 
-abbrev pub with_nested : Option Laying → Source → ℕ → Entering → Scope → List (List ℕ × Verdict) → Course → Res → List (List ℕ) → Course
-with_nested lay source number e s conds c r ids =
+abbrev pub with_nested : Option Laying → Source → ℕ → Entering → Scoping → List (List ℕ × Verdict) → Course → Res → List (List ℕ) → Course
+with_nested lay source number e scope conds c r ids =
     let path = path_in e.path r.name in
-    let q = nested_plan lay source e s conds c r ids (condition_flaw e conds (resource_place r.name) r.condition) in
+    let q = nested_plan lay source e scope c r ids (condition_flaw e conds (resource_place r.name) r.condition) in
     record {
-      plan = merged c.plan q (record { path = path; needs = needed_paths e c ids; fault = bind_flaw_at path q.flaws });
+      plan = merged c.plan q (record { path = path; needs = needed_paths e c ids; fault = option_or (parameters_flaw e scope c r) (bind_flaw_at path q.flaws) });
       sights = c.sights ++ (r.name, sight.Nested (stack_id (name_in e.stack r.name) number) (map output_seen q.outputs ++ outputs_not_made q.unmade)) ∷ [];
       stands = c.stands ++ (r.name, map (λ w. w.path) q.wanted ++ needed_paths e c ids) ∷ [];
-      broken = c.broken ++ option_map_or (λ f. (r.name, f) ∷ []) (broken_output path q.outputs) [];
+      broken = c.broken ++ flat_map (broken_output r.name) q.outputs;
     }
 
 -- The resources in the order of work.
-abbrev pub with_member : Option Laying → Source → Seen → ℕ → Entering → List (List ℕ × Setting) → List (List ℕ × Verdict) → Course → List ℕ × List (List ℕ) → Course
-with_member lay source seen number e bound conds c m =
-    let s = scope_over e.template bound conds (pseudo_of e.stack number) c.sights source.imports in
-    option_map_or (λ r. if is_stack r then with_nested lay source number e s conds c r m.1 else with_resource e s conds seen c r m.1) (found (λ r. r.name) m.0 e.template.resources) c
+abbrev pub with_member : Option Laying → Source → Seen → ℕ → Entering → Scoping → List (List ℕ × Verdict) → Course → List ℕ × List (List ℕ) → Course
+with_member lay source seen number e scope conds c m =
+    option_map_or (λ r. if is_stack r then with_nested lay source number e scope conds c r m.1 else with_resource e scope conds seen c r m.1) (found (λ r. r.name) m.0 e.template.resources) c
 
 abbrev pub not_made : List (List ℕ × Verdict) → Template → List (List ℕ × Sight)
 not_made conds t = map (λ r. (r.name, sight.NotMade)) (filter (λ r. not (is_made conds r)) t.resources)
@@ -330,32 +387,44 @@ export_wanted f o = o
 abbrev pub output_flaw : Entering → List (List ℕ × Verdict) → Out → Option Stop
 output_flaw e conds o = option_map_or (λ c. if is_some (value_at c conds) then None else Some (fault UnknownName (output_place o.name))) o.condition None
 
-abbrev pub wanted_output : Scope → Option Stop → Out → WantedOutput
-wanted_output s (Some stop) o = record { name = o.name; value = bad stop; export = None }
-wanted_output s None o = record { name = o.name; value = text_in s o.value; export = option_map (λ f. export_wanted f (text_in s f)) o.export }
+abbrev pub export_stop : Scope → Option Form → Option Stop
+export_stop s None = None
+export_stop s (Some f) = stop_in (export_wanted f (text_in s f))
 
-abbrev pub stops_of : WantedOutput → List Stop
-stops_of o = option_map_or (λ x. option_map_or (λ s. s ∷ []) (bad_stop x) []) o.export [] ++ option_map_or (λ s. s ∷ []) (bad_stop o.value) []
+abbrev pub output_stop : Option Stop → Out → Scope → Option Stop
+output_stop (Some stop) o s = Some stop
+output_stop None o s = option_or (export_stop s o.export) (stop_in (text_in s o.value))
+
+abbrev pub wanted_output : Entering → Scoping → Course → Option Stop → Out → WantedOutput
+wanted_output e scope c stop o = record {
+  name = o.name;
+  value = text_in (scope c.sights) o.value;
+  export = option_map (λ f. export_wanted f (text_in (scope c.sights) f)) o.export;
+  fault = flaw_over (λ sights. output_stop stop o (scope sights)) e.path c;
+}
 
 abbrev pub exported : WantedOutput → List (List ℕ × Outcome (List ℕ))
 exported o = option_map_or (λ x. option_map_or (λ name. (name, o.value) ∷ []) (value_seen x) []) o.export []
 
-abbrev pub with_outputs : Entering → Scope → List (List ℕ × Verdict) → Plan → Plan
-with_outputs e s conds p =
-    let outputs = map (λ o. wanted_output s (output_flaw e conds o) o) (filter (is_output_made conds) e.template.outputs) in
-    record p {
+abbrev pub output_flaws : WantedOutput → List Flaw
+output_flaws o = option_map_or (λ f. f ∷ []) o.fault []
+
+abbrev pub with_outputs : Entering → Scoping → List (List ℕ × Verdict) → Course → Plan
+with_outputs e scope conds c =
+    let outputs = map (λ o. wanted_output e scope c (output_flaw e conds o) o) (filter (is_output_made conds) e.template.outputs) in
+    record c.plan {
       outputs = outputs;
       unmade = map (λ o. o.name) (filter (λ o. not (is_output_made conds o)) e.template.outputs);
-      exports = p.exports ++ flat_map exported outputs;
-      flaws = p.flaws ++ map (flaw_at e.path) (flat_map stops_of outputs);
+      exports = c.plan.exports ++ flat_map exported outputs;
+      flaws = c.plan.flaws ++ flat_map output_flaws outputs;
     }
 
 -- One template: its parameters bound, its conditions decided, its order found, then its resources and its outputs.
 abbrev pub planned : Option Laying → Source → Seen → ℕ → Entering → List (List ℕ × Setting) → List (List ℕ × Verdict) → Plan → Result (List (List ℕ × List (List ℕ))) Tangle → Plan
 planned lay source seen number e bound conds p (Err t) = record p { flaws = p.flaws ++ graph e.path t ∷ [] }
 planned lay source seen number e bound conds p (Ok order) =
-    let c = fold (with_member lay source seen number e bound conds) (record { plan = p; sights = not_made conds e.template; stands = []; broken = [] }) order in
-    with_outputs e (scope_over e.template bound conds (pseudo_of e.stack number) c.sights source.imports) conds c.plan
+    let scope = λ (sights : List (List ℕ × Sight)). scope_over e.template bound conds (pseudo_of e.stack number) sights source.imports in
+    with_outputs e scope conds (fold (with_member lay source seen number e scope conds) (record { plan = p; sights = not_made conds e.template; stands = []; broken = [] }) order)
 
 abbrev pub verdict_from : Option Bool → Verdict
 verdict_from None = verdict.Later
@@ -376,14 +445,33 @@ abbrev pub bound_plan : Option Laying → Source → Seen → ℕ → Entering �
 bound_plan lay source seen number e p bound = decided_plan lay source seen number e bound p (conditions_of e.template bound (pseudo_of e.stack number))
 
 -- Where a nested stack's parameters can't be bound over what is seen, the paths in it are planned with these parameters as Later: policies and needs don't rest on them.
-abbrev pub all_later : List (List ℕ × Piece) → List (List ℕ × Piece)
-all_later given = map (λ g. (g.0, Later)) given
+abbrev pub fault_name : BindFault → List ℕ
+fault_name (unbound.Undeclared name) = name
+fault_name (unbound.Missing name) = name
+fault_name (unbound.NotANumber name) = name
+fault_name (unbound.TooShort name) = name
+fault_name (unbound.TooLong name) = name
+fault_name (unbound.TooSmall name) = name
+fault_name (unbound.TooLarge name) = name
+fault_name (unbound.NotAllowed name) = name
+fault_name (unbound.NoMatch name) = name
+fault_name (unbound.BadPattern name) = name
+fault_name unbound.NoMemory = []
+
+abbrev pub later_one : List ℕ → List ℕ × Piece → List ℕ × Piece
+later_one name g = if bytes_eq name g.0 then (g.0, Later) else g
+
+-- each parameter at fault in its turn counts as not known yet
+abbrev pub bound_despite : ℕ → List Param → List (List ℕ × Piece) → Result (List (List ℕ × Setting)) BindFault → Option (List (List ℕ × Setting))
+bound_despite n params given (Ok bound) = Some bound
+bound_despite zero params given (Err f) = None
+bound_despite (suc n) params given (Err f) = bound_despite n params (map (later_one (fault_name f)) given) (binding_of params (map (later_one (fault_name f)) given))
 
 abbrev pub bound_or_later : Option Laying → Source → Seen → ℕ → Entering → Plan → Result (List (List ℕ × Setting)) BindFault → Plan
 bound_or_later lay source seen number e p (Ok bound) = bound_plan lay source seen number e p bound
 bound_or_later lay source seen number e p (Err f) =
     let q = record p { flaws = p.flaws ++ bind e.path f ∷ [] } in
-    option_map_or (bound_plan lay source seen number e q) (result_ok (binding_of e.template.params (all_later e.given))) q
+    option_map_or (bound_plan lay source seen number e q) (bound_despite (length e.given) e.template.params e.given (Err f)) q
 
 -- a template entered at a depth, where so many more may be entered below it
 abbrev pub laid : ℕ → Source → Seen → ℕ → Laying

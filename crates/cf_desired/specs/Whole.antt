@@ -92,6 +92,6 @@ whole_in p = unless_flawed p.flaws (whole_from p (all_of right_of p.wanted) (all
 abbrev pub whole_of : Source → Seen → Option Whole
 whole_of source seen = whole_in (plan_of source seen)
 
--- the names that a source exports: they rest on no resource
-abbrev pub export_names_of : Source → List (List ℕ)
-export_names_of source = map (λ e. e.0) (plan_of source []).exports
+-- the names that a source exports, over what is seen
+abbrev pub export_names_of : Source → Seen → List (List ℕ)
+export_names_of source seen = map (λ e. e.0) (plan_of source seen).exports

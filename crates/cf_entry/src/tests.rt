@@ -31,26 +31,38 @@ const REFUSED: &[u8; 35] =
 // Operation 2 ended in DELETE_FAILED, and A failed.
 const DONE: &[u8; 19] = b"\x07\0\0\0\0\0\0\0\x02\x0f\0\0\0\x01\0\0\0\x01A";
 
-/// The entry of these bytes, if they are written again as they were.
-fn read_and_written(alloc: Global, bytes: &[u8]) -> Result<Entry, Fail> {
-    let entry = read_entry(alloc, bytes)?.ok_or("no entry")?;
-    let size = entry_size(&entry);
+// A, whose physical id is f1:1, is kept by operation 1.
+const KEPT: &[u8; 23] = b"\x03\0\0\0\0\0\0\0\x01\0\0\0\x01A\0\0\0\x04f1:1\x01";
+
+// Operation 1 turns back, since the handler refused A with AccessDenied.
+const BACK: &[u8; 18] = b"\x06\0\0\0\0\0\0\0\x01\x03\x01\x01\0\0\0\x01A\x03";
+
+// The change set 1 of site modifies A of the type T: its V, not known yet, changes in place.
+const CHANGE_SET: &[u8; 63] =
+    b"\x08\0\0\0\0\0\0\0\x01\0\0\0\x04site\0\0\0\0\0\0\0\0\0\0\0\0\0\0\0\0\0\0\0\x01\x02\0\0\0\x01A\0\0\0\x01T\x02\x01\0\0\0\x01\x01\0\0\0\x01V\x01\x02\x01";
+
+/// Whether the spelling of an entry is these bytes.
+fn is_written(alloc: Global, entry: &Entry, bytes: &[u8]) -> Result<bool, Fail> {
+    let size = entry_size(entry);
     if size >= 1 << 32 {
-        return Err("too long".into());
+        return Ok(false);
     }
     let mut written = Vec::with_capacity(alloc, size as usize)?;
-    write_entry(&entry, &mut written);
-    if written.as_slice() == bytes {
-        Ok(entry)
-    } else {
-        Err("other bytes".into())
+    write_entry(entry, &mut written);
+    Ok(written.as_slice() == bytes)
+}
+
+/// Whether these bytes are an entry, and are written again as they were.
+fn is_kept(alloc: Global, bytes: &[u8]) -> Result<bool, Fail> {
+    match read_entry(alloc, bytes) {
+        Ok(Some(entry)) => is_written(alloc, &entry, bytes),
+        _ => Ok(false),
     }
 }
 
 #[test]
 fn an_opening(rt: HostRuntime) -> Result<(), Fail> {
-    let entry = read_and_written(rt.alloc(), OPENED)?;
-    assert_eq!(rt; entry_size(&entry), 41);
+    assert!(rt; is_kept(rt.alloc(), OPENED)?);
     Ok(())
 }
 
@@ -65,16 +77,29 @@ fn tells_source(entry: &Entry) -> bool {
     }
 }
 
+fn creation_is_read(alloc: Global) -> bool {
+    match read_entry(alloc, BEGIN) {
+        Ok(Some(entry)) => tells_source(&entry),
+        _ => false,
+    }
+}
+
 #[test]
 fn a_creation(rt: HostRuntime) -> Result<(), Fail> {
-    let entry = read_and_written(rt.alloc(), BEGIN)?;
-    assert!(rt; tells_source(&entry));
+    assert!(rt; is_kept(rt.alloc(), BEGIN)?);
+    assert!(rt; creation_is_read(rt.alloc()));
     Ok(())
 }
 
 #[test]
 fn a_rollback_that_goes_on(rt: HostRuntime) -> Result<(), Fail> {
-    let _entry = read_and_written(rt.alloc(), CONTINUE)?;
+    assert!(rt; is_kept(rt.alloc(), CONTINUE)?);
+    Ok(())
+}
+
+#[test]
+fn a_leftover(rt: HostRuntime) -> Result<(), Fail> {
+    assert!(rt; is_kept(rt.alloc(), KEPT)?);
     Ok(())
 }
 
@@ -91,54 +116,89 @@ fn asks_for_list(entry: &Entry) -> bool {
     }
 }
 
+fn intent_is_read(alloc: Global) -> bool {
+    match read_entry(alloc, INTENT) {
+        Ok(Some(entry)) => asks_for_list(&entry),
+        _ => false,
+    }
+}
+
 #[test]
 fn an_intent(rt: HostRuntime) -> Result<(), Fail> {
-    let entry = read_and_written(rt.alloc(), INTENT)?;
-    assert!(rt; asks_for_list(&entry));
+    assert!(rt; is_kept(rt.alloc(), INTENT)?);
+    assert!(rt; intent_is_read(rt.alloc()));
     Ok(())
 }
 
 #[test]
 fn an_outcome(rt: HostRuntime) -> Result<(), Fail> {
-    let _entry = read_and_written(rt.alloc(), OUTCOME)?;
+    assert!(rt; is_kept(rt.alloc(), OUTCOME)?);
     Ok(())
 }
 
-fn code_of(entry: &Entry) -> Option<Code> {
-    match entry {
+fn is_not_found(entry: &Entry) -> bool {
+    matches!(
+        entry,
         Entry::Outcome {
             number: _,
             token: _,
-            answer: Reply::Failed { code },
-            before: _,
-            after: _,
-        } => Some(*code),
-        _ => None,
+            answer: Reply::Failed {
+                code: Code::NotFound
+            },
+            before: 5,
+            after: 6,
+        }
+    )
+}
+
+fn refusal_is_read(alloc: Global) -> bool {
+    match read_entry(alloc, REFUSED) {
+        Ok(Some(entry)) => is_not_found(&entry),
+        _ => false,
     }
 }
 
 #[test]
 fn a_refusal(rt: HostRuntime) -> Result<(), Fail> {
-    let entry = read_and_written(rt.alloc(), REFUSED)?;
-    assert_eq!(rt; code_of(&entry), Some(Code::NotFound));
+    assert!(rt; is_kept(rt.alloc(), REFUSED)?);
+    assert!(rt; refusal_is_read(rt.alloc()));
     Ok(())
 }
 
-fn status_of(entry: &Entry) -> Option<Status> {
-    match entry {
+#[test]
+fn a_turn(rt: HostRuntime) -> Result<(), Fail> {
+    assert!(rt; is_kept(rt.alloc(), BACK)?);
+    Ok(())
+}
+
+fn has_failed(entry: &Entry) -> bool {
+    matches!(
+        entry,
         Entry::Done {
             number: 2,
-            status,
+            status: Status::DeleteFailed,
             failed: _,
-        } => Some(*status),
-        _ => None,
+        }
+    )
+}
+
+fn end_is_read(alloc: Global) -> bool {
+    match read_entry(alloc, DONE) {
+        Ok(Some(entry)) => has_failed(&entry),
+        _ => false,
     }
 }
 
 #[test]
 fn an_end(rt: HostRuntime) -> Result<(), Fail> {
-    let entry = read_and_written(rt.alloc(), DONE)?;
-    assert_eq!(rt; status_of(&entry), Some(Status::DeleteFailed));
+    assert!(rt; is_kept(rt.alloc(), DONE)?);
+    assert!(rt; end_is_read(rt.alloc()));
+    Ok(())
+}
+
+#[test]
+fn a_change_set(rt: HostRuntime) -> Result<(), Fail> {
+    assert!(rt; is_kept(rt.alloc(), CHANGE_SET)?);
     Ok(())
 }
 
@@ -161,5 +221,11 @@ fn a_kind_that_no_entry_has(rt: HostRuntime) -> Result<(), Fail> {
 #[test]
 fn an_end_that_is_in_progress(rt: HostRuntime) -> Result<(), Fail> {
     assert!(rt; is_no_entry(rt.alloc(), b"\x07\0\0\0\0\0\0\0\x02\x0d\0\0\0\0")?);
+    Ok(())
+}
+
+#[test]
+fn a_cause_where_nothing_turns_back(rt: HostRuntime) -> Result<(), Fail> {
+    assert!(rt; is_no_entry(rt.alloc(), b"\x06\0\0\0\0\0\0\0\x01\x02\x01\x02\0\0\0\0")?);
     Ok(())
 }

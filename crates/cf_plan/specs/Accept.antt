@@ -8,6 +8,8 @@ use Rattle.cf_tree.specs.declared.source.Source.{Source}
 use Rattle.cf_export.specs.declared.Export.{Export}
 use Rattle.cf_export.specs.Export.{pins_name}
 use Rattle.cf_schema.specs.declared.described.Schema.{Schema}
+use Rattle.cf_entry.specs.declared.status.Status.{Status}
+use Rattle.cf_entry.specs.declared.status.Status.TheVariants as status
 use Rattle.cf_stacks.specs.declared.held.Held.{Held}
 use Rattle.cf_stacks.specs.declared.held.Output.{Output}
 use Rattle.cf_stacks.specs.declared.state.StackState.{StackState}
@@ -62,6 +64,16 @@ are_unique (n ∷ ns) = not (is_among n ns) && are_unique ns
 abbrev pub are_free : List ℕ → World → List (List ℕ) → Bool
 are_free name x exports = are_unique exports && not (list_any (is_exported_elsewhere name x) exports)
 
+-- An export of this stack is taken away where another stack pins it and the new outputs no longer export its name (User Guide, "Get exported outputs from a deployed stack").
+abbrev pub is_taken_away : List ℕ → World → List (List ℕ) → Export → Bool
+is_taken_away name x kept e = bytes_eq name e.stack && (list_any (pins_name e.name name) x.pins && not (is_among e.name kept))
+
+-- a creation, of a stack that is none yet or has a change set alone
+abbrev pub creates_from : Status → Bool
+creates_from status.DeleteComplete = true
+creates_from status.ReviewInProgress = true
+creates_from _ = false
+
 -- something changes: a row, or an output
 abbrev pub Changing : Changes → Type 0
 Changing c = (is_empty c.rows ≡ false) ⊎ (c.outputs_differ ≡ true)
@@ -73,7 +85,8 @@ pub record IsAccepted (schemas : List Schema) (kinds : List (List ℕ)) (name : 
   pub same_types : (changes_on schemas name x s source).clash ≡ []
   pub imports : ImportsWhatItUses name x source (seen_before schemas s source)
   pub free : IsTrue (are_free name x (map (λ e. e.0) (plan_of source (seen_before schemas s source)).exports))
-  pub changing : s.held ≡ [] ⊎ Changing (changes_on schemas name x s source)
+  pub not_in_use : list_any (is_taken_away name x (map (λ e. e.0) (plan_of source (seen_before schemas s source)).exports)) x.exports ≡ false
+  pub changing : IsTrue (creates_from s.status) ⊎ Changing (changes_on schemas name x s source)
 
 -- A change set is kept where its source is accepted over all known types, and has just the rows that it has now.
 pub record IsReviewed (schemas : List Schema) (name : List ℕ) (x : World) (s : StackState) (source : Source) (rows : List Row) (outputs : Bool) : Type 0 where

@@ -45,7 +45,7 @@ use Rattle.cf_schema.specs.declared.changed.Difference.{Difference}
 use Rattle.cf_schema.specs.declared.changed.Difference.TheVariants.{Same, Update, MayReplace, Replace as ToReplace}
 use Rattle.cf_schema.specs.Change.{difference_of}
 use Rattle.cf_change.specs.Changes.{schema_of}
-use Rattle.cf_plan.specs.Accept.{IsAccepted, IsReviewed}
+use Rattle.cf_plan.specs.Accept.{IsAccepted, IsReviewed, creates_from}
 
 -- Policies (template reference, DeletionPolicy and UpdateReplacePolicy): a rollback deletes what the operation made unless it is Retain; every other deletion keeps RetainExceptOnCreate too.
 abbrev pub is_retained : Deletion → Bool
@@ -324,11 +324,6 @@ abbrev pub is_opened_since : StackState → Bool
 is_opened_since s = list_any is_opened (after_last is_done_entry s.entries)
 
 -- the statuses from which each kind may begin (User Guide: what a stack's status lets be done)
-abbrev pub creates_from : Status → Bool
-creates_from status.DeleteComplete = true
-creates_from status.ReviewInProgress = true
-creates_from _ = false
-
 abbrev pub updates_from : Status → Bool
 updates_from status.CreateComplete = true
 updates_from status.UpdateComplete = true

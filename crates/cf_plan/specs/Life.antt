@@ -19,7 +19,7 @@ use Rattle.cf_stacks.specs.Status.{Stage, stage_of}
 use Rattle.cf_stacks.specs.Words.{stack_at}
 use Rattle.cf_stacks.specs.Fold.{empty_world, fold_of}
 use Rattle.cf_plan.specs.Forward.{In}
-use Rattle.cf_plan.specs.Follow.{MayFollow, MayRepeat}
+use Rattle.cf_plan.specs.Follow.{MayFollow, MayRepeat, is_lane_out}
 use Rattle.cf_schema.specs.declared.described.Schema.{Schema}
 use Rattle.cf_plan.specs.Lanes.{Lane, lane_at}
 
@@ -154,7 +154,7 @@ Happens schemas life (Begin e end) after = IsTrue (is_running life) × AreRaised
 Happens schemas life (Grant e end) after =
     IsTrue (is_running life) × IsGranted e × MayFollow schemas (world_of life) (tokens_out life) e × (after ≡ granted end e (appended end e life))
 Happens schemas life (Repeat token) after =
-    IsTrue (is_running life) × (name : List ℕ) × (s : StackState) × (stage : Stage) × (p : Pending) × (stack_at name (world_of life) ≡ Some s) × (stage_of s.status ≡ Some stage) × (p.token ≡ token) × MayRepeat schemas name (world_of life) (tokens_out life) s stage p × (after ≡ with_lease (record { number = s.operation; token = token; lane = p.lane; request = p.request; reply = None }) life)
+    IsTrue (is_running life) × (name : List ℕ) × (s : StackState) × (stage : Stage) × (p : Pending) × (stack_at name (world_of life) ≡ Some s) × (stage_of s.status ≡ Some stage) × (p.token ≡ token) × (is_lane_out (tokens_out life) (world_of life) p.lane ≡ false) × MayRepeat schemas name (world_of life) (tokens_out life) s stage p × (after ≡ with_lease (record { number = s.operation; token = token; lane = p.lane; request = p.request; reply = None }) life)
 Happens schemas life (Settle token e end) after =
     IsTrue (is_running life) × (lease : Lease) × (reply : CallEnd) × (lease_at token life ≡ Some lease) × (lease.reply ≡ Some reply) × IsOutcomeOf lease reply e × MayFollow schemas (world_of life) (tokens_out life) e × (after ≡ without_lease token (appended end e life))
 Happens schemas life (Park token) after = IsTrue life.is_open × (lease : Lease) × (lease_at token life ≡ Some lease) × (after ≡ without_lease token life)

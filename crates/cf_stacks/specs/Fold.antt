@@ -41,7 +41,7 @@ use Rattle.cf_stacks.specs.declared.state.World.{World}
 use Rattle.cf_stacks.specs.Status.{begun, turned, is_in_progress}
 use Rattle.cf_desired.specs.Plan.{Seen, SeenAt, Wanted, plan_of}
 use Rattle.cf_desired.specs.Whole.{Right, RightOutput, Whole, wanted_at, whole_of, export_names_of}
-use Rattle.cf_stacks.specs.Words.{stack_at, is_going, stack_of_operation, where_going, has_physical, is_at, current_at, resource_at, resources_of, without, where_physical, pending_of, without_token, is_on, is_create, is_create_at, is_among}
+use Rattle.cf_stacks.specs.Words.{stack_at, is_going, stack_of_operation, where_going, has_physical, is_at, current_at, resource_at, resources_of, without, where_physical, has_token, pending_of, without_token, is_on, is_create, is_create_at, is_among}
 use Rattle.cf_stacks.specs.Event.{lines_of, event_line}
 use Rattle.cf_stacks.specs.Operation.{calls_in, rollback_of}
 
@@ -184,10 +184,14 @@ set_off name number (begin.Update source) s = working_by name s.number source s
 set_off name number (begin.Delete paths) s = record s { outputs = [] }
 set_off name number (begin.Continue paths) s = skipping paths s
 
--- a continued rollback goes on in the entries of the update; every other operation starts afresh
-abbrev pub entries_kept : Begun → List Entry → List Entry
-entries_kept (begin.Continue paths) es = es
-entries_kept _ es = []
+-- a continued rollback goes on in the entries of the update; every other operation starts afresh, with the calls that are still open
+abbrev pub is_open_call : List Pending → Entry → Bool
+is_open_call ps (entry.Intent number token lane path r) = list_any (has_token token) ps
+is_open_call ps _ = false
+
+abbrev pub entries_kept : Begun → StackState → List Entry
+entries_kept (begin.Continue paths) s = s.entries
+entries_kept _ s = filter (is_open_call s.tokens) s.entries
 
 abbrev pub beginning : List ℕ → ℕ → Begun → StackState → StackState
 beginning name number k s = set_off name number k (record s {
@@ -195,7 +199,7 @@ beginning name number k s = set_off name number k (record s {
   number = creating_number k number s;
   operation = number;
   sets = [];
-  entries = entries_kept k s.entries;
+  entries = entries_kept k s;
 })
 
 -- its imports are pinned beside those that it pins already
@@ -213,19 +217,20 @@ pins_begun name (begin.Create source) pins = pinning name source pins
 pins_begun name (begin.Update source) pins = pinning name source pins
 pins_begun name _ pins = pins
 
-abbrev pub claims_begun : List ℕ → ℕ → Begun → List Pin → List Pin
-claims_begun name number (begin.Create source) claims = repinned name (export_names_of (source_for name number source)) claims
-claims_begun name number (begin.Update source) claims = repinned name (export_names_of (source_for name number source)) claims
-claims_begun name number _ claims = claims
+-- what a list of resources shows of its paths
+abbrev pub seen_in : List Held → Seen
+seen_in hs = map (λ h. (h.path, record { physical = Some h.physical; attrs = Some h.attrs })) (filter (λ h. not h.superseded) hs)
+
+abbrev pub claims_begun : List ℕ → ℕ → Seen → Begun → List Pin → List Pin
+claims_begun name number seen (begin.Create source) claims = repinned name (export_names_of (source_for name number source) seen) claims
+claims_begun name number seen (begin.Update source) claims = repinned name (export_names_of (source_for name number source) seen) claims
+claims_begun name number seen _ claims = claims
 
 abbrev pub exports_begun : List ℕ → Begun → List Export → List Export
 exports_begun name (begin.Delete paths) exports = reexported name [] exports
 exports_begun name _ exports = exports
 
 -- Outcome of a create: the new resource joins the made ones, with the policies and needs that the template gives its path over what was held before.
-abbrev pub seen_in : List Held → Seen
-seen_in hs = map (λ h. (h.path, record { physical = Some h.physical; attrs = Some h.attrs })) (filter (λ h. not h.superseded) hs)
-
 abbrev pub wanted_in : Option Source → Seen → List ℕ → Option Wanted
 wanted_in None seen path = None
 wanted_in (Some source) seen path = wanted_at path (plan_of source seen)
@@ -431,7 +436,7 @@ begun_on number name k x = record x {
   stacks = put name (heard (x.place + 1) (entry.Begin number name k) (known_stack name x) (beginning name number k (known_stack name x))) x.stacks;
   operation = number;
   pins = pins_begun name k x.pins;
-  claims = claims_begun name (creating_number k number (known_stack name x)) k x.claims;
+  claims = claims_begun name (creating_number k number (known_stack name x)) (seen_in (known_stack name x).held) k x.claims;
   exports = exports_begun name k x.exports;
 }
 
