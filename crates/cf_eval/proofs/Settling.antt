@@ -122,9 +122,3 @@ settling_ascends s conds rest done verdicts k e h =
 pub item_stands : (conds items : List (List ℕ × Test)) (i : ℕ) (c : List ℕ × Test) → items ≡ conds → ascends items ≡ true → i < length items → c ≡ get_or items i c → value_at c.0 conds ≡ Some c.1
 item_stands conds items i c same order inside is =
     subst (λ x. value_at x.0 conds ≡ Some x.1) (sym is) (subst (λ cs. value_at (get_or items i c).0 cs ≡ Some (get_or items i c).1) same (stands_under items order i c inside))
-
-pub drop_all : {A : Type 0} (xs : List A) (i : ℕ) → length xs ≤ i → drop i xs ≡ []
-drop_all [] zero h = refl
-drop_all [] (suc i) h = refl
-drop_all (x ∷ xs) zero h = absurd (omega arith)
-drop_all (x ∷ xs) (suc i) h = drop_all xs i (omega arith)

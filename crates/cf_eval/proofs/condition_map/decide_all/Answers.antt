@@ -1,7 +1,8 @@
 use Rattle.std.proofs.Common.{◌≡◌, true, subst}
 use Rattle.cf_eval.specs.Deciding.{ground_of}
 use Rattle.cf_eval.proofs.Gots.{drop_item}
-use Rattle.cf_eval.proofs.Settling.{settling_first, settling_stops, settling_ascends, item_stands, drop_all}
+use Rattle.cf_eval.proofs.Settling.{settling_first, settling_stops, settling_ascends, item_stands}
+use Rattle.std.proofs.Math.ListN.{drop_of_length-le}
 use Rattle.cf_tree.specs.Keys.{ascends}
 use Rattle.cf_eval.proofs.condition_map.decide_all.Goals as goal
 
@@ -21,5 +22,5 @@ returns-in-Err c =
 pub from_vec-requires : goal.from_vec-requires
 from_vec-requires c =
     settling_ascends (ground_of c.args.ground.now) c.args.ground.now.conds.now _ c.loop-condition.done c.loop-condition.verdicts.items c.loop-condition.invariant
-    (drop_all c.as_slice-condition-items.result.now c.loop-condition.condition-index c.loop-condition-test.false)
+    (drop_of_length-le c.as_slice-condition-items.result.now c.loop-condition-test.false)
     (subst (λ cs. ascends cs ≡ true) c.as_slice-condition-items.ensures.value c.as_slice-condition-items.ensures.in_order)
