@@ -68,6 +68,9 @@ refused_says o p words stack template _ s d a = absurd d.0
 one_place : (rs : List Planned) (at : ℕ) (r : Planned) → StandsAt rs at r → path_at rs at ≡ r.name ∷ []
 one_place rs at r d = ap path_of (sym (got rs at r d.0 d.1))
 
+some_inside : {A : Type 0} (x y : A) → Some x ≡ Some y → x ≡ y
+some_inside x y e = cc
+
 ran_says : (o : Outside) (p : Printing) (words : List (List ℕ)) (stack template : List ℕ) (rs : List Planned) (ms : _) (end : RunEnd) → deploy_words words ≡ Some (stack, template) → DeployTells o template (Ran rs ms end) → Appends p.held p.held' (text_of stack (Ran rs ms end)) → Says o p words (exit_of (Ran rs ms end))
 ran_says o p words stack template rs ms Done s d a = record {
   stack = stack;
@@ -80,6 +83,7 @@ ran_says o p words stack template rs ms Done s d a = record {
   wanted = d.0.2;
   unrefused = d.0.3;
   all = d.1.0;
+  run = d.1.1;
   live = λ k. subst (λ (t : Told). Grows (get_or o.told k None) (get_or t k None) (lives_at o.kinds k rs ms.items)) (sym d.1.1) (creates_live o.kinds o.told 1 rs ms.items k);
   printed = a;
 }
@@ -89,14 +93,15 @@ ran_says o p words stack template rs ms (Stopped at) s d a = record {
   found = d.0.0;
   resources = rs;
   made = ms.items;
-  resource = d.2.1.0;
+  resource = d.1.1.0;
   said = s;
   stands = d.0.1;
   wanted = d.0.2;
   unrefused = d.0.3;
-  place = subst (λ (n : ℕ). StandsAt rs n d.2.1.0) (sym d.1.0) d.2.1.1;
-  named = one_place rs at d.2.1.0 d.2.1.1;
-  rose = d.2.1.2;
+  place = subst (λ (n : ℕ). StandsAt rs n d.1.1.0) (sym d.1.0) d.1.1.1;
+  named = one_place rs at d.1.1.0 d.1.1.1;
+  rose = subst (λ (x : Planned). RoseAt (lane_for o.kinds x.kind) o.counts o.counts') (some_inside d.2.1.0 d.1.1.0 (got rs at d.2.1.0 d.2.1.1.0 d.2.1.1.1 ∙ sym (got rs at d.1.1.0 d.1.1.1.0 d.1.1.1.1))) d.2.1.2;
+  run = subst (λ (n : ℕ). StopsAt (lane_for o.kinds d.1.1.0.kind) (after_creates o.kinds o.told 1 rs ms.items) o.told' (n + 1) d.1.1.0) (sym d.1.0) d.1.1.2;
   live = stops_live o.kinds o.told o.told' rs ms.items (lane_for o.kinds d.1.1.0.kind) (at + 1) d.1.1.0 d.1.1.2;
   printed = a;
 }
@@ -144,9 +149,6 @@ no_deploy o p words exit.LibraryFault s n = absurd (no_words words s.0.0 s.0.1 n
 no_deploy o p words _ s n = absurd s
 
 -- what stands in a library that tells its texts decides whether the template is refused
-some_inside : {A : Type 0} (x y : A) → Some x ≡ Some y → x ≡ y
-some_inside x y e = cc
-
 foretold : (o : Outside) (words : List (List ℕ)) (stack template stack' template' : List ℕ) (texts : Texts) (found : Option (List ℕ)) → deploy_words words ≡ Some (stack, template) → deploy_words words ≡ Some (stack', template') → o.texts ≡ Some texts → StandsUnder o.texts template' found → refusal_of o.kinds template' found ≡ refusal_of o.kinds template (text_at template texts)
 foretold o words stack template stack' template' texts found s s' t u =
     let same : template' ≡ template = ap (λ (x : List ℕ × List ℕ). x.1) (some_inside (stack', template') (stack, template) (sym s' ∙ s)) in

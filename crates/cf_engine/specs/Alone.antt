@@ -1,5 +1,5 @@
 -- What the program's run over its words comes to.
-use Rattle.std.specs.Prelude.{◌≡◌, ℕ, List, [], ◌∷◌, length, take, Option, Some, None, ◌⊎◌, codes, slice_index_or, ⊤}
+use Rattle.std.specs.Prelude.{◌≡◌, ℕ, ◌+◌, List, [], ◌∷◌, length, take, Option, Some, None, ◌⊎◌, codes, slice_index_or, ⊤}
 use Rattle.std.specs.Io.KnownBytes.{Appends}
 use Rattle.cf_tree.specs.declared.planned.Planned.{Planned}
 use Rattle.cf_io.specs.Counts.{HasRisen}
@@ -17,7 +17,7 @@ use Rattle.cf_engine.specs.Exit.{exit_line}
 use Rattle.cf_engine.specs.Report.{report_of}
 use Rattle.cf_engine.specs.Lanes.{lane_for, RoseAt}
 use Rattle.cf_engine.specs.Refusals.{template_in, refusal_of, MissesFor}
-use Rattle.cf_engine.specs.Create.{StandsAt}
+use Rattle.cf_engine.specs.Create.{StandsAt, StopsAt, after_creates}
 use Rattle.cf_engine.specs.Deploy.{Outside, DeployTells}
 use Rattle.cf_engine.specs.Print.{rows_of, text_of, exit_of, PrintTells}
 use Rattle.cf_engine.specs.Alive.{AreLive, AreLiveAtLeast}
@@ -55,7 +55,7 @@ AloneTells o p words result =
     (stack : List ℕ) × (outcome : Outcome) × Comes o words stack outcome
     × PrintTells p.held p.held' p.faults p.faults' (text_of stack outcome) (exit_of outcome) result
 
--- each resource of the template is live, with just its type and properties and under the id that was printed, and nothing else became live
+-- Each resource of the template is live, with just its type and properties and under the id that was printed, and nothing else became live: just the creations were made, the first under token 1 and each other under the next.
 pub record IsMade (o : Outside) (p : Printing) (words : List (List ℕ)) : Type 0 where
   pub stack : List ℕ
   pub template : List ℕ
@@ -67,10 +67,11 @@ pub record IsMade (o : Outside) (p : Printing) (words : List (List ℕ)) : Type 
   pub wanted : template_in found ≡ Some resources
   pub unrefused : refusal_of o.kinds template found ≡ None
   pub all : length made ≡ length resources
+  pub run : o.told' ≡ after_creates o.kinds o.told 1 resources made
   pub live : AreLive o.kinds o.told o.told' resources made
   pub printed : Appends p.held p.held' (report_of stack (codes "CREATE_COMPLETE") 1 (rows_of resources made) [] exit.Done)
 
--- the one path named is that of a resource of the template whose lane's count rose, and those before it are live
+-- The one path named is that of the resource behind those that were made, whose creation was the last call and whose lane's count rose; those before it are live.
 pub record HasFailed (o : Outside) (p : Printing) (words : List (List ℕ)) (blamed : List (List ℕ)) : Type 0 where
   pub stack : List ℕ
   pub template : List ℕ
@@ -85,6 +86,7 @@ pub record HasFailed (o : Outside) (p : Printing) (words : List (List ℕ)) (bla
   pub place : StandsAt resources (length made) resource
   pub named : blamed ≡ resource.name ∷ []
   pub rose : RoseAt (lane_for o.kinds resource.kind) o.counts o.counts'
+  pub run : StopsAt (lane_for o.kinds resource.kind) (after_creates o.kinds o.told 1 resources made) o.told' (length made + 1) resource
   pub live : AreLiveAtLeast o.kinds o.told o.told' resources made
   pub printed : Appends p.held p.held' (report_of stack (codes "CREATE_FAILED") 1 (rows_of resources made) blamed (exit.Failed blamed))
 

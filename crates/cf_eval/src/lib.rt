@@ -13,8 +13,6 @@ mod got;
 mod names;
 mod scope;
 mod sub;
-#[cfg(test)]
-mod tests;
 mod texts;
 mod value;
 mod verdict;

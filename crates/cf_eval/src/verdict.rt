@@ -17,7 +17,7 @@ use cf_tree::{Cond, CondNode, Conds, Txt, Verdict};
 use std::alloc::Global;
 
 /// A condition, where the innermost function around it stands at `around`.
-#[cycle(test)]
+#[cycle(decide)]
 pub(crate) fn test(
     alloc: Global,
     scope: &Scope,
@@ -29,7 +29,7 @@ pub(crate) fn test(
     node(alloc, scope, around, cond.at(), cond.node())
 }
 
-#[cycle(test)]
+#[cycle(decide)]
 #[tactic(auto, using(crate::proofs::Verdicts::equals_stop))]
 fn node(
     alloc: Global,
@@ -56,7 +56,7 @@ fn node(
 }
 
 /// `Fn::And`.
-#[cycle(test)]
+#[cycle(decide)]
 #[tactic(auto, using(crate::proofs::Verdicts::all_is, crate::proofs::TestFalls::test_falls))]
 fn all_hold(alloc: Global, scope: &Scope, at: &Txt, conds: &Conds) -> Result<Verdict, Stop>
     ensures { GivesVerdict (all_found (tests_found (scope_of scope.now) (Some at.now) (tests_of conds.now))) result }
@@ -74,7 +74,7 @@ fn all_hold(alloc: Global, scope: &Scope, at: &Txt, conds: &Conds) -> Result<Ver
 }
 
 /// `Fn::Or`.
-#[cycle(test)]
+#[cycle(decide)]
 #[tactic(auto, using(crate::proofs::Verdicts::any_is, crate::proofs::TestFalls::test_falls))]
 fn any_holds(alloc: Global, scope: &Scope, at: &Txt, conds: &Conds) -> Result<Verdict, Stop>
     ensures { GivesVerdict (any_found (tests_found (scope_of scope.now) (Some at.now) (tests_of conds.now))) result }

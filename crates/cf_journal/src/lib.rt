@@ -7,8 +7,6 @@ mod frames;
 mod head;
 mod journal;
 mod reading;
-#[cfg(test)]
-mod tests;
 
 pub use faults::{AppendFault, RecoverFault};
 pub use journal::Journal;

@@ -4,7 +4,7 @@ use Rattle.cf_tree.specs.Tests.{parts_of_test, parts_of_test_node, parts_of_test
 use Rattle.cf_eval.specs.Conditions.{tests_found, all_found, any_found}
 use Rattle.cf_eval.specs.ScopeOf.{scope_of}
 use Rattle.cf_eval.proofs.Verdicts.{all_after, any_after}
-use Rattle.cf_eval.proofs.verdict.+test.Given as goal
+use Rattle.cf_eval.proofs.verdict.+decide.Given as goal
 
 abbrev pub decreases-test : goal.decreases-test
 decreases-test l = 4 * parts_of_test l.cond.now
