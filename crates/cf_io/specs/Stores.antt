@@ -1,5 +1,5 @@
--- What the stores in memory hold, and which of their calls fail.
-use Rattle.std.specs.Prelude.{◌≡◌, ◌≢◌, ◌==◌, ◌&&◌, ℕ, Bool, true, false, not, List, [], ◌∷◌, map, Result, Err}
+-- What the stores in memory hold and which of their calls fail, and what a folder gives.
+use Rattle.std.specs.Prelude.{◌≡◌, ◌≢◌, ◌≤◌, ◌==◌, ◌&&◌, ℕ, Bool, true, false, not, List, [], ◌∷◌, length, map, IfSome, Option, Result, Err}
 use Rattle.std.specs.List.{list_any}
 use Rattle.std.specs.Global.{Vec}
 use Rattle.cf_io.specs.Library.{Texts}
@@ -22,3 +22,11 @@ FailsWhere failure false result = result ≢ Err failure
 abbrev pub is_file_name : List ℕ → Bool
 is_file_name [] = false
 is_file_name (b ∷ bytes) = not (b == 46) && not (list_any (λ c. c == 47) (b ∷ bytes))
+
+-- the largest file of a folder that is read, in bytes: 2^30 (this project's own)
+abbrev pub most_bytes : ℕ
+most_bytes = 1073741824
+
+-- what was found in a folder is no larger
+abbrev pub IsBounded : Option (Vec ℕ) → Type 0
+IsBounded found = IfSome found (λ bytes. length bytes.items ≤ most_bytes)

@@ -1,22 +1,23 @@
-ghost use Rattle.std.specs.Prelude.{◌≡◌, ◌++◌, ◌∷◌, false, IfOk, Ok, None, string_bytes};
+ghost use Rattle.std.specs.Prelude.{◌≡◌, ◌≤◌, ◌++◌, ◌∷◌, length, false, IfOk, Ok, Err, None, string_bytes};
 ghost use Rattle.cf_io.specs.Library.{Fetches, HasFetchCause, CountsMisses};
-ghost use Rattle.cf_io.specs.Stores.{is_file_name};
+ghost use Rattle.cf_io.specs.Stores.{is_file_name, most_bytes, IsBounded};
 
 use crate::library::{FetchFault, Library};
 use std::alloc::{AllocError, Global};
-use std::fs::{File, OpenFile};
-use std::io;
+use std::fs::{File, Metadata};
 use std::io::{ErrorKind, Read};
 use std::rt::Files;
+use std::{fs, io};
 
 /// The largest file that is read, in bytes.
 const MOST_BYTES: u64 = 1_073_741_824;
 
 /// The files of a folder, each under its name.
 ///
-/// A name that is empty, holds `/` or begins with `.` stands for no file. A file over 1,073,741,824 bytes counts as a
-/// failure, and so does each error of the system but that of kind `NotFound`, which means that there is no
-/// such file, and that of kind `OutOfMemory`, which is want of memory. Each fetch opens its file anew.
+/// A name that is empty, holds `/` or begins with `.` stands for no file. A folder that is not there counts as a
+/// failure, and so do a file over 1,073,741,824 bytes, what stands under a name and is no regular file (it is not
+/// opened), and each error of the system but two: one of kind `NotFound` for the file means that the folder has no such
+/// file, and one of kind `OutOfMemory` is want of memory. Each fetch looks at the folder and opens its file anew.
 #[derive(Drop)]
 pub struct FolderLibrary<R: Files + AllocGlobal + Drop> {
     rt: R,
@@ -50,18 +51,15 @@ impl<R: Files + AllocGlobal + Drop> FolderLibrary<R> {
     }
 
     // What an error of the system means.
-    fn failed(&mut self, error: &io::Error) -> Result<Option<Vec<u8>>, FetchFault>
-        ensures cause { HasFetchCause self.old.faults self.new.faults result }
-        ensures misses { CountsMisses self.old.misses self.new.misses result }
+    fn failed(&mut self, error: &io::Error) -> FetchFault
+        ensures cause { HasFetchCause self.old.faults self.new.faults (Err result) }
+        ensures misses { self.new.misses ≡ self.old.misses }
     {
-        match error.kind() {
-            ErrorKind::NotFound => Ok(self.missed()),
-            ErrorKind::OutOfMemory => Err(FetchFault::NoMemory),
-            _ => {
-                self.faults = self.faults.saturating_add(1);
-                Err(FetchFault::Failed)
-            }
+        if error.kind() == ErrorKind::OutOfMemory {
+            return FetchFault::NoMemory;
         }
+        self.faults = self.faults.saturating_add(1);
+        FetchFault::Failed
     }
 }
 
@@ -86,15 +84,49 @@ fn path_of(alloc: Global, folder: &str, name: &str) -> Result<String, AllocError
     Ok(path)
 }
 
-// The bytes of a file.
-fn read_file<R: Files + AllocGlobal>(rt: &R, path: &str) -> io::Result<Vec<u8>> {
-    let mut file = File::open(rt, path)?;
-    if file.metadata()?.len() > MOST_BYTES {
+// Whether this is a file that is read.
+fn check_file(found: &Metadata) -> io::Result<()> {
+    if !found.is_file() {
+        return Err(io::Error::from(ErrorKind::InvalidInput));
+    }
+    if found.len() > MOST_BYTES {
         return Err(io::Error::from(ErrorKind::FileTooLarge));
     }
+    Ok(())
+}
+
+// The bytes of a file. It is looked at before it is opened, since a pipe may keep its opener waiting, and no more is
+// read than may be, since a file can grow meanwhile.
+fn read_file<R: Files + AllocGlobal>(rt: &R, path: &str) -> io::Result<Vec<u8>>
+    ensures { IfOk result (λ bytes. length bytes.items ≤ most_bytes) }
+{
+    check_file(&fs::metadata(rt, path)?)?;
     let mut bytes = Vec::new(rt.alloc());
-    file.read_to_end(&mut bytes)?;
+    File::open(rt, path)?
+        .take(MOST_BYTES + 1)
+        .read_to_end(&mut bytes)?;
+    if bytes.len() as u64 > MOST_BYTES {
+        return Err(io::Error::from(ErrorKind::FileTooLarge));
+    }
     Ok(bytes)
+}
+
+// The bytes of a file of a folder, and None where the folder has no such file.
+fn find_file<R: Files + AllocGlobal>(
+    rt: &R,
+    folder: &str,
+    path: &str,
+) -> io::Result<Option<Vec<u8>>>
+    ensures { IfOk result IsBounded }
+{
+    if !fs::metadata(rt, folder)?.is_dir() {
+        return Err(io::Error::from(ErrorKind::NotADirectory));
+    }
+    match read_file(rt, path) {
+        Ok(bytes) => Ok(Some(bytes)),
+        Err(error) if error.kind() == ErrorKind::NotFound => Ok(None),
+        Err(error) => Err(error),
+    }
 }
 
 impl<R: Files + AllocGlobal + Drop> Library for FolderLibrary<R> {
@@ -108,6 +140,7 @@ impl<R: Files + AllocGlobal + Drop> Library for FolderLibrary<R> {
         ensures cause { HasFetchCause self.old.faults self.new.faults result }
         ensures misses { CountsMisses self.old.misses self.new.misses result }
         ensures outside { is_file_name name.now ≡ false → result ≡ Ok None }
+        ensures bounded { IfOk result IsBounded }
     {
         if !is_file_name(name) {
             return Ok(self.missed());
@@ -115,9 +148,10 @@ impl<R: Files + AllocGlobal + Drop> Library for FolderLibrary<R> {
         let Ok(path) = path_of(self.rt.alloc(), self.folder.as_str(), name) else {
             return Err(FetchFault::NoMemory);
         };
-        match read_file(&self.rt, path.as_str()) {
-            Ok(bytes) => Ok(Some(bytes)),
-            Err(error) => self.failed(&error),
+        match find_file(&self.rt, self.folder.as_str(), path.as_str()) {
+            Ok(Some(bytes)) => Ok(Some(bytes)),
+            Ok(None) => Ok(self.missed()),
+            Err(error) => Err(self.failed(&error)),
         }
     }
 

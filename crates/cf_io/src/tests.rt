@@ -5,6 +5,7 @@ use crate::{
 use cf_tree::Txt;
 use std::alloc::{AllocError, Global};
 use std::io::{ErrorKind, Write};
+use std::os::unix;
 use std::test::Fail;
 use std::{env, fs, io};
 
@@ -61,21 +62,28 @@ fn a_folder_gives_its_files_and_counts_what_cannot_be_read(rt: HostRuntime) -> R
     let inner = home.join(rt.alloc(), "inner")?;
     let file = home.join(rt.alloc(), "one")?;
     let hidden = home.join(rt.alloc(), ".hidden")?;
+    let device = home.join(rt.alloc(), "device")?;
     fs::create_dir_all(&rt, inner.as_path())?;
     fs::write(&rt, file.as_path(), "{\"Resources\":{}}")?;
     fs::write(&rt, hidden.as_path(), "x")?;
+    unix::fs::symlink(&rt, "/dev/zero", device.as_path())?;
     let mut library = FolderLibrary::new(rt, String::from_str(rt.alloc(), home.as_str())?);
     assert!(rt; found(library.fetch("one"), Some(b"{\"Resources\":{}}".as_slice())));
     assert!(rt; found(library.fetch("two"), None));
     assert!(rt; found(library.fetch(".hidden"), None));
     assert!(rt; found(library.fetch("inner/../one"), None));
     assert!(rt; library.fetch("inner").err() == Some(FetchFault::Failed));
+    assert!(rt; library.fetch("device").err() == Some(FetchFault::Failed));
     assert_eq!(rt; library.misses(), 3);
-    assert_eq!(rt; library.faults(), 1);
+    assert_eq!(rt; library.faults(), 2);
+    fs::remove_file(&rt, device.as_path())?;
     fs::remove_file(&rt, file.as_path())?;
     fs::remove_file(&rt, hidden.as_path())?;
     fs::remove_dir(&rt, inner.as_path())?;
     fs::remove_dir(&rt, home.as_path())?;
+    assert!(rt; library.fetch("one").err() == Some(FetchFault::Failed));
+    assert_eq!(rt; library.misses(), 3);
+    assert_eq!(rt; library.faults(), 3);
     Ok(())
 }
 
