@@ -1,5 +1,5 @@
 -- Openings, fences and calls that act late (the handler contract of the CloudFormation registry lets a handler work on after its caller is gone; epochs, fences and tokens are this project's own).
-use Rattle.std.specs.Prelude.{◌≡◌, ℕ, ◌+◌, ◌<◌, ◌≤◌, List, [], ◌∷◌, ◌++◌, slice_get, remove, find, Option, Some, None, ◌⊎◌, ◌==◌}
+use Rattle.std.specs.Prelude.{◌≡◌, ℕ, ◌<◌, ◌≤◌, List, [], ◌∷◌, ◌++◌, slice_get, remove, find, Option, Some, None, ◌⊎◌, ◌==◌}
 use Rattle.std.specs.Str.{bytes_eq}
 use Rattle.cf_tree.specs.declared.request.Request.{Request}
 use Rattle.cf_tree.specs.declared.request.Answer.{Answer}

@@ -4,10 +4,12 @@
 mod file;
 mod handler;
 mod memory;
+mod refusal;
 mod settled;
 
 pub use handler::Handler;
-pub use memory::{FileHandler, Refusal};
+pub use memory::FileHandler;
+pub use refusal::Refusal;
 pub use settled::{Settled, Settlement, settlement_of};
 
 #[cfg(test)]

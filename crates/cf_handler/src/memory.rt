@@ -1,22 +1,17 @@
-ghost use Rattle.std.specs.Prelude.{◌≡◌, [], IsTrue, IfOk, IfSome, OnErr, Some, None};
+ghost use Rattle.std.specs.Prelude.{◌≡◌, [], IsTrue, IfOk, IfSome, OnErr, Some, None, is_some};
+ghost use Rattle.cf_handler.specs.Answered.{answer_of};
 ghost use Rattle.cf_handler.specs.Lane.{settlement_of};
 ghost use Rattle.cf_handler.specs.Name.{is_lane_name};
-ghost use Rattle.cf_handler.specs.Move.{HasCause, IsShort, LaneMove};
+ghost use Rattle.cf_handler.specs.Move.{HasCause, IsShort, LaneMove, CallTells};
 ghost use Rattle.cf_handler.specs.File.{is_refusal, are_sound, create_answer, file_answer, answer_or, lane_of, SettledAs};
+ghost use Rattle.cf_handler.specs.Plan.{planned_code, next_count, settlement_for, AnswersAs, faults_after};
 
 use crate::file::{attrs_of, id_of, is_file, is_taken, text_at};
 use crate::handler::Handler;
+use crate::refusal::Refusal;
 use crate::settled::{Settled, Settlement, settlement_of};
 use cf_tree::{Answer, Code, Dict, Request, Txt};
 use std::alloc::{AllocError, Global};
-
-/// A call that is to be refused, by its number counted from 1, and the code, which is not `NotFound`.
-#[derive(Clone, Copy, Debug)]
-pub struct Refusal {
-    pub call: u64,
-    pub code: Code,
-    ghost fits: { IsTrue (is_refusal code) },
-}
 
 /// A handler of files that keeps them in memory and only makes them.
 ///
@@ -37,15 +32,16 @@ pub struct FileHandler {
 }
 
 /// The count of faults after an answer.
-fn faults_after(faults: u64, is_refused: bool, answer: &Answer) -> u64
-    ensures { HasCause faults result answer.now }
+fn faults_after(faults: u64, is_planned: bool, answer: &Answer) -> u64
+    ensures value { result ≡ faults_after faults is_planned answer.now }
+    ensures cause { HasCause faults result answer.now }
 {
     match answer {
         Answer::Success {
             physical: _,
             attrs: _,
         } => {
-            if is_refused {
+            if is_planned {
                 faults.saturating_add(1)
             } else {
                 faults
@@ -61,7 +57,10 @@ impl FileHandler {
     /// A handler in which nothing is live, of that name, which refuses the calls that are listed.
     pub fn new(alloc: Global, name: &str, refused: Vec<Refusal>) -> Result<FileHandler, AllocError>
         requires { IsTrue (is_lane_name name.now) }
-        ensures { IfOk result (λ h. (⟦<FileHandler as Handler>⟧.told h ≡ Some (record { base = []; settled = [] })) × (⟦<FileHandler as Handler>⟧.count h ≡ 0)) }
+        ensures empty { IfOk result (λ h. (⟦<FileHandler as Handler>⟧.told h ≡ Some (record { base = []; settled = [] })) × (⟦<FileHandler as Handler>⟧.count h ≡ 0)) }
+        ensures named { IfOk result (λ h. ⟦<FileHandler as Handler>⟧.label h ≡ name.now) }
+        ensures planned { IfOk result (λ h. h.refused.items ≡ refused.items) }
+        ensures uncalled { IfOk result (λ h. h.calls ≡ 0) }
     {
         Ok(FileHandler {
             alloc,
@@ -75,7 +74,8 @@ impl FileHandler {
 
     /// The code by which this call is to be refused, if it is.
     fn refusal(&self) -> Option<Code>
-        ensures { IfSome result (λ code. IsTrue (is_refusal code)) }
+        ensures value { result ≡ planned_code self.now.calls self.now.refused.items }
+        ensures fits { IfSome result (λ code. IsTrue (is_refusal code)) }
     {
         for refusal in self.refused.iter() {
             if refusal.call == self.calls {
@@ -147,6 +147,8 @@ impl FileHandler {
         requires fits { IfSome refused (λ code. IsTrue (is_refusal code)) }
         ensures name { self.new.name ≡ self.old.name }
         ensures faults { self.new.faults ≡ self.old.faults }
+        ensures plan { self.new.refused.items ≡ self.old.refused.items }
+        ensures calls { self.new.calls ≡ self.old.calls }
         ensures ok { IfOk result (SettledAs token request.now (answer_or refused (file_answer self.old.name token self.old.settled.items request.now)) self.old.settled.items self.new.settled.items) }
         ensures moves { IfOk result (λ a. IsShort a × LaneMove self.old.name (lane_of self.old.settled.items) (lane_of self.new.settled.items) token request.now a) }
         ensures err { OnErr result (self.new.settled.items ≡ self.old.settled.items) }
@@ -172,6 +174,9 @@ impl FileHandler {
         requires { IfSome refused (λ code. IsTrue (is_refusal code)) }
         ensures name { self.new.name ≡ self.old.name }
         ensures faults { self.new.faults ≡ self.old.faults }
+        ensures plan { self.new.refused.items ≡ self.old.refused.items }
+        ensures calls { self.new.calls ≡ self.old.calls }
+        ensures ok { IfOk result (λ a. a ≡ answer_of (settlement_for self.old.name token request.now refused self.old.settled.items)) }
         ensures moves { IfOk result (λ a. IsShort a × LaneMove self.old.name (lane_of self.old.settled.items) (lane_of self.new.settled.items) token request.now a) }
         ensures err { OnErr result (self.new.settled.items ≡ self.old.settled.items) }
     {
@@ -206,7 +211,20 @@ impl Handler for FileHandler {
         self.faults
     }
 
-    fn call(&mut self, token: u64, request: &Request) -> Answer {
+    fn call(&mut self, token: u64, request: &Request) -> Answer
+        ensures name { self.new.name ≡ self.old.name }
+        ensures kind { ⟦<FileHandler as Handler>⟧.of_kind self.new ≡ ⟦<FileHandler as Handler>⟧.of_kind self.old }
+        ensures cause { HasCause self.old.faults self.new.faults result }
+        ensures limits { IsShort result }
+        ensures told { CallTells self.old.name (⟦<FileHandler as Handler>⟧.told self.old)
+            (⟦<FileHandler as Handler>⟧.told self.new) token request.now result }
+        ensures plan { self.new.refused.items ≡ self.old.refused.items }
+        ensures calls { self.new.calls ≡ next_count self.old.calls }
+        ensures counts { self.new.faults ≡ faults_after self.old.faults
+            (is_some (planned_code (next_count self.old.calls) self.old.refused.items)) result }
+        ensures answers { AnswersAs (settlement_for self.old.name token request.now
+            (planned_code (next_count self.old.calls) self.old.refused.items) self.old.settled.items) result }
+    {
         self.calls = self.calls.saturating_add(1);
         let refused = self.refusal();
         let answer = match self.answer(token, request, refused) {
