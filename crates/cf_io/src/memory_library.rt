@@ -1,5 +1,5 @@
 ghost use Rattle.std.specs.Prelude.{◌≡◌, IfOk, Some};
-ghost use Rattle.cf_io.specs.Counts.{next_count};
+ghost use Rattle.cf_io.specs.Counts.{next_count, count_after};
 ghost use Rattle.cf_io.specs.Library.{Fetches, HasFetchCause, CountsMisses};
 ghost use Rattle.cf_io.specs.Stores.{texts_of, is_planned, FailsWhere};
 
@@ -56,6 +56,7 @@ impl Library for MemoryLibrary {
         ensures misses { CountsMisses (⟦<MemoryLibrary as Library>⟧.missed self.old)
             (⟦<MemoryLibrary as Library>⟧.missed self.new) result }
         ensures planned { FailsWhere FetchFault.Failed (is_planned self.old.fails.items self.new.calls) result }
+        ensures counts { self.new.faults ≡ count_after (is_planned self.old.fails.items self.new.calls) self.old.faults }
         ensures calls { self.new.calls ≡ next_count self.old.calls }
         ensures plan { self.new.fails.items ≡ self.old.fails.items }
     {

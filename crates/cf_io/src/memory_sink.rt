@@ -1,5 +1,5 @@
 ghost use Rattle.std.specs.Prelude.{◌≡◌, [], IfOk, Some};
-ghost use Rattle.cf_io.specs.Counts.{next_count};
+ghost use Rattle.cf_io.specs.Counts.{next_count, count_after};
 ghost use Rattle.cf_io.specs.Sink.{Puts, HasPutCause};
 ghost use Rattle.cf_io.specs.Stores.{is_planned, FailsWhere};
 
@@ -53,6 +53,7 @@ impl Sink for MemorySink {
             bytes.now result }
         ensures cause { HasPutCause self.old.faults self.new.faults result }
         ensures planned { FailsWhere SinkFail.Failed (is_planned self.old.fails.items self.new.calls) result }
+        ensures counts { self.new.faults ≡ count_after (is_planned self.old.fails.items self.new.calls) self.old.faults }
         ensures calls { self.new.calls ≡ next_count self.old.calls }
         ensures plan { self.new.fails.items ≡ self.old.fails.items }
     {
