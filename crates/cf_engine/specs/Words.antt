@@ -1,5 +1,5 @@
 -- What the words of a command line ask for: the table of commands.
-use Rattle.std.specs.Prelude.{ℕ, ◌==◌, ◌&&◌, ◌||◌, ◌+◌, ◌-◌, ◌*◌, Bool, true, false, if◌then◌else◌, List, [], ◌∷◌, length, nat_le, Option, None, Some, codes}
+use Rattle.std.specs.Prelude.{ℕ, ◌==◌, ◌&&◌, ◌||◌, ◌+◌, ◌-◌, ◌*◌, Bool, true, false, if◌then◌else◌, List, [], ◌∷◌, length, sum_by, nat_le, nat_lt, Option, None, Some, is_some, codes}
 use Rattle.std.specs.List.{list_all}
 use Rattle.std.specs.Str.{bytes_eq}
 use Rattle.std.specs.Int.{is_in_range}
@@ -51,3 +51,17 @@ workers_of (ten ∷ one ∷ []) =
     let number = 10 * (ten - 48) + (one - 48) in
     if is_in_range 49 57 ten && (is_in_range 48 57 one && nat_le number 64) then Some number else None
 workers_of _ = None
+
+-- the words have fewer than 2 ^ 30 bytes together (this project's own)
+abbrev pub are_short : List (List ℕ) → Bool
+are_short words = nat_lt (sum_by length words) 1073741824
+
+-- a folder is named, a number of workers is, and all the words are short
+abbrev pub is_in_form : List ℕ → List ℕ → List (List ℕ) → Bool
+is_in_form home workers words = nat_lt 0 (length home) && (is_some (workers_of workers) && are_short words)
+
+-- whether the program's whole command line is one of those that it knows: `--help`, `--version`, or HOME WORKERS WORD ..
+abbrev pub is_command_line : List (List ℕ) → Bool
+is_command_line [] = false
+is_command_line (word ∷ []) = bytes_eq (codes "--help") word || bytes_eq (codes "--version") word
+is_command_line (home ∷ workers ∷ rest) = is_in_form home workers (home ∷ workers ∷ rest)

@@ -14,8 +14,12 @@ mod tests;
 mod top;
 mod words;
 
-ghost use Rattle.std.specs.Prelude.{◌≡◌, IfOk, map};
+ghost use Rattle.std.specs.Prelude.{◌≡◌, ◌≤◌, ◌++◌, ◌∷◌, [], false, IfOk, codes, map, string_bytes};
+ghost use Rattle.cf_engine.specs.Exit.{exit_line};
 ghost use Rattle.cf_engine.specs.Lanes.{AreUnsettled};
+ghost use Rattle.cf_engine.specs.Print.{PrintTells};
+ghost use Rattle.cf_engine.specs.Words.{are_short, is_in_form, is_command_line};
+ghost use Rattle.cf_engine.specs.declared.exit.Exit.TheVariants.{BadWords};
 
 use crate::exit::Exit;
 use crate::print::{print_exit, print_text};
@@ -80,7 +84,10 @@ fn words_of(rt: &HostRuntime) -> Result<Vec<Txt>, Exit> {
 }
 
 /// Does what the whole command line says.
-fn run<K: Sink>(rt: HostRuntime, words: &[Txt], out: &mut K) -> Exit {
+fn run<K: Sink>(rt: HostRuntime, words: &[Txt], out: &mut K) -> Exit
+    ensures bad_words { is_command_line words.now ≡ false →
+        PrintTells (K.held out.old) (K.held out.new) (K.count out.old) (K.count out.new) (exit_line BadWords) BadWords result }
+{
     match words {
         [word] if word.is("--help") => print_text(out, USAGE),
         [word] if word.is("--version") => print_text(out, VERSION),
@@ -92,12 +99,16 @@ fn run<K: Sink>(rt: HostRuntime, words: &[Txt], out: &mut K) -> Exit {
 }
 
 /// Whether the folder and the number of workers are in form, and the words are few enough.
-fn is_in_form(home: &Txt, workers: &Txt, words: &[Txt]) -> bool {
+fn is_in_form(home: &Txt, workers: &Txt, words: &[Txt]) -> bool
+    ensures { result ≡ is_in_form home.now workers.now words.now }
+{
     !home.as_str().is_empty() && read_workers(workers).is_some() && are_short(words)
 }
 
 /// Whether the words have fewer than 2^30 bytes together.
-fn are_short(words: &[Txt]) -> bool {
+fn are_short(words: &[Txt]) -> bool
+    ensures { result ≡ are_short words.now }
+{
     let mut total: usize = 0;
     for word in words {
         total = total.saturating_add(word.as_str().len());
@@ -119,7 +130,9 @@ fn run_in<K: Sink>(rt: HostRuntime, home: &Txt, words: &[Txt], out: &mut K) -> E
 }
 
 /// The folder of templates.
-fn templates_of(alloc: Global, home: &Txt) -> Result<String, NoMemory> {
+fn templates_of(alloc: Global, home: &Txt) -> Result<String, NoMemory>
+    ensures { IfOk result (λ folder. string_bytes folder ≡ home.now ++ codes "/templates") }
+{
     let mut folder = String::from_str(alloc, home.as_str())?;
     folder.push_str("/templates")?;
     Ok(folder)
@@ -127,7 +140,8 @@ fn templates_of(alloc: Global, home: &Txt) -> Result<String, NoMemory> {
 
 /// The lanes: one for files, in memory.
 fn lanes_of(alloc: Global) -> Result<Vec<FileHandler>, NoMemory>
-    ensures { IfOk result (λ lanes. AreUnsettled (map ⟦<FileHandler as Handler>⟧.told lanes.items)) }
+    ensures unsettled { IfOk result (λ lanes. AreUnsettled (map ⟦<FileHandler as Handler>⟧.told lanes.items)) }
+    ensures names { IfOk result (λ lanes. map ⟦<FileHandler as Handler>⟧.label lanes.items ≡ codes "files1" ∷ []) }
 {
     let mut lanes = Vec::new(alloc);
     lanes.push(FileHandler::new(alloc, "files1", Vec::new(alloc))?)?;
