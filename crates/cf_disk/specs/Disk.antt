@@ -1,5 +1,5 @@
 -- What the calls of a disk do to its file, and what a crash may do between two syncs.
-use Rattle.std.specs.Prelude.{◌≡◌, ◌⊎◌, ℕ, ◌+◌, ◌-◌, ◌^◌, ◌≤◌, min, max, List, ◌++◌, length, take, drop, Result, OnErr}
+use Rattle.std.specs.Prelude.{◌≡◌, ◌⊎◌, ℕ, ◌+◌, ◌-◌, ◌^◌, ◌≤◌, min, max, Bool, List, ◌++◌, length, take, drop, Option, IfSome, Result, is_ok, OnErr}
 
 -- old with these bytes at this offset
 abbrev pub overwritten : List ℕ → ℕ → List ℕ → List ℕ
@@ -24,6 +24,20 @@ Follows step old new = (c : List ℕ) → new c → (d : List ℕ) × old d × s
 -- no new outcome of a crash
 abbrev pub NoneNew : (List ℕ → Type 0) → (List ℕ → Type 0) → Type 0
 NoneNew old new = (c : List ℕ) → new c → old c
+
+-- each old outcome of a crash is still one
+abbrev pub NoneLost : (List ℕ → Type 0) → (List ℕ → Type 0) → Type 0
+NoneLost old new = (c : List ℕ) → old c → new c
+
+-- After a call that may be left half done: each old outcome of a crash is still one, and so is each file that the step makes of one,
+-- if the call reached the file.
+pub record Leaves (step : List ℕ → List ℕ → Type 0) (reached : Type 0) (old new : List ℕ → Type 0) : Type 0 where
+  pub kept : NoneLost old new
+  pub half_done : reached → (c d : List ℕ) → old d → step d c → new c
+
+-- where it is known before whether a call succeeds, it does just so
+abbrev pub IsAsKnown : {T E : Type 0} → Option Bool → Result T E → Type 0
+IsAsKnown known result = IfSome known (λ passes. is_ok result ≡ passes)
 
 -- a crash leaves this and nothing else
 abbrev pub Only : List ℕ → (List ℕ → Type 0) → Type 0

@@ -1,5 +1,5 @@
-ghost use Rattle.std.specs.Prelude.{◌≡◌, ◌+◌, ◌≤◌, Bool, ℕ, List, IsTrue, IfOk, OnOk, OnErr, length, take, drop};
-ghost use Rattle.cf_disk.specs.Disk.{overwritten, Torn, Shortened, Follows, NoneNew, Only, Elapses, HasCause};
+ghost use Rattle.std.specs.Prelude.{◌≡◌, ◌+◌, ◌≤◌, Bool, ℕ, List, Option, None, IsTrue, IfOk, OnOk, OnErr, length, take, drop};
+ghost use Rattle.cf_disk.specs.Disk.{overwritten, Torn, Shortened, Follows, NoneNew, NoneLost, Leaves, IsAsKnown, Only, Elapses, HasCause};
 
 /// The disk refused a call. Its count of faults has risen.
 #[derive(Clone, Copy, Debug, PartialEq, Eq)]
@@ -31,18 +31,28 @@ pub trait Disk {
     /// How many calls have failed. The count stops at its last value.
     ghost count: { Self → ℕ };
 
-    /// When a call that writes so many bytes may fail. Nothing is said of it where a type leaves this out.
-    ghost may_fail: { Self → ℕ → Type 0 } = { λ _ _. Unit {0} };
+    /// Whether the next call succeeds, if it writes so many bytes. None where that isn't known before.
+    ghost passes: { Self → ℕ → Option Bool } = { λ _ _. None };
+
+    /// What a call that writes so many bytes makes of what a type keeps to know this, whether it succeeds or not.
+    /// Nothing is said of it where a type leaves this out.
+    ghost counts: { Self → ℕ → Self → Type 0 } = { λ _ _ _. Unit {0} };
+
+    /// Whether the next call reaches the file. A write or a cut that doesn't fails, and need not count for what a crash
+    /// may leave.
+    ghost reaches: { Self → Type 0 } = { λ _. Unit {0} };
 
     /// The length of the file in bytes.
     fn length(&mut self) -> Result<u64, DiskFail>
         ensures length { IfOk result (λ n. IsTrue tells → n ≡ length (seen self.old)) }
         ensures seen { IsTrue tells → seen self.new ≡ seen self.old }
         ensures crash { IsTrue tells → NoneNew (may_leave self.old) (may_leave self.new) }
+        ensures kept { IsTrue tells → NoneLost (may_leave self.old) (may_leave self.new) }
         ensures time { IsTrue tells → Elapses (moment self.old) (moment self.new) (left_since self.old) (left_since self.new) (may_leave self.new) }
         ensures room { room_of self.new ≡ room_of self.old }
         ensures cause { HasCause (count self.old) (count self.new) result }
-        ensures why { OnErr result (may_fail self.old 0) };
+        ensures known { IsAsKnown (passes self.old 0) result }
+        ensures counted { counts self.old 0 self.new };
 
     /// Fills `buf` with the bytes from the offset `at` on. They lie below the length.
     fn read(&mut self, at: u64, buf: &mut [u8]) -> Result<(), DiskFail>
@@ -50,10 +60,12 @@ pub trait Disk {
         ensures bytes { OnOk result (IsTrue tells → buf.new ≡ take (length buf.old) (drop at (seen self.old))) }
         ensures seen { IsTrue tells → seen self.new ≡ seen self.old }
         ensures crash { IsTrue tells → NoneNew (may_leave self.old) (may_leave self.new) }
+        ensures kept { IsTrue tells → NoneLost (may_leave self.old) (may_leave self.new) }
         ensures time { IsTrue tells → Elapses (moment self.old) (moment self.new) (left_since self.old) (left_since self.new) (may_leave self.new) }
         ensures room { room_of self.new ≡ room_of self.old }
         ensures cause { HasCause (count self.old) (count self.new) result }
-        ensures why { OnErr result (may_fail self.old 0) };
+        ensures known { IsAsKnown (passes self.old 0) result }
+        ensures counted { counts self.old 0 self.new };
 
     /// Writes over what is there, and past the end. It starts at most at the length and ends at most at the room.
     fn write_at(&mut self, at: u64, bytes: &[u8]) -> Result<(), DiskFail>
@@ -61,30 +73,38 @@ pub trait Disk {
         requires room { at + length bytes.now ≤ room_of self.old }
         ensures written { OnOk result (IsTrue tells → seen self.new ≡ overwritten (seen self.old) at bytes.now) }
         ensures crash { IsTrue tells → Follows (Torn at (length bytes.now)) (may_leave self.old) (may_leave self.new) }
+        ensures torn { IsTrue tells → Leaves (Torn at (length bytes.now)) (reaches self.old) (may_leave self.old) (may_leave self.new) }
+        ensures reached { OnOk result (reaches self.old) }
         ensures time { IsTrue tells → Elapses (moment self.old) (moment self.new) (left_since self.old) (left_since self.new) (may_leave self.new) }
         ensures room { room_of self.new ≡ room_of self.old }
         ensures cause { HasCause (count self.old) (count self.new) result }
-        ensures why { OnErr result (may_fail self.old (length bytes.now)) };
+        ensures known { IsAsKnown (passes self.old (length bytes.now)) result }
+        ensures counted { counts self.old (length bytes.now) self.new };
 
     /// Cuts the file to a length that is at most its own.
     fn cut(&mut self, to: u64) -> Result<(), DiskFail>
         requires { IsTrue tells → to ≤ length (seen self.old) }
         ensures cut { OnOk result (IsTrue tells → seen self.new ≡ take to (seen self.old)) }
         ensures crash { IsTrue tells → Follows (Shortened to) (may_leave self.old) (may_leave self.new) }
+        ensures short { IsTrue tells → Leaves (Shortened to) (reaches self.old) (may_leave self.old) (may_leave self.new) }
+        ensures reached { OnOk result (reaches self.old) }
         ensures time { IsTrue tells → Elapses (moment self.old) (moment self.new) (left_since self.old) (left_since self.new) (may_leave self.new) }
         ensures room { room_of self.new ≡ room_of self.old }
         ensures cause { HasCause (count self.old) (count self.new) result }
-        ensures why { OnErr result (may_fail self.old 0) };
+        ensures known { IsAsKnown (passes self.old 0) result }
+        ensures counted { counts self.old 0 self.new };
 
     /// After it, a crash leaves what a read gives.
     fn sync(&mut self) -> Result<(), DiskFail>
         ensures durable { OnOk result (IsTrue tells → Only (seen self.old) (may_leave self.new)) }
         ensures seen { IsTrue tells → seen self.new ≡ seen self.old }
         ensures crash { IsTrue tells → NoneNew (may_leave self.old) (may_leave self.new) }
+        ensures kept { OnErr result (IsTrue tells → NoneLost (may_leave self.old) (may_leave self.new)) }
         ensures time { IsTrue tells → Elapses (moment self.old) (moment self.new) (left_since self.old) (left_since self.new) (may_leave self.new) }
         ensures room { room_of self.new ≡ room_of self.old }
         ensures cause { HasCause (count self.old) (count self.new) result }
-        ensures why { OnErr result (may_fail self.old 0) };
+        ensures known { IsAsKnown (passes self.old 0) result }
+        ensures counted { counts self.old 0 self.new };
 
     /// How long the file may become, in bytes. It never changes.
     fn room(&self) -> u64

@@ -1,11 +1,11 @@
-ghost use Rattle.std.specs.Prelude.{◌≡◌, ◌⊎◌, ◌==◌, true, not, length, reverse};
-ghost use Rattle.std.proofs.Common.{inl};
-ghost use Rattle.cf_disk.specs.Calls.{left_after, left_after_since, now_counts, now_only};
+ghost use Rattle.std.specs.Prelude.{◌≡◌, ◌==◌, ◌-◌, ◌&&◌, true, Some, not, length, reverse};
+ghost use Rattle.cf_disk.specs.Calls.{now_counts, now_only};
+ghost use Rattle.cf_disk.specs.Stays.{memory_stays};
 
 use crate::{Disk, DiskFail, MemoryDisk};
 
 /// A disk that passes so many calls on to another one and then fails each call, so that a test can stop a run at any
-/// of them. A call that it fails doesn't reach the other disk.
+/// of them. A call that it fails is noted by the other disk as one that failed, so a write counts as written.
 #[derive(Drop)]
 pub struct FuseDisk {
     disk: MemoryDisk,
@@ -34,7 +34,8 @@ impl FuseDisk {
 
 // Whether the next call passes. It is counted.
 fn passes(left: &mut u64) -> bool
-    ensures { result ≡ not (left.old == 0) }
+    ensures passes { result ≡ not (left.old == 0) }
+    ensures counted { left.new ≡ left.old - 1 }
 {
     if *left == 0 {
         return false;
@@ -44,6 +45,8 @@ fn passes(left: &mut u64) -> bool
 }
 
 impl Disk for FuseDisk {
+    ghost use Rattle.cf_disk.specs.Memory.{memory_passes, IsCounted};
+
     ghost tells = { true };
 
     ghost seen = { λ f. ⟦<MemoryDisk as Disk>⟧.seen f.disk };
@@ -58,9 +61,13 @@ impl Disk for FuseDisk {
 
     ghost count = { λ f. ⟦<MemoryDisk as Disk>⟧.count f.disk };
 
-    ghost may_fail = { λ f n. (f.left ≡ 0) ⊎ ⟦<MemoryDisk as Disk>⟧.may_fail f.disk n };
+    ghost passes = { λ f n. Some (not (f.left == 0) && memory_passes f.disk n) };
 
-    ghost seen_may_stay = { λ f told. inl f.disk.current };
+    ghost counts = { λ f n new. (new.left ≡ f.left - 1) × IsCounted f.disk (not (f.left == 0) && memory_passes f.disk n) n new.disk };
+
+    ghost reaches = { λ f. ⟦<MemoryDisk as Disk>⟧.reaches f.disk };
+
+    ghost seen_may_stay = { λ f told. memory_stays f.disk.first.items (reverse f.disk.calls.items) f.disk.log.items f.disk.bytes.items f.disk.current f.disk.possible };
 
     ghost counts_now = { λ f t c told early now. now_counts f.disk.first.items (reverse f.disk.calls.items) f.disk.log.items t c now };
 
@@ -82,14 +89,14 @@ impl Disk for FuseDisk {
 
     fn write_at(&mut self, at: u64, bytes: &[u8]) -> Result<(), DiskFail> {
         if !passes(&mut self.left) {
-            return Err(self.disk.refuse());
+            return Err(self.disk.refuse_write(at, bytes.len() as u64));
         }
         self.disk.write_at(at, bytes)
     }
 
     fn cut(&mut self, to: u64) -> Result<(), DiskFail> {
         if !passes(&mut self.left) {
-            return Err(self.disk.refuse());
+            return Err(self.disk.refuse_cut(to));
         }
         self.disk.cut(to)
     }

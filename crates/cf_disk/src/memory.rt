@@ -1,8 +1,8 @@
-ghost use Rattle.std.specs.Prelude.{◌≡◌, ◌==◌, ◌+◌, ◌-◌, ◌^◌, ◌<◌, ◌≤◌, min, [], ◌∷◌, ◌++◌, true, length, reverse, IsTrue, IfOk, vec_len, vec_capacity};
+ghost use Rattle.std.specs.Prelude.{◌≡◌, ◌==◌, ◌+◌, ◌-◌, ◌^◌, ◌<◌, ◌≤◌, min, [], ◌∷◌, ◌++◌, true, false, length, reverse, nat_lt, if◌then◌else◌, Some, IsTrue, IfOk, vec_len, vec_capacity};
 ghost use Rattle.std.specs.List.{list_any};
-ghost use Rattle.std.proofs.Common.{inl};
-ghost use Rattle.cf_disk.specs.Disk.{overwritten, HasRisen};
-ghost use Rattle.cf_disk.specs.Calls.{seen_after, left_after, left_after_since, now_counts, now_only};
+ghost use Rattle.cf_disk.specs.Disk.{overwritten, Torn, Shortened, Follows, NoneNew, NoneLost, Leaves, Elapses, HasRisen};
+ghost use Rattle.cf_disk.specs.Calls.{seen_after, is_possible, now_counts, now_only};
+ghost use Rattle.cf_disk.specs.Stays.{memory_stays};
 
 use crate::step::Step;
 use crate::{Disk, DiskFail};
@@ -26,10 +26,11 @@ pub struct MemoryDisk {
     ghost bytes_fit: { min room (vec_len first + most_written) ≤ vec_capacity bytes },
     ghost grown: { vec_len bytes ≤ vec_len first + vec_len log },
     ghost current: { bytes.items ≡ seen_after first.items (reverse calls.items) log.items },
+    ghost possible: { is_possible first.items (reverse calls.items) log.items ≡ true },
 }
 
 impl MemoryDisk {
-    ghost use Rattle.cf_disk.specs.Memory.{memory_bytes, IsFresh, IsRefused};
+    ghost use Rattle.cf_disk.specs.Memory.{memory_bytes, memory_may_leave, memory_moment, memory_left_since, memory_passes, memory_reaches, IsCounted, IsFresh, IsRefused};
 
     /// A disk that holds these bytes, all of them synced. They are at most as many as its room.
     ///
@@ -86,10 +87,64 @@ impl MemoryDisk {
         &self.bytes
     }
 
-    /// Counts a fault, and changes nothing else.
-    pub(crate) fn refuse(&mut self) -> DiskFail
-        ensures { IsRefused self.old self.new }
+    // Whether the next call succeeds, if it writes so many bytes.
+    fn passes(&self, size: u64) -> bool
+        ensures { result ≡ memory_passes self.now size }
     {
+        (self.calls.len() as u64) < self.most_calls
+            && !is_listed(&self.fails, &self.calls)
+            && (self.log.len() as u64) <= self.most_written
+            && size <= self.most_written - self.log.len() as u64
+    }
+
+    /// Refuses a call that changes nothing in the file.
+    pub(crate) fn refuse(&mut self) -> DiskFail
+        ensures refused { IsRefused self.old self.new }
+        ensures counted { IsCounted self.old false 0 self.new }
+        ensures crash { NoneNew (memory_may_leave self.old) (memory_may_leave self.new) }
+        ensures kept { NoneLost (memory_may_leave self.old) (memory_may_leave self.new) }
+        ensures time { Elapses (memory_moment self.old) (memory_moment self.new) (memory_left_since self.old) (memory_left_since self.new) (memory_may_leave self.new) }
+    {
+        note_if_room(&mut self.calls, self.most_calls, Step::Look);
+        fail(&mut self.faults)
+    }
+
+    /// Refuses a write of so many bytes, which counts as written.
+    pub(crate) fn refuse_write(&mut self, at: u64, size: u64) -> DiskFail
+        ensures refused { IsRefused self.old self.new }
+        ensures counted { IsCounted self.old false size self.new }
+        ensures crash { Follows (Torn at size) (memory_may_leave self.old) (memory_may_leave self.new) }
+        ensures torn { Leaves (Torn at size) (memory_reaches self.old) (memory_may_leave self.old) (memory_may_leave self.new) }
+        ensures time { Elapses (memory_moment self.old) (memory_moment self.new) (memory_left_since self.old) (memory_left_since self.new) (memory_may_leave self.new) }
+    {
+        note_if_room(
+            &mut self.calls,
+            self.most_calls,
+            Step::Write {
+                at,
+                size,
+                done: false,
+            },
+        );
+        fail(&mut self.faults)
+    }
+
+    /// Refuses a cut, which counts as done.
+    pub(crate) fn refuse_cut(&mut self, to: u64) -> DiskFail
+        ensures refused { IsRefused self.old self.new }
+        ensures counted { IsCounted self.old false 0 self.new }
+        ensures crash { Follows (Shortened to) (memory_may_leave self.old) (memory_may_leave self.new) }
+        ensures short { Leaves (Shortened to) (memory_reaches self.old) (memory_may_leave self.old) (memory_may_leave self.new) }
+        ensures time { Elapses (memory_moment self.old) (memory_moment self.new) (memory_left_since self.old) (memory_left_since self.new) (memory_may_leave self.new) }
+    {
+        note_if_room(
+            &mut self.calls,
+            self.most_calls,
+            Step::Cut {
+                size: to,
+                done: false,
+            },
+        );
         fail(&mut self.faults)
     }
 }
@@ -118,6 +173,17 @@ fn note(calls: &mut Vec<Step>, call: Step)
     calls.push(call).unwrap();
 }
 
+// Notes a call, unless so many are noted already.
+fn note_if_room(calls: &mut Vec<Step>, most: u64, call: Step)
+    requires { most ≤ vec_capacity calls.old }
+    ensures noted { reverse calls.new.items ≡ (if nat_lt (vec_len calls.old) most then call ∷ reverse calls.old.items else reverse calls.old.items) }
+    ensures capacity { vec_capacity calls.old ≤ vec_capacity calls.new }
+{
+    if (calls.len() as u64) < most {
+        note(calls, call);
+    }
+}
+
 // Puts the bytes over those that are there, and past their end.
 fn overwrite(file: &mut Vec<u8>, at: usize, bytes: &[u8])
     requires start { at ≤ vec_len file.old }
@@ -136,94 +202,88 @@ fn overwrite(file: &mut Vec<u8>, at: usize, bytes: &[u8])
 }
 
 impl Disk for MemoryDisk {
-    ghost use Rattle.cf_disk.specs.Memory.{memory_may_fail};
+    ghost use Rattle.cf_disk.specs.Memory.{memory_may_leave, memory_moment, memory_left_since, memory_passes, memory_reaches, IsCounted};
 
     ghost tells = { true };
 
     ghost seen = { λ m. m.bytes.items };
 
-    ghost may_leave = { λ m. left_after m.first.items (reverse m.calls.items) m.log.items };
+    ghost may_leave = { memory_may_leave };
 
-    ghost moment = { λ m. length (reverse m.calls.items) };
+    ghost moment = { memory_moment };
 
-    ghost left_since = { λ m. left_after_since m.first.items (reverse m.calls.items) m.log.items };
+    ghost left_since = { memory_left_since };
 
     ghost room_of = { λ m. m.room };
 
     ghost count = { λ m. m.faults };
 
-    ghost may_fail = { memory_may_fail };
+    ghost passes = { λ m n. Some (memory_passes m n) };
 
-    ghost seen_may_stay = { λ m told. inl m.current };
+    ghost counts = { λ m n new. IsCounted m (memory_passes m n) n new };
+
+    ghost reaches = { memory_reaches };
+
+    ghost seen_may_stay = { λ m told. memory_stays m.first.items (reverse m.calls.items) m.log.items m.bytes.items m.current m.possible };
 
     ghost counts_now = { λ m t c told early now. now_counts m.first.items (reverse m.calls.items) m.log.items t c now };
 
     ghost only_now = { λ m c told left. now_only m.first.items (reverse m.calls.items) m.log.items c left };
 
     fn length(&mut self) -> Result<u64, DiskFail> {
-        if self.calls.len() as u64 >= self.most_calls {
-            return Err(fail(&mut self.faults));
+        if !self.passes(0) {
+            return Err(self.refuse());
         }
-        let fails = is_listed(&self.fails, &self.calls);
         note(&mut self.calls, Step::Look);
-        if fails {
-            return Err(fail(&mut self.faults));
-        }
         Ok(self.bytes.len() as u64)
     }
 
     fn read(&mut self, at: u64, buf: &mut [u8]) -> Result<(), DiskFail> {
-        if self.calls.len() as u64 >= self.most_calls {
-            return Err(fail(&mut self.faults));
+        if !self.passes(0) {
+            return Err(self.refuse());
         }
-        let fails = is_listed(&self.fails, &self.calls);
         note(&mut self.calls, Step::Look);
-        if fails {
-            return Err(fail(&mut self.faults));
-        }
         let start = at as usize;
         buf.copy_from_slice(&self.bytes[start..start + buf.len()]);
         Ok(())
     }
 
     fn write_at(&mut self, at: u64, bytes: &[u8]) -> Result<(), DiskFail> {
-        if self.calls.len() as u64 >= self.most_calls {
-            return Err(fail(&mut self.faults));
-        }
-        let start = at as usize;
-        let done = !is_listed(&self.fails, &self.calls)
-            && (self.log.len() as u64) <= self.most_written
-            && bytes.len() as u64 <= self.most_written - self.log.len() as u64;
         let size = bytes.len() as u64;
-        note(&mut self.calls, Step::Write { at, size, done });
-        if !done {
-            return Err(fail(&mut self.faults));
+        if !self.passes(size) {
+            return Err(self.refuse_write(at, size));
         }
+        note(
+            &mut self.calls,
+            Step::Write {
+                at,
+                size,
+                done: true,
+            },
+        );
         self.log.extend_from_slice(bytes).unwrap();
-        overwrite(&mut self.bytes, start, bytes);
+        overwrite(&mut self.bytes, at as usize, bytes);
         Ok(())
     }
 
     fn cut(&mut self, to: u64) -> Result<(), DiskFail> {
-        if self.calls.len() as u64 >= self.most_calls {
-            return Err(fail(&mut self.faults));
+        if !self.passes(0) {
+            return Err(self.refuse_cut(to));
         }
-        let done = !is_listed(&self.fails, &self.calls);
-        note(&mut self.calls, Step::Cut { size: to, done });
-        if !done {
-            return Err(fail(&mut self.faults));
-        }
+        note(
+            &mut self.calls,
+            Step::Cut {
+                size: to,
+                done: true,
+            },
+        );
         self.bytes.truncate(to as usize);
         Ok(())
     }
 
     fn sync(&mut self) -> Result<(), DiskFail> {
-        if self.calls.len() as u64 >= self.most_calls {
-            return Err(fail(&mut self.faults));
-        }
-        if is_listed(&self.fails, &self.calls) {
-            note(&mut self.calls, Step::Look);
-            return Err(fail(&mut self.faults));
+        if !self.passes(0) {
+            return Err(self.refuse());
         }
         note(&mut self.calls, Step::Sync);
         Ok(())

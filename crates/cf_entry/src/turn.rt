@@ -11,7 +11,7 @@ pub enum Phase {
     Clean,
     /// The stack goes back to what it was.
     Back,
-    /// What the way back replaced or left out is deleted.
+    /// What an update made is deleted, once all that it changed is back.
     BackClean,
 }
 
@@ -22,7 +22,7 @@ pub enum Cause {
     Handler { path: Txt, reason: Reason },
     /// What the template asks for could not be worked out; the text tells the fault.
     Plan { fault: Txt },
-    /// The name of an export was taken meanwhile.
+    /// An export that another stack uses would be gone at the end of an update, or have another value.
     Export { name: Txt },
 }
 

@@ -1,10 +1,8 @@
 -- How a run of calls of a disk goes on.
-use Rattle.std.proofs.Common.{◌≡◌, inl, inr, ⊎_elim, ℕ, List, refl, ◌∙◌, subst, arith}
+use Rattle.std.proofs.Common.{◌≡◌, inl, inr, ⊎_elim, ℕ, List, ◌∙◌, subst, arith}
 use Rattle.cf_disk.specs.Disk.{Elapses, LeavesOnly, Follows, NoneNew, Only, Torn}
+use Rattle.cf_disk.specs.Stays.{torn_not}
 use Rattle.cf_journal.specs.Runs.{Unchanged}
-
-pub torn_not : (at n : ℕ) (file : List ℕ) → Torn at n file file
-torn_not at n file = record { before = refl; after = refl; no_shorter = omega arith; no_longer = omega arith }
 
 module _ {D : Type 0} (moment : D → ℕ) (left_since : D → ℕ → List ℕ → Type 0) where
   -- before the first call

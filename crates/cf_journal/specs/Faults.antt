@@ -1,5 +1,5 @@
 -- When the calls of a journal fail.
-use Rattle.std.specs.Prelude.{◌≡◌, ◌+◌, ◌<◌, ◌≤◌, ℕ, Bool, List, IsTrue, Result, Ok, Err}
+use Rattle.std.specs.Prelude.{◌≡◌, ◌+◌, ◌<◌, ◌≤◌, ℕ, Bool, true, List, IsTrue, Result, Ok, Err}
 use Rattle.cf_disk.specs.Disk.{HasRisen}
 use Rattle.cf_entry.specs.declared.entry.Entry.{Entry}
 use Rattle.cf_journal.specs.declared.faults.AppendFault.{AppendFault}
@@ -15,6 +15,11 @@ abbrev pub HasAppendCause : {T : Type 0} → ℕ → ℕ → ℕ → ℕ → ℕ
 HasAppendCause length need room before after (Ok x) = length + need ≤ room
 HasAppendCause length need room before after (Err (append.Full l n r)) = (room < length + need) × (l ≡ length) × (n ≡ need) × (r ≡ room)
 HasAppendCause length need room before after (Err append.DiskFault) = (length + need ≤ room) × HasRisen before after
+
+-- After a fault of an append: P where there was no room, and after a fault of the disk the journal is broken.
+abbrev pub IsAfterFault : Type 0 → Bool → AppendFault → Type 0
+IsAfterFault P broken (append.Full length need room) = P
+IsAfterFault P broken append.DiskFault = broken ≡ true
 
 -- no journal stands on these bytes of a disk that tells them, or its count of faults rose, or memory was not there
 abbrev pub HasRecoverCause : Bool → List ℕ → ℕ → ℕ → RecoverFault → Type 0

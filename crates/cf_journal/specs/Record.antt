@@ -1,5 +1,5 @@
 -- The record of a disk: the entries of its journal (this project's own format, docs/JOURNAL.md).
-use Rattle.std.specs.Prelude.{◌≡◌, ◌⊎◌, ◌≤◌, ◌^◌, ℕ, Bool, List, [], ◌∷◌, ◌++◌, drop, Result, Ok, Err, IsOk, IsTrue}
+use Rattle.std.specs.Prelude.{◌≡◌, ◌⊎◌, ◌≤◌, ◌^◌, ℕ, Bool, false, List, [], ◌∷◌, ◌++◌, drop, Result, Ok, Err, IsOk, IsTrue}
 use Rattle.cf_disk.specs.Disk.{Only}
 use Rattle.cf_entry.specs.EntryReading.{entry_of}
 use Rattle.cf_entry.specs.declared.entry.Entry.{Entry}
@@ -39,8 +39,13 @@ journal_length j = j.length
 abbrev pub spare_of : Journal → ℕ
 spare_of j = j.spare
 
--- the journal stands for this disk: the disk holds one that is made, of this length, all of it there after any crash
+-- whether an append of it failed by the disk
+abbrev pub is_broken : Journal → Bool
+is_broken j = j.broken
+
+-- the journal stands for this disk: no append of it failed, and the disk holds one that is made, of this length, all of it there after any crash
 pub record Stands {D : Type 0} (tells : Bool) (seen : D → List ℕ) (may_leave : D → List ℕ → Type 0) (room_of : D → ℕ) (journal : Journal) (disk : D) : Type 0 where
+  pub sound : is_broken journal ≡ false
   pub is_made : IsTrue tells → seen disk ≡ made (drop 9 (seen disk))
   pub is_read : IsTrue tells → IsOk (record_of (seen disk))
   pub length_is : IsTrue tells → length_of (seen disk) ≡ journal_length journal

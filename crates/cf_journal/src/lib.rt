@@ -11,3 +11,6 @@ mod reading;
 pub use faults::{AppendFault, RecoverFault};
 pub use journal::Journal;
 pub use reading::recover;
+
+#[cfg(test)]
+mod tests;

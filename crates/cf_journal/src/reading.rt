@@ -1,11 +1,11 @@
 //! Reading a journal back.
-ghost use Rattle.std.specs.Prelude.{◌≡◌, ◌≤◌, ◌<◌, ◌^◌, ◌+◌, ◌-◌, ◌⊎◌, [], List, ℕ, Ok, Err, length, take, drop, vec_len, IsTrue, IfOk, IfErr, OnOk, MatchResult};
+ghost use Rattle.std.specs.Prelude.{◌≡◌, ◌≤◌, ◌<◌, ◌^◌, ◌+◌, ◌-◌, ◌⊎◌, [], List, ℕ, false, Ok, Err, length, take, drop, vec_len, IsTrue, IfOk, IfErr, OnOk, MatchResult};
 ghost use Rattle.cf_disk.specs.Disk.{Only, LeavesOnly, HasCause, HasRisen};
 ghost use Rattle.cf_entry.specs.EntryReading.{entry_of};
 ghost use Rattle.cf_journal.specs.Head.{head_of, IsEmpty, IsBegun};
 ghost use Rattle.cf_journal.specs.Frames.{frames_of, with_front};
 ghost use Rattle.cf_journal.specs.Runs.{Unchanged};
-ghost use Rattle.cf_journal.specs.Record.{record_of, journal_length, IsOldOrHas, Stands};
+ghost use Rattle.cf_journal.specs.Record.{record_of, journal_length, is_broken, IsOldOrHas, Stands};
 ghost use Rattle.cf_journal.specs.Faults.{HasRecoverCause, HasReadCause, FramesEnd, IfRefused};
 ghost use Rattle.cf_journal.specs.Opens.{OpensAs};
 
@@ -78,7 +78,7 @@ fn begin<D: Disk>(
     requires seen { IsTrue D.tells → D.seen disk.old ≡ bytes.now }
     requires durable { IsTrue D.tells → Only (D.seen disk.old) (D.may_leave disk.old) }
     requires room { 16 ≤ D.room_of disk.old }
-    ensures found { IfOk result (λ found. (journal_length found.0 ≡ 10) × (found.1 ≡ [])) }
+    ensures found { IfOk result (λ found. (journal_length found.0 ≡ 10) × (is_broken found.0 ≡ false) × (found.1 ≡ [])) }
     ensures begun { OnOk result (IsTrue D.tells → IsBegun (D.seen disk.new)) }
     ensures durable { OnOk result (IsTrue D.tells → Only (D.seen disk.new) (D.may_leave disk.new)) }
     ensures moments { IsTrue D.tells → LeavesOnly D.moment D.left_since disk.old disk.new IsEmpty }

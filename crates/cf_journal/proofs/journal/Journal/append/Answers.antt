@@ -28,6 +28,7 @@ returns-in-Ok-clause-acknowledged g c =
     let written : new ≡ opened file end (frame_of body) = c.in-Ok.ensures.written told ∙ ap (λ (f : List ℕ). opened file end f) frame in
     holds file new end (end + (5 + length body)) e body (s.is_made told) (s.is_read told) (s.length_is told) (spelled_is_read (spelling_of e) e (c.build.ensures.readable c.requires.proper) refl) small written refl in
     record {
+      sound = s.sound;
       is_made = λ told. (h told).is_made;
       is_read = λ told. (h told).is_read;
       length_is = λ told. (h told).length_is ∙ omega arith;
