@@ -1,3 +1,5 @@
 pub mod JsonLemmas
 pub mod Counts
 pub mod References
+pub mod Escapes
+pub mod Holes

@@ -1,6 +1,10 @@
 -- The JSON value that bytes are (RFC 8259), as `serde_json` reads it.
-use Rattle.std.specs.Prelude.{◌≡◌, ℕ, suc, List, Option, None, if◌then◌else◌, ⊤}
+use Rattle.std.specs.Prelude.{◌≡◌, ℕ, suc, List, Option, Some, None, Result, Ok, Err, ◌⊎◌, if◌then◌else◌, ⊤}
 use Rattle.std.specs.Str.{is_utf8}
+use Rattle.serde_json.specs.declared.value.Value.{Value}
+use Rattle.serde_json.specs.View.{view}
+use Rattle.cf_template.specs.declared.refusal.ReadFault.{ReadFault}
+use Rattle.cf_template.specs.declared.refusal.ReadFault.TheVariants as refusal
 use Rattle.serde_json.specs.Data.{Data, Members, no_members, member}
 use Rattle.serde_json.specs.Read.{read}
 use Rattle.cf_template.specs.declared.fault.TemplateFault.{TemplateFault}
@@ -20,3 +24,8 @@ IsJsonFault bytes NotYet = ⊥
 abbrev pub count : Members → ℕ
 count no_members = 0
 count (member k d ms) = suc (count ms)
+
+-- what the reading of a value answers: the value, or that there is none, or that memory was not there
+abbrev pub IsValueOf : List ℕ → Result Value ReadFault → Type 0
+IsValueOf bytes (Ok v) = json_of bytes ≡ Some (view v)
+IsValueOf bytes (Err e) = (e ≡ refusal.NoMemory) ⊎ ((e ≡ refusal.NotJson) × (json_of bytes ≡ None))

@@ -1,10 +1,10 @@
 -- Places in a template: JSON pointers (RFC 6901). The root is the empty text.
-use Rattle.std.specs.Prelude.{ℕ, ◌==◌, List, [], ◌∷◌, ◌++◌, codes, if◌then◌else◌, decimal}
+use Rattle.std.specs.Prelude.{ℕ, nat_eq, List, [], ◌∷◌, ◌++◌, codes, if◌then◌else◌, decimal}
 
 -- a text with a word in place of each byte b
 abbrev pub replaced : ℕ → List ℕ → List ℕ → List ℕ
 replaced b word [] = []
-replaced b word (c ∷ cs) = if c == b then word ++ replaced b word cs else c ∷ replaced b word cs
+replaced b word (c ∷ cs) = if nat_eq b c then word ++ replaced b word cs else c ∷ replaced b word cs
 
 -- a name in a pointer: first each `~` becomes `~0`, then each `/` becomes `~1`
 abbrev pub escaped : List ℕ → List ℕ

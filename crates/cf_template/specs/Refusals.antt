@@ -1,6 +1,8 @@
 -- What a part of a template gives when it is read: what it is, or the first refusal.
-use Rattle.std.specs.Prelude.{◌≡◌, ℕ, Bool, Option, Some, None, Result, Ok, Err, if◌then◌else◌}
+use Rattle.std.specs.Prelude.{◌≡◌, ℕ, Bool, Option, Some, None, Result, Ok, Err, ⊤, if◌then◌else◌}
 use Rattle.std.proofs.Common.{◌⊎◌}
+use Rattle.std.specs.Global.{Box}
+use Rattle.cf_tree.specs.Forms.{Form}
 use Rattle.cf_template.specs.declared.refusal.ReadFault.{ReadFault}
 use Rattle.cf_template.specs.declared.refusal.ReadFault.TheVariants.{NotJson, TooLong, WrongShape, UnknownSection, BadVersion, NullValue, BadNumber, BadName, TooMany, UnknownFunction, Unsupported, NoMemory}
 
@@ -18,6 +20,9 @@ fault_number (TooMany k n) = 9
 fault_number (UnknownFunction p) = 10
 fault_number (Unsupported p k) = 11
 fault_number NoMemory = 12
+
+abbrev pub no_memory : ReadFault
+no_memory = NoMemory
 
 -- what reading gives: a value, or why there is none
 abbrev pub Reading : Type 0 → Type 0
@@ -47,7 +52,20 @@ abbrev pub unless : {A : Type 0} → Option ReadFault → Reading A → Reading 
 unless None r = r
 unless (Some e) r = Err e
 
--- what a reader answers: just what the rules give, or that memory was not there
+-- what a reader answers: just what the rules give, or that memory was not there; f is what its value stands for
+abbrev pub GivesBy : {A B : Type 0} → (A → B) → Reading B → Reading A → Type 0
+GivesBy f r (Ok a) = r ≡ Ok (f a)
+GivesBy f r (Err e) = (e ≡ NoMemory) ⊎ (r ≡ Err e)
+
+-- what a box holds
+abbrev pub inside : Box Form → Form
+inside b = b.value
+
 abbrev pub Gives : {A : Type 0} → Reading A → Reading A → Type 0
 Gives r (Ok a) = r ≡ Ok a
 Gives r (Err e) = (e ≡ NoMemory) ⊎ (r ≡ Err e)
+
+-- what a test answers: nothing exactly where nothing is refused, else the refusal, or that memory was not there
+abbrev pub Finds : Option ReadFault → Result ⊤ ReadFault → Type 0
+Finds fault (Ok _) = fault ≡ None
+Finds fault (Err e) = (e ≡ NoMemory) ⊎ (fault ≡ Some e)

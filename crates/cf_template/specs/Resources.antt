@@ -41,21 +41,27 @@ names_of (string t) at = Ok (t ∷ [])
 names_of (array ds) at = items_from plain_text ds at 0 []
 names_of d at = Err (WrongShape at)
 
-abbrev pub deletion_of : Data → List ℕ → Reading Deletion
-deletion_of (string t) at =
+abbrev pub deletion_named : List ℕ → List ℕ → Reading Deletion
+deletion_named t at =
     if bytes_eq t (codes "Delete") then Ok deletion.Delete
     else if bytes_eq t (codes "Retain") then Ok deletion.Retain
     else if bytes_eq t (codes "RetainExceptOnCreate") then Ok deletion.RetainExceptOnCreate
     else if bytes_eq t (codes "Snapshot") then Err (Unsupported at t)
     else Err (WrongShape at)
+
+abbrev pub deletion_of : Data → List ℕ → Reading Deletion
+deletion_of (string t) at = deletion_named t at
 deletion_of d at = Err (WrongShape at)
 
-abbrev pub replace_of : Data → List ℕ → Reading Replace
-replace_of (string t) at =
+abbrev pub replace_named : List ℕ → List ℕ → Reading Replace
+replace_named t at =
     if bytes_eq t (codes "Delete") then Ok replace.Delete
     else if bytes_eq t (codes "Retain") then Ok replace.Retain
     else if bytes_eq t (codes "Snapshot") then Err (Unsupported at t)
     else Err (WrongShape at)
+
+abbrev pub replace_of : Data → List ℕ → Reading Replace
+replace_of (string t) at = replace_named t at
 replace_of d at = Err (WrongShape at)
 
 -- what a member that is missing stands for

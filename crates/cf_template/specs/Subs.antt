@@ -7,6 +7,9 @@ use Rattle.cf_tree.specs.declared.parts.Part.TheVariants.{Plain, Name}
 use Rattle.cf_template.specs.declared.subs.SubFault.{SubFault}
 use Rattle.cf_template.specs.declared.subs.SubFault.TheVariants.{Unclosed, Empty, NoMemory}
 
+abbrev pub no_memory : SubFault
+no_memory = NoMemory
+
 -- plain text as parts: none where it is empty
 abbrev pub plain_parts : List ℕ → List Part
 plain_parts [] = []
@@ -45,6 +48,11 @@ parts_up_to (suc n) at text = opened (λ later rest. parts_up_to n later rest) a
 -- the parts of a text; no hole has less than three bytes
 abbrev pub parts_of : List ℕ → Result (List Part) SubFault
 parts_of text = parts_up_to (length text) 0 text
+
+-- what a reader of a hole answers
+abbrev pub IsHole : Result Part SubFault → Result Part SubFault → Type 0
+IsHole r (Ok p) = r ≡ Ok p
+IsHole r (Err e) = (e ≡ NoMemory) ⊎ (r ≡ Err e)
 
 -- what `sub_parts` answers
 abbrev pub IsParts : List ℕ → Result (List Part) SubFault → Type 0

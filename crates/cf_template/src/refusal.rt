@@ -2,6 +2,7 @@ ghost use Rattle.std.specs.Prelude.{◌≡◌};
 ghost use Rattle.cf_template.specs.Refusals.{fault_number};
 
 use cf_tree::Txt;
+use std::alloc::{AllocError, AllocFailed};
 
 /// Why a template isn't read. A place is a JSON pointer (RFC 6901) into the template.
 #[derive(Debug, Drop, PartialEq, Eq)]
@@ -51,5 +52,27 @@ impl ReadFault {
             ReadFault::Unsupported { .. } => 11,
             ReadFault::NoMemory => 12,
         }
+    }
+}
+
+impl From<AllocError> for ReadFault {
+    ghost use Rattle.std.specs.Prelude.{◌≡◌};
+    ghost use Rattle.cf_template.specs.Refusals.{no_memory};
+
+    ghost from_gives = { λ _ e. e ≡ no_memory };
+
+    fn from(_refused: AllocError) -> ReadFault {
+        ReadFault::NoMemory
+    }
+}
+
+impl<T: Drop> From<AllocFailed<T>> for ReadFault {
+    ghost use Rattle.std.specs.Prelude.{◌≡◌};
+    ghost use Rattle.cf_template.specs.Refusals.{no_memory};
+
+    ghost from_gives = { λ _ e. e ≡ no_memory };
+
+    fn from(_refused: AllocFailed<T>) -> ReadFault {
+        ReadFault::NoMemory
     }
 }

@@ -1,8 +1,9 @@
 ghost use Rattle.std.specs.Prelude.{◌≡◌, Some, IfOk, IfErr};
 ghost use Rattle.serde_json.specs.View.{view, members_view};
-ghost use Rattle.cf_template.specs.Json.{count, json_of, IsJsonFault};
+ghost use Rattle.cf_template.specs.Json.{IsJsonFault, IsValueOf, count, json_of};
 
 use crate::fault::TemplateFault;
+use crate::refusal::ReadFault;
 use serde_json::{Map, Value};
 use std::alloc::Global;
 
@@ -29,4 +30,16 @@ pub(crate) fn count_of(members: &Map<String, Value>) -> usize
     ensures { result ≡ count (members_view members.now.entries) }
 {
     members.len()
+}
+
+/// The JSON value that the bytes are.
+pub(crate) fn value_of(alloc: Global, bytes: &[u8]) -> Result<Value, ReadFault>
+    ensures { IsValueOf bytes.now result }
+{
+    match read_json(alloc, bytes) {
+        Ok(value) => Ok(value),
+        Err(TemplateFault::NoMemory) => Err(ReadFault::NoMemory),
+        Err(TemplateFault::NotJson) => Err(ReadFault::NotJson),
+        Err(TemplateFault::NotYet) => unreachable!(),
+    }
 }
