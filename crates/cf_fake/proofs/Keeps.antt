@@ -339,7 +339,7 @@ fits_deleted name ss token id n k h =
     let known : is_known name ss id ≡ true = known_live name ss (live_of (lane_of ss)) id k.known h in
     let size : size_of_dict [] ≤ 524288 = omega arith in
     record {
-      may = (refl, h, size);
+      may = (refl, h, refl);
       kept = kept_from name ss x k (both _ _ (known_more name ss x id known) (le-leb _ _ size))
           (knowns_filtered name (ss ++ x ∷ []) (λ r. not (bytes_eq id r.id)) (live_of (lane_of ss)) (knowns_still name ss x (live_of (lane_of ss)) k.known))
           (differ_filtered (λ r. not (bytes_eq id r.id)) (live_of (lane_of ss)) k.differ);

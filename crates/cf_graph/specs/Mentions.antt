@@ -27,12 +27,18 @@ abbrev pub keys_of : Fields → List (List ℕ)
 keys_of no_fields = []
 keys_of (field k e ps) = k ∷ keys_of ps
 
--- the names that an expression refers to, where `holds` tells which conditions are true
+-- of two branches the one that is taken; of a condition that is not declared neither is
+abbrev pub taken : Option Bool → List Mention → List Mention → List Mention
+taken None y n = []
+taken (Some true) y n = y
+taken (Some false) y n = n
+
+-- the names that an expression refers to, where `holds` tells of each declared condition whether it is true
 abbrev mutual
-  pub mentions_of : (List ℕ → Bool) → Form → List Mention
+  pub mentions_of : (List ℕ → Option Bool) → Form → List Mention
   mentions_of holds (expr at n) = node_mentions holds n
 
-  pub node_mentions : (List ℕ → Bool) → Node → List Mention
+  pub node_mentions : (List ℕ → Option Bool) → Node → List Mention
   node_mentions holds (lit d) = []
   node_mentions holds (node.list es) = forms_mentions holds es
   node_mentions holds (node.dict ps) = fields_mentions holds ps
@@ -42,15 +48,15 @@ abbrev mutual
   node_mentions holds (join d e) = mentions_of holds e
   node_mentions holds (select i e) = mentions_of holds i ++ mentions_of holds e
   node_mentions holds (split d e) = mentions_of holds e
-  node_mentions holds (choice name y n) = if holds name then mentions_of holds y else mentions_of holds n
+  node_mentions holds (choice name y n) = taken (holds name) (mentions_of holds y) (mentions_of holds n)
   node_mentions holds (find_in_map m k l) = mentions_of holds m ++ (mentions_of holds k ++ mentions_of holds l)
   node_mentions holds (import_value e) = mentions_of holds e
   node_mentions holds (base64 e) = mentions_of holds e
 
-  pub forms_mentions : (List ℕ → Bool) → Forms → List Mention
+  pub forms_mentions : (List ℕ → Option Bool) → Forms → List Mention
   forms_mentions holds no_forms = []
   forms_mentions holds (form e es) = mentions_of holds e ++ forms_mentions holds es
 
-  pub fields_mentions : (List ℕ → Bool) → Fields → List Mention
+  pub fields_mentions : (List ℕ → Option Bool) → Fields → List Mention
   fields_mentions holds no_fields = []
   fields_mentions holds (field k e ps) = mentions_of holds e ++ fields_mentions holds ps

@@ -1,5 +1,5 @@
 -- What each resource of a template needs, the order of work, and the refusals (User Guide: DependsOn and references; how the order and a cycle are told is this project's own).
-use Rattle.std.specs.Prelude.{ℕ, zero, suc, ◌==◌, Bool, true, false, ◌&&◌, ◌||◌, not, List, [], ◌∷◌, ◌++◌, Option, Some, None, Result, Ok, Err, find, filter, filter_map, flat_map, map, is_some, length, codes, if◌then◌else◌}
+use Rattle.std.specs.Prelude.{ℕ, zero, suc, ◌==◌, Bool, true, false, ◌&&◌, ◌||◌, not, List, [], ◌∷◌, ◌++◌, Option, Some, None, Result, Ok, Err, find, filter, filter_map, flat_map, map, option_map, is_some, length, codes, if◌then◌else◌}
 use Rattle.std.specs.List.{list_any, list_all}
 use Rattle.std.specs.Option.{option_or, option_map_or}
 use Rattle.std.specs.Str.{bytes_eq}
@@ -13,8 +13,8 @@ use Rattle.cf_tree.specs.declared.template.Res.{Res}
 use Rattle.cf_graph.specs.Mentions.{Mention, by_ref, by_attribute, fields_mentions}
 
 -- a condition is true
-abbrev pub is_true : Option Verdict → Bool
-is_true (Some verdict.True) = true
+abbrev pub is_true : Verdict → Bool
+is_true verdict.True = true
 is_true _ = false
 
 -- conditions that are false; one that is not declared hinders nothing here
@@ -22,8 +22,9 @@ abbrev pub is_false : Option Verdict → Bool
 is_false (Some verdict.False) = true
 is_false _ = false
 
-abbrev pub holds_in : List (List ℕ × Verdict) → List ℕ → Bool
-holds_in conds name = is_true (value_at name conds)
+-- of a declared condition, whether it is true
+abbrev pub holds_in : List (List ℕ × Verdict) → List ℕ → Option Bool
+holds_in conds name = option_map is_true (value_at name conds)
 
 -- a resource is made where it has no condition, or one that is not false
 abbrev pub is_made : List (List ℕ × Verdict) → Res → Bool

@@ -50,6 +50,26 @@ CallMove name before after epoch token request a = (before.fence ≤ epoch) × M
 abbrev pub IsStale : FencedLane → FencedLane → ℕ → ℕ → Type 0
 IsStale before after epoch fence = (epoch < before.fence) × (fence ≡ before.fence) × (after ≡ before)
 
+-- what a call leaves on its lane: nothing, its token settled, or itself, to act later
+pub data Left : Type 0 where
+  Untouched : Left
+  SettledBy : Settlement → Left
+  FlyingOn : Left
+
+-- the lane after it
+abbrev pub left_by : Left → ℕ → ℕ → Request → FencedLane → FencedLane
+left_by Untouched epoch token request lane = lane
+left_by (SettledBy s) epoch token request lane = record lane { state = with_settled lane.state (record { token = token; request = request; settlement = s }) }
+left_by FlyingOn epoch token request lane = with_flying lane (record { epoch = epoch; token = token; request = request })
+
+-- the lane after the late effect of the call that flies at this place
+abbrev pub settled_late : ℕ → Settlement → FencedLane → Option Flying → FencedLane
+settled_late place s lane None = lane
+settled_late place s lane (Some f) = record lane { state = with_settled lane.state (record { token = f.token; request = f.request; settlement = s }); flying = remove lane.flying place }
+
+abbrev pub late_by : ℕ → Settlement → FencedLane → FencedLane
+late_by place s lane = settled_late place s lane (slice_get lane.flying place)
+
 -- a late effect: a call that no fence has passed, and whose token isn't settled, becomes settled and flies no more
 pub record LateMove (name : List ℕ) (before after : FencedLane) (place : ℕ) (s : Settlement) : Type 0 where
   pub flying : Flying
@@ -57,7 +77,12 @@ pub record LateMove (name : List ℕ) (before after : FencedLane) (place : ℕ) 
   pub passes : before.fence ≤ flying.epoch
   pub is_new : settlement_of flying.token before.state.settled ≡ None
   pub fits : MaySettle name before.state flying.request s
-  pub leaves : after ≡ record before { state = with_settled before.state (record { token = flying.token; request = flying.request; settlement = s }); flying = remove before.flying place }
+  pub leaves : after ≡ late_by place s before
+
+-- late effects alone, one after another: what a lane does that isn't called
+abbrev pub LateMoves : List ℕ → List (ℕ × Settlement) → FencedLane → FencedLane → Type 0
+LateMoves name [] before after = after ≡ before
+LateMoves name (m ∷ ms) before after = LateMove name before (late_by m.0 m.1 before) m.0 m.1 × LateMoves name ms (late_by m.0 m.1 before) after
 
 -- raising the fence: it becomes the epoch where it is below it, else the lane is ahead; after a fault it is the old one or the epoch
 pub data FenceAnswer : Type 0 where

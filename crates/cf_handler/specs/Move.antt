@@ -42,11 +42,11 @@ IsShort answer.NoMemory = Unit {0}
 abbrev pub IsOfLane : List ℕ → List ℕ → Type 0
 IsOfLane name id = (rest : List ℕ) × (id ≡ name ++ 58 ∷ rest)
 
--- what a new token may be settled with: a created id is of the lane and new, an update and a deletion answer their own id, which was live, and a deletion finds nothing only where nothing is live
+-- what a new token may be settled with: a created id is of the lane and new, an update and a deletion answer their own id, which was live, a deletion has no attributes, and finds nothing only where nothing is live
 abbrev pub MaySettle : List ℕ → LaneState → Request → Settlement → Type 0
 MaySettle name lane (Create kind props) (Success id attrs) = IsOfLane name id × (length id ≤ 1024) × (is_used id lane ≡ false) × AreShort attrs
 MaySettle name lane (Update id props) (Success physical attrs) = (physical ≡ id) × IsTrue (has_id id (live_of lane)) × AreShort attrs
-MaySettle name lane (Delete id) (Success physical attrs) = (physical ≡ id) × IsTrue (has_id id (live_of lane)) × AreShort attrs
+MaySettle name lane (Delete id) (Success physical attrs) = (physical ≡ id) × IsTrue (has_id id (live_of lane)) × (attrs ≡ [])
 MaySettle name lane (Delete id) (Failed NotFound) = has_id id (live_of lane) ≡ false
 MaySettle name lane _ (Failed code) = Unit {0}
 

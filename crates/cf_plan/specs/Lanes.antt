@@ -1,6 +1,6 @@
 -- The lanes that are handed in, and what the journal and the lanes tell of an id and of a token.
 use Rattle.std.specs.Prelude.{◌≡◌, ◌≢◌, ℕ, ◌==◌, ◌⊎◌, Bool, true, false, ◌&&◌, ◌||◌, not, List, [], ◌∷◌, ◌++◌, Option, Some, None, IsTrue, is_some, find, filter, map, flat_map, if◌then◌else◌}
-use Rattle.std.specs.List.{list_any}
+use Rattle.std.specs.List.{list_any, list_all}
 use Rattle.std.specs.Str.{bytes_eq}
 use Rattle.cf_tree.specs.Datum.{Data}
 use Rattle.cf_tree.specs.declared.request.Request.{Request}
@@ -10,6 +10,8 @@ use Rattle.cf_handler.specs.declared.settled.Settlement.{Settlement}
 use Rattle.cf_handler.specs.declared.settled.Settlement.TheVariants.{Success, Failed}
 use Rattle.cf_handler.specs.declared.settled.Settled.{Settled}
 use Rattle.cf_handler.specs.Fence.{FencedLane, settled_at}
+use Rattle.cf_handler.specs.Name.{is_lane_name}
+use Rattle.cf_schema.specs.declared.described.Schema.{Schema}
 use Rattle.cf_entry.specs.declared.entry.Reply.{Reply}
 use Rattle.cf_entry.specs.declared.entry.Reply.TheVariants as reply
 use Rattle.cf_stacks.specs.declared.held.Held.{Held}
@@ -21,11 +23,29 @@ use Rattle.cf_stacks.specs.declared.state.World.{World}
 use Rattle.cf_stacks.specs.Words.{resources_of, is_id, id_named}
 use Rattle.cf_stacks.specs.Fold.{unknown_id}
 
+-- no text stands twice
+abbrev pub differ : List (List ℕ) → Bool
+differ [] = true
+differ (id ∷ ids) = not (list_any (λ other. bytes_eq id other) ids) && differ ids
+
 -- a lane that is handed in
 pub record Lane : Type 0 where
   pub name : List ℕ
   pub kind : List ℕ
   pub state : FencedLane
+
+-- each has a lane's name, and no two have the same
+pub record AreLanes (lanes : List Lane) : Type 0 where
+  pub named : IsTrue (list_all (λ l. is_lane_name l.name) lanes)
+  pub names_differ : differ (map (λ l. l.name) lanes) ≡ true
+
+-- there is one schema for each type, and one for the type of each lane
+abbrev pub is_described : List Schema → List ℕ → Bool
+is_described schemas kind = list_any (λ g. bytes_eq kind g.kind) schemas
+
+pub record AreSchemas (schemas : List Schema) (lanes : List Lane) : Type 0 where
+  pub kinds_differ : differ (map (λ g. g.kind) schemas) ≡ true
+  pub described : IsTrue (list_all (λ l. is_described schemas l.kind) lanes)
 
 abbrev pub lane_at : List ℕ → List Lane → Option Lane
 lane_at name lanes = find (λ l. bytes_eq name l.name) lanes
@@ -46,10 +66,6 @@ all_abandoned x = flat_map (λ s. s.1.abandoned) x.stacks
 -- the physical ids of held, made and leftover resources; what is listed without an id has none
 abbrev pub ids_of : World → List (List ℕ)
 ids_of x = map (λ r. r.physical) (all_resources x) ++ filter (λ id. not (bytes_eq id unknown_id)) (map (λ l. l.physical) (all_leftovers x))
-
-abbrev pub differ : List (List ℕ) → Bool
-differ [] = true
-differ (id ∷ ids) = not (list_any (λ other. bytes_eq id other) ids) && differ ids
 
 abbrev pub is_leftover : List ℕ → World → Bool
 is_leftover physical x = list_any (λ l. bytes_eq physical l.physical) (all_leftovers x)

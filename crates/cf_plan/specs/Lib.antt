@@ -7,3 +7,4 @@ pub mod Lanes
 pub mod Agrees
 pub mod Ends
 pub mod Life
+pub mod Promise

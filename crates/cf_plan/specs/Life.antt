@@ -1,14 +1,16 @@
 -- The life of an engine (this project's own): openings, appends that end whole or broken, calls, late effects, crashes. Each event says what it leaves.
-use Rattle.std.specs.Prelude.{◌≡◌, ◌≢◌, ℕ, ◌==◌, ◌<◌, ◌≤◌, ◌⊎◌, Bool, true, false, not, List, [], ◌∷◌, ◌++◌, Option, Some, None, IsTrue, is_none, find, filter, map, if◌then◌else◌}
+use Rattle.std.specs.Prelude.{◌≡◌, ◌≢◌, ℕ, ◌==◌, ◌<◌, ◌≤◌, ◌⊎◌, Bool, true, false, ◌&&◌, not, List, [], ◌∷◌, ◌++◌, Option, Some, None, IsTrue, is_none, find, filter, map, option_map, if◌then◌else◌}
 use Rattle.std.specs.List.{list_any}
+use Rattle.std.specs.Option.{option_or}
 use Rattle.std.specs.Str.{bytes_eq}
 use Rattle.cf_tree.specs.declared.request.Request.{Request}
 use Rattle.cf_tree.specs.declared.request.Answer.{Answer}
 use Rattle.cf_tree.specs.declared.request.Answer.TheVariants as answer
 use Rattle.cf_handler.specs.declared.settled.Settlement.{Settlement}
-use Rattle.cf_handler.specs.Lane.{live_of}
+use Rattle.cf_handler.specs.Lane.{live_of, settlement_of}
 use Rattle.cf_handler.specs.Move.{HasCause}
-use Rattle.cf_handler.specs.Fence.{FencedLane, CallMove, IsStale, LateMove, FenceAnswer, FenceMove}
+use Rattle.cf_handler.specs.Fence.{FencedLane, CallMove, IsStale, Left, left_by, late_by, LateMove, FenceAnswer, FenceMove, raised_to}
+use Rattle.cf_handler.specs.Answered.{answer_of}
 use Rattle.cf_entry.specs.declared.entry.Entry.{Entry}
 use Rattle.cf_entry.specs.declared.entry.Entry.TheVariants as entry
 use Rattle.cf_entry.specs.declared.entry.Reply.TheVariants as reply
@@ -16,12 +18,12 @@ use Rattle.cf_stacks.specs.declared.held.Pending.{Pending}
 use Rattle.cf_stacks.specs.declared.state.StackState.{StackState}
 use Rattle.cf_stacks.specs.declared.state.World.{World}
 use Rattle.cf_stacks.specs.Status.{Stage, stage_of}
-use Rattle.cf_stacks.specs.Words.{stack_at}
+use Rattle.cf_stacks.specs.Words.{stack_at, has_token}
 use Rattle.cf_stacks.specs.Fold.{empty_world, fold_of}
 use Rattle.cf_plan.specs.Forward.{In}
 use Rattle.cf_plan.specs.Follow.{MayFollow, MayRepeat, is_lane_out}
 use Rattle.cf_schema.specs.declared.described.Schema.{Schema}
-use Rattle.cf_plan.specs.Lanes.{Lane, lane_at}
+use Rattle.cf_plan.specs.Lanes.{Lane, AreLanes, AreSchemas, lane_at, open_at}
 
 -- what a call came to: an answer, or that its opening is past
 pub data CallEnd : Type 0 where
@@ -58,8 +60,8 @@ pub data Event : Type 0 where
   Repeat : (token : ℕ) → Event
   Settle : (token : ℕ) (entry : Entry) (end : End) → Event
   Park : (token : ℕ) → Event
-  Raise : (lane : List ℕ) (answer : FenceAnswer) (before after : ℕ) → Event
-  Act : (token : ℕ) (reply : CallEnd) → Event
+  Raise : (lane : List ℕ) (answer : FenceAnswer) (moved : Bool) (before after : ℕ) → Event
+  Act : (token : ℕ) (reply : CallEnd) (left : Left) → Event
   Late : (lane : List ℕ) (place : ℕ) (settlement : Settlement) → Event
   Close : Event
   Crash : Event
@@ -96,11 +98,16 @@ abbrev pub replied_to : ℕ → CallEnd → Life → Life
 replied_to token reply life = record life { leases = map (replying token reply) life.leases }
 
 -- the lane of a name, changed
-abbrev pub moving : List ℕ → FencedLane → Lane → Lane
-moving name state l = if bytes_eq name l.name then record l { state = state } else l
+abbrev pub changed : List ℕ → (FencedLane → FencedLane) → Lane → Lane
+changed name change l = if bytes_eq name l.name then record l { state = change l.state } else l
 
-abbrev pub with_lane : List ℕ → FencedLane → Life → Life
-with_lane name state life = record life { lanes = map (moving name state) life.lanes }
+abbrev pub changing : List ℕ → (FencedLane → FencedLane) → Life → Life
+changing name change life = record life { lanes = map (changed name change) life.lanes }
+
+-- what the holder of a lease leaves on its lane
+abbrev pub acted : Left → Option Lease → Life → Life
+acted left None life = life
+acted left (Some l) life = changing l.lane (left_by left (world_of life).epoch l.token l.request) life
 
 -- a granted Intent's call goes out, if its append was whole; every other entry hands out nothing
 abbrev pub granted : End → Entry → Life → Life
@@ -131,6 +138,14 @@ IsOutcomeOf lease (Answered answer.Fault before after) e = e ≡ entry.Outcome l
 IsOutcomeOf lease (Answered answer.NoMemory before after) e = ⊥
 IsOutcomeOf lease (Stale fence) e = ⊥
 
+-- the open call of a token of this stack, at this stage, may be made again
+pub record MayBeRepeated (schemas : List Schema) (life : Life) (token : ℕ) (name : List ℕ) (s : StackState) (stage : Stage) (p : Pending) : Type 0 where
+  pub stands : stack_at name (world_of life) ≡ Some s
+  pub at_stage : stage_of s.status ≡ Some stage
+  pub of_token : p.token ≡ token
+  pub at_home : is_lane_out (tokens_out life) (world_of life) p.lane ≡ false
+  pub may : MayRepeat schemas name (world_of life) (tokens_out life) s stage p
+
 -- how an opening names a lane
 abbrev pub named_lane : Lane → List ℕ × List ℕ
 named_lane l = (l.name, l.kind)
@@ -139,43 +154,93 @@ named_lane l = (l.name, l.kind)
 abbrev pub AreRaised : Life → Type 0
 AreRaised life = (l : Lane) → In l life.lanes → l.state.fence ≡ (world_of life).epoch
 
--- What a call does to its lane.
-abbrev pub ActMoves : Lane → FencedLane → ℕ → Lease → CallEnd → Type 0
-ActMoves lane after epoch lease (Answered a before counted) = HasCause before counted a × CallMove lane.name lane.state after epoch lease.token lease.request a
-ActMoves lane after epoch lease (Stale fence) = IsStale lane.state after epoch fence
+-- the open call of a token, as its lease has it
+abbrev pub lease_for : ℕ → Pending → Lease
+lease_for number p = record { number = number; token = p.token; lane = p.lane; request = p.request; reply = None }
 
--- An event may come where it does, and leaves the life after it.
-abbrev pub Happens : List Schema → Life → Event → Life → Type 0
-Happens schemas life (Opened epoch lanes end) after =
-    (life.is_open ≡ false) × MayFollow schemas (world_of life) [] (entry.Opened epoch lanes) × (lanes ≡ map named_lane life.lanes) × (after ≡ appended end (entry.Opened epoch lanes) (record life { leases = []; is_open = true; has_granted = false; is_stopped = false }))
-Happens schemas life (ChangeSet e end) after =
-    (life.is_open ≡ false) × IsChangeSet e × MayFollow schemas (world_of life) [] e × (after ≡ record (appended end e life) { is_stopped = false })
-Happens schemas life (Begin e end) after = IsTrue (is_running life) × AreRaised life × IsBegin e × MayFollow schemas (world_of life) (tokens_out life) e × (after ≡ appended end e life)
-Happens schemas life (Grant e end) after =
-    IsTrue (is_running life) × IsGranted e × MayFollow schemas (world_of life) (tokens_out life) e × (after ≡ granted end e (appended end e life))
-Happens schemas life (Repeat token) after =
-    IsTrue (is_running life) × (name : List ℕ) × (s : StackState) × (stage : Stage) × (p : Pending) × (stack_at name (world_of life) ≡ Some s) × (stage_of s.status ≡ Some stage) × (p.token ≡ token) × (is_lane_out (tokens_out life) (world_of life) p.lane ≡ false) × MayRepeat schemas name (world_of life) (tokens_out life) s stage p × (after ≡ with_lease (record { number = s.operation; token = token; lane = p.lane; request = p.request; reply = None }) life)
-Happens schemas life (Settle token e end) after =
-    IsTrue (is_running life) × (lease : Lease) × (reply : CallEnd) × (lease_at token life ≡ Some lease) × (lease.reply ≡ Some reply) × IsOutcomeOf lease reply e × MayFollow schemas (world_of life) (tokens_out life) e × (after ≡ without_lease token (appended end e life))
-Happens schemas life (Park token) after = IsTrue life.is_open × (lease : Lease) × (lease_at token life ≡ Some lease) × (after ≡ without_lease token life)
-Happens schemas life (Raise name a before counted) after =
-    IsTrue (is_running life) × (life.has_granted ≡ false) × (lane : Lane) × (state : FencedLane) × (lane_at name life.lanes ≡ Some lane) × (before ≤ counted) × FenceMove lane.state state (world_of life).epoch a before counted × (after ≡ with_lane name state life)
-Happens schemas life (Act token reply) after =
-    (lease : Lease) × (lane : Lane) × (state : FencedLane) × (lease_at token life ≡ Some lease) × (lease.reply ≡ None) × (lane_at lease.lane life.lanes ≡ Some lane) × ActMoves lane state (world_of life).epoch lease reply × (after ≡ replied_to token reply (with_lane lease.lane state life))
-Happens schemas life (Late name place settlement) after =
-    (lane : Lane) × (state : FencedLane) × (lane_at name life.lanes ≡ Some lane) × LateMove name lane.state state place settlement × (after ≡ with_lane name state life)
-Happens schemas life Close after = IsTrue life.is_open × (life.leases ≡ []) × (after ≡ record life { is_open = false; is_stopped = false })
-Happens schemas life Crash after = after ≡ record life { leases = []; is_open = false; has_granted = false; is_stopped = false }
+abbrev pub again_in : ℕ → StackState → Option Lease
+again_in token s = option_map (lease_for s.operation) (find (has_token token) s.tokens)
 
--- each event happens in its turn
-abbrev pub IsLife : List Schema → Life → List Event → Life → Type 0
-IsLife schemas life [] end = end ≡ life
-IsLife schemas life (e ∷ es) end = (next : Life) × Happens schemas life e next × IsLife schemas next es end
+abbrev pub first_again : ℕ → List (List ℕ × StackState) → Option Lease
+first_again token [] = None
+first_again token (s ∷ ss) = option_or (again_in token s.1) (first_again token ss)
+
+-- a repeat hands the call out again
+abbrev pub repeated : Option Lease → Life → Life
+repeated None life = life
+repeated (Some l) life = with_lease l life
+
+-- The life after an event.
+abbrev pub life_after : Life → Event → Life
+life_after life (Opened epoch lanes end) = appended end (entry.Opened epoch lanes) (record life { leases = []; is_open = true; has_granted = false; is_stopped = false })
+life_after life (ChangeSet e end) = record (appended end e life) { is_stopped = false }
+life_after life (Begin e end) = appended end e life
+life_after life (Grant e end) = granted end e (appended end e life)
+life_after life (Repeat token) = repeated (first_again token (world_of life).stacks) life
+life_after life (Settle token e end) = without_lease token (appended end e life)
+life_after life (Park token) = without_lease token life
+life_after life (Raise name a moved before counted) = if moved then changing name (λ l. raised_to l (world_of life).epoch) life else life
+life_after life (Act token reply left) = replied_to token reply (acted left (lease_at token life) life)
+life_after life (Late name place s) = changing name (late_by place s) life
+life_after life Close = record life { is_open = false; is_stopped = false }
+life_after life Crash = record life { leases = []; is_open = false; has_granted = false; is_stopped = false }
+
+-- A call that comes to this may leave its lane so.
+abbrev pub MayLeave : Lane → FencedLane → ℕ → Lease → CallEnd → Type 0
+MayLeave lane after epoch lease (Answered a before counted) = HasCause before counted a × CallMove lane.name lane.state after epoch lease.token lease.request a
+MayLeave lane after epoch lease (Stale fence) = IsStale lane.state after epoch fence
+
+-- the fence of a lane, moved or not
+abbrev pub fenced : Bool → ℕ → FencedLane → FencedLane
+fenced moved epoch lane = if moved then raised_to lane epoch else lane
+
+-- An event may come where it does.
+abbrev pub MayHappen : List Schema → Life → Event → Type 0
+MayHappen schemas life (Opened epoch lanes end) = (life.is_open ≡ false) × MayFollow schemas (world_of life) [] (entry.Opened epoch lanes) × (lanes ≡ map named_lane life.lanes)
+MayHappen schemas life (ChangeSet e end) = (life.is_open ≡ false) × IsChangeSet e × MayFollow schemas (world_of life) [] e
+MayHappen schemas life (Begin e end) = IsTrue (is_running life) × AreRaised life × IsBegin e × MayFollow schemas (world_of life) (tokens_out life) e
+MayHappen schemas life (Grant e end) = IsTrue (is_running life) × IsGranted e × MayFollow schemas (world_of life) (tokens_out life) e
+MayHappen schemas life (Repeat token) =
+    IsTrue (is_running life) × (name : List ℕ) × (s : StackState) × (stage : Stage) × (p : Pending) × MayBeRepeated schemas life token name s stage p
+MayHappen schemas life (Settle token e end) =
+    IsTrue (is_running life) × (lease : Lease) × (reply : CallEnd) × (lease_at token life ≡ Some lease) × (lease.reply ≡ Some reply) × IsOutcomeOf lease reply e × MayFollow schemas (world_of life) (tokens_out life) e
+MayHappen schemas life (Park token) = IsTrue life.is_open × (lease : Lease) × (lease_at token life ≡ Some lease)
+MayHappen schemas life (Raise name a moved before counted) =
+    IsTrue (is_running life) × (life.has_granted ≡ false) × (lane : Lane) × (lane_at name life.lanes ≡ Some lane) × (before ≤ counted) × FenceMove lane.state (fenced moved (world_of life).epoch lane.state) (world_of life).epoch a before counted
+MayHappen schemas life (Act token reply left) =
+    (lease : Lease) × (lane : Lane) × (lease_at token life ≡ Some lease) × (lease.reply ≡ None) × (lane_at lease.lane life.lanes ≡ Some lane) × MayLeave lane (left_by left (world_of life).epoch lease.token lease.request lane.state) (world_of life).epoch lease reply
+MayHappen schemas life (Late name place s) = (lane : Lane) × (lane_at name life.lanes ≡ Some lane) × LateMove name lane.state (late_by place s lane.state) place s
+MayHappen schemas life Close = IsTrue life.is_open × (life.leases ≡ [])
+MayHappen schemas life Crash = Unit {0}
+
+-- each event comes in its turn, and these lives are passed through
+abbrev pub IsLife : List Schema → Life → List Event → Type 0
+IsLife schemas life [] = Unit {0}
+IsLife schemas life (e ∷ es) = MayHappen schemas life e × IsLife schemas (life_after life e) es
+
+abbrev pub life_of : Life → List Event → Life
+life_of life [] = life
+life_of life (e ∷ es) = life_of (life_after life e) es
 
 -- a new journal, over lanes on which nothing was ever called or is live
-pub record IsStart (life : Life) : Type 0 where
+pub record IsStart (schemas : List Schema) (life : Life) : Type 0 where
   pub no_entries : life.entries ≡ []
   pub closed : life.is_open ≡ false
   pub no_leases : life.leases ≡ []
-  pub names_differ : (l m : Lane) → In l life.lanes → In m life.lanes → l.name ≡ m.name → l ≡ m
+  pub named : AreLanes life.lanes
+  pub described : AreSchemas schemas life.lanes
   pub untouched : (l : Lane) → In l life.lanes → (l.state.state.settled ≡ []) × (l.state.flying ≡ []) × (l.state.fence ≡ 0) × (live_of l.state.state ≡ [])
+
+-- no number stands twice
+abbrev pub are_apart : List ℕ → Bool
+are_apart [] = true
+are_apart (n ∷ ns) = not (list_any (λ m. n == m) ns) && are_apart ns
+
+-- A lease is of a call of its own: tokens differ, each is at most the last one, and is open with this call where it is open.
+pub record AreLeases (life : Life) : Type 0 where
+  pub tokens_apart : are_apart (tokens_out life) ≡ true
+  pub numbered : (l : Lease) → In l life.leases → l.token ≤ (world_of life).token
+  pub open_calls : (l : Lease) (p : Pending) → In l life.leases → open_at l.token (world_of life) ≡ Some p → (p.lane ≡ l.lane) × (p.request ≡ l.request)
+  -- the answer that a lease has, if it is final, is the settled answer of its token on its lane
+  pub answered :
+      (l : Lease) (a : Answer) (before after : ℕ) (s : Settlement) (lane : Lane) → In l life.leases → l.reply ≡ Some (Answered a before after) → answer_of s ≡ a → lane_at l.lane life.lanes ≡ Some lane → settlement_of l.token lane.state.state.settled ≡ Some s

@@ -431,14 +431,20 @@ abbrev pub over : (List ℕ → StackState → World → World) → Option (List
 over change None x = x
 over change (Some s) x = change s.0 s.1 x
 
-abbrev pub begun_on : ℕ → List ℕ → Begun → World → World
-begun_on number name k x = record x {
-  stacks = put name (heard (x.place + 1) (entry.Begin number name k) (known_stack name x) (beginning name number k (known_stack name x))) x.stacks;
+-- an operation begins on a stack
+abbrev pub begun_over : ℕ → List ℕ → Begun → StackState → World → World
+begun_over number name k s x = record x {
+  stacks = put name (heard (x.place + 1) (entry.Begin number name k) s (beginning name number k s)) x.stacks;
   operation = number;
   pins = pins_begun name k x.pins;
-  claims = claims_begun name (creating_number k number (known_stack name x)) (seen_in (known_stack name x).held) k x.claims;
+  claims = claims_begun name (creating_number k number s) (seen_in s.held) k x.claims;
   exports = exports_begun name k x.exports;
 }
+
+-- A create makes its stack; every other operation changes nothing where there is none.
+abbrev pub begun_on : ℕ → List ℕ → Begun → World → World
+begun_on number name (begin.Create source) x = begun_over number name (begin.Create source) (known_stack name x) x
+begun_on number name k x = option_map_or (λ s. begun_over number name k s x) (stack_at name x) (record x { operation = number })
 
 -- the world after one entry
 abbrev pub changed_by : World → Entry → World
