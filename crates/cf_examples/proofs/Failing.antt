@@ -1,0 +1,71 @@
+-- When a path is not done, and when the forward phase has not failed: what can be computed.
+use Rattle.std.proofs.Common.{◌≡◌, inl, inr, ℕ, Bool, true, false, Some, None, List, [], sym, ◌∙◌, ap, subst, true≢false}
+use Rattle.std.specs.Prelude.{is_some, not, option_map}
+use Rattle.std.specs.List.{list_all}
+use Rattle.cf_tree.specs.Datum.{Data}
+use Rattle.cf_schema.specs.declared.described.Schema.{Schema}
+use Rattle.cf_stacks.specs.declared.held.Held.{Held}
+use Rattle.cf_stacks.specs.declared.state.StackState.{StackState}
+use Rattle.cf_stacks.specs.declared.state.World.{World}
+use Rattle.cf_stacks.specs.Words.{current_at}
+use Rattle.cf_desired.specs.Flaw.{Flaw}
+use Rattle.cf_desired.specs.Plan.{Inner}
+use Rattle.cf_export.specs.declared.Export.{Export}
+use Rattle.cf_plan.specs.Forward.{IsDone, is_made, is_updated, is_right, Finding, Bad, Later, Known, evaluated_at, was_updated_at, paths_of, plan_now, first_failing, lost_exports, HasFailed, head}
+use Rattle.cf_examples.proofs.Lists.{each_passes}
+
+-- nothing is made or held at the path
+pub not_done_new : (p : List ℕ) (s : StackState) → current_at p s.made ≡ None → was_updated_at p s ≡ false → current_at p s.held ≡ None → ¬ IsDone s p
+not_done_new p s made updated held (is_made r e) = absurd (cc)
+not_done_new p s made updated held (is_updated e) = absurd (true≢false (sym e ∙ updated))
+not_done_new p s made updated held (is_right h i needs e sure right) = absurd (cc)
+
+-- what is held there has other properties: a test tells them apart
+pub not_done_other : (p : List ℕ) (s : StackState) (test : List (List ℕ × Data) → Bool) (h : Held) (k : List ℕ) (props : List (List ℕ × Data)) → current_at p s.made ≡ None → was_updated_at p s ≡ false → current_at p s.held ≡ Some h → evaluated_at p s ≡ Known k props → test h.props ≡ true → test props ≡ false → ¬ IsDone s p
+not_done_other p s test h k props made updated held now old new (is_made r e) = absurd (cc)
+not_done_other p s test h k props made updated held now old new (is_updated e) = absurd (true≢false (sym e ∙ updated))
+not_done_other p s test h k props made updated held now old new (is_right {k = k'} g i needs e sure right) =
+    let same : h ≡ g = cc in
+    let equal : Known k props ≡ Known k' g.props = sym now ∙ right in
+    let props_equal : props ≡ g.props = cc in
+    absurd (true≢false (sym old ∙ ap (λ (q : Held). test q.props) same ∙ ap test (sym props_equal) ∙ new))
+
+abbrev pub is_no_fault : Finding → Bool
+is_no_fault (Bad f) = false
+is_no_fault Later = true
+is_no_fault (Known k props) = true
+
+abbrev pub is_sound : StackState → List ℕ → Bool
+is_sound s p = is_no_fault (evaluated_at p s)
+
+abbrev pub is_sound_inner : Inner → Bool
+is_sound_inner i = not (is_some i.fault)
+
+-- nothing was refused, no template is at fault, no export is lost
+pub record IsSound (schemas : List Schema) (name : List ℕ) (x : World) (s : StackState) : Type 0 where
+  pub calls : first_failing schemas s ≡ None
+  pub paths : list_all (is_sound s) (paths_of s) ≡ true
+  pub inner : list_all is_sound_inner (plan_now s).nested ≡ true
+  pub flaws : (plan_now s).flaws ≡ []
+  pub exports : lost_exports name x s ≡ []
+
+pub not_failed : (schemas : List Schema) (name : List ℕ) (x : World) (s : StackState) → IsSound schemas name x s → ¬ HasFailed schemas name x s
+not_failed schemas name x s h failed = elim failed [
+  | inl f ↦ let e = f.1 in let g = h.calls in absurd (cc)
+  | inr r ↦ elim r [
+    | inl bad ↦ elim bad.2 [
+      | inl (ready, e) ↦ absurd (true≢false (sym (each_passes (is_sound s) (paths_of s) bad.0 h.paths ready.0) ∙ ap is_no_fault e))
+      | inr (i, there_is, path, needs, e) ↦ absurd (true≢false (sym (each_passes is_sound_inner (plan_now s).nested i h.inner there_is) ∙ ap (λ f. not (is_some f)) e))
+    ]
+    | inr q ↦ elim q [
+      | inl (fault, bad) ↦ absurd (no_head fault (subst (λ fs. head fs ≡ Some fault) h.flaws bad.1))
+      | inr (export, lost) ↦ absurd (no_lost export (subst (λ es. option_map (λ (f : Export). f.name) (head es) ≡ Some export) h.exports lost.1))
+    ]
+  ]
+]
+  where
+    no_head : (fault : Flaw) → head [] ≡ Some fault → ⊥
+    no_head fault e = cc
+
+    no_lost : (export : List ℕ) → option_map (λ (f : Export). f.name) (head []) ≡ Some export → ⊥
+    no_lost export e = cc

@@ -1,0 +1,8 @@
+use Rattle.cf_examples.proofs.FirstResource.{leaves, legal}
+use Rattle.cf_examples.proofs.the_first_resource.Goals as goal
+
+pub returns-clause-legal : goal.returns-clause-legal
+returns-clause-legal c = legal
+
+pub returns-clause-leaves : goal.returns-clause-leaves
+returns-clause-leaves c = leaves

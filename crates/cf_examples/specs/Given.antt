@@ -1,0 +1,55 @@
+-- What the worked runs share: the two shipped types, and the parts of their entries.
+use Rattle.std.specs.Prelude.{ℕ, List, [], ◌∷◌, codes, pos}
+use Rattle.cf_tree.specs.Datum.{Data, text, whole}
+use Rattle.cf_tree.specs.declared.source.Source.{Source}
+use Rattle.cf_schema.specs.declared.described.Schema.{Schema}
+
+-- a file, of which another path needs a new one
+abbrev pub file : List ℕ
+file = codes "Local::Files::File"
+
+abbrev pub file_schema : Schema
+file_schema = record {
+  kind = file;
+  props = codes "Content" ∷ codes "Id" ∷ codes "Length" ∷ codes "Path" ∷ [];
+  required = codes "Path" ∷ codes "Content" ∷ [];
+  create_only = codes "Path" ∷ [];
+  conditional = [];
+  read_only = codes "Id" ∷ codes "Length" ∷ [];
+  identifier = codes "Id" ∷ [];
+}
+
+-- a record, of which another key needs a new one, and another class may
+abbrev pub note : List ℕ
+note = codes "Local::Records::Record"
+
+abbrev pub note_schema : Schema
+note_schema = record {
+  kind = note;
+  props = codes "Class" ∷ codes "Id" ∷ codes "Key" ∷ codes "Length" ∷ codes "Value" ∷ [];
+  required = codes "Key" ∷ codes "Value" ∷ [];
+  create_only = codes "Key" ∷ [];
+  conditional = codes "Class" ∷ [];
+  read_only = codes "Id" ∷ codes "Length" ∷ [];
+  identifier = codes "Id" ∷ [];
+}
+
+abbrev pub schemas : List Schema
+schemas = file_schema ∷ note_schema ∷ []
+
+-- the properties of a file and of a record, and the attributes that their handlers give
+abbrev pub file_props : List ℕ → List ℕ → List (List ℕ × Data)
+file_props path content = (codes "Content", text content) ∷ (codes "Path", text path) ∷ []
+
+abbrev pub file_attrs : List ℕ → ℕ → List ℕ → List ℕ → List (List ℕ × Data)
+file_attrs id length path content = (codes "Content", text content) ∷ (codes "Id", text id) ∷ (codes "Length", whole (pos length)) ∷ (codes "Path", text path) ∷ []
+
+abbrev pub note_props : List ℕ → List ℕ → List (List ℕ × Data)
+note_props key value = (codes "Key", text key) ∷ (codes "Value", text value) ∷ []
+
+abbrev pub note_attrs : List ℕ → ℕ → List ℕ → List ℕ → List (List ℕ × Data)
+note_attrs id length key value = (codes "Id", text id) ∷ (codes "Key", text key) ∷ (codes "Length", whole (pos length)) ∷ (codes "Value", text value) ∷ []
+
+-- a source of one template
+abbrev pub source_of : List ℕ → List ℕ → List ℕ → Source
+source_of stack name bytes = record { root = name; texts = (name, bytes) ∷ []; given = []; imports = []; stack = stack; number = 0 }
