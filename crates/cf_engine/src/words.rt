@@ -165,6 +165,19 @@ mod tests {
     }
 
     #[test]
+    fn names_have_at_most_128_bytes(rt: HostRuntime) -> Result<(), Fail> {
+        let mut name = String::new(rt.alloc());
+        assert!(rt; !is_stack_name("") && !is_template_name(""));
+        for _ in 0..128 {
+            name.push('a')?;
+        }
+        assert!(rt; is_stack_name(name.as_str()) && is_template_name(name.as_str()));
+        name.push('a')?;
+        assert!(rt; !is_stack_name(name.as_str()) && !is_template_name(name.as_str()));
+        Ok(())
+    }
+
+    #[test]
     fn numbers_of_workers(rt: HostRuntime) -> Result<(), Fail> {
         let cases = [
             ("1", Some(1)),
