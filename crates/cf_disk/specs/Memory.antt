@@ -1,5 +1,5 @@
 -- What a disk in memory shows.
-use Rattle.std.specs.Prelude.{◌≡◌, ◌==◌, ◌+◌, ◌<◌, ◌≤◌, ◌&&◌, ℕ, Bool, not, nat_lt, nat_le, if◌then◌else◌, List, length, reverse, vec_len}
+use Rattle.std.specs.Prelude.{◌≡◌, ◌==◌, ◌+◌, ◌-◌, ◌^◌, ◌<◌, ◌≤◌, min, ◌&&◌, ℕ, Bool, not, nat_lt, nat_le, if◌then◌else◌, List, length, reverse, vec_len}
 use Rattle.std.specs.List.{list_any}
 use Rattle.cf_disk.specs.declared.memory.MemoryDisk.{MemoryDisk}
 use Rattle.cf_disk.specs.Calls.{left_after, left_after_since}
@@ -35,13 +35,14 @@ memory_reaches m = vec_len m.calls < m.most_calls
 abbrev pub memory_passes : MemoryDisk → ℕ → Bool
 memory_passes m n = nat_lt (vec_len m.calls) m.most_calls && (not (list_any (λ k. k == vec_len m.calls + 1) m.fails.items) && nat_le (vec_len m.log + n) m.most_written)
 
--- After a call that writes n bytes: it is counted unless so many are noted already, its bytes are counted if it succeeded, and what is
--- to fail stays the same.
+-- After a call that writes n bytes: it is counted unless so many are noted already, its bytes are counted if it succeeded and else a
+-- fault is, and what is to fail stays the same.
 pub record IsCounted (old : MemoryDisk) (passed : Bool) (n : ℕ) (new : MemoryDisk) : Type 0 where
   pub fails : new.fails.items ≡ old.fails.items
   pub most : (new.most_calls ≡ old.most_calls) × (new.most_written ≡ old.most_written)
   pub calls : vec_len new.calls ≡ (if nat_lt (vec_len old.calls) old.most_calls then vec_len old.calls + 1 else vec_len old.calls)
   pub written : vec_len new.log ≡ (if passed then vec_len old.log + n else vec_len old.log)
+  pub faults : new.faults ≡ (if passed then old.faults else min (old.faults + 1) (2 ^ 64 - 1))
 
 -- it holds these bytes, all of them synced, with this room, no call was made, and these are to fail
 pub record IsFresh (bytes : List ℕ) (room : ℕ) (fails : List ℕ) (calls written : ℕ) (m : MemoryDisk) : Type 0 where

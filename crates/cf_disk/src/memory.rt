@@ -151,7 +151,7 @@ impl MemoryDisk {
 
 fn fail(faults: &mut u64) -> DiskFail
     ensures later { faults.old ≤ faults.new }
-    ensures risen { HasRisen faults.old faults.new }
+    ensures counted { faults.new ≡ min (faults.old + 1) (2 ^ 64 - 1) }
 {
     *faults = faults.saturating_add(1);
     DiskFail

@@ -1,14 +1,10 @@
 -- The readers of entries fit their spellings.
-use Rattle.std.proofs.Common.{◌≡◌, ℕ, ◌<◌, ◌≤◌, Bool, true, cond, eqb, List, [], ◌∷◌, ◌++◌, length, Option, Some, None, refl, sym, ap, subst, length-append, arith, inl, inr}
-use Rattle.std.specs.Prelude.{IsTrue, IfSome, find, ◌==◌}
+use Rattle.std.proofs.Common.{◌≡◌, ℕ, ◌<◌, ◌≤◌, Bool, cond, eqb, List, [], ◌∷◌, ◌++◌, length, Option, Some, None, refl, sym, ap, subst, length-append, arith, inl, inr}
+use Rattle.std.specs.Prelude.{IsTrue, IfSome, ◌==◌}
 use Rattle.std.proofs.lemmas.Bool.{eqb-true}
-use Rattle.cf_tree.specs.Codes.{number_of, code_of, all_codes}
+use Rattle.cf_tree.specs.Codes.{number_of, code_of}
 use Rattle.cf_tree.specs.Datum.{Data, members_of}
 use Rattle.cf_tree.specs.Keys.{ascends}
-use Rattle.cf_tree.specs.declared.code.Code.{Code}
-use Rattle.cf_tree.specs.declared.code.Code.TheVariants as code
-use Rattle.cf_tree.specs.declared.row.Detail.{Detail}
-use Rattle.cf_tree.specs.declared.row.Row.{Row}
 use Rattle.cf_tree.specs.declared.request.Request.{Request}
 use Rattle.cf_tree.specs.declared.request.Request.TheVariants as request
 use Rattle.cf_tree.specs.declared.source.Source.{Source}
@@ -21,7 +17,7 @@ use Rattle.cf_entry.specs.declared.status.Status.TheVariants as status
 use Rattle.cf_entry.specs.declared.turn.Cause.{Cause}
 use Rattle.cf_entry.specs.declared.turn.Cause.TheVariants as cause
 use Rattle.cf_entry.specs.declared.turn.Reason.{Reason}
-use Rattle.cf_entry.specs.Numbers.{reason_number, reason_of, action_number, attribute_number, recreation_number, evaluation_number, replacement_number}
+use Rattle.cf_entry.specs.Numbers.{reason_number, reason_of, action_number, attribute_number, recreation_number, evaluation_number, replacement_number, is_named}
 use Rattle.cf_entry.specs.Status.{status_number, status_numbered, all_statuses, is_end}
 use Rattle.cf_entry.specs.Bytes.{truth_byte, text_bytes, list_bytes, option_bytes, pair_bytes, IsText, IsPair, IsTemplate, AreAll}
 use Rattle.cf_entry.specs.Value.{dict_bytes, IsDict}
@@ -258,8 +254,8 @@ codes_cause = record { takes = cause_takes; again = cause_again }
 codes_detail : Codes detail_bytes IsDetail detail_at
 unfolding detail_at
 codes_detail = codes_pick _ _ _ detail_of detail_bytes IsDetail (codes_then _ _ _ _ _ _ codes_attribute (codes_then _ _ _ _ _ _ codes_text (codes_then _ _ _ _ _ _ codes_recreation codes_evaluation)))
-    (λ p d fits e. subst (λ z. (((attribute_number p.0 ∷ []) ++ (text_bytes p.1.0 ++ ((recreation_number p.1.1.0 ∷ []) ++ (evaluation_number p.1.1.1 ∷ [])))) ≡ detail_bytes z) × IsDetail z) (some_is (record { attribute = p.0; name = p.1.0; recreation = p.1.1.0; evaluation = p.1.1.1 }) d e) (refl, fits.1.0))
-    (λ d h. ((d.attribute, (d.name, (d.recreation, d.evaluation))), (tt, (h, (tt, tt))), refl, refl))
+    (λ p d fits e. let t = test_some (is_named p.0 p.1.0) (record { attribute = p.0; name = p.1.0; recreation = p.1.1.0; evaluation = p.1.1.1 }) d e in subst (λ z. (((attribute_number p.0 ∷ []) ++ (text_bytes p.1.0 ++ ((recreation_number p.1.1.0 ∷ []) ++ (evaluation_number p.1.1.1 ∷ [])))) ≡ detail_bytes z) × IsDetail z) t.1 (refl, (fits.1.0, t.0)))
+    (λ d h. ((d.attribute, (d.name, (d.recreation, d.evaluation))), (tt, (h.0, (tt, tt))), ap (λ (b : Bool). cond b (Some d) None) h.1, refl))
 
 pub codes_row : Codes row_bytes IsRow row_at
 unfolding row_at

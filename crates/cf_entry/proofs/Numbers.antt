@@ -1,5 +1,5 @@
 -- The readers of what one byte tells fit its numbers.
-use Rattle.std.proofs.Common.{◌≡◌, ℕ, ◌<◌, Bool, true, cond, eqb, List, [], ◌∷◌, ◌++◌, Option, Some, None, refl, sym, ap, subst, ◌∙◌, arith, inl, inr}
+use Rattle.std.proofs.Common.{◌≡◌, ℕ, ◌<◌, Bool, true, eqb, List, [], ◌∷◌, Option, Some, None, refl, sym, ap, subst, ◌∙◌, arith, inl, inr}
 use Rattle.std.specs.Prelude.{find, ◌==◌, option_map}
 use Rattle.std.proofs.lemmas.Bool.{eqb-true}
 use Rattle.cf_tree.specs.Codes.{number_of, code_of, all_codes}

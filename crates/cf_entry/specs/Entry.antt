@@ -1,5 +1,6 @@
 -- The one spelling of each entry of the journal (this project's own format): a byte for the kind of entry, and its fields.
 use Rattle.std.specs.Prelude.{◌≡◌, ℕ, Bool, true, ◌&&◌, IsTrue, IfSome, List, [], ◌∷◌, ◌++◌, Option, Some, None}
+use Rattle.std.specs.List.{AllByRecursion}
 use Rattle.cf_tree.specs.Codes.{number_of}
 use Rattle.cf_tree.specs.declared.request.Request.{Request}
 use Rattle.cf_tree.specs.declared.request.Request.TheVariants as request
@@ -15,7 +16,7 @@ use Rattle.cf_entry.specs.declared.entry.Reply.{Reply}
 use Rattle.cf_entry.specs.declared.entry.Reply.TheVariants as reply
 use Rattle.cf_entry.specs.declared.turn.Cause.{Cause}
 use Rattle.cf_entry.specs.declared.turn.Cause.TheVariants as cause
-use Rattle.cf_entry.specs.Numbers.{why_number, phase_number, action_number, attribute_number, recreation_number, evaluation_number, replacement_number, reason_number, has_cause}
+use Rattle.cf_entry.specs.Numbers.{why_number, phase_number, action_number, attribute_number, recreation_number, evaluation_number, replacement_number, reason_number, has_cause, is_named}
 use Rattle.cf_entry.specs.Status.{status_number, is_end}
 use Rattle.cf_entry.specs.Bytes.{truth_byte, eight_bytes, text_bytes, list_bytes, option_bytes, pair_bytes, IsTemplate, IsText, IsEight, AreAll, IsPair}
 use Rattle.cf_entry.specs.Value.{dict_bytes, IsDict}
@@ -107,12 +108,22 @@ IsTied stack (begun.Update source) = IsFor stack source
 IsTied stack (begun.Delete paths) = IsTrue (texts_ascend paths)
 IsTied stack (begun.Continue paths) = IsTrue (texts_ascend paths)
 
--- what the types leave open: a source is for the stack of its entry, paths ascend, a turn back has a cause and no other phase has one, and an operation ends in one of the statuses for it
+-- a detail of a policy has no name
+abbrev pub IsNamed : Detail → Type 0
+IsNamed d = IsTrue (is_named d.attribute d.name)
+
+abbrev pub HasNamed : Row → Type 0
+HasNamed r = AllByRecursion IsNamed r.details
+
+abbrev pub AreNamed : List Row → Type 0
+AreNamed rows = AllByRecursion HasNamed rows
+
+-- what the types leave open: a source is for the stack of its entry, paths ascend, a turn back has a cause and no other phase has one, no detail of a policy has a name, and an operation ends in one of the statuses for it
 abbrev pub IsProper : Entry → Type 0
 IsProper (entry.Begin number stack kind) = IsTied stack kind
 IsProper (entry.Phase number phase cause) = IsTrue (has_cause phase cause)
 IsProper (entry.Done number status failed) = IsTrue (is_end status)
-IsProper (entry.ChangeSet number stack source rows outputs) = IsFor stack source
+IsProper (entry.ChangeSet number stack source rows outputs) = IsFor stack source × AreNamed rows
 IsProper _ = Unit {0}
 
 -- what can stand in a journal: the parts fit their fields, texts are texts, keys ascend
@@ -141,7 +152,7 @@ IsCause (cause.Plan fault) = IsText fault
 IsCause (cause.Export name) = IsText name
 
 abbrev pub IsDetail : Detail → Type 0
-IsDetail d = IsText d.name
+IsDetail d = IsText d.name × IsNamed d
 
 abbrev pub IsRow : Row → Type 0
 IsRow r = IsText r.path × IsText r.kind × AreAll IsDetail r.details

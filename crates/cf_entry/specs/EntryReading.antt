@@ -22,7 +22,7 @@ use Rattle.cf_entry.specs.declared.status.Status.{Status}
 use Rattle.cf_entry.specs.declared.turn.Cause.{Cause}
 use Rattle.cf_entry.specs.declared.turn.Cause.TheVariants as cause
 use Rattle.cf_entry.specs.declared.turn.Phase.{Phase}
-use Rattle.cf_entry.specs.Numbers.{why_of, phase_of, action_of, attribute_of, recreation_of, evaluation_of, replacement_of, reason_of, has_cause}
+use Rattle.cf_entry.specs.Numbers.{why_of, phase_of, action_of, attribute_of, recreation_of, evaluation_of, replacement_of, reason_of, has_cause, is_named}
 use Rattle.cf_entry.specs.Status.{status_numbered, is_end}
 use Rattle.cf_entry.specs.Entry.{texts_ascend}
 use Rattle.cf_entry.specs.Reading.{◌>>=◌, then_at, pick_at, byte_at, eight_at, text_at, list_at, option_at, pair_at, template_at, ordered_of, truth_of, dict_at}
@@ -69,7 +69,7 @@ cause_at bytes = byte_at bytes >>= λ kind.
     else None
 
 abbrev pub detail_of : Attribute × (List ℕ × (Recreation × Evaluation)) → Option Detail
-detail_of p = Some (record { attribute = p.0; name = p.1.0; recreation = p.1.1.0; evaluation = p.1.1.1 })
+detail_of p = if is_named p.0 p.1.0 then Some (record { attribute = p.0; name = p.1.0; recreation = p.1.1.0; evaluation = p.1.1.1 }) else None
 
 unfoldable pub detail_at : List ℕ → Option (Detail × List ℕ)
 detail_at bytes = pick_at detail_of (then_at (pick_at attribute_of byte_at) (then_at text_at (then_at (pick_at recreation_of byte_at) (pick_at evaluation_of byte_at)))) bytes

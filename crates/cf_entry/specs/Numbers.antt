@@ -1,5 +1,5 @@
 -- The numbers of what entries tell by one byte (this project's own).
-use Rattle.std.specs.Prelude.{ℕ, ◌==◌, if◌then◌else◌, Bool, true, false, List, [], ◌∷◌, Option, Some, None, find, option_map}
+use Rattle.std.specs.Prelude.{ℕ, ◌==◌, if◌then◌else◌, Bool, true, false, List, [], ◌∷◌, length, Option, Some, None, find, option_map}
 use Rattle.cf_tree.specs.Codes.{number_of, code_of}
 use Rattle.cf_tree.specs.declared.row.Action.{Action}
 use Rattle.cf_tree.specs.declared.row.Action.TheVariants as action
@@ -58,6 +58,12 @@ attribute_number attribute.UpdateReplacePolicy = 3
 
 abbrev pub attribute_of : ℕ → Option Attribute
 attribute_of = numbered attribute_number (attribute.Properties ∷ attribute.DeletionPolicy ∷ attribute.UpdateReplacePolicy ∷ [])
+
+-- whether a detail may have this name: a property has one, and a policy has none
+abbrev pub is_named : Attribute → List ℕ → Bool
+is_named attribute.Properties name = true
+is_named attribute.DeletionPolicy name = length name == 0
+is_named attribute.UpdateReplacePolicy name = length name == 0
 
 -- whether a change replaces the resource
 abbrev pub recreation_number : Recreation → ℕ

@@ -41,6 +41,10 @@ const BACK: &[u8; 18] = b"\x06\0\0\0\0\0\0\0\x01\x03\x01\x01\0\0\0\x01A\x03";
 const CHANGE_SET: &[u8; 63] =
     b"\x08\0\0\0\0\0\0\0\x01\0\0\0\x04site\0\0\0\0\0\0\0\0\0\0\0\0\0\0\0\0\0\0\0\x01\x02\0\0\0\x01A\0\0\0\x01T\x02\x01\0\0\0\x01\x01\0\0\0\x01V\x01\x02\x01";
 
+// The same, but for one detail: its deletion policy changes.
+const POLICY: &[u8; 62] =
+    b"\x08\0\0\0\0\0\0\0\x01\0\0\0\x04site\0\0\0\0\0\0\0\0\0\0\0\0\0\0\0\0\0\0\0\x01\x02\0\0\0\x01A\0\0\0\x01T\x02\0\0\0\0\x01\x02\0\0\0\0\x01\x01\0";
+
 /// Whether the spelling of an entry is these bytes.
 fn is_written(alloc: Global, entry: &Entry, bytes: &[u8]) -> Result<bool, Fail> {
     let size = entry_size(entry);
@@ -199,6 +203,16 @@ fn an_end(rt: HostRuntime) -> Result<(), Fail> {
 #[test]
 fn a_change_set(rt: HostRuntime) -> Result<(), Fail> {
     assert!(rt; is_kept(rt.alloc(), CHANGE_SET)?);
+    Ok(())
+}
+
+#[test]
+fn a_policy_has_no_name(rt: HostRuntime) -> Result<(), Fail> {
+    assert!(rt; is_kept(rt.alloc(), POLICY)?);
+    // The deletion policy in the place of the property V.
+    let mut bytes = *CHANGE_SET;
+    bytes[54] = 2;
+    assert!(rt; is_no_entry(rt.alloc(), &bytes)?);
     Ok(())
 }
 

@@ -3,7 +3,7 @@ ghost use Rattle.std.specs.Prelude.{◌≡◌, ◌+◌, ◌<◌, ◌≤◌, ◌^
 ghost use Rattle.cf_entry.specs.Bytes.{HasRoom, Adds, AreAll, IsText};
 ghost use Rattle.cf_entry.specs.Numbers.{has_cause};
 ghost use Rattle.cf_entry.specs.Status.{is_end};
-ghost use Rattle.cf_entry.specs.Entry.{spelling_of, begun_bytes, parts_bytes, source_bytes, request_bytes, reply_bytes, IsEntry, IsProper, IsFor, IsTied, IsBegun, IsSource, IsRequest, IsReply};
+ghost use Rattle.cf_entry.specs.Entry.{spelling_of, begun_bytes, parts_bytes, source_bytes, request_bytes, reply_bytes, IsEntry, IsProper, IsFor, AreNamed, IsTied, IsBegun, IsSource, IsRequest, IsReply};
 
 use crate::entry::{Begun, Entry, LaneNames, Reply};
 use crate::put::{
@@ -18,8 +18,9 @@ use cf_tree::{Names, Request, Rows, Source, Txt};
 ///
 /// The vector has the room already, and the spelling has fewer than 2^32 bytes. What is written is
 /// read back by `read_entry`, if the entry is a proper one: the source of an operation tells that
-/// operation's stack and the number 0, paths ascend, and an operation ends in one of the statuses
-/// in which operations end.
+/// operation's stack and the number 0, paths ascend, a turn has a cause exactly where it goes back,
+/// an operation ends in one of the statuses in which operations end, and no detail of a policy has
+/// a name.
 pub fn write_entry(entry: &Entry, to: &mut Vec<u8>)
     requires small { length (spelling_of entry.now) < 2 ^ 32 }
     requires room { vec_len to.old + length (spelling_of entry.now) ≤ vec_capacity to.old }
@@ -225,7 +226,7 @@ fn put_change_set(
     requires small { length (spelling_of (Entry.ChangeSet number stack.now source.now rows.now outputs)) < 2 ^ 32 }
     requires room { HasRoom to.old (spelling_of (Entry.ChangeSet number stack.now source.now rows.now outputs)) }
     ensures added { Adds to.old to.new (spelling_of (Entry.ChangeSet number stack.now source.now rows.now outputs)) }
-    ensures fits { IsFor stack.now source.now → IsEntry (Entry.ChangeSet number stack.now source.now rows.now outputs) }
+    ensures fits { IsFor stack.now source.now × AreNamed rows.now → IsEntry (Entry.ChangeSet number stack.now source.now rows.now outputs) }
 {
     put_byte(to, 8);
     put_eight(to, number);

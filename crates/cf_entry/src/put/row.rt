@@ -1,7 +1,8 @@
 //! How the rows of change sets are written.
 ghost use Rattle.std.specs.Prelude.{◌≡◌, ◌<◌, ◌^◌, length};
 ghost use Rattle.cf_entry.specs.Bytes.{list_bytes, AreAll, HasRoom, Adds};
-ghost use Rattle.cf_entry.specs.Entry.{row_bytes, detail_bytes, IsRow, IsDetail};
+ghost use Rattle.std.specs.List.{AllByRecursion};
+ghost use Rattle.cf_entry.specs.Entry.{row_bytes, detail_bytes, IsNamed, HasNamed, IsRow, IsDetail};
 ghost use Rattle.cf_entry.specs.Numbers.{action_number, attribute_number, recreation_number, evaluation_number, replacement_number};
 
 use crate::put::{put_byte, put_four, put_text, put_truth};
@@ -13,7 +14,7 @@ pub fn put_rows(to: &mut Vec<u8>, rows: &[Row])
     requires small { length (list_bytes row_bytes rows.now) < 2 ^ 32 }
     requires room { HasRoom to.old (list_bytes row_bytes rows.now) }
     ensures added { Adds to.old to.new (list_bytes row_bytes rows.now) }
-    ensures fits { AreAll IsRow rows.now }
+    ensures fits { AllByRecursion HasNamed rows.now → AreAll IsRow rows.now }
 {
     put_four(to, rows.len() as u32);
     for row in rows.iter() {
@@ -25,7 +26,7 @@ fn put_row(to: &mut Vec<u8>, row: &Row)
     requires small { length (row_bytes row.now) < 2 ^ 32 }
     requires room { HasRoom to.old (row_bytes row.now) }
     ensures added { Adds to.old to.new (row_bytes row.now) }
-    ensures fits { IsRow row.now }
+    ensures fits { HasNamed row.now → IsRow row.now }
 {
     put_byte(to, action_number(row.action));
     put_text(to, &row.path);
@@ -41,7 +42,7 @@ fn put_details(to: &mut Vec<u8>, details: &[Detail])
     requires small { length (list_bytes detail_bytes details.now) < 2 ^ 32 }
     requires room { HasRoom to.old (list_bytes detail_bytes details.now) }
     ensures added { Adds to.old to.new (list_bytes detail_bytes details.now) }
-    ensures fits { AreAll IsDetail details.now }
+    ensures fits { AllByRecursion IsNamed details.now → AreAll IsDetail details.now }
 {
     put_four(to, details.len() as u32);
     for detail in details.iter() {
@@ -53,7 +54,7 @@ fn put_detail(to: &mut Vec<u8>, detail: &Detail)
     requires small { length (detail_bytes detail.now) < 2 ^ 32 }
     requires room { HasRoom to.old (detail_bytes detail.now) }
     ensures added { Adds to.old to.new (detail_bytes detail.now) }
-    ensures fits { IsDetail detail.now }
+    ensures fits { IsNamed detail.now → IsDetail detail.now }
 {
     put_byte(to, attribute_number(detail.attribute));
     put_text(to, &detail.name);

@@ -1,12 +1,12 @@
 //! How the rows of change sets are read.
 ghost use Rattle.std.specs.Prelude.{◌≡◌};
 ghost use Rattle.cf_entry.specs.Reading.{Gives, pick_at, byte_at};
-ghost use Rattle.cf_entry.specs.Numbers.{action_of, attribute_of, recreation_of, evaluation_of, replacement_of};
+ghost use Rattle.cf_entry.specs.Numbers.{action_of, attribute_of, recreation_of, evaluation_of, replacement_of, is_named};
 ghost use Rattle.cf_entry.specs.EntryReading.{detail_at, row_at};
 
 use crate::take::{Member, take_byte, take_list, take_text, take_truth};
 use crate::unread::Unread;
-use cf_tree::{Action, Attribute, Detail, Evaluation, Listing, Recreation, Replacement, Row};
+use cf_tree::{Action, Attribute, Detail, Evaluation, Listing, Recreation, Replacement, Row, Txt};
 use std::alloc::Global;
 
 impl Member for Row {
@@ -54,6 +54,9 @@ fn take_detail(alloc: Global, bytes: &[u8]) -> Result<(Detail, &[u8]), Unread>
     let (name, rest) = take_text(alloc, rest)?;
     let (recreation, rest) = take_recreation(rest)?;
     let (evaluation, rest) = take_evaluation(rest)?;
+    if !is_named(attribute, &name) {
+        return Err(Unread::NoEntry);
+    }
     let detail = Detail {
         attribute,
         name,
@@ -61,6 +64,16 @@ fn take_detail(alloc: Global, bytes: &[u8]) -> Result<(Detail, &[u8]), Unread>
         evaluation,
     };
     Ok((detail, rest))
+}
+
+// Whether a detail may have this name: a policy has none.
+fn is_named(attribute: Attribute, name: &Txt) -> bool
+    ensures { result ≡ is_named attribute name.now }
+{
+    match attribute {
+        Attribute::Properties => true,
+        Attribute::DeletionPolicy | Attribute::UpdateReplacePolicy => name.as_str().is_empty(),
+    }
 }
 
 fn take_action(bytes: &[u8]) -> Result<(Action, &[u8]), Unread>
