@@ -1,8 +1,11 @@
 -- When a path is not done, and when the forward phase has not failed: what can be computed.
-use Rattle.std.proofs.Common.{◌≡◌, inl, inr, ℕ, Bool, true, false, Some, None, List, [], sym, ◌∙◌, ap, subst, true≢false}
+use Rattle.std.proofs.Common.{◌≡◌, inl, inr, ℕ, Bool, true, false, Some, None, List, [], refl, sym, ◌∙◌, ap, subst, true≢false, ◌||◌}
 use Rattle.std.specs.Prelude.{is_some, not, option_map}
 use Rattle.std.specs.List.{list_all}
-use Rattle.cf_tree.specs.Datum.{Data}
+use Rattle.std.specs.Option.{option_map_or}
+use Rattle.cf_tree.specs.Datum.{Data, text}
+use Rattle.cf_tree.specs.Same.{same_data}
+use Rattle.cf_tree.specs.Keys.{bytes_lt, value_at}
 use Rattle.cf_schema.specs.declared.described.Schema.{Schema}
 use Rattle.cf_stacks.specs.declared.held.Held.{Held}
 use Rattle.cf_stacks.specs.declared.state.StackState.{StackState}
@@ -11,8 +14,12 @@ use Rattle.cf_stacks.specs.Words.{current_at}
 use Rattle.cf_desired.specs.Flaw.{Flaw}
 use Rattle.cf_desired.specs.Plan.{Inner}
 use Rattle.cf_export.specs.declared.Export.{Export}
-use Rattle.cf_plan.specs.Forward.{IsDone, is_made, is_updated, is_right, Finding, Bad, Later, Known, evaluated_at, was_updated_at, paths_of, plan_now, first_failing, lost_exports, HasFailed, head}
+use Rattle.cf_plan.specs.Forward.{IsDone, is_made, is_updated, is_right, Finding, Bad, Later, Known, evaluated_at, was_updated_at, paths_of, plan_now, first_failing, lost_exports, HasFailed, head, IsBadPath, IsBadOutput}
 use Rattle.cf_examples.proofs.Lists.{each_passes}
+
+-- the text of a property
+abbrev pub same_at : List ℕ → List ℕ → List (List ℕ × Data) → Bool
+same_at name content props = option_map_or (λ d. same_data d (text content)) (value_at name props) false
 
 -- nothing is made or held at the path
 pub not_done_new : (p : List ℕ) (s : StackState) → current_at p s.made ≡ None → was_updated_at p s ≡ false → current_at p s.held ≡ None → ¬ IsDone s p
@@ -69,3 +76,34 @@ not_failed schemas name x s h failed = elim failed [
 
     no_lost : (export : List ℕ) → option_map (λ (f : Export). f.name) (head []) ≡ Some export → ⊥
     no_lost export e = cc
+
+-- the first path at fault in byte order: those before it are not at fault
+abbrev pub is_sound_before : StackState → List ℕ → List ℕ → Bool
+is_sound_before s p q = is_sound s q || not (bytes_lt q p)
+
+pub only_bad : (s : StackState) (p : List ℕ) → list_all (is_sound_before s p) (paths_of s) ≡ true → list_all is_sound_inner (plan_now s).nested ≡ true → (q : List ℕ) (other : Flaw) → IsBadPath s q other → bytes_lt q p ≡ false
+only_bad s p all inner q other bad = elim bad [
+  | inl (ready, e) ↦ not_before (is_sound s q) (bytes_lt q p) (ap is_no_fault e) (each_passes (is_sound_before s p) (paths_of s) q all ready.0)
+  | inr (i, there_is, path, needs, e) ↦ absurd (true≢false (sym (each_passes is_sound_inner (plan_now s).nested i inner there_is) ∙ ap (λ f. not (is_some f)) e))
+]
+  where
+    not_before : (a b : Bool) → a ≡ false → (a || not b) ≡ true → b ≡ false
+    not_before true b e f = absurd (true≢false e)
+    not_before false false e f = refl
+    not_before false true e f = sym f
+
+-- no path is at fault
+pub no_bad : (s : StackState) → list_all (is_sound s) (paths_of s) ≡ true → list_all is_sound_inner (plan_now s).nested ≡ true → (q : List ℕ) (other : Flaw) → IsBadPath s q other → ⊥
+no_bad s all inner q other bad = elim bad [
+  | inl (ready, e) ↦ true≢false (sym (each_passes (is_sound s) (paths_of s) q all ready.0) ∙ ap is_no_fault e)
+  | inr (i, there_is, path, needs, e) ↦ true≢false (sym (each_passes is_sound_inner (plan_now s).nested i inner there_is) ∙ ap (λ f. not (is_some f)) e)
+]
+
+pub no_bad_output : (s : StackState) → (plan_now s).flaws ≡ [] → (other : Flaw) → IsBadOutput s other → ⊥
+no_bad_output s none other bad = no_head (subst (λ fs. head fs ≡ Some other) none bad.1)
+  where
+    no_head : head {A = Flaw} [] ≡ Some other → ⊥
+    no_head e = cc
+
+pub known_props : {k l : List ℕ} {a b : List (List ℕ × Data)} → Known k a ≡ Known l b → a ≡ b
+known_props e = cc

@@ -1,5 +1,5 @@
 -- The first resource.
-use Rattle.std.proofs.Common.{refl, [], ◌∷◌, inl, lit≤}
+use Rattle.std.proofs.Common.{refl, [], ◌∷◌, inl, sym, lit≤, true≢false}
 use Rattle.std.specs.Prelude.{codes}
 use Rattle.cf_stacks.specs.declared.state.World.{World}
 use Rattle.cf_stacks.specs.declared.state.StackState.{StackState}
@@ -8,11 +8,12 @@ use Rattle.cf_stacks.specs.Status.{Forward}
 use Rattle.cf_plan.specs.Forward.{here, HasFailed, IsReady, AllDone, IsDone, is_made}
 use Rattle.cf_plan.specs.Follow.{MayFollow}
 use Rattle.cf_examples.specs.Given.{schemas}
-use Rattle.cf_examples.specs.FirstResource.{opened, begun, intended, answered, done, web, Leaves, Legal}
+use Rattle.cf_examples.specs.FirstResource.{opened, begun, intended, answered, done, web, Leaves, Legal, broken, again, RetriedUnderAnotherToken}
 use Rattle.cf_examples.proofs.Computing.{computing}
 use Rattle.cf_examples.proofs.Lists.{in_none, only}
 use Rattle.cf_examples.proofs.Failing.{not_failed, not_done_new}
 use Rattle.cf_examples.proofs.Ending.{end_of_create}
+use Rattle.cf_examples.proofs.Refusing.{follows_on}
 use Rattle.cf_examples.proofs.Beginning.{no_imports}
 
 pub leaves : Leaves
@@ -98,3 +99,7 @@ ends = (codes "app", app_at world_4, Forward, refl, refl, (refl, end_of_create s
 pub legal : Legal
 unfolding computing
 legal = (([], opens), (([], begins), (([], intends), ((1 ∷ [], answers), (([], ends), tt)))))
+
+pub another_token : RetriedUnderAnotherToken
+unfolding computing
+another_token = λ out may. (let m = follows_on schemas 1 (world_after world_3 broken) out again (codes "app", app_at (world_after world_3 broken)) Forward refl refl may in true≢false (sym m.free))

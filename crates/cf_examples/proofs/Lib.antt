@@ -5,3 +5,16 @@ pub mod Ending
 pub mod Refusing
 pub mod Beginning
 pub mod FirstResource
+pub mod Replacement
+pub mod IndexOutside
+pub mod TakenName
+pub mod FaultRepeated
+pub mod RolledBack
+pub mod RollbackFailed
+pub mod Blamed
+pub mod NotUpdatable
+pub mod LateEffect
+pub mod Skipped
+pub mod Retained
+pub mod Nested
+pub mod Pinned

@@ -1,7 +1,9 @@
 -- Members of lists.
-use Rattle.std.proofs.Common.{◌≡◌, ◌⊎◌, inl, inr, Bool, true, false, List, [], ◌∷◌, refl, sym, subst, true≢false, ◌&&◌, ◌||◌}
+use Rattle.std.proofs.Common.{◌≡◌, ◌⊎◌, inl, inr, Bool, true, false, Some, List, [], ◌∷◌, refl, sym, ◌∙◌, ap, subst, true≢false, ◌&&◌, ◌||◌}
+use Rattle.std.specs.Prelude.{find, flat_map, map, ◌++◌, if◌then◌else◌}
 use Rattle.std.specs.List.{list_all, list_any}
 use Rattle.cf_plan.specs.Forward.{In, here, there}
+use Rattle.cf_plan.specs.Follow.{is_none_of}
 
 -- at the head or behind it
 pub in_cons : {A : Type 0} {x y : A} {ys : List A} → In x (y ∷ ys) → (y ≡ x) ⊎ In x ys
@@ -38,3 +40,41 @@ none_passes test (y ∷ ys) x all i = elim (in_cons i) [ inl e ↦ subst (λ z. 
     or_false : (a b : Bool) → (a || b) ≡ false → (a ≡ false) × (b ≡ false)
     or_false true b e = absurd (true≢false e)
     or_false false b e = (refl, e)
+
+-- a list with something in it
+pub not_empty : {A : Type 0} (xs : List A) → is_none_of xs ≡ false → xs ≡ [] → ⊥
+not_empty xs e none = true≢false (sym (ap is_none_of none) ∙ e)
+
+-- what is found passes, and is one of the list
+pub found_passes : {A : Type 0} (test : A → Bool) (xs : List A) (x : A) → find test xs ≡ Some x → (test x ≡ true) × In x xs
+found_passes test [] x e = absurd (cc)
+found_passes {A} test (y ∷ ys) x e = by_test (λ f. found_passes test ys x f) (test y) refl e
+  where
+    by_test : (find test ys ≡ Some x → (test x ≡ true) × In x ys) → (t : Bool) → test y ≡ t → (if t then Some y else find test ys) ≡ Some x → (test x ≡ true) × In x (y ∷ ys)
+    by_test later true k f = let same : y ≡ x = cc in (subst (λ z. test z ≡ true) same k, subst (λ z. In z (y ∷ ys)) same here)
+    by_test later false k f = let z = later f in (z.0, there z.1)
+
+pub in_more : {A : Type 0} (xs ys : List A) (x : A) → In x xs → In x (xs ++ ys)
+in_more [] ys x i = absurd (in_none i)
+in_more (z ∷ zs) ys x i = elim (in_cons i) [ inl e ↦ subst (λ c. In c (z ∷ zs ++ ys)) e here | inr j ↦ there (in_more zs ys x j) ]
+
+pub in_behind : {A : Type 0} (xs ys : List A) (x : A) → In x ys → In x (xs ++ ys)
+in_behind [] ys x i = i
+in_behind (z ∷ zs) ys x i = there (in_behind zs ys x i)
+
+pub in_parts : {A B : Type 0} (f : A → List B) (xs : List A) (x : A) (y : B) → In x xs → In y (f x) → In y (flat_map f xs)
+in_parts f [] x y i j = absurd (in_none i)
+in_parts f (z ∷ zs) x y i j = elim (in_cons i) [ inl e ↦ in_more (f z) (flat_map f zs) y (subst (λ c. In y (f c)) (sym e) j) | inr k ↦ in_behind (f z) (flat_map f zs) y (in_parts f zs x y k j) ]
+
+pub in_mapped : {A B : Type 0} (f : A → B) (xs : List A) (x : A) → In x xs → In (f x) (map f xs)
+in_mapped f [] x i = absurd (in_none i)
+in_mapped f (z ∷ zs) x i = elim (in_cons i) [ inl e ↦ subst (λ c. In (f c) (f z ∷ map f zs)) e here | inr k ↦ there (in_mapped f zs x k) ]
+
+-- where some pass, one of them does
+pub some_passes : {A : Type 0} (test : A → Bool) (xs : List A) → list_any test xs ≡ true → (x : A) × In x xs × (test x ≡ true)
+some_passes test [] e = absurd (true≢false (sym e))
+some_passes {A} test (y ∷ ys) e = by_test (λ f. some_passes test ys f) (test y) refl e
+  where
+    by_test : (list_any test ys ≡ true → (x : A) × In x ys × (test x ≡ true)) → (t : Bool) → test y ≡ t → (t || list_any test ys) ≡ true → (x : A) × In x (y ∷ ys) × (test x ≡ true)
+    by_test later true k f = (y, here, k)
+    by_test later false k f = let z = later f in (z.0, there z.1, z.2)

@@ -1,12 +1,23 @@
 -- An entry of an operation in progress: what may follow is said of the stack on which it is in progress.
-use Rattle.std.proofs.Common.{◌≡◌, ℕ, Some, None, List, sym, ◌∙◌, subst}
+use Rattle.std.proofs.Common.{◌≡◌, ℕ, Bool, true, false, Option, Some, None, List, [], ◌∷◌, refl, sym, ◌∙◌, ap, subst, true≢false}
+use Rattle.std.specs.Prelude.{IsTrue, ◌↔◌, ◌++◌, ◌&&◌, ◌||◌, not, nat_lt, map, flat_map, reverse}
+use Rattle.std.specs.List.{list_all, list_any}
+use Rattle.std.specs.Option.{option_map_or}
+use Rattle.std.specs.Str.{bytes_eq}
+use Rattle.std.proofs.lemmas.Slice.Eq.{bytes_eq-Decides}
+use Rattle.cf_stacks.specs.declared.held.Held.{Held}
+use Rattle.cf_stacks.specs.Operation.{Call, Answered, call_of, replies_in, own_of, refusals_of}
+use Rattle.cf_plan.specs.Forward.{In, here}
+use Rattle.cf_stacks.specs.Fold.{empty_world, world_after, fold_of}
+use Rattle.cf_examples.specs.Given.{schemas, IsRefusedAfter}
+use Rattle.cf_examples.proofs.Lists.{each_passes, found_passes, some_passes, in_more, in_behind, in_parts, in_mapped, and_true}
 use Rattle.cf_schema.specs.declared.described.Schema.{Schema}
 use Rattle.cf_entry.specs.declared.entry.Entry.{Entry}
 use Rattle.cf_stacks.specs.declared.state.StackState.{StackState}
 use Rattle.cf_stacks.specs.declared.state.World.{World}
 use Rattle.cf_stacks.specs.Status.{Stage, stage_of}
-use Rattle.cf_stacks.specs.Words.{stack_of_operation}
-use Rattle.cf_plan.specs.Follow.{MayFollowIn, MayFollowOn}
+use Rattle.cf_stacks.specs.Words.{stack_of_operation, resources_of, is_among}
+use Rattle.cf_plan.specs.Follow.{MayFollow, IsLegal, MayFollowIn, MayFollowOn, is_failed_path, is_bad_last, last_at, has_path}
 
 some_is : {A : Type 0} {a b : A} → Some a ≡ Some b → a ≡ b
 some_is e = cc
@@ -23,3 +34,64 @@ follows_on schemas number x out e named stage is at (name, s, t, found, there_is
 -- no operation of the number is in progress
 pub follows_none : (schemas : List Schema) (number : ℕ) (x : World) (out : List ℕ) (e : Entry) → stack_of_operation number x ≡ None → MayFollowOn schemas number x out e → ⊥
 follows_none schemas number x out e is (name, s, t, found, there_is, may) = let z = found in cc
+
+-- The failed paths: each of them is the path of a call that was answered, or of a resource.
+abbrev pub path_of_reply : StackState → Answered → List (List ℕ)
+path_of_reply s r = option_map_or (λ (c : Call). c.path ∷ []) (call_of r.token s) []
+
+abbrev pub candidates : StackState → List (List ℕ)
+candidates s = flat_map (path_of_reply s) (reverse (replies_in (own_of s))) ++ map (λ (r : Held). r.path) (resources_of s)
+
+abbrev pub is_told_right : StackState → List (List ℕ) → List ℕ → Bool
+is_told_right s failed p = not (is_failed_path s p) || is_among p failed
+
+same_text : (a b : List ℕ) → bytes_eq a b ≡ true → b ≡ a
+same_text a b e = sym ((bytes_eq-Decides a b).0 e)
+
+-- a call at a path is a candidate
+at_call : (s : StackState) (p : List ℕ) (r : Answered) (c : Option Call) → call_of r.token s ≡ c → has_path p c ≡ true → In p (path_of_reply s r)
+at_call s p r None is e = absurd (true≢false (sym e))
+at_call s p r (Some c) is e = subst (λ (o : Option Call). In p (option_map_or (λ (d : Call). d.path ∷ []) o [])) (sym is) (subst (λ q. In p (q ∷ [])) (sym (same_text p c.path e)) here)
+
+last_is_candidate : (s : StackState) (p : List ℕ) (o : Option Answered) → last_at p s ≡ o → is_bad_last s o ≡ true → In p (candidates s)
+last_is_candidate s p None is e = absurd (true≢false (sym e))
+last_is_candidate s p (Some r) is e =
+    let found = found_passes (λ (q : Answered). has_path p (call_of q.token s)) (reverse (replies_in (own_of s))) r is in
+    in_more (flat_map (path_of_reply s) (reverse (replies_in (own_of s)))) (map (λ (h : Held). h.path) (resources_of s)) p (in_parts (path_of_reply s) (reverse (replies_in (own_of s))) r p found.1 (at_call s p r (call_of r.token s) refl found.0))
+
+held_is_candidate : (s : StackState) (p : List ℕ) → list_any (λ r. bytes_eq p r.path && nat_lt 0 (refusals_of r.physical s)) (resources_of s) ≡ true → In p (candidates s)
+held_is_candidate s p e =
+    let found = some_passes (λ (r : Held). bytes_eq p r.path && nat_lt 0 (refusals_of r.physical s)) (resources_of s) e in
+    let same = same_text p found.0.path (and_true (bytes_eq p found.0.path) (nat_lt 0 (refusals_of found.0.physical s)) found.2).0 in
+    in_behind (flat_map (path_of_reply s) (reverse (replies_in (own_of s)))) (map (λ (h : Held). h.path) (resources_of s)) p (subst (λ q. In q (map (λ (h : Held). h.path) (resources_of s))) same (in_mapped (λ (h : Held). h.path) (resources_of s) found.0 found.1))
+
+failed_is_candidate : (s : StackState) (p : List ℕ) → is_failed_path s p ≡ true → In p (candidates s)
+failed_is_candidate s p e = by_test (is_bad_last s (last_at p s)) refl e
+  where
+    by_test : (t : Bool) → is_bad_last s (last_at p s) ≡ t → (t || list_any (λ r. bytes_eq p r.path && nat_lt 0 (refusals_of r.physical s)) (resources_of s)) ≡ true → In p (candidates s)
+    by_test true k f = last_is_candidate s p (last_at p s) refl k
+    by_test false k f = held_is_candidate s p f
+
+among_in : (p : List ℕ) (ps : List (List ℕ)) → is_among p ps ≡ true → In p ps
+among_in p ps e = let found = some_passes (λ q. bytes_eq p q) ps e in subst (λ q. In q ps) (same_text p found.0 found.2) found.1
+
+-- just these paths have failed
+pub are_failed : (s : StackState) (failed : List (List ℕ)) → list_all (is_told_right s failed) (candidates s) ≡ true → list_all (is_failed_path s) failed ≡ true → (p : List ℕ) → In p failed ↔ IsTrue (is_failed_path s p)
+are_failed s failed only_these all_these p = (each_passes (is_failed_path s) failed p all_these, λ e. told e)
+  where
+    right : (a b : Bool) → a ≡ true → (not a || b) ≡ true → b ≡ true
+    right true b e f = f
+    right false b e f = absurd (true≢false (sym e))
+
+    told : is_failed_path s p ≡ true → In p failed
+    told e = among_in p failed (right (is_failed_path s p) (is_among p failed) e (each_passes (is_told_right s failed) (candidates s) p only_these (failed_is_candidate s p e)))
+
+-- Step by step: each entry may follow a world and leads to the next one.
+pub legal_step : (x y : World) (e : Entry) (es : List Entry) (out : List ℕ) → MayFollow schemas x out e → world_after x e ≡ y → IsLegal schemas y es → IsLegal schemas x (e ∷ es)
+legal_step x y e es out may leads rest = ((out, may), subst (λ z. IsLegal schemas z es) (sym leads) rest)
+
+pub fold_step : (x y : World) (e : Entry) (es : List Entry) {z : World} → world_after x e ≡ y → fold_of y es ≡ z → fold_of x (e ∷ es) ≡ z
+fold_step x y e es {z} leads rest = ap (λ w. fold_of w es) leads ∙ rest
+
+pub refused_at : (x : World) (before : List Entry) (e : Entry) → fold_of empty_world before ≡ x → ((out : List ℕ) → MayFollow schemas x out e → ⊥) → IsRefusedAfter before e
+refused_at x before e arrives may_not = λ out may. may_not out (subst (λ w. MayFollow schemas w out e) arrives may)

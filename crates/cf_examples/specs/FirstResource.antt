@@ -15,7 +15,7 @@ use Rattle.cf_stacks.specs.declared.state.StackState.{StackState}
 use Rattle.cf_stacks.specs.declared.state.World.{World}
 use Rattle.cf_stacks.specs.Fold.{empty_world, fold_of, source_for}
 use Rattle.cf_plan.specs.Follow.{IsLegal}
-use Rattle.cf_examples.specs.Given.{file, file_props, file_attrs, schemas, source_of}
+use Rattle.cf_examples.specs.Given.{file, file_props, file_attrs, schemas, source_of, IsRefusedAfter}
 
 abbrev pub source : Source
 source = source_of (codes "app") (codes "one") (codes "{\"Resources\":{\"Web\":{\"Type\":\"Local::Files::File\",\"Properties\":{\"Path\":\"web.txt\",\"Content\":\"hello\"}}}}")
@@ -81,3 +81,13 @@ Leaves = fold_of empty_world run ≡ world
 
 abbrev pub Legal : Type 0
 Legal = IsLegal schemas empty_world run
+
+-- A creation in doubt may not be tried again under another token.
+abbrev pub broken : Entry
+broken = entry.Outcome 1 1 reply.Doubt 0 1
+
+abbrev pub again : Entry
+again = entry.Intent 1 2 (codes "f1") (codes "Web") (request.Create file (file_props (codes "web.txt") (codes "hello")))
+
+abbrev pub RetriedUnderAnotherToken : Type 0
+RetriedUnderAnotherToken = IsRefusedAfter (opened ∷ begun ∷ intended ∷ broken ∷ []) again

@@ -1,7 +1,16 @@
 -- What the worked runs share: the two shipped types, and the parts of their entries.
-use Rattle.std.specs.Prelude.{ℕ, List, [], ◌∷◌, codes, pos}
+use Rattle.std.specs.Prelude.{ℕ, List, [], ◌∷◌, codes, pos, Bool, map}
 use Rattle.cf_tree.specs.Datum.{Data, text, whole}
 use Rattle.cf_tree.specs.declared.source.Source.{Source}
+use Rattle.cf_entry.specs.declared.entry.Entry.{Entry}
+use Rattle.cf_entry.specs.declared.status.Status.{Status}
+use Rattle.cf_stacks.specs.declared.held.Held.{Held}
+use Rattle.cf_stacks.specs.declared.held.HeldStatus.{HeldStatus}
+use Rattle.cf_stacks.specs.declared.held.Leftover.{Leftover}
+use Rattle.cf_stacks.specs.declared.state.StackState.{StackState}
+use Rattle.cf_stacks.specs.declared.state.World.{World}
+use Rattle.cf_stacks.specs.Fold.{empty_world, fold_of, known_stack}
+use Rattle.cf_plan.specs.Follow.{MayFollow}
 use Rattle.cf_schema.specs.declared.described.Schema.{Schema}
 
 -- a file, of which another path needs a new one
@@ -53,3 +62,36 @@ note_attrs id length key value = (codes "Id", text id) ∷ (codes "Key", text ke
 -- a source of one template
 abbrev pub source_of : List ℕ → List ℕ → List ℕ → Source
 source_of stack name bytes = record { root = name; texts = (name, bytes) ∷ []; given = []; imports = []; stack = stack; number = 0 }
+
+-- a lane with its type
+abbrev pub lane_pair : List ℕ → List ℕ → List ℕ × List ℕ
+lane_pair name k = (name, k)
+
+-- what a report shows of a stack: its status and number, and of each resource the path, the type, the id, the status, and whether it is unsure; beside that the recorded properties, and what is left over
+pub record Line : Type 0 where
+  pub path : List ℕ
+  pub kind : List ℕ
+  pub physical : List ℕ
+  pub status : HeldStatus
+  pub unsure : Bool
+  pub props : List (List ℕ × Data)
+
+pub record Report : Type 0 where
+  pub status : Status
+  pub number : ℕ
+  pub resources : List Line
+  pub made : List Line
+  pub leftovers : List Leftover
+
+abbrev pub line : Held → Line
+line h = record { path = h.path; kind = h.kind; physical = h.physical; status = h.status; unsure = h.unsure; props = h.props }
+
+abbrev pub report_from : StackState → Report
+report_from s = record { status = s.status; number = s.number; resources = map line s.held; made = map line s.made; leftovers = s.leftovers }
+
+abbrev pub report_of : List ℕ → World → Report
+report_of name x = report_from (known_stack name x)
+
+-- behind these entries this one may not stand, whatever leases are out
+abbrev pub IsRefusedAfter : List Entry → Entry → Type 0
+IsRefusedAfter before e = (out : List ℕ) → MayFollow schemas (fold_of empty_world before) out e → ⊥

@@ -1,2 +1,15 @@
 pub mod Given
 pub mod FirstResource
+pub mod Replacement
+pub mod IndexOutside
+pub mod TakenName
+pub mod FaultRepeated
+pub mod RolledBack
+pub mod RollbackFailed
+pub mod Blamed
+pub mod NotUpdatable
+pub mod LateEffect
+pub mod Skipped
+pub mod Retained
+pub mod Nested
+pub mod Pinned

@@ -1,10 +1,116 @@
-//! Worked runs: lists of entries that are legal, with the worlds that they leave, and lists that are refused.
+//! Worked runs: lists of entries with the answers of the calls. Each list is legal, and leaves what its report shows; wrong
+//! lists are refused. The functions do nothing: their contracts are what is proved of the definitions.
 #![tactic(auto)]
 
-ghost use Rattle.cf_examples.specs.FirstResource.{Legal as FirstLegal, Leaves as FirstLeaves};
+ghost use Rattle.cf_examples.specs.FirstResource as the_first_resource_run;
+ghost use Rattle.cf_examples.specs.Replacement as a_replacement_run;
+ghost use Rattle.cf_examples.specs.IndexOutside as an_index_outside_run;
+ghost use Rattle.cf_examples.specs.TakenName as a_taken_name_run;
+ghost use Rattle.cf_examples.specs.FaultRepeated as a_fault_repeated_run;
+ghost use Rattle.cf_examples.specs.RolledBack as a_rollback_done_run;
+ghost use Rattle.cf_examples.specs.RollbackFailed as a_rollback_failed_run;
+ghost use Rattle.cf_examples.specs.Blamed as who_is_blamed_run;
+ghost use Rattle.cf_examples.specs.NotUpdatable as an_update_becomes_a_replacement_run;
+ghost use Rattle.cf_examples.specs.LateEffect as a_late_effect_run;
+ghost use Rattle.cf_examples.specs.Skipped as a_skipped_update_run;
+ghost use Rattle.cf_examples.specs.Retained as a_retained_resource_run;
+ghost use Rattle.cf_examples.specs.Nested as a_nested_stack_run;
+ghost use Rattle.cf_examples.specs.Pinned as a_pinned_export_run;
 
-/// A stack of one file.
+/// A stack of one file: the whole world that is left is told. A creation in doubt may not be tried again under another token.
 pub fn the_first_resource()
-    ensures legal { FirstLegal }
-    ensures leaves { FirstLeaves }
+    ensures legal { the_first_resource_run.Legal }
+    ensures leaves { the_first_resource_run.Leaves }
+    ensures another_token { the_first_resource_run.RetriedUnderAnotherToken }
+{}
+
+/// A replacement with a dependent, and its cleanup; four wrong lists are refused.
+pub fn a_replacement()
+    ensures legal { a_replacement_run.Legal }
+    ensures shows { a_replacement_run.Shows }
+    ensures cleaned_too_early { a_replacement_run.CleanedTooEarly }
+    ensures deleted_before_cleanup { a_replacement_run.DeletedBeforeCleanup }
+    ensures old_id_evaluated { a_replacement_run.OldIdEvaluated }
+    ensures ended_again { a_replacement_run.EndedAgain }
+    ensures answered_under_another_number { a_replacement_run.AnsweredUnderAnotherNumber }
+{}
+
+/// An index outside its list, found once the file is there, and the way back.
+pub fn an_index_outside()
+    ensures legal { an_index_outside_run.Legal }
+    ensures shows { an_index_outside_run.Shows }
+{}
+
+/// A move onto a taken name, and the way back; a resource is not made anew.
+pub fn a_taken_name()
+    ensures legal { a_taken_name_run.Legal }
+    ensures shows { a_taken_name_run.Shows }
+    ensures made_anew { a_taken_name_run.MadeAnew }
+{}
+
+/// A fault after acting, repeated, then a restore.
+pub fn a_fault_repeated()
+    ensures legal { a_fault_repeated_run.Legal }
+    ensures shows { a_fault_repeated_run.Shows }
+{}
+
+/// The rollback of a creation, done.
+pub fn a_rollback_done()
+    ensures legal { a_rollback_done_run.Legal }
+    ensures shows { a_rollback_done_run.Shows }
+{}
+
+/// The rollback of a creation, failed: both paths are told, and what could not be deleted stays on the list.
+pub fn a_rollback_failed()
+    ensures legal { a_rollback_failed_run.Legal }
+    ensures shows { a_rollback_failed_run.Shows }
+    ensures dropped_though_there { a_rollback_failed_run.DroppedThoughThere }
+{}
+
+/// Only the paths that failed are told, and not all of the stack.
+pub fn who_is_blamed()
+    ensures legal { who_is_blamed_run.Legal }
+    ensures shows { who_is_blamed_run.Shows }
+    ensures all_named { who_is_blamed_run.AllNamed }
+{}
+
+/// NotUpdatable at a conditional property: a new record is made, and the old one deleted in the cleanup.
+pub fn an_update_becomes_a_replacement()
+    ensures legal { an_update_becomes_a_replacement_run.Legal }
+    ensures shows { an_update_becomes_a_replacement_run.Shows }
+{}
+
+/// A late effect, met by the first repeat in the rollback.
+pub fn a_late_effect()
+    ensures legal { a_late_effect_run.Legal }
+    ensures shows { a_late_effect_run.Shows }
+{}
+
+/// An update that stays in doubt, and the continued rollback that skips it.
+pub fn a_skipped_update()
+    ensures legal { a_skipped_update_run.Legal }
+    ensures fails { a_skipped_update_run.Fails }
+    ensures shows { a_skipped_update_run.Shows }
+    ensures skips_another { a_skipped_update_run.SkipsAnother }
+{}
+
+/// A deletion with a retained resource.
+pub fn a_retained_resource()
+    ensures legal { a_retained_resource_run.Legal }
+    ensures shows { a_retained_resource_run.Shows }
+    ensures kept_too_early { a_retained_resource_run.KeptTooEarly }
+{}
+
+/// A nested stack.
+pub fn a_nested_stack()
+    ensures legal { a_nested_stack_run.Legal }
+    ensures shows { a_nested_stack_run.Shows }
+{}
+
+/// An exported value that another stack imports stays, and its stack may not be deleted.
+pub fn a_pinned_export()
+    ensures legal { a_pinned_export_run.Legal }
+    ensures shows { a_pinned_export_run.Shows }
+    ensures changed_though_pinned { a_pinned_export_run.ChangedThoughPinned }
+    ensures deleted_though_pinned { a_pinned_export_run.DeletedThoughPinned }
 {}

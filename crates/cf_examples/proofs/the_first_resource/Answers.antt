@@ -1,4 +1,4 @@
-use Rattle.cf_examples.proofs.FirstResource.{leaves, legal}
+use Rattle.cf_examples.proofs.FirstResource.{leaves, legal, another_token}
 use Rattle.cf_examples.proofs.the_first_resource.Goals as goal
 
 pub returns-clause-legal : goal.returns-clause-legal
@@ -6,3 +6,6 @@ returns-clause-legal c = legal
 
 pub returns-clause-leaves : goal.returns-clause-leaves
 returns-clause-leaves c = leaves
+
+pub returns-clause-another_token : goal.returns-clause-another_token
+returns-clause-another_token c = another_token

@@ -1,0 +1,520 @@
+-- A creation is refused at its third resource; of the two that were made one is deleted and one is not.
+use Rattle.std.proofs.Common.{◌≡◌, refl, List, [], ◌∷◌, Some, None, true, false, ℕ, inl, sym, ap, lit≤, true≢false}
+use Rattle.std.specs.Prelude.{codes}
+use Rattle.cf_tree.specs.declared.request.Request.TheVariants as request
+use Rattle.cf_tree.specs.declared.code.Code.TheVariants as code
+use Rattle.cf_entry.specs.declared.turn.Reason.TheVariants as reason
+use Rattle.cf_entry.specs.declared.entry.Entry.{Entry}
+use Rattle.cf_stacks.specs.declared.state.World.{World}
+use Rattle.cf_stacks.specs.declared.state.StackState.{StackState}
+use Rattle.cf_stacks.specs.Fold.{empty_world, world_after, source_for}
+use Rattle.cf_stacks.specs.Status.{Forward, Back}
+use Rattle.cf_plan.specs.Forward.{here, there, HasFailed, IsReady, IsDone, is_made}
+use Rattle.cf_plan.specs.Follow.{MayFollow}
+use Rattle.cf_examples.specs.Given.{schemas, file, note, file_props, note_props, file_attrs}
+use Rattle.cf_examples.proofs.Computing.{computing}
+use Rattle.cf_examples.proofs.Lists.{in_none, only}
+use Rattle.cf_examples.proofs.Failing.{not_failed, not_done_new}
+use Rattle.cf_examples.proofs.Ending.{end_of_rollback}
+use Rattle.cf_tree.specs.declared.template.Deletion.TheVariants as deletion
+use Rattle.cf_tree.specs.declared.template.Replace.TheVariants as replace
+use Rattle.cf_entry.specs.declared.entry.Entry.TheVariants as entry
+use Rattle.cf_entry.specs.declared.status.Status.TheVariants as status
+use Rattle.cf_stacks.specs.declared.held.HeldStatus.TheVariants as held
+use Rattle.cf_stacks.specs.Fold.{fold_of}
+use Rattle.cf_examples.specs.Given.{lane_pair, report_of}
+use Rattle.cf_examples.proofs.Refusing.{follows_on, are_failed, legal_step, fold_step, refused_at}
+use Rattle.cf_examples.proofs.Beginning.{no_imports}
+use Rattle.cf_examples.specs.Blamed.{first, opened, begun, intended_a, made_a, intended_b, made_b, intended_c, refused, turned, intended_deletion_a, undeleted, intended_deletion_b, deleted, failed, Legal, Shows, AllNamed}
+
+abbrev world_0 : World
+world_0 = empty_world
+
+may_opened : MayFollow schemas world_0 [] opened
+unfolding computing
+may_opened = (refl, refl, λ name s e. absurd (cc))
+
+abbrev world_1 : World
+world_1 = record { stacks = []; exports = []; pins = []; claims = []; lanes = (lane_pair (codes "f1") file ∷ lane_pair (codes "r1") note ∷ []); epoch = 1; operation = 0; set = 0; token = 0; place = 1 }
+
+leads_1 : world_after world_0 opened ≡ world_1
+unfolding computing
+leads_1 = refl
+
+may_begun : MayFollow schemas world_1 [] begun
+unfolding computing
+may_begun = (refl, refl, record { no_flaw = refl; known_types = refl; same_types = refl; imports = no_imports _ _ _ _ refl refl; free = refl; not_in_use = refl; changing = inl refl })
+
+abbrev stack_2_s : StackState
+stack_2_s = record {
+  status = status.CreateInProgress;
+  number = 1;
+  operation = 1;
+  held = [];
+  before = [];
+  made = [];
+  leftovers = [];
+  tokens = [];
+  abandoned = [];
+  source = None;
+  going = Some (source_for (codes "s") 1 first);
+  outputs = [];
+  sets = [];
+  events = ((codes "event 2 - CREATE_IN_PROGRESS") ∷ []);
+  entries = (begun ∷ []);
+}
+
+abbrev world_2 : World
+world_2 = record { stacks = (((codes "s"), stack_2_s) ∷ []); exports = []; pins = []; claims = []; lanes = (lane_pair (codes "f1") file ∷ lane_pair (codes "r1") note ∷ []); epoch = 1; operation = 1; set = 0; token = 0; place = 2 }
+
+leads_2 : world_after world_1 begun ≡ world_2
+unfolding computing
+leads_2 = refl
+
+sound_2 : ¬ HasFailed schemas (codes "s") world_2 stack_2_s
+unfolding computing
+sound_2 = not_failed schemas (codes "s") world_2 stack_2_s (record { calls = refl; paths = refl; inner = refl; flaws = refl; exports = refl })
+
+ready_2_A : IsReady stack_2_s (codes "A")
+unfolding computing
+ready_2_A = (here, λ q i. absurd (in_none i))
+
+may_intended_a : MayFollow schemas world_2 [] intended_a
+unfolding computing
+may_intended_a = ((codes "s"), stack_2_s, Forward, refl, refl, record { next = refl; free = refl; home = refl; fits = refl; no_repeat = refl; chosen = (sound_2, ready_2_A, not_done_new (codes "A") stack_2_s refl refl refl, (refl, tt)) })
+
+abbrev stack_3_s : StackState
+stack_3_s = record {
+  status = status.CreateInProgress;
+  number = 1;
+  operation = 1;
+  held = [];
+  before = [];
+  made = [];
+  leftovers = [];
+  tokens = (record { token = 1; path = (codes "A"); lane = (codes "f1"); request = (request.Create file (file_props (codes "a") (codes "x"))) } ∷ []);
+  abandoned = [];
+  source = None;
+  going = Some (source_for (codes "s") 1 first);
+  outputs = [];
+  sets = [];
+  events = ((codes "event 2 - CREATE_IN_PROGRESS") ∷ (codes "event 3 A CREATE_IN_PROGRESS") ∷ []);
+  entries = (begun ∷ intended_a ∷ []);
+}
+
+abbrev world_3 : World
+world_3 = record { stacks = (((codes "s"), stack_3_s) ∷ []); exports = []; pins = []; claims = []; lanes = (lane_pair (codes "f1") file ∷ lane_pair (codes "r1") note ∷ []); epoch = 1; operation = 1; set = 0; token = 1; place = 3 }
+
+leads_3 : world_after world_2 intended_a ≡ world_3
+unfolding computing
+leads_3 = refl
+
+may_made_a : MayFollow schemas world_3 (1 ∷ []) made_a
+unfolding computing
+may_made_a = ((codes "s"), stack_3_s, Forward, refl, refl, (refl, refl, lit≤ tt))
+
+abbrev stack_4_s : StackState
+stack_4_s = record {
+  status = status.CreateInProgress;
+  number = 1;
+  operation = 1;
+  held = [];
+  before = [];
+  made = (record { path = (codes "A"); kind = file; physical = (codes "f1:1"); props = (file_props (codes "a") (codes "x")); attrs = (file_attrs (codes "f1:1") 1 (codes "a") (codes "x")); needs = []; deletion = deletion.Delete; replace = replace.Delete; status = held.CreateComplete; unsure = false; superseded = false } ∷ []);
+  leftovers = [];
+  tokens = [];
+  abandoned = [];
+  source = None;
+  going = Some (source_for (codes "s") 1 first);
+  outputs = [];
+  sets = [];
+  events = ((codes "event 2 - CREATE_IN_PROGRESS") ∷ (codes "event 3 A CREATE_IN_PROGRESS") ∷ (codes "event 4 A CREATE_COMPLETE") ∷ []);
+  entries = (begun ∷ intended_a ∷ made_a ∷ []);
+}
+
+abbrev world_4 : World
+world_4 = record { stacks = (((codes "s"), stack_4_s) ∷ []); exports = []; pins = []; claims = []; lanes = (lane_pair (codes "f1") file ∷ lane_pair (codes "r1") note ∷ []); epoch = 1; operation = 1; set = 0; token = 1; place = 4 }
+
+leads_4 : world_after world_3 made_a ≡ world_4
+unfolding computing
+leads_4 = refl
+
+sound_4 : ¬ HasFailed schemas (codes "s") world_4 stack_4_s
+unfolding computing
+sound_4 = not_failed schemas (codes "s") world_4 stack_4_s (record { calls = refl; paths = refl; inner = refl; flaws = refl; exports = refl })
+
+ready_4_B : IsReady stack_4_s (codes "B")
+unfolding computing
+ready_4_B = (there here, λ q i. absurd (in_none i))
+
+may_intended_b : MayFollow schemas world_4 [] intended_b
+unfolding computing
+may_intended_b = ((codes "s"), stack_4_s, Forward, refl, refl, record { next = refl; free = refl; home = refl; fits = refl; no_repeat = refl; chosen = (sound_4, ready_4_B, not_done_new (codes "B") stack_4_s refl refl refl, (refl, tt)) })
+
+abbrev stack_5_s : StackState
+stack_5_s = record {
+  status = status.CreateInProgress;
+  number = 1;
+  operation = 1;
+  held = [];
+  before = [];
+  made = (record { path = (codes "A"); kind = file; physical = (codes "f1:1"); props = (file_props (codes "a") (codes "x")); attrs = (file_attrs (codes "f1:1") 1 (codes "a") (codes "x")); needs = []; deletion = deletion.Delete; replace = replace.Delete; status = held.CreateComplete; unsure = false; superseded = false } ∷ []);
+  leftovers = [];
+  tokens = (record { token = 2; path = (codes "B"); lane = (codes "f1"); request = (request.Create file (file_props (codes "b") (codes "y"))) } ∷ []);
+  abandoned = [];
+  source = None;
+  going = Some (source_for (codes "s") 1 first);
+  outputs = [];
+  sets = [];
+  events = ((codes "event 2 - CREATE_IN_PROGRESS") ∷ (codes "event 3 A CREATE_IN_PROGRESS") ∷ (codes "event 4 A CREATE_COMPLETE") ∷ (codes "event 5 B CREATE_IN_PROGRESS") ∷ []);
+  entries = (begun ∷ intended_a ∷ made_a ∷ intended_b ∷ []);
+}
+
+abbrev world_5 : World
+world_5 = record { stacks = (((codes "s"), stack_5_s) ∷ []); exports = []; pins = []; claims = []; lanes = (lane_pair (codes "f1") file ∷ lane_pair (codes "r1") note ∷ []); epoch = 1; operation = 1; set = 0; token = 2; place = 5 }
+
+leads_5 : world_after world_4 intended_b ≡ world_5
+unfolding computing
+leads_5 = refl
+
+may_made_b : MayFollow schemas world_5 (2 ∷ []) made_b
+unfolding computing
+may_made_b = ((codes "s"), stack_5_s, Forward, refl, refl, (refl, refl, lit≤ tt))
+
+abbrev stack_6_s : StackState
+stack_6_s = record {
+  status = status.CreateInProgress;
+  number = 1;
+  operation = 1;
+  held = [];
+  before = [];
+  made = (record { path = (codes "A"); kind = file; physical = (codes "f1:1"); props = (file_props (codes "a") (codes "x")); attrs = (file_attrs (codes "f1:1") 1 (codes "a") (codes "x")); needs = []; deletion = deletion.Delete; replace = replace.Delete; status = held.CreateComplete; unsure = false; superseded = false } ∷ record { path = (codes "B"); kind = file; physical = (codes "f1:2"); props = (file_props (codes "b") (codes "y")); attrs = (file_attrs (codes "f1:2") 1 (codes "b") (codes "y")); needs = []; deletion = deletion.Delete; replace = replace.Delete; status = held.CreateComplete; unsure = false; superseded = false } ∷ []);
+  leftovers = [];
+  tokens = [];
+  abandoned = [];
+  source = None;
+  going = Some (source_for (codes "s") 1 first);
+  outputs = [];
+  sets = [];
+  events = ((codes "event 2 - CREATE_IN_PROGRESS") ∷ (codes "event 3 A CREATE_IN_PROGRESS") ∷ (codes "event 4 A CREATE_COMPLETE") ∷ (codes "event 5 B CREATE_IN_PROGRESS") ∷ (codes "event 6 B CREATE_COMPLETE") ∷ []);
+  entries = (begun ∷ intended_a ∷ made_a ∷ intended_b ∷ made_b ∷ []);
+}
+
+abbrev world_6 : World
+world_6 = record { stacks = (((codes "s"), stack_6_s) ∷ []); exports = []; pins = []; claims = []; lanes = (lane_pair (codes "f1") file ∷ lane_pair (codes "r1") note ∷ []); epoch = 1; operation = 1; set = 0; token = 2; place = 6 }
+
+leads_6 : world_after world_5 made_b ≡ world_6
+unfolding computing
+leads_6 = refl
+
+sound_6 : ¬ HasFailed schemas (codes "s") world_6 stack_6_s
+unfolding computing
+sound_6 = not_failed schemas (codes "s") world_6 stack_6_s (record { calls = refl; paths = refl; inner = refl; flaws = refl; exports = refl })
+
+ready_6_C : IsReady stack_6_s (codes "C")
+unfolding computing
+ready_6_C = (there (there here), λ q i. only (IsDone stack_6_s) (is_made _ refl) q i)
+
+may_intended_c : MayFollow schemas world_6 [] intended_c
+unfolding computing
+may_intended_c = ((codes "s"), stack_6_s, Forward, refl, refl, record { next = refl; free = refl; home = refl; fits = refl; no_repeat = refl; chosen = (sound_6, ready_6_C, not_done_new (codes "C") stack_6_s refl refl refl, (refl, tt)) })
+
+abbrev stack_7_s : StackState
+stack_7_s = record {
+  status = status.CreateInProgress;
+  number = 1;
+  operation = 1;
+  held = [];
+  before = [];
+  made = (record { path = (codes "A"); kind = file; physical = (codes "f1:1"); props = (file_props (codes "a") (codes "x")); attrs = (file_attrs (codes "f1:1") 1 (codes "a") (codes "x")); needs = []; deletion = deletion.Delete; replace = replace.Delete; status = held.CreateComplete; unsure = false; superseded = false } ∷ record { path = (codes "B"); kind = file; physical = (codes "f1:2"); props = (file_props (codes "b") (codes "y")); attrs = (file_attrs (codes "f1:2") 1 (codes "b") (codes "y")); needs = []; deletion = deletion.Delete; replace = replace.Delete; status = held.CreateComplete; unsure = false; superseded = false } ∷ []);
+  leftovers = [];
+  tokens = (record { token = 3; path = (codes "C"); lane = (codes "r1"); request = (request.Create note (note_props (codes "c") (codes "u"))) } ∷ []);
+  abandoned = [];
+  source = None;
+  going = Some (source_for (codes "s") 1 first);
+  outputs = [];
+  sets = [];
+  events = ((codes "event 2 - CREATE_IN_PROGRESS") ∷ (codes "event 3 A CREATE_IN_PROGRESS") ∷ (codes "event 4 A CREATE_COMPLETE") ∷ (codes "event 5 B CREATE_IN_PROGRESS") ∷ (codes "event 6 B CREATE_COMPLETE") ∷ (codes "event 7 C CREATE_IN_PROGRESS") ∷ []);
+  entries = (begun ∷ intended_a ∷ made_a ∷ intended_b ∷ made_b ∷ intended_c ∷ []);
+}
+
+abbrev world_7 : World
+world_7 = record { stacks = (((codes "s"), stack_7_s) ∷ []); exports = []; pins = []; claims = []; lanes = (lane_pair (codes "f1") file ∷ lane_pair (codes "r1") note ∷ []); epoch = 1; operation = 1; set = 0; token = 3; place = 7 }
+
+leads_7 : world_after world_6 intended_c ≡ world_7
+unfolding computing
+leads_7 = refl
+
+may_refused : MayFollow schemas world_7 (3 ∷ []) refused
+unfolding computing
+may_refused = ((codes "s"), stack_7_s, Forward, refl, refl, (refl, refl, (lit≤ tt, λ _. lit≤ tt)))
+
+abbrev stack_8_s : StackState
+stack_8_s = record {
+  status = status.CreateInProgress;
+  number = 1;
+  operation = 1;
+  held = [];
+  before = [];
+  made = (record { path = (codes "A"); kind = file; physical = (codes "f1:1"); props = (file_props (codes "a") (codes "x")); attrs = (file_attrs (codes "f1:1") 1 (codes "a") (codes "x")); needs = []; deletion = deletion.Delete; replace = replace.Delete; status = held.CreateComplete; unsure = false; superseded = false } ∷ record { path = (codes "B"); kind = file; physical = (codes "f1:2"); props = (file_props (codes "b") (codes "y")); attrs = (file_attrs (codes "f1:2") 1 (codes "b") (codes "y")); needs = []; deletion = deletion.Delete; replace = replace.Delete; status = held.CreateComplete; unsure = false; superseded = false } ∷ []);
+  leftovers = [];
+  tokens = [];
+  abandoned = [];
+  source = None;
+  going = Some (source_for (codes "s") 1 first);
+  outputs = [];
+  sets = [];
+  events = ((codes "event 2 - CREATE_IN_PROGRESS") ∷ (codes "event 3 A CREATE_IN_PROGRESS") ∷ (codes "event 4 A CREATE_COMPLETE") ∷ (codes "event 5 B CREATE_IN_PROGRESS") ∷ (codes "event 6 B CREATE_COMPLETE") ∷ (codes "event 7 C CREATE_IN_PROGRESS") ∷ (codes "event 8 C CREATE_FAILED ServiceLimitExceeded") ∷ []);
+  entries = (begun ∷ intended_a ∷ made_a ∷ intended_b ∷ made_b ∷ intended_c ∷ refused ∷ []);
+}
+
+abbrev world_8 : World
+world_8 = record { stacks = (((codes "s"), stack_8_s) ∷ []); exports = []; pins = []; claims = []; lanes = (lane_pair (codes "f1") file ∷ lane_pair (codes "r1") note ∷ []); epoch = 1; operation = 1; set = 0; token = 3; place = 8 }
+
+leads_8 : world_after world_7 refused ≡ world_8
+unfolding computing
+leads_8 = refl
+
+may_turned : MayFollow schemas world_8 [] turned
+unfolding computing
+may_turned = ((codes "s"), stack_8_s, Forward, refl, refl, (refl, (refl, (inl ((3, (reason.Code code.ServiceLimitExceeded)), refl)), (3, refl, refl))))
+
+abbrev stack_9_s : StackState
+stack_9_s = record {
+  status = status.RollbackInProgress;
+  number = 1;
+  operation = 1;
+  held = [];
+  before = [];
+  made = (record { path = (codes "A"); kind = file; physical = (codes "f1:1"); props = (file_props (codes "a") (codes "x")); attrs = (file_attrs (codes "f1:1") 1 (codes "a") (codes "x")); needs = []; deletion = deletion.Delete; replace = replace.Delete; status = held.CreateComplete; unsure = false; superseded = false } ∷ record { path = (codes "B"); kind = file; physical = (codes "f1:2"); props = (file_props (codes "b") (codes "y")); attrs = (file_attrs (codes "f1:2") 1 (codes "b") (codes "y")); needs = []; deletion = deletion.Delete; replace = replace.Delete; status = held.CreateComplete; unsure = false; superseded = false } ∷ []);
+  leftovers = [];
+  tokens = [];
+  abandoned = [];
+  source = None;
+  going = Some (source_for (codes "s") 1 first);
+  outputs = [];
+  sets = [];
+  events = ((codes "event 2 - CREATE_IN_PROGRESS") ∷ (codes "event 3 A CREATE_IN_PROGRESS") ∷ (codes "event 4 A CREATE_COMPLETE") ∷ (codes "event 5 B CREATE_IN_PROGRESS") ∷ (codes "event 6 B CREATE_COMPLETE") ∷ (codes "event 7 C CREATE_IN_PROGRESS") ∷ (codes "event 8 C CREATE_FAILED ServiceLimitExceeded") ∷ (codes "event 9 - ROLLBACK_IN_PROGRESS") ∷ []);
+  entries = (begun ∷ intended_a ∷ made_a ∷ intended_b ∷ made_b ∷ intended_c ∷ refused ∷ turned ∷ []);
+}
+
+abbrev world_9 : World
+world_9 = record { stacks = (((codes "s"), stack_9_s) ∷ []); exports = []; pins = []; claims = []; lanes = (lane_pair (codes "f1") file ∷ lane_pair (codes "r1") note ∷ []); epoch = 1; operation = 1; set = 0; token = 3; place = 9 }
+
+leads_9 : world_after world_8 turned ≡ world_9
+unfolding computing
+leads_9 = refl
+
+may_intended_deletion_a : MayFollow schemas world_9 [] intended_deletion_a
+unfolding computing
+may_intended_deletion_a = ((codes "s"), stack_9_s, Back, refl, refl, record { next = refl; free = refl; home = refl; fits = ((codes "1", refl), refl); no_repeat = refl; chosen = inl (_, (refl, here, refl, refl), refl, refl, refl) })
+
+abbrev stack_10_s : StackState
+stack_10_s = record {
+  status = status.RollbackInProgress;
+  number = 1;
+  operation = 1;
+  held = [];
+  before = [];
+  made = (record { path = (codes "A"); kind = file; physical = (codes "f1:1"); props = (file_props (codes "a") (codes "x")); attrs = (file_attrs (codes "f1:1") 1 (codes "a") (codes "x")); needs = []; deletion = deletion.Delete; replace = replace.Delete; status = held.CreateComplete; unsure = false; superseded = false } ∷ record { path = (codes "B"); kind = file; physical = (codes "f1:2"); props = (file_props (codes "b") (codes "y")); attrs = (file_attrs (codes "f1:2") 1 (codes "b") (codes "y")); needs = []; deletion = deletion.Delete; replace = replace.Delete; status = held.CreateComplete; unsure = false; superseded = false } ∷ []);
+  leftovers = [];
+  tokens = (record { token = 4; path = (codes "A"); lane = (codes "f1"); request = (request.Delete (codes "f1:1")) } ∷ []);
+  abandoned = [];
+  source = None;
+  going = Some (source_for (codes "s") 1 first);
+  outputs = [];
+  sets = [];
+  events = ((codes "event 2 - CREATE_IN_PROGRESS") ∷ (codes "event 3 A CREATE_IN_PROGRESS") ∷ (codes "event 4 A CREATE_COMPLETE") ∷ (codes "event 5 B CREATE_IN_PROGRESS") ∷ (codes "event 6 B CREATE_COMPLETE") ∷ (codes "event 7 C CREATE_IN_PROGRESS") ∷ (codes "event 8 C CREATE_FAILED ServiceLimitExceeded") ∷ (codes "event 9 - ROLLBACK_IN_PROGRESS") ∷ (codes "event 10 A DELETE_IN_PROGRESS") ∷ []);
+  entries = (begun ∷ intended_a ∷ made_a ∷ intended_b ∷ made_b ∷ intended_c ∷ refused ∷ turned ∷ intended_deletion_a ∷ []);
+}
+
+abbrev world_10 : World
+world_10 = record { stacks = (((codes "s"), stack_10_s) ∷ []); exports = []; pins = []; claims = []; lanes = (lane_pair (codes "f1") file ∷ lane_pair (codes "r1") note ∷ []); epoch = 1; operation = 1; set = 0; token = 4; place = 10 }
+
+leads_10 : world_after world_9 intended_deletion_a ≡ world_10
+unfolding computing
+leads_10 = refl
+
+may_undeleted : MayFollow schemas world_10 (4 ∷ []) undeleted
+unfolding computing
+may_undeleted = ((codes "s"), stack_10_s, Back, refl, refl, (refl, refl, (lit≤ tt, λ _. lit≤ tt)))
+
+abbrev stack_11_s : StackState
+stack_11_s = record {
+  status = status.RollbackInProgress;
+  number = 1;
+  operation = 1;
+  held = [];
+  before = [];
+  made = (record { path = (codes "A"); kind = file; physical = (codes "f1:1"); props = (file_props (codes "a") (codes "x")); attrs = (file_attrs (codes "f1:1") 1 (codes "a") (codes "x")); needs = []; deletion = deletion.Delete; replace = replace.Delete; status = held.DeleteFailed; unsure = false; superseded = false } ∷ record { path = (codes "B"); kind = file; physical = (codes "f1:2"); props = (file_props (codes "b") (codes "y")); attrs = (file_attrs (codes "f1:2") 1 (codes "b") (codes "y")); needs = []; deletion = deletion.Delete; replace = replace.Delete; status = held.CreateComplete; unsure = false; superseded = false } ∷ []);
+  leftovers = [];
+  tokens = [];
+  abandoned = [];
+  source = None;
+  going = Some (source_for (codes "s") 1 first);
+  outputs = [];
+  sets = [];
+  events = ((codes "event 2 - CREATE_IN_PROGRESS") ∷ (codes "event 3 A CREATE_IN_PROGRESS") ∷ (codes "event 4 A CREATE_COMPLETE") ∷ (codes "event 5 B CREATE_IN_PROGRESS") ∷ (codes "event 6 B CREATE_COMPLETE") ∷ (codes "event 7 C CREATE_IN_PROGRESS") ∷ (codes "event 8 C CREATE_FAILED ServiceLimitExceeded") ∷ (codes "event 9 - ROLLBACK_IN_PROGRESS") ∷ (codes "event 10 A DELETE_IN_PROGRESS") ∷ (codes "event 11 A DELETE_FAILED AccessDenied") ∷ []);
+  entries = (begun ∷ intended_a ∷ made_a ∷ intended_b ∷ made_b ∷ intended_c ∷ refused ∷ turned ∷ intended_deletion_a ∷ undeleted ∷ []);
+}
+
+abbrev world_11 : World
+world_11 = record { stacks = (((codes "s"), stack_11_s) ∷ []); exports = []; pins = []; claims = []; lanes = (lane_pair (codes "f1") file ∷ lane_pair (codes "r1") note ∷ []); epoch = 1; operation = 1; set = 0; token = 4; place = 11 }
+
+leads_11 : world_after world_10 undeleted ≡ world_11
+unfolding computing
+leads_11 = refl
+
+may_intended_deletion_b : MayFollow schemas world_11 [] intended_deletion_b
+unfolding computing
+may_intended_deletion_b = ((codes "s"), stack_11_s, Back, refl, refl, record { next = refl; free = refl; home = refl; fits = ((codes "2", refl), refl); no_repeat = refl; chosen = inl (_, (refl, there here, refl, refl), refl, refl, refl) })
+
+abbrev stack_12_s : StackState
+stack_12_s = record {
+  status = status.RollbackInProgress;
+  number = 1;
+  operation = 1;
+  held = [];
+  before = [];
+  made = (record { path = (codes "A"); kind = file; physical = (codes "f1:1"); props = (file_props (codes "a") (codes "x")); attrs = (file_attrs (codes "f1:1") 1 (codes "a") (codes "x")); needs = []; deletion = deletion.Delete; replace = replace.Delete; status = held.DeleteFailed; unsure = false; superseded = false } ∷ record { path = (codes "B"); kind = file; physical = (codes "f1:2"); props = (file_props (codes "b") (codes "y")); attrs = (file_attrs (codes "f1:2") 1 (codes "b") (codes "y")); needs = []; deletion = deletion.Delete; replace = replace.Delete; status = held.CreateComplete; unsure = false; superseded = false } ∷ []);
+  leftovers = [];
+  tokens = (record { token = 5; path = (codes "B"); lane = (codes "f1"); request = (request.Delete (codes "f1:2")) } ∷ []);
+  abandoned = [];
+  source = None;
+  going = Some (source_for (codes "s") 1 first);
+  outputs = [];
+  sets = [];
+  events = ((codes "event 2 - CREATE_IN_PROGRESS") ∷ (codes "event 3 A CREATE_IN_PROGRESS") ∷ (codes "event 4 A CREATE_COMPLETE") ∷ (codes "event 5 B CREATE_IN_PROGRESS") ∷ (codes "event 6 B CREATE_COMPLETE") ∷ (codes "event 7 C CREATE_IN_PROGRESS") ∷ (codes "event 8 C CREATE_FAILED ServiceLimitExceeded") ∷ (codes "event 9 - ROLLBACK_IN_PROGRESS") ∷ (codes "event 10 A DELETE_IN_PROGRESS") ∷ (codes "event 11 A DELETE_FAILED AccessDenied") ∷ (codes "event 12 B DELETE_IN_PROGRESS") ∷ []);
+  entries = (begun ∷ intended_a ∷ made_a ∷ intended_b ∷ made_b ∷ intended_c ∷ refused ∷ turned ∷ intended_deletion_a ∷ undeleted ∷ intended_deletion_b ∷ []);
+}
+
+abbrev world_12 : World
+world_12 = record { stacks = (((codes "s"), stack_12_s) ∷ []); exports = []; pins = []; claims = []; lanes = (lane_pair (codes "f1") file ∷ lane_pair (codes "r1") note ∷ []); epoch = 1; operation = 1; set = 0; token = 5; place = 12 }
+
+leads_12 : world_after world_11 intended_deletion_b ≡ world_12
+unfolding computing
+leads_12 = refl
+
+may_deleted : MayFollow schemas world_12 (5 ∷ []) deleted
+unfolding computing
+may_deleted = ((codes "s"), stack_12_s, Back, refl, refl, (refl, refl, lit≤ tt))
+
+abbrev stack_13_s : StackState
+stack_13_s = record {
+  status = status.RollbackInProgress;
+  number = 1;
+  operation = 1;
+  held = [];
+  before = [];
+  made = (record { path = (codes "A"); kind = file; physical = (codes "f1:1"); props = (file_props (codes "a") (codes "x")); attrs = (file_attrs (codes "f1:1") 1 (codes "a") (codes "x")); needs = []; deletion = deletion.Delete; replace = replace.Delete; status = held.DeleteFailed; unsure = false; superseded = false } ∷ []);
+  leftovers = [];
+  tokens = [];
+  abandoned = [];
+  source = None;
+  going = Some (source_for (codes "s") 1 first);
+  outputs = [];
+  sets = [];
+  events = ((codes "event 2 - CREATE_IN_PROGRESS") ∷ (codes "event 3 A CREATE_IN_PROGRESS") ∷ (codes "event 4 A CREATE_COMPLETE") ∷ (codes "event 5 B CREATE_IN_PROGRESS") ∷ (codes "event 6 B CREATE_COMPLETE") ∷ (codes "event 7 C CREATE_IN_PROGRESS") ∷ (codes "event 8 C CREATE_FAILED ServiceLimitExceeded") ∷ (codes "event 9 - ROLLBACK_IN_PROGRESS") ∷ (codes "event 10 A DELETE_IN_PROGRESS") ∷ (codes "event 11 A DELETE_FAILED AccessDenied") ∷ (codes "event 12 B DELETE_IN_PROGRESS") ∷ (codes "event 13 B DELETE_COMPLETE") ∷ []);
+  entries = (begun ∷ intended_a ∷ made_a ∷ intended_b ∷ made_b ∷ intended_c ∷ refused ∷ turned ∷ intended_deletion_a ∷ undeleted ∷ intended_deletion_b ∷ deleted ∷ []);
+}
+
+abbrev world_13 : World
+world_13 = record { stacks = (((codes "s"), stack_13_s) ∷ []); exports = []; pins = []; claims = []; lanes = (lane_pair (codes "f1") file ∷ lane_pair (codes "r1") note ∷ []); epoch = 1; operation = 1; set = 0; token = 5; place = 13 }
+
+leads_13 : world_after world_12 deleted ≡ world_13
+unfolding computing
+leads_13 = refl
+
+may_failed : MayFollow schemas world_13 [] failed
+unfolding computing
+may_failed = ((codes "s"), stack_13_s, Back, refl, refl, (refl, end_of_rollback schemas (codes "s") world_13 stack_13_s refl refl refl, refl, (refl, are_failed stack_13_s ((codes "A") ∷ (codes "C") ∷ []) refl refl)))
+
+abbrev stack_14_s : StackState
+stack_14_s = record {
+  status = status.RollbackFailed;
+  number = 1;
+  operation = 1;
+  held = (record { path = (codes "A"); kind = file; physical = (codes "f1:1"); props = (file_props (codes "a") (codes "x")); attrs = (file_attrs (codes "f1:1") 1 (codes "a") (codes "x")); needs = []; deletion = deletion.Delete; replace = replace.Delete; status = held.DeleteFailed; unsure = false; superseded = false } ∷ []);
+  before = [];
+  made = [];
+  leftovers = [];
+  tokens = [];
+  abandoned = [];
+  source = None;
+  going = Some (source_for (codes "s") 1 first);
+  outputs = [];
+  sets = [];
+  events = ((codes "event 2 - CREATE_IN_PROGRESS") ∷ (codes "event 3 A CREATE_IN_PROGRESS") ∷ (codes "event 4 A CREATE_COMPLETE") ∷ (codes "event 5 B CREATE_IN_PROGRESS") ∷ (codes "event 6 B CREATE_COMPLETE") ∷ (codes "event 7 C CREATE_IN_PROGRESS") ∷ (codes "event 8 C CREATE_FAILED ServiceLimitExceeded") ∷ (codes "event 9 - ROLLBACK_IN_PROGRESS") ∷ (codes "event 10 A DELETE_IN_PROGRESS") ∷ (codes "event 11 A DELETE_FAILED AccessDenied") ∷ (codes "event 12 B DELETE_IN_PROGRESS") ∷ (codes "event 13 B DELETE_COMPLETE") ∷ (codes "event 14 - ROLLBACK_FAILED") ∷ []);
+  entries = (begun ∷ intended_a ∷ made_a ∷ intended_b ∷ made_b ∷ intended_c ∷ refused ∷ turned ∷ intended_deletion_a ∷ undeleted ∷ intended_deletion_b ∷ deleted ∷ failed ∷ []);
+}
+
+abbrev world_14 : World
+world_14 = record { stacks = (((codes "s"), stack_14_s) ∷ []); exports = []; pins = []; claims = []; lanes = (lane_pair (codes "f1") file ∷ lane_pair (codes "r1") note ∷ []); epoch = 1; operation = 1; set = 0; token = 5; place = 14 }
+
+leads_14 : world_after world_13 failed ≡ world_14
+unfolding computing
+leads_14 = refl
+
+abbrev rest_14 : List Entry
+rest_14 = []
+
+abbrev rest_13 : List Entry
+rest_13 = failed ∷ rest_14
+
+abbrev rest_12 : List Entry
+rest_12 = deleted ∷ rest_13
+
+abbrev rest_11 : List Entry
+rest_11 = intended_deletion_b ∷ rest_12
+
+abbrev rest_10 : List Entry
+rest_10 = undeleted ∷ rest_11
+
+abbrev rest_9 : List Entry
+rest_9 = intended_deletion_a ∷ rest_10
+
+abbrev rest_8 : List Entry
+rest_8 = turned ∷ rest_9
+
+abbrev rest_7 : List Entry
+rest_7 = refused ∷ rest_8
+
+abbrev rest_6 : List Entry
+rest_6 = intended_c ∷ rest_7
+
+abbrev rest_5 : List Entry
+rest_5 = made_b ∷ rest_6
+
+abbrev rest_4 : List Entry
+rest_4 = intended_b ∷ rest_5
+
+abbrev rest_3 : List Entry
+rest_3 = made_a ∷ rest_4
+
+abbrev rest_2 : List Entry
+rest_2 = intended_a ∷ rest_3
+
+abbrev rest_1 : List Entry
+rest_1 = begun ∷ rest_2
+
+abbrev rest_0 : List Entry
+rest_0 = opened ∷ rest_1
+
+pub legal : Legal
+legal = legal_step world_0 world_1 opened rest_1 [] may_opened leads_1 (legal_step world_1 world_2 begun rest_2 [] may_begun leads_2 (legal_step world_2 world_3 intended_a rest_3 [] may_intended_a leads_3 (legal_step world_3 world_4 made_a rest_4 (1 ∷ []) may_made_a leads_4 (legal_step world_4 world_5 intended_b rest_5 [] may_intended_b leads_5 (legal_step world_5 world_6 made_b rest_6 (2 ∷ []) may_made_b leads_6 (legal_step world_6 world_7 intended_c rest_7 [] may_intended_c leads_7 (legal_step world_7 world_8 refused rest_8 (3 ∷ []) may_refused leads_8 (legal_step world_8 world_9 turned rest_9 [] may_turned leads_9 (legal_step world_9 world_10 intended_deletion_a rest_10 [] may_intended_deletion_a leads_10 (legal_step world_10 world_11 undeleted rest_11 (4 ∷ []) may_undeleted leads_11 (legal_step world_11 world_12 intended_deletion_b rest_12 [] may_intended_deletion_b leads_12 (legal_step world_12 world_13 deleted rest_13 (5 ∷ []) may_deleted leads_13 (legal_step world_13 world_14 failed rest_14 [] may_failed leads_14 (tt))))))))))))))
+
+arrives_13 : fold_of empty_world (opened ∷ begun ∷ intended_a ∷ made_a ∷ intended_b ∷ made_b ∷ intended_c ∷ refused ∷ turned ∷ intended_deletion_a ∷ undeleted ∷ intended_deletion_b ∷ deleted ∷ []) ≡ world_13
+arrives_13 = fold_step world_0 world_1 opened (begun ∷ intended_a ∷ made_a ∷ intended_b ∷ made_b ∷ intended_c ∷ refused ∷ turned ∷ intended_deletion_a ∷ undeleted ∷ intended_deletion_b ∷ deleted ∷ []) leads_1 (fold_step world_1 world_2 begun (intended_a ∷ made_a ∷ intended_b ∷ made_b ∷ intended_c ∷ refused ∷ turned ∷ intended_deletion_a ∷ undeleted ∷ intended_deletion_b ∷ deleted ∷ []) leads_2 (fold_step world_2 world_3 intended_a (made_a ∷ intended_b ∷ made_b ∷ intended_c ∷ refused ∷ turned ∷ intended_deletion_a ∷ undeleted ∷ intended_deletion_b ∷ deleted ∷ []) leads_3 (fold_step world_3 world_4 made_a (intended_b ∷ made_b ∷ intended_c ∷ refused ∷ turned ∷ intended_deletion_a ∷ undeleted ∷ intended_deletion_b ∷ deleted ∷ []) leads_4 (fold_step world_4 world_5 intended_b (made_b ∷ intended_c ∷ refused ∷ turned ∷ intended_deletion_a ∷ undeleted ∷ intended_deletion_b ∷ deleted ∷ []) leads_5 (fold_step world_5 world_6 made_b (intended_c ∷ refused ∷ turned ∷ intended_deletion_a ∷ undeleted ∷ intended_deletion_b ∷ deleted ∷ []) leads_6 (fold_step world_6 world_7 intended_c (refused ∷ turned ∷ intended_deletion_a ∷ undeleted ∷ intended_deletion_b ∷ deleted ∷ []) leads_7 (fold_step world_7 world_8 refused (turned ∷ intended_deletion_a ∷ undeleted ∷ intended_deletion_b ∷ deleted ∷ []) leads_8 (fold_step world_8 world_9 turned (intended_deletion_a ∷ undeleted ∷ intended_deletion_b ∷ deleted ∷ []) leads_9 (fold_step world_9 world_10 intended_deletion_a (undeleted ∷ intended_deletion_b ∷ deleted ∷ []) leads_10 (fold_step world_10 world_11 undeleted (intended_deletion_b ∷ deleted ∷ []) leads_11 (fold_step world_11 world_12 intended_deletion_b (deleted ∷ []) leads_12 (fold_step world_12 world_13 deleted ([]) leads_13 (refl)))))))))))))
+
+arrives_14 : fold_of empty_world (opened ∷ begun ∷ intended_a ∷ made_a ∷ intended_b ∷ made_b ∷ intended_c ∷ refused ∷ turned ∷ intended_deletion_a ∷ undeleted ∷ intended_deletion_b ∷ deleted ∷ failed ∷ []) ≡ world_14
+arrives_14 = fold_step world_0 world_1 opened (begun ∷ intended_a ∷ made_a ∷ intended_b ∷ made_b ∷ intended_c ∷ refused ∷ turned ∷ intended_deletion_a ∷ undeleted ∷ intended_deletion_b ∷ deleted ∷ failed ∷ []) leads_1 (fold_step world_1 world_2 begun (intended_a ∷ made_a ∷ intended_b ∷ made_b ∷ intended_c ∷ refused ∷ turned ∷ intended_deletion_a ∷ undeleted ∷ intended_deletion_b ∷ deleted ∷ failed ∷ []) leads_2 (fold_step world_2 world_3 intended_a (made_a ∷ intended_b ∷ made_b ∷ intended_c ∷ refused ∷ turned ∷ intended_deletion_a ∷ undeleted ∷ intended_deletion_b ∷ deleted ∷ failed ∷ []) leads_3 (fold_step world_3 world_4 made_a (intended_b ∷ made_b ∷ intended_c ∷ refused ∷ turned ∷ intended_deletion_a ∷ undeleted ∷ intended_deletion_b ∷ deleted ∷ failed ∷ []) leads_4 (fold_step world_4 world_5 intended_b (made_b ∷ intended_c ∷ refused ∷ turned ∷ intended_deletion_a ∷ undeleted ∷ intended_deletion_b ∷ deleted ∷ failed ∷ []) leads_5 (fold_step world_5 world_6 made_b (intended_c ∷ refused ∷ turned ∷ intended_deletion_a ∷ undeleted ∷ intended_deletion_b ∷ deleted ∷ failed ∷ []) leads_6 (fold_step world_6 world_7 intended_c (refused ∷ turned ∷ intended_deletion_a ∷ undeleted ∷ intended_deletion_b ∷ deleted ∷ failed ∷ []) leads_7 (fold_step world_7 world_8 refused (turned ∷ intended_deletion_a ∷ undeleted ∷ intended_deletion_b ∷ deleted ∷ failed ∷ []) leads_8 (fold_step world_8 world_9 turned (intended_deletion_a ∷ undeleted ∷ intended_deletion_b ∷ deleted ∷ failed ∷ []) leads_9 (fold_step world_9 world_10 intended_deletion_a (undeleted ∷ intended_deletion_b ∷ deleted ∷ failed ∷ []) leads_10 (fold_step world_10 world_11 undeleted (intended_deletion_b ∷ deleted ∷ failed ∷ []) leads_11 (fold_step world_11 world_12 intended_deletion_b (deleted ∷ failed ∷ []) leads_12 (fold_step world_12 world_13 deleted (failed ∷ []) leads_13 (fold_step world_13 world_14 failed ([]) leads_14 (refl))))))))))))))
+
+pub report_0 : Shows
+report_0 = ap (report_of (codes "s")) arrives_14
+
+may_not_0 : (out : List ℕ) → MayFollow schemas world_13 out (entry.Done 1 status.RollbackFailed ((codes "A") ∷ (codes "B") ∷ (codes "C") ∷ [])) → ⊥
+unfolding computing
+may_not_0 = λ out may. let m = follows_on schemas 1 world_13 out (entry.Done 1 status.RollbackFailed ((codes "A") ∷ (codes "B") ∷ (codes "C") ∷ [])) ((codes "s"), stack_13_s) Back refl refl may in (let z : false ≡ true = (m.3.1 (codes "B")).0 (there here) in true≢false (sym z))
+
+pub refused_0 : AllNamed
+refused_0 = refused_at world_13 (opened ∷ begun ∷ intended_a ∷ made_a ∷ intended_b ∷ made_b ∷ intended_c ∷ refused ∷ turned ∷ intended_deletion_a ∷ undeleted ∷ intended_deletion_b ∷ deleted ∷ []) (entry.Done 1 status.RollbackFailed ((codes "A") ∷ (codes "B") ∷ (codes "C") ∷ [])) arrives_13 may_not_0

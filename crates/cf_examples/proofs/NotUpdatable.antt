@@ -1,0 +1,525 @@
+-- An update that is answered NotUpdatable where a conditional property differs becomes a replacement.
+use Rattle.std.proofs.Common.{◌≡◌, refl, List, [], ◌∷◌, Some, None, true, false, inl, inr, ap, lit≤}
+use Rattle.std.specs.Prelude.{codes}
+use Rattle.cf_tree.specs.Datum.{text}
+use Rattle.cf_tree.specs.declared.request.Request.TheVariants as request
+use Rattle.cf_entry.specs.declared.entry.Entry.{Entry}
+use Rattle.cf_stacks.specs.declared.state.World.{World}
+use Rattle.cf_stacks.specs.declared.state.StackState.{StackState}
+use Rattle.cf_stacks.specs.Fold.{empty_world, world_after, source_for}
+use Rattle.cf_stacks.specs.Status.{Forward, Clean}
+use Rattle.cf_schema.specs.declared.changed.Difference.TheVariants.{Same, MayReplace, Replace}
+use Rattle.cf_plan.specs.Forward.{here, HasFailed, IsReady, AllDone, IsDone, is_made}
+use Rattle.cf_plan.specs.Follow.{MayFollow}
+use Rattle.cf_examples.specs.Given.{schemas, note, note_props, note_attrs}
+use Rattle.cf_examples.proofs.Computing.{computing}
+use Rattle.cf_examples.proofs.Lists.{in_none, only}
+use Rattle.cf_examples.proofs.Failing.{not_failed, not_done_new, not_done_other, same_at}
+use Rattle.cf_examples.proofs.Ending.{end_of_create, end_of_clean}
+use Rattle.cf_tree.specs.declared.template.Deletion.TheVariants as deletion
+use Rattle.cf_tree.specs.declared.template.Replace.TheVariants as replace
+use Rattle.cf_entry.specs.declared.status.Status.TheVariants as status
+use Rattle.cf_stacks.specs.declared.held.HeldStatus.TheVariants as held
+use Rattle.cf_stacks.specs.Fold.{fold_of}
+use Rattle.cf_examples.specs.Given.{lane_pair, report_of}
+use Rattle.cf_examples.proofs.Refusing.{legal_step, fold_step}
+use Rattle.cf_examples.proofs.Beginning.{no_imports}
+use Rattle.cf_examples.specs.NotUpdatable.{first, second, opened, begun, intended, made, created, updating, intended_change, not_updatable, intended_new, made_new, cleaning, intended_deletion, deleted, updated, Legal, Shows}
+
+abbrev world_0 : World
+world_0 = empty_world
+
+may_opened : MayFollow schemas world_0 [] opened
+unfolding computing
+may_opened = (refl, refl, λ name s e. absurd (cc))
+
+abbrev world_1 : World
+world_1 = record { stacks = []; exports = []; pins = []; claims = []; lanes = (lane_pair (codes "r1") note ∷ []); epoch = 1; operation = 0; set = 0; token = 0; place = 1 }
+
+leads_1 : world_after world_0 opened ≡ world_1
+unfolding computing
+leads_1 = refl
+
+may_begun : MayFollow schemas world_1 [] begun
+unfolding computing
+may_begun = (refl, refl, record { no_flaw = refl; known_types = refl; same_types = refl; imports = no_imports _ _ _ _ refl refl; free = refl; not_in_use = refl; changing = inl refl })
+
+abbrev stack_2_s : StackState
+stack_2_s = record {
+  status = status.CreateInProgress;
+  number = 1;
+  operation = 1;
+  held = [];
+  before = [];
+  made = [];
+  leftovers = [];
+  tokens = [];
+  abandoned = [];
+  source = None;
+  going = Some (source_for (codes "s") 1 first);
+  outputs = [];
+  sets = [];
+  events = ((codes "event 2 - CREATE_IN_PROGRESS") ∷ []);
+  entries = (begun ∷ []);
+}
+
+abbrev world_2 : World
+world_2 = record { stacks = (((codes "s"), stack_2_s) ∷ []); exports = []; pins = []; claims = []; lanes = (lane_pair (codes "r1") note ∷ []); epoch = 1; operation = 1; set = 0; token = 0; place = 2 }
+
+leads_2 : world_after world_1 begun ≡ world_2
+unfolding computing
+leads_2 = refl
+
+sound_2 : ¬ HasFailed schemas (codes "s") world_2 stack_2_s
+unfolding computing
+sound_2 = not_failed schemas (codes "s") world_2 stack_2_s (record { calls = refl; paths = refl; inner = refl; flaws = refl; exports = refl })
+
+ready_2_K : IsReady stack_2_s (codes "K")
+unfolding computing
+ready_2_K = (here, λ q i. absurd (in_none i))
+
+may_intended : MayFollow schemas world_2 [] intended
+unfolding computing
+may_intended = ((codes "s"), stack_2_s, Forward, refl, refl, record { next = refl; free = refl; home = refl; fits = refl; no_repeat = refl; chosen = (sound_2, ready_2_K, not_done_new (codes "K") stack_2_s refl refl refl, (refl, tt)) })
+
+abbrev stack_3_s : StackState
+stack_3_s = record {
+  status = status.CreateInProgress;
+  number = 1;
+  operation = 1;
+  held = [];
+  before = [];
+  made = [];
+  leftovers = [];
+  tokens = (record { token = 1; path = (codes "K"); lane = (codes "r1"); request = (request.Create note ((codes "Class", text (codes "sealed")) ∷ (note_props (codes "k") (codes "v")))) } ∷ []);
+  abandoned = [];
+  source = None;
+  going = Some (source_for (codes "s") 1 first);
+  outputs = [];
+  sets = [];
+  events = ((codes "event 2 - CREATE_IN_PROGRESS") ∷ (codes "event 3 K CREATE_IN_PROGRESS") ∷ []);
+  entries = (begun ∷ intended ∷ []);
+}
+
+abbrev world_3 : World
+world_3 = record { stacks = (((codes "s"), stack_3_s) ∷ []); exports = []; pins = []; claims = []; lanes = (lane_pair (codes "r1") note ∷ []); epoch = 1; operation = 1; set = 0; token = 1; place = 3 }
+
+leads_3 : world_after world_2 intended ≡ world_3
+unfolding computing
+leads_3 = refl
+
+may_made : MayFollow schemas world_3 (1 ∷ []) made
+unfolding computing
+may_made = ((codes "s"), stack_3_s, Forward, refl, refl, (refl, refl, lit≤ tt))
+
+abbrev stack_4_s : StackState
+stack_4_s = record {
+  status = status.CreateInProgress;
+  number = 1;
+  operation = 1;
+  held = [];
+  before = [];
+  made = (record { path = (codes "K"); kind = note; physical = (codes "r1:1"); props = ((codes "Class", text (codes "sealed")) ∷ (note_props (codes "k") (codes "v"))); attrs = ((codes "Class", text (codes "sealed")) ∷ (note_attrs (codes "r1:1") 1 (codes "k") (codes "v"))); needs = []; deletion = deletion.Delete; replace = replace.Delete; status = held.CreateComplete; unsure = false; superseded = false } ∷ []);
+  leftovers = [];
+  tokens = [];
+  abandoned = [];
+  source = None;
+  going = Some (source_for (codes "s") 1 first);
+  outputs = [];
+  sets = [];
+  events = ((codes "event 2 - CREATE_IN_PROGRESS") ∷ (codes "event 3 K CREATE_IN_PROGRESS") ∷ (codes "event 4 K CREATE_COMPLETE") ∷ []);
+  entries = (begun ∷ intended ∷ made ∷ []);
+}
+
+abbrev world_4 : World
+world_4 = record { stacks = (((codes "s"), stack_4_s) ∷ []); exports = []; pins = []; claims = []; lanes = (lane_pair (codes "r1") note ∷ []); epoch = 1; operation = 1; set = 0; token = 1; place = 4 }
+
+leads_4 : world_after world_3 made ≡ world_4
+unfolding computing
+leads_4 = refl
+
+all_done_4 : AllDone stack_4_s
+unfolding computing
+all_done_4 = λ p i. only (IsDone stack_4_s) (is_made _ refl) p i
+
+sound_4 : ¬ HasFailed schemas (codes "s") world_4 stack_4_s
+unfolding computing
+sound_4 = not_failed schemas (codes "s") world_4 stack_4_s (record { calls = refl; paths = refl; inner = refl; flaws = refl; exports = refl })
+
+may_created : MayFollow schemas world_4 [] created
+unfolding computing
+may_created = ((codes "s"), stack_4_s, Forward, refl, refl, (refl, end_of_create schemas (codes "s") world_4 stack_4_s refl all_done_4 sound_4 refl, (sound_4, all_done_4), refl))
+
+abbrev stack_5_s : StackState
+stack_5_s = record {
+  status = status.CreateComplete;
+  number = 1;
+  operation = 1;
+  held = (record { path = (codes "K"); kind = note; physical = (codes "r1:1"); props = ((codes "Class", text (codes "sealed")) ∷ (note_props (codes "k") (codes "v"))); attrs = ((codes "Class", text (codes "sealed")) ∷ (note_attrs (codes "r1:1") 1 (codes "k") (codes "v"))); needs = []; deletion = deletion.Delete; replace = replace.Delete; status = held.CreateComplete; unsure = false; superseded = false } ∷ []);
+  before = [];
+  made = [];
+  leftovers = [];
+  tokens = [];
+  abandoned = [];
+  source = Some (source_for (codes "s") 1 first);
+  going = Some (source_for (codes "s") 1 first);
+  outputs = [];
+  sets = [];
+  events = ((codes "event 2 - CREATE_IN_PROGRESS") ∷ (codes "event 3 K CREATE_IN_PROGRESS") ∷ (codes "event 4 K CREATE_COMPLETE") ∷ (codes "event 5 - CREATE_COMPLETE") ∷ []);
+  entries = (begun ∷ intended ∷ made ∷ created ∷ []);
+}
+
+abbrev world_5 : World
+world_5 = record { stacks = (((codes "s"), stack_5_s) ∷ []); exports = []; pins = []; claims = []; lanes = (lane_pair (codes "r1") note ∷ []); epoch = 1; operation = 1; set = 0; token = 1; place = 5 }
+
+leads_5 : world_after world_4 created ≡ world_5
+unfolding computing
+leads_5 = refl
+
+may_updating : MayFollow schemas world_5 [] updating
+unfolding computing
+may_updating = (refl, refl, record { no_flaw = refl; known_types = refl; same_types = refl; imports = no_imports _ _ _ _ refl refl; free = refl; not_in_use = refl; changing = inr (inl refl) })
+
+abbrev stack_6_s : StackState
+stack_6_s = record {
+  status = status.UpdateInProgress;
+  number = 1;
+  operation = 2;
+  held = (record { path = (codes "K"); kind = note; physical = (codes "r1:1"); props = ((codes "Class", text (codes "sealed")) ∷ (note_props (codes "k") (codes "v"))); attrs = ((codes "Class", text (codes "sealed")) ∷ (note_attrs (codes "r1:1") 1 (codes "k") (codes "v"))); needs = []; deletion = deletion.Delete; replace = replace.Delete; status = held.CreateComplete; unsure = false; superseded = false } ∷ []);
+  before = (record { path = (codes "K"); kind = note; physical = (codes "r1:1"); props = ((codes "Class", text (codes "sealed")) ∷ (note_props (codes "k") (codes "v"))); attrs = ((codes "Class", text (codes "sealed")) ∷ (note_attrs (codes "r1:1") 1 (codes "k") (codes "v"))); needs = []; deletion = deletion.Delete; replace = replace.Delete; status = held.CreateComplete; unsure = false; superseded = false } ∷ []);
+  made = [];
+  leftovers = [];
+  tokens = [];
+  abandoned = [];
+  source = Some (source_for (codes "s") 1 first);
+  going = Some (source_for (codes "s") 1 second);
+  outputs = [];
+  sets = [];
+  events = ((codes "event 2 - CREATE_IN_PROGRESS") ∷ (codes "event 3 K CREATE_IN_PROGRESS") ∷ (codes "event 4 K CREATE_COMPLETE") ∷ (codes "event 5 - CREATE_COMPLETE") ∷ (codes "event 6 - UPDATE_IN_PROGRESS") ∷ []);
+  entries = (updating ∷ []);
+}
+
+abbrev world_6 : World
+world_6 = record { stacks = (((codes "s"), stack_6_s) ∷ []); exports = []; pins = []; claims = []; lanes = (lane_pair (codes "r1") note ∷ []); epoch = 1; operation = 2; set = 0; token = 1; place = 6 }
+
+leads_6 : world_after world_5 updating ≡ world_6
+unfolding computing
+leads_6 = refl
+
+sound_6 : ¬ HasFailed schemas (codes "s") world_6 stack_6_s
+unfolding computing
+sound_6 = not_failed schemas (codes "s") world_6 stack_6_s (record { calls = refl; paths = refl; inner = refl; flaws = refl; exports = refl })
+
+ready_6_K : IsReady stack_6_s (codes "K")
+unfolding computing
+ready_6_K = (here, λ q i. absurd (in_none i))
+
+may_intended_change : MayFollow schemas world_6 [] intended_change
+unfolding computing
+may_intended_change = ((codes "s"), stack_6_s, Forward, refl, refl, record { next = refl; free = refl; home = refl; fits = ((codes "1", refl), refl); no_repeat = refl; chosen = (sound_6, ready_6_K, not_done_other (codes "K") stack_6_s (same_at (codes "Class") (codes "sealed")) _ _ _ refl refl refl refl refl refl, (_, refl, refl, refl, ((λ e. let z : MayReplace ≡ Replace = e in cc), inr (λ e. let z : MayReplace ≡ Same = e in cc)), refl)) })
+
+abbrev stack_7_s : StackState
+stack_7_s = record {
+  status = status.UpdateInProgress;
+  number = 1;
+  operation = 2;
+  held = (record { path = (codes "K"); kind = note; physical = (codes "r1:1"); props = ((codes "Class", text (codes "sealed")) ∷ (note_props (codes "k") (codes "v"))); attrs = ((codes "Class", text (codes "sealed")) ∷ (note_attrs (codes "r1:1") 1 (codes "k") (codes "v"))); needs = []; deletion = deletion.Delete; replace = replace.Delete; status = held.CreateComplete; unsure = false; superseded = false } ∷ []);
+  before = (record { path = (codes "K"); kind = note; physical = (codes "r1:1"); props = ((codes "Class", text (codes "sealed")) ∷ (note_props (codes "k") (codes "v"))); attrs = ((codes "Class", text (codes "sealed")) ∷ (note_attrs (codes "r1:1") 1 (codes "k") (codes "v"))); needs = []; deletion = deletion.Delete; replace = replace.Delete; status = held.CreateComplete; unsure = false; superseded = false } ∷ []);
+  made = [];
+  leftovers = [];
+  tokens = (record { token = 2; path = (codes "K"); lane = (codes "r1"); request = (request.Update (codes "r1:1") ((codes "Class", text (codes "plain")) ∷ (note_props (codes "k") (codes "v")))) } ∷ []);
+  abandoned = [];
+  source = Some (source_for (codes "s") 1 first);
+  going = Some (source_for (codes "s") 1 second);
+  outputs = [];
+  sets = [];
+  events = ((codes "event 2 - CREATE_IN_PROGRESS") ∷ (codes "event 3 K CREATE_IN_PROGRESS") ∷ (codes "event 4 K CREATE_COMPLETE") ∷ (codes "event 5 - CREATE_COMPLETE") ∷ (codes "event 6 - UPDATE_IN_PROGRESS") ∷ (codes "event 7 K UPDATE_IN_PROGRESS") ∷ []);
+  entries = (updating ∷ intended_change ∷ []);
+}
+
+abbrev world_7 : World
+world_7 = record { stacks = (((codes "s"), stack_7_s) ∷ []); exports = []; pins = []; claims = []; lanes = (lane_pair (codes "r1") note ∷ []); epoch = 1; operation = 2; set = 0; token = 2; place = 7 }
+
+leads_7 : world_after world_6 intended_change ≡ world_7
+unfolding computing
+leads_7 = refl
+
+may_not_updatable : MayFollow schemas world_7 (2 ∷ []) not_updatable
+unfolding computing
+may_not_updatable = ((codes "s"), stack_7_s, Forward, refl, refl, (refl, refl, (lit≤ tt, λ _. lit≤ tt)))
+
+abbrev stack_8_s : StackState
+stack_8_s = record {
+  status = status.UpdateInProgress;
+  number = 1;
+  operation = 2;
+  held = (record { path = (codes "K"); kind = note; physical = (codes "r1:1"); props = ((codes "Class", text (codes "sealed")) ∷ (note_props (codes "k") (codes "v"))); attrs = ((codes "Class", text (codes "sealed")) ∷ (note_attrs (codes "r1:1") 1 (codes "k") (codes "v"))); needs = []; deletion = deletion.Delete; replace = replace.Delete; status = held.CreateComplete; unsure = false; superseded = false } ∷ []);
+  before = (record { path = (codes "K"); kind = note; physical = (codes "r1:1"); props = ((codes "Class", text (codes "sealed")) ∷ (note_props (codes "k") (codes "v"))); attrs = ((codes "Class", text (codes "sealed")) ∷ (note_attrs (codes "r1:1") 1 (codes "k") (codes "v"))); needs = []; deletion = deletion.Delete; replace = replace.Delete; status = held.CreateComplete; unsure = false; superseded = false } ∷ []);
+  made = [];
+  leftovers = [];
+  tokens = [];
+  abandoned = [];
+  source = Some (source_for (codes "s") 1 first);
+  going = Some (source_for (codes "s") 1 second);
+  outputs = [];
+  sets = [];
+  events = ((codes "event 2 - CREATE_IN_PROGRESS") ∷ (codes "event 3 K CREATE_IN_PROGRESS") ∷ (codes "event 4 K CREATE_COMPLETE") ∷ (codes "event 5 - CREATE_COMPLETE") ∷ (codes "event 6 - UPDATE_IN_PROGRESS") ∷ (codes "event 7 K UPDATE_IN_PROGRESS") ∷ (codes "event 8 K UPDATE_FAILED NotUpdatable") ∷ []);
+  entries = (updating ∷ intended_change ∷ not_updatable ∷ []);
+}
+
+abbrev world_8 : World
+world_8 = record { stacks = (((codes "s"), stack_8_s) ∷ []); exports = []; pins = []; claims = []; lanes = (lane_pair (codes "r1") note ∷ []); epoch = 1; operation = 2; set = 0; token = 2; place = 8 }
+
+leads_8 : world_after world_7 not_updatable ≡ world_8
+unfolding computing
+leads_8 = refl
+
+sound_8 : ¬ HasFailed schemas (codes "s") world_8 stack_8_s
+unfolding computing
+sound_8 = not_failed schemas (codes "s") world_8 stack_8_s (record { calls = refl; paths = refl; inner = refl; flaws = refl; exports = refl })
+
+ready_8_K : IsReady stack_8_s (codes "K")
+unfolding computing
+ready_8_K = (here, λ q i. absurd (in_none i))
+
+may_intended_new : MayFollow schemas world_8 [] intended_new
+unfolding computing
+may_intended_new = ((codes "s"), stack_8_s, Forward, refl, refl, record { next = refl; free = refl; home = refl; fits = refl; no_repeat = refl; chosen = (sound_8, ready_8_K, not_done_other (codes "K") stack_8_s (same_at (codes "Class") (codes "sealed")) _ _ _ refl refl refl refl refl refl, (refl, inr (refl, refl))) })
+
+abbrev stack_9_s : StackState
+stack_9_s = record {
+  status = status.UpdateInProgress;
+  number = 1;
+  operation = 2;
+  held = (record { path = (codes "K"); kind = note; physical = (codes "r1:1"); props = ((codes "Class", text (codes "sealed")) ∷ (note_props (codes "k") (codes "v"))); attrs = ((codes "Class", text (codes "sealed")) ∷ (note_attrs (codes "r1:1") 1 (codes "k") (codes "v"))); needs = []; deletion = deletion.Delete; replace = replace.Delete; status = held.CreateComplete; unsure = false; superseded = false } ∷ []);
+  before = (record { path = (codes "K"); kind = note; physical = (codes "r1:1"); props = ((codes "Class", text (codes "sealed")) ∷ (note_props (codes "k") (codes "v"))); attrs = ((codes "Class", text (codes "sealed")) ∷ (note_attrs (codes "r1:1") 1 (codes "k") (codes "v"))); needs = []; deletion = deletion.Delete; replace = replace.Delete; status = held.CreateComplete; unsure = false; superseded = false } ∷ []);
+  made = [];
+  leftovers = [];
+  tokens = (record { token = 3; path = (codes "K"); lane = (codes "r1"); request = (request.Create note ((codes "Class", text (codes "plain")) ∷ (note_props (codes "k") (codes "v")))) } ∷ []);
+  abandoned = [];
+  source = Some (source_for (codes "s") 1 first);
+  going = Some (source_for (codes "s") 1 second);
+  outputs = [];
+  sets = [];
+  events = ((codes "event 2 - CREATE_IN_PROGRESS") ∷ (codes "event 3 K CREATE_IN_PROGRESS") ∷ (codes "event 4 K CREATE_COMPLETE") ∷ (codes "event 5 - CREATE_COMPLETE") ∷ (codes "event 6 - UPDATE_IN_PROGRESS") ∷ (codes "event 7 K UPDATE_IN_PROGRESS") ∷ (codes "event 8 K UPDATE_FAILED NotUpdatable") ∷ (codes "event 9 K CREATE_IN_PROGRESS") ∷ []);
+  entries = (updating ∷ intended_change ∷ not_updatable ∷ intended_new ∷ []);
+}
+
+abbrev world_9 : World
+world_9 = record { stacks = (((codes "s"), stack_9_s) ∷ []); exports = []; pins = []; claims = []; lanes = (lane_pair (codes "r1") note ∷ []); epoch = 1; operation = 2; set = 0; token = 3; place = 9 }
+
+leads_9 : world_after world_8 intended_new ≡ world_9
+unfolding computing
+leads_9 = refl
+
+may_made_new : MayFollow schemas world_9 (3 ∷ []) made_new
+unfolding computing
+may_made_new = ((codes "s"), stack_9_s, Forward, refl, refl, (refl, refl, lit≤ tt))
+
+abbrev stack_10_s : StackState
+stack_10_s = record {
+  status = status.UpdateInProgress;
+  number = 1;
+  operation = 2;
+  held = (record { path = (codes "K"); kind = note; physical = (codes "r1:1"); props = ((codes "Class", text (codes "sealed")) ∷ (note_props (codes "k") (codes "v"))); attrs = ((codes "Class", text (codes "sealed")) ∷ (note_attrs (codes "r1:1") 1 (codes "k") (codes "v"))); needs = []; deletion = deletion.Delete; replace = replace.Delete; status = held.CreateComplete; unsure = false; superseded = false } ∷ []);
+  before = (record { path = (codes "K"); kind = note; physical = (codes "r1:1"); props = ((codes "Class", text (codes "sealed")) ∷ (note_props (codes "k") (codes "v"))); attrs = ((codes "Class", text (codes "sealed")) ∷ (note_attrs (codes "r1:1") 1 (codes "k") (codes "v"))); needs = []; deletion = deletion.Delete; replace = replace.Delete; status = held.CreateComplete; unsure = false; superseded = false } ∷ []);
+  made = (record { path = (codes "K"); kind = note; physical = (codes "r1:3"); props = ((codes "Class", text (codes "plain")) ∷ (note_props (codes "k") (codes "v"))); attrs = ((codes "Class", text (codes "plain")) ∷ (note_attrs (codes "r1:3") 1 (codes "k") (codes "v"))); needs = []; deletion = deletion.Delete; replace = replace.Delete; status = held.UpdateComplete; unsure = false; superseded = false } ∷ []);
+  leftovers = [];
+  tokens = [];
+  abandoned = [];
+  source = Some (source_for (codes "s") 1 first);
+  going = Some (source_for (codes "s") 1 second);
+  outputs = [];
+  sets = [];
+  events = ((codes "event 2 - CREATE_IN_PROGRESS") ∷ (codes "event 3 K CREATE_IN_PROGRESS") ∷ (codes "event 4 K CREATE_COMPLETE") ∷ (codes "event 5 - CREATE_COMPLETE") ∷ (codes "event 6 - UPDATE_IN_PROGRESS") ∷ (codes "event 7 K UPDATE_IN_PROGRESS") ∷ (codes "event 8 K UPDATE_FAILED NotUpdatable") ∷ (codes "event 9 K CREATE_IN_PROGRESS") ∷ (codes "event 10 K CREATE_COMPLETE") ∷ []);
+  entries = (updating ∷ intended_change ∷ not_updatable ∷ intended_new ∷ made_new ∷ []);
+}
+
+abbrev world_10 : World
+world_10 = record { stacks = (((codes "s"), stack_10_s) ∷ []); exports = []; pins = []; claims = []; lanes = (lane_pair (codes "r1") note ∷ []); epoch = 1; operation = 2; set = 0; token = 3; place = 10 }
+
+leads_10 : world_after world_9 made_new ≡ world_10
+unfolding computing
+leads_10 = refl
+
+all_done_10 : AllDone stack_10_s
+unfolding computing
+all_done_10 = λ p i. only (IsDone stack_10_s) (is_made _ refl) p i
+
+sound_10 : ¬ HasFailed schemas (codes "s") world_10 stack_10_s
+unfolding computing
+sound_10 = not_failed schemas (codes "s") world_10 stack_10_s (record { calls = refl; paths = refl; inner = refl; flaws = refl; exports = refl })
+
+may_cleaning : MayFollow schemas world_10 [] cleaning
+unfolding computing
+may_cleaning = ((codes "s"), stack_10_s, Forward, refl, refl, (refl, (refl, sound_10, all_done_10)))
+
+abbrev stack_11_s : StackState
+stack_11_s = record {
+  status = status.UpdateCompleteCleanupInProgress;
+  number = 1;
+  operation = 2;
+  held = (record { path = (codes "K"); kind = note; physical = (codes "r1:1"); props = ((codes "Class", text (codes "sealed")) ∷ (note_props (codes "k") (codes "v"))); attrs = ((codes "Class", text (codes "sealed")) ∷ (note_attrs (codes "r1:1") 1 (codes "k") (codes "v"))); needs = []; deletion = deletion.Delete; replace = replace.Delete; status = held.CreateComplete; unsure = false; superseded = true } ∷ record { path = (codes "K"); kind = note; physical = (codes "r1:3"); props = ((codes "Class", text (codes "plain")) ∷ (note_props (codes "k") (codes "v"))); attrs = ((codes "Class", text (codes "plain")) ∷ (note_attrs (codes "r1:3") 1 (codes "k") (codes "v"))); needs = []; deletion = deletion.Delete; replace = replace.Delete; status = held.UpdateComplete; unsure = false; superseded = false } ∷ []);
+  before = (record { path = (codes "K"); kind = note; physical = (codes "r1:1"); props = ((codes "Class", text (codes "sealed")) ∷ (note_props (codes "k") (codes "v"))); attrs = ((codes "Class", text (codes "sealed")) ∷ (note_attrs (codes "r1:1") 1 (codes "k") (codes "v"))); needs = []; deletion = deletion.Delete; replace = replace.Delete; status = held.CreateComplete; unsure = false; superseded = false } ∷ []);
+  made = [];
+  leftovers = [];
+  tokens = [];
+  abandoned = [];
+  source = Some (source_for (codes "s") 1 second);
+  going = Some (source_for (codes "s") 1 second);
+  outputs = [];
+  sets = [];
+  events = ((codes "event 2 - CREATE_IN_PROGRESS") ∷ (codes "event 3 K CREATE_IN_PROGRESS") ∷ (codes "event 4 K CREATE_COMPLETE") ∷ (codes "event 5 - CREATE_COMPLETE") ∷ (codes "event 6 - UPDATE_IN_PROGRESS") ∷ (codes "event 7 K UPDATE_IN_PROGRESS") ∷ (codes "event 8 K UPDATE_FAILED NotUpdatable") ∷ (codes "event 9 K CREATE_IN_PROGRESS") ∷ (codes "event 10 K CREATE_COMPLETE") ∷ (codes "event 11 - UPDATE_COMPLETE_CLEANUP_IN_PROGRESS") ∷ []);
+  entries = (updating ∷ intended_change ∷ not_updatable ∷ intended_new ∷ made_new ∷ cleaning ∷ []);
+}
+
+abbrev world_11 : World
+world_11 = record { stacks = (((codes "s"), stack_11_s) ∷ []); exports = []; pins = []; claims = []; lanes = (lane_pair (codes "r1") note ∷ []); epoch = 1; operation = 2; set = 0; token = 3; place = 11 }
+
+leads_11 : world_after world_10 cleaning ≡ world_11
+unfolding computing
+leads_11 = refl
+
+may_intended_deletion : MayFollow schemas world_11 [] intended_deletion
+unfolding computing
+may_intended_deletion = ((codes "s"), stack_11_s, Clean, refl, refl, record { next = refl; free = refl; home = refl; fits = ((codes "1", refl), refl); no_repeat = refl; chosen = (_, (here, refl, refl), refl, refl, refl) })
+
+abbrev stack_12_s : StackState
+stack_12_s = record {
+  status = status.UpdateCompleteCleanupInProgress;
+  number = 1;
+  operation = 2;
+  held = (record { path = (codes "K"); kind = note; physical = (codes "r1:1"); props = ((codes "Class", text (codes "sealed")) ∷ (note_props (codes "k") (codes "v"))); attrs = ((codes "Class", text (codes "sealed")) ∷ (note_attrs (codes "r1:1") 1 (codes "k") (codes "v"))); needs = []; deletion = deletion.Delete; replace = replace.Delete; status = held.CreateComplete; unsure = false; superseded = true } ∷ record { path = (codes "K"); kind = note; physical = (codes "r1:3"); props = ((codes "Class", text (codes "plain")) ∷ (note_props (codes "k") (codes "v"))); attrs = ((codes "Class", text (codes "plain")) ∷ (note_attrs (codes "r1:3") 1 (codes "k") (codes "v"))); needs = []; deletion = deletion.Delete; replace = replace.Delete; status = held.UpdateComplete; unsure = false; superseded = false } ∷ []);
+  before = (record { path = (codes "K"); kind = note; physical = (codes "r1:1"); props = ((codes "Class", text (codes "sealed")) ∷ (note_props (codes "k") (codes "v"))); attrs = ((codes "Class", text (codes "sealed")) ∷ (note_attrs (codes "r1:1") 1 (codes "k") (codes "v"))); needs = []; deletion = deletion.Delete; replace = replace.Delete; status = held.CreateComplete; unsure = false; superseded = false } ∷ []);
+  made = [];
+  leftovers = [];
+  tokens = (record { token = 4; path = (codes "K"); lane = (codes "r1"); request = (request.Delete (codes "r1:1")) } ∷ []);
+  abandoned = [];
+  source = Some (source_for (codes "s") 1 second);
+  going = Some (source_for (codes "s") 1 second);
+  outputs = [];
+  sets = [];
+  events = ((codes "event 2 - CREATE_IN_PROGRESS") ∷ (codes "event 3 K CREATE_IN_PROGRESS") ∷ (codes "event 4 K CREATE_COMPLETE") ∷ (codes "event 5 - CREATE_COMPLETE") ∷ (codes "event 6 - UPDATE_IN_PROGRESS") ∷ (codes "event 7 K UPDATE_IN_PROGRESS") ∷ (codes "event 8 K UPDATE_FAILED NotUpdatable") ∷ (codes "event 9 K CREATE_IN_PROGRESS") ∷ (codes "event 10 K CREATE_COMPLETE") ∷ (codes "event 11 - UPDATE_COMPLETE_CLEANUP_IN_PROGRESS") ∷ (codes "event 12 K DELETE_IN_PROGRESS") ∷ []);
+  entries = (updating ∷ intended_change ∷ not_updatable ∷ intended_new ∷ made_new ∷ cleaning ∷ intended_deletion ∷ []);
+}
+
+abbrev world_12 : World
+world_12 = record { stacks = (((codes "s"), stack_12_s) ∷ []); exports = []; pins = []; claims = []; lanes = (lane_pair (codes "r1") note ∷ []); epoch = 1; operation = 2; set = 0; token = 4; place = 12 }
+
+leads_12 : world_after world_11 intended_deletion ≡ world_12
+unfolding computing
+leads_12 = refl
+
+may_deleted : MayFollow schemas world_12 (4 ∷ []) deleted
+unfolding computing
+may_deleted = ((codes "s"), stack_12_s, Clean, refl, refl, (refl, refl, lit≤ tt))
+
+abbrev stack_13_s : StackState
+stack_13_s = record {
+  status = status.UpdateCompleteCleanupInProgress;
+  number = 1;
+  operation = 2;
+  held = (record { path = (codes "K"); kind = note; physical = (codes "r1:3"); props = ((codes "Class", text (codes "plain")) ∷ (note_props (codes "k") (codes "v"))); attrs = ((codes "Class", text (codes "plain")) ∷ (note_attrs (codes "r1:3") 1 (codes "k") (codes "v"))); needs = []; deletion = deletion.Delete; replace = replace.Delete; status = held.UpdateComplete; unsure = false; superseded = false } ∷ []);
+  before = (record { path = (codes "K"); kind = note; physical = (codes "r1:1"); props = ((codes "Class", text (codes "sealed")) ∷ (note_props (codes "k") (codes "v"))); attrs = ((codes "Class", text (codes "sealed")) ∷ (note_attrs (codes "r1:1") 1 (codes "k") (codes "v"))); needs = []; deletion = deletion.Delete; replace = replace.Delete; status = held.CreateComplete; unsure = false; superseded = false } ∷ []);
+  made = [];
+  leftovers = [];
+  tokens = [];
+  abandoned = [];
+  source = Some (source_for (codes "s") 1 second);
+  going = Some (source_for (codes "s") 1 second);
+  outputs = [];
+  sets = [];
+  events = ((codes "event 2 - CREATE_IN_PROGRESS") ∷ (codes "event 3 K CREATE_IN_PROGRESS") ∷ (codes "event 4 K CREATE_COMPLETE") ∷ (codes "event 5 - CREATE_COMPLETE") ∷ (codes "event 6 - UPDATE_IN_PROGRESS") ∷ (codes "event 7 K UPDATE_IN_PROGRESS") ∷ (codes "event 8 K UPDATE_FAILED NotUpdatable") ∷ (codes "event 9 K CREATE_IN_PROGRESS") ∷ (codes "event 10 K CREATE_COMPLETE") ∷ (codes "event 11 - UPDATE_COMPLETE_CLEANUP_IN_PROGRESS") ∷ (codes "event 12 K DELETE_IN_PROGRESS") ∷ (codes "event 13 K DELETE_COMPLETE") ∷ []);
+  entries = (updating ∷ intended_change ∷ not_updatable ∷ intended_new ∷ made_new ∷ cleaning ∷ intended_deletion ∷ deleted ∷ []);
+}
+
+abbrev world_13 : World
+world_13 = record { stacks = (((codes "s"), stack_13_s) ∷ []); exports = []; pins = []; claims = []; lanes = (lane_pair (codes "r1") note ∷ []); epoch = 1; operation = 2; set = 0; token = 4; place = 13 }
+
+leads_13 : world_after world_12 deleted ≡ world_13
+unfolding computing
+leads_13 = refl
+
+may_updated : MayFollow schemas world_13 [] updated
+unfolding computing
+may_updated = ((codes "s"), stack_13_s, Clean, refl, refl, (refl, end_of_clean schemas (codes "s") world_13 stack_13_s refl refl refl refl, tt, refl))
+
+abbrev stack_14_s : StackState
+stack_14_s = record {
+  status = status.UpdateComplete;
+  number = 1;
+  operation = 2;
+  held = (record { path = (codes "K"); kind = note; physical = (codes "r1:3"); props = ((codes "Class", text (codes "plain")) ∷ (note_props (codes "k") (codes "v"))); attrs = ((codes "Class", text (codes "plain")) ∷ (note_attrs (codes "r1:3") 1 (codes "k") (codes "v"))); needs = []; deletion = deletion.Delete; replace = replace.Delete; status = held.UpdateComplete; unsure = false; superseded = false } ∷ []);
+  before = (record { path = (codes "K"); kind = note; physical = (codes "r1:1"); props = ((codes "Class", text (codes "sealed")) ∷ (note_props (codes "k") (codes "v"))); attrs = ((codes "Class", text (codes "sealed")) ∷ (note_attrs (codes "r1:1") 1 (codes "k") (codes "v"))); needs = []; deletion = deletion.Delete; replace = replace.Delete; status = held.CreateComplete; unsure = false; superseded = false } ∷ []);
+  made = [];
+  leftovers = [];
+  tokens = [];
+  abandoned = [];
+  source = Some (source_for (codes "s") 1 second);
+  going = Some (source_for (codes "s") 1 second);
+  outputs = [];
+  sets = [];
+  events = ((codes "event 2 - CREATE_IN_PROGRESS") ∷ (codes "event 3 K CREATE_IN_PROGRESS") ∷ (codes "event 4 K CREATE_COMPLETE") ∷ (codes "event 5 - CREATE_COMPLETE") ∷ (codes "event 6 - UPDATE_IN_PROGRESS") ∷ (codes "event 7 K UPDATE_IN_PROGRESS") ∷ (codes "event 8 K UPDATE_FAILED NotUpdatable") ∷ (codes "event 9 K CREATE_IN_PROGRESS") ∷ (codes "event 10 K CREATE_COMPLETE") ∷ (codes "event 11 - UPDATE_COMPLETE_CLEANUP_IN_PROGRESS") ∷ (codes "event 12 K DELETE_IN_PROGRESS") ∷ (codes "event 13 K DELETE_COMPLETE") ∷ (codes "event 14 - UPDATE_COMPLETE") ∷ []);
+  entries = (updating ∷ intended_change ∷ not_updatable ∷ intended_new ∷ made_new ∷ cleaning ∷ intended_deletion ∷ deleted ∷ updated ∷ []);
+}
+
+abbrev world_14 : World
+world_14 = record { stacks = (((codes "s"), stack_14_s) ∷ []); exports = []; pins = []; claims = []; lanes = (lane_pair (codes "r1") note ∷ []); epoch = 1; operation = 2; set = 0; token = 4; place = 14 }
+
+leads_14 : world_after world_13 updated ≡ world_14
+unfolding computing
+leads_14 = refl
+
+abbrev rest_14 : List Entry
+rest_14 = []
+
+abbrev rest_13 : List Entry
+rest_13 = updated ∷ rest_14
+
+abbrev rest_12 : List Entry
+rest_12 = deleted ∷ rest_13
+
+abbrev rest_11 : List Entry
+rest_11 = intended_deletion ∷ rest_12
+
+abbrev rest_10 : List Entry
+rest_10 = cleaning ∷ rest_11
+
+abbrev rest_9 : List Entry
+rest_9 = made_new ∷ rest_10
+
+abbrev rest_8 : List Entry
+rest_8 = intended_new ∷ rest_9
+
+abbrev rest_7 : List Entry
+rest_7 = not_updatable ∷ rest_8
+
+abbrev rest_6 : List Entry
+rest_6 = intended_change ∷ rest_7
+
+abbrev rest_5 : List Entry
+rest_5 = updating ∷ rest_6
+
+abbrev rest_4 : List Entry
+rest_4 = created ∷ rest_5
+
+abbrev rest_3 : List Entry
+rest_3 = made ∷ rest_4
+
+abbrev rest_2 : List Entry
+rest_2 = intended ∷ rest_3
+
+abbrev rest_1 : List Entry
+rest_1 = begun ∷ rest_2
+
+abbrev rest_0 : List Entry
+rest_0 = opened ∷ rest_1
+
+pub legal : Legal
+legal = legal_step world_0 world_1 opened rest_1 [] may_opened leads_1 (legal_step world_1 world_2 begun rest_2 [] may_begun leads_2 (legal_step world_2 world_3 intended rest_3 [] may_intended leads_3 (legal_step world_3 world_4 made rest_4 (1 ∷ []) may_made leads_4 (legal_step world_4 world_5 created rest_5 [] may_created leads_5 (legal_step world_5 world_6 updating rest_6 [] may_updating leads_6 (legal_step world_6 world_7 intended_change rest_7 [] may_intended_change leads_7 (legal_step world_7 world_8 not_updatable rest_8 (2 ∷ []) may_not_updatable leads_8 (legal_step world_8 world_9 intended_new rest_9 [] may_intended_new leads_9 (legal_step world_9 world_10 made_new rest_10 (3 ∷ []) may_made_new leads_10 (legal_step world_10 world_11 cleaning rest_11 [] may_cleaning leads_11 (legal_step world_11 world_12 intended_deletion rest_12 [] may_intended_deletion leads_12 (legal_step world_12 world_13 deleted rest_13 (4 ∷ []) may_deleted leads_13 (legal_step world_13 world_14 updated rest_14 [] may_updated leads_14 (tt))))))))))))))
+
+arrives_14 : fold_of empty_world (opened ∷ begun ∷ intended ∷ made ∷ created ∷ updating ∷ intended_change ∷ not_updatable ∷ intended_new ∷ made_new ∷ cleaning ∷ intended_deletion ∷ deleted ∷ updated ∷ []) ≡ world_14
+arrives_14 = fold_step world_0 world_1 opened (begun ∷ intended ∷ made ∷ created ∷ updating ∷ intended_change ∷ not_updatable ∷ intended_new ∷ made_new ∷ cleaning ∷ intended_deletion ∷ deleted ∷ updated ∷ []) leads_1 (fold_step world_1 world_2 begun (intended ∷ made ∷ created ∷ updating ∷ intended_change ∷ not_updatable ∷ intended_new ∷ made_new ∷ cleaning ∷ intended_deletion ∷ deleted ∷ updated ∷ []) leads_2 (fold_step world_2 world_3 intended (made ∷ created ∷ updating ∷ intended_change ∷ not_updatable ∷ intended_new ∷ made_new ∷ cleaning ∷ intended_deletion ∷ deleted ∷ updated ∷ []) leads_3 (fold_step world_3 world_4 made (created ∷ updating ∷ intended_change ∷ not_updatable ∷ intended_new ∷ made_new ∷ cleaning ∷ intended_deletion ∷ deleted ∷ updated ∷ []) leads_4 (fold_step world_4 world_5 created (updating ∷ intended_change ∷ not_updatable ∷ intended_new ∷ made_new ∷ cleaning ∷ intended_deletion ∷ deleted ∷ updated ∷ []) leads_5 (fold_step world_5 world_6 updating (intended_change ∷ not_updatable ∷ intended_new ∷ made_new ∷ cleaning ∷ intended_deletion ∷ deleted ∷ updated ∷ []) leads_6 (fold_step world_6 world_7 intended_change (not_updatable ∷ intended_new ∷ made_new ∷ cleaning ∷ intended_deletion ∷ deleted ∷ updated ∷ []) leads_7 (fold_step world_7 world_8 not_updatable (intended_new ∷ made_new ∷ cleaning ∷ intended_deletion ∷ deleted ∷ updated ∷ []) leads_8 (fold_step world_8 world_9 intended_new (made_new ∷ cleaning ∷ intended_deletion ∷ deleted ∷ updated ∷ []) leads_9 (fold_step world_9 world_10 made_new (cleaning ∷ intended_deletion ∷ deleted ∷ updated ∷ []) leads_10 (fold_step world_10 world_11 cleaning (intended_deletion ∷ deleted ∷ updated ∷ []) leads_11 (fold_step world_11 world_12 intended_deletion (deleted ∷ updated ∷ []) leads_12 (fold_step world_12 world_13 deleted (updated ∷ []) leads_13 (fold_step world_13 world_14 updated ([]) leads_14 (refl))))))))))))))
+
+pub report_0 : Shows
+report_0 = ap (report_of (codes "s")) arrives_14

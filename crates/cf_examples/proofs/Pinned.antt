@@ -1,0 +1,876 @@
+-- A stack exports the length of a file, and another one imports it: an update that would change the length is taken back.
+use Rattle.std.proofs.Common.{◌≡◌, refl, List, [], ◌∷◌, Some, None, false, ℕ, inl, inr, ap, lit≤, true≢false}
+use Rattle.std.specs.Prelude.{codes, length}
+use Rattle.cf_desired.specs.Plan.{Plan}
+use Rattle.cf_tree.specs.declared.request.Request.TheVariants as request
+use Rattle.cf_entry.specs.declared.entry.Entry.{Entry}
+use Rattle.cf_stacks.specs.declared.state.World.{World}
+use Rattle.cf_stacks.specs.declared.state.StackState.{StackState}
+use Rattle.cf_stacks.specs.Fold.{empty_world, world_after, source_for}
+use Rattle.cf_stacks.specs.Status.{Forward, Back, BackClean}
+use Rattle.cf_schema.specs.declared.changed.Difference.TheVariants.{Same, Update, Replace}
+use Rattle.cf_plan.specs.Forward.{here, HasFailed, IsReady, AllDone, IsDone, is_made, is_updated}
+use Rattle.cf_plan.specs.Follow.{MayFollow}
+use Rattle.cf_examples.specs.Given.{schemas, file, note, file_props, note_props, file_attrs, note_attrs}
+use Rattle.cf_examples.proofs.Computing.{computing}
+use Rattle.cf_examples.proofs.Lists.{in_none, only}
+use Rattle.cf_examples.proofs.Failing.{not_failed, not_done_new, not_done_other, no_bad, no_bad_output, same_at}
+use Rattle.cf_examples.proofs.Ending.{end_of_create, end_of_back_clean, nothing_to_restore}
+use Rattle.cf_tree.specs.declared.template.Deletion.TheVariants as deletion
+use Rattle.cf_tree.specs.declared.template.Replace.TheVariants as replace
+use Rattle.cf_entry.specs.declared.entry.Entry.TheVariants as entry
+use Rattle.cf_entry.specs.declared.entry.Begun.TheVariants as begin
+use Rattle.cf_entry.specs.declared.status.Status.TheVariants as status
+use Rattle.cf_entry.specs.declared.turn.Phase.TheVariants as phase
+use Rattle.cf_stacks.specs.declared.held.HeldStatus.TheVariants as held
+use Rattle.cf_stacks.specs.Fold.{fold_of}
+use Rattle.cf_examples.specs.Given.{lane_pair, report_of}
+use Rattle.cf_examples.proofs.Refusing.{follows_on, legal_step, fold_step, refused_at}
+use Rattle.cf_examples.proofs.Beginning.{no_imports, one_import}
+use Rattle.cf_examples.specs.Pinned.{first, second, importing, opened, begun, intended_file, made_file, created, begun_user, intended_record, made_record, created_user, updating, intended_change, changed, turned, intended_restore, restored, cleaning, rolled_back, Legal, Shows, ChangedThoughPinned, DeletedThoughPinned}
+
+abbrev world_0 : World
+world_0 = empty_world
+
+may_opened : MayFollow schemas world_0 [] opened
+unfolding computing
+may_opened = (refl, refl, λ name s e. absurd (cc))
+
+abbrev world_1 : World
+world_1 = record { stacks = []; exports = []; pins = []; claims = []; lanes = (lane_pair (codes "f1") file ∷ lane_pair (codes "r1") note ∷ []); epoch = 1; operation = 0; set = 0; token = 0; place = 1 }
+
+leads_1 : world_after world_0 opened ≡ world_1
+unfolding computing
+leads_1 = refl
+
+may_begun : MayFollow schemas world_1 [] begun
+unfolding computing
+may_begun = (refl, refl, record { no_flaw = refl; known_types = refl; same_types = refl; imports = no_imports _ _ _ _ refl refl; free = refl; not_in_use = refl; changing = inl refl })
+
+abbrev stack_2_site : StackState
+stack_2_site = record {
+  status = status.CreateInProgress;
+  number = 1;
+  operation = 1;
+  held = [];
+  before = [];
+  made = [];
+  leftovers = [];
+  tokens = [];
+  abandoned = [];
+  source = None;
+  going = Some (source_for (codes "site") 1 first);
+  outputs = [];
+  sets = [];
+  events = ((codes "event 2 - CREATE_IN_PROGRESS") ∷ []);
+  entries = (begun ∷ []);
+}
+
+abbrev world_2 : World
+world_2 = record { stacks = (((codes "site"), stack_2_site) ∷ []); exports = []; pins = []; claims = (record { stack = (codes "site"); name = (codes "site-total") } ∷ []); lanes = (lane_pair (codes "f1") file ∷ lane_pair (codes "r1") note ∷ []); epoch = 1; operation = 1; set = 0; token = 0; place = 2 }
+
+leads_2 : world_after world_1 begun ≡ world_2
+unfolding computing
+leads_2 = refl
+
+sound_2 : ¬ HasFailed schemas (codes "site") world_2 stack_2_site
+unfolding computing
+sound_2 = not_failed schemas (codes "site") world_2 stack_2_site (record { calls = refl; paths = refl; inner = refl; flaws = refl; exports = refl })
+
+ready_2_A : IsReady stack_2_site (codes "A")
+unfolding computing
+ready_2_A = (here, λ q i. absurd (in_none i))
+
+may_intended_file : MayFollow schemas world_2 [] intended_file
+unfolding computing
+may_intended_file = ((codes "site"), stack_2_site, Forward, refl, refl, record { next = refl; free = refl; home = refl; fits = refl; no_repeat = refl; chosen = (sound_2, ready_2_A, not_done_new (codes "A") stack_2_site refl refl refl, (refl, tt)) })
+
+abbrev stack_3_site : StackState
+stack_3_site = record {
+  status = status.CreateInProgress;
+  number = 1;
+  operation = 1;
+  held = [];
+  before = [];
+  made = [];
+  leftovers = [];
+  tokens = (record { token = 1; path = (codes "A"); lane = (codes "f1"); request = (request.Create file (file_props (codes "a") (codes "xx"))) } ∷ []);
+  abandoned = [];
+  source = None;
+  going = Some (source_for (codes "site") 1 first);
+  outputs = [];
+  sets = [];
+  events = ((codes "event 2 - CREATE_IN_PROGRESS") ∷ (codes "event 3 A CREATE_IN_PROGRESS") ∷ []);
+  entries = (begun ∷ intended_file ∷ []);
+}
+
+abbrev world_3 : World
+world_3 = record { stacks = (((codes "site"), stack_3_site) ∷ []); exports = []; pins = []; claims = (record { stack = (codes "site"); name = (codes "site-total") } ∷ []); lanes = (lane_pair (codes "f1") file ∷ lane_pair (codes "r1") note ∷ []); epoch = 1; operation = 1; set = 0; token = 1; place = 3 }
+
+leads_3 : world_after world_2 intended_file ≡ world_3
+unfolding computing
+leads_3 = refl
+
+may_made_file : MayFollow schemas world_3 (1 ∷ []) made_file
+unfolding computing
+may_made_file = ((codes "site"), stack_3_site, Forward, refl, refl, (refl, refl, lit≤ tt))
+
+abbrev stack_4_site : StackState
+stack_4_site = record {
+  status = status.CreateInProgress;
+  number = 1;
+  operation = 1;
+  held = [];
+  before = [];
+  made = (record { path = (codes "A"); kind = file; physical = (codes "f1:1"); props = (file_props (codes "a") (codes "xx")); attrs = (file_attrs (codes "f1:1") 2 (codes "a") (codes "xx")); needs = []; deletion = deletion.Delete; replace = replace.Delete; status = held.CreateComplete; unsure = false; superseded = false } ∷ []);
+  leftovers = [];
+  tokens = [];
+  abandoned = [];
+  source = None;
+  going = Some (source_for (codes "site") 1 first);
+  outputs = [];
+  sets = [];
+  events = ((codes "event 2 - CREATE_IN_PROGRESS") ∷ (codes "event 3 A CREATE_IN_PROGRESS") ∷ (codes "event 4 A CREATE_COMPLETE") ∷ []);
+  entries = (begun ∷ intended_file ∷ made_file ∷ []);
+}
+
+abbrev world_4 : World
+world_4 = record { stacks = (((codes "site"), stack_4_site) ∷ []); exports = []; pins = []; claims = (record { stack = (codes "site"); name = (codes "site-total") } ∷ []); lanes = (lane_pair (codes "f1") file ∷ lane_pair (codes "r1") note ∷ []); epoch = 1; operation = 1; set = 0; token = 1; place = 4 }
+
+leads_4 : world_after world_3 made_file ≡ world_4
+unfolding computing
+leads_4 = refl
+
+all_done_4 : AllDone stack_4_site
+unfolding computing
+all_done_4 = λ p i. only (IsDone stack_4_site) (is_made _ refl) p i
+
+sound_4 : ¬ HasFailed schemas (codes "site") world_4 stack_4_site
+unfolding computing
+sound_4 = not_failed schemas (codes "site") world_4 stack_4_site (record { calls = refl; paths = refl; inner = refl; flaws = refl; exports = refl })
+
+may_created : MayFollow schemas world_4 [] created
+unfolding computing
+may_created = ((codes "site"), stack_4_site, Forward, refl, refl, (refl, end_of_create schemas (codes "site") world_4 stack_4_site refl all_done_4 sound_4 refl, (sound_4, all_done_4), refl))
+
+abbrev stack_5_site : StackState
+stack_5_site = record {
+  status = status.CreateComplete;
+  number = 1;
+  operation = 1;
+  held = (record { path = (codes "A"); kind = file; physical = (codes "f1:1"); props = (file_props (codes "a") (codes "xx")); attrs = (file_attrs (codes "f1:1") 2 (codes "a") (codes "xx")); needs = []; deletion = deletion.Delete; replace = replace.Delete; status = held.CreateComplete; unsure = false; superseded = false } ∷ []);
+  before = [];
+  made = [];
+  leftovers = [];
+  tokens = [];
+  abandoned = [];
+  source = Some (source_for (codes "site") 1 first);
+  going = Some (source_for (codes "site") 1 first);
+  outputs = (record { name = (codes "Total"); value = (codes "2"); export = Some (codes "site-total") } ∷ []);
+  sets = [];
+  events = ((codes "event 2 - CREATE_IN_PROGRESS") ∷ (codes "event 3 A CREATE_IN_PROGRESS") ∷ (codes "event 4 A CREATE_COMPLETE") ∷ (codes "event 5 - CREATE_COMPLETE") ∷ []);
+  entries = (begun ∷ intended_file ∷ made_file ∷ created ∷ []);
+}
+
+abbrev world_5 : World
+world_5 = record { stacks = (((codes "site"), stack_5_site) ∷ []); exports = (record { name = (codes "site-total"); value = (codes "2"); stack = (codes "site") } ∷ []); pins = []; claims = []; lanes = (lane_pair (codes "f1") file ∷ lane_pair (codes "r1") note ∷ []); epoch = 1; operation = 1; set = 0; token = 1; place = 5 }
+
+leads_5 : world_after world_4 created ≡ world_5
+unfolding computing
+leads_5 = refl
+
+may_begun_user : MayFollow schemas world_5 [] begun_user
+unfolding computing
+may_begun_user = (refl, refl, record { no_flaw = refl; known_types = refl; same_types = refl; imports = one_import _ _ _ _ (codes "site-total") (codes "2") refl refl refl (λ e. let z : 1 ≡ 0 = ap (λ (p : Plan). length p.flaws) e in cc); free = refl; not_in_use = refl; changing = inl refl })
+
+abbrev stack_6_site : StackState
+stack_6_site = record {
+  status = status.CreateComplete;
+  number = 1;
+  operation = 1;
+  held = (record { path = (codes "A"); kind = file; physical = (codes "f1:1"); props = (file_props (codes "a") (codes "xx")); attrs = (file_attrs (codes "f1:1") 2 (codes "a") (codes "xx")); needs = []; deletion = deletion.Delete; replace = replace.Delete; status = held.CreateComplete; unsure = false; superseded = false } ∷ []);
+  before = [];
+  made = [];
+  leftovers = [];
+  tokens = [];
+  abandoned = [];
+  source = Some (source_for (codes "site") 1 first);
+  going = Some (source_for (codes "site") 1 first);
+  outputs = (record { name = (codes "Total"); value = (codes "2"); export = Some (codes "site-total") } ∷ []);
+  sets = [];
+  events = ((codes "event 2 - CREATE_IN_PROGRESS") ∷ (codes "event 3 A CREATE_IN_PROGRESS") ∷ (codes "event 4 A CREATE_COMPLETE") ∷ (codes "event 5 - CREATE_COMPLETE") ∷ []);
+  entries = (begun ∷ intended_file ∷ made_file ∷ created ∷ []);
+}
+
+abbrev stack_6_user : StackState
+stack_6_user = record {
+  status = status.CreateInProgress;
+  number = 2;
+  operation = 2;
+  held = [];
+  before = [];
+  made = [];
+  leftovers = [];
+  tokens = [];
+  abandoned = [];
+  source = None;
+  going = Some (source_for (codes "user") 2 importing);
+  outputs = [];
+  sets = [];
+  events = ((codes "event 6 - CREATE_IN_PROGRESS") ∷ []);
+  entries = (begun_user ∷ []);
+}
+
+abbrev world_6 : World
+world_6 = record { stacks = (((codes "site"), stack_6_site) ∷ ((codes "user"), stack_6_user) ∷ []); exports = (record { name = (codes "site-total"); value = (codes "2"); stack = (codes "site") } ∷ []); pins = (record { stack = (codes "user"); name = (codes "site-total") } ∷ []); claims = []; lanes = (lane_pair (codes "f1") file ∷ lane_pair (codes "r1") note ∷ []); epoch = 1; operation = 2; set = 0; token = 1; place = 6 }
+
+leads_6 : world_after world_5 begun_user ≡ world_6
+unfolding computing
+leads_6 = refl
+
+sound_6 : ¬ HasFailed schemas (codes "user") world_6 stack_6_user
+unfolding computing
+sound_6 = not_failed schemas (codes "user") world_6 stack_6_user (record { calls = refl; paths = refl; inner = refl; flaws = refl; exports = refl })
+
+ready_6_U : IsReady stack_6_user (codes "U")
+unfolding computing
+ready_6_U = (here, λ q i. absurd (in_none i))
+
+may_intended_record : MayFollow schemas world_6 [] intended_record
+unfolding computing
+may_intended_record = ((codes "user"), stack_6_user, Forward, refl, refl, record { next = refl; free = refl; home = refl; fits = refl; no_repeat = refl; chosen = (sound_6, ready_6_U, not_done_new (codes "U") stack_6_user refl refl refl, (refl, tt)) })
+
+abbrev stack_7_site : StackState
+stack_7_site = record {
+  status = status.CreateComplete;
+  number = 1;
+  operation = 1;
+  held = (record { path = (codes "A"); kind = file; physical = (codes "f1:1"); props = (file_props (codes "a") (codes "xx")); attrs = (file_attrs (codes "f1:1") 2 (codes "a") (codes "xx")); needs = []; deletion = deletion.Delete; replace = replace.Delete; status = held.CreateComplete; unsure = false; superseded = false } ∷ []);
+  before = [];
+  made = [];
+  leftovers = [];
+  tokens = [];
+  abandoned = [];
+  source = Some (source_for (codes "site") 1 first);
+  going = Some (source_for (codes "site") 1 first);
+  outputs = (record { name = (codes "Total"); value = (codes "2"); export = Some (codes "site-total") } ∷ []);
+  sets = [];
+  events = ((codes "event 2 - CREATE_IN_PROGRESS") ∷ (codes "event 3 A CREATE_IN_PROGRESS") ∷ (codes "event 4 A CREATE_COMPLETE") ∷ (codes "event 5 - CREATE_COMPLETE") ∷ []);
+  entries = (begun ∷ intended_file ∷ made_file ∷ created ∷ []);
+}
+
+abbrev stack_7_user : StackState
+stack_7_user = record {
+  status = status.CreateInProgress;
+  number = 2;
+  operation = 2;
+  held = [];
+  before = [];
+  made = [];
+  leftovers = [];
+  tokens = (record { token = 2; path = (codes "U"); lane = (codes "r1"); request = (request.Create note (note_props (codes "u") (codes "2"))) } ∷ []);
+  abandoned = [];
+  source = None;
+  going = Some (source_for (codes "user") 2 importing);
+  outputs = [];
+  sets = [];
+  events = ((codes "event 6 - CREATE_IN_PROGRESS") ∷ (codes "event 7 U CREATE_IN_PROGRESS") ∷ []);
+  entries = (begun_user ∷ intended_record ∷ []);
+}
+
+abbrev world_7 : World
+world_7 = record { stacks = (((codes "site"), stack_7_site) ∷ ((codes "user"), stack_7_user) ∷ []); exports = (record { name = (codes "site-total"); value = (codes "2"); stack = (codes "site") } ∷ []); pins = (record { stack = (codes "user"); name = (codes "site-total") } ∷ []); claims = []; lanes = (lane_pair (codes "f1") file ∷ lane_pair (codes "r1") note ∷ []); epoch = 1; operation = 2; set = 0; token = 2; place = 7 }
+
+leads_7 : world_after world_6 intended_record ≡ world_7
+unfolding computing
+leads_7 = refl
+
+may_made_record : MayFollow schemas world_7 (2 ∷ []) made_record
+unfolding computing
+may_made_record = ((codes "user"), stack_7_user, Forward, refl, refl, (refl, refl, lit≤ tt))
+
+abbrev stack_8_site : StackState
+stack_8_site = record {
+  status = status.CreateComplete;
+  number = 1;
+  operation = 1;
+  held = (record { path = (codes "A"); kind = file; physical = (codes "f1:1"); props = (file_props (codes "a") (codes "xx")); attrs = (file_attrs (codes "f1:1") 2 (codes "a") (codes "xx")); needs = []; deletion = deletion.Delete; replace = replace.Delete; status = held.CreateComplete; unsure = false; superseded = false } ∷ []);
+  before = [];
+  made = [];
+  leftovers = [];
+  tokens = [];
+  abandoned = [];
+  source = Some (source_for (codes "site") 1 first);
+  going = Some (source_for (codes "site") 1 first);
+  outputs = (record { name = (codes "Total"); value = (codes "2"); export = Some (codes "site-total") } ∷ []);
+  sets = [];
+  events = ((codes "event 2 - CREATE_IN_PROGRESS") ∷ (codes "event 3 A CREATE_IN_PROGRESS") ∷ (codes "event 4 A CREATE_COMPLETE") ∷ (codes "event 5 - CREATE_COMPLETE") ∷ []);
+  entries = (begun ∷ intended_file ∷ made_file ∷ created ∷ []);
+}
+
+abbrev stack_8_user : StackState
+stack_8_user = record {
+  status = status.CreateInProgress;
+  number = 2;
+  operation = 2;
+  held = [];
+  before = [];
+  made = (record { path = (codes "U"); kind = note; physical = (codes "r1:2"); props = (note_props (codes "u") (codes "2")); attrs = (note_attrs (codes "r1:2") 1 (codes "u") (codes "2")); needs = []; deletion = deletion.Delete; replace = replace.Delete; status = held.CreateComplete; unsure = false; superseded = false } ∷ []);
+  leftovers = [];
+  tokens = [];
+  abandoned = [];
+  source = None;
+  going = Some (source_for (codes "user") 2 importing);
+  outputs = [];
+  sets = [];
+  events = ((codes "event 6 - CREATE_IN_PROGRESS") ∷ (codes "event 7 U CREATE_IN_PROGRESS") ∷ (codes "event 8 U CREATE_COMPLETE") ∷ []);
+  entries = (begun_user ∷ intended_record ∷ made_record ∷ []);
+}
+
+abbrev world_8 : World
+world_8 = record { stacks = (((codes "site"), stack_8_site) ∷ ((codes "user"), stack_8_user) ∷ []); exports = (record { name = (codes "site-total"); value = (codes "2"); stack = (codes "site") } ∷ []); pins = (record { stack = (codes "user"); name = (codes "site-total") } ∷ []); claims = []; lanes = (lane_pair (codes "f1") file ∷ lane_pair (codes "r1") note ∷ []); epoch = 1; operation = 2; set = 0; token = 2; place = 8 }
+
+leads_8 : world_after world_7 made_record ≡ world_8
+unfolding computing
+leads_8 = refl
+
+all_done_8 : AllDone stack_8_user
+unfolding computing
+all_done_8 = λ p i. only (IsDone stack_8_user) (is_made _ refl) p i
+
+sound_8 : ¬ HasFailed schemas (codes "user") world_8 stack_8_user
+unfolding computing
+sound_8 = not_failed schemas (codes "user") world_8 stack_8_user (record { calls = refl; paths = refl; inner = refl; flaws = refl; exports = refl })
+
+may_created_user : MayFollow schemas world_8 [] created_user
+unfolding computing
+may_created_user = ((codes "user"), stack_8_user, Forward, refl, refl, (refl, end_of_create schemas (codes "user") world_8 stack_8_user refl all_done_8 sound_8 refl, (sound_8, all_done_8), refl))
+
+abbrev stack_9_site : StackState
+stack_9_site = record {
+  status = status.CreateComplete;
+  number = 1;
+  operation = 1;
+  held = (record { path = (codes "A"); kind = file; physical = (codes "f1:1"); props = (file_props (codes "a") (codes "xx")); attrs = (file_attrs (codes "f1:1") 2 (codes "a") (codes "xx")); needs = []; deletion = deletion.Delete; replace = replace.Delete; status = held.CreateComplete; unsure = false; superseded = false } ∷ []);
+  before = [];
+  made = [];
+  leftovers = [];
+  tokens = [];
+  abandoned = [];
+  source = Some (source_for (codes "site") 1 first);
+  going = Some (source_for (codes "site") 1 first);
+  outputs = (record { name = (codes "Total"); value = (codes "2"); export = Some (codes "site-total") } ∷ []);
+  sets = [];
+  events = ((codes "event 2 - CREATE_IN_PROGRESS") ∷ (codes "event 3 A CREATE_IN_PROGRESS") ∷ (codes "event 4 A CREATE_COMPLETE") ∷ (codes "event 5 - CREATE_COMPLETE") ∷ []);
+  entries = (begun ∷ intended_file ∷ made_file ∷ created ∷ []);
+}
+
+abbrev stack_9_user : StackState
+stack_9_user = record {
+  status = status.CreateComplete;
+  number = 2;
+  operation = 2;
+  held = (record { path = (codes "U"); kind = note; physical = (codes "r1:2"); props = (note_props (codes "u") (codes "2")); attrs = (note_attrs (codes "r1:2") 1 (codes "u") (codes "2")); needs = []; deletion = deletion.Delete; replace = replace.Delete; status = held.CreateComplete; unsure = false; superseded = false } ∷ []);
+  before = [];
+  made = [];
+  leftovers = [];
+  tokens = [];
+  abandoned = [];
+  source = Some (source_for (codes "user") 2 importing);
+  going = Some (source_for (codes "user") 2 importing);
+  outputs = [];
+  sets = [];
+  events = ((codes "event 6 - CREATE_IN_PROGRESS") ∷ (codes "event 7 U CREATE_IN_PROGRESS") ∷ (codes "event 8 U CREATE_COMPLETE") ∷ (codes "event 9 - CREATE_COMPLETE") ∷ []);
+  entries = (begun_user ∷ intended_record ∷ made_record ∷ created_user ∷ []);
+}
+
+abbrev world_9 : World
+world_9 = record { stacks = (((codes "site"), stack_9_site) ∷ ((codes "user"), stack_9_user) ∷ []); exports = (record { name = (codes "site-total"); value = (codes "2"); stack = (codes "site") } ∷ []); pins = (record { stack = (codes "user"); name = (codes "site-total") } ∷ []); claims = []; lanes = (lane_pair (codes "f1") file ∷ lane_pair (codes "r1") note ∷ []); epoch = 1; operation = 2; set = 0; token = 2; place = 9 }
+
+leads_9 : world_after world_8 created_user ≡ world_9
+unfolding computing
+leads_9 = refl
+
+may_updating : MayFollow schemas world_9 [] updating
+unfolding computing
+may_updating = (refl, refl, record { no_flaw = refl; known_types = refl; same_types = refl; imports = no_imports _ _ _ _ refl refl; free = refl; not_in_use = refl; changing = inr (inl refl) })
+
+abbrev stack_10_site : StackState
+stack_10_site = record {
+  status = status.UpdateInProgress;
+  number = 1;
+  operation = 3;
+  held = (record { path = (codes "A"); kind = file; physical = (codes "f1:1"); props = (file_props (codes "a") (codes "xx")); attrs = (file_attrs (codes "f1:1") 2 (codes "a") (codes "xx")); needs = []; deletion = deletion.Delete; replace = replace.Delete; status = held.CreateComplete; unsure = false; superseded = false } ∷ []);
+  before = (record { path = (codes "A"); kind = file; physical = (codes "f1:1"); props = (file_props (codes "a") (codes "xx")); attrs = (file_attrs (codes "f1:1") 2 (codes "a") (codes "xx")); needs = []; deletion = deletion.Delete; replace = replace.Delete; status = held.CreateComplete; unsure = false; superseded = false } ∷ []);
+  made = [];
+  leftovers = [];
+  tokens = [];
+  abandoned = [];
+  source = Some (source_for (codes "site") 1 first);
+  going = Some (source_for (codes "site") 1 second);
+  outputs = (record { name = (codes "Total"); value = (codes "2"); export = Some (codes "site-total") } ∷ []);
+  sets = [];
+  events = ((codes "event 2 - CREATE_IN_PROGRESS") ∷ (codes "event 3 A CREATE_IN_PROGRESS") ∷ (codes "event 4 A CREATE_COMPLETE") ∷ (codes "event 5 - CREATE_COMPLETE") ∷ (codes "event 10 - UPDATE_IN_PROGRESS") ∷ []);
+  entries = (updating ∷ []);
+}
+
+abbrev stack_10_user : StackState
+stack_10_user = record {
+  status = status.CreateComplete;
+  number = 2;
+  operation = 2;
+  held = (record { path = (codes "U"); kind = note; physical = (codes "r1:2"); props = (note_props (codes "u") (codes "2")); attrs = (note_attrs (codes "r1:2") 1 (codes "u") (codes "2")); needs = []; deletion = deletion.Delete; replace = replace.Delete; status = held.CreateComplete; unsure = false; superseded = false } ∷ []);
+  before = [];
+  made = [];
+  leftovers = [];
+  tokens = [];
+  abandoned = [];
+  source = Some (source_for (codes "user") 2 importing);
+  going = Some (source_for (codes "user") 2 importing);
+  outputs = [];
+  sets = [];
+  events = ((codes "event 6 - CREATE_IN_PROGRESS") ∷ (codes "event 7 U CREATE_IN_PROGRESS") ∷ (codes "event 8 U CREATE_COMPLETE") ∷ (codes "event 9 - CREATE_COMPLETE") ∷ []);
+  entries = (begun_user ∷ intended_record ∷ made_record ∷ created_user ∷ []);
+}
+
+abbrev world_10 : World
+world_10 = record { stacks = (((codes "site"), stack_10_site) ∷ ((codes "user"), stack_10_user) ∷ []); exports = (record { name = (codes "site-total"); value = (codes "2"); stack = (codes "site") } ∷ []); pins = (record { stack = (codes "user"); name = (codes "site-total") } ∷ []); claims = (record { stack = (codes "site"); name = (codes "site-total") } ∷ []); lanes = (lane_pair (codes "f1") file ∷ lane_pair (codes "r1") note ∷ []); epoch = 1; operation = 3; set = 0; token = 2; place = 10 }
+
+leads_10 : world_after world_9 updating ≡ world_10
+unfolding computing
+leads_10 = refl
+
+sound_10 : ¬ HasFailed schemas (codes "site") world_10 stack_10_site
+unfolding computing
+sound_10 = not_failed schemas (codes "site") world_10 stack_10_site (record { calls = refl; paths = refl; inner = refl; flaws = refl; exports = refl })
+
+ready_10_A : IsReady stack_10_site (codes "A")
+unfolding computing
+ready_10_A = (here, λ q i. absurd (in_none i))
+
+may_intended_change : MayFollow schemas world_10 [] intended_change
+unfolding computing
+may_intended_change = ((codes "site"), stack_10_site, Forward, refl, refl, record { next = refl; free = refl; home = refl; fits = ((codes "1", refl), refl); no_repeat = refl; chosen = (sound_10, ready_10_A, not_done_other (codes "A") stack_10_site (same_at (codes "Content") (codes "xx")) _ _ _ refl refl refl refl refl refl, (_, refl, refl, refl, ((λ e. let z : Update ≡ Replace = e in cc), inr (λ e. let z : Update ≡ Same = e in cc)), refl)) })
+
+abbrev stack_11_site : StackState
+stack_11_site = record {
+  status = status.UpdateInProgress;
+  number = 1;
+  operation = 3;
+  held = (record { path = (codes "A"); kind = file; physical = (codes "f1:1"); props = (file_props (codes "a") (codes "xx")); attrs = (file_attrs (codes "f1:1") 2 (codes "a") (codes "xx")); needs = []; deletion = deletion.Delete; replace = replace.Delete; status = held.CreateComplete; unsure = false; superseded = false } ∷ []);
+  before = (record { path = (codes "A"); kind = file; physical = (codes "f1:1"); props = (file_props (codes "a") (codes "xx")); attrs = (file_attrs (codes "f1:1") 2 (codes "a") (codes "xx")); needs = []; deletion = deletion.Delete; replace = replace.Delete; status = held.CreateComplete; unsure = false; superseded = false } ∷ []);
+  made = [];
+  leftovers = [];
+  tokens = (record { token = 3; path = (codes "A"); lane = (codes "f1"); request = (request.Update (codes "f1:1") (file_props (codes "a") (codes "xxx"))) } ∷ []);
+  abandoned = [];
+  source = Some (source_for (codes "site") 1 first);
+  going = Some (source_for (codes "site") 1 second);
+  outputs = (record { name = (codes "Total"); value = (codes "2"); export = Some (codes "site-total") } ∷ []);
+  sets = [];
+  events = ((codes "event 2 - CREATE_IN_PROGRESS") ∷ (codes "event 3 A CREATE_IN_PROGRESS") ∷ (codes "event 4 A CREATE_COMPLETE") ∷ (codes "event 5 - CREATE_COMPLETE") ∷ (codes "event 10 - UPDATE_IN_PROGRESS") ∷ (codes "event 11 A UPDATE_IN_PROGRESS") ∷ []);
+  entries = (updating ∷ intended_change ∷ []);
+}
+
+abbrev stack_11_user : StackState
+stack_11_user = record {
+  status = status.CreateComplete;
+  number = 2;
+  operation = 2;
+  held = (record { path = (codes "U"); kind = note; physical = (codes "r1:2"); props = (note_props (codes "u") (codes "2")); attrs = (note_attrs (codes "r1:2") 1 (codes "u") (codes "2")); needs = []; deletion = deletion.Delete; replace = replace.Delete; status = held.CreateComplete; unsure = false; superseded = false } ∷ []);
+  before = [];
+  made = [];
+  leftovers = [];
+  tokens = [];
+  abandoned = [];
+  source = Some (source_for (codes "user") 2 importing);
+  going = Some (source_for (codes "user") 2 importing);
+  outputs = [];
+  sets = [];
+  events = ((codes "event 6 - CREATE_IN_PROGRESS") ∷ (codes "event 7 U CREATE_IN_PROGRESS") ∷ (codes "event 8 U CREATE_COMPLETE") ∷ (codes "event 9 - CREATE_COMPLETE") ∷ []);
+  entries = (begun_user ∷ intended_record ∷ made_record ∷ created_user ∷ []);
+}
+
+abbrev world_11 : World
+world_11 = record { stacks = (((codes "site"), stack_11_site) ∷ ((codes "user"), stack_11_user) ∷ []); exports = (record { name = (codes "site-total"); value = (codes "2"); stack = (codes "site") } ∷ []); pins = (record { stack = (codes "user"); name = (codes "site-total") } ∷ []); claims = (record { stack = (codes "site"); name = (codes "site-total") } ∷ []); lanes = (lane_pair (codes "f1") file ∷ lane_pair (codes "r1") note ∷ []); epoch = 1; operation = 3; set = 0; token = 3; place = 11 }
+
+leads_11 : world_after world_10 intended_change ≡ world_11
+unfolding computing
+leads_11 = refl
+
+may_changed : MayFollow schemas world_11 (3 ∷ []) changed
+unfolding computing
+may_changed = ((codes "site"), stack_11_site, Forward, refl, refl, (refl, refl, lit≤ tt))
+
+abbrev stack_12_site : StackState
+stack_12_site = record {
+  status = status.UpdateInProgress;
+  number = 1;
+  operation = 3;
+  held = (record { path = (codes "A"); kind = file; physical = (codes "f1:1"); props = (file_props (codes "a") (codes "xxx")); attrs = (file_attrs (codes "f1:1") 3 (codes "a") (codes "xxx")); needs = []; deletion = deletion.Delete; replace = replace.Delete; status = held.UpdateComplete; unsure = false; superseded = false } ∷ []);
+  before = (record { path = (codes "A"); kind = file; physical = (codes "f1:1"); props = (file_props (codes "a") (codes "xx")); attrs = (file_attrs (codes "f1:1") 2 (codes "a") (codes "xx")); needs = []; deletion = deletion.Delete; replace = replace.Delete; status = held.CreateComplete; unsure = false; superseded = false } ∷ []);
+  made = [];
+  leftovers = [];
+  tokens = [];
+  abandoned = [];
+  source = Some (source_for (codes "site") 1 first);
+  going = Some (source_for (codes "site") 1 second);
+  outputs = (record { name = (codes "Total"); value = (codes "2"); export = Some (codes "site-total") } ∷ []);
+  sets = [];
+  events = ((codes "event 2 - CREATE_IN_PROGRESS") ∷ (codes "event 3 A CREATE_IN_PROGRESS") ∷ (codes "event 4 A CREATE_COMPLETE") ∷ (codes "event 5 - CREATE_COMPLETE") ∷ (codes "event 10 - UPDATE_IN_PROGRESS") ∷ (codes "event 11 A UPDATE_IN_PROGRESS") ∷ (codes "event 12 A UPDATE_COMPLETE") ∷ []);
+  entries = (updating ∷ intended_change ∷ changed ∷ []);
+}
+
+abbrev stack_12_user : StackState
+stack_12_user = record {
+  status = status.CreateComplete;
+  number = 2;
+  operation = 2;
+  held = (record { path = (codes "U"); kind = note; physical = (codes "r1:2"); props = (note_props (codes "u") (codes "2")); attrs = (note_attrs (codes "r1:2") 1 (codes "u") (codes "2")); needs = []; deletion = deletion.Delete; replace = replace.Delete; status = held.CreateComplete; unsure = false; superseded = false } ∷ []);
+  before = [];
+  made = [];
+  leftovers = [];
+  tokens = [];
+  abandoned = [];
+  source = Some (source_for (codes "user") 2 importing);
+  going = Some (source_for (codes "user") 2 importing);
+  outputs = [];
+  sets = [];
+  events = ((codes "event 6 - CREATE_IN_PROGRESS") ∷ (codes "event 7 U CREATE_IN_PROGRESS") ∷ (codes "event 8 U CREATE_COMPLETE") ∷ (codes "event 9 - CREATE_COMPLETE") ∷ []);
+  entries = (begun_user ∷ intended_record ∷ made_record ∷ created_user ∷ []);
+}
+
+abbrev world_12 : World
+world_12 = record { stacks = (((codes "site"), stack_12_site) ∷ ((codes "user"), stack_12_user) ∷ []); exports = (record { name = (codes "site-total"); value = (codes "2"); stack = (codes "site") } ∷ []); pins = (record { stack = (codes "user"); name = (codes "site-total") } ∷ []); claims = (record { stack = (codes "site"); name = (codes "site-total") } ∷ []); lanes = (lane_pair (codes "f1") file ∷ lane_pair (codes "r1") note ∷ []); epoch = 1; operation = 3; set = 0; token = 3; place = 12 }
+
+leads_12 : world_after world_11 changed ≡ world_12
+unfolding computing
+leads_12 = refl
+
+all_done_12 : AllDone stack_12_site
+unfolding computing
+all_done_12 = λ p i. only (IsDone stack_12_site) (is_updated refl) p i
+
+may_turned : MayFollow schemas world_12 [] turned
+unfolding computing
+may_turned = ((codes "site"), stack_12_site, Forward, refl, refl, (refl, (refl, inr (inr (inr (codes "site-total", (all_done_12, refl)))), (refl, no_bad stack_12_site refl refl, no_bad_output stack_12_site refl, (all_done_12, refl)))))
+
+abbrev stack_13_site : StackState
+stack_13_site = record {
+  status = status.UpdateRollbackInProgress;
+  number = 1;
+  operation = 3;
+  held = (record { path = (codes "A"); kind = file; physical = (codes "f1:1"); props = (file_props (codes "a") (codes "xxx")); attrs = (file_attrs (codes "f1:1") 3 (codes "a") (codes "xxx")); needs = []; deletion = deletion.Delete; replace = replace.Delete; status = held.UpdateComplete; unsure = false; superseded = false } ∷ []);
+  before = (record { path = (codes "A"); kind = file; physical = (codes "f1:1"); props = (file_props (codes "a") (codes "xx")); attrs = (file_attrs (codes "f1:1") 2 (codes "a") (codes "xx")); needs = []; deletion = deletion.Delete; replace = replace.Delete; status = held.CreateComplete; unsure = false; superseded = false } ∷ []);
+  made = [];
+  leftovers = [];
+  tokens = [];
+  abandoned = [];
+  source = Some (source_for (codes "site") 1 first);
+  going = Some (source_for (codes "site") 1 second);
+  outputs = (record { name = (codes "Total"); value = (codes "2"); export = Some (codes "site-total") } ∷ []);
+  sets = [];
+  events = ((codes "event 2 - CREATE_IN_PROGRESS") ∷ (codes "event 3 A CREATE_IN_PROGRESS") ∷ (codes "event 4 A CREATE_COMPLETE") ∷ (codes "event 5 - CREATE_COMPLETE") ∷ (codes "event 10 - UPDATE_IN_PROGRESS") ∷ (codes "event 11 A UPDATE_IN_PROGRESS") ∷ (codes "event 12 A UPDATE_COMPLETE") ∷ (codes "event 13 - UPDATE_ROLLBACK_IN_PROGRESS") ∷ []);
+  entries = (updating ∷ intended_change ∷ changed ∷ turned ∷ []);
+}
+
+abbrev stack_13_user : StackState
+stack_13_user = record {
+  status = status.CreateComplete;
+  number = 2;
+  operation = 2;
+  held = (record { path = (codes "U"); kind = note; physical = (codes "r1:2"); props = (note_props (codes "u") (codes "2")); attrs = (note_attrs (codes "r1:2") 1 (codes "u") (codes "2")); needs = []; deletion = deletion.Delete; replace = replace.Delete; status = held.CreateComplete; unsure = false; superseded = false } ∷ []);
+  before = [];
+  made = [];
+  leftovers = [];
+  tokens = [];
+  abandoned = [];
+  source = Some (source_for (codes "user") 2 importing);
+  going = Some (source_for (codes "user") 2 importing);
+  outputs = [];
+  sets = [];
+  events = ((codes "event 6 - CREATE_IN_PROGRESS") ∷ (codes "event 7 U CREATE_IN_PROGRESS") ∷ (codes "event 8 U CREATE_COMPLETE") ∷ (codes "event 9 - CREATE_COMPLETE") ∷ []);
+  entries = (begun_user ∷ intended_record ∷ made_record ∷ created_user ∷ []);
+}
+
+abbrev world_13 : World
+world_13 = record { stacks = (((codes "site"), stack_13_site) ∷ ((codes "user"), stack_13_user) ∷ []); exports = (record { name = (codes "site-total"); value = (codes "2"); stack = (codes "site") } ∷ []); pins = (record { stack = (codes "user"); name = (codes "site-total") } ∷ []); claims = (record { stack = (codes "site"); name = (codes "site-total") } ∷ []); lanes = (lane_pair (codes "f1") file ∷ lane_pair (codes "r1") note ∷ []); epoch = 1; operation = 3; set = 0; token = 3; place = 13 }
+
+leads_13 : world_after world_12 turned ≡ world_13
+unfolding computing
+leads_13 = refl
+
+may_intended_restore : MayFollow schemas world_13 [] intended_restore
+unfolding computing
+may_intended_restore = ((codes "site"), stack_13_site, Back, refl, refl, record { next = refl; free = refl; home = refl; fits = ((codes "1", refl), refl); no_repeat = refl; chosen = inr (refl, _, (here, refl, refl, refl), refl, refl, refl, refl) })
+
+abbrev stack_14_site : StackState
+stack_14_site = record {
+  status = status.UpdateRollbackInProgress;
+  number = 1;
+  operation = 3;
+  held = (record { path = (codes "A"); kind = file; physical = (codes "f1:1"); props = (file_props (codes "a") (codes "xxx")); attrs = (file_attrs (codes "f1:1") 3 (codes "a") (codes "xxx")); needs = []; deletion = deletion.Delete; replace = replace.Delete; status = held.UpdateComplete; unsure = false; superseded = false } ∷ []);
+  before = (record { path = (codes "A"); kind = file; physical = (codes "f1:1"); props = (file_props (codes "a") (codes "xx")); attrs = (file_attrs (codes "f1:1") 2 (codes "a") (codes "xx")); needs = []; deletion = deletion.Delete; replace = replace.Delete; status = held.CreateComplete; unsure = false; superseded = false } ∷ []);
+  made = [];
+  leftovers = [];
+  tokens = (record { token = 4; path = (codes "A"); lane = (codes "f1"); request = (request.Update (codes "f1:1") (file_props (codes "a") (codes "xx"))) } ∷ []);
+  abandoned = [];
+  source = Some (source_for (codes "site") 1 first);
+  going = Some (source_for (codes "site") 1 second);
+  outputs = (record { name = (codes "Total"); value = (codes "2"); export = Some (codes "site-total") } ∷ []);
+  sets = [];
+  events = ((codes "event 2 - CREATE_IN_PROGRESS") ∷ (codes "event 3 A CREATE_IN_PROGRESS") ∷ (codes "event 4 A CREATE_COMPLETE") ∷ (codes "event 5 - CREATE_COMPLETE") ∷ (codes "event 10 - UPDATE_IN_PROGRESS") ∷ (codes "event 11 A UPDATE_IN_PROGRESS") ∷ (codes "event 12 A UPDATE_COMPLETE") ∷ (codes "event 13 - UPDATE_ROLLBACK_IN_PROGRESS") ∷ (codes "event 14 A UPDATE_IN_PROGRESS") ∷ []);
+  entries = (updating ∷ intended_change ∷ changed ∷ turned ∷ intended_restore ∷ []);
+}
+
+abbrev stack_14_user : StackState
+stack_14_user = record {
+  status = status.CreateComplete;
+  number = 2;
+  operation = 2;
+  held = (record { path = (codes "U"); kind = note; physical = (codes "r1:2"); props = (note_props (codes "u") (codes "2")); attrs = (note_attrs (codes "r1:2") 1 (codes "u") (codes "2")); needs = []; deletion = deletion.Delete; replace = replace.Delete; status = held.CreateComplete; unsure = false; superseded = false } ∷ []);
+  before = [];
+  made = [];
+  leftovers = [];
+  tokens = [];
+  abandoned = [];
+  source = Some (source_for (codes "user") 2 importing);
+  going = Some (source_for (codes "user") 2 importing);
+  outputs = [];
+  sets = [];
+  events = ((codes "event 6 - CREATE_IN_PROGRESS") ∷ (codes "event 7 U CREATE_IN_PROGRESS") ∷ (codes "event 8 U CREATE_COMPLETE") ∷ (codes "event 9 - CREATE_COMPLETE") ∷ []);
+  entries = (begun_user ∷ intended_record ∷ made_record ∷ created_user ∷ []);
+}
+
+abbrev world_14 : World
+world_14 = record { stacks = (((codes "site"), stack_14_site) ∷ ((codes "user"), stack_14_user) ∷ []); exports = (record { name = (codes "site-total"); value = (codes "2"); stack = (codes "site") } ∷ []); pins = (record { stack = (codes "user"); name = (codes "site-total") } ∷ []); claims = (record { stack = (codes "site"); name = (codes "site-total") } ∷ []); lanes = (lane_pair (codes "f1") file ∷ lane_pair (codes "r1") note ∷ []); epoch = 1; operation = 3; set = 0; token = 4; place = 14 }
+
+leads_14 : world_after world_13 intended_restore ≡ world_14
+unfolding computing
+leads_14 = refl
+
+may_restored : MayFollow schemas world_14 (4 ∷ []) restored
+unfolding computing
+may_restored = ((codes "site"), stack_14_site, Back, refl, refl, (refl, refl, lit≤ tt))
+
+abbrev stack_15_site : StackState
+stack_15_site = record {
+  status = status.UpdateRollbackInProgress;
+  number = 1;
+  operation = 3;
+  held = (record { path = (codes "A"); kind = file; physical = (codes "f1:1"); props = (file_props (codes "a") (codes "xx")); attrs = (file_attrs (codes "f1:1") 2 (codes "a") (codes "xx")); needs = []; deletion = deletion.Delete; replace = replace.Delete; status = held.UpdateComplete; unsure = false; superseded = false } ∷ []);
+  before = (record { path = (codes "A"); kind = file; physical = (codes "f1:1"); props = (file_props (codes "a") (codes "xx")); attrs = (file_attrs (codes "f1:1") 2 (codes "a") (codes "xx")); needs = []; deletion = deletion.Delete; replace = replace.Delete; status = held.CreateComplete; unsure = false; superseded = false } ∷ []);
+  made = [];
+  leftovers = [];
+  tokens = [];
+  abandoned = [];
+  source = Some (source_for (codes "site") 1 first);
+  going = Some (source_for (codes "site") 1 second);
+  outputs = (record { name = (codes "Total"); value = (codes "2"); export = Some (codes "site-total") } ∷ []);
+  sets = [];
+  events = ((codes "event 2 - CREATE_IN_PROGRESS") ∷ (codes "event 3 A CREATE_IN_PROGRESS") ∷ (codes "event 4 A CREATE_COMPLETE") ∷ (codes "event 5 - CREATE_COMPLETE") ∷ (codes "event 10 - UPDATE_IN_PROGRESS") ∷ (codes "event 11 A UPDATE_IN_PROGRESS") ∷ (codes "event 12 A UPDATE_COMPLETE") ∷ (codes "event 13 - UPDATE_ROLLBACK_IN_PROGRESS") ∷ (codes "event 14 A UPDATE_IN_PROGRESS") ∷ (codes "event 15 A UPDATE_COMPLETE") ∷ []);
+  entries = (updating ∷ intended_change ∷ changed ∷ turned ∷ intended_restore ∷ restored ∷ []);
+}
+
+abbrev stack_15_user : StackState
+stack_15_user = record {
+  status = status.CreateComplete;
+  number = 2;
+  operation = 2;
+  held = (record { path = (codes "U"); kind = note; physical = (codes "r1:2"); props = (note_props (codes "u") (codes "2")); attrs = (note_attrs (codes "r1:2") 1 (codes "u") (codes "2")); needs = []; deletion = deletion.Delete; replace = replace.Delete; status = held.CreateComplete; unsure = false; superseded = false } ∷ []);
+  before = [];
+  made = [];
+  leftovers = [];
+  tokens = [];
+  abandoned = [];
+  source = Some (source_for (codes "user") 2 importing);
+  going = Some (source_for (codes "user") 2 importing);
+  outputs = [];
+  sets = [];
+  events = ((codes "event 6 - CREATE_IN_PROGRESS") ∷ (codes "event 7 U CREATE_IN_PROGRESS") ∷ (codes "event 8 U CREATE_COMPLETE") ∷ (codes "event 9 - CREATE_COMPLETE") ∷ []);
+  entries = (begun_user ∷ intended_record ∷ made_record ∷ created_user ∷ []);
+}
+
+abbrev world_15 : World
+world_15 = record { stacks = (((codes "site"), stack_15_site) ∷ ((codes "user"), stack_15_user) ∷ []); exports = (record { name = (codes "site-total"); value = (codes "2"); stack = (codes "site") } ∷ []); pins = (record { stack = (codes "user"); name = (codes "site-total") } ∷ []); claims = (record { stack = (codes "site"); name = (codes "site-total") } ∷ []); lanes = (lane_pair (codes "f1") file ∷ lane_pair (codes "r1") note ∷ []); epoch = 1; operation = 3; set = 0; token = 4; place = 15 }
+
+leads_15 : world_after world_14 restored ≡ world_15
+unfolding computing
+leads_15 = refl
+
+may_cleaning : MayFollow schemas world_15 [] cleaning
+unfolding computing
+may_cleaning = ((codes "site"), stack_15_site, Back, refl, refl, (refl, (refl, refl, nothing_to_restore stack_15_site refl, refl)))
+
+abbrev stack_16_site : StackState
+stack_16_site = record {
+  status = status.UpdateRollbackCompleteCleanupInProgress;
+  number = 1;
+  operation = 3;
+  held = (record { path = (codes "A"); kind = file; physical = (codes "f1:1"); props = (file_props (codes "a") (codes "xx")); attrs = (file_attrs (codes "f1:1") 2 (codes "a") (codes "xx")); needs = []; deletion = deletion.Delete; replace = replace.Delete; status = held.UpdateComplete; unsure = false; superseded = false } ∷ []);
+  before = (record { path = (codes "A"); kind = file; physical = (codes "f1:1"); props = (file_props (codes "a") (codes "xx")); attrs = (file_attrs (codes "f1:1") 2 (codes "a") (codes "xx")); needs = []; deletion = deletion.Delete; replace = replace.Delete; status = held.CreateComplete; unsure = false; superseded = false } ∷ []);
+  made = [];
+  leftovers = [];
+  tokens = [];
+  abandoned = [];
+  source = Some (source_for (codes "site") 1 first);
+  going = Some (source_for (codes "site") 1 second);
+  outputs = (record { name = (codes "Total"); value = (codes "2"); export = Some (codes "site-total") } ∷ []);
+  sets = [];
+  events = ((codes "event 2 - CREATE_IN_PROGRESS") ∷ (codes "event 3 A CREATE_IN_PROGRESS") ∷ (codes "event 4 A CREATE_COMPLETE") ∷ (codes "event 5 - CREATE_COMPLETE") ∷ (codes "event 10 - UPDATE_IN_PROGRESS") ∷ (codes "event 11 A UPDATE_IN_PROGRESS") ∷ (codes "event 12 A UPDATE_COMPLETE") ∷ (codes "event 13 - UPDATE_ROLLBACK_IN_PROGRESS") ∷ (codes "event 14 A UPDATE_IN_PROGRESS") ∷ (codes "event 15 A UPDATE_COMPLETE") ∷ (codes "event 16 - UPDATE_ROLLBACK_COMPLETE_CLEANUP_IN_PROGRESS") ∷ []);
+  entries = (updating ∷ intended_change ∷ changed ∷ turned ∷ intended_restore ∷ restored ∷ cleaning ∷ []);
+}
+
+abbrev stack_16_user : StackState
+stack_16_user = record {
+  status = status.CreateComplete;
+  number = 2;
+  operation = 2;
+  held = (record { path = (codes "U"); kind = note; physical = (codes "r1:2"); props = (note_props (codes "u") (codes "2")); attrs = (note_attrs (codes "r1:2") 1 (codes "u") (codes "2")); needs = []; deletion = deletion.Delete; replace = replace.Delete; status = held.CreateComplete; unsure = false; superseded = false } ∷ []);
+  before = [];
+  made = [];
+  leftovers = [];
+  tokens = [];
+  abandoned = [];
+  source = Some (source_for (codes "user") 2 importing);
+  going = Some (source_for (codes "user") 2 importing);
+  outputs = [];
+  sets = [];
+  events = ((codes "event 6 - CREATE_IN_PROGRESS") ∷ (codes "event 7 U CREATE_IN_PROGRESS") ∷ (codes "event 8 U CREATE_COMPLETE") ∷ (codes "event 9 - CREATE_COMPLETE") ∷ []);
+  entries = (begun_user ∷ intended_record ∷ made_record ∷ created_user ∷ []);
+}
+
+abbrev world_16 : World
+world_16 = record { stacks = (((codes "site"), stack_16_site) ∷ ((codes "user"), stack_16_user) ∷ []); exports = (record { name = (codes "site-total"); value = (codes "2"); stack = (codes "site") } ∷ []); pins = (record { stack = (codes "user"); name = (codes "site-total") } ∷ []); claims = (record { stack = (codes "site"); name = (codes "site-total") } ∷ []); lanes = (lane_pair (codes "f1") file ∷ lane_pair (codes "r1") note ∷ []); epoch = 1; operation = 3; set = 0; token = 4; place = 16 }
+
+leads_16 : world_after world_15 cleaning ≡ world_16
+unfolding computing
+leads_16 = refl
+
+may_rolled_back : MayFollow schemas world_16 [] rolled_back
+unfolding computing
+may_rolled_back = ((codes "site"), stack_16_site, BackClean, refl, refl, (refl, end_of_back_clean schemas (codes "site") world_16 stack_16_site refl refl refl, tt, refl))
+
+abbrev stack_17_site : StackState
+stack_17_site = record {
+  status = status.UpdateRollbackComplete;
+  number = 1;
+  operation = 3;
+  held = (record { path = (codes "A"); kind = file; physical = (codes "f1:1"); props = (file_props (codes "a") (codes "xx")); attrs = (file_attrs (codes "f1:1") 2 (codes "a") (codes "xx")); needs = []; deletion = deletion.Delete; replace = replace.Delete; status = held.UpdateComplete; unsure = false; superseded = false } ∷ []);
+  before = (record { path = (codes "A"); kind = file; physical = (codes "f1:1"); props = (file_props (codes "a") (codes "xx")); attrs = (file_attrs (codes "f1:1") 2 (codes "a") (codes "xx")); needs = []; deletion = deletion.Delete; replace = replace.Delete; status = held.CreateComplete; unsure = false; superseded = false } ∷ []);
+  made = [];
+  leftovers = [];
+  tokens = [];
+  abandoned = [];
+  source = Some (source_for (codes "site") 1 first);
+  going = Some (source_for (codes "site") 1 second);
+  outputs = (record { name = (codes "Total"); value = (codes "2"); export = Some (codes "site-total") } ∷ []);
+  sets = [];
+  events = ((codes "event 2 - CREATE_IN_PROGRESS") ∷ (codes "event 3 A CREATE_IN_PROGRESS") ∷ (codes "event 4 A CREATE_COMPLETE") ∷ (codes "event 5 - CREATE_COMPLETE") ∷ (codes "event 10 - UPDATE_IN_PROGRESS") ∷ (codes "event 11 A UPDATE_IN_PROGRESS") ∷ (codes "event 12 A UPDATE_COMPLETE") ∷ (codes "event 13 - UPDATE_ROLLBACK_IN_PROGRESS") ∷ (codes "event 14 A UPDATE_IN_PROGRESS") ∷ (codes "event 15 A UPDATE_COMPLETE") ∷ (codes "event 16 - UPDATE_ROLLBACK_COMPLETE_CLEANUP_IN_PROGRESS") ∷ (codes "event 17 - UPDATE_ROLLBACK_COMPLETE") ∷ []);
+  entries = (updating ∷ intended_change ∷ changed ∷ turned ∷ intended_restore ∷ restored ∷ cleaning ∷ rolled_back ∷ []);
+}
+
+abbrev stack_17_user : StackState
+stack_17_user = record {
+  status = status.CreateComplete;
+  number = 2;
+  operation = 2;
+  held = (record { path = (codes "U"); kind = note; physical = (codes "r1:2"); props = (note_props (codes "u") (codes "2")); attrs = (note_attrs (codes "r1:2") 1 (codes "u") (codes "2")); needs = []; deletion = deletion.Delete; replace = replace.Delete; status = held.CreateComplete; unsure = false; superseded = false } ∷ []);
+  before = [];
+  made = [];
+  leftovers = [];
+  tokens = [];
+  abandoned = [];
+  source = Some (source_for (codes "user") 2 importing);
+  going = Some (source_for (codes "user") 2 importing);
+  outputs = [];
+  sets = [];
+  events = ((codes "event 6 - CREATE_IN_PROGRESS") ∷ (codes "event 7 U CREATE_IN_PROGRESS") ∷ (codes "event 8 U CREATE_COMPLETE") ∷ (codes "event 9 - CREATE_COMPLETE") ∷ []);
+  entries = (begun_user ∷ intended_record ∷ made_record ∷ created_user ∷ []);
+}
+
+abbrev world_17 : World
+world_17 = record { stacks = (((codes "site"), stack_17_site) ∷ ((codes "user"), stack_17_user) ∷ []); exports = (record { name = (codes "site-total"); value = (codes "2"); stack = (codes "site") } ∷ []); pins = (record { stack = (codes "user"); name = (codes "site-total") } ∷ []); claims = []; lanes = (lane_pair (codes "f1") file ∷ lane_pair (codes "r1") note ∷ []); epoch = 1; operation = 3; set = 0; token = 4; place = 17 }
+
+leads_17 : world_after world_16 rolled_back ≡ world_17
+unfolding computing
+leads_17 = refl
+
+abbrev rest_17 : List Entry
+rest_17 = []
+
+abbrev rest_16 : List Entry
+rest_16 = rolled_back ∷ rest_17
+
+abbrev rest_15 : List Entry
+rest_15 = cleaning ∷ rest_16
+
+abbrev rest_14 : List Entry
+rest_14 = restored ∷ rest_15
+
+abbrev rest_13 : List Entry
+rest_13 = intended_restore ∷ rest_14
+
+abbrev rest_12 : List Entry
+rest_12 = turned ∷ rest_13
+
+abbrev rest_11 : List Entry
+rest_11 = changed ∷ rest_12
+
+abbrev rest_10 : List Entry
+rest_10 = intended_change ∷ rest_11
+
+abbrev rest_9 : List Entry
+rest_9 = updating ∷ rest_10
+
+abbrev rest_8 : List Entry
+rest_8 = created_user ∷ rest_9
+
+abbrev rest_7 : List Entry
+rest_7 = made_record ∷ rest_8
+
+abbrev rest_6 : List Entry
+rest_6 = intended_record ∷ rest_7
+
+abbrev rest_5 : List Entry
+rest_5 = begun_user ∷ rest_6
+
+abbrev rest_4 : List Entry
+rest_4 = created ∷ rest_5
+
+abbrev rest_3 : List Entry
+rest_3 = made_file ∷ rest_4
+
+abbrev rest_2 : List Entry
+rest_2 = intended_file ∷ rest_3
+
+abbrev rest_1 : List Entry
+rest_1 = begun ∷ rest_2
+
+abbrev rest_0 : List Entry
+rest_0 = opened ∷ rest_1
+
+pub legal : Legal
+legal = legal_step world_0 world_1 opened rest_1 [] may_opened leads_1 (legal_step world_1 world_2 begun rest_2 [] may_begun leads_2 (legal_step world_2 world_3 intended_file rest_3 [] may_intended_file leads_3 (legal_step world_3 world_4 made_file rest_4 (1 ∷ []) may_made_file leads_4 (legal_step world_4 world_5 created rest_5 [] may_created leads_5 (legal_step world_5 world_6 begun_user rest_6 [] may_begun_user leads_6 (legal_step world_6 world_7 intended_record rest_7 [] may_intended_record leads_7 (legal_step world_7 world_8 made_record rest_8 (2 ∷ []) may_made_record leads_8 (legal_step world_8 world_9 created_user rest_9 [] may_created_user leads_9 (legal_step world_9 world_10 updating rest_10 [] may_updating leads_10 (legal_step world_10 world_11 intended_change rest_11 [] may_intended_change leads_11 (legal_step world_11 world_12 changed rest_12 (3 ∷ []) may_changed leads_12 (legal_step world_12 world_13 turned rest_13 [] may_turned leads_13 (legal_step world_13 world_14 intended_restore rest_14 [] may_intended_restore leads_14 (legal_step world_14 world_15 restored rest_15 (4 ∷ []) may_restored leads_15 (legal_step world_15 world_16 cleaning rest_16 [] may_cleaning leads_16 (legal_step world_16 world_17 rolled_back rest_17 [] may_rolled_back leads_17 (tt)))))))))))))))))
+
+arrives_12 : fold_of empty_world (opened ∷ begun ∷ intended_file ∷ made_file ∷ created ∷ begun_user ∷ intended_record ∷ made_record ∷ created_user ∷ updating ∷ intended_change ∷ changed ∷ []) ≡ world_12
+arrives_12 = fold_step world_0 world_1 opened (begun ∷ intended_file ∷ made_file ∷ created ∷ begun_user ∷ intended_record ∷ made_record ∷ created_user ∷ updating ∷ intended_change ∷ changed ∷ []) leads_1 (fold_step world_1 world_2 begun (intended_file ∷ made_file ∷ created ∷ begun_user ∷ intended_record ∷ made_record ∷ created_user ∷ updating ∷ intended_change ∷ changed ∷ []) leads_2 (fold_step world_2 world_3 intended_file (made_file ∷ created ∷ begun_user ∷ intended_record ∷ made_record ∷ created_user ∷ updating ∷ intended_change ∷ changed ∷ []) leads_3 (fold_step world_3 world_4 made_file (created ∷ begun_user ∷ intended_record ∷ made_record ∷ created_user ∷ updating ∷ intended_change ∷ changed ∷ []) leads_4 (fold_step world_4 world_5 created (begun_user ∷ intended_record ∷ made_record ∷ created_user ∷ updating ∷ intended_change ∷ changed ∷ []) leads_5 (fold_step world_5 world_6 begun_user (intended_record ∷ made_record ∷ created_user ∷ updating ∷ intended_change ∷ changed ∷ []) leads_6 (fold_step world_6 world_7 intended_record (made_record ∷ created_user ∷ updating ∷ intended_change ∷ changed ∷ []) leads_7 (fold_step world_7 world_8 made_record (created_user ∷ updating ∷ intended_change ∷ changed ∷ []) leads_8 (fold_step world_8 world_9 created_user (updating ∷ intended_change ∷ changed ∷ []) leads_9 (fold_step world_9 world_10 updating (intended_change ∷ changed ∷ []) leads_10 (fold_step world_10 world_11 intended_change (changed ∷ []) leads_11 (fold_step world_11 world_12 changed ([]) leads_12 (refl))))))))))))
+
+arrives_17 : fold_of empty_world (opened ∷ begun ∷ intended_file ∷ made_file ∷ created ∷ begun_user ∷ intended_record ∷ made_record ∷ created_user ∷ updating ∷ intended_change ∷ changed ∷ turned ∷ intended_restore ∷ restored ∷ cleaning ∷ rolled_back ∷ []) ≡ world_17
+arrives_17 = fold_step world_0 world_1 opened (begun ∷ intended_file ∷ made_file ∷ created ∷ begun_user ∷ intended_record ∷ made_record ∷ created_user ∷ updating ∷ intended_change ∷ changed ∷ turned ∷ intended_restore ∷ restored ∷ cleaning ∷ rolled_back ∷ []) leads_1 (fold_step world_1 world_2 begun (intended_file ∷ made_file ∷ created ∷ begun_user ∷ intended_record ∷ made_record ∷ created_user ∷ updating ∷ intended_change ∷ changed ∷ turned ∷ intended_restore ∷ restored ∷ cleaning ∷ rolled_back ∷ []) leads_2 (fold_step world_2 world_3 intended_file (made_file ∷ created ∷ begun_user ∷ intended_record ∷ made_record ∷ created_user ∷ updating ∷ intended_change ∷ changed ∷ turned ∷ intended_restore ∷ restored ∷ cleaning ∷ rolled_back ∷ []) leads_3 (fold_step world_3 world_4 made_file (created ∷ begun_user ∷ intended_record ∷ made_record ∷ created_user ∷ updating ∷ intended_change ∷ changed ∷ turned ∷ intended_restore ∷ restored ∷ cleaning ∷ rolled_back ∷ []) leads_4 (fold_step world_4 world_5 created (begun_user ∷ intended_record ∷ made_record ∷ created_user ∷ updating ∷ intended_change ∷ changed ∷ turned ∷ intended_restore ∷ restored ∷ cleaning ∷ rolled_back ∷ []) leads_5 (fold_step world_5 world_6 begun_user (intended_record ∷ made_record ∷ created_user ∷ updating ∷ intended_change ∷ changed ∷ turned ∷ intended_restore ∷ restored ∷ cleaning ∷ rolled_back ∷ []) leads_6 (fold_step world_6 world_7 intended_record (made_record ∷ created_user ∷ updating ∷ intended_change ∷ changed ∷ turned ∷ intended_restore ∷ restored ∷ cleaning ∷ rolled_back ∷ []) leads_7 (fold_step world_7 world_8 made_record (created_user ∷ updating ∷ intended_change ∷ changed ∷ turned ∷ intended_restore ∷ restored ∷ cleaning ∷ rolled_back ∷ []) leads_8 (fold_step world_8 world_9 created_user (updating ∷ intended_change ∷ changed ∷ turned ∷ intended_restore ∷ restored ∷ cleaning ∷ rolled_back ∷ []) leads_9 (fold_step world_9 world_10 updating (intended_change ∷ changed ∷ turned ∷ intended_restore ∷ restored ∷ cleaning ∷ rolled_back ∷ []) leads_10 (fold_step world_10 world_11 intended_change (changed ∷ turned ∷ intended_restore ∷ restored ∷ cleaning ∷ rolled_back ∷ []) leads_11 (fold_step world_11 world_12 changed (turned ∷ intended_restore ∷ restored ∷ cleaning ∷ rolled_back ∷ []) leads_12 (fold_step world_12 world_13 turned (intended_restore ∷ restored ∷ cleaning ∷ rolled_back ∷ []) leads_13 (fold_step world_13 world_14 intended_restore (restored ∷ cleaning ∷ rolled_back ∷ []) leads_14 (fold_step world_14 world_15 restored (cleaning ∷ rolled_back ∷ []) leads_15 (fold_step world_15 world_16 cleaning (rolled_back ∷ []) leads_16 (fold_step world_16 world_17 rolled_back ([]) leads_17 (refl)))))))))))))))))
+
+pub report_0 : Shows
+report_0 = ap (report_of (codes "site")) arrives_17
+
+may_not_0 : (out : List ℕ) → MayFollow schemas world_12 out (entry.Phase 3 phase.Clean None) → ⊥
+unfolding computing
+may_not_0 = λ out may. let m = follows_on schemas 3 world_12 out (entry.Phase 3 phase.Clean None) ((codes "site"), stack_12_site) Forward refl refl may in m.1.1 (inr (inr (inr (codes "site-total", (all_done_12, refl)))))
+
+pub refused_0 : ChangedThoughPinned
+refused_0 = refused_at world_12 (opened ∷ begun ∷ intended_file ∷ made_file ∷ created ∷ begun_user ∷ intended_record ∷ made_record ∷ created_user ∷ updating ∷ intended_change ∷ changed ∷ []) (entry.Phase 3 phase.Clean None) arrives_12 may_not_0
+
+may_not_1 : (out : List ℕ) → MayFollow schemas world_17 out (entry.Begin 4 (codes "site") (begin.Delete [])) → ⊥
+unfolding computing
+may_not_1 = λ out may. true≢false may.2.2
+
+pub refused_1 : DeletedThoughPinned
+refused_1 = refused_at world_17 (opened ∷ begun ∷ intended_file ∷ made_file ∷ created ∷ begun_user ∷ intended_record ∷ made_record ∷ created_user ∷ updating ∷ intended_change ∷ changed ∷ turned ∷ intended_restore ∷ restored ∷ cleaning ∷ rolled_back ∷ []) (entry.Begin 4 (codes "site") (begin.Delete [])) arrives_17 may_not_1

@@ -1,0 +1,642 @@
+-- A file is replaced: the record that refers to it is updated to the new id, and the old file is deleted in the cleanup (worked in the order of the calls).
+use Rattle.std.proofs.Common.{◌≡◌, refl, List, [], ◌∷◌, Some, None, true, false, ℕ, inl, inr, ap, lit≤, true≢false}
+use Rattle.std.specs.Prelude.{codes}
+use Rattle.cf_tree.specs.declared.request.Request.TheVariants as request
+use Rattle.cf_entry.specs.declared.entry.Entry.{Entry}
+use Rattle.cf_stacks.specs.declared.state.World.{World}
+use Rattle.cf_stacks.specs.declared.state.StackState.{StackState}
+use Rattle.cf_stacks.specs.Fold.{empty_world, world_after, source_for}
+use Rattle.cf_stacks.specs.Status.{Forward, Clean}
+use Rattle.cf_schema.specs.declared.changed.Difference.TheVariants.{Same, Update, Replace}
+use Rattle.cf_plan.specs.Forward.{here, there, HasFailed, IsReady, AllDone, IsDone, is_made, is_updated}
+use Rattle.cf_plan.specs.Follow.{MayFollow}
+use Rattle.cf_examples.specs.Given.{schemas, file, note, file_props, note_props, file_attrs, note_attrs}
+use Rattle.cf_examples.proofs.Computing.{computing}
+use Rattle.cf_examples.proofs.Lists.{in_none, only, either}
+use Rattle.cf_examples.proofs.Failing.{not_failed, not_done_new, not_done_other, same_at, known_props}
+use Rattle.cf_examples.proofs.Ending.{end_of_create, end_of_clean}
+use Rattle.cf_tree.specs.declared.template.Deletion.TheVariants as deletion
+use Rattle.cf_tree.specs.declared.template.Replace.TheVariants as replace
+use Rattle.cf_entry.specs.declared.entry.Entry.TheVariants as entry
+use Rattle.cf_entry.specs.declared.entry.Reply.TheVariants as reply
+use Rattle.cf_entry.specs.declared.status.Status.TheVariants as status
+use Rattle.cf_entry.specs.declared.turn.Phase.TheVariants as phase
+use Rattle.cf_stacks.specs.declared.held.HeldStatus.TheVariants as held
+use Rattle.cf_stacks.specs.Fold.{fold_of}
+use Rattle.cf_examples.specs.Given.{lane_pair, report_of}
+use Rattle.cf_examples.proofs.Refusing.{follows_on, follows_none, legal_step, fold_step, refused_at}
+use Rattle.cf_examples.proofs.Beginning.{no_imports}
+use Rattle.cf_examples.specs.Replacement.{first, second, opened, begun, intended_web, made_web, intended_ptr, made_ptr, created, updating, intended_new, made_new, intended_change, changed_ptr, cleaning, intended_deletion, deleted, updated, Legal, Shows, CleanedTooEarly, DeletedBeforeCleanup, OldIdEvaluated, EndedAgain, AnsweredUnderAnotherNumber}
+
+abbrev world_0 : World
+world_0 = empty_world
+
+may_opened : MayFollow schemas world_0 [] opened
+unfolding computing
+may_opened = (refl, refl, λ name s e. absurd (cc))
+
+abbrev world_1 : World
+world_1 = record { stacks = []; exports = []; pins = []; claims = []; lanes = (lane_pair (codes "f1") file ∷ lane_pair (codes "r1") note ∷ []); epoch = 1; operation = 0; set = 0; token = 0; place = 1 }
+
+leads_1 : world_after world_0 opened ≡ world_1
+unfolding computing
+leads_1 = refl
+
+may_begun : MayFollow schemas world_1 [] begun
+unfolding computing
+may_begun = (refl, refl, record { no_flaw = refl; known_types = refl; same_types = refl; imports = no_imports _ _ _ _ refl refl; free = refl; not_in_use = refl; changing = inl refl })
+
+abbrev stack_2_app : StackState
+stack_2_app = record {
+  status = status.CreateInProgress;
+  number = 1;
+  operation = 1;
+  held = [];
+  before = [];
+  made = [];
+  leftovers = [];
+  tokens = [];
+  abandoned = [];
+  source = None;
+  going = Some (source_for (codes "app") 1 first);
+  outputs = [];
+  sets = [];
+  events = ((codes "event 2 - CREATE_IN_PROGRESS") ∷ []);
+  entries = (begun ∷ []);
+}
+
+abbrev world_2 : World
+world_2 = record { stacks = (((codes "app"), stack_2_app) ∷ []); exports = []; pins = []; claims = []; lanes = (lane_pair (codes "f1") file ∷ lane_pair (codes "r1") note ∷ []); epoch = 1; operation = 1; set = 0; token = 0; place = 2 }
+
+leads_2 : world_after world_1 begun ≡ world_2
+unfolding computing
+leads_2 = refl
+
+sound_2 : ¬ HasFailed schemas (codes "app") world_2 stack_2_app
+unfolding computing
+sound_2 = not_failed schemas (codes "app") world_2 stack_2_app (record { calls = refl; paths = refl; inner = refl; flaws = refl; exports = refl })
+
+ready_2_Web : IsReady stack_2_app (codes "Web")
+unfolding computing
+ready_2_Web = (here, λ q i. absurd (in_none i))
+
+may_intended_web : MayFollow schemas world_2 [] intended_web
+unfolding computing
+may_intended_web = ((codes "app"), stack_2_app, Forward, refl, refl, record { next = refl; free = refl; home = refl; fits = refl; no_repeat = refl; chosen = (sound_2, ready_2_Web, not_done_new (codes "Web") stack_2_app refl refl refl, (refl, tt)) })
+
+abbrev stack_3_app : StackState
+stack_3_app = record {
+  status = status.CreateInProgress;
+  number = 1;
+  operation = 1;
+  held = [];
+  before = [];
+  made = [];
+  leftovers = [];
+  tokens = (record { token = 1; path = (codes "Web"); lane = (codes "f1"); request = (request.Create file (file_props (codes "web.txt") (codes "x"))) } ∷ []);
+  abandoned = [];
+  source = None;
+  going = Some (source_for (codes "app") 1 first);
+  outputs = [];
+  sets = [];
+  events = ((codes "event 2 - CREATE_IN_PROGRESS") ∷ (codes "event 3 Web CREATE_IN_PROGRESS") ∷ []);
+  entries = (begun ∷ intended_web ∷ []);
+}
+
+abbrev world_3 : World
+world_3 = record { stacks = (((codes "app"), stack_3_app) ∷ []); exports = []; pins = []; claims = []; lanes = (lane_pair (codes "f1") file ∷ lane_pair (codes "r1") note ∷ []); epoch = 1; operation = 1; set = 0; token = 1; place = 3 }
+
+leads_3 : world_after world_2 intended_web ≡ world_3
+unfolding computing
+leads_3 = refl
+
+may_made_web : MayFollow schemas world_3 (1 ∷ []) made_web
+unfolding computing
+may_made_web = ((codes "app"), stack_3_app, Forward, refl, refl, (refl, refl, lit≤ tt))
+
+abbrev stack_4_app : StackState
+stack_4_app = record {
+  status = status.CreateInProgress;
+  number = 1;
+  operation = 1;
+  held = [];
+  before = [];
+  made = (record { path = (codes "Web"); kind = file; physical = (codes "f1:1"); props = (file_props (codes "web.txt") (codes "x")); attrs = (file_attrs (codes "f1:1") 1 (codes "web.txt") (codes "x")); needs = []; deletion = deletion.Delete; replace = replace.Delete; status = held.CreateComplete; unsure = false; superseded = false } ∷ []);
+  leftovers = [];
+  tokens = [];
+  abandoned = [];
+  source = None;
+  going = Some (source_for (codes "app") 1 first);
+  outputs = [];
+  sets = [];
+  events = ((codes "event 2 - CREATE_IN_PROGRESS") ∷ (codes "event 3 Web CREATE_IN_PROGRESS") ∷ (codes "event 4 Web CREATE_COMPLETE") ∷ []);
+  entries = (begun ∷ intended_web ∷ made_web ∷ []);
+}
+
+abbrev world_4 : World
+world_4 = record { stacks = (((codes "app"), stack_4_app) ∷ []); exports = []; pins = []; claims = []; lanes = (lane_pair (codes "f1") file ∷ lane_pair (codes "r1") note ∷ []); epoch = 1; operation = 1; set = 0; token = 1; place = 4 }
+
+leads_4 : world_after world_3 made_web ≡ world_4
+unfolding computing
+leads_4 = refl
+
+sound_4 : ¬ HasFailed schemas (codes "app") world_4 stack_4_app
+unfolding computing
+sound_4 = not_failed schemas (codes "app") world_4 stack_4_app (record { calls = refl; paths = refl; inner = refl; flaws = refl; exports = refl })
+
+ready_4_Ptr : IsReady stack_4_app (codes "Ptr")
+unfolding computing
+ready_4_Ptr = (there here, λ q i. only (IsDone stack_4_app) (is_made _ refl) q i)
+
+may_intended_ptr : MayFollow schemas world_4 [] intended_ptr
+unfolding computing
+may_intended_ptr = ((codes "app"), stack_4_app, Forward, refl, refl, record { next = refl; free = refl; home = refl; fits = refl; no_repeat = refl; chosen = (sound_4, ready_4_Ptr, not_done_new (codes "Ptr") stack_4_app refl refl refl, (refl, tt)) })
+
+abbrev stack_5_app : StackState
+stack_5_app = record {
+  status = status.CreateInProgress;
+  number = 1;
+  operation = 1;
+  held = [];
+  before = [];
+  made = (record { path = (codes "Web"); kind = file; physical = (codes "f1:1"); props = (file_props (codes "web.txt") (codes "x")); attrs = (file_attrs (codes "f1:1") 1 (codes "web.txt") (codes "x")); needs = []; deletion = deletion.Delete; replace = replace.Delete; status = held.CreateComplete; unsure = false; superseded = false } ∷ []);
+  leftovers = [];
+  tokens = (record { token = 2; path = (codes "Ptr"); lane = (codes "r1"); request = (request.Create note (note_props (codes "p") (codes "f1:1"))) } ∷ []);
+  abandoned = [];
+  source = None;
+  going = Some (source_for (codes "app") 1 first);
+  outputs = [];
+  sets = [];
+  events = ((codes "event 2 - CREATE_IN_PROGRESS") ∷ (codes "event 3 Web CREATE_IN_PROGRESS") ∷ (codes "event 4 Web CREATE_COMPLETE") ∷ (codes "event 5 Ptr CREATE_IN_PROGRESS") ∷ []);
+  entries = (begun ∷ intended_web ∷ made_web ∷ intended_ptr ∷ []);
+}
+
+abbrev world_5 : World
+world_5 = record { stacks = (((codes "app"), stack_5_app) ∷ []); exports = []; pins = []; claims = []; lanes = (lane_pair (codes "f1") file ∷ lane_pair (codes "r1") note ∷ []); epoch = 1; operation = 1; set = 0; token = 2; place = 5 }
+
+leads_5 : world_after world_4 intended_ptr ≡ world_5
+unfolding computing
+leads_5 = refl
+
+may_made_ptr : MayFollow schemas world_5 (2 ∷ []) made_ptr
+unfolding computing
+may_made_ptr = ((codes "app"), stack_5_app, Forward, refl, refl, (refl, refl, lit≤ tt))
+
+abbrev stack_6_app : StackState
+stack_6_app = record {
+  status = status.CreateInProgress;
+  number = 1;
+  operation = 1;
+  held = [];
+  before = [];
+  made = (record { path = (codes "Web"); kind = file; physical = (codes "f1:1"); props = (file_props (codes "web.txt") (codes "x")); attrs = (file_attrs (codes "f1:1") 1 (codes "web.txt") (codes "x")); needs = []; deletion = deletion.Delete; replace = replace.Delete; status = held.CreateComplete; unsure = false; superseded = false } ∷ record { path = (codes "Ptr"); kind = note; physical = (codes "r1:2"); props = (note_props (codes "p") (codes "f1:1")); attrs = (note_attrs (codes "r1:2") 4 (codes "p") (codes "f1:1")); needs = ((codes "Web") ∷ []); deletion = deletion.Delete; replace = replace.Delete; status = held.CreateComplete; unsure = false; superseded = false } ∷ []);
+  leftovers = [];
+  tokens = [];
+  abandoned = [];
+  source = None;
+  going = Some (source_for (codes "app") 1 first);
+  outputs = [];
+  sets = [];
+  events = ((codes "event 2 - CREATE_IN_PROGRESS") ∷ (codes "event 3 Web CREATE_IN_PROGRESS") ∷ (codes "event 4 Web CREATE_COMPLETE") ∷ (codes "event 5 Ptr CREATE_IN_PROGRESS") ∷ (codes "event 6 Ptr CREATE_COMPLETE") ∷ []);
+  entries = (begun ∷ intended_web ∷ made_web ∷ intended_ptr ∷ made_ptr ∷ []);
+}
+
+abbrev world_6 : World
+world_6 = record { stacks = (((codes "app"), stack_6_app) ∷ []); exports = []; pins = []; claims = []; lanes = (lane_pair (codes "f1") file ∷ lane_pair (codes "r1") note ∷ []); epoch = 1; operation = 1; set = 0; token = 2; place = 6 }
+
+leads_6 : world_after world_5 made_ptr ≡ world_6
+unfolding computing
+leads_6 = refl
+
+all_done_6 : AllDone stack_6_app
+unfolding computing
+all_done_6 = λ p i. either (IsDone stack_6_app) (is_made _ refl) (is_made _ refl) p i
+
+sound_6 : ¬ HasFailed schemas (codes "app") world_6 stack_6_app
+unfolding computing
+sound_6 = not_failed schemas (codes "app") world_6 stack_6_app (record { calls = refl; paths = refl; inner = refl; flaws = refl; exports = refl })
+
+may_created : MayFollow schemas world_6 [] created
+unfolding computing
+may_created = ((codes "app"), stack_6_app, Forward, refl, refl, (refl, end_of_create schemas (codes "app") world_6 stack_6_app refl all_done_6 sound_6 refl, (sound_6, all_done_6), refl))
+
+abbrev stack_7_app : StackState
+stack_7_app = record {
+  status = status.CreateComplete;
+  number = 1;
+  operation = 1;
+  held = (record { path = (codes "Web"); kind = file; physical = (codes "f1:1"); props = (file_props (codes "web.txt") (codes "x")); attrs = (file_attrs (codes "f1:1") 1 (codes "web.txt") (codes "x")); needs = []; deletion = deletion.Delete; replace = replace.Delete; status = held.CreateComplete; unsure = false; superseded = false } ∷ record { path = (codes "Ptr"); kind = note; physical = (codes "r1:2"); props = (note_props (codes "p") (codes "f1:1")); attrs = (note_attrs (codes "r1:2") 4 (codes "p") (codes "f1:1")); needs = ((codes "Web") ∷ []); deletion = deletion.Delete; replace = replace.Delete; status = held.CreateComplete; unsure = false; superseded = false } ∷ []);
+  before = [];
+  made = [];
+  leftovers = [];
+  tokens = [];
+  abandoned = [];
+  source = Some (source_for (codes "app") 1 first);
+  going = Some (source_for (codes "app") 1 first);
+  outputs = [];
+  sets = [];
+  events = ((codes "event 2 - CREATE_IN_PROGRESS") ∷ (codes "event 3 Web CREATE_IN_PROGRESS") ∷ (codes "event 4 Web CREATE_COMPLETE") ∷ (codes "event 5 Ptr CREATE_IN_PROGRESS") ∷ (codes "event 6 Ptr CREATE_COMPLETE") ∷ (codes "event 7 - CREATE_COMPLETE") ∷ []);
+  entries = (begun ∷ intended_web ∷ made_web ∷ intended_ptr ∷ made_ptr ∷ created ∷ []);
+}
+
+abbrev world_7 : World
+world_7 = record { stacks = (((codes "app"), stack_7_app) ∷ []); exports = []; pins = []; claims = []; lanes = (lane_pair (codes "f1") file ∷ lane_pair (codes "r1") note ∷ []); epoch = 1; operation = 1; set = 0; token = 2; place = 7 }
+
+leads_7 : world_after world_6 created ≡ world_7
+unfolding computing
+leads_7 = refl
+
+may_updating : MayFollow schemas world_7 [] updating
+unfolding computing
+may_updating = (refl, refl, record { no_flaw = refl; known_types = refl; same_types = refl; imports = no_imports _ _ _ _ refl refl; free = refl; not_in_use = refl; changing = inr (inl refl) })
+
+abbrev stack_8_app : StackState
+stack_8_app = record {
+  status = status.UpdateInProgress;
+  number = 1;
+  operation = 2;
+  held = (record { path = (codes "Web"); kind = file; physical = (codes "f1:1"); props = (file_props (codes "web.txt") (codes "x")); attrs = (file_attrs (codes "f1:1") 1 (codes "web.txt") (codes "x")); needs = []; deletion = deletion.Delete; replace = replace.Delete; status = held.CreateComplete; unsure = false; superseded = false } ∷ record { path = (codes "Ptr"); kind = note; physical = (codes "r1:2"); props = (note_props (codes "p") (codes "f1:1")); attrs = (note_attrs (codes "r1:2") 4 (codes "p") (codes "f1:1")); needs = ((codes "Web") ∷ []); deletion = deletion.Delete; replace = replace.Delete; status = held.CreateComplete; unsure = false; superseded = false } ∷ []);
+  before = (record { path = (codes "Web"); kind = file; physical = (codes "f1:1"); props = (file_props (codes "web.txt") (codes "x")); attrs = (file_attrs (codes "f1:1") 1 (codes "web.txt") (codes "x")); needs = []; deletion = deletion.Delete; replace = replace.Delete; status = held.CreateComplete; unsure = false; superseded = false } ∷ record { path = (codes "Ptr"); kind = note; physical = (codes "r1:2"); props = (note_props (codes "p") (codes "f1:1")); attrs = (note_attrs (codes "r1:2") 4 (codes "p") (codes "f1:1")); needs = ((codes "Web") ∷ []); deletion = deletion.Delete; replace = replace.Delete; status = held.CreateComplete; unsure = false; superseded = false } ∷ []);
+  made = [];
+  leftovers = [];
+  tokens = [];
+  abandoned = [];
+  source = Some (source_for (codes "app") 1 first);
+  going = Some (source_for (codes "app") 1 second);
+  outputs = [];
+  sets = [];
+  events = ((codes "event 2 - CREATE_IN_PROGRESS") ∷ (codes "event 3 Web CREATE_IN_PROGRESS") ∷ (codes "event 4 Web CREATE_COMPLETE") ∷ (codes "event 5 Ptr CREATE_IN_PROGRESS") ∷ (codes "event 6 Ptr CREATE_COMPLETE") ∷ (codes "event 7 - CREATE_COMPLETE") ∷ (codes "event 8 - UPDATE_IN_PROGRESS") ∷ []);
+  entries = (updating ∷ []);
+}
+
+abbrev world_8 : World
+world_8 = record { stacks = (((codes "app"), stack_8_app) ∷ []); exports = []; pins = []; claims = []; lanes = (lane_pair (codes "f1") file ∷ lane_pair (codes "r1") note ∷ []); epoch = 1; operation = 2; set = 0; token = 2; place = 8 }
+
+leads_8 : world_after world_7 updating ≡ world_8
+unfolding computing
+leads_8 = refl
+
+sound_8 : ¬ HasFailed schemas (codes "app") world_8 stack_8_app
+unfolding computing
+sound_8 = not_failed schemas (codes "app") world_8 stack_8_app (record { calls = refl; paths = refl; inner = refl; flaws = refl; exports = refl })
+
+ready_8_Web : IsReady stack_8_app (codes "Web")
+unfolding computing
+ready_8_Web = (here, λ q i. absurd (in_none i))
+
+may_intended_new : MayFollow schemas world_8 [] intended_new
+unfolding computing
+may_intended_new = ((codes "app"), stack_8_app, Forward, refl, refl, record { next = refl; free = refl; home = refl; fits = refl; no_repeat = refl; chosen = (sound_8, ready_8_Web, not_done_other (codes "Web") stack_8_app (same_at (codes "Path") (codes "web.txt")) _ _ _ refl refl refl refl refl refl, (refl, inl refl)) })
+
+abbrev stack_9_app : StackState
+stack_9_app = record {
+  status = status.UpdateInProgress;
+  number = 1;
+  operation = 2;
+  held = (record { path = (codes "Web"); kind = file; physical = (codes "f1:1"); props = (file_props (codes "web.txt") (codes "x")); attrs = (file_attrs (codes "f1:1") 1 (codes "web.txt") (codes "x")); needs = []; deletion = deletion.Delete; replace = replace.Delete; status = held.CreateComplete; unsure = false; superseded = false } ∷ record { path = (codes "Ptr"); kind = note; physical = (codes "r1:2"); props = (note_props (codes "p") (codes "f1:1")); attrs = (note_attrs (codes "r1:2") 4 (codes "p") (codes "f1:1")); needs = ((codes "Web") ∷ []); deletion = deletion.Delete; replace = replace.Delete; status = held.CreateComplete; unsure = false; superseded = false } ∷ []);
+  before = (record { path = (codes "Web"); kind = file; physical = (codes "f1:1"); props = (file_props (codes "web.txt") (codes "x")); attrs = (file_attrs (codes "f1:1") 1 (codes "web.txt") (codes "x")); needs = []; deletion = deletion.Delete; replace = replace.Delete; status = held.CreateComplete; unsure = false; superseded = false } ∷ record { path = (codes "Ptr"); kind = note; physical = (codes "r1:2"); props = (note_props (codes "p") (codes "f1:1")); attrs = (note_attrs (codes "r1:2") 4 (codes "p") (codes "f1:1")); needs = ((codes "Web") ∷ []); deletion = deletion.Delete; replace = replace.Delete; status = held.CreateComplete; unsure = false; superseded = false } ∷ []);
+  made = [];
+  leftovers = [];
+  tokens = (record { token = 3; path = (codes "Web"); lane = (codes "f1"); request = (request.Create file (file_props (codes "new.txt") (codes "x"))) } ∷ []);
+  abandoned = [];
+  source = Some (source_for (codes "app") 1 first);
+  going = Some (source_for (codes "app") 1 second);
+  outputs = [];
+  sets = [];
+  events = ((codes "event 2 - CREATE_IN_PROGRESS") ∷ (codes "event 3 Web CREATE_IN_PROGRESS") ∷ (codes "event 4 Web CREATE_COMPLETE") ∷ (codes "event 5 Ptr CREATE_IN_PROGRESS") ∷ (codes "event 6 Ptr CREATE_COMPLETE") ∷ (codes "event 7 - CREATE_COMPLETE") ∷ (codes "event 8 - UPDATE_IN_PROGRESS") ∷ (codes "event 9 Web CREATE_IN_PROGRESS") ∷ []);
+  entries = (updating ∷ intended_new ∷ []);
+}
+
+abbrev world_9 : World
+world_9 = record { stacks = (((codes "app"), stack_9_app) ∷ []); exports = []; pins = []; claims = []; lanes = (lane_pair (codes "f1") file ∷ lane_pair (codes "r1") note ∷ []); epoch = 1; operation = 2; set = 0; token = 3; place = 9 }
+
+leads_9 : world_after world_8 intended_new ≡ world_9
+unfolding computing
+leads_9 = refl
+
+may_made_new : MayFollow schemas world_9 (3 ∷ []) made_new
+unfolding computing
+may_made_new = ((codes "app"), stack_9_app, Forward, refl, refl, (refl, refl, lit≤ tt))
+
+abbrev stack_10_app : StackState
+stack_10_app = record {
+  status = status.UpdateInProgress;
+  number = 1;
+  operation = 2;
+  held = (record { path = (codes "Web"); kind = file; physical = (codes "f1:1"); props = (file_props (codes "web.txt") (codes "x")); attrs = (file_attrs (codes "f1:1") 1 (codes "web.txt") (codes "x")); needs = []; deletion = deletion.Delete; replace = replace.Delete; status = held.CreateComplete; unsure = false; superseded = false } ∷ record { path = (codes "Ptr"); kind = note; physical = (codes "r1:2"); props = (note_props (codes "p") (codes "f1:1")); attrs = (note_attrs (codes "r1:2") 4 (codes "p") (codes "f1:1")); needs = ((codes "Web") ∷ []); deletion = deletion.Delete; replace = replace.Delete; status = held.CreateComplete; unsure = false; superseded = false } ∷ []);
+  before = (record { path = (codes "Web"); kind = file; physical = (codes "f1:1"); props = (file_props (codes "web.txt") (codes "x")); attrs = (file_attrs (codes "f1:1") 1 (codes "web.txt") (codes "x")); needs = []; deletion = deletion.Delete; replace = replace.Delete; status = held.CreateComplete; unsure = false; superseded = false } ∷ record { path = (codes "Ptr"); kind = note; physical = (codes "r1:2"); props = (note_props (codes "p") (codes "f1:1")); attrs = (note_attrs (codes "r1:2") 4 (codes "p") (codes "f1:1")); needs = ((codes "Web") ∷ []); deletion = deletion.Delete; replace = replace.Delete; status = held.CreateComplete; unsure = false; superseded = false } ∷ []);
+  made = (record { path = (codes "Web"); kind = file; physical = (codes "f1:3"); props = (file_props (codes "new.txt") (codes "x")); attrs = (file_attrs (codes "f1:3") 1 (codes "new.txt") (codes "x")); needs = []; deletion = deletion.Delete; replace = replace.Delete; status = held.UpdateComplete; unsure = false; superseded = false } ∷ []);
+  leftovers = [];
+  tokens = [];
+  abandoned = [];
+  source = Some (source_for (codes "app") 1 first);
+  going = Some (source_for (codes "app") 1 second);
+  outputs = [];
+  sets = [];
+  events = ((codes "event 2 - CREATE_IN_PROGRESS") ∷ (codes "event 3 Web CREATE_IN_PROGRESS") ∷ (codes "event 4 Web CREATE_COMPLETE") ∷ (codes "event 5 Ptr CREATE_IN_PROGRESS") ∷ (codes "event 6 Ptr CREATE_COMPLETE") ∷ (codes "event 7 - CREATE_COMPLETE") ∷ (codes "event 8 - UPDATE_IN_PROGRESS") ∷ (codes "event 9 Web CREATE_IN_PROGRESS") ∷ (codes "event 10 Web CREATE_COMPLETE") ∷ []);
+  entries = (updating ∷ intended_new ∷ made_new ∷ []);
+}
+
+abbrev world_10 : World
+world_10 = record { stacks = (((codes "app"), stack_10_app) ∷ []); exports = []; pins = []; claims = []; lanes = (lane_pair (codes "f1") file ∷ lane_pair (codes "r1") note ∷ []); epoch = 1; operation = 2; set = 0; token = 3; place = 10 }
+
+leads_10 : world_after world_9 made_new ≡ world_10
+unfolding computing
+leads_10 = refl
+
+sound_10 : ¬ HasFailed schemas (codes "app") world_10 stack_10_app
+unfolding computing
+sound_10 = not_failed schemas (codes "app") world_10 stack_10_app (record { calls = refl; paths = refl; inner = refl; flaws = refl; exports = refl })
+
+ready_10_Ptr : IsReady stack_10_app (codes "Ptr")
+unfolding computing
+ready_10_Ptr = (there here, λ q i. only (IsDone stack_10_app) (is_made _ refl) q i)
+
+may_intended_change : MayFollow schemas world_10 [] intended_change
+unfolding computing
+may_intended_change = ((codes "app"), stack_10_app, Forward, refl, refl, record { next = refl; free = refl; home = refl; fits = ((codes "2", refl), refl); no_repeat = refl; chosen = (sound_10, ready_10_Ptr, not_done_other (codes "Ptr") stack_10_app (same_at (codes "Value") (codes "f1:1")) _ _ _ refl refl refl refl refl refl, (_, refl, refl, refl, ((λ e. let z : Update ≡ Replace = e in cc), inr (λ e. let z : Update ≡ Same = e in cc)), refl)) })
+
+abbrev stack_11_app : StackState
+stack_11_app = record {
+  status = status.UpdateInProgress;
+  number = 1;
+  operation = 2;
+  held = (record { path = (codes "Web"); kind = file; physical = (codes "f1:1"); props = (file_props (codes "web.txt") (codes "x")); attrs = (file_attrs (codes "f1:1") 1 (codes "web.txt") (codes "x")); needs = []; deletion = deletion.Delete; replace = replace.Delete; status = held.CreateComplete; unsure = false; superseded = false } ∷ record { path = (codes "Ptr"); kind = note; physical = (codes "r1:2"); props = (note_props (codes "p") (codes "f1:1")); attrs = (note_attrs (codes "r1:2") 4 (codes "p") (codes "f1:1")); needs = ((codes "Web") ∷ []); deletion = deletion.Delete; replace = replace.Delete; status = held.CreateComplete; unsure = false; superseded = false } ∷ []);
+  before = (record { path = (codes "Web"); kind = file; physical = (codes "f1:1"); props = (file_props (codes "web.txt") (codes "x")); attrs = (file_attrs (codes "f1:1") 1 (codes "web.txt") (codes "x")); needs = []; deletion = deletion.Delete; replace = replace.Delete; status = held.CreateComplete; unsure = false; superseded = false } ∷ record { path = (codes "Ptr"); kind = note; physical = (codes "r1:2"); props = (note_props (codes "p") (codes "f1:1")); attrs = (note_attrs (codes "r1:2") 4 (codes "p") (codes "f1:1")); needs = ((codes "Web") ∷ []); deletion = deletion.Delete; replace = replace.Delete; status = held.CreateComplete; unsure = false; superseded = false } ∷ []);
+  made = (record { path = (codes "Web"); kind = file; physical = (codes "f1:3"); props = (file_props (codes "new.txt") (codes "x")); attrs = (file_attrs (codes "f1:3") 1 (codes "new.txt") (codes "x")); needs = []; deletion = deletion.Delete; replace = replace.Delete; status = held.UpdateComplete; unsure = false; superseded = false } ∷ []);
+  leftovers = [];
+  tokens = (record { token = 4; path = (codes "Ptr"); lane = (codes "r1"); request = (request.Update (codes "r1:2") (note_props (codes "p") (codes "f1:3"))) } ∷ []);
+  abandoned = [];
+  source = Some (source_for (codes "app") 1 first);
+  going = Some (source_for (codes "app") 1 second);
+  outputs = [];
+  sets = [];
+  events = ((codes "event 2 - CREATE_IN_PROGRESS") ∷ (codes "event 3 Web CREATE_IN_PROGRESS") ∷ (codes "event 4 Web CREATE_COMPLETE") ∷ (codes "event 5 Ptr CREATE_IN_PROGRESS") ∷ (codes "event 6 Ptr CREATE_COMPLETE") ∷ (codes "event 7 - CREATE_COMPLETE") ∷ (codes "event 8 - UPDATE_IN_PROGRESS") ∷ (codes "event 9 Web CREATE_IN_PROGRESS") ∷ (codes "event 10 Web CREATE_COMPLETE") ∷ (codes "event 11 Ptr UPDATE_IN_PROGRESS") ∷ []);
+  entries = (updating ∷ intended_new ∷ made_new ∷ intended_change ∷ []);
+}
+
+abbrev world_11 : World
+world_11 = record { stacks = (((codes "app"), stack_11_app) ∷ []); exports = []; pins = []; claims = []; lanes = (lane_pair (codes "f1") file ∷ lane_pair (codes "r1") note ∷ []); epoch = 1; operation = 2; set = 0; token = 4; place = 11 }
+
+leads_11 : world_after world_10 intended_change ≡ world_11
+unfolding computing
+leads_11 = refl
+
+may_changed_ptr : MayFollow schemas world_11 (4 ∷ []) changed_ptr
+unfolding computing
+may_changed_ptr = ((codes "app"), stack_11_app, Forward, refl, refl, (refl, refl, lit≤ tt))
+
+abbrev stack_12_app : StackState
+stack_12_app = record {
+  status = status.UpdateInProgress;
+  number = 1;
+  operation = 2;
+  held = (record { path = (codes "Web"); kind = file; physical = (codes "f1:1"); props = (file_props (codes "web.txt") (codes "x")); attrs = (file_attrs (codes "f1:1") 1 (codes "web.txt") (codes "x")); needs = []; deletion = deletion.Delete; replace = replace.Delete; status = held.CreateComplete; unsure = false; superseded = false } ∷ record { path = (codes "Ptr"); kind = note; physical = (codes "r1:2"); props = (note_props (codes "p") (codes "f1:3")); attrs = (note_attrs (codes "r1:2") 4 (codes "p") (codes "f1:3")); needs = ((codes "Web") ∷ []); deletion = deletion.Delete; replace = replace.Delete; status = held.UpdateComplete; unsure = false; superseded = false } ∷ []);
+  before = (record { path = (codes "Web"); kind = file; physical = (codes "f1:1"); props = (file_props (codes "web.txt") (codes "x")); attrs = (file_attrs (codes "f1:1") 1 (codes "web.txt") (codes "x")); needs = []; deletion = deletion.Delete; replace = replace.Delete; status = held.CreateComplete; unsure = false; superseded = false } ∷ record { path = (codes "Ptr"); kind = note; physical = (codes "r1:2"); props = (note_props (codes "p") (codes "f1:1")); attrs = (note_attrs (codes "r1:2") 4 (codes "p") (codes "f1:1")); needs = ((codes "Web") ∷ []); deletion = deletion.Delete; replace = replace.Delete; status = held.CreateComplete; unsure = false; superseded = false } ∷ []);
+  made = (record { path = (codes "Web"); kind = file; physical = (codes "f1:3"); props = (file_props (codes "new.txt") (codes "x")); attrs = (file_attrs (codes "f1:3") 1 (codes "new.txt") (codes "x")); needs = []; deletion = deletion.Delete; replace = replace.Delete; status = held.UpdateComplete; unsure = false; superseded = false } ∷ []);
+  leftovers = [];
+  tokens = [];
+  abandoned = [];
+  source = Some (source_for (codes "app") 1 first);
+  going = Some (source_for (codes "app") 1 second);
+  outputs = [];
+  sets = [];
+  events = ((codes "event 2 - CREATE_IN_PROGRESS") ∷ (codes "event 3 Web CREATE_IN_PROGRESS") ∷ (codes "event 4 Web CREATE_COMPLETE") ∷ (codes "event 5 Ptr CREATE_IN_PROGRESS") ∷ (codes "event 6 Ptr CREATE_COMPLETE") ∷ (codes "event 7 - CREATE_COMPLETE") ∷ (codes "event 8 - UPDATE_IN_PROGRESS") ∷ (codes "event 9 Web CREATE_IN_PROGRESS") ∷ (codes "event 10 Web CREATE_COMPLETE") ∷ (codes "event 11 Ptr UPDATE_IN_PROGRESS") ∷ (codes "event 12 Ptr UPDATE_COMPLETE") ∷ []);
+  entries = (updating ∷ intended_new ∷ made_new ∷ intended_change ∷ changed_ptr ∷ []);
+}
+
+abbrev world_12 : World
+world_12 = record { stacks = (((codes "app"), stack_12_app) ∷ []); exports = []; pins = []; claims = []; lanes = (lane_pair (codes "f1") file ∷ lane_pair (codes "r1") note ∷ []); epoch = 1; operation = 2; set = 0; token = 4; place = 12 }
+
+leads_12 : world_after world_11 changed_ptr ≡ world_12
+unfolding computing
+leads_12 = refl
+
+all_done_12 : AllDone stack_12_app
+unfolding computing
+all_done_12 = λ p i. either (IsDone stack_12_app) (is_made _ refl) (is_updated refl) p i
+
+sound_12 : ¬ HasFailed schemas (codes "app") world_12 stack_12_app
+unfolding computing
+sound_12 = not_failed schemas (codes "app") world_12 stack_12_app (record { calls = refl; paths = refl; inner = refl; flaws = refl; exports = refl })
+
+may_cleaning : MayFollow schemas world_12 [] cleaning
+unfolding computing
+may_cleaning = ((codes "app"), stack_12_app, Forward, refl, refl, (refl, (refl, sound_12, all_done_12)))
+
+abbrev stack_13_app : StackState
+stack_13_app = record {
+  status = status.UpdateCompleteCleanupInProgress;
+  number = 1;
+  operation = 2;
+  held = (record { path = (codes "Web"); kind = file; physical = (codes "f1:1"); props = (file_props (codes "web.txt") (codes "x")); attrs = (file_attrs (codes "f1:1") 1 (codes "web.txt") (codes "x")); needs = []; deletion = deletion.Delete; replace = replace.Delete; status = held.CreateComplete; unsure = false; superseded = true } ∷ record { path = (codes "Ptr"); kind = note; physical = (codes "r1:2"); props = (note_props (codes "p") (codes "f1:3")); attrs = (note_attrs (codes "r1:2") 4 (codes "p") (codes "f1:3")); needs = ((codes "Web") ∷ []); deletion = deletion.Delete; replace = replace.Delete; status = held.UpdateComplete; unsure = false; superseded = false } ∷ record { path = (codes "Web"); kind = file; physical = (codes "f1:3"); props = (file_props (codes "new.txt") (codes "x")); attrs = (file_attrs (codes "f1:3") 1 (codes "new.txt") (codes "x")); needs = []; deletion = deletion.Delete; replace = replace.Delete; status = held.UpdateComplete; unsure = false; superseded = false } ∷ []);
+  before = (record { path = (codes "Web"); kind = file; physical = (codes "f1:1"); props = (file_props (codes "web.txt") (codes "x")); attrs = (file_attrs (codes "f1:1") 1 (codes "web.txt") (codes "x")); needs = []; deletion = deletion.Delete; replace = replace.Delete; status = held.CreateComplete; unsure = false; superseded = false } ∷ record { path = (codes "Ptr"); kind = note; physical = (codes "r1:2"); props = (note_props (codes "p") (codes "f1:1")); attrs = (note_attrs (codes "r1:2") 4 (codes "p") (codes "f1:1")); needs = ((codes "Web") ∷ []); deletion = deletion.Delete; replace = replace.Delete; status = held.CreateComplete; unsure = false; superseded = false } ∷ []);
+  made = [];
+  leftovers = [];
+  tokens = [];
+  abandoned = [];
+  source = Some (source_for (codes "app") 1 second);
+  going = Some (source_for (codes "app") 1 second);
+  outputs = [];
+  sets = [];
+  events = ((codes "event 2 - CREATE_IN_PROGRESS") ∷ (codes "event 3 Web CREATE_IN_PROGRESS") ∷ (codes "event 4 Web CREATE_COMPLETE") ∷ (codes "event 5 Ptr CREATE_IN_PROGRESS") ∷ (codes "event 6 Ptr CREATE_COMPLETE") ∷ (codes "event 7 - CREATE_COMPLETE") ∷ (codes "event 8 - UPDATE_IN_PROGRESS") ∷ (codes "event 9 Web CREATE_IN_PROGRESS") ∷ (codes "event 10 Web CREATE_COMPLETE") ∷ (codes "event 11 Ptr UPDATE_IN_PROGRESS") ∷ (codes "event 12 Ptr UPDATE_COMPLETE") ∷ (codes "event 13 - UPDATE_COMPLETE_CLEANUP_IN_PROGRESS") ∷ []);
+  entries = (updating ∷ intended_new ∷ made_new ∷ intended_change ∷ changed_ptr ∷ cleaning ∷ []);
+}
+
+abbrev world_13 : World
+world_13 = record { stacks = (((codes "app"), stack_13_app) ∷ []); exports = []; pins = []; claims = []; lanes = (lane_pair (codes "f1") file ∷ lane_pair (codes "r1") note ∷ []); epoch = 1; operation = 2; set = 0; token = 4; place = 13 }
+
+leads_13 : world_after world_12 cleaning ≡ world_13
+unfolding computing
+leads_13 = refl
+
+may_intended_deletion : MayFollow schemas world_13 [] intended_deletion
+unfolding computing
+may_intended_deletion = ((codes "app"), stack_13_app, Clean, refl, refl, record { next = refl; free = refl; home = refl; fits = ((codes "1", refl), refl); no_repeat = refl; chosen = (_, (here, refl, refl), refl, refl, refl) })
+
+abbrev stack_14_app : StackState
+stack_14_app = record {
+  status = status.UpdateCompleteCleanupInProgress;
+  number = 1;
+  operation = 2;
+  held = (record { path = (codes "Web"); kind = file; physical = (codes "f1:1"); props = (file_props (codes "web.txt") (codes "x")); attrs = (file_attrs (codes "f1:1") 1 (codes "web.txt") (codes "x")); needs = []; deletion = deletion.Delete; replace = replace.Delete; status = held.CreateComplete; unsure = false; superseded = true } ∷ record { path = (codes "Ptr"); kind = note; physical = (codes "r1:2"); props = (note_props (codes "p") (codes "f1:3")); attrs = (note_attrs (codes "r1:2") 4 (codes "p") (codes "f1:3")); needs = ((codes "Web") ∷ []); deletion = deletion.Delete; replace = replace.Delete; status = held.UpdateComplete; unsure = false; superseded = false } ∷ record { path = (codes "Web"); kind = file; physical = (codes "f1:3"); props = (file_props (codes "new.txt") (codes "x")); attrs = (file_attrs (codes "f1:3") 1 (codes "new.txt") (codes "x")); needs = []; deletion = deletion.Delete; replace = replace.Delete; status = held.UpdateComplete; unsure = false; superseded = false } ∷ []);
+  before = (record { path = (codes "Web"); kind = file; physical = (codes "f1:1"); props = (file_props (codes "web.txt") (codes "x")); attrs = (file_attrs (codes "f1:1") 1 (codes "web.txt") (codes "x")); needs = []; deletion = deletion.Delete; replace = replace.Delete; status = held.CreateComplete; unsure = false; superseded = false } ∷ record { path = (codes "Ptr"); kind = note; physical = (codes "r1:2"); props = (note_props (codes "p") (codes "f1:1")); attrs = (note_attrs (codes "r1:2") 4 (codes "p") (codes "f1:1")); needs = ((codes "Web") ∷ []); deletion = deletion.Delete; replace = replace.Delete; status = held.CreateComplete; unsure = false; superseded = false } ∷ []);
+  made = [];
+  leftovers = [];
+  tokens = (record { token = 5; path = (codes "Web"); lane = (codes "f1"); request = (request.Delete (codes "f1:1")) } ∷ []);
+  abandoned = [];
+  source = Some (source_for (codes "app") 1 second);
+  going = Some (source_for (codes "app") 1 second);
+  outputs = [];
+  sets = [];
+  events = ((codes "event 2 - CREATE_IN_PROGRESS") ∷ (codes "event 3 Web CREATE_IN_PROGRESS") ∷ (codes "event 4 Web CREATE_COMPLETE") ∷ (codes "event 5 Ptr CREATE_IN_PROGRESS") ∷ (codes "event 6 Ptr CREATE_COMPLETE") ∷ (codes "event 7 - CREATE_COMPLETE") ∷ (codes "event 8 - UPDATE_IN_PROGRESS") ∷ (codes "event 9 Web CREATE_IN_PROGRESS") ∷ (codes "event 10 Web CREATE_COMPLETE") ∷ (codes "event 11 Ptr UPDATE_IN_PROGRESS") ∷ (codes "event 12 Ptr UPDATE_COMPLETE") ∷ (codes "event 13 - UPDATE_COMPLETE_CLEANUP_IN_PROGRESS") ∷ (codes "event 14 Web DELETE_IN_PROGRESS") ∷ []);
+  entries = (updating ∷ intended_new ∷ made_new ∷ intended_change ∷ changed_ptr ∷ cleaning ∷ intended_deletion ∷ []);
+}
+
+abbrev world_14 : World
+world_14 = record { stacks = (((codes "app"), stack_14_app) ∷ []); exports = []; pins = []; claims = []; lanes = (lane_pair (codes "f1") file ∷ lane_pair (codes "r1") note ∷ []); epoch = 1; operation = 2; set = 0; token = 5; place = 14 }
+
+leads_14 : world_after world_13 intended_deletion ≡ world_14
+unfolding computing
+leads_14 = refl
+
+may_deleted : MayFollow schemas world_14 (5 ∷ []) deleted
+unfolding computing
+may_deleted = ((codes "app"), stack_14_app, Clean, refl, refl, (refl, refl, lit≤ tt))
+
+abbrev stack_15_app : StackState
+stack_15_app = record {
+  status = status.UpdateCompleteCleanupInProgress;
+  number = 1;
+  operation = 2;
+  held = (record { path = (codes "Ptr"); kind = note; physical = (codes "r1:2"); props = (note_props (codes "p") (codes "f1:3")); attrs = (note_attrs (codes "r1:2") 4 (codes "p") (codes "f1:3")); needs = ((codes "Web") ∷ []); deletion = deletion.Delete; replace = replace.Delete; status = held.UpdateComplete; unsure = false; superseded = false } ∷ record { path = (codes "Web"); kind = file; physical = (codes "f1:3"); props = (file_props (codes "new.txt") (codes "x")); attrs = (file_attrs (codes "f1:3") 1 (codes "new.txt") (codes "x")); needs = []; deletion = deletion.Delete; replace = replace.Delete; status = held.UpdateComplete; unsure = false; superseded = false } ∷ []);
+  before = (record { path = (codes "Web"); kind = file; physical = (codes "f1:1"); props = (file_props (codes "web.txt") (codes "x")); attrs = (file_attrs (codes "f1:1") 1 (codes "web.txt") (codes "x")); needs = []; deletion = deletion.Delete; replace = replace.Delete; status = held.CreateComplete; unsure = false; superseded = false } ∷ record { path = (codes "Ptr"); kind = note; physical = (codes "r1:2"); props = (note_props (codes "p") (codes "f1:1")); attrs = (note_attrs (codes "r1:2") 4 (codes "p") (codes "f1:1")); needs = ((codes "Web") ∷ []); deletion = deletion.Delete; replace = replace.Delete; status = held.CreateComplete; unsure = false; superseded = false } ∷ []);
+  made = [];
+  leftovers = [];
+  tokens = [];
+  abandoned = [];
+  source = Some (source_for (codes "app") 1 second);
+  going = Some (source_for (codes "app") 1 second);
+  outputs = [];
+  sets = [];
+  events = ((codes "event 2 - CREATE_IN_PROGRESS") ∷ (codes "event 3 Web CREATE_IN_PROGRESS") ∷ (codes "event 4 Web CREATE_COMPLETE") ∷ (codes "event 5 Ptr CREATE_IN_PROGRESS") ∷ (codes "event 6 Ptr CREATE_COMPLETE") ∷ (codes "event 7 - CREATE_COMPLETE") ∷ (codes "event 8 - UPDATE_IN_PROGRESS") ∷ (codes "event 9 Web CREATE_IN_PROGRESS") ∷ (codes "event 10 Web CREATE_COMPLETE") ∷ (codes "event 11 Ptr UPDATE_IN_PROGRESS") ∷ (codes "event 12 Ptr UPDATE_COMPLETE") ∷ (codes "event 13 - UPDATE_COMPLETE_CLEANUP_IN_PROGRESS") ∷ (codes "event 14 Web DELETE_IN_PROGRESS") ∷ (codes "event 15 Web DELETE_COMPLETE") ∷ []);
+  entries = (updating ∷ intended_new ∷ made_new ∷ intended_change ∷ changed_ptr ∷ cleaning ∷ intended_deletion ∷ deleted ∷ []);
+}
+
+abbrev world_15 : World
+world_15 = record { stacks = (((codes "app"), stack_15_app) ∷ []); exports = []; pins = []; claims = []; lanes = (lane_pair (codes "f1") file ∷ lane_pair (codes "r1") note ∷ []); epoch = 1; operation = 2; set = 0; token = 5; place = 15 }
+
+leads_15 : world_after world_14 deleted ≡ world_15
+unfolding computing
+leads_15 = refl
+
+may_updated : MayFollow schemas world_15 [] updated
+unfolding computing
+may_updated = ((codes "app"), stack_15_app, Clean, refl, refl, (refl, end_of_clean schemas (codes "app") world_15 stack_15_app refl refl refl refl, tt, refl))
+
+abbrev stack_16_app : StackState
+stack_16_app = record {
+  status = status.UpdateComplete;
+  number = 1;
+  operation = 2;
+  held = (record { path = (codes "Ptr"); kind = note; physical = (codes "r1:2"); props = (note_props (codes "p") (codes "f1:3")); attrs = (note_attrs (codes "r1:2") 4 (codes "p") (codes "f1:3")); needs = ((codes "Web") ∷ []); deletion = deletion.Delete; replace = replace.Delete; status = held.UpdateComplete; unsure = false; superseded = false } ∷ record { path = (codes "Web"); kind = file; physical = (codes "f1:3"); props = (file_props (codes "new.txt") (codes "x")); attrs = (file_attrs (codes "f1:3") 1 (codes "new.txt") (codes "x")); needs = []; deletion = deletion.Delete; replace = replace.Delete; status = held.UpdateComplete; unsure = false; superseded = false } ∷ []);
+  before = (record { path = (codes "Web"); kind = file; physical = (codes "f1:1"); props = (file_props (codes "web.txt") (codes "x")); attrs = (file_attrs (codes "f1:1") 1 (codes "web.txt") (codes "x")); needs = []; deletion = deletion.Delete; replace = replace.Delete; status = held.CreateComplete; unsure = false; superseded = false } ∷ record { path = (codes "Ptr"); kind = note; physical = (codes "r1:2"); props = (note_props (codes "p") (codes "f1:1")); attrs = (note_attrs (codes "r1:2") 4 (codes "p") (codes "f1:1")); needs = ((codes "Web") ∷ []); deletion = deletion.Delete; replace = replace.Delete; status = held.CreateComplete; unsure = false; superseded = false } ∷ []);
+  made = [];
+  leftovers = [];
+  tokens = [];
+  abandoned = [];
+  source = Some (source_for (codes "app") 1 second);
+  going = Some (source_for (codes "app") 1 second);
+  outputs = [];
+  sets = [];
+  events = ((codes "event 2 - CREATE_IN_PROGRESS") ∷ (codes "event 3 Web CREATE_IN_PROGRESS") ∷ (codes "event 4 Web CREATE_COMPLETE") ∷ (codes "event 5 Ptr CREATE_IN_PROGRESS") ∷ (codes "event 6 Ptr CREATE_COMPLETE") ∷ (codes "event 7 - CREATE_COMPLETE") ∷ (codes "event 8 - UPDATE_IN_PROGRESS") ∷ (codes "event 9 Web CREATE_IN_PROGRESS") ∷ (codes "event 10 Web CREATE_COMPLETE") ∷ (codes "event 11 Ptr UPDATE_IN_PROGRESS") ∷ (codes "event 12 Ptr UPDATE_COMPLETE") ∷ (codes "event 13 - UPDATE_COMPLETE_CLEANUP_IN_PROGRESS") ∷ (codes "event 14 Web DELETE_IN_PROGRESS") ∷ (codes "event 15 Web DELETE_COMPLETE") ∷ (codes "event 16 - UPDATE_COMPLETE") ∷ []);
+  entries = (updating ∷ intended_new ∷ made_new ∷ intended_change ∷ changed_ptr ∷ cleaning ∷ intended_deletion ∷ deleted ∷ updated ∷ []);
+}
+
+abbrev world_16 : World
+world_16 = record { stacks = (((codes "app"), stack_16_app) ∷ []); exports = []; pins = []; claims = []; lanes = (lane_pair (codes "f1") file ∷ lane_pair (codes "r1") note ∷ []); epoch = 1; operation = 2; set = 0; token = 5; place = 16 }
+
+leads_16 : world_after world_15 updated ≡ world_16
+unfolding computing
+leads_16 = refl
+
+abbrev rest_16 : List Entry
+rest_16 = []
+
+abbrev rest_15 : List Entry
+rest_15 = updated ∷ rest_16
+
+abbrev rest_14 : List Entry
+rest_14 = deleted ∷ rest_15
+
+abbrev rest_13 : List Entry
+rest_13 = intended_deletion ∷ rest_14
+
+abbrev rest_12 : List Entry
+rest_12 = cleaning ∷ rest_13
+
+abbrev rest_11 : List Entry
+rest_11 = changed_ptr ∷ rest_12
+
+abbrev rest_10 : List Entry
+rest_10 = intended_change ∷ rest_11
+
+abbrev rest_9 : List Entry
+rest_9 = made_new ∷ rest_10
+
+abbrev rest_8 : List Entry
+rest_8 = intended_new ∷ rest_9
+
+abbrev rest_7 : List Entry
+rest_7 = updating ∷ rest_8
+
+abbrev rest_6 : List Entry
+rest_6 = created ∷ rest_7
+
+abbrev rest_5 : List Entry
+rest_5 = made_ptr ∷ rest_6
+
+abbrev rest_4 : List Entry
+rest_4 = intended_ptr ∷ rest_5
+
+abbrev rest_3 : List Entry
+rest_3 = made_web ∷ rest_4
+
+abbrev rest_2 : List Entry
+rest_2 = intended_web ∷ rest_3
+
+abbrev rest_1 : List Entry
+rest_1 = begun ∷ rest_2
+
+abbrev rest_0 : List Entry
+rest_0 = opened ∷ rest_1
+
+pub legal : Legal
+legal = legal_step world_0 world_1 opened rest_1 [] may_opened leads_1 (legal_step world_1 world_2 begun rest_2 [] may_begun leads_2 (legal_step world_2 world_3 intended_web rest_3 [] may_intended_web leads_3 (legal_step world_3 world_4 made_web rest_4 (1 ∷ []) may_made_web leads_4 (legal_step world_4 world_5 intended_ptr rest_5 [] may_intended_ptr leads_5 (legal_step world_5 world_6 made_ptr rest_6 (2 ∷ []) may_made_ptr leads_6 (legal_step world_6 world_7 created rest_7 [] may_created leads_7 (legal_step world_7 world_8 updating rest_8 [] may_updating leads_8 (legal_step world_8 world_9 intended_new rest_9 [] may_intended_new leads_9 (legal_step world_9 world_10 made_new rest_10 (3 ∷ []) may_made_new leads_10 (legal_step world_10 world_11 intended_change rest_11 [] may_intended_change leads_11 (legal_step world_11 world_12 changed_ptr rest_12 (4 ∷ []) may_changed_ptr leads_12 (legal_step world_12 world_13 cleaning rest_13 [] may_cleaning leads_13 (legal_step world_13 world_14 intended_deletion rest_14 [] may_intended_deletion leads_14 (legal_step world_14 world_15 deleted rest_15 (5 ∷ []) may_deleted leads_15 (legal_step world_15 world_16 updated rest_16 [] may_updated leads_16 (tt))))))))))))))))
+
+arrives_10 : fold_of empty_world (opened ∷ begun ∷ intended_web ∷ made_web ∷ intended_ptr ∷ made_ptr ∷ created ∷ updating ∷ intended_new ∷ made_new ∷ []) ≡ world_10
+arrives_10 = fold_step world_0 world_1 opened (begun ∷ intended_web ∷ made_web ∷ intended_ptr ∷ made_ptr ∷ created ∷ updating ∷ intended_new ∷ made_new ∷ []) leads_1 (fold_step world_1 world_2 begun (intended_web ∷ made_web ∷ intended_ptr ∷ made_ptr ∷ created ∷ updating ∷ intended_new ∷ made_new ∷ []) leads_2 (fold_step world_2 world_3 intended_web (made_web ∷ intended_ptr ∷ made_ptr ∷ created ∷ updating ∷ intended_new ∷ made_new ∷ []) leads_3 (fold_step world_3 world_4 made_web (intended_ptr ∷ made_ptr ∷ created ∷ updating ∷ intended_new ∷ made_new ∷ []) leads_4 (fold_step world_4 world_5 intended_ptr (made_ptr ∷ created ∷ updating ∷ intended_new ∷ made_new ∷ []) leads_5 (fold_step world_5 world_6 made_ptr (created ∷ updating ∷ intended_new ∷ made_new ∷ []) leads_6 (fold_step world_6 world_7 created (updating ∷ intended_new ∷ made_new ∷ []) leads_7 (fold_step world_7 world_8 updating (intended_new ∷ made_new ∷ []) leads_8 (fold_step world_8 world_9 intended_new (made_new ∷ []) leads_9 (fold_step world_9 world_10 made_new ([]) leads_10 (refl))))))))))
+
+arrives_11 : fold_of empty_world (opened ∷ begun ∷ intended_web ∷ made_web ∷ intended_ptr ∷ made_ptr ∷ created ∷ updating ∷ intended_new ∷ made_new ∷ intended_change ∷ []) ≡ world_11
+arrives_11 = fold_step world_0 world_1 opened (begun ∷ intended_web ∷ made_web ∷ intended_ptr ∷ made_ptr ∷ created ∷ updating ∷ intended_new ∷ made_new ∷ intended_change ∷ []) leads_1 (fold_step world_1 world_2 begun (intended_web ∷ made_web ∷ intended_ptr ∷ made_ptr ∷ created ∷ updating ∷ intended_new ∷ made_new ∷ intended_change ∷ []) leads_2 (fold_step world_2 world_3 intended_web (made_web ∷ intended_ptr ∷ made_ptr ∷ created ∷ updating ∷ intended_new ∷ made_new ∷ intended_change ∷ []) leads_3 (fold_step world_3 world_4 made_web (intended_ptr ∷ made_ptr ∷ created ∷ updating ∷ intended_new ∷ made_new ∷ intended_change ∷ []) leads_4 (fold_step world_4 world_5 intended_ptr (made_ptr ∷ created ∷ updating ∷ intended_new ∷ made_new ∷ intended_change ∷ []) leads_5 (fold_step world_5 world_6 made_ptr (created ∷ updating ∷ intended_new ∷ made_new ∷ intended_change ∷ []) leads_6 (fold_step world_6 world_7 created (updating ∷ intended_new ∷ made_new ∷ intended_change ∷ []) leads_7 (fold_step world_7 world_8 updating (intended_new ∷ made_new ∷ intended_change ∷ []) leads_8 (fold_step world_8 world_9 intended_new (made_new ∷ intended_change ∷ []) leads_9 (fold_step world_9 world_10 made_new (intended_change ∷ []) leads_10 (fold_step world_10 world_11 intended_change ([]) leads_11 (refl)))))))))))
+
+arrives_16 : fold_of empty_world (opened ∷ begun ∷ intended_web ∷ made_web ∷ intended_ptr ∷ made_ptr ∷ created ∷ updating ∷ intended_new ∷ made_new ∷ intended_change ∷ changed_ptr ∷ cleaning ∷ intended_deletion ∷ deleted ∷ updated ∷ []) ≡ world_16
+arrives_16 = fold_step world_0 world_1 opened (begun ∷ intended_web ∷ made_web ∷ intended_ptr ∷ made_ptr ∷ created ∷ updating ∷ intended_new ∷ made_new ∷ intended_change ∷ changed_ptr ∷ cleaning ∷ intended_deletion ∷ deleted ∷ updated ∷ []) leads_1 (fold_step world_1 world_2 begun (intended_web ∷ made_web ∷ intended_ptr ∷ made_ptr ∷ created ∷ updating ∷ intended_new ∷ made_new ∷ intended_change ∷ changed_ptr ∷ cleaning ∷ intended_deletion ∷ deleted ∷ updated ∷ []) leads_2 (fold_step world_2 world_3 intended_web (made_web ∷ intended_ptr ∷ made_ptr ∷ created ∷ updating ∷ intended_new ∷ made_new ∷ intended_change ∷ changed_ptr ∷ cleaning ∷ intended_deletion ∷ deleted ∷ updated ∷ []) leads_3 (fold_step world_3 world_4 made_web (intended_ptr ∷ made_ptr ∷ created ∷ updating ∷ intended_new ∷ made_new ∷ intended_change ∷ changed_ptr ∷ cleaning ∷ intended_deletion ∷ deleted ∷ updated ∷ []) leads_4 (fold_step world_4 world_5 intended_ptr (made_ptr ∷ created ∷ updating ∷ intended_new ∷ made_new ∷ intended_change ∷ changed_ptr ∷ cleaning ∷ intended_deletion ∷ deleted ∷ updated ∷ []) leads_5 (fold_step world_5 world_6 made_ptr (created ∷ updating ∷ intended_new ∷ made_new ∷ intended_change ∷ changed_ptr ∷ cleaning ∷ intended_deletion ∷ deleted ∷ updated ∷ []) leads_6 (fold_step world_6 world_7 created (updating ∷ intended_new ∷ made_new ∷ intended_change ∷ changed_ptr ∷ cleaning ∷ intended_deletion ∷ deleted ∷ updated ∷ []) leads_7 (fold_step world_7 world_8 updating (intended_new ∷ made_new ∷ intended_change ∷ changed_ptr ∷ cleaning ∷ intended_deletion ∷ deleted ∷ updated ∷ []) leads_8 (fold_step world_8 world_9 intended_new (made_new ∷ intended_change ∷ changed_ptr ∷ cleaning ∷ intended_deletion ∷ deleted ∷ updated ∷ []) leads_9 (fold_step world_9 world_10 made_new (intended_change ∷ changed_ptr ∷ cleaning ∷ intended_deletion ∷ deleted ∷ updated ∷ []) leads_10 (fold_step world_10 world_11 intended_change (changed_ptr ∷ cleaning ∷ intended_deletion ∷ deleted ∷ updated ∷ []) leads_11 (fold_step world_11 world_12 changed_ptr (cleaning ∷ intended_deletion ∷ deleted ∷ updated ∷ []) leads_12 (fold_step world_12 world_13 cleaning (intended_deletion ∷ deleted ∷ updated ∷ []) leads_13 (fold_step world_13 world_14 intended_deletion (deleted ∷ updated ∷ []) leads_14 (fold_step world_14 world_15 deleted (updated ∷ []) leads_15 (fold_step world_15 world_16 updated ([]) leads_16 (refl))))))))))))))))
+
+pub report_0 : Shows
+report_0 = ap (report_of (codes "app")) arrives_16
+
+may_not_0 : (out : List ℕ) → MayFollow schemas world_10 out (entry.Phase 2 phase.Clean None) → ⊥
+unfolding computing
+may_not_0 = λ out may. let m = follows_on schemas 2 world_10 out (entry.Phase 2 phase.Clean None) ((codes "app"), stack_10_app) Forward refl refl may in (not_done_other (codes "Ptr") stack_10_app (same_at (codes "Value") (codes "f1:1")) _ note (note_props (codes "p") (codes "f1:3")) refl refl refl refl refl refl) (m.1.2 (codes "Ptr") (there here))
+
+pub refused_0 : CleanedTooEarly
+refused_0 = refused_at world_10 (opened ∷ begun ∷ intended_web ∷ made_web ∷ intended_ptr ∷ made_ptr ∷ created ∷ updating ∷ intended_new ∷ made_new ∷ []) (entry.Phase 2 phase.Clean None) arrives_10 may_not_0
+
+may_not_1 : (out : List ℕ) → MayFollow schemas world_10 out (entry.Intent 2 4 (codes "f1") (codes "Web") (request.Delete (codes "f1:1"))) → ⊥
+unfolding computing
+may_not_1 = λ out may. let m = follows_on schemas 2 world_10 out (entry.Intent 2 4 (codes "f1") (codes "Web") (request.Delete (codes "f1:1"))) ((codes "app"), stack_10_app) Forward refl refl may in m.chosen.3
+
+pub refused_1 : DeletedBeforeCleanup
+refused_1 = refused_at world_10 (opened ∷ begun ∷ intended_web ∷ made_web ∷ intended_ptr ∷ made_ptr ∷ created ∷ updating ∷ intended_new ∷ made_new ∷ []) (entry.Intent 2 4 (codes "f1") (codes "Web") (request.Delete (codes "f1:1"))) arrives_10 may_not_1
+
+may_not_2 : (out : List ℕ) → MayFollow schemas world_10 out (entry.Intent 2 4 (codes "r1") (codes "Ptr") (request.Update (codes "r1:2") (note_props (codes "p") (codes "f1:1")))) → ⊥
+unfolding computing
+may_not_2 = λ out may. let m = follows_on schemas 2 world_10 out (entry.Intent 2 4 (codes "r1") (codes "Ptr") (request.Update (codes "r1:2") (note_props (codes "p") (codes "f1:1")))) ((codes "app"), stack_10_app) Forward refl refl may in true≢false (ap (same_at (codes "Value") (codes "f1:3")) (known_props m.chosen.3.3))
+
+pub refused_2 : OldIdEvaluated
+refused_2 = refused_at world_10 (opened ∷ begun ∷ intended_web ∷ made_web ∷ intended_ptr ∷ made_ptr ∷ created ∷ updating ∷ intended_new ∷ made_new ∷ []) (entry.Intent 2 4 (codes "r1") (codes "Ptr") (request.Update (codes "r1:2") (note_props (codes "p") (codes "f1:1")))) arrives_10 may_not_2
+
+may_not_3 : (out : List ℕ) → MayFollow schemas world_16 out (entry.Done 2 status.UpdateComplete []) → ⊥
+unfolding computing
+may_not_3 = λ out may. follows_none schemas 2 world_16 out (entry.Done 2 status.UpdateComplete []) refl may
+
+pub refused_3 : EndedAgain
+refused_3 = refused_at world_16 (opened ∷ begun ∷ intended_web ∷ made_web ∷ intended_ptr ∷ made_ptr ∷ created ∷ updating ∷ intended_new ∷ made_new ∷ intended_change ∷ changed_ptr ∷ cleaning ∷ intended_deletion ∷ deleted ∷ updated ∷ []) (entry.Done 2 status.UpdateComplete []) arrives_16 may_not_3
+
+may_not_4 : (out : List ℕ) → MayFollow schemas world_11 out (entry.Outcome 1 4 (reply.Success (codes "r1:2") (note_attrs (codes "r1:2") 4 (codes "p") (codes "f1:3"))) 0 0) → ⊥
+unfolding computing
+may_not_4 = λ out may. follows_none schemas 1 world_11 out (entry.Outcome 1 4 (reply.Success (codes "r1:2") (note_attrs (codes "r1:2") 4 (codes "p") (codes "f1:3"))) 0 0) refl may
+
+pub refused_4 : AnsweredUnderAnotherNumber
+refused_4 = refused_at world_11 (opened ∷ begun ∷ intended_web ∷ made_web ∷ intended_ptr ∷ made_ptr ∷ created ∷ updating ∷ intended_new ∷ made_new ∷ intended_change ∷ []) (entry.Outcome 1 4 (reply.Success (codes "r1:2") (note_attrs (codes "r1:2") 4 (codes "p") (codes "f1:3"))) 0 0) arrives_11 may_not_4

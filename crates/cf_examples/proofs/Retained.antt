@@ -1,0 +1,456 @@
+-- A stack is deleted: what needs the file goes first, and the file is kept by its policy.
+use Rattle.std.proofs.Common.{◌≡◌, refl, List, [], ◌∷◌, Some, None, false, ℕ, inl, inr, ap, lit≤, true≢false}
+use Rattle.std.specs.Prelude.{codes}
+use Rattle.cf_plan.specs.Between.{is_needed_by_held}
+use Rattle.std.specs.Str.{bytes_eq}
+use Rattle.cf_tree.specs.declared.request.Request.TheVariants as request
+use Rattle.cf_entry.specs.declared.entry.Entry.{Entry}
+use Rattle.cf_stacks.specs.declared.held.Held.{Held}
+use Rattle.cf_stacks.specs.declared.state.World.{World}
+use Rattle.cf_stacks.specs.declared.state.StackState.{StackState}
+use Rattle.cf_stacks.specs.Fold.{empty_world, world_after, source_for}
+use Rattle.cf_stacks.specs.Status.{Forward, Gone}
+use Rattle.cf_plan.specs.Forward.{here, there, HasFailed, IsReady, AllDone, IsDone, is_made}
+use Rattle.cf_plan.specs.Follow.{MayFollow}
+use Rattle.cf_examples.specs.Given.{schemas, file, note, file_props, note_props, file_attrs, note_attrs}
+use Rattle.cf_examples.proofs.Computing.{computing}
+use Rattle.cf_examples.proofs.Lists.{in_none, only, either, not_empty}
+use Rattle.cf_examples.proofs.Failing.{not_failed, not_done_new}
+use Rattle.cf_examples.proofs.Ending.{end_of_create, end_of_deletion}
+use Rattle.cf_tree.specs.declared.template.Deletion.TheVariants as deletion
+use Rattle.cf_tree.specs.declared.template.Replace.TheVariants as replace
+use Rattle.cf_entry.specs.declared.entry.Entry.TheVariants as entry
+use Rattle.cf_entry.specs.declared.status.Status.TheVariants as status
+use Rattle.cf_entry.specs.declared.turn.Why.TheVariants as why
+use Rattle.cf_stacks.specs.declared.held.HeldStatus.TheVariants as held
+use Rattle.cf_stacks.specs.Fold.{fold_of}
+use Rattle.cf_examples.specs.Given.{lane_pair, report_of}
+use Rattle.cf_examples.proofs.Refusing.{follows_on, legal_step, fold_step, refused_at}
+use Rattle.cf_examples.proofs.Beginning.{no_imports}
+use Rattle.cf_examples.specs.Retained.{first, opened, begun, intended_a, made_a, intended_b, made_b, created, deleting, intended_deletion, deleted_b, kept, deleted, Legal, Shows, KeptTooEarly}
+
+abbrev world_0 : World
+world_0 = empty_world
+
+may_opened : MayFollow schemas world_0 [] opened
+unfolding computing
+may_opened = (refl, refl, λ name s e. absurd (cc))
+
+abbrev world_1 : World
+world_1 = record { stacks = []; exports = []; pins = []; claims = []; lanes = (lane_pair (codes "f1") file ∷ lane_pair (codes "r1") note ∷ []); epoch = 1; operation = 0; set = 0; token = 0; place = 1 }
+
+leads_1 : world_after world_0 opened ≡ world_1
+unfolding computing
+leads_1 = refl
+
+may_begun : MayFollow schemas world_1 [] begun
+unfolding computing
+may_begun = (refl, refl, record { no_flaw = refl; known_types = refl; same_types = refl; imports = no_imports _ _ _ _ refl refl; free = refl; not_in_use = refl; changing = inl refl })
+
+abbrev stack_2_s : StackState
+stack_2_s = record {
+  status = status.CreateInProgress;
+  number = 1;
+  operation = 1;
+  held = [];
+  before = [];
+  made = [];
+  leftovers = [];
+  tokens = [];
+  abandoned = [];
+  source = None;
+  going = Some (source_for (codes "s") 1 first);
+  outputs = [];
+  sets = [];
+  events = ((codes "event 2 - CREATE_IN_PROGRESS") ∷ []);
+  entries = (begun ∷ []);
+}
+
+abbrev world_2 : World
+world_2 = record { stacks = (((codes "s"), stack_2_s) ∷ []); exports = []; pins = []; claims = []; lanes = (lane_pair (codes "f1") file ∷ lane_pair (codes "r1") note ∷ []); epoch = 1; operation = 1; set = 0; token = 0; place = 2 }
+
+leads_2 : world_after world_1 begun ≡ world_2
+unfolding computing
+leads_2 = refl
+
+sound_2 : ¬ HasFailed schemas (codes "s") world_2 stack_2_s
+unfolding computing
+sound_2 = not_failed schemas (codes "s") world_2 stack_2_s (record { calls = refl; paths = refl; inner = refl; flaws = refl; exports = refl })
+
+ready_2_A : IsReady stack_2_s (codes "A")
+unfolding computing
+ready_2_A = (here, λ q i. absurd (in_none i))
+
+may_intended_a : MayFollow schemas world_2 [] intended_a
+unfolding computing
+may_intended_a = ((codes "s"), stack_2_s, Forward, refl, refl, record { next = refl; free = refl; home = refl; fits = refl; no_repeat = refl; chosen = (sound_2, ready_2_A, not_done_new (codes "A") stack_2_s refl refl refl, (refl, tt)) })
+
+abbrev stack_3_s : StackState
+stack_3_s = record {
+  status = status.CreateInProgress;
+  number = 1;
+  operation = 1;
+  held = [];
+  before = [];
+  made = [];
+  leftovers = [];
+  tokens = (record { token = 1; path = (codes "A"); lane = (codes "f1"); request = (request.Create file (file_props (codes "a") (codes "x"))) } ∷ []);
+  abandoned = [];
+  source = None;
+  going = Some (source_for (codes "s") 1 first);
+  outputs = [];
+  sets = [];
+  events = ((codes "event 2 - CREATE_IN_PROGRESS") ∷ (codes "event 3 A CREATE_IN_PROGRESS") ∷ []);
+  entries = (begun ∷ intended_a ∷ []);
+}
+
+abbrev world_3 : World
+world_3 = record { stacks = (((codes "s"), stack_3_s) ∷ []); exports = []; pins = []; claims = []; lanes = (lane_pair (codes "f1") file ∷ lane_pair (codes "r1") note ∷ []); epoch = 1; operation = 1; set = 0; token = 1; place = 3 }
+
+leads_3 : world_after world_2 intended_a ≡ world_3
+unfolding computing
+leads_3 = refl
+
+may_made_a : MayFollow schemas world_3 (1 ∷ []) made_a
+unfolding computing
+may_made_a = ((codes "s"), stack_3_s, Forward, refl, refl, (refl, refl, lit≤ tt))
+
+abbrev stack_4_s : StackState
+stack_4_s = record {
+  status = status.CreateInProgress;
+  number = 1;
+  operation = 1;
+  held = [];
+  before = [];
+  made = (record { path = (codes "A"); kind = file; physical = (codes "f1:1"); props = (file_props (codes "a") (codes "x")); attrs = (file_attrs (codes "f1:1") 1 (codes "a") (codes "x")); needs = []; deletion = deletion.Retain; replace = replace.Delete; status = held.CreateComplete; unsure = false; superseded = false } ∷ []);
+  leftovers = [];
+  tokens = [];
+  abandoned = [];
+  source = None;
+  going = Some (source_for (codes "s") 1 first);
+  outputs = [];
+  sets = [];
+  events = ((codes "event 2 - CREATE_IN_PROGRESS") ∷ (codes "event 3 A CREATE_IN_PROGRESS") ∷ (codes "event 4 A CREATE_COMPLETE") ∷ []);
+  entries = (begun ∷ intended_a ∷ made_a ∷ []);
+}
+
+abbrev world_4 : World
+world_4 = record { stacks = (((codes "s"), stack_4_s) ∷ []); exports = []; pins = []; claims = []; lanes = (lane_pair (codes "f1") file ∷ lane_pair (codes "r1") note ∷ []); epoch = 1; operation = 1; set = 0; token = 1; place = 4 }
+
+leads_4 : world_after world_3 made_a ≡ world_4
+unfolding computing
+leads_4 = refl
+
+sound_4 : ¬ HasFailed schemas (codes "s") world_4 stack_4_s
+unfolding computing
+sound_4 = not_failed schemas (codes "s") world_4 stack_4_s (record { calls = refl; paths = refl; inner = refl; flaws = refl; exports = refl })
+
+ready_4_B : IsReady stack_4_s (codes "B")
+unfolding computing
+ready_4_B = (there here, λ q i. only (IsDone stack_4_s) (is_made _ refl) q i)
+
+may_intended_b : MayFollow schemas world_4 [] intended_b
+unfolding computing
+may_intended_b = ((codes "s"), stack_4_s, Forward, refl, refl, record { next = refl; free = refl; home = refl; fits = refl; no_repeat = refl; chosen = (sound_4, ready_4_B, not_done_new (codes "B") stack_4_s refl refl refl, (refl, tt)) })
+
+abbrev stack_5_s : StackState
+stack_5_s = record {
+  status = status.CreateInProgress;
+  number = 1;
+  operation = 1;
+  held = [];
+  before = [];
+  made = (record { path = (codes "A"); kind = file; physical = (codes "f1:1"); props = (file_props (codes "a") (codes "x")); attrs = (file_attrs (codes "f1:1") 1 (codes "a") (codes "x")); needs = []; deletion = deletion.Retain; replace = replace.Delete; status = held.CreateComplete; unsure = false; superseded = false } ∷ []);
+  leftovers = [];
+  tokens = (record { token = 2; path = (codes "B"); lane = (codes "r1"); request = (request.Create note (note_props (codes "b") (codes "u"))) } ∷ []);
+  abandoned = [];
+  source = None;
+  going = Some (source_for (codes "s") 1 first);
+  outputs = [];
+  sets = [];
+  events = ((codes "event 2 - CREATE_IN_PROGRESS") ∷ (codes "event 3 A CREATE_IN_PROGRESS") ∷ (codes "event 4 A CREATE_COMPLETE") ∷ (codes "event 5 B CREATE_IN_PROGRESS") ∷ []);
+  entries = (begun ∷ intended_a ∷ made_a ∷ intended_b ∷ []);
+}
+
+abbrev world_5 : World
+world_5 = record { stacks = (((codes "s"), stack_5_s) ∷ []); exports = []; pins = []; claims = []; lanes = (lane_pair (codes "f1") file ∷ lane_pair (codes "r1") note ∷ []); epoch = 1; operation = 1; set = 0; token = 2; place = 5 }
+
+leads_5 : world_after world_4 intended_b ≡ world_5
+unfolding computing
+leads_5 = refl
+
+may_made_b : MayFollow schemas world_5 (2 ∷ []) made_b
+unfolding computing
+may_made_b = ((codes "s"), stack_5_s, Forward, refl, refl, (refl, refl, lit≤ tt))
+
+abbrev stack_6_s : StackState
+stack_6_s = record {
+  status = status.CreateInProgress;
+  number = 1;
+  operation = 1;
+  held = [];
+  before = [];
+  made = (record { path = (codes "A"); kind = file; physical = (codes "f1:1"); props = (file_props (codes "a") (codes "x")); attrs = (file_attrs (codes "f1:1") 1 (codes "a") (codes "x")); needs = []; deletion = deletion.Retain; replace = replace.Delete; status = held.CreateComplete; unsure = false; superseded = false } ∷ record { path = (codes "B"); kind = note; physical = (codes "r1:2"); props = (note_props (codes "b") (codes "u")); attrs = (note_attrs (codes "r1:2") 1 (codes "b") (codes "u")); needs = ((codes "A") ∷ []); deletion = deletion.Delete; replace = replace.Delete; status = held.CreateComplete; unsure = false; superseded = false } ∷ []);
+  leftovers = [];
+  tokens = [];
+  abandoned = [];
+  source = None;
+  going = Some (source_for (codes "s") 1 first);
+  outputs = [];
+  sets = [];
+  events = ((codes "event 2 - CREATE_IN_PROGRESS") ∷ (codes "event 3 A CREATE_IN_PROGRESS") ∷ (codes "event 4 A CREATE_COMPLETE") ∷ (codes "event 5 B CREATE_IN_PROGRESS") ∷ (codes "event 6 B CREATE_COMPLETE") ∷ []);
+  entries = (begun ∷ intended_a ∷ made_a ∷ intended_b ∷ made_b ∷ []);
+}
+
+abbrev world_6 : World
+world_6 = record { stacks = (((codes "s"), stack_6_s) ∷ []); exports = []; pins = []; claims = []; lanes = (lane_pair (codes "f1") file ∷ lane_pair (codes "r1") note ∷ []); epoch = 1; operation = 1; set = 0; token = 2; place = 6 }
+
+leads_6 : world_after world_5 made_b ≡ world_6
+unfolding computing
+leads_6 = refl
+
+all_done_6 : AllDone stack_6_s
+unfolding computing
+all_done_6 = λ p i. either (IsDone stack_6_s) (is_made _ refl) (is_made _ refl) p i
+
+sound_6 : ¬ HasFailed schemas (codes "s") world_6 stack_6_s
+unfolding computing
+sound_6 = not_failed schemas (codes "s") world_6 stack_6_s (record { calls = refl; paths = refl; inner = refl; flaws = refl; exports = refl })
+
+may_created : MayFollow schemas world_6 [] created
+unfolding computing
+may_created = ((codes "s"), stack_6_s, Forward, refl, refl, (refl, end_of_create schemas (codes "s") world_6 stack_6_s refl all_done_6 sound_6 refl, (sound_6, all_done_6), refl))
+
+abbrev stack_7_s : StackState
+stack_7_s = record {
+  status = status.CreateComplete;
+  number = 1;
+  operation = 1;
+  held = (record { path = (codes "A"); kind = file; physical = (codes "f1:1"); props = (file_props (codes "a") (codes "x")); attrs = (file_attrs (codes "f1:1") 1 (codes "a") (codes "x")); needs = []; deletion = deletion.Retain; replace = replace.Delete; status = held.CreateComplete; unsure = false; superseded = false } ∷ record { path = (codes "B"); kind = note; physical = (codes "r1:2"); props = (note_props (codes "b") (codes "u")); attrs = (note_attrs (codes "r1:2") 1 (codes "b") (codes "u")); needs = ((codes "A") ∷ []); deletion = deletion.Delete; replace = replace.Delete; status = held.CreateComplete; unsure = false; superseded = false } ∷ []);
+  before = [];
+  made = [];
+  leftovers = [];
+  tokens = [];
+  abandoned = [];
+  source = Some (source_for (codes "s") 1 first);
+  going = Some (source_for (codes "s") 1 first);
+  outputs = [];
+  sets = [];
+  events = ((codes "event 2 - CREATE_IN_PROGRESS") ∷ (codes "event 3 A CREATE_IN_PROGRESS") ∷ (codes "event 4 A CREATE_COMPLETE") ∷ (codes "event 5 B CREATE_IN_PROGRESS") ∷ (codes "event 6 B CREATE_COMPLETE") ∷ (codes "event 7 - CREATE_COMPLETE") ∷ []);
+  entries = (begun ∷ intended_a ∷ made_a ∷ intended_b ∷ made_b ∷ created ∷ []);
+}
+
+abbrev world_7 : World
+world_7 = record { stacks = (((codes "s"), stack_7_s) ∷ []); exports = []; pins = []; claims = []; lanes = (lane_pair (codes "f1") file ∷ lane_pair (codes "r1") note ∷ []); epoch = 1; operation = 1; set = 0; token = 2; place = 7 }
+
+leads_7 : world_after world_6 created ≡ world_7
+unfolding computing
+leads_7 = refl
+
+may_deleting : MayFollow schemas world_7 [] deleting
+unfolding computing
+may_deleting = (refl, refl, (refl, refl, refl))
+
+abbrev stack_8_s : StackState
+stack_8_s = record {
+  status = status.DeleteInProgress;
+  number = 1;
+  operation = 2;
+  held = (record { path = (codes "A"); kind = file; physical = (codes "f1:1"); props = (file_props (codes "a") (codes "x")); attrs = (file_attrs (codes "f1:1") 1 (codes "a") (codes "x")); needs = []; deletion = deletion.Retain; replace = replace.Delete; status = held.CreateComplete; unsure = false; superseded = false } ∷ record { path = (codes "B"); kind = note; physical = (codes "r1:2"); props = (note_props (codes "b") (codes "u")); attrs = (note_attrs (codes "r1:2") 1 (codes "b") (codes "u")); needs = ((codes "A") ∷ []); deletion = deletion.Delete; replace = replace.Delete; status = held.CreateComplete; unsure = false; superseded = false } ∷ []);
+  before = [];
+  made = [];
+  leftovers = [];
+  tokens = [];
+  abandoned = [];
+  source = Some (source_for (codes "s") 1 first);
+  going = Some (source_for (codes "s") 1 first);
+  outputs = [];
+  sets = [];
+  events = ((codes "event 2 - CREATE_IN_PROGRESS") ∷ (codes "event 3 A CREATE_IN_PROGRESS") ∷ (codes "event 4 A CREATE_COMPLETE") ∷ (codes "event 5 B CREATE_IN_PROGRESS") ∷ (codes "event 6 B CREATE_COMPLETE") ∷ (codes "event 7 - CREATE_COMPLETE") ∷ (codes "event 8 - DELETE_IN_PROGRESS") ∷ []);
+  entries = (deleting ∷ []);
+}
+
+abbrev world_8 : World
+world_8 = record { stacks = (((codes "s"), stack_8_s) ∷ []); exports = []; pins = []; claims = []; lanes = (lane_pair (codes "f1") file ∷ lane_pair (codes "r1") note ∷ []); epoch = 1; operation = 2; set = 0; token = 2; place = 8 }
+
+leads_8 : world_after world_7 deleting ≡ world_8
+unfolding computing
+leads_8 = refl
+
+may_intended_deletion : MayFollow schemas world_8 [] intended_deletion
+unfolding computing
+may_intended_deletion = ((codes "s"), stack_8_s, Gone, refl, refl, record { next = refl; free = refl; home = refl; fits = ((codes "2", refl), refl); no_repeat = refl; chosen = (_, (there here, refl, refl, refl), refl, refl, refl) })
+
+abbrev stack_9_s : StackState
+stack_9_s = record {
+  status = status.DeleteInProgress;
+  number = 1;
+  operation = 2;
+  held = (record { path = (codes "A"); kind = file; physical = (codes "f1:1"); props = (file_props (codes "a") (codes "x")); attrs = (file_attrs (codes "f1:1") 1 (codes "a") (codes "x")); needs = []; deletion = deletion.Retain; replace = replace.Delete; status = held.CreateComplete; unsure = false; superseded = false } ∷ record { path = (codes "B"); kind = note; physical = (codes "r1:2"); props = (note_props (codes "b") (codes "u")); attrs = (note_attrs (codes "r1:2") 1 (codes "b") (codes "u")); needs = ((codes "A") ∷ []); deletion = deletion.Delete; replace = replace.Delete; status = held.CreateComplete; unsure = false; superseded = false } ∷ []);
+  before = [];
+  made = [];
+  leftovers = [];
+  tokens = (record { token = 3; path = (codes "B"); lane = (codes "r1"); request = (request.Delete (codes "r1:2")) } ∷ []);
+  abandoned = [];
+  source = Some (source_for (codes "s") 1 first);
+  going = Some (source_for (codes "s") 1 first);
+  outputs = [];
+  sets = [];
+  events = ((codes "event 2 - CREATE_IN_PROGRESS") ∷ (codes "event 3 A CREATE_IN_PROGRESS") ∷ (codes "event 4 A CREATE_COMPLETE") ∷ (codes "event 5 B CREATE_IN_PROGRESS") ∷ (codes "event 6 B CREATE_COMPLETE") ∷ (codes "event 7 - CREATE_COMPLETE") ∷ (codes "event 8 - DELETE_IN_PROGRESS") ∷ (codes "event 9 B DELETE_IN_PROGRESS") ∷ []);
+  entries = (deleting ∷ intended_deletion ∷ []);
+}
+
+abbrev world_9 : World
+world_9 = record { stacks = (((codes "s"), stack_9_s) ∷ []); exports = []; pins = []; claims = []; lanes = (lane_pair (codes "f1") file ∷ lane_pair (codes "r1") note ∷ []); epoch = 1; operation = 2; set = 0; token = 3; place = 9 }
+
+leads_9 : world_after world_8 intended_deletion ≡ world_9
+unfolding computing
+leads_9 = refl
+
+may_deleted_b : MayFollow schemas world_9 (3 ∷ []) deleted_b
+unfolding computing
+may_deleted_b = ((codes "s"), stack_9_s, Gone, refl, refl, (refl, refl, lit≤ tt))
+
+abbrev stack_10_s : StackState
+stack_10_s = record {
+  status = status.DeleteInProgress;
+  number = 1;
+  operation = 2;
+  held = (record { path = (codes "A"); kind = file; physical = (codes "f1:1"); props = (file_props (codes "a") (codes "x")); attrs = (file_attrs (codes "f1:1") 1 (codes "a") (codes "x")); needs = []; deletion = deletion.Retain; replace = replace.Delete; status = held.CreateComplete; unsure = false; superseded = false } ∷ []);
+  before = [];
+  made = [];
+  leftovers = [];
+  tokens = [];
+  abandoned = [];
+  source = Some (source_for (codes "s") 1 first);
+  going = Some (source_for (codes "s") 1 first);
+  outputs = [];
+  sets = [];
+  events = ((codes "event 2 - CREATE_IN_PROGRESS") ∷ (codes "event 3 A CREATE_IN_PROGRESS") ∷ (codes "event 4 A CREATE_COMPLETE") ∷ (codes "event 5 B CREATE_IN_PROGRESS") ∷ (codes "event 6 B CREATE_COMPLETE") ∷ (codes "event 7 - CREATE_COMPLETE") ∷ (codes "event 8 - DELETE_IN_PROGRESS") ∷ (codes "event 9 B DELETE_IN_PROGRESS") ∷ (codes "event 10 B DELETE_COMPLETE") ∷ []);
+  entries = (deleting ∷ intended_deletion ∷ deleted_b ∷ []);
+}
+
+abbrev world_10 : World
+world_10 = record { stacks = (((codes "s"), stack_10_s) ∷ []); exports = []; pins = []; claims = []; lanes = (lane_pair (codes "f1") file ∷ lane_pair (codes "r1") note ∷ []); epoch = 1; operation = 2; set = 0; token = 3; place = 10 }
+
+leads_10 : world_after world_9 deleted_b ≡ world_10
+unfolding computing
+leads_10 = refl
+
+may_kept : MayFollow schemas world_10 [] kept
+unfolding computing
+may_kept = ((codes "s"), stack_10_s, Gone, refl, refl, inl (_, (here, refl, refl, refl), refl, refl, refl, refl, inl refl))
+
+abbrev stack_11_s : StackState
+stack_11_s = record {
+  status = status.DeleteInProgress;
+  number = 1;
+  operation = 2;
+  held = [];
+  before = [];
+  made = [];
+  leftovers = (record { path = (codes "A"); physical = (codes "f1:1"); why = why.Retained } ∷ []);
+  tokens = [];
+  abandoned = [];
+  source = Some (source_for (codes "s") 1 first);
+  going = Some (source_for (codes "s") 1 first);
+  outputs = [];
+  sets = [];
+  events = ((codes "event 2 - CREATE_IN_PROGRESS") ∷ (codes "event 3 A CREATE_IN_PROGRESS") ∷ (codes "event 4 A CREATE_COMPLETE") ∷ (codes "event 5 B CREATE_IN_PROGRESS") ∷ (codes "event 6 B CREATE_COMPLETE") ∷ (codes "event 7 - CREATE_COMPLETE") ∷ (codes "event 8 - DELETE_IN_PROGRESS") ∷ (codes "event 9 B DELETE_IN_PROGRESS") ∷ (codes "event 10 B DELETE_COMPLETE") ∷ (codes "event 11 A DELETE_SKIPPED") ∷ []);
+  entries = (deleting ∷ intended_deletion ∷ deleted_b ∷ kept ∷ []);
+}
+
+abbrev world_11 : World
+world_11 = record { stacks = (((codes "s"), stack_11_s) ∷ []); exports = []; pins = []; claims = []; lanes = (lane_pair (codes "f1") file ∷ lane_pair (codes "r1") note ∷ []); epoch = 1; operation = 2; set = 0; token = 3; place = 11 }
+
+leads_11 : world_after world_10 kept ≡ world_11
+unfolding computing
+leads_11 = refl
+
+may_deleted : MayFollow schemas world_11 [] deleted
+unfolding computing
+may_deleted = ((codes "s"), stack_11_s, Gone, refl, refl, (refl, end_of_deletion schemas (codes "s") world_11 stack_11_s refl refl refl, refl, refl))
+
+abbrev stack_12_s : StackState
+stack_12_s = record {
+  status = status.DeleteComplete;
+  number = 1;
+  operation = 2;
+  held = [];
+  before = [];
+  made = [];
+  leftovers = (record { path = (codes "A"); physical = (codes "f1:1"); why = why.Retained } ∷ []);
+  tokens = [];
+  abandoned = [];
+  source = None;
+  going = Some (source_for (codes "s") 1 first);
+  outputs = [];
+  sets = [];
+  events = ((codes "event 2 - CREATE_IN_PROGRESS") ∷ (codes "event 3 A CREATE_IN_PROGRESS") ∷ (codes "event 4 A CREATE_COMPLETE") ∷ (codes "event 5 B CREATE_IN_PROGRESS") ∷ (codes "event 6 B CREATE_COMPLETE") ∷ (codes "event 7 - CREATE_COMPLETE") ∷ (codes "event 8 - DELETE_IN_PROGRESS") ∷ (codes "event 9 B DELETE_IN_PROGRESS") ∷ (codes "event 10 B DELETE_COMPLETE") ∷ (codes "event 11 A DELETE_SKIPPED") ∷ (codes "event 12 - DELETE_COMPLETE") ∷ []);
+  entries = (deleting ∷ intended_deletion ∷ deleted_b ∷ kept ∷ deleted ∷ []);
+}
+
+abbrev world_12 : World
+world_12 = record { stacks = (((codes "s"), stack_12_s) ∷ []); exports = []; pins = []; claims = []; lanes = (lane_pair (codes "f1") file ∷ lane_pair (codes "r1") note ∷ []); epoch = 1; operation = 2; set = 0; token = 3; place = 12 }
+
+leads_12 : world_after world_11 deleted ≡ world_12
+unfolding computing
+leads_12 = refl
+
+abbrev rest_12 : List Entry
+rest_12 = []
+
+abbrev rest_11 : List Entry
+rest_11 = deleted ∷ rest_12
+
+abbrev rest_10 : List Entry
+rest_10 = kept ∷ rest_11
+
+abbrev rest_9 : List Entry
+rest_9 = deleted_b ∷ rest_10
+
+abbrev rest_8 : List Entry
+rest_8 = intended_deletion ∷ rest_9
+
+abbrev rest_7 : List Entry
+rest_7 = deleting ∷ rest_8
+
+abbrev rest_6 : List Entry
+rest_6 = created ∷ rest_7
+
+abbrev rest_5 : List Entry
+rest_5 = made_b ∷ rest_6
+
+abbrev rest_4 : List Entry
+rest_4 = intended_b ∷ rest_5
+
+abbrev rest_3 : List Entry
+rest_3 = made_a ∷ rest_4
+
+abbrev rest_2 : List Entry
+rest_2 = intended_a ∷ rest_3
+
+abbrev rest_1 : List Entry
+rest_1 = begun ∷ rest_2
+
+abbrev rest_0 : List Entry
+rest_0 = opened ∷ rest_1
+
+pub legal : Legal
+legal = legal_step world_0 world_1 opened rest_1 [] may_opened leads_1 (legal_step world_1 world_2 begun rest_2 [] may_begun leads_2 (legal_step world_2 world_3 intended_a rest_3 [] may_intended_a leads_3 (legal_step world_3 world_4 made_a rest_4 (1 ∷ []) may_made_a leads_4 (legal_step world_4 world_5 intended_b rest_5 [] may_intended_b leads_5 (legal_step world_5 world_6 made_b rest_6 (2 ∷ []) may_made_b leads_6 (legal_step world_6 world_7 created rest_7 [] may_created leads_7 (legal_step world_7 world_8 deleting rest_8 [] may_deleting leads_8 (legal_step world_8 world_9 intended_deletion rest_9 [] may_intended_deletion leads_9 (legal_step world_9 world_10 deleted_b rest_10 (3 ∷ []) may_deleted_b leads_10 (legal_step world_10 world_11 kept rest_11 [] may_kept leads_11 (legal_step world_11 world_12 deleted rest_12 [] may_deleted leads_12 (tt))))))))))))
+
+arrives_8 : fold_of empty_world (opened ∷ begun ∷ intended_a ∷ made_a ∷ intended_b ∷ made_b ∷ created ∷ deleting ∷ []) ≡ world_8
+arrives_8 = fold_step world_0 world_1 opened (begun ∷ intended_a ∷ made_a ∷ intended_b ∷ made_b ∷ created ∷ deleting ∷ []) leads_1 (fold_step world_1 world_2 begun (intended_a ∷ made_a ∷ intended_b ∷ made_b ∷ created ∷ deleting ∷ []) leads_2 (fold_step world_2 world_3 intended_a (made_a ∷ intended_b ∷ made_b ∷ created ∷ deleting ∷ []) leads_3 (fold_step world_3 world_4 made_a (intended_b ∷ made_b ∷ created ∷ deleting ∷ []) leads_4 (fold_step world_4 world_5 intended_b (made_b ∷ created ∷ deleting ∷ []) leads_5 (fold_step world_5 world_6 made_b (created ∷ deleting ∷ []) leads_6 (fold_step world_6 world_7 created (deleting ∷ []) leads_7 (fold_step world_7 world_8 deleting ([]) leads_8 (refl))))))))
+
+arrives_12 : fold_of empty_world (opened ∷ begun ∷ intended_a ∷ made_a ∷ intended_b ∷ made_b ∷ created ∷ deleting ∷ intended_deletion ∷ deleted_b ∷ kept ∷ deleted ∷ []) ≡ world_12
+arrives_12 = fold_step world_0 world_1 opened (begun ∷ intended_a ∷ made_a ∷ intended_b ∷ made_b ∷ created ∷ deleting ∷ intended_deletion ∷ deleted_b ∷ kept ∷ deleted ∷ []) leads_1 (fold_step world_1 world_2 begun (intended_a ∷ made_a ∷ intended_b ∷ made_b ∷ created ∷ deleting ∷ intended_deletion ∷ deleted_b ∷ kept ∷ deleted ∷ []) leads_2 (fold_step world_2 world_3 intended_a (made_a ∷ intended_b ∷ made_b ∷ created ∷ deleting ∷ intended_deletion ∷ deleted_b ∷ kept ∷ deleted ∷ []) leads_3 (fold_step world_3 world_4 made_a (intended_b ∷ made_b ∷ created ∷ deleting ∷ intended_deletion ∷ deleted_b ∷ kept ∷ deleted ∷ []) leads_4 (fold_step world_4 world_5 intended_b (made_b ∷ created ∷ deleting ∷ intended_deletion ∷ deleted_b ∷ kept ∷ deleted ∷ []) leads_5 (fold_step world_5 world_6 made_b (created ∷ deleting ∷ intended_deletion ∷ deleted_b ∷ kept ∷ deleted ∷ []) leads_6 (fold_step world_6 world_7 created (deleting ∷ intended_deletion ∷ deleted_b ∷ kept ∷ deleted ∷ []) leads_7 (fold_step world_7 world_8 deleting (intended_deletion ∷ deleted_b ∷ kept ∷ deleted ∷ []) leads_8 (fold_step world_8 world_9 intended_deletion (deleted_b ∷ kept ∷ deleted ∷ []) leads_9 (fold_step world_9 world_10 deleted_b (kept ∷ deleted ∷ []) leads_10 (fold_step world_10 world_11 kept (deleted ∷ []) leads_11 (fold_step world_11 world_12 deleted ([]) leads_12 (refl))))))))))))
+
+pub report_0 : Shows
+report_0 = ap (report_of (codes "s")) arrives_12
+
+may_not_0 : (out : List ℕ) → MayFollow schemas world_8 out (entry.Kept 2 (codes "A") (codes "f1:1") why.Retained) → ⊥
+unfolding computing
+may_not_0 = λ out may. let m = follows_on schemas 2 world_8 out (entry.Kept 2 (codes "A") (codes "f1:1") why.Retained) ((codes "s"), stack_8_s) Gone refl refl may in elim m [ inl d ↦ either (λ (h : Held). codes "f1:1" ≡ h.physical → is_needed_by_held stack_8_s h ≡ false → ⊥) (λ e f. true≢false f) (λ e f. true≢false (ap (bytes_eq (codes "f1:1")) e)) d.0 d.1.0 d.5 d.1.2 | inr d ↦ not_empty (codes "f1:1") refl d.1 ]
+
+pub refused_0 : KeptTooEarly
+refused_0 = refused_at world_8 (opened ∷ begun ∷ intended_a ∷ made_a ∷ intended_b ∷ made_b ∷ created ∷ deleting ∷ []) (entry.Kept 2 (codes "A") (codes "f1:1") why.Retained) arrives_8 may_not_0

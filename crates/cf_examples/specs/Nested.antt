@@ -1,0 +1,48 @@
+-- A nested stack gets the length of a file of the stack around it as its parameter.
+use Rattle.std.specs.Prelude.{◌≡◌, List, [], ◌∷◌, codes, false}
+use Rattle.cf_tree.specs.declared.request.Request.TheVariants as request
+use Rattle.cf_tree.specs.declared.source.Source.{Source}
+use Rattle.cf_entry.specs.declared.entry.Entry.{Entry}
+use Rattle.cf_entry.specs.declared.entry.Entry.TheVariants as entry
+use Rattle.cf_entry.specs.declared.entry.Begun.TheVariants as begin
+use Rattle.cf_entry.specs.declared.entry.Reply.TheVariants as reply
+use Rattle.cf_entry.specs.declared.status.Status.TheVariants as status
+use Rattle.cf_stacks.specs.declared.held.HeldStatus.TheVariants as held
+use Rattle.cf_stacks.specs.Fold.{empty_world, fold_of}
+use Rattle.cf_plan.specs.Follow.{IsLegal}
+use Rattle.cf_examples.specs.Given.{file, note, file_props, file_attrs, note_props, note_attrs, schemas, lane_pair, report_of}
+
+abbrev pub first : Source
+first = record { root = (codes "root"); texts = (((codes "kid"), (codes "{\"Parameters\":{\"P\":{\"Type\":\"String\"}},\"Resources\":{\"Rec\":{\"Type\":\"Local::Records::Record\",\"Properties\":{\"Key\":\"k\",\"Value\":{\"Ref\":\"P\"}}}}}")) ∷ ((codes "root"), (codes "{\"Resources\":{\"Src\":{\"Type\":\"Local::Files::File\",\"Properties\":{\"Path\":\"s\",\"Content\":\"12\"}},\"Child\":{\"Type\":\"AWS::CloudFormation::Stack\",\"Properties\":{\"TemplateURL\":\"kid\",\"Parameters\":{\"P\":{\"Fn::GetAtt\":[\"Src\",\"Length\"]}}}}}}")) ∷ []); given = []; imports = []; stack = (codes "top"); number = 0 }
+
+abbrev pub opened : Entry
+opened = entry.Opened 1 (lane_pair (codes "f1") file ∷ lane_pair (codes "r1") note ∷ [])
+
+abbrev pub begun : Entry
+begun = entry.Begin 1 (codes "top") (begin.Create first)
+
+abbrev pub intended_file : Entry
+intended_file = entry.Intent 1 1 (codes "f1") (codes "Src") (request.Create file (file_props (codes "s") (codes "12")))
+
+abbrev pub made_file : Entry
+made_file = entry.Outcome 1 1 (reply.Success (codes "f1:1") (file_attrs (codes "f1:1") 2 (codes "s") (codes "12"))) 0 0
+
+abbrev pub intended_record : Entry
+intended_record = entry.Intent 1 2 (codes "r1") (codes "Child/Rec") (request.Create note (note_props (codes "k") (codes "2")))
+
+abbrev pub made_record : Entry
+made_record = entry.Outcome 1 2 (reply.Success (codes "r1:2") (note_attrs (codes "r1:2") 1 (codes "k") (codes "2"))) 0 0
+
+abbrev pub created : Entry
+created = entry.Done 1 status.CreateComplete []
+
+abbrev pub run : List Entry
+run = opened ∷ begun ∷ intended_file ∷ made_file ∷ intended_record ∷ made_record ∷ created ∷ []
+
+-- each entry may follow where it stands
+abbrev pub Legal : Type 0
+Legal = IsLegal schemas empty_world run
+
+-- what the report shows in the end
+abbrev pub Shows : Type 0
+Shows = report_of (codes "top") (fold_of empty_world run) ≡ record { status = status.CreateComplete; number = 1; resources = (record { path = (codes "Src"); kind = file; physical = (codes "f1:1"); status = held.CreateComplete; unsure = false; props = (file_props (codes "s") (codes "12")) } ∷ record { path = (codes "Child/Rec"); kind = note; physical = (codes "r1:2"); status = held.CreateComplete; unsure = false; props = (note_props (codes "k") (codes "2")) } ∷ []); made = []; leftovers = [] }
