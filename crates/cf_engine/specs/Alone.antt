@@ -158,3 +158,7 @@ abbrev pub IsRun : Printing → List (List ℕ) → Exit → Type 0
 IsRun p words result =
     ((o : Outside) × (o.kinds ≡ codes "Local::Files::File" ∷ []) × (o.told ≡ Some (record { base = []; settled = [] }) ∷ []) × IsAnswered o p words result)
     ⊎ PrintTells p.held p.held' p.faults p.faults' (exit_line exit.NoMemory) exit.NoMemory result
+
+-- why no words came of a command line: one of them is no text, or there was no memory
+abbrev pub IsWordless : Exit → Type 0
+IsWordless e = IsOneOf e (exit.BadWords ∷ exit.NoMemory ∷ [])

@@ -14,12 +14,12 @@ mod tests;
 mod top;
 mod words;
 
-ghost use Rattle.std.specs.Prelude.{◌≡◌, ◌≤◌, ◌++◌, ◌∷◌, [], ℕ, List, true, false, Some, IfOk, codes, map, string_bytes};
+ghost use Rattle.std.specs.Prelude.{◌≡◌, ◌≤◌, ◌++◌, ◌∷◌, [], ℕ, List, true, false, Some, IfOk, IfErr, codes, map, string_bytes};
 ghost use Rattle.cf_engine.specs.Exit.{exit_line};
 ghost use Rattle.cf_engine.specs.Lanes.{AreUnsettled};
 ghost use Rattle.cf_engine.specs.Print.{PrintTells};
 ghost use Rattle.cf_engine.specs.Words.{are_short, is_in_form, is_command_line};
-ghost use Rattle.cf_engine.specs.Alone.{IsRun};
+ghost use Rattle.cf_engine.specs.Alone.{IsRun, IsWordless};
 ghost use Rattle.cf_engine.specs.declared.exit.Exit.TheVariants.{BadWords};
 
 use crate::exit::Exit;
@@ -64,7 +64,9 @@ fn main(rt: HostRuntime) -> ExitCode {
 }
 
 /// The words of the command line behind the program's name.
-fn words_of(rt: &HostRuntime) -> Result<Vec<Txt>, Exit> {
+fn words_of(rt: &HostRuntime) -> Result<Vec<Txt>, Exit>
+    ensures { IfErr result IsWordless }
+{
     let args = match env::args(rt) {
         Ok(args) => args,
         Err(error) => {
