@@ -152,3 +152,13 @@ pub record IsAnswered (o : Outside) (p : Printing) (words : List (List ℕ)) (re
   pub otherwise : (stack template : List ℕ) → deploy_words words ≡ Some (stack, template) → ((fault : Refusal) → result ≡ exit.TemplateRefused fault → ⊥) → NoCountRose o p → IsOneOf result (exit.Done ∷ exit.NoMemory ∷ [])
   -- what was printed
   pub printed : IsPrinted o p words result
+
+-- the program's run over its words: it is answered over an outside whose one lane is of files and holds nothing yet, or there was no memory to make it
+abbrev pub IsRun : Printing → List (List ℕ) → Exit → Type 0
+IsRun p words result =
+    ((o : Outside) × (o.kinds ≡ codes "Local::Files::File" ∷ []) × (o.told ≡ Some (record { base = []; settled = [] }) ∷ []) × IsAnswered o p words result)
+    ⊎ PrintTells p.held p.held' p.faults p.faults' (exit_line exit.NoMemory) exit.NoMemory result
+
+-- why no words came of a command line: one of them is no text, or there was no memory
+abbrev pub IsWordless : Exit → Type 0
+IsWordless e = IsOneOf e (exit.BadWords ∷ exit.NoMemory ∷ [])

@@ -14,11 +14,12 @@ mod tests;
 mod top;
 mod words;
 
-ghost use Rattle.std.specs.Prelude.{◌≡◌, ◌≤◌, ◌++◌, ◌∷◌, [], false, IfOk, codes, map, string_bytes};
+ghost use Rattle.std.specs.Prelude.{◌≡◌, ◌≤◌, ◌++◌, ◌∷◌, [], ℕ, List, true, false, Some, IfOk, IfErr, codes, map, string_bytes};
 ghost use Rattle.cf_engine.specs.Exit.{exit_line};
 ghost use Rattle.cf_engine.specs.Lanes.{AreUnsettled};
 ghost use Rattle.cf_engine.specs.Print.{PrintTells};
 ghost use Rattle.cf_engine.specs.Words.{are_short, is_in_form, is_command_line};
+ghost use Rattle.cf_engine.specs.Alone.{IsRun, IsWordless};
 ghost use Rattle.cf_engine.specs.declared.exit.Exit.TheVariants.{BadWords};
 
 use crate::exit::Exit;
@@ -63,7 +64,9 @@ fn main(rt: HostRuntime) -> ExitCode {
 }
 
 /// The words of the command line behind the program's name.
-fn words_of(rt: &HostRuntime) -> Result<Vec<Txt>, Exit> {
+fn words_of(rt: &HostRuntime) -> Result<Vec<Txt>, Exit>
+    ensures { IfErr result IsWordless }
+{
     let args = match env::args(rt) {
         Ok(args) => args,
         Err(error) => {
@@ -87,6 +90,8 @@ fn words_of(rt: &HostRuntime) -> Result<Vec<Txt>, Exit> {
 fn run<K: Sink>(rt: HostRuntime, words: &[Txt], out: &mut K) -> Exit
     ensures bad_words { is_command_line words.now ≡ false →
         PrintTells (K.held out.old) (K.held out.new) (K.count out.old) (K.count out.new) (exit_line BadWords) BadWords result }
+    ensures runs { (home workers : List ℕ) (rest : List (List ℕ)) → words.now ≡ home ∷ workers ∷ rest → is_in_form home workers words.now ≡ true →
+        IsRun (record { held = K.held out.old; held' = K.held out.new; faults = K.count out.old; faults' = K.count out.new }) rest result }
 {
     match words {
         [word] if word.is("--help") => print_text(out, USAGE),
@@ -117,7 +122,11 @@ fn are_short(words: &[Txt]) -> bool
 }
 
 /// Does what the words say over the templates of the folder and its one lane.
-fn run_in<K: Sink>(rt: HostRuntime, home: &Txt, words: &[Txt], out: &mut K) -> Exit {
+fn run_in<K: Sink>(rt: HostRuntime, home: &Txt, words: &[Txt], out: &mut K) -> Exit
+    ensures { IsRun
+        (record { held = K.held out.old; held' = K.held out.new; faults = K.count out.old; faults' = K.count out.new })
+        words.now result }
+{
     let alloc = rt.alloc();
     match (templates_of(alloc, home), lanes_of(alloc)) {
         (Ok(folder), Ok(lanes)) => {
@@ -140,6 +149,8 @@ fn templates_of(alloc: Global, home: &Txt) -> Result<String, NoMemory>
 
 /// The lanes: one for files, in memory.
 fn lanes_of(alloc: Global) -> Result<Vec<FileHandler>, NoMemory>
+    ensures kinds { IfOk result (λ lanes. map ⟦<FileHandler as Handler>⟧.of_kind lanes.items ≡ codes "Local::Files::File" ∷ []) }
+    ensures told { IfOk result (λ lanes. map ⟦<FileHandler as Handler>⟧.told lanes.items ≡ Some (record { base = []; settled = [] }) ∷ []) }
     ensures unsettled { IfOk result (λ lanes. AreUnsettled (map ⟦<FileHandler as Handler>⟧.told lanes.items)) }
     ensures names { IfOk result (λ lanes. map ⟦<FileHandler as Handler>⟧.label lanes.items ≡ codes "files1" ∷ []) }
 {
