@@ -1,5 +1,5 @@
 -- The lanes that are handed in, and what the journal and the lanes tell of an id and of a token.
-use Rattle.std.specs.Prelude.{◌≡◌, ◌≢◌, ℕ, ◌==◌, ◌⊎◌, Bool, true, false, ◌&&◌, ◌||◌, not, List, [], ◌∷◌, ◌++◌, Option, Some, None, IsTrue, is_some, find, filter, map, flat_map, if◌then◌else◌}
+use Rattle.std.specs.Prelude.{◌≡◌, ℕ, ◌==◌, Bool, not, List, ◌++◌, Option, Some, None, find, filter, map, flat_map}
 use Rattle.std.specs.List.{list_any}
 use Rattle.std.specs.Str.{bytes_eq}
 use Rattle.cf_tree.specs.Datum.{Data}
@@ -16,9 +16,8 @@ use Rattle.cf_stacks.specs.declared.held.Held.{Held}
 use Rattle.cf_stacks.specs.declared.held.Leftover.{Leftover}
 use Rattle.cf_stacks.specs.declared.held.Pending.{Pending}
 use Rattle.cf_stacks.specs.declared.held.GivenUp.{GivenUp}
-use Rattle.cf_stacks.specs.declared.state.StackState.{StackState}
 use Rattle.cf_stacks.specs.declared.state.World.{World}
-use Rattle.cf_stacks.specs.Words.{resources_of, is_id, id_named}
+use Rattle.cf_stacks.specs.Words.{resources_of}
 use Rattle.cf_stacks.specs.Fold.{unknown_id}
 
 -- a lane that is handed in
@@ -46,10 +45,6 @@ all_abandoned x = flat_map (λ s. s.1.abandoned) x.stacks
 -- the physical ids of held, made and leftover resources; what is listed without an id has none
 abbrev pub ids_of : World → List (List ℕ)
 ids_of x = map (λ r. r.physical) (all_resources x) ++ filter (λ id. not (bytes_eq id unknown_id)) (map (λ l. l.physical) (all_leftovers x))
-
-abbrev pub differ : List (List ℕ) → Bool
-differ [] = true
-differ (id ∷ ids) = not (list_any (λ other. bytes_eq id other) ids) && differ ids
 
 abbrev pub is_leftover : List ℕ → World → Bool
 is_leftover physical x = list_any (λ l. bytes_eq physical l.physical) (all_leftovers x)

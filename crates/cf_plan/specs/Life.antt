@@ -1,12 +1,12 @@
 -- The life of an engine (this project's own): openings, appends that end whole or broken, calls, late effects, crashes. Each event says what it leaves.
-use Rattle.std.specs.Prelude.{◌≡◌, ◌≢◌, ℕ, ◌==◌, ◌<◌, ◌≤◌, ◌⊎◌, Bool, true, false, not, List, [], ◌∷◌, ◌++◌, Option, Some, None, IsTrue, is_none, find, filter, map, if◌then◌else◌}
-use Rattle.std.specs.List.{list_any}
+use Rattle.std.specs.Prelude.{◌≡◌, ℕ, ◌==◌, ◌≤◌, Bool, true, false, not, List, [], ◌∷◌, ◌++◌, Option, Some, None, IsTrue, find, filter, map, if◌then◌else◌}
 use Rattle.std.specs.Str.{bytes_eq}
 use Rattle.cf_tree.specs.declared.request.Request.{Request}
 use Rattle.cf_tree.specs.declared.request.Answer.{Answer}
 use Rattle.cf_tree.specs.declared.request.Answer.TheVariants as answer
 use Rattle.cf_handler.specs.declared.settled.Settlement.{Settlement}
-use Rattle.cf_handler.specs.Lane.{live_of}
+use Rattle.cf_handler.specs.declared.settled.Settlement.TheVariants as settlement
+use Rattle.cf_handler.specs.Lane.{live_of, settlement_of}
 use Rattle.cf_handler.specs.Move.{HasCause}
 use Rattle.cf_handler.specs.Fence.{FencedLane, CallMove, IsStale, LateMove, FenceAnswer, FenceMove}
 use Rattle.cf_entry.specs.declared.entry.Entry.{Entry}
@@ -16,12 +16,13 @@ use Rattle.cf_stacks.specs.declared.held.Pending.{Pending}
 use Rattle.cf_stacks.specs.declared.state.StackState.{StackState}
 use Rattle.cf_stacks.specs.declared.state.World.{World}
 use Rattle.cf_stacks.specs.Status.{Stage, stage_of}
-use Rattle.cf_stacks.specs.Words.{stack_at}
+use Rattle.cf_stacks.specs.Words.{stack_at, all_differ}
 use Rattle.cf_stacks.specs.Fold.{empty_world, fold_of}
 use Rattle.cf_plan.specs.Forward.{In}
 use Rattle.cf_plan.specs.Follow.{MayFollow, MayRepeat, is_lane_out}
 use Rattle.cf_schema.specs.declared.described.Schema.{Schema}
 use Rattle.cf_plan.specs.Lanes.{Lane, lane_at}
+use Rattle.cf_plan.specs.Agrees.{Agrees, FitsCall, IsAccounted}
 
 -- what a call came to: an answer, or that its opening is past
 pub data CallEnd : Type 0 where
@@ -171,6 +172,28 @@ Happens schemas life Crash after = after ≡ record life { leases = []; is_open 
 abbrev pub IsLife : List Schema → Life → List Event → Life → Type 0
 IsLife schemas life [] end = end ≡ life
 IsLife schemas life (e ∷ es) end = (next : Life) × Happens schemas life e next × IsLife schemas next es end
+
+-- A lease is a promise of one call: no two are of one token, each has its own call, which is open or accounted for, and an answer that it has for good is the settled one of its token.
+abbrev pub settlement_in : Answer → Option Settlement
+settlement_in (answer.Success physical attrs) = Some (settlement.Success physical attrs)
+settlement_in (answer.Failed code) = Some (settlement.Failed code)
+settlement_in _ = None
+
+abbrev pub settled_reply : CallEnd → Option Settlement
+settled_reply (Answered a before after) = settlement_in a
+settled_reply (Stale fence) = None
+
+pub record AreLeased (life : Life) : Type 0 where
+  pub once : all_differ ◌==◌ (tokens_out life) ≡ true
+  pub own_call : (lease : Lease) → In lease life.leases → FitsCall life.entries (world_of life) lease.lane lease.token lease.request
+  pub accounted : (lease : Lease) → In lease life.leases → IsAccounted (world_of life) lease.token lease.request
+  pub settled :
+      (lease : Lease) (reply : CallEnd) (s : Settlement) (lane : Lane) → In lease life.leases → lease.reply ≡ Some reply → settled_reply reply ≡ Some s → lane_at lease.lane life.lanes ≡ Some lane → settlement_of lease.token lane.state.state.settled ≡ Some s
+
+-- what holds at each moment of a life: journal and lanes agree, and the leases are sound
+pub record Holds (schemas : List Schema) (life : Life) : Type 0 where
+  pub agrees : Agrees schemas life.entries life.lanes
+  pub leased : AreLeased life
 
 -- a new journal, over lanes on which nothing was ever called or is live
 pub record IsStart (life : Life) : Type 0 where
