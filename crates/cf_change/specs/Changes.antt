@@ -1,5 +1,5 @@
 -- What a new template changes of what a stack holds (User Guide: change sets; DescribeChangeSet). What counts as unknown, and so which details are Dynamic and which replacements Conditional, is this project's own.
-use Rattle.std.specs.Prelude.{ℕ, zero, suc, Bool, true, false, ◌&&◌, ◌||◌, not, List, [], ◌∷◌, ◌++◌, Option, Some, None, find, filter, filter_map, flat_map, fold, map, option_map, is_some, if◌then◌else◌}
+use Rattle.std.specs.Prelude.{ℕ, zero, suc, Bool, true, false, ◌&&◌, ◌||◌, not, List, [], ◌∷◌, ◌++◌, Option, Some, None, find, filter, flat_map, fold, map, option_map, is_some, if◌then◌else◌}
 use Rattle.std.specs.List.{list_any}
 use Rattle.std.specs.Option.{option_map_or}
 use Rattle.std.specs.Str.{bytes_eq}
@@ -22,10 +22,11 @@ use Rattle.cf_tree.specs.declared.template.Deletion.{Deletion}
 use Rattle.cf_tree.specs.declared.template.Deletion.TheVariants as deletion
 use Rattle.cf_tree.specs.declared.template.Replace.{Replace}
 use Rattle.cf_tree.specs.declared.template.Replace.TheVariants as replace
+use Rattle.cf_graph.specs.Needs.{is_among}
 use Rattle.cf_schema.specs.declared.described.Schema.{Schema}
-use Rattle.cf_eval.specs.Outcome.{Outcome, got, later, bad}
+use Rattle.cf_eval.specs.Outcome.{Outcome, got}
 use Rattle.cf_desired.specs.Flaw.{Flaw}
-use Rattle.cf_desired.specs.Plan.{Seen, SeenAt, Evaluated, flawed, evaluated, Wanted, WantedOutput, Plan, plan_of}
+use Rattle.cf_desired.specs.Plan.{Seen, SeenAt, Evaluated, flawed, evaluated, Wanted, WantedOutput, plan_of}
 use Rattle.cf_desired.specs.Whole.{wanted_at}
 
 -- a resource as a stack holds it
@@ -47,15 +48,12 @@ pub record HeldOutput : Type 0 where
 abbrev pub held_at : List ℕ → List HeldAt → Option HeldAt
 held_at path hs = find (λ h. bytes_eq path h.path) hs
 
-abbrev pub is_listed : List ℕ → List (List ℕ) → Bool
-is_listed name names = list_any (λ n. bytes_eq name n) names
-
 abbrev pub schema_of : List ℕ → List Schema → Option Schema
 schema_of kind schemas = find (λ g. bytes_eq kind g.kind) schemas
 
 -- whether a change of the property replaces the resource
 abbrev pub recreation_by : Schema → List ℕ → Recreation
-recreation_by g name = if is_listed name g.create_only then recreation.Always else if is_listed name g.conditional then recreation.Conditionally else recreation.Never
+recreation_by g name = if is_among name g.create_only then recreation.Always else if is_among name g.conditional then recreation.Conditionally else recreation.Never
 
 abbrev pub recreation_of : Option Schema → List ℕ → Recreation
 recreation_of None name = recreation.Never

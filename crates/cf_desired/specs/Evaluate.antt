@@ -1,20 +1,19 @@
 -- What is evaluated in one template: properties one by one, outputs, and the parameters of a nested stack.
-use Rattle.std.specs.Prelude.{ℕ, Bool, true, false, List, [], ◌∷◌, ◌++◌, Option, Some, None, filter, map, option_map, unwrap_or, if◌then◌else◌, codes}
+use Rattle.std.specs.Prelude.{ℕ, Bool, true, false, List, [], ◌∷◌, Option, Some, None, option_map, if◌then◌else◌, codes}
 use Rattle.std.specs.List.{join_by}
-use Rattle.cf_tree.specs.Datum.{Data, Items, Members, text, whole, truth, list, dict, no_items, item, no_members, member}
+use Rattle.cf_tree.specs.Datum.{Data, Items, text, list, no_items, item}
 use Rattle.cf_tree.specs.Keys.{value_at}
 use Rattle.cf_tree.specs.Forms.{Form, Node, Fields, expr, choice, no_fields, field}
 use Rattle.cf_tree.specs.Forms as node
 use Rattle.cf_tree.specs.declared.bound.Setting.{Setting}
 use Rattle.cf_tree.specs.declared.bound.Verdict.{Verdict}
 use Rattle.cf_tree.specs.declared.template.Template.{Template}
-use Rattle.cf_tree.specs.declared.template.Out.{Out}
 use Rattle.cf_eval.specs.declared.env.Sight.{Sight}
 use Rattle.cf_eval.specs.declared.fault.EvalWhy.TheVariants.{WrongKind, UnknownName}
 use Rattle.cf_eval.specs.Outcome.{Outcome, Stop, got, later, bad, fault, undecided, on_got, or_wrong}
 use Rattle.cf_eval.specs.Scope.{Scope, open_to, held_at}
 use Rattle.cf_eval.specs.ScopeOf.{setting_of, verdict_of}
-use Rattle.cf_eval.specs.Texts.{Found, known, text_of}
+use Rattle.cf_eval.specs.Texts.{Found, text_of}
 use Rattle.cf_eval.specs.Value.{form_found, blamed}
 use Rattle.cf_eval.specs.Env.{plain}
 use Rattle.cf_param.specs.declared.offered.Piece.{Piece}

@@ -1,5 +1,5 @@
 -- What a template wants of each path (User Guide: working with nested stacks; limits, and how far a nested stack may rest on what is not known yet, are this project's own).
-use Rattle.std.specs.Prelude.{ℕ, zero, suc, ◌+◌, ◌==◌, Bool, true, false, ◌&&◌, ◌||◌, not, List, [], ◌∷◌, ◌++◌, Option, Some, None, Result, Ok, Err, find, filter, filter_map, flat_map, map, option_map, option_and_then, unwrap_or, is_some, fold, length, nat_lt, codes, if◌then◌else◌}
+use Rattle.std.specs.Prelude.{ℕ, zero, suc, ◌+◌, Bool, true, false, ◌&&◌, not, List, [], ◌∷◌, ◌++◌, Option, Some, None, Result, Ok, Err, find, filter, flat_map, map, option_map, option_and_then, unwrap_or, is_some, fold, length, nat_lt, codes, if◌then◌else◌}
 use Rattle.std.specs.List.{list_any, list_all}
 use Rattle.std.specs.Option.{option_or, option_map_or}
 use Rattle.std.specs.Str.{bytes_eq}
@@ -23,12 +23,12 @@ use Rattle.cf_eval.specs.declared.env.Sight.{Sight}
 use Rattle.cf_eval.specs.declared.env.Sight.TheVariants as sight
 use Rattle.cf_eval.specs.declared.env.OutputSight.{OutputSight}
 use Rattle.cf_eval.specs.declared.env.OutputSight.TheVariants as output
-use Rattle.cf_eval.specs.declared.fault.EvalWhy.TheVariants.{UnknownName, WrongKind}
-use Rattle.cf_eval.specs.Outcome.{Outcome, Stop, got, later, bad, fault, undecided, on_got}
+use Rattle.cf_eval.specs.declared.fault.EvalWhy.TheVariants.{UnknownName, UnknownAttribute, WrongKind, NotMade}
+use Rattle.cf_eval.specs.Outcome.{Outcome, Stop, got, later, bad, fault, on_got}
 use Rattle.cf_eval.specs.Scope.{Scope}
 use Rattle.cf_eval.specs.Texts.{text_of}
 use Rattle.cf_eval.specs.Env.{conditions_of}
-use Rattle.cf_graph.specs.Needs.{Tangle, needs_of, is_made, is_false, is_one}
+use Rattle.cf_graph.specs.Needs.{Tangle, needs_of, is_made, is_false, is_among}
 use Rattle.cf_param.specs.declared.offered.Piece.{Piece}
 use Rattle.cf_param.specs.declared.offered.Piece.TheVariants.{Text, Later}
 use Rattle.cf_param.specs.declared.fault.BindFault.{BindFault}
@@ -147,30 +147,35 @@ is_broken_at id attribute b = bytes_eq id b.id && bytes_eq attribute b.attribute
 abbrev pub marked_output : List Broken → List ℕ → List ℕ × OutputSight → List ℕ × OutputSight
 marked_output bs id o = if list_any (is_broken_at id o.0) bs then (o.0, output.NotMade) else o
 
-abbrev pub marked_sight : List Broken → List ℕ → Sight → Sight
-marked_sight bs id sight.NotMade = sight.NotMade
-marked_sight bs id (sight.Made physical attrs) = sight.Made physical attrs
-marked_sight bs id (sight.Nested stack outputs) = sight.Nested stack (map (marked_output bs id) outputs)
+-- an output without its name can't be found
+abbrev pub hidden_output : List Broken → List ℕ → List ℕ × OutputSight → List ℕ × OutputSight
+hidden_output bs id o = if list_any (is_broken_at id o.0) bs then ([], o.1) else o
+
+abbrev pub with_outputs_as : (List ℕ × OutputSight → List ℕ × OutputSight) → Sight → Sight
+with_outputs_as change sight.NotMade = sight.NotMade
+with_outputs_as change (sight.Made physical attrs) = sight.Made physical attrs
+with_outputs_as change (sight.Nested stack outputs) = sight.Nested stack (map change outputs)
 
 abbrev pub marked : List Broken → List (List ℕ × Sight) → List (List ℕ × Sight)
-marked bs sights = map (λ s. (s.0, marked_sight bs s.0 s.1)) sights
+marked bs sights = map (λ s. (s.0, with_outputs_as (marked_output bs s.0) s.1)) sights
 
-abbrev pub place_of_stop : Stop → List ℕ
-place_of_stop (fault why at) = at
-place_of_stop (undecided name at) = at
+abbrev pub hidden : List Broken → List (List ℕ × Sight) → List (List ℕ × Sight)
+hidden bs sights = map (λ s. (s.0, with_outputs_as (hidden_output bs s.0) s.1)) sights
 
-abbrev pub stops_at : List ℕ → Option Stop → Bool
-stops_at at None = false
-stops_at at (Some stop) = bytes_eq at (place_of_stop stop)
+abbrev pub is_not_made : Option Stop → Bool
+is_not_made (Some (fault NotMade at)) = true
+is_not_made _ = false
 
--- the broken output whose mark alone stops the evaluation at this place
-abbrev pub breaks_at : (List (List ℕ × Sight) → Option Stop) → Course → List ℕ → Broken → Bool
-breaks_at stop_over c at b = stops_at at (stop_over (marked (b ∷ []) c.sights))
+abbrev pub is_not_found : Option Stop → Bool
+is_not_found (Some (fault UnknownAttribute at)) = true
+is_not_found _ = false
+
+-- The broken output that the evaluation meets first: all of them count as not made, and it can't be found where this one alone is hidden.
+abbrev pub is_met_first : (List (List ℕ × Sight) → Option Stop) → Course → Broken → Bool
+is_met_first stop_over c b = is_not_made (stop_over (marked c.broken c.sights)) && is_not_found (stop_over (marked c.broken (hidden (b ∷ []) c.sights)))
 
 abbrev pub flaw_for : (List (List ℕ × Sight) → Option Stop) → List ℕ → Course → Stop → Flaw
-flaw_for stop_over stack c stop =
-    if stops_at (place_of_stop stop) (stop_over c.sights) then flaw_at stack stop
-    else option_map_or (λ b. b.flaw) (find (breaks_at stop_over c (place_of_stop stop)) c.broken) (flaw_at stack stop)
+flaw_for stop_over stack c stop = option_map_or (λ b. b.flaw) (find (is_met_first stop_over c) c.broken) (flaw_at stack stop)
 
 -- the flaw of what stops so, over what is seen
 abbrev pub flaw_over : (List (List ℕ × Sight) → Option Stop) → List ℕ → Course → Option Flaw
@@ -234,7 +239,7 @@ with_resource e scope conds seen c r ids =
 
 -- A nested stack: the properties that it may have, its parameters, its template by name, and the limits, in this order.
 abbrev pub is_stack_property : List ℕ → Bool
-is_stack_property name = is_one name (codes "NotificationARNs" ∷ codes "Parameters" ∷ codes "Tags" ∷ codes "TemplateURL" ∷ codes "TimeoutInMinutes" ∷ [])
+is_stack_property name = is_among name (codes "NotificationARNs" ∷ codes "Parameters" ∷ codes "Tags" ∷ codes "TemplateURL" ∷ codes "TimeoutInMinutes" ∷ [])
 
 abbrev pub has_stack_shape : Res → Bool
 has_stack_shape r = list_all (λ p. is_stack_property p.0) r.props && is_some (value_at (codes "TemplateURL") r.props)

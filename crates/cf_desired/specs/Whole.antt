@@ -1,15 +1,14 @@
 -- A source's plan as it is needed once all is known, and what of it rests on no resource.
-use Rattle.std.specs.Prelude.{ℕ, Bool, true, false, ◌&&◌, List, [], ◌∷◌, ◌++◌, Option, Some, None, find, map, filter_map, option_map, is_some, if◌then◌else◌}
-use Rattle.std.specs.List.{list_all}
+use Rattle.std.specs.Prelude.{ℕ, Bool, List, [], ◌∷◌, Option, Some, None, find, map, option_map}
 use Rattle.std.specs.Option.{option_map_or}
 use Rattle.std.specs.Str.{bytes_eq}
 use Rattle.cf_tree.specs.Datum.{Data}
 use Rattle.cf_tree.specs.declared.template.Deletion.{Deletion}
 use Rattle.cf_tree.specs.declared.template.Replace.{Replace}
 use Rattle.cf_tree.specs.declared.source.Source.{Source}
-use Rattle.cf_eval.specs.Outcome.{Outcome, got, later, bad}
+use Rattle.cf_eval.specs.Outcome.{Outcome}
 use Rattle.cf_desired.specs.Flaw.{Flaw}
-use Rattle.cf_desired.specs.Plan.{Seen, Evaluated, flawed, evaluated, Wanted, WantedOutput, Inner, Plan, plan_of}
+use Rattle.cf_desired.specs.Plan.{Seen, Evaluated, flawed, evaluated, Wanted, WantedOutput, Plan, plan_of, value_seen}
 
 -- the plan of a path
 abbrev pub is_wanted_at : List ℕ → Wanted → Bool
@@ -45,20 +44,16 @@ pub record RightOutput : Type 0 where
 abbrev pub right_of : Wanted → Option Right
 right_of w = option_map (λ props. record { path = w.path; kind = w.kind; deletion = w.deletion; replace = w.replace; needs = w.needs; props = props }) (known_of w.props)
 
-abbrev pub got_of : Outcome (List ℕ) → Option (List ℕ)
-got_of (got v) = Some v
-got_of _ = None
-
 abbrev pub export_of : Option (Outcome (List ℕ)) → Option (Option (List ℕ))
 export_of None = Some None
-export_of (Some o) = option_map (λ name. Some name) (got_of o)
+export_of (Some o) = option_map (λ name. Some name) (value_seen o)
 
 abbrev pub with_export : WantedOutput → List ℕ → Option (Option (List ℕ)) → Option RightOutput
 with_export o value None = None
 with_export o value (Some export) = Some (record { name = o.name; value = value; export = export })
 
 abbrev pub right_output : WantedOutput → Option RightOutput
-right_output o = option_map_or (λ value. with_export o value (export_of o.export)) (got_of o.value) None
+right_output o = option_map_or (λ value. with_export o value (export_of o.export)) (value_seen o.value) None
 
 -- f of each of a list, where it is there for all
 abbrev pub all_of : {A B : Type 0} → (A → Option B) → List A → Option (List B)
@@ -66,7 +61,7 @@ all_of f [] = Some []
 all_of f (a ∷ rest) = option_map_or (λ b. option_map (λ bs. b ∷ bs) (all_of f rest)) (f a) None
 
 abbrev pub right_export : List ℕ × Outcome (List ℕ) → Option (List ℕ × List ℕ)
-right_export e = option_map (λ value. (e.0, value)) (got_of e.1)
+right_export e = option_map (λ value. (e.0, value)) (value_seen e.1)
 
 -- the whole map: every path, output and export, where nothing is Later or at fault
 pub record Whole : Type 0 where

@@ -14,7 +14,8 @@ use Rattle.cf_stacks.specs.Words.{current_at}
 use Rattle.cf_desired.specs.Flaw.{Flaw}
 use Rattle.cf_desired.specs.Plan.{Inner}
 use Rattle.cf_export.specs.declared.Export.{Export}
-use Rattle.cf_plan.specs.Forward.{IsDone, is_made, is_updated, is_right, Finding, Bad, Later, Known, evaluated_at, was_updated_at, paths_of, plan_now, first_failing, lost_exports, HasFailed, head, IsBadPath, IsBadOutput}
+use Rattle.cf_graph.specs.Needs.{first_in}
+use Rattle.cf_plan.specs.Forward.{IsDone, is_made, is_updated, is_right, Finding, Bad, Later, Known, evaluated_at, was_updated_at, wanted_paths, plan_now, first_failing, lost_exports, HasFailed, IsBadPath, IsBadOutput}
 use Rattle.cf_examples.proofs.Lists.{each_passes}
 
 -- the text of a property
@@ -51,7 +52,7 @@ is_sound_inner i = not (is_some i.fault)
 -- nothing was refused, no template is at fault, no export is lost
 pub record IsSound (schemas : List Schema) (name : List ℕ) (x : World) (s : StackState) : Type 0 where
   pub calls : first_failing schemas s ≡ None
-  pub paths : list_all (is_sound s) (paths_of s) ≡ true
+  pub paths : list_all (is_sound s) (wanted_paths s) ≡ true
   pub inner : list_all is_sound_inner (plan_now s).nested ≡ true
   pub flaws : (plan_now s).flaws ≡ []
   pub exports : lost_exports name x s ≡ []
@@ -61,29 +62,29 @@ not_failed schemas name x s h failed = elim failed [
   | inl f ↦ let e = f.1 in let g = h.calls in absurd (cc)
   | inr r ↦ elim r [
     | inl bad ↦ elim bad.2 [
-      | inl (ready, e) ↦ absurd (true≢false (sym (each_passes (is_sound s) (paths_of s) bad.0 h.paths ready.0) ∙ ap is_no_fault e))
+      | inl (ready, e) ↦ absurd (true≢false (sym (each_passes (is_sound s) (wanted_paths s) bad.0 h.paths ready.0) ∙ ap is_no_fault e))
       | inr (i, there_is, path, needs, e) ↦ absurd (true≢false (sym (each_passes is_sound_inner (plan_now s).nested i h.inner there_is) ∙ ap (λ f. not (is_some f)) e))
     ]
     | inr q ↦ elim q [
-      | inl (fault, bad) ↦ absurd (no_head fault (subst (λ fs. head fs ≡ Some fault) h.flaws bad.1))
-      | inr (export, lost) ↦ absurd (no_lost export (subst (λ es. option_map (λ (f : Export). f.name) (head es) ≡ Some export) h.exports lost.1))
+      | inl (fault, bad) ↦ absurd (no_head fault (subst (λ fs. first_in fs ≡ Some fault) h.flaws bad.1))
+      | inr (export, lost) ↦ absurd (no_lost export (subst (λ es. option_map (λ (f : Export). f.name) (first_in es) ≡ Some export) h.exports lost.1))
     ]
   ]
 ]
   where
-    no_head : (fault : Flaw) → head [] ≡ Some fault → ⊥
+    no_head : (fault : Flaw) → first_in [] ≡ Some fault → ⊥
     no_head fault e = cc
 
-    no_lost : (export : List ℕ) → option_map (λ (f : Export). f.name) (head []) ≡ Some export → ⊥
+    no_lost : (export : List ℕ) → option_map (λ (f : Export). f.name) (first_in []) ≡ Some export → ⊥
     no_lost export e = cc
 
 -- the first path at fault in byte order: those before it are not at fault
 abbrev pub is_sound_before : StackState → List ℕ → List ℕ → Bool
 is_sound_before s p q = is_sound s q || not (bytes_lt q p)
 
-pub only_bad : (s : StackState) (p : List ℕ) → list_all (is_sound_before s p) (paths_of s) ≡ true → list_all is_sound_inner (plan_now s).nested ≡ true → (q : List ℕ) (other : Flaw) → IsBadPath s q other → bytes_lt q p ≡ false
+pub only_bad : (s : StackState) (p : List ℕ) → list_all (is_sound_before s p) (wanted_paths s) ≡ true → list_all is_sound_inner (plan_now s).nested ≡ true → (q : List ℕ) (other : Flaw) → IsBadPath s q other → bytes_lt q p ≡ false
 only_bad s p all inner q other bad = elim bad [
-  | inl (ready, e) ↦ not_before (is_sound s q) (bytes_lt q p) (ap is_no_fault e) (each_passes (is_sound_before s p) (paths_of s) q all ready.0)
+  | inl (ready, e) ↦ not_before (is_sound s q) (bytes_lt q p) (ap is_no_fault e) (each_passes (is_sound_before s p) (wanted_paths s) q all ready.0)
   | inr (i, there_is, path, needs, e) ↦ absurd (true≢false (sym (each_passes is_sound_inner (plan_now s).nested i inner there_is) ∙ ap (λ f. not (is_some f)) e))
 ]
   where
@@ -93,16 +94,16 @@ only_bad s p all inner q other bad = elim bad [
     not_before false true e f = sym f
 
 -- no path is at fault
-pub no_bad : (s : StackState) → list_all (is_sound s) (paths_of s) ≡ true → list_all is_sound_inner (plan_now s).nested ≡ true → (q : List ℕ) (other : Flaw) → IsBadPath s q other → ⊥
+pub no_bad : (s : StackState) → list_all (is_sound s) (wanted_paths s) ≡ true → list_all is_sound_inner (plan_now s).nested ≡ true → (q : List ℕ) (other : Flaw) → IsBadPath s q other → ⊥
 no_bad s all inner q other bad = elim bad [
-  | inl (ready, e) ↦ true≢false (sym (each_passes (is_sound s) (paths_of s) q all ready.0) ∙ ap is_no_fault e)
+  | inl (ready, e) ↦ true≢false (sym (each_passes (is_sound s) (wanted_paths s) q all ready.0) ∙ ap is_no_fault e)
   | inr (i, there_is, path, needs, e) ↦ true≢false (sym (each_passes is_sound_inner (plan_now s).nested i inner there_is) ∙ ap (λ f. not (is_some f)) e)
 ]
 
 pub no_bad_output : (s : StackState) → (plan_now s).flaws ≡ [] → (other : Flaw) → IsBadOutput s other → ⊥
-no_bad_output s none other bad = no_head (subst (λ fs. head fs ≡ Some other) none bad.1)
+no_bad_output s none other bad = no_head (subst (λ fs. first_in fs ≡ Some other) none bad.1)
   where
-    no_head : head {A = Flaw} [] ≡ Some other → ⊥
+    no_head : first_in {A = Flaw} [] ≡ Some other → ⊥
     no_head e = cc
 
 pub known_props : {k l : List ℕ} {a b : List (List ℕ × Data)} → Known k a ≡ Known l b → a ≡ b

@@ -3,7 +3,7 @@ use Rattle.std.proofs.Common.{◌≡◌, ◌⊎◌, inl, inr, Bool, true, false,
 use Rattle.std.specs.Prelude.{find, flat_map, map, ◌++◌, if◌then◌else◌}
 use Rattle.std.specs.List.{list_all, list_any}
 use Rattle.cf_plan.specs.Forward.{In, here, there}
-use Rattle.cf_plan.specs.Follow.{is_none_of}
+use Rattle.cf_change.specs.Changes.{is_empty}
 
 -- at the head or behind it
 pub in_cons : {A : Type 0} {x y : A} {ys : List A} → In x (y ∷ ys) → (y ≡ x) ⊎ In x ys
@@ -42,8 +42,8 @@ none_passes test (y ∷ ys) x all i = elim (in_cons i) [ inl e ↦ subst (λ z. 
     or_false false b e = (refl, e)
 
 -- a list with something in it
-pub not_empty : {A : Type 0} (xs : List A) → is_none_of xs ≡ false → xs ≡ [] → ⊥
-not_empty xs e none = true≢false (sym (ap is_none_of none) ∙ e)
+pub not_empty : {A : Type 0} (xs : List A) → is_empty xs ≡ false → xs ≡ [] → ⊥
+not_empty xs e none = true≢false (sym (ap is_empty none) ∙ e)
 
 -- what is found passes, and is one of the list
 pub found_passes : {A : Type 0} (test : A → Bool) (xs : List A) (x : A) → find test xs ≡ Some x → (test x ≡ true) × In x xs

@@ -16,7 +16,8 @@ use Rattle.cf_entry.specs.declared.entry.Entry.{Entry}
 use Rattle.cf_stacks.specs.declared.state.StackState.{StackState}
 use Rattle.cf_stacks.specs.declared.state.World.{World}
 use Rattle.cf_stacks.specs.Status.{Stage, stage_of}
-use Rattle.cf_stacks.specs.Words.{stack_of_operation, resources_of, is_among}
+use Rattle.cf_graph.specs.Needs.{is_among}
+use Rattle.cf_stacks.specs.Words.{stack_of_operation, resources_of}
 use Rattle.cf_plan.specs.Follow.{MayFollow, IsLegal, MayFollowIn, MayFollowOn, is_failed_path, is_bad_last, last_at, has_path}
 
 some_is : {A : Type 0} {a b : A} → Some a ≡ Some b → a ≡ b

@@ -1,7 +1,6 @@
 -- Which names an expression refers to in the places that are evaluated (template reference: Ref, Fn::GetAtt, Fn::Sub, and of Fn::If the taken branch alone).
-use Rattle.std.specs.Prelude.{ℕ, Bool, true, false, not, List, [], ◌∷◌, ◌++◌, Option, Some, None, map, filter, flat_map, is_some, codes, if◌then◌else◌}
+use Rattle.std.specs.Prelude.{ℕ, Bool, true, false, List, [], ◌∷◌, ◌++◌, Option, Some, None, map, flat_map, is_some, codes, if◌then◌else◌}
 use Rattle.cf_funcs.specs.Pieces.{cut_at}
-use Rattle.cf_tree.specs.Datum.{Data}
 use Rattle.cf_tree.specs.Keys.{value_at}
 use Rattle.cf_tree.specs.Forms.{Form, Node, Forms, Fields, expr, lit, ref, get_att, sub, join, select, split, choice, find_in_map, import_value, base64, no_forms, form, no_fields, field, fields_of}
 use Rattle.cf_tree.specs.Forms as node

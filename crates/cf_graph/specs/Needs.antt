@@ -1,5 +1,5 @@
 -- What each resource of a template needs, the order of work, and the refusals (User Guide: DependsOn and references; how the order and a cycle are told is this project's own).
-use Rattle.std.specs.Prelude.{ℕ, zero, suc, ◌==◌, Bool, true, false, ◌&&◌, ◌||◌, not, List, [], ◌∷◌, ◌++◌, Option, Some, None, Result, Ok, Err, find, filter, filter_map, flat_map, map, option_map, is_some, length, codes, if◌then◌else◌}
+use Rattle.std.specs.Prelude.{ℕ, zero, suc, Bool, true, false, ◌&&◌, ◌||◌, not, List, [], ◌∷◌, ◌++◌, Option, Some, None, Result, Ok, Err, find, filter, filter_map, flat_map, map, option_map, is_some, length, codes, if◌then◌else◌}
 use Rattle.std.specs.List.{list_any, list_all}
 use Rattle.std.specs.Option.{option_or, option_map_or}
 use Rattle.std.specs.Str.{bytes_eq}
@@ -41,12 +41,12 @@ abbrev pub meant : Template → Mention → Option (List ℕ)
 meant t (by_ref name) = if is_parameter name t then None else Some name
 meant t (by_attribute name) = Some name
 
-abbrev pub is_one : List ℕ → List (List ℕ) → Bool
-is_one name names = list_any (λ n. bytes_eq name n) names
+abbrev pub is_among : List ℕ → List (List ℕ) → Bool
+is_among name names = list_any (λ n. bytes_eq name n) names
 
 -- the properties that are evaluated: of a nested stack, its template and its parameters alone
 abbrev pub is_evaluated : List ℕ → List ℕ → Bool
-is_evaluated kind name = not (bytes_eq kind (codes "AWS::CloudFormation::Stack")) || is_one name (codes "TemplateURL" ∷ codes "Parameters" ∷ [])
+is_evaluated kind name = not (bytes_eq kind (codes "AWS::CloudFormation::Stack")) || is_among name (codes "TemplateURL" ∷ codes "Parameters" ∷ [])
 
 abbrev pub evaluated_props : Res → List (List ℕ × Form)
 evaluated_props r = filter (λ p. is_evaluated r.kind p.0) r.props
@@ -57,7 +57,7 @@ referred_to t conds r = filter_map (meant t) (fields_mentions (holds_in conds) (
 
 -- what a resource needs: each made resource that it names, in byte order
 abbrev pub needs_in : Template → List (List ℕ × Verdict) → Res → List (List ℕ)
-needs_in t conds r = map (λ m. m.name) (filter (λ m. is_made conds m && is_one m.name (referred_to t conds r)) t.resources)
+needs_in t conds r = map (λ m. m.name) (filter (λ m. is_made conds m && is_among m.name (referred_to t conds r)) t.resources)
 
 -- all made resources with what each needs
 abbrev pub all_needs : Template → List (List ℕ × Verdict) → List (List ℕ × List (List ℕ))
@@ -83,7 +83,7 @@ needed_by all name = option_map_or (λ ns. ns) (value_at name all) []
 
 abbrev pub walks : List (List ℕ × List (List ℕ)) → List ℕ → ℕ → List ℕ → List (List (List ℕ))
 walks all start zero name = []
-walks all start (suc zero) name = if is_one start (needed_by all name) then (name ∷ []) ∷ [] else []
+walks all start (suc zero) name = if is_among start (needed_by all name) then (name ∷ []) ∷ [] else []
 walks all start (suc (suc n)) name = flat_map (λ q. map (λ w. name ∷ w) (walks all start (suc n) q)) (needed_by all name)
 
 -- the shortest from a resource, of at most so many steps

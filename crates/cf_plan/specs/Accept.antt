@@ -1,5 +1,5 @@
 -- When a source is accepted before anything is called: its texts are templates, its plan has no flaw, its types have lanes, its imports are just those that it uses, no export is taken, and something changes.
-use Rattle.std.specs.Prelude.{◌≡◌, ◌≢◌, ℕ, ◌==◌, ◌⊎◌, Bool, true, false, ◌&&◌, ◌||◌, not, List, [], ◌∷◌, ◌++◌, Option, Some, None, IsTrue, filter, find, map, length, if◌then◌else◌}
+use Rattle.std.specs.Prelude.{◌≡◌, ◌≢◌, ℕ, ◌⊎◌, Bool, true, false, ◌&&◌, ◌||◌, not, List, [], Some, IsTrue, filter, map}
 use Rattle.std.specs.List.{list_any, list_all}
 use Rattle.std.specs.Str.{bytes_eq}
 use Rattle.cf_tree.specs.Keys.{value_at}
@@ -14,9 +14,10 @@ use Rattle.cf_stacks.specs.declared.held.Held.{Held}
 use Rattle.cf_stacks.specs.declared.held.Output.{Output}
 use Rattle.cf_stacks.specs.declared.state.StackState.{StackState}
 use Rattle.cf_stacks.specs.declared.state.World.{World}
-use Rattle.cf_stacks.specs.Words.{is_among}
-use Rattle.cf_change.specs.Changes.{HeldAt, HeldOutput, Changes, Found, changes_of, found_of, is_empty}
-use Rattle.cf_desired.specs.Plan.{Seen, Plan, plan_of}
+use Rattle.cf_graph.specs.Needs.{is_among}
+use Rattle.cf_stacks.specs.Words.{all_differ}
+use Rattle.cf_change.specs.Changes.{HeldAt, HeldOutput, Changes, changes_of, found_of, is_empty}
+use Rattle.cf_desired.specs.Plan.{Seen, plan_of}
 
 -- what a stack holds, as a change set compares it
 abbrev pub held_as : Held → HeldAt
@@ -28,8 +29,12 @@ output_as o = record { name = o.name; value = o.value; export = o.export }
 abbrev pub held_by : StackState → List HeldAt
 held_by s = map held_as s.held
 
+-- the exports of a stack
+abbrev pub exports_in : List ℕ → World → List Export
+exports_in name x = filter (λ e. bytes_eq name e.stack) x.exports
+
 abbrev pub exports_by : List ℕ → World → List (List ℕ × List ℕ)
-exports_by name x = map (λ e. (e.name, e.value)) (filter (λ e. bytes_eq name e.stack) x.exports)
+exports_by name x = map (λ e. (e.name, e.value)) (exports_in name x)
 
 abbrev pub changes_on : List Schema → List ℕ → World → StackState → Source → Changes
 changes_on schemas name x s source = changes_of schemas (held_by s) (map output_as s.outputs) (exports_by name x) source
@@ -57,12 +62,8 @@ pub record ImportsWhatItUses (name : List ℕ) (x : World) (source : Source) (se
 abbrev pub is_exported_elsewhere : List ℕ → World → List ℕ → Bool
 is_exported_elsewhere name x export = list_any (λ e. bytes_eq export e.name && not (bytes_eq name e.stack)) x.exports || list_any (pins_name export name) x.claims
 
-abbrev pub are_unique : List (List ℕ) → Bool
-are_unique [] = true
-are_unique (n ∷ ns) = not (is_among n ns) && are_unique ns
-
 abbrev pub are_free : List ℕ → World → List (List ℕ) → Bool
-are_free name x exports = are_unique exports && not (list_any (is_exported_elsewhere name x) exports)
+are_free name x exports = all_differ bytes_eq exports && not (list_any (is_exported_elsewhere name x) exports)
 
 -- An export of this stack is taken away where another stack pins it and the new outputs no longer export its name (User Guide, "Get exported outputs from a deployed stack").
 abbrev pub is_taken_away : List ℕ → World → List (List ℕ) → Export → Bool

@@ -1,43 +1,36 @@
 -- The journal and the lanes agree (this project's own): what the lanes that are handed in tell fits what the journal says of them. A lane that was left out has made late moves alone since.
-use Rattle.std.specs.Prelude.{◌≡◌, ◌≢◌, ℕ, ◌==◌, ◌<◌, ◌≤◌, ◌⊎◌, Bool, true, false, List, Option, Some, None, IsTrue, find}
+use Rattle.std.specs.Prelude.{◌≡◌, ℕ, ◌==◌, ◌<◌, ◌≤◌, ◌⊎◌, true, false, List, Some, None, IsTrue, map}
 use Rattle.std.specs.Str.{bytes_eq}
 use Rattle.cf_tree.specs.Datum.{Data}
 use Rattle.cf_tree.specs.declared.request.Request.{Request}
-use Rattle.cf_tree.specs.declared.request.Request.TheVariants as request
 use Rattle.cf_handler.specs.declared.settled.Settled.{Settled}
 use Rattle.cf_handler.specs.Lane.{Live, live_of, settlement_of, is_used}
 use Rattle.cf_handler.specs.Fence.{Flying, live_at, settled_at}
 use Rattle.cf_handler.specs.Move.{IsOfLane}
 use Rattle.cf_entry.specs.declared.entry.Entry.{Entry}
-use Rattle.cf_entry.specs.declared.status.Status.{Status}
-use Rattle.cf_entry.specs.declared.status.Status.TheVariants as status
 use Rattle.cf_stacks.specs.declared.held.Held.{Held}
 use Rattle.cf_stacks.specs.declared.held.Pending.{Pending}
 use Rattle.cf_stacks.specs.declared.state.StackState.{StackState}
 use Rattle.cf_stacks.specs.declared.state.World.{World}
 use Rattle.cf_stacks.specs.Status.{is_in_progress, is_complete}
-use Rattle.cf_stacks.specs.Words.{stack_at, id_named}
-use Rattle.cf_stacks.specs.Operation.{Call, Answered, calls_in, replies_in, is_doubt}
+use Rattle.cf_stacks.specs.Words.{stack_at, id_named, all_differ}
+use Rattle.cf_stacks.specs.Operation.{Call, Answered, call_at, replies_in, is_doubt}
 use Rattle.cf_stacks.specs.Fold.{empty_world, fold_of}
 use Rattle.cf_plan.specs.Forward.{In}
 use Rattle.cf_plan.specs.Follow.{IsLegal, is_opened_since}
 use Rattle.cf_schema.specs.declared.described.Schema.{Schema}
-use Rattle.cf_plan.specs.Lanes.{Lane, lane_at, all_resources, all_tokens, ids_of, differ, is_leftover, is_abandoned, open_at, told_of, gone_by, Effect, Nothing, Made, Set, effect_of, IsAnswered}
-
--- the call of a token, as the journal has it
-abbrev pub call_at : ℕ → List Entry → Option Call
-call_at token entries = find (λ c. token == c.token) (calls_in entries)
+use Rattle.cf_plan.specs.Lanes.{Lane, AreLanes, AreSchemas, lane_at, all_resources, ids_of, is_leftover, is_abandoned, open_at, told_of, gone_by, Made, Set, effect_of, IsAnswered}
 
 -- a token's call is the one that the journal has, and that is open
-pub record FitsCall (entries : List Entry) (x : World) (lane : Lane) (token : ℕ) (r : Request) : Type 0 where
+pub record FitsCall (entries : List Entry) (x : World) (lane : List ℕ) (token : ℕ) (r : Request) : Type 0 where
   pub number : token ≤ x.token
-  pub written : (c : Call) → call_at token entries ≡ Some c → (c.lane ≡ lane.name) × (c.request ≡ r)
-  pub is_open : (p : Pending) → open_at token x ≡ Some p → (p.lane ≡ lane.name) × (p.request ≡ r)
+  pub written : (c : Call) → call_at token entries ≡ Some c → (c.lane ≡ lane) × (c.request ≡ r)
+  pub is_open : (p : Pending) → open_at token x ≡ Some p → (p.lane ≡ lane) × (p.request ≡ r)
 
--- What a call that may act later can still change is known: it is open, or its resource is a leftover, or it is a create that was abandoned.
-abbrev pub IsAccounted : World → Flying → Type 0
-IsAccounted x f =
-    ((p : Pending) × (open_at f.token x ≡ Some p)) ⊎ ((id : List ℕ) × (id_named f.request ≡ Some id) × IsTrue (is_leftover id x)) ⊎ ((id_named f.request ≡ None) × IsTrue (is_abandoned f.token x))
+-- What a call can still change is known: it is open, or its resource is a leftover, or it is a create that was abandoned.
+abbrev pub IsAccounted : World → ℕ → Request → Type 0
+IsAccounted x token r =
+    ((p : Pending) × (open_at token x ≡ Some p)) ⊎ ((id : List ℕ) × (id_named r ≡ Some id) × IsTrue (is_leftover id x)) ⊎ ((id_named r ≡ None) × IsTrue (is_abandoned token x))
 
 -- no operation of the stack is in progress, and an opening stands after its last end
 abbrev pub IsAtRest : StackState → Type 0
@@ -76,21 +69,25 @@ IsListed x lanes lane id =
 
 -- the entries, the world that they leave, and the lanes
 pub record Ties (entries : List Entry) (x : World) (lanes : List Lane) : Type 0 where
+  -- a lane settles each token once, and what was live before has ids of the lane, no two the same
+  pub settled_once : (l : Lane) → In l lanes → all_differ ◌==◌ (map (λ s. s.token) l.state.state.settled) ≡ true
+  pub base_once : (l : Lane) → In l lanes → all_differ bytes_eq (map (λ v. v.id) l.state.state.base) ≡ true
+  pub base_named : (l : Lane) (v : Live) → In l lanes → In v l.state.state.base → IsOfLane l.name v.id
   -- each token is one of the journal's, on its lane and with its request
-  pub settled_calls : (l : Lane) (s : Settled) → In l lanes → In s l.state.state.settled → FitsCall entries x l s.token s.request
-  pub flying_calls : (l : Lane) (f : Flying) → In l lanes → In f l.state.flying → FitsCall entries x l f.token f.request
+  pub settled_calls : (l : Lane) (s : Settled) → In l lanes → In s l.state.state.settled → FitsCall entries x l.name s.token s.request
+  pub flying_calls : (l : Lane) (f : Flying) → In l lanes → In f l.state.flying → FitsCall entries x l.name f.token f.request
   -- what the journal says was answered
   pub answers :
       (c : Call) (r : Answered) (l : Lane) → In r (replies_in entries) → is_doubt r.answer ≡ false → call_at r.token entries ≡ Some c → lane_at c.lane lanes ≡ Some l → (s : Settled) × (settled_at r.token l.state ≡ Some s) × (told_of s.settlement ≡ r.answer)
   -- what may act later is accounted for, and is of no later opening
-  pub flying_open : (l : Lane) (f : Flying) → In l lanes → In f l.state.flying → settlement_of f.token l.state.state.settled ≡ None → l.state.fence ≤ f.epoch → IsAccounted x f
+  pub flying_open : (l : Lane) (f : Flying) → In l lanes → In f l.state.flying → settlement_of f.token l.state.state.settled ≡ None → l.state.fence ≤ f.epoch → IsAccounted x f.token f.request
   pub flying_epochs : (l : Lane) (f : Flying) → In l lanes → In f l.state.flying → f.epoch ≤ x.epoch
   pub flying_at_rest :
       (l : Lane) (f : Flying) (name : List ℕ) (s : StackState) (p : Pending) → In l lanes → In f l.state.flying → settlement_of f.token l.state.state.settled ≡ None → stack_at name x ≡ Some s → IsAtRest s → In p s.tokens → p.token ≡ f.token → f.epoch < x.epoch
   -- no lane is ahead of the journal
   pub fences : (l : Lane) → In l lanes → l.state.fence ≤ x.epoch
   -- ids, and what is live under them
-  pub ids_differ : differ (ids_of x) ≡ true
+  pub ids_differ : all_differ bytes_eq (ids_of x) ≡ true
   pub ids_known : (id : List ℕ) (l : Lane) → In id (ids_of x) → IsHome lanes id l → is_used id l.state.state ≡ true
   pub gone : (r : Held) (l : Lane) → In r (all_resources x) → IsHome lanes r.physical l → IsGone x lanes r.physical → live_at r.physical l.state ≡ None
   pub alive :
@@ -108,6 +105,9 @@ pub record Ties (entries : List Entry) (x : World) (lanes : List Lane) : Type 0 
       (l : Lane) (v : Live) → In l lanes → In v (live_of l.state.state) → IsListed x lanes l v.id
 
 pub record Agrees (schemas : List Schema) (entries : List Entry) (lanes : List Lane) : Type 0 where
+  -- the lanes have names of their own, and a schema for each type
+  pub named : AreLanes lanes
+  pub described : AreSchemas schemas lanes
   -- each entry was allowed where it stands
   pub legal : IsLegal schemas empty_world entries
   pub ties : Ties entries (fold_of empty_world entries) lanes

@@ -1,11 +1,8 @@
 -- Which resource of a stack needs which (User Guide, DependsOn and references: what is needed is made before and deleted after what needs it).
-use Rattle.std.specs.Prelude.{ℕ, Bool, true, false, ◌&&◌, ◌||◌, not, List, [], ◌∷◌, ◌++◌, Option, Some, None, filter, if◌then◌else◌}
+use Rattle.std.specs.Prelude.{ℕ, Bool, ◌&&◌, not, List, filter}
 use Rattle.std.specs.List.{list_any}
-use Rattle.std.specs.Str.{bytes_eq}
 use Rattle.cf_stacks.specs.declared.held.Held.{Held}
-use Rattle.cf_stacks.specs.declared.held.Pending.{Pending}
 use Rattle.cf_stacks.specs.declared.state.StackState.{StackState}
-use Rattle.cf_desired.specs.Plan.{Wanted}
 use Rattle.cf_stacks.specs.Words.{current_at, resource_at, is_create}
 use Rattle.cf_stacks.specs.Fold.{is_physical_of, wanted_in, needs_of_wanted, seen_in}
 

@@ -1,8 +1,6 @@
 -- What stands where an operation has ended: the new template is live, the earlier resources are back, nothing is left, or the failed paths are told and blamed (User Guide: stack status codes).
-use Rattle.std.specs.Prelude.{◌≡◌, ◌≢◌, ℕ, ◌==◌, ◌<◌, ◌⊎◌, ◌↔◌, Bool, true, false, List, [], ◌∷◌, Option, Some, None, IsTrue, map, flat_map, filter, find}
-use Rattle.std.specs.Str.{bytes_eq}
+use Rattle.std.specs.Prelude.{◌≡◌, ◌≢◌, ℕ, ◌↔◌, false, List, [], Option, Some, map, filter, find}
 use Rattle.cf_tree.specs.Keys.{value_at}
-use Rattle.cf_tree.specs.declared.request.Request.{Request}
 use Rattle.cf_handler.specs.Lane.{Live}
 use Rattle.cf_handler.specs.Fence.{live_at}
 use Rattle.cf_handler.specs.Move.{IsOfLane, HasRisen}
@@ -10,14 +8,14 @@ use Rattle.cf_export.specs.declared.Export.{Export}
 use Rattle.cf_entry.specs.declared.entry.Entry.{Entry}
 use Rattle.cf_tree.specs.declared.source.Source.{Source}
 use Rattle.cf_stacks.specs.declared.held.Held.{Held}
-use Rattle.cf_stacks.specs.declared.held.Output.{Output}
 use Rattle.cf_stacks.specs.declared.state.StackState.{StackState}
 use Rattle.cf_stacks.specs.declared.state.World.{World}
-use Rattle.cf_desired.specs.Plan.{Seen, SeenAt}
+use Rattle.cf_desired.specs.Plan.{Seen}
 use Rattle.cf_desired.specs.Whole.{Right, Whole, whole_of}
-use Rattle.cf_stacks.specs.Words.{current_at, is_at}
-use Rattle.cf_stacks.specs.Operation.{Call, Answered, calls_in, replies_in, is_of, is_success}
+use Rattle.cf_stacks.specs.Words.{current_at}
+use Rattle.cf_stacks.specs.Operation.{Call, Answered, call_at, replies_in, is_of, is_success}
 use Rattle.cf_stacks.specs.Fold.{export_by, output_from, is_right_at}
+use Rattle.cf_plan.specs.Accept.{exports_in}
 use Rattle.cf_plan.specs.Forward.{In}
 use Rattle.cf_plan.specs.Lanes.{Lane, lane_at}
 
@@ -49,10 +47,6 @@ pub record IsWholeLive (lanes : List Lane) (s : StackState) (whole : Whole) : Ty
   pub nothing_else : (r : Held) → In r s.held → current_at r.path s.held ≡ Some r
   pub outputs : s.outputs ≡ map output_from whole.outputs
 
--- the exports of a stack
-abbrev pub exports_in : List ℕ → World → List Export
-exports_in name x = filter (λ e. bytes_eq name e.stack) x.exports
-
 pub record IsComplete (name : List ℕ) (x : World) (s : StackState) (lanes : List Lane) : Type 0 where
   pub settled : IsSettled s
   pub evaluated : (source : Source) × (seen : Seen) × (whole : Whole) × (s.source ≡ Some source) × Sees lanes s seen × (whole_of source seen ≡ Some whole) × IsWholeLive lanes s whole × ((e : Export) → In e (exports_in name x) ↔ In e (map (export_by name) whole.exports))
@@ -73,7 +67,7 @@ pub record IsCleared (s : StackState) : Type 0 where
 pub record IsBlamedFor (entries : List Entry) (number : ℕ) (path : List ℕ) : Type 0 where
   pub reply : Answered
   pub call : Call
-  pub of_call : find (λ c. reply.token == c.token) (calls_in entries) ≡ Some call
+  pub of_call : call_at reply.token entries ≡ Some call
   pub at_path : call.path ≡ path
   pub stands : In reply (replies_in (filter (is_of number) entries))
   pub failed : is_success reply.answer ≡ false

@@ -1,16 +1,15 @@
 -- Which entry may follow a world (this project's own; what each phase does is that of the User Guide: stack updates, rollbacks and deletions).
-use Rattle.std.specs.Prelude.{◌≡◌, ◌≢◌, ℕ, ◌+◌, ◌-◌, ◌^◌, ◌==◌, ◌<◌, ◌≤◌, ◌⊎◌, ◌↔◌, Bool, true, false, ◌&&◌, ◌||◌, not, List, [], ◌∷◌, ◌++◌, Option, Some, None, IsTrue, nat_lt, nat_le, is_some, filter, find, map, flat_map, length, reverse, MatchBool, if◌then◌else◌}
+use Rattle.std.specs.Prelude.{◌≡◌, ◌≢◌, ℕ, ◌+◌, ◌==◌, ◌≤◌, ◌⊎◌, ◌↔◌, Bool, true, false, ◌&&◌, ◌||◌, not, List, [], ◌∷◌, Option, Some, None, IsTrue, nat_lt, is_some, filter, find, map, flat_map, length, reverse, MatchBool, if◌then◌else◌}
 use Rattle.std.specs.List.{list_any, list_all}
 use Rattle.std.specs.Option.{option_map_or}
 use Rattle.cf_tree.specs.Datum.{Data}
 use Rattle.std.specs.Str.{bytes_eq}
-use Rattle.cf_tree.specs.Keys.{bytes_lt}
 use Rattle.cf_tree.specs.declared.request.Request.{Request}
 use Rattle.cf_tree.specs.declared.request.Request.TheVariants as request
-use Rattle.cf_tree.specs.declared.code.Code.{Code}
 use Rattle.cf_tree.specs.declared.code.Code.TheVariants as code
 use Rattle.cf_export.specs.Export.{pins_name}
 use Rattle.cf_handler.specs.Move.{HasRisen, IsOfLane}
+use Rattle.cf_entry.specs.Entry.{texts_ascend}
 use Rattle.cf_entry.specs.declared.entry.Entry.{Entry}
 use Rattle.cf_entry.specs.declared.entry.Entry.TheVariants as entry
 use Rattle.cf_entry.specs.declared.entry.Begun.{Begun}
@@ -34,17 +33,18 @@ use Rattle.cf_tree.specs.declared.template.Replace.TheVariants as replace
 use Rattle.cf_stacks.specs.declared.held.Pending.{Pending}
 use Rattle.cf_stacks.specs.declared.state.StackState.{StackState}
 use Rattle.cf_stacks.specs.declared.state.World.{World}
-use Rattle.cf_stacks.specs.Status.{Stage, Forward, Clean, Back, BackClean, Gone, stage_of, is_in_progress}
-use Rattle.cf_stacks.specs.Words.{stack_at, stack_of_operation, current_at, resource_at, resources_of, has_physical, is_create, is_create_at, is_on, is_among, pending_of}
-use Rattle.cf_stacks.specs.Fold.{known_stack, is_physical_of, source_for, world_after}
-use Rattle.cf_stacks.specs.Operation.{Call, Answered, after_last, calls_in, replies_in, own_of, doubts_of, is_new, deletions_of, refusals_of, deletes, updates, was_updated, was_restored, was_skipped, was_refused, is_refusal, is_doubt, call_of, paths_of, rollback_of}
+use Rattle.cf_stacks.specs.Status.{Stage, Forward, Clean, Back, BackClean, Gone, stage_of}
+use Rattle.cf_graph.specs.Needs.{is_among}
+use Rattle.cf_stacks.specs.Words.{stack_at, stack_of_operation, current_at, resources_of, is_update, is_create_at, pending_of}
+use Rattle.cf_stacks.specs.Fold.{known_stack, source_for, world_after}
+use Rattle.cf_stacks.specs.Operation.{Call, Answered, after_last, calls_in, replies_in, own_of, doubts_of, is_new, deletions_of, refusals_of, deletes, updates, was_updated, was_restored, was_skipped, was_refused, is_refusal, call_of, named_paths, rollback_of}
 use Rattle.cf_plan.specs.Between.{is_needed_by_held, is_needed_by_made, is_needed_by_create}
-use Rattle.cf_plan.specs.Forward.{In, IsDone, IsReady, AllDone, HasFailed, IsCause, Finding, Known, evaluated_at, was_answered_at, is_excused, kind_of_held}
+use Rattle.cf_plan.specs.Forward.{In, IsDone, IsReady, AllDone, HasFailed, IsCause, Known, evaluated_at, was_answered_at}
 use Rattle.cf_schema.specs.declared.described.Schema.{Schema}
 use Rattle.cf_schema.specs.declared.changed.Difference.{Difference}
 use Rattle.cf_schema.specs.declared.changed.Difference.TheVariants.{Same, Update, MayReplace, Replace as ToReplace}
 use Rattle.cf_schema.specs.Change.{difference_of}
-use Rattle.cf_change.specs.Changes.{schema_of}
+use Rattle.cf_change.specs.Changes.{schema_of, is_empty}
 use Rattle.cf_plan.specs.Accept.{IsAccepted, IsReviewed, creates_from}
 
 -- Policies (template reference, DeletionPolicy and UpdateReplacePolicy): a rollback deletes what the operation made unless it is Retain; every other deletion keeps RetainExceptOnCreate too.
@@ -71,7 +71,7 @@ keeps Forward s r = false
 keeps Clean s r = keeps_superseded (current_at r.path s.held) r
 keeps Back s r = is_retained r.deletion
 keeps BackClean s r = is_retained r.deletion
-keeps Gone s r = is_retained_or_excepted r.deletion || is_among r.path (paths_of s)
+keeps Gone s r = is_retained_or_excepted r.deletion || is_among r.path (named_paths s)
 
 -- What a phase deletes, but for what keeps it, for lanes that are out and for open tokens. Only the cleanups delete predecessors, removed resources and what an update made.
 abbrev pub has_no_need : StackState → Held → Bool
@@ -148,7 +148,7 @@ is_free path s = not (list_any (λ p. bytes_eq path p.path) s.tokens)
 
 -- a call of an open token that is not out, with fewer than three doubts in this phase and opening
 abbrev pub may_repeat : Stage → List ℕ → StackState → Pending → Bool
-may_repeat Gone out s p = not (is_out out p.token) && (nat_lt (doubts_of p.token s) 3 && not (is_among p.path (paths_of s)))
+may_repeat Gone out s p = not (is_out out p.token) && (nat_lt (doubts_of p.token s) 3 && not (is_among p.path (named_paths s)))
 may_repeat stage out s p = not (is_out out p.token) && nat_lt (doubts_of p.token s) 3
 
 abbrev pub MayRepeat : List Schema → List ℕ → World → List ℕ → StackState → Stage → Pending → Type 0
@@ -194,7 +194,7 @@ pub record MayIntend (schemas : List Schema) (name : List ℕ) (x : World) (out 
 
 -- Keeping a resource: its policy or the command keeps what the phase would delete; in the cleanups also what could not be deleted.
 abbrev pub is_to_retain : Stage → StackState → List ℕ → Bool
-is_to_retain Gone s path = is_among path (paths_of s)
+is_to_retain Gone s path = is_among path (named_paths s)
 is_to_retain _ s path = false
 
 abbrev pub is_cleanup : Stage → Bool
@@ -209,7 +209,7 @@ is_cleaned _ s = []
 
 abbrev pub KeepsRetained : Stage → List ℕ → StackState → List ℕ → List ℕ → Type 0
 KeepsRetained stage out s path physical =
-    ((r : Held) × MayDelete stage s r × (waits_for_repeats stage out s ≡ false) × (keeps stage s r ≡ true) × (path ≡ r.path) × (physical ≡ r.physical) × ((is_free path s ≡ true) ⊎ (is_to_retain stage s path ≡ true))) ⊎ ((stage ≡ Gone) × (physical ≡ []) × (is_among path (paths_of s) ≡ true) × IsTrue (list_any (is_create_at path) s.tokens))
+    ((r : Held) × MayDelete stage s r × (waits_for_repeats stage out s ≡ false) × (keeps stage s r ≡ true) × (path ≡ r.path) × (physical ≡ r.physical) × ((is_free path s ≡ true) ⊎ (is_to_retain stage s path ≡ true))) ⊎ ((stage ≡ Gone) × (physical ≡ []) × (is_among path (named_paths s) ≡ true) × IsTrue (list_any (is_create_at path) s.tokens))
 
 abbrev pub is_deletion_of : List ℕ → Pending → Bool
 is_deletion_of physical p = deletes physical p.request
@@ -223,12 +223,8 @@ MayKeep stage out s path physical why.Failed = KeepsUndeleted stage s path physi
 MayKeep stage out s path physical why.Doubt = KeepsUndeleted stage s path physical × (p : Pending) × In p s.tokens × IsTrue (is_deletion_of physical p) × (3 ≤ doubts_of p.token s)
 
 -- A later phase begins.
-abbrev pub is_update_call : Request → Bool
-is_update_call (request.Update physical props) = true
-is_update_call _ = false
-
 abbrev pub has_refused_restore : StackState → Bool
-has_refused_restore s = list_any (λ c. is_update_call c.request && was_refused s c) (filter (λ c. c.number == s.operation) (calls_in (rollback_of s)))
+has_refused_restore s = list_any (λ c. is_update c.request && was_refused s c) (filter (λ c. c.number == s.operation) (calls_in (rollback_of s)))
 
 abbrev pub MayTurn : List Schema → List ℕ → World → StackState → Phase → Option Cause → Type 0
 MayTurn schemas name x s phase.Clean None = (s.status ≡ status.UpdateInProgress) × ¬ HasFailed schemas name x s × AllDone s
@@ -249,19 +245,15 @@ abbrev pub IsAtEnd : List Schema → List ℕ → World → StackState → Stage
 IsAtEnd schemas name x s stage = ((e : Entry) → MayStep schemas name x [] s stage e → ⊥) × ((p : Pending) → MayRepeat schemas name x [] s stage p → ⊥)
 
 -- The status in which an operation ends.
-abbrev pub is_none_of : {A : Type 0} → List A → Bool
-is_none_of [] = true
-is_none_of (a ∷ rest) = false
-
-abbrev pub is_empty : StackState → Bool
-is_empty s = is_none_of (resources_of s) && is_none_of s.tokens
+abbrev pub is_cleared : StackState → Bool
+is_cleared s = is_empty (resources_of s) && is_empty s.tokens
 
 abbrev pub EndsAs : List Schema → List ℕ → World → StackState → Status → Status → Type 0
 EndsAs schemas name x s status.CreateInProgress status.CreateComplete = ¬ HasFailed schemas name x s × AllDone s
-EndsAs schemas name x s status.RollbackInProgress status.RollbackComplete = is_empty s ≡ true
-EndsAs schemas name x s status.RollbackInProgress status.RollbackFailed = is_empty s ≡ false
-EndsAs schemas name x s status.DeleteInProgress status.DeleteComplete = is_empty s ≡ true
-EndsAs schemas name x s status.DeleteInProgress status.DeleteFailed = is_empty s ≡ false
+EndsAs schemas name x s status.RollbackInProgress status.RollbackComplete = is_cleared s ≡ true
+EndsAs schemas name x s status.RollbackInProgress status.RollbackFailed = is_cleared s ≡ false
+EndsAs schemas name x s status.DeleteInProgress status.DeleteComplete = is_cleared s ≡ true
+EndsAs schemas name x s status.DeleteInProgress status.DeleteFailed = is_cleared s ≡ false
 EndsAs schemas name x s status.UpdateCompleteCleanupInProgress status.UpdateComplete = Unit {0}
 EndsAs schemas name x s status.UpdateRollbackCompleteCleanupInProgress status.UpdateRollbackComplete = Unit {0}
 EndsAs schemas name x s status.UpdateRollbackInProgress status.UpdateRollbackFailed = Unit {0}
@@ -294,14 +286,9 @@ is_bad_last s (Some r) = is_bad_outcome (call_of r.token s) r.answer
 abbrev pub is_failed_path : StackState → List ℕ → Bool
 is_failed_path s path = is_bad_last s (last_at path s) || list_any (λ r. bytes_eq path r.path && nat_lt 0 (refusals_of r.physical s)) (resources_of s)
 
-abbrev pub ascends_names : List (List ℕ) → Bool
-ascends_names [] = true
-ascends_names (a ∷ []) = true
-ascends_names (a ∷ b ∷ rest) = bytes_lt a b && ascends_names (b ∷ rest)
-
 abbrev pub AreFailed : StackState → Status → List (List ℕ) → Type 0
 AreFailed s state failed =
-    MatchBool (is_failed_status state) (IsTrue (ascends_names failed) × ((p : List ℕ) → In p failed ↔ IsTrue (is_failed_path s p))) (failed ≡ [])
+    MatchBool (is_failed_status state) (IsTrue (texts_ascend failed) × ((p : List ℕ) → In p failed ↔ IsTrue (is_failed_path s p))) (failed ≡ [])
 
 -- Beginning an operation, and keeping a change set.
 abbrev pub failed_in : Entry → List (List ℕ)
@@ -357,13 +344,13 @@ are_among paths all = list_all (λ p. is_among p all) paths
 
 abbrev pub may_retain : Status → StackState → List (List ℕ) → Bool
 may_retain status.DeleteFailed s paths = are_among paths (failed_of s)
-may_retain _ s paths = is_none_of paths
+may_retain _ s paths = is_empty paths
 
 abbrev pub BeginsBy : List Schema → List ℕ → World → ℕ → StackState → Begun → Type 0
 BeginsBy schemas name x number s (begin.Create source) = IsAccepted schemas (map (λ l. l.1) x.lanes) name x s (source_for name number source)
 BeginsBy schemas name x number s (begin.Update source) = IsAccepted schemas (map (λ l. l.1) x.lanes) name x s (source_for name s.number source)
-BeginsBy schemas name x number s (begin.Delete paths) = IsTrue (ascends_names paths) × IsTrue (may_retain s.status s paths) × (is_pinned_export name x ≡ false)
-BeginsBy schemas name x number s (begin.Continue paths) = IsTrue (ascends_names paths) × IsTrue (are_among paths (failed_of s)) × IsTrue (is_opened_since s)
+BeginsBy schemas name x number s (begin.Delete paths) = IsTrue (texts_ascend paths) × IsTrue (may_retain s.status s paths) × (is_pinned_export name x ≡ false)
+BeginsBy schemas name x number s (begin.Continue paths) = IsTrue (texts_ascend paths) × IsTrue (are_among paths (failed_of s)) × IsTrue (is_opened_since s)
 
 abbrev pub MayBegin : List Schema → World → ℕ → List ℕ → Begun → Type 0
 MayBegin schemas x number name k = (number ≡ x.operation + 1) × IsTrue (begins_from k (known_stack name x).status) × BeginsBy schemas name x number (known_stack name x) k

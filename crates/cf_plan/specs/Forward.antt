@@ -1,5 +1,5 @@
 -- The forward phase: which paths are done and which are ready, when it has failed, and why.
-use Rattle.std.specs.Prelude.{◌≡◌, ◌≢◌, ℕ, ◌+◌, ◌==◌, ◌<◌, ◌≤◌, ◌⊎◌, Bool, true, false, ◌&&◌, ◌||◌, not, List, [], ◌∷◌, ◌++◌, Option, Some, None, IsTrue, nat_le, count_by, filter, find, map, option_map, if◌then◌else◌}
+use Rattle.std.specs.Prelude.{◌≡◌, ℕ, ◌==◌, ◌⊎◌, Bool, true, false, ◌&&◌, not, List, [], ◌∷◌, ◌++◌, Option, Some, None, IsTrue, count_by, filter, find, map, option_map, if◌then◌else◌}
 use Rattle.std.specs.List.{list_any}
 use Rattle.std.specs.Option.{option_or, option_map_or}
 use Rattle.std.specs.Str.{bytes_eq}
@@ -10,11 +10,9 @@ use Rattle.cf_tree.specs.declared.request.Request.TheVariants as request
 use Rattle.cf_tree.specs.declared.code.Code.{Code}
 use Rattle.cf_tree.specs.declared.code.Code.TheVariants as code
 use Rattle.cf_export.specs.declared.Export.{Export}
-use Rattle.cf_export.specs.declared.Pin.{Pin}
-use Rattle.cf_export.specs.Export.{holds_name, pins_name}
+use Rattle.cf_export.specs.Export.{pins_name}
 use Rattle.cf_entry.specs.declared.entry.Entry.{Entry}
 use Rattle.cf_entry.specs.declared.entry.Entry.TheVariants as entry
-use Rattle.cf_entry.specs.declared.entry.Reply.{Reply}
 use Rattle.cf_entry.specs.declared.entry.Reply.TheVariants as reply
 use Rattle.cf_entry.specs.declared.turn.Reason.{Reason}
 use Rattle.cf_entry.specs.declared.turn.Reason.TheVariants as reason
@@ -22,8 +20,6 @@ use Rattle.cf_entry.specs.declared.turn.Cause.{Cause}
 use Rattle.cf_entry.specs.declared.turn.Cause.TheVariants as cause
 use Rattle.cf_tree.specs.declared.source.Source.{Source}
 use Rattle.cf_stacks.specs.declared.held.Held.{Held}
-use Rattle.cf_stacks.specs.declared.held.Output.{Output}
-use Rattle.cf_stacks.specs.declared.held.Pending.{Pending}
 use Rattle.cf_stacks.specs.declared.state.StackState.{StackState}
 use Rattle.cf_stacks.specs.declared.state.World.{World}
 use Rattle.cf_schema.specs.declared.described.Schema.{Schema}
@@ -31,13 +27,14 @@ use Rattle.cf_schema.specs.declared.changed.Difference.{Difference}
 use Rattle.cf_schema.specs.declared.changed.Difference.TheVariants.{MayReplace}
 use Rattle.cf_schema.specs.Change.{difference_of}
 use Rattle.cf_change.specs.Changes.{schema_of}
-use Rattle.cf_eval.specs.Outcome.{Outcome, got, later, bad}
+use Rattle.cf_eval.specs.Outcome.{Outcome, got}
 use Rattle.cf_desired.specs.Flaw.{Flaw}
-use Rattle.cf_desired.specs.Plan.{Seen, Evaluated, flawed, evaluated, Wanted, Inner, Plan, plan_of, no_plan}
+use Rattle.cf_desired.specs.Plan.{Seen, Evaluated, flawed, evaluated, Inner, Plan, plan_of, no_plan}
 use Rattle.cf_desired.specs.Whole.{wanted_at, known_props_from}
-use Rattle.cf_stacks.specs.Words.{current_at, has_physical, is_among}
+use Rattle.cf_graph.specs.Needs.{first_in}
+use Rattle.cf_stacks.specs.Words.{current_at, has_physical, is_update}
 use Rattle.cf_stacks.specs.Fold.{seen_in, seen_now}
-use Rattle.cf_stacks.specs.Operation.{Call, calls_in, replies_in, own_of, now_of, forward_of, doubts_of, call_of, succeeded, is_doubt, up_to_last, is_turn_or_opening}
+use Rattle.cf_stacks.specs.Operation.{Call, calls_in, replies_in, own_of, now_of, forward_of, call_of, succeeded, is_doubt, up_to_last, is_turn_or_opening}
 use Rattle.cf_plan.specs.Between.{needs_at}
 use Rattle.cf_plan.specs.FlawText.{flaw_text}
 
@@ -58,8 +55,8 @@ abbrev pub plan_now : StackState → Plan
 plan_now s = plan_in s.going (seen_now s)
 
 -- the paths of the operation's template
-abbrev pub paths_of : StackState → List (List ℕ)
-paths_of s = map (λ w. w.path) (plan_before s).wanted
+abbrev pub wanted_paths : StackState → List (List ℕ)
+wanted_paths s = map (λ w. w.path) (plan_before s).wanted
 
 -- what the properties of a path come to: a fault, not known yet, or known
 pub data Finding : Type 0 where
@@ -79,10 +76,6 @@ finding k (evaluated ps) = known_or_later k (known_props_from ps)
 abbrev pub evaluated_at : List ℕ → StackState → Finding
 evaluated_at path s = option_map_or (λ w. finding w.kind w.props) (wanted_at path (plan_now s)) Later
 
-abbrev pub is_update : Request → Bool
-is_update (request.Update physical props) = true
-is_update _ = false
-
 -- this operation's update of the path succeeded
 abbrev pub was_updated_at : List ℕ → StackState → Bool
 was_updated_at path s = list_any (λ c. bytes_eq path c.path && (is_update c.request && succeeded s c)) (calls_in (own_of s))
@@ -98,14 +91,14 @@ was_answered_at path s = list_any (λ c. bytes_eq path c.path && (is_update c.re
 pub data IsDone (s : StackState) : List ℕ → Type 0 where
   is_made : {p : List ℕ} (r : Held) → current_at p s.made ≡ Some r → IsDone s p
   is_updated : {p : List ℕ} → IsTrue (was_updated_at p s) → IsDone s p
-  is_right : {p k : List ℕ} (h : Held) → In p (paths_of s) → ((q : List ℕ) → In q (needs_at p s) → IsDone s q) → current_at p s.held ≡ Some h → h.unsure ≡ false → evaluated_at p s ≡ Known k h.props → IsDone s p
+  is_right : {p k : List ℕ} (h : Held) → In p (wanted_paths s) → ((q : List ℕ) → In q (needs_at p s) → IsDone s q) → current_at p s.held ≡ Some h → h.unsure ≡ false → evaluated_at p s ≡ Known k h.props → IsDone s p
 
 -- a path is ready where all that it needs are done
 abbrev pub IsReady : StackState → List ℕ → Type 0
-IsReady s p = In p (paths_of s) × ((q : List ℕ) → In q (needs_at p s) → IsDone s q)
+IsReady s p = In p (wanted_paths s) × ((q : List ℕ) → In q (needs_at p s) → IsDone s q)
 
 abbrev pub AllDone : StackState → Type 0
-AllDone s = (p : List ℕ) → In p (paths_of s) → IsDone s p
+AllDone s = (p : List ℕ) → In p (wanted_paths s) → IsDone s p
 
 -- An update that is answered NotUpdatable where a conditional create-only property differs is no failure: a new resource is made in its place.
 abbrev pub is_conditional : Difference → Bool
@@ -164,13 +157,9 @@ IsBadNested s p fault =
 abbrev pub IsBadPath : StackState → List ℕ → Flaw → Type 0
 IsBadPath s p fault = IsBadAt s p fault ⊎ IsBadNested s p fault
 
-abbrev pub head : {A : Type 0} → List A → Option A
-head [] = None
-head (a ∷ rest) = Some a
-
 -- where all paths are done, the first flaw is that of an output
 abbrev pub IsBadOutput : StackState → Flaw → Type 0
-IsBadOutput s fault = AllDone s × (head (plan_now s).flaws ≡ Some fault)
+IsBadOutput s fault = AllDone s × (first_in (plan_now s).flaws ≡ Some fault)
 
 -- An export that another stack pins would be gone, or have another value.
 abbrev pub keeps_value : Export → List ℕ × Outcome (List ℕ) → Bool
@@ -184,7 +173,7 @@ abbrev pub lost_exports : List ℕ → World → StackState → List Export
 lost_exports name x s = filter (is_lost name x (plan_now s)) x.exports
 
 abbrev pub IsLostExport : List ℕ → World → StackState → List ℕ → Type 0
-IsLostExport name x s export = AllDone s × (option_map (λ e. e.name) (head (lost_exports name x s)) ≡ Some export)
+IsLostExport name x s export = AllDone s × (option_map (λ e. e.name) (first_in (lost_exports name x s)) ≡ Some export)
 
 -- the forward phase of this stack has failed
 abbrev pub HasFailed : List Schema → List ℕ → World → StackState → Type 0

@@ -1,5 +1,5 @@
 -- The lanes that are handed in, and what the journal and the lanes tell of an id and of a token.
-use Rattle.std.specs.Prelude.{◌≡◌, ◌≢◌, ℕ, ◌==◌, ◌⊎◌, Bool, true, false, ◌&&◌, ◌||◌, not, List, [], ◌∷◌, ◌++◌, Option, Some, None, IsTrue, is_some, find, filter, map, flat_map, if◌then◌else◌}
+use Rattle.std.specs.Prelude.{◌≡◌, ℕ, ◌==◌, Bool, true, IsTrue, not, List, ◌++◌, Option, Some, None, find, filter, map, flat_map}
 use Rattle.std.specs.List.{list_any, list_all}
 use Rattle.std.specs.Str.{bytes_eq}
 use Rattle.cf_tree.specs.Datum.{Data}
@@ -18,15 +18,9 @@ use Rattle.cf_stacks.specs.declared.held.Held.{Held}
 use Rattle.cf_stacks.specs.declared.held.Leftover.{Leftover}
 use Rattle.cf_stacks.specs.declared.held.Pending.{Pending}
 use Rattle.cf_stacks.specs.declared.held.GivenUp.{GivenUp}
-use Rattle.cf_stacks.specs.declared.state.StackState.{StackState}
 use Rattle.cf_stacks.specs.declared.state.World.{World}
-use Rattle.cf_stacks.specs.Words.{resources_of, is_id, id_named}
+use Rattle.cf_stacks.specs.Words.{resources_of, all_differ}
 use Rattle.cf_stacks.specs.Fold.{unknown_id}
-
--- no text stands twice
-abbrev pub differ : List (List ℕ) → Bool
-differ [] = true
-differ (id ∷ ids) = not (list_any (λ other. bytes_eq id other) ids) && differ ids
 
 -- a lane that is handed in
 pub record Lane : Type 0 where
@@ -37,14 +31,14 @@ pub record Lane : Type 0 where
 -- each has a lane's name, and no two have the same
 pub record AreLanes (lanes : List Lane) : Type 0 where
   pub named : IsTrue (list_all (λ l. is_lane_name l.name) lanes)
-  pub names_differ : differ (map (λ l. l.name) lanes) ≡ true
+  pub names_differ : all_differ bytes_eq (map (λ l. l.name) lanes) ≡ true
 
 -- there is one schema for each type, and one for the type of each lane
 abbrev pub is_described : List Schema → List ℕ → Bool
 is_described schemas kind = list_any (λ g. bytes_eq kind g.kind) schemas
 
 pub record AreSchemas (schemas : List Schema) (lanes : List Lane) : Type 0 where
-  pub kinds_differ : differ (map (λ g. g.kind) schemas) ≡ true
+  pub kinds_differ : all_differ bytes_eq (map (λ g. g.kind) schemas) ≡ true
   pub described : IsTrue (list_all (λ l. is_described schemas l.kind) lanes)
 
 abbrev pub lane_at : List ℕ → List Lane → Option Lane

@@ -1,16 +1,15 @@
 -- The life of an engine (this project's own): openings, appends that end whole or broken, calls, late effects, crashes. Each event says what it leaves.
-use Rattle.std.specs.Prelude.{◌≡◌, ◌≢◌, ℕ, ◌==◌, ◌<◌, ◌≤◌, ◌⊎◌, Bool, true, false, ◌&&◌, not, List, [], ◌∷◌, ◌++◌, Option, Some, None, IsTrue, is_none, find, filter, map, option_map, if◌then◌else◌}
-use Rattle.std.specs.List.{list_any}
+use Rattle.std.specs.Prelude.{◌≡◌, ℕ, ◌==◌, ◌≤◌, Bool, true, false, not, List, [], ◌∷◌, ◌++◌, Option, Some, None, IsTrue, find, filter, map, option_map, if◌then◌else◌}
 use Rattle.std.specs.Option.{option_or}
 use Rattle.std.specs.Str.{bytes_eq}
 use Rattle.cf_tree.specs.declared.request.Request.{Request}
 use Rattle.cf_tree.specs.declared.request.Answer.{Answer}
 use Rattle.cf_tree.specs.declared.request.Answer.TheVariants as answer
 use Rattle.cf_handler.specs.declared.settled.Settlement.{Settlement}
+use Rattle.cf_handler.specs.declared.settled.Settlement.TheVariants as settlement
 use Rattle.cf_handler.specs.Lane.{live_of, settlement_of}
 use Rattle.cf_handler.specs.Move.{HasCause}
 use Rattle.cf_handler.specs.Fence.{FencedLane, CallMove, IsStale, Left, left_by, late_by, LateMove, FenceAnswer, FenceMove, raised_to}
-use Rattle.cf_handler.specs.Answered.{answer_of}
 use Rattle.cf_entry.specs.declared.entry.Entry.{Entry}
 use Rattle.cf_entry.specs.declared.entry.Entry.TheVariants as entry
 use Rattle.cf_entry.specs.declared.entry.Reply.TheVariants as reply
@@ -18,12 +17,13 @@ use Rattle.cf_stacks.specs.declared.held.Pending.{Pending}
 use Rattle.cf_stacks.specs.declared.state.StackState.{StackState}
 use Rattle.cf_stacks.specs.declared.state.World.{World}
 use Rattle.cf_stacks.specs.Status.{Stage, stage_of}
-use Rattle.cf_stacks.specs.Words.{stack_at, has_token}
+use Rattle.cf_stacks.specs.Words.{stack_at, has_token, all_differ}
 use Rattle.cf_stacks.specs.Fold.{empty_world, fold_of}
 use Rattle.cf_plan.specs.Forward.{In}
 use Rattle.cf_plan.specs.Follow.{MayFollow, MayRepeat, is_lane_out}
 use Rattle.cf_schema.specs.declared.described.Schema.{Schema}
-use Rattle.cf_plan.specs.Lanes.{Lane, AreLanes, AreSchemas, lane_at, open_at}
+use Rattle.cf_plan.specs.Lanes.{Lane, AreLanes, AreSchemas, lane_at}
+use Rattle.cf_plan.specs.Agrees.{Agrees, FitsCall, IsAccounted}
 
 -- what a call came to: an answer, or that its opening is past
 pub data CallEnd : Type 0 where
@@ -222,6 +222,28 @@ abbrev pub life_of : Life → List Event → Life
 life_of life [] = life
 life_of life (e ∷ es) = life_of (life_after life e) es
 
+-- A lease is a promise of one call: no two are of one token, each has its own call, which is open or accounted for, and an answer that it has for good is the settled one of its token.
+abbrev pub settlement_in : Answer → Option Settlement
+settlement_in (answer.Success physical attrs) = Some (settlement.Success physical attrs)
+settlement_in (answer.Failed code) = Some (settlement.Failed code)
+settlement_in _ = None
+
+abbrev pub settled_reply : CallEnd → Option Settlement
+settled_reply (Answered a before after) = settlement_in a
+settled_reply (Stale fence) = None
+
+pub record AreLeased (life : Life) : Type 0 where
+  pub once : all_differ ◌==◌ (tokens_out life) ≡ true
+  pub own_call : (lease : Lease) → In lease life.leases → FitsCall life.entries (world_of life) lease.lane lease.token lease.request
+  pub accounted : (lease : Lease) → In lease life.leases → IsAccounted (world_of life) lease.token lease.request
+  pub settled :
+      (lease : Lease) (reply : CallEnd) (s : Settlement) (lane : Lane) → In lease life.leases → lease.reply ≡ Some reply → settled_reply reply ≡ Some s → lane_at lease.lane life.lanes ≡ Some lane → settlement_of lease.token lane.state.state.settled ≡ Some s
+
+-- what holds at each moment of a life: journal and lanes agree, and the leases are sound
+pub record Holds (schemas : List Schema) (life : Life) : Type 0 where
+  pub agrees : Agrees schemas life.entries life.lanes
+  pub leased : AreLeased life
+
 -- a new journal, over lanes on which nothing was ever called or is live
 pub record IsStart (schemas : List Schema) (life : Life) : Type 0 where
   pub no_entries : life.entries ≡ []
@@ -230,17 +252,3 @@ pub record IsStart (schemas : List Schema) (life : Life) : Type 0 where
   pub named : AreLanes life.lanes
   pub described : AreSchemas schemas life.lanes
   pub untouched : (l : Lane) → In l life.lanes → (l.state.state.settled ≡ []) × (l.state.flying ≡ []) × (l.state.fence ≡ 0) × (live_of l.state.state ≡ [])
-
--- no number stands twice
-abbrev pub are_apart : List ℕ → Bool
-are_apart [] = true
-are_apart (n ∷ ns) = not (list_any (λ m. n == m) ns) && are_apart ns
-
--- A lease is of a call of its own: tokens differ, each is at most the last one, and is open with this call where it is open.
-pub record AreLeases (life : Life) : Type 0 where
-  pub tokens_apart : are_apart (tokens_out life) ≡ true
-  pub numbered : (l : Lease) → In l life.leases → l.token ≤ (world_of life).token
-  pub open_calls : (l : Lease) (p : Pending) → In l life.leases → open_at l.token (world_of life) ≡ Some p → (p.lane ≡ l.lane) × (p.request ≡ l.request)
-  -- the answer that a lease has, if it is final, is the settled answer of its token on its lane
-  pub answered :
-      (l : Lease) (a : Answer) (before after : ℕ) (s : Settlement) (lane : Lane) → In l life.leases → l.reply ≡ Some (Answered a before after) → answer_of s ≡ a → lane_at l.lane life.lanes ≡ Some lane → settlement_of l.token lane.state.state.settled ≡ Some s

@@ -4,7 +4,6 @@ use Rattle.std.specs.Fmt.{decimal}
 use Rattle.cf_tree.specs.Codes.{name_of}
 use Rattle.cf_tree.specs.declared.request.Request.{Request}
 use Rattle.cf_tree.specs.declared.request.Request.TheVariants as request
-use Rattle.cf_tree.specs.declared.code.Code.{Code}
 use Rattle.cf_tree.specs.declared.code.Code.TheVariants as code
 use Rattle.cf_entry.specs.declared.entry.Entry.{Entry}
 use Rattle.cf_entry.specs.declared.entry.Reply.{Reply}

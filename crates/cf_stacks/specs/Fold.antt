@@ -1,13 +1,12 @@
 -- Folding the journal: the world after each entry, as a table over the kinds of entry (this project's own; what a stack holds and its statuses are those of the User Guide).
-use Rattle.std.specs.Prelude.{ℕ, ◌+◌, ◌==◌, Bool, true, false, ◌&&◌, ◌||◌, not, List, [], ◌∷◌, ◌++◌, Option, Some, None, is_some, map, filter, flat_map, fold, find, codes, if◌then◌else◌}
+use Rattle.std.specs.Prelude.{ℕ, ◌+◌, ◌==◌, Bool, true, false, ◌&&◌, ◌||◌, not, List, [], ◌∷◌, ◌++◌, Option, Some, None, map, filter, fold, find, codes, if◌then◌else◌}
 use Rattle.std.specs.List.{list_any}
 use Rattle.std.specs.Option.{option_map_or}
 use Rattle.std.specs.Str.{bytes_eq}
 use Rattle.cf_tree.specs.Datum.{Data}
-use Rattle.cf_tree.specs.Keys.{value_at, put, bytes_lt}
+use Rattle.cf_tree.specs.Keys.{put, bytes_lt}
 use Rattle.cf_tree.specs.declared.request.Request.{Request}
 use Rattle.cf_tree.specs.declared.request.Request.TheVariants as request
-use Rattle.cf_tree.specs.declared.code.Code.{Code}
 use Rattle.cf_tree.specs.declared.code.Code.TheVariants as code
 use Rattle.cf_export.specs.declared.Export.{Export}
 use Rattle.cf_export.specs.declared.Pin.{Pin}
@@ -38,10 +37,11 @@ use Rattle.cf_tree.specs.declared.template.Replace.{Replace}
 use Rattle.cf_tree.specs.declared.template.Replace.TheVariants as replace
 use Rattle.cf_stacks.specs.declared.state.StackState.{StackState}
 use Rattle.cf_stacks.specs.declared.state.World.{World}
-use Rattle.cf_stacks.specs.Status.{begun, turned, is_in_progress}
-use Rattle.cf_desired.specs.Plan.{Seen, SeenAt, Wanted, plan_of}
+use Rattle.cf_stacks.specs.Status.{begun, turned}
+use Rattle.cf_desired.specs.Plan.{Seen, Wanted, plan_of}
 use Rattle.cf_desired.specs.Whole.{Right, RightOutput, Whole, wanted_at, whole_of, export_names_of}
-use Rattle.cf_stacks.specs.Words.{stack_at, is_going, stack_of_operation, where_going, has_physical, is_at, current_at, resource_at, resources_of, without, where_physical, has_token, pending_of, without_token, is_on, is_create, is_create_at, is_among}
+use Rattle.cf_graph.specs.Needs.{is_among}
+use Rattle.cf_stacks.specs.Words.{stack_at, stack_of_operation, where_going, has_physical, current_at, resource_at, resources_of, without, where_physical, has_token, pending_of, without_token, is_on, is_create, is_create_at}
 use Rattle.cf_stacks.specs.Event.{lines_of, event_line}
 use Rattle.cf_stacks.specs.Operation.{calls_in, rollback_of}
 

@@ -1,19 +1,17 @@
 -- What a stack's entries tell of its operation: its calls, their answers, and how often a call was tried.
-use Rattle.std.specs.Prelude.{ℕ, ◌==◌, Bool, true, false, ◌&&◌, ◌||◌, not, List, [], ◌∷◌, ◌++◌, Option, Some, None, length, find, filter, filter_map, flat_map, count_by, if◌then◌else◌}
+use Rattle.std.specs.Prelude.{ℕ, ◌==◌, Bool, true, false, ◌&&◌, List, [], ◌∷◌, Option, Some, None, find, filter, filter_map, flat_map, count_by, if◌then◌else◌}
 use Rattle.std.specs.List.{list_any}
 use Rattle.std.specs.Str.{bytes_eq}
 use Rattle.cf_tree.specs.declared.request.Request.{Request}
 use Rattle.cf_tree.specs.declared.request.Request.TheVariants as request
 use Rattle.cf_tree.specs.declared.code.Code.TheVariants as code
 use Rattle.cf_entry.specs.declared.entry.Entry.{Entry}
-use Rattle.cf_entry.specs.declared.entry.Begun.{Begun}
-use Rattle.cf_entry.specs.declared.entry.Begun.TheVariants as begin
+use Rattle.cf_entry.specs.Entry.{paths_of}
 use Rattle.cf_entry.specs.declared.entry.Reply.{Reply}
 use Rattle.cf_stacks.specs.declared.state.StackState.{StackState}
-use Rattle.cf_stacks.specs.declared.held.Pending.{Pending}
 use Rattle.cf_entry.specs.declared.entry.Entry.TheVariants as entry
 use Rattle.cf_entry.specs.declared.entry.Reply.TheVariants as reply
-use Rattle.cf_stacks.specs.Words.{is_among}
+use Rattle.cf_graph.specs.Needs.{is_among}
 
 -- what stands behind the last that passes; all where none does
 abbrev pub after_last : {A : Type 0} → (A → Bool) → List A → List A
@@ -122,8 +120,11 @@ abbrev pub is_new : ℕ → StackState → Bool
 is_new token s = list_any (λ c. token == c.token) (calls_in (now_of s))
 
 -- the call of a token
+abbrev pub call_at : ℕ → List Entry → Option Call
+call_at token es = find (λ c. token == c.token) (calls_in es)
+
 abbrev pub call_of : ℕ → StackState → Option Call
-call_of token s = find (λ c. token == c.token) (calls_in s.entries)
+call_of token s = call_at token s.entries
 
 -- the call deletes this resource
 abbrev pub deletes : List ℕ → Request → Bool
@@ -169,18 +170,13 @@ abbrev pub was_restored : List ℕ → StackState → Bool
 was_restored physical s = list_any (λ c. updates physical c.request && succeeded s c) (calls_in (rollback_of s))
 
 -- the paths that a continued rollback, or a deletion, names
-abbrev pub named_by : Begun → List (List ℕ)
-named_by (begin.Delete paths) = paths
-named_by (begin.Continue paths) = paths
-named_by _ = []
-
 abbrev pub named_in : Entry → List (List ℕ)
-named_in (entry.Begin number stack kind) = named_by kind
+named_in (entry.Begin number stack kind) = paths_of kind
 named_in _ = []
 
 -- the paths that the last operation names: those to retain, of a deletion
-abbrev pub paths_of : StackState → List (List ℕ)
-paths_of s = flat_map named_in (own_of s)
+abbrev pub named_paths : StackState → List (List ℕ)
+named_paths s = flat_map named_in (own_of s)
 
 -- a continued rollback since the update began skips the path
 abbrev pub was_skipped : List ℕ → StackState → Bool

@@ -3,11 +3,10 @@ use Rattle.std.specs.Prelude.{ℕ, ◌==◌, Bool, true, false, ◌&&◌, not, L
 use Rattle.std.specs.List.{list_any}
 use Rattle.std.specs.Option.{option_or}
 use Rattle.std.specs.Str.{bytes_eq}
-use Rattle.cf_tree.specs.Keys.{value_at, put}
+use Rattle.cf_tree.specs.Keys.{value_at}
 use Rattle.cf_tree.specs.declared.request.Request.{Request}
 use Rattle.cf_tree.specs.declared.request.Request.TheVariants as request
 use Rattle.cf_stacks.specs.declared.held.Held.{Held}
-use Rattle.cf_stacks.specs.declared.held.Leftover.{Leftover}
 use Rattle.cf_stacks.specs.declared.held.Pending.{Pending}
 use Rattle.cf_stacks.specs.declared.state.StackState.{StackState}
 use Rattle.cf_stacks.specs.declared.state.World.{World}
@@ -82,6 +81,10 @@ is_id physical (Some other) = bytes_eq physical other
 abbrev pub is_on : List ℕ → Pending → Bool
 is_on physical p = is_id physical (id_named p.request)
 
+abbrev pub is_update : Request → Bool
+is_update (request.Update physical props) = true
+is_update _ = false
+
 abbrev pub is_create : Request → Bool
 is_create (request.Create kind props) = true
 is_create _ = false
@@ -90,6 +93,7 @@ is_create _ = false
 abbrev pub is_create_at : List ℕ → Pending → Bool
 is_create_at path p = is_create p.request && bytes_eq path p.path
 
--- one of the texts
-abbrev pub is_among : List ℕ → List (List ℕ) → Bool
-is_among text texts = list_any (λ t. bytes_eq text t) texts
+-- no two of a list are the same, where a test tells which are
+abbrev pub all_differ : {A : Type 0} → (A → A → Bool) → List A → Bool
+all_differ same [] = true
+all_differ same (a ∷ rest) = not (list_any (same a) rest) && all_differ same rest
