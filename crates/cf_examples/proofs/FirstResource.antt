@@ -35,10 +35,10 @@ world_4 = world_after world_3 answered
 abbrev app_at : World → StackState
 app_at x = known_stack (codes "app") x
 
-opens : MayFollow schemas empty_world [] opened
+pub opens : MayFollow schemas empty_world [] opened
 opens = (refl, refl, λ name s e. absurd (cc))
 
-begins : MayFollow schemas world_1 [] begun
+pub begins : MayFollow schemas world_1 [] begun
 unfolding computing
 begins = (
   refl,
@@ -62,7 +62,7 @@ ready_2 : IsReady (app_at world_2) (codes "Web")
 unfolding computing
 ready_2 = (here, λ q i. absurd (in_none i))
 
-intends : MayFollow schemas world_2 [] intended
+pub intends : MayFollow schemas world_2 [] intended
 unfolding computing
 intends = (
   codes "app",
@@ -80,7 +80,7 @@ intends = (
   },
 )
 
-answers : MayFollow schemas world_3 (1 ∷ []) answered
+pub answers : MayFollow schemas world_3 (1 ∷ []) answered
 unfolding computing
 answers = (codes "app", app_at world_3, Forward, refl, refl, (refl, refl, lit≤ tt))
 
@@ -92,7 +92,7 @@ sound_4 : ¬ HasFailed schemas (codes "app") world_4 (app_at world_4)
 unfolding computing
 sound_4 = not_failed schemas (codes "app") world_4 (app_at world_4) (record { calls = refl; paths = refl; inner = refl; flaws = refl; exports = refl })
 
-ends : MayFollow schemas world_4 [] done
+pub ends : MayFollow schemas world_4 [] done
 unfolding computing
 ends = (codes "app", app_at world_4, Forward, refl, refl, (refl, end_of_create schemas (codes "app") world_4 (app_at world_4) refl all_done sound_4 refl, (sound_4, all_done), refl))
 

@@ -18,3 +18,5 @@ pub mod Skipped
 pub mod Retained
 pub mod Nested
 pub mod Pinned
+pub mod Ends
+pub mod FirstLife

@@ -15,6 +15,8 @@ ghost use Rattle.cf_examples.specs.LateEffect as a_late_effect_run;
 ghost use Rattle.cf_examples.specs.Skipped as a_skipped_update_run;
 ghost use Rattle.cf_examples.specs.Retained as a_retained_resource_run;
 ghost use Rattle.cf_examples.specs.Nested as a_nested_stack_run;
+ghost use Rattle.cf_examples.specs.Ends.{ReplacementIsComplete, LateEffectIsRestored, RollbackIsCleared, FailuresAreBlamed};
+ghost use Rattle.cf_examples.specs.FirstLife.{Lives, HoldsInTheEnd};
 ghost use Rattle.cf_examples.specs.Pinned as a_pinned_export_run;
 
 /// A stack of one file: the whole world that is left is told. A creation in doubt may not be tried again under another token.
@@ -101,10 +103,11 @@ pub fn a_retained_resource()
     ensures kept_too_early { a_retained_resource_run.KeptTooEarly }
 {}
 
-/// A nested stack.
+/// A nested stack; of two of its outputs that are at fault, the one that is named first is told.
 pub fn a_nested_stack()
     ensures legal { a_nested_stack_run.Legal }
     ensures shows { a_nested_stack_run.Shows }
+    ensures first_named { a_nested_stack_run.FirstNamedIsTold }
 {}
 
 /// An exported value that another stack imports stays, and its stack may not be deleted.
@@ -113,4 +116,18 @@ pub fn a_pinned_export()
     ensures shows { a_pinned_export_run.Shows }
     ensures changed_though_pinned { a_pinned_export_run.ChangedThoughPinned }
     ensures deleted_though_pinned { a_pinned_export_run.DeletedThoughPinned }
+{}
+
+/// The ends: the new template is live, the earlier resources are back, nothing is left, and the failed paths are blamed.
+pub fn the_ends()
+    ensures complete { ReplacementIsComplete }
+    ensures restored { LateEffectIsRestored }
+    ensures cleared { RollbackIsCleared }
+    ensures blamed { FailuresAreBlamed }
+{}
+
+/// The first resource as the life of an engine, from a new journal on: in the end journal and lanes agree.
+pub fn the_first_life()
+    ensures lives { Lives }
+    ensures holds { HoldsInTheEnd }
 {}
