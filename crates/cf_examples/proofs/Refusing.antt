@@ -94,5 +94,10 @@ legal_step x y e es out may leads rest = ((out, may), subst (λ z. IsLegal schem
 pub fold_step : (x y : World) (e : Entry) (es : List Entry) {z : World} → world_after x e ≡ y → fold_of y es ≡ z → fold_of x (e ∷ es) ≡ z
 fold_step x y e es {z} leads rest = ap (λ w. fold_of w es) leads ∙ rest
 
+-- an entry of a legal list may follow where it stands
+legal_at : (x : World) (before : List Entry) (e : Entry) (rest : List Entry) → IsLegal schemas x (before ++ e ∷ rest) → (out : List ℕ) × MayFollow schemas (fold_of x before) out e
+legal_at x [] e rest legal = legal.0
+legal_at x (b ∷ before) e rest legal = legal_at (world_after x b) before e rest legal.1
+
 pub refused_at : (x : World) (before : List Entry) (e : Entry) → fold_of empty_world before ≡ x → ((out : List ℕ) → MayFollow schemas x out e → ⊥) → IsRefusedAfter before e
-refused_at x before e arrives may_not = λ out may. may_not out (subst (λ w. MayFollow schemas w out e) arrives may)
+refused_at x before e arrives may_not = λ rest legal. let m = legal_at empty_world before e rest legal in may_not m.0 (subst (λ w. MayFollow schemas w m.0 e) arrives m.1)

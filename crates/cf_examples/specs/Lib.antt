@@ -13,5 +13,6 @@ pub mod Skipped
 pub mod Retained
 pub mod Nested
 pub mod Pinned
+pub mod Reviewed
 pub mod Ends
 pub mod FirstLife

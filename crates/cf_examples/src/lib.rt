@@ -13,6 +13,7 @@ ghost use Rattle.cf_examples.specs.Blamed as who_is_blamed_run;
 ghost use Rattle.cf_examples.specs.NotUpdatable as an_update_becomes_a_replacement_run;
 ghost use Rattle.cf_examples.specs.LateEffect as a_late_effect_run;
 ghost use Rattle.cf_examples.specs.Skipped as a_skipped_update_run;
+ghost use Rattle.cf_examples.specs.Reviewed as a_change_set_run;
 ghost use Rattle.cf_examples.specs.Retained as a_retained_resource_run;
 ghost use Rattle.cf_examples.specs.Nested as a_nested_stack_run;
 ghost use Rattle.cf_examples.specs.Ends.{ReplacementIsComplete, LateEffectIsRestored, RollbackIsCleared, FailuresAreBlamed};
@@ -23,6 +24,7 @@ ghost use Rattle.cf_examples.specs.Pinned as a_pinned_export_run;
 pub fn the_first_resource()
     ensures legal { the_first_resource_run.Legal }
     ensures leaves { the_first_resource_run.Leaves }
+    ensures doubt { the_first_resource_run.DoubtIsLegal }
     ensures another_token { the_first_resource_run.RetriedUnderAnotherToken }
 {}
 
@@ -116,6 +118,13 @@ pub fn a_pinned_export()
     ensures shows { a_pinned_export_run.Shows }
     ensures changed_though_pinned { a_pinned_export_run.ChangedThoughPinned }
     ensures deleted_though_pinned { a_pinned_export_run.DeletedThoughPinned }
+{}
+
+/// A change set, with the rows that its report shows; another list of rows is refused.
+pub fn a_change_set()
+    ensures legal { a_change_set_run.Legal }
+    ensures shows { a_change_set_run.Shows }
+    ensures other_rows { a_change_set_run.OtherRows }
 {}
 
 /// The ends: the new template is live, the earlier resources are back, nothing is left, and the failed paths are blamed.
