@@ -14,6 +14,9 @@ ghost use Rattle.cf_examples.specs.NotUpdatable as an_update_becomes_a_replaceme
 ghost use Rattle.cf_examples.specs.LateEffect as a_late_effect_run;
 ghost use Rattle.cf_examples.specs.Skipped as a_skipped_update_run;
 ghost use Rattle.cf_examples.specs.Reviewed as a_change_set_run;
+ghost use Rattle.cf_examples.specs.Undeleted as an_undeleted_resource_run;
+ghost use Rattle.cf_examples.specs.LostCreation as a_lost_creation_run;
+ghost use Rattle.cf_examples.specs.RestoreRefused as a_refused_restore_run;
 ghost use Rattle.cf_examples.specs.Retained as a_retained_resource_run;
 ghost use Rattle.cf_examples.specs.Nested as a_nested_stack_run;
 ghost use Rattle.cf_examples.specs.Ends.{ReplacementIsComplete, LateEffectIsRestored, RollbackIsCleared, FailuresAreBlamed};
@@ -125,6 +128,27 @@ pub fn a_change_set()
     ensures legal { a_change_set_run.Legal }
     ensures shows { a_change_set_run.Shows }
     ensures other_rows { a_change_set_run.OtherRows }
+{}
+
+/// A removed resource that cannot be deleted is left over after the third refusal, and not before.
+pub fn an_undeleted_resource()
+    ensures legal { an_undeleted_resource_run.Legal }
+    ensures shows { an_undeleted_resource_run.Shows }
+    ensures kept_too_early { an_undeleted_resource_run.KeptTooEarly }
+{}
+
+/// A creation that stays in doubt until the stack is deleted without it.
+pub fn a_lost_creation()
+    ensures legal { a_lost_creation_run.Legal }
+    ensures fails { a_lost_creation_run.Fails }
+    ensures shows { a_lost_creation_run.Shows }
+{}
+
+/// A restore that is refused, and the continued rollback that skips its resource.
+pub fn a_refused_restore()
+    ensures legal { a_refused_restore_run.Legal }
+    ensures fails { a_refused_restore_run.Fails }
+    ensures shows { a_refused_restore_run.Shows }
 {}
 
 /// The ends: the new template is live, the earlier resources are back, nothing is left, and the failed paths are blamed.
