@@ -24,13 +24,10 @@ use Rattle.cf_examples.specs.Given.{file, note, file_props, file_attrs, note_pro
 use Rattle.cf_examples.specs.Replacement.{second}
 use Rattle.cf_examples.specs.Ends.{files_replaced, notes_replaced, files_restored, lanes_replaced, lanes_restored, ReplacementIsComplete, LateEffectIsRestored, RollbackIsCleared, FailuresAreBlamed}
 use Rattle.cf_examples.proofs.Computing.{computing}
-use Rattle.cf_examples.proofs.Lists.{and_true, only, either, found_passes}
+use Rattle.cf_examples.proofs.Lists.{some_is, and_true, only, either, found_passes}
 use Rattle.cf_examples.proofs.Replacement.{arrives_16, world_16, stack_16_app}
 use Rattle.cf_examples.proofs.LateEffect as late
 use Rattle.cf_examples.proofs.RolledBack as rolled
-
-some_is : {A : Type 0} {a b : A} → Some a ≡ Some b → a ≡ b
-some_is e = cc
 
 -- the resource of a path is one of the list, and its own path is that one
 held_there : (path : List ℕ) (hs : List Held) (r : Held) → current_at path hs ≡ Some r → (r.path ≡ path) × In r hs

@@ -18,16 +18,16 @@ use Rattle.cf_plan.specs.Life.{Life, Lease, Happens, IsLife, AreLeased, Holds}
 use Rattle.cf_plan.specs.Life as life
 use Rattle.cf_examples.specs.Given.{file, file_props, file_attrs, schemas}
 use Rattle.cf_examples.specs.FirstResource.{opened, begun, intended, answered, done, run, app, web, world}
-use Rattle.cf_examples.specs.FirstLife.{lane_at_fence, start, made, end, Lives, HoldsInTheEnd}
+use Rattle.cf_examples.specs.FirstLife.{files_with, start, made, end, Lives, HoldsInTheEnd}
 use Rattle.cf_examples.proofs.Computing.{computing}
-use Rattle.cf_examples.proofs.Lists.{in_none, only, found_passes}
+use Rattle.cf_examples.proofs.Lists.{some_is, in_none, only, found_passes}
 use Rattle.cf_examples.proofs.FirstResource.{leaves, legal, opens, begins, intends, answers, ends}
 
 abbrev life_1 : Life
-life_1 = record { entries = opened ∷ []; lanes = lane_at_fence [] 0 ∷ []; leases = []; is_open = true; has_granted = false; is_stopped = false }
+life_1 = record { entries = opened ∷ []; lanes = files_with [] [] 0 ∷ []; leases = []; is_open = true; has_granted = false; is_stopped = false }
 
 abbrev life_2 : Life
-life_2 = record life_1 { lanes = lane_at_fence [] 1 ∷ [] }
+life_2 = record life_1 { lanes = files_with [] [] 1 ∷ [] }
 
 abbrev life_3 : Life
 life_3 = record life_2 { entries = opened ∷ begun ∷ [] }
@@ -42,7 +42,7 @@ abbrev answer_1 : life.CallEnd
 answer_1 = life.Answered (answer.Success (codes "f1:1") (file_attrs (codes "f1:1") 5 (codes "web.txt") (codes "hello"))) 0 0
 
 abbrev life_5 : Life
-life_5 = record life_4 { leases = record lease { reply = Some answer_1 } ∷ []; lanes = lane_at_fence (made ∷ []) 1 ∷ [] }
+life_5 = record life_4 { leases = record lease { reply = Some answer_1 } ∷ []; lanes = files_with (made ∷ []) [] 1 ∷ [] }
 
 abbrev life_6 : Life
 life_6 = record life_5 { entries = opened ∷ begun ∷ intended ∷ answered ∷ []; leases = [] }
@@ -54,16 +54,16 @@ opening : Happens schemas start (life.Opened 1 ((codes "f1", file) ∷ []) life.
 opening = (refl, opens, refl, refl)
 
 raising : Happens schemas life_1 (life.Raise (codes "f1") Raised 0 0) life_2
-raising = (refl, refl, lane_at_fence [] 0, (lane_at_fence [] 1).state, refl, lit≤ tt, (lit≤ tt, refl), refl)
+raising = (refl, refl, files_with [] [] 0, (files_with [] [] 1).state, refl, lit≤ tt, (lit≤ tt, refl), refl)
 
 beginning : Happens schemas life_2 (life.Begin begun life.Whole) life_3
-beginning = (refl, (λ l i. only (λ (q : Lane). q.state.fence ≡ 1) {a = lane_at_fence [] 1} refl l i), tt, begins, refl)
+beginning = (refl, (λ l i. only (λ (q : Lane). q.state.fence ≡ 1) {a = files_with [] [] 1} refl l i), tt, begins, refl)
 
 granting : Happens schemas life_3 (life.Grant intended life.Whole) life_4
 granting = (refl, tt, intends, refl)
 
 acting : Happens schemas life_4 (life.Act 1 answer_1) life_5
-acting = (lease, lane_at_fence [] 1, (lane_at_fence (made ∷ []) 1).state, refl, refl, refl, ((lit≤ tt, tt), (lit≤ tt, (_, (((codes "1", refl), lit≤ tt, refl, lit≤ tt), refl), refl))), refl)
+acting = (lease, files_with [] [] 1, (files_with (made ∷ []) [] 1).state, refl, refl, refl, ((lit≤ tt, tt), (lit≤ tt, (_, (((codes "1", refl), lit≤ tt, refl, lit≤ tt), refl), refl))), refl)
 
 settling : Happens schemas life_5 (life.Settle 1 answered life.Whole) life_6
 settling = (refl, record lease { reply = Some answer_1 }, answer_1, refl, refl, refl, answers, refl)
@@ -78,11 +78,8 @@ pub lives : Lives
 lives = (life_1, opening, (life_2, raising, (life_3, beginning, (life_4, granting, (life_5, acting, (life_6, settling, (life_7, ending, (end, closing, refl))))))))
 
 -- In the end: no call is open, one lane is there, and one resource is live on it.
-some_is : {A : Type 0} {a b : A} → Some a ≡ Some b → a ≡ b
-some_is e = cc
-
 abbrev f1 : Lane
-f1 = lane_at_fence (made ∷ []) 1
+f1 = files_with (made ∷ []) [] 1
 
 abbrev web_live : Live
 web_live = record { id = codes "f1:1"; kind = file; props = file_props (codes "web.txt") (codes "hello"); attrs = file_attrs (codes "f1:1") 5 (codes "web.txt") (codes "hello") }

@@ -24,3 +24,4 @@ pub mod Undeleted
 pub mod Reviewed
 pub mod Ends
 pub mod FirstLife
+pub mod CrashedLife

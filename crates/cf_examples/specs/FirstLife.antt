@@ -4,18 +4,18 @@ use Rattle.cf_tree.specs.declared.request.Answer.TheVariants as answer
 use Rattle.cf_tree.specs.declared.request.Request.TheVariants as request
 use Rattle.cf_handler.specs.declared.settled.Settled.{Settled}
 use Rattle.cf_handler.specs.declared.settled.Settlement.TheVariants as settlement
-use Rattle.cf_handler.specs.Fence.{Raised}
+use Rattle.cf_handler.specs.Fence.{Flying, Raised}
 use Rattle.cf_plan.specs.Lanes.{Lane}
 use Rattle.cf_plan.specs.Life.{Life, Event, Opened, Begin, Grant, Settle, Raise, Act, Close, Whole, Answered, IsLife, Holds}
-use Rattle.cf_examples.specs.Given.{file, file_props, file_attrs, schemas}
+use Rattle.cf_examples.specs.Given.{file, file_props, file_attrs, schemas, lane_with}
 use Rattle.cf_examples.specs.FirstResource.{begun, intended, answered, done, run}
 
--- the lane with what is settled on it, and its fence
-abbrev pub lane_at_fence : List Settled → ℕ → Lane
-lane_at_fence settled fence = record { name = codes "f1"; kind = file; state = record { state = record { base = []; settled = settled }; flying = []; fence = fence } }
+-- the one lane
+abbrev pub files_with : List Settled → List Flying → ℕ → Lane
+files_with = lane_with (codes "f1") file
 
 abbrev pub start : Life
-start = record { entries = []; lanes = lane_at_fence [] 0 ∷ []; leases = []; is_open = false; has_granted = false; is_stopped = false }
+start = record { entries = []; lanes = files_with [] [] 0 ∷ []; leases = []; is_open = false; has_granted = false; is_stopped = false }
 
 abbrev pub events : List Event
 events =
@@ -26,7 +26,7 @@ abbrev pub made : Settled
 made = record { token = 1; request = request.Create file (file_props (codes "web.txt") (codes "hello")); settlement = settlement.Success (codes "f1:1") (file_attrs (codes "f1:1") 5 (codes "web.txt") (codes "hello")) }
 
 abbrev pub end : Life
-end = record { entries = run; lanes = lane_at_fence (made ∷ []) 1 ∷ []; leases = []; is_open = false; has_granted = true; is_stopped = false }
+end = record { entries = run; lanes = files_with (made ∷ []) [] 1 ∷ []; leases = []; is_open = false; has_granted = true; is_stopped = false }
 
 abbrev pub Lives : Type 0
 Lives = IsLife schemas start events end

@@ -11,6 +11,9 @@ use Rattle.cf_stacks.specs.declared.state.StackState.{StackState}
 use Rattle.cf_stacks.specs.declared.state.World.{World}
 use Rattle.cf_stacks.specs.Fold.{empty_world, known_stack}
 use Rattle.cf_plan.specs.Follow.{IsLegal}
+use Rattle.cf_handler.specs.declared.settled.Settled.{Settled}
+use Rattle.cf_handler.specs.Fence.{Flying}
+use Rattle.cf_plan.specs.Lanes.{Lane}
 use Rattle.cf_schema.specs.declared.described.Schema.{Schema}
 
 -- a file, of which another path needs a new one
@@ -95,3 +98,7 @@ report_of name x = report_from (known_stack name x)
 -- a list in which this entry stands behind these is refused, whatever stands behind it
 abbrev pub IsRefusedAfter : List Entry → Entry → Type 0
 IsRefusedAfter before e = (rest : List Entry) → ¬ IsLegal schemas empty_world (before ++ e ∷ rest)
+
+-- a lane with what is settled on it, what may act later, and its fence; nothing was live there before
+abbrev pub lane_with : List ℕ → List ℕ → List Settled → List Flying → ℕ → Lane
+lane_with name k settled flying fence = record { name = name; kind = k; state = record { state = record { base = []; settled = settled }; flying = flying; fence = fence } }

@@ -19,3 +19,4 @@ pub mod Undeleted
 pub mod Reviewed
 pub mod Ends
 pub mod FirstLife
+pub mod CrashedLife

@@ -20,6 +20,7 @@ ghost use Rattle.cf_examples.specs.RestoreRefused as a_refused_restore_run;
 ghost use Rattle.cf_examples.specs.Retained as a_retained_resource_run;
 ghost use Rattle.cf_examples.specs.Nested as a_nested_stack_run;
 ghost use Rattle.cf_examples.specs.Ends.{ReplacementIsComplete, LateEffectIsRestored, RollbackIsCleared, FailuresAreBlamed};
+ghost use Rattle.cf_examples.specs.CrashedLife.{Crashes, HoldsWhileItFlies, GoesOn};
 ghost use Rattle.cf_examples.specs.FirstLife.{Lives, HoldsInTheEnd};
 ghost use Rattle.cf_examples.specs.Pinned as a_pinned_export_run;
 
@@ -163,4 +164,12 @@ pub fn the_ends()
 pub fn the_first_life()
     ensures lives { Lives }
     ensures holds { HoldsInTheEnd }
+{}
+
+/// A life with a crash: a call breaks off and may act later, and journal and lanes agree while it does. The engine is opened
+/// again, the call is repeated under its token, and the operation ends.
+pub fn the_crashed_life()
+    ensures crashes { Crashes }
+    ensures holds { HoldsWhileItFlies }
+    ensures goes_on { GoesOn }
 {}
