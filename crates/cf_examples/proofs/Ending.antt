@@ -1,6 +1,6 @@
 -- When an operation is at its end: nothing that may come in its stage is left.
 use Rattle.std.proofs.Common.{◌≡◌, ◌≢◌, inl, inr, ℕ, Bool, true, false, Option, Some, None, List, [], refl, sym, ◌∙◌, ap, subst, true≢false, ◌&&◌}
-use Rattle.std.specs.Prelude.{IsTrue, not}
+use Rattle.std.specs.Prelude.{not}
 use Rattle.std.specs.List.{list_all, list_any}
 use Rattle.cf_tree.specs.declared.request.Request.{Request}
 use Rattle.cf_tree.specs.declared.request.Request.TheVariants as request
@@ -19,7 +19,8 @@ use Rattle.cf_stacks.specs.declared.state.StackState.{StackState}
 use Rattle.cf_stacks.specs.declared.state.World.{World}
 use Rattle.cf_stacks.specs.Status.{Stage, Forward, Clean, Back, BackClean, Gone, stage_of}
 use Rattle.cf_stacks.specs.Words.{resources_of, is_create_at}
-use Rattle.cf_stacks.specs.Operation.{was_updated, was_restored, was_skipped}
+use Rattle.cf_graph.specs.Needs.{is_among}
+use Rattle.cf_stacks.specs.Operation.{was_updated, was_restored, was_skipped, named_paths}
 use Rattle.cf_plan.specs.Forward.{In, AllDone, HasFailed}
 use Rattle.cf_plan.specs.Follow.{IntendsDeletion, IntendsRestore, IsToRestore, MayDelete, MayKeep, MayTurn, MayStep, MayRepeat, IsAtEnd, may_repeat, is_untried, has_refused_restore, has_restore, is_cleaned, has_no_need}
 use Rattle.cf_plan.specs.Between.{is_needed_by_held}
@@ -62,8 +63,8 @@ no_deletion stage s path (request.Create k props) none m = m
 no_deletion stage s path (request.Update physical props) none m = m
 no_deletion stage s path (request.Delete physical) none m = none m.0 m.1
 
-no_keep : (stage : Stage) (s : StackState) (path physical : List ℕ) (w : Why) → ((h : Held) → MayDelete stage s h → ⊥) → (stage ≡ Gone → s.tokens ≡ []) → is_cleaned stage s ≡ [] → MayKeep stage [] s path physical w → ⊥
-no_keep stage s path physical why.Retained none closed cleaned m = elim m [ inl k ↦ none k.0 k.1 | inr k ↦ (let made = subst (λ ps. IsTrue (list_any (is_create_at path) ps)) (closed k.0) k.3 in absurd (true≢false (sym made))) ]
+no_keep : (stage : Stage) (s : StackState) (path physical : List ℕ) (w : Why) → ((h : Held) → MayDelete stage s h → ⊥) → (stage ≡ Gone → is_among path (named_paths s) ≡ true → list_any (is_create_at path) s.tokens ≡ true → ⊥) → is_cleaned stage s ≡ [] → MayKeep stage [] s path physical w → ⊥
+no_keep stage s path physical why.Retained none closed cleaned m = elim m [ inl k ↦ none k.0 k.1 | inr k ↦ closed k.0 k.2 k.3 ]
 no_keep stage s path physical why.Failed none closed cleaned m = in_none (subst (In m.0.0) cleaned m.0.2)
 no_keep stage s path physical why.Doubt none closed cleaned m = in_none (subst (In m.0.0) cleaned m.0.2)
 
@@ -164,7 +165,7 @@ module _ (schemas : List Schema) (name : List ℕ) (x : World) (s : StackState) 
 abbrev pub may_go : StackState → Held → Bool
 may_go s r = has_no_need s r && (not (is_needed_by_held s r) && is_untried s r)
 
-module _ (schemas : List Schema) (name : List ℕ) (x : World) (s : StackState) (goes : s.status ≡ status.DeleteInProgress) (none_left : list_all (λ r. not (may_go s r)) (resources_of s) ≡ true) (none_open : s.tokens ≡ []) where
+module _ (schemas : List Schema) (name : List ℕ) (x : World) (s : StackState) (goes : s.status ≡ status.DeleteInProgress) (none_left : list_all (λ r. not (may_go s r)) (resources_of s) ≡ true) (none_open : list_any (may_repeat Gone [] s) s.tokens ≡ false) (asked : (path : List ℕ) → is_among path (named_paths s) ≡ true → list_any (is_create_at path) s.tokens ≡ true → ⊥) where
   gone_deletes : (r : Held) → MayDelete Gone s r → ⊥
   gone_deletes r m = true≢false (sym (each_passes (λ (h : Held). not (may_go s h)) (resources_of s) r none_left m.0) ∙ ap not (all_three (has_no_need s r) (is_needed_by_held s r) (is_untried s r) m.1 m.2 m.3))
     where
@@ -176,7 +177,7 @@ module _ (schemas : List Schema) (name : List ℕ) (x : World) (s : StackState) 
   gone_steps : (e : Entry) → MayStep schemas name x [] s Gone e → ⊥
   gone_steps (entry.Opened epoch lanes) m = m
   gone_steps (entry.Begin number stack kind) m = m
-  gone_steps (entry.Kept number path physical w) m = no_keep Gone s path physical w gone_deletes (λ e. none_open) refl m
+  gone_steps (entry.Kept number path physical w) m = no_keep Gone s path physical w gone_deletes (λ e. asked path) refl m
   gone_steps (entry.Intent number token lane path r) m = no_deletion Gone s path r gone_deletes m.chosen
   gone_steps (entry.Outcome number token answer before after) m = m
   gone_steps (entry.Phase number p c) m = stays_clean schemas name x s p c (λ e. cc) (λ e. not_forward (ap stage_of (sym goes) ∙ e)) (λ e. cc) m
@@ -186,8 +187,15 @@ module _ (schemas : List Schema) (name : List ℕ) (x : World) (s : StackState) 
   gone_steps (entry.Done number state failed) m = m
   gone_steps (entry.ChangeSet number stack source rows outputs) m = m
 
-  pub end_of_deletion : IsAtEnd schemas name x s Gone
-  end_of_deletion = (gone_steps, λ p m. in_none (subst (In p) none_open m.0))
+  end_of_gone : IsAtEnd schemas name x s Gone
+  end_of_gone = (gone_steps, λ p m. no_repeat Gone s p none_open m.0 m.1)
+
+pub end_of_deletion : (schemas : List Schema) (name : List ℕ) (x : World) (s : StackState) → s.status ≡ status.DeleteInProgress → list_all (λ r. not (may_go s r)) (resources_of s) ≡ true → s.tokens ≡ [] → IsAtEnd schemas name x s Gone
+end_of_deletion schemas name x s goes none_left closed = end_of_gone schemas name x s goes none_left (ap (list_any (may_repeat Gone [] s)) closed) (λ path among made. true≢false (sym made ∙ ap (list_any (is_create_at path)) closed))
+
+-- where the command names no path, calls may stay open
+pub end_of_failed_deletion : (schemas : List Schema) (name : List ℕ) (x : World) (s : StackState) → s.status ≡ status.DeleteInProgress → list_all (λ r. not (may_go s r)) (resources_of s) ≡ true → list_any (may_repeat Gone [] s) s.tokens ≡ false → named_paths s ≡ [] → IsAtEnd schemas name x s Gone
+end_of_failed_deletion schemas name x s goes none_left none_open none_named = end_of_gone schemas name x s goes none_left none_open (λ path among made. true≢false (sym among ∙ ap (is_among path) none_named))
 
 -- The rollback of an update: nothing is left to give back, and yet the cleanup can't begin.
 abbrev pub is_open_restore : StackState → Held → Bool

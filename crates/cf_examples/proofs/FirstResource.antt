@@ -1,5 +1,5 @@
 -- The first resource.
-use Rattle.std.proofs.Common.{refl, [], ◌∷◌, inl, sym, lit≤, true≢false}
+use Rattle.std.proofs.Common.{List, ℕ, refl, [], ◌∷◌, inl, sym, lit≤, true≢false}
 use Rattle.std.specs.Prelude.{codes}
 use Rattle.cf_stacks.specs.declared.state.World.{World}
 use Rattle.cf_stacks.specs.declared.state.StackState.{StackState}
@@ -8,12 +8,12 @@ use Rattle.cf_stacks.specs.Status.{Forward}
 use Rattle.cf_plan.specs.Forward.{here, HasFailed, IsReady, AllDone, IsDone, is_made}
 use Rattle.cf_plan.specs.Follow.{MayFollow}
 use Rattle.cf_examples.specs.Given.{schemas}
-use Rattle.cf_examples.specs.FirstResource.{opened, begun, intended, answered, done, web, Leaves, Legal, broken, again, RetriedUnderAnotherToken}
+use Rattle.cf_examples.specs.FirstResource.{opened, begun, intended, answered, done, web, Leaves, Legal, broken, again, RetriedUnderAnotherToken, DoubtIsLegal}
 use Rattle.cf_examples.proofs.Computing.{computing}
 use Rattle.cf_examples.proofs.Lists.{in_none, only}
 use Rattle.cf_examples.proofs.Failing.{not_failed, not_done_new}
 use Rattle.cf_examples.proofs.Ending.{end_of_create}
-use Rattle.cf_examples.proofs.Refusing.{follows_on}
+use Rattle.cf_examples.proofs.Refusing.{follows_on, refused_at}
 use Rattle.cf_examples.proofs.Beginning.{no_imports}
 
 pub leaves : Leaves
@@ -35,10 +35,10 @@ world_4 = world_after world_3 answered
 abbrev app_at : World → StackState
 app_at x = known_stack (codes "app") x
 
-opens : MayFollow schemas empty_world [] opened
+pub opens : MayFollow schemas empty_world [] opened
 opens = (refl, refl, λ name s e. absurd (cc))
 
-begins : MayFollow schemas world_1 [] begun
+pub begins : MayFollow schemas world_1 [] begun
 unfolding computing
 begins = (
   refl,
@@ -62,7 +62,7 @@ ready_2 : IsReady (app_at world_2) (codes "Web")
 unfolding computing
 ready_2 = (here, λ q i. absurd (in_none i))
 
-intends : MayFollow schemas world_2 [] intended
+pub intends : MayFollow schemas world_2 [] intended
 unfolding computing
 intends = (
   codes "app",
@@ -80,7 +80,7 @@ intends = (
   },
 )
 
-answers : MayFollow schemas world_3 (1 ∷ []) answered
+pub answers : MayFollow schemas world_3 (1 ∷ []) answered
 unfolding computing
 answers = (codes "app", app_at world_3, Forward, refl, refl, (refl, refl, lit≤ tt))
 
@@ -92,7 +92,7 @@ sound_4 : ¬ HasFailed schemas (codes "app") world_4 (app_at world_4)
 unfolding computing
 sound_4 = not_failed schemas (codes "app") world_4 (app_at world_4) (record { calls = refl; paths = refl; inner = refl; flaws = refl; exports = refl })
 
-ends : MayFollow schemas world_4 [] done
+pub ends : MayFollow schemas world_4 [] done
 unfolding computing
 ends = (codes "app", app_at world_4, Forward, refl, refl, (refl, end_of_create schemas (codes "app") world_4 (app_at world_4) refl all_done sound_4 refl, (sound_4, all_done), refl))
 
@@ -100,6 +100,17 @@ pub legal : Legal
 unfolding computing
 legal = (([], opens), (([], begins), (([], intends), ((1 ∷ [], answers), (([], ends), tt)))))
 
-pub another_token : RetriedUnderAnotherToken
+may_not_try_again : (out : List ℕ) → MayFollow schemas (world_after world_3 broken) out again → ⊥
 unfolding computing
-another_token = λ out may. (let m = follows_on schemas 1 (world_after world_3 broken) out again (codes "app", app_at (world_after world_3 broken)) Forward refl refl may in true≢false (sym m.free))
+may_not_try_again out may = let m = follows_on schemas 1 (world_after world_3 broken) out again (codes "app", app_at (world_after world_3 broken)) Forward refl refl may in true≢false (sym m.free)
+
+pub another_token : RetriedUnderAnotherToken
+another_token = refused_at (world_after world_3 broken) (opened ∷ begun ∷ intended ∷ broken ∷ []) again refl may_not_try_again
+
+breaks : MayFollow schemas world_3 (1 ∷ []) broken
+unfolding computing
+breaks = (codes "app", app_at world_3, Forward, refl, refl, (refl, refl, (lit≤ tt, λ _. lit≤ tt)))
+
+pub doubt_is_legal : DoubtIsLegal
+unfolding computing
+doubt_is_legal = (([], opens), (([], begins), (([], intends), ((1 ∷ [], breaks), tt))))

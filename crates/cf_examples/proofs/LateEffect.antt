@@ -488,7 +488,7 @@ may_rolled_back : MayFollow schemas world_15 [] rolled_back
 unfolding computing
 may_rolled_back = ((codes "s"), stack_15_s, BackClean, refl, refl, (refl, end_of_back_clean schemas (codes "s") world_15 stack_15_s refl refl refl, tt, refl))
 
-abbrev stack_16_s : StackState
+abbrev pub stack_16_s : StackState
 stack_16_s = record {
   status = status.UpdateRollbackComplete;
   number = 1;
@@ -507,7 +507,7 @@ stack_16_s = record {
   entries = (updating ∷ intended_change ∷ broken_once ∷ broken_twice ∷ broken_thrice ∷ turned ∷ repeated ∷ intended_restore ∷ restored ∷ cleaning ∷ rolled_back ∷ []);
 }
 
-abbrev world_16 : World
+abbrev pub world_16 : World
 world_16 = record { stacks = (((codes "s"), stack_16_s) ∷ []); exports = []; pins = []; claims = []; lanes = (lane_pair (codes "f1") file ∷ []); epoch = 1; operation = 2; set = 0; token = 3; place = 16 }
 
 leads_16 : world_after world_15 rolled_back ≡ world_16
@@ -568,7 +568,7 @@ rest_0 = opened ∷ rest_1
 pub legal : Legal
 legal = legal_step world_0 world_1 opened rest_1 [] may_opened leads_1 (legal_step world_1 world_2 begun rest_2 [] may_begun leads_2 (legal_step world_2 world_3 intended rest_3 [] may_intended leads_3 (legal_step world_3 world_4 made rest_4 (1 ∷ []) may_made leads_4 (legal_step world_4 world_5 created rest_5 [] may_created leads_5 (legal_step world_5 world_6 updating rest_6 [] may_updating leads_6 (legal_step world_6 world_7 intended_change rest_7 [] may_intended_change leads_7 (legal_step world_7 world_8 broken_once rest_8 (2 ∷ []) may_broken_once leads_8 (legal_step world_8 world_9 broken_twice rest_9 (2 ∷ []) may_broken_twice leads_9 (legal_step world_9 world_10 broken_thrice rest_10 (2 ∷ []) may_broken_thrice leads_10 (legal_step world_10 world_11 turned rest_11 [] may_turned leads_11 (legal_step world_11 world_12 repeated rest_12 (2 ∷ []) may_repeated leads_12 (legal_step world_12 world_13 intended_restore rest_13 [] may_intended_restore leads_13 (legal_step world_13 world_14 restored rest_14 (3 ∷ []) may_restored leads_14 (legal_step world_14 world_15 cleaning rest_15 [] may_cleaning leads_15 (legal_step world_15 world_16 rolled_back rest_16 [] may_rolled_back leads_16 (tt))))))))))))))))
 
-arrives_16 : fold_of empty_world (opened ∷ begun ∷ intended ∷ made ∷ created ∷ updating ∷ intended_change ∷ broken_once ∷ broken_twice ∷ broken_thrice ∷ turned ∷ repeated ∷ intended_restore ∷ restored ∷ cleaning ∷ rolled_back ∷ []) ≡ world_16
+pub arrives_16 : fold_of empty_world (opened ∷ begun ∷ intended ∷ made ∷ created ∷ updating ∷ intended_change ∷ broken_once ∷ broken_twice ∷ broken_thrice ∷ turned ∷ repeated ∷ intended_restore ∷ restored ∷ cleaning ∷ rolled_back ∷ []) ≡ world_16
 arrives_16 = fold_step world_0 world_1 opened (begun ∷ intended ∷ made ∷ created ∷ updating ∷ intended_change ∷ broken_once ∷ broken_twice ∷ broken_thrice ∷ turned ∷ repeated ∷ intended_restore ∷ restored ∷ cleaning ∷ rolled_back ∷ []) leads_1 (fold_step world_1 world_2 begun (intended ∷ made ∷ created ∷ updating ∷ intended_change ∷ broken_once ∷ broken_twice ∷ broken_thrice ∷ turned ∷ repeated ∷ intended_restore ∷ restored ∷ cleaning ∷ rolled_back ∷ []) leads_2 (fold_step world_2 world_3 intended (made ∷ created ∷ updating ∷ intended_change ∷ broken_once ∷ broken_twice ∷ broken_thrice ∷ turned ∷ repeated ∷ intended_restore ∷ restored ∷ cleaning ∷ rolled_back ∷ []) leads_3 (fold_step world_3 world_4 made (created ∷ updating ∷ intended_change ∷ broken_once ∷ broken_twice ∷ broken_thrice ∷ turned ∷ repeated ∷ intended_restore ∷ restored ∷ cleaning ∷ rolled_back ∷ []) leads_4 (fold_step world_4 world_5 created (updating ∷ intended_change ∷ broken_once ∷ broken_twice ∷ broken_thrice ∷ turned ∷ repeated ∷ intended_restore ∷ restored ∷ cleaning ∷ rolled_back ∷ []) leads_5 (fold_step world_5 world_6 updating (intended_change ∷ broken_once ∷ broken_twice ∷ broken_thrice ∷ turned ∷ repeated ∷ intended_restore ∷ restored ∷ cleaning ∷ rolled_back ∷ []) leads_6 (fold_step world_6 world_7 intended_change (broken_once ∷ broken_twice ∷ broken_thrice ∷ turned ∷ repeated ∷ intended_restore ∷ restored ∷ cleaning ∷ rolled_back ∷ []) leads_7 (fold_step world_7 world_8 broken_once (broken_twice ∷ broken_thrice ∷ turned ∷ repeated ∷ intended_restore ∷ restored ∷ cleaning ∷ rolled_back ∷ []) leads_8 (fold_step world_8 world_9 broken_twice (broken_thrice ∷ turned ∷ repeated ∷ intended_restore ∷ restored ∷ cleaning ∷ rolled_back ∷ []) leads_9 (fold_step world_9 world_10 broken_thrice (turned ∷ repeated ∷ intended_restore ∷ restored ∷ cleaning ∷ rolled_back ∷ []) leads_10 (fold_step world_10 world_11 turned (repeated ∷ intended_restore ∷ restored ∷ cleaning ∷ rolled_back ∷ []) leads_11 (fold_step world_11 world_12 repeated (intended_restore ∷ restored ∷ cleaning ∷ rolled_back ∷ []) leads_12 (fold_step world_12 world_13 intended_restore (restored ∷ cleaning ∷ rolled_back ∷ []) leads_13 (fold_step world_13 world_14 restored (cleaning ∷ rolled_back ∷ []) leads_14 (fold_step world_14 world_15 cleaning (rolled_back ∷ []) leads_15 (fold_step world_15 world_16 rolled_back ([]) leads_16 (refl))))))))))))))))
 
 pub report_0 : Shows

@@ -78,3 +78,6 @@ some_passes {A} test (y ∷ ys) e = by_test (λ f. some_passes test ys f) (test 
     by_test : (list_any test ys ≡ true → (x : A) × In x ys × (test x ≡ true)) → (t : Bool) → test y ≡ t → (t || list_any test ys) ≡ true → (x : A) × In x (y ∷ ys) × (test x ≡ true)
     by_test later true k f = (y, here, k)
     by_test later false k f = let z = later f in (z.0, there z.1, z.2)
+
+pub some_is : {A : Type 0} {a b : A} → Some a ≡ Some b → a ≡ b
+some_is e = cc

@@ -22,7 +22,7 @@ use Rattle.cf_stacks.specs.Fold.{fold_of}
 use Rattle.cf_examples.specs.Given.{lane_pair, report_of}
 use Rattle.cf_examples.proofs.Refusing.{legal_step, fold_step}
 use Rattle.cf_examples.proofs.Beginning.{no_imports}
-use Rattle.cf_examples.specs.Nested.{first, opened, begun, intended_file, made_file, intended_record, made_record, created, Legal, Shows}
+use Rattle.cf_examples.specs.Nested.{FirstNamedIsTold, first, opened, begun, intended_file, made_file, intended_record, made_record, created, Legal, Shows}
 
 abbrev world_0 : World
 world_0 = empty_world
@@ -274,3 +274,7 @@ arrives_7 = fold_step world_0 world_1 opened (begun ∷ intended_file ∷ made_f
 
 pub report_0 : Shows
 report_0 = ap (report_of (codes "top")) arrives_7
+
+pub first_named : FirstNamedIsTold
+unfolding computing
+first_named = refl

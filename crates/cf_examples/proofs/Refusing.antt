@@ -10,7 +10,7 @@ use Rattle.cf_stacks.specs.Operation.{Call, Answered, call_of, replies_in, own_o
 use Rattle.cf_plan.specs.Forward.{In, here}
 use Rattle.cf_stacks.specs.Fold.{empty_world, world_after, fold_of}
 use Rattle.cf_examples.specs.Given.{schemas, IsRefusedAfter}
-use Rattle.cf_examples.proofs.Lists.{each_passes, found_passes, some_passes, in_more, in_behind, in_parts, in_mapped, and_true}
+use Rattle.cf_examples.proofs.Lists.{some_is, each_passes, found_passes, some_passes, in_more, in_behind, in_parts, in_mapped, and_true}
 use Rattle.cf_schema.specs.declared.described.Schema.{Schema}
 use Rattle.cf_entry.specs.declared.entry.Entry.{Entry}
 use Rattle.cf_stacks.specs.declared.state.StackState.{StackState}
@@ -19,9 +19,6 @@ use Rattle.cf_stacks.specs.Status.{Stage, stage_of}
 use Rattle.cf_graph.specs.Needs.{is_among}
 use Rattle.cf_stacks.specs.Words.{stack_of_operation, resources_of}
 use Rattle.cf_plan.specs.Follow.{MayFollow, IsLegal, MayFollowIn, MayFollowOn, is_failed_path, is_bad_last, last_at, has_path}
-
-some_is : {A : Type 0} {a b : A} → Some a ≡ Some b → a ≡ b
-some_is e = cc
 
 abbrev FollowsAs : List Schema → World → List ℕ → Entry → List ℕ × StackState → Type 0
 FollowsAs schemas x out e named = (stage : Stage) → stage_of named.1.status ≡ Some stage → MayFollowIn schemas named.0 x out named.1 stage e
@@ -94,5 +91,10 @@ legal_step x y e es out may leads rest = ((out, may), subst (λ z. IsLegal schem
 pub fold_step : (x y : World) (e : Entry) (es : List Entry) {z : World} → world_after x e ≡ y → fold_of y es ≡ z → fold_of x (e ∷ es) ≡ z
 fold_step x y e es {z} leads rest = ap (λ w. fold_of w es) leads ∙ rest
 
+-- an entry of a legal list may follow where it stands
+legal_at : (x : World) (before : List Entry) (e : Entry) (rest : List Entry) → IsLegal schemas x (before ++ e ∷ rest) → (out : List ℕ) × MayFollow schemas (fold_of x before) out e
+legal_at x [] e rest legal = legal.0
+legal_at x (b ∷ before) e rest legal = legal_at (world_after x b) before e rest legal.1
+
 pub refused_at : (x : World) (before : List Entry) (e : Entry) → fold_of empty_world before ≡ x → ((out : List ℕ) → MayFollow schemas x out e → ⊥) → IsRefusedAfter before e
-refused_at x before e arrives may_not = λ out may. may_not out (subst (λ w. MayFollow schemas w out e) arrives may)
+refused_at x before e arrives may_not = λ rest legal. let m = legal_at empty_world before e rest legal in may_not m.0 (subst (λ w. MayFollow schemas w m.0 e) arrives m.1)

@@ -514,7 +514,7 @@ may_updated : MayFollow schemas world_15 [] updated
 unfolding computing
 may_updated = ((codes "app"), stack_15_app, Clean, refl, refl, (refl, end_of_clean schemas (codes "app") world_15 stack_15_app refl refl refl refl, tt, refl))
 
-abbrev stack_16_app : StackState
+abbrev pub stack_16_app : StackState
 stack_16_app = record {
   status = status.UpdateComplete;
   number = 1;
@@ -533,7 +533,7 @@ stack_16_app = record {
   entries = (updating ∷ intended_new ∷ made_new ∷ intended_change ∷ changed_ptr ∷ cleaning ∷ intended_deletion ∷ deleted ∷ updated ∷ []);
 }
 
-abbrev world_16 : World
+abbrev pub world_16 : World
 world_16 = record { stacks = (((codes "app"), stack_16_app) ∷ []); exports = []; pins = []; claims = []; lanes = (lane_pair (codes "f1") file ∷ lane_pair (codes "r1") note ∷ []); epoch = 1; operation = 2; set = 0; token = 5; place = 16 }
 
 leads_16 : world_after world_15 updated ≡ world_16
@@ -600,7 +600,7 @@ arrives_10 = fold_step world_0 world_1 opened (begun ∷ intended_web ∷ made_w
 arrives_11 : fold_of empty_world (opened ∷ begun ∷ intended_web ∷ made_web ∷ intended_ptr ∷ made_ptr ∷ created ∷ updating ∷ intended_new ∷ made_new ∷ intended_change ∷ []) ≡ world_11
 arrives_11 = fold_step world_0 world_1 opened (begun ∷ intended_web ∷ made_web ∷ intended_ptr ∷ made_ptr ∷ created ∷ updating ∷ intended_new ∷ made_new ∷ intended_change ∷ []) leads_1 (fold_step world_1 world_2 begun (intended_web ∷ made_web ∷ intended_ptr ∷ made_ptr ∷ created ∷ updating ∷ intended_new ∷ made_new ∷ intended_change ∷ []) leads_2 (fold_step world_2 world_3 intended_web (made_web ∷ intended_ptr ∷ made_ptr ∷ created ∷ updating ∷ intended_new ∷ made_new ∷ intended_change ∷ []) leads_3 (fold_step world_3 world_4 made_web (intended_ptr ∷ made_ptr ∷ created ∷ updating ∷ intended_new ∷ made_new ∷ intended_change ∷ []) leads_4 (fold_step world_4 world_5 intended_ptr (made_ptr ∷ created ∷ updating ∷ intended_new ∷ made_new ∷ intended_change ∷ []) leads_5 (fold_step world_5 world_6 made_ptr (created ∷ updating ∷ intended_new ∷ made_new ∷ intended_change ∷ []) leads_6 (fold_step world_6 world_7 created (updating ∷ intended_new ∷ made_new ∷ intended_change ∷ []) leads_7 (fold_step world_7 world_8 updating (intended_new ∷ made_new ∷ intended_change ∷ []) leads_8 (fold_step world_8 world_9 intended_new (made_new ∷ intended_change ∷ []) leads_9 (fold_step world_9 world_10 made_new (intended_change ∷ []) leads_10 (fold_step world_10 world_11 intended_change ([]) leads_11 (refl)))))))))))
 
-arrives_16 : fold_of empty_world (opened ∷ begun ∷ intended_web ∷ made_web ∷ intended_ptr ∷ made_ptr ∷ created ∷ updating ∷ intended_new ∷ made_new ∷ intended_change ∷ changed_ptr ∷ cleaning ∷ intended_deletion ∷ deleted ∷ updated ∷ []) ≡ world_16
+pub arrives_16 : fold_of empty_world (opened ∷ begun ∷ intended_web ∷ made_web ∷ intended_ptr ∷ made_ptr ∷ created ∷ updating ∷ intended_new ∷ made_new ∷ intended_change ∷ changed_ptr ∷ cleaning ∷ intended_deletion ∷ deleted ∷ updated ∷ []) ≡ world_16
 arrives_16 = fold_step world_0 world_1 opened (begun ∷ intended_web ∷ made_web ∷ intended_ptr ∷ made_ptr ∷ created ∷ updating ∷ intended_new ∷ made_new ∷ intended_change ∷ changed_ptr ∷ cleaning ∷ intended_deletion ∷ deleted ∷ updated ∷ []) leads_1 (fold_step world_1 world_2 begun (intended_web ∷ made_web ∷ intended_ptr ∷ made_ptr ∷ created ∷ updating ∷ intended_new ∷ made_new ∷ intended_change ∷ changed_ptr ∷ cleaning ∷ intended_deletion ∷ deleted ∷ updated ∷ []) leads_2 (fold_step world_2 world_3 intended_web (made_web ∷ intended_ptr ∷ made_ptr ∷ created ∷ updating ∷ intended_new ∷ made_new ∷ intended_change ∷ changed_ptr ∷ cleaning ∷ intended_deletion ∷ deleted ∷ updated ∷ []) leads_3 (fold_step world_3 world_4 made_web (intended_ptr ∷ made_ptr ∷ created ∷ updating ∷ intended_new ∷ made_new ∷ intended_change ∷ changed_ptr ∷ cleaning ∷ intended_deletion ∷ deleted ∷ updated ∷ []) leads_4 (fold_step world_4 world_5 intended_ptr (made_ptr ∷ created ∷ updating ∷ intended_new ∷ made_new ∷ intended_change ∷ changed_ptr ∷ cleaning ∷ intended_deletion ∷ deleted ∷ updated ∷ []) leads_5 (fold_step world_5 world_6 made_ptr (created ∷ updating ∷ intended_new ∷ made_new ∷ intended_change ∷ changed_ptr ∷ cleaning ∷ intended_deletion ∷ deleted ∷ updated ∷ []) leads_6 (fold_step world_6 world_7 created (updating ∷ intended_new ∷ made_new ∷ intended_change ∷ changed_ptr ∷ cleaning ∷ intended_deletion ∷ deleted ∷ updated ∷ []) leads_7 (fold_step world_7 world_8 updating (intended_new ∷ made_new ∷ intended_change ∷ changed_ptr ∷ cleaning ∷ intended_deletion ∷ deleted ∷ updated ∷ []) leads_8 (fold_step world_8 world_9 intended_new (made_new ∷ intended_change ∷ changed_ptr ∷ cleaning ∷ intended_deletion ∷ deleted ∷ updated ∷ []) leads_9 (fold_step world_9 world_10 made_new (intended_change ∷ changed_ptr ∷ cleaning ∷ intended_deletion ∷ deleted ∷ updated ∷ []) leads_10 (fold_step world_10 world_11 intended_change (changed_ptr ∷ cleaning ∷ intended_deletion ∷ deleted ∷ updated ∷ []) leads_11 (fold_step world_11 world_12 changed_ptr (cleaning ∷ intended_deletion ∷ deleted ∷ updated ∷ []) leads_12 (fold_step world_12 world_13 cleaning (intended_deletion ∷ deleted ∷ updated ∷ []) leads_13 (fold_step world_13 world_14 intended_deletion (deleted ∷ updated ∷ []) leads_14 (fold_step world_14 world_15 deleted (updated ∷ []) leads_15 (fold_step world_15 world_16 updated ([]) leads_16 (refl))))))))))))))))
 
 pub report_0 : Shows

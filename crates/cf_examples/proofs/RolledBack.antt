@@ -300,7 +300,7 @@ may_rolled_back : MayFollow schemas world_9 [] rolled_back
 unfolding computing
 may_rolled_back = ((codes "s"), stack_9_s, Back, refl, refl, (refl, end_of_rollback schemas (codes "s") world_9 stack_9_s refl refl refl, refl, refl))
 
-abbrev stack_10_s : StackState
+abbrev pub stack_10_s : StackState
 stack_10_s = record {
   status = status.RollbackComplete;
   number = 1;
@@ -319,7 +319,7 @@ stack_10_s = record {
   entries = (begun ∷ intended_a ∷ made_a ∷ intended_b ∷ refused ∷ turned ∷ intended_deletion ∷ deleted ∷ rolled_back ∷ []);
 }
 
-abbrev world_10 : World
+abbrev pub world_10 : World
 world_10 = record { stacks = (((codes "s"), stack_10_s) ∷ []); exports = []; pins = []; claims = []; lanes = (lane_pair (codes "f1") file ∷ lane_pair (codes "r1") note ∷ []); epoch = 1; operation = 1; set = 0; token = 3; place = 10 }
 
 leads_10 : world_after world_9 rolled_back ≡ world_10
@@ -362,7 +362,7 @@ rest_0 = opened ∷ rest_1
 pub legal : Legal
 legal = legal_step world_0 world_1 opened rest_1 [] may_opened leads_1 (legal_step world_1 world_2 begun rest_2 [] may_begun leads_2 (legal_step world_2 world_3 intended_a rest_3 [] may_intended_a leads_3 (legal_step world_3 world_4 made_a rest_4 (1 ∷ []) may_made_a leads_4 (legal_step world_4 world_5 intended_b rest_5 [] may_intended_b leads_5 (legal_step world_5 world_6 refused rest_6 (2 ∷ []) may_refused leads_6 (legal_step world_6 world_7 turned rest_7 [] may_turned leads_7 (legal_step world_7 world_8 intended_deletion rest_8 [] may_intended_deletion leads_8 (legal_step world_8 world_9 deleted rest_9 (3 ∷ []) may_deleted leads_9 (legal_step world_9 world_10 rolled_back rest_10 [] may_rolled_back leads_10 (tt))))))))))
 
-arrives_10 : fold_of empty_world (opened ∷ begun ∷ intended_a ∷ made_a ∷ intended_b ∷ refused ∷ turned ∷ intended_deletion ∷ deleted ∷ rolled_back ∷ []) ≡ world_10
+pub arrives_10 : fold_of empty_world (opened ∷ begun ∷ intended_a ∷ made_a ∷ intended_b ∷ refused ∷ turned ∷ intended_deletion ∷ deleted ∷ rolled_back ∷ []) ≡ world_10
 arrives_10 = fold_step world_0 world_1 opened (begun ∷ intended_a ∷ made_a ∷ intended_b ∷ refused ∷ turned ∷ intended_deletion ∷ deleted ∷ rolled_back ∷ []) leads_1 (fold_step world_1 world_2 begun (intended_a ∷ made_a ∷ intended_b ∷ refused ∷ turned ∷ intended_deletion ∷ deleted ∷ rolled_back ∷ []) leads_2 (fold_step world_2 world_3 intended_a (made_a ∷ intended_b ∷ refused ∷ turned ∷ intended_deletion ∷ deleted ∷ rolled_back ∷ []) leads_3 (fold_step world_3 world_4 made_a (intended_b ∷ refused ∷ turned ∷ intended_deletion ∷ deleted ∷ rolled_back ∷ []) leads_4 (fold_step world_4 world_5 intended_b (refused ∷ turned ∷ intended_deletion ∷ deleted ∷ rolled_back ∷ []) leads_5 (fold_step world_5 world_6 refused (turned ∷ intended_deletion ∷ deleted ∷ rolled_back ∷ []) leads_6 (fold_step world_6 world_7 turned (intended_deletion ∷ deleted ∷ rolled_back ∷ []) leads_7 (fold_step world_7 world_8 intended_deletion (deleted ∷ rolled_back ∷ []) leads_8 (fold_step world_8 world_9 deleted (rolled_back ∷ []) leads_9 (fold_step world_9 world_10 rolled_back ([]) leads_10 (refl))))))))))
 
 pub report_0 : Shows

@@ -91,3 +91,7 @@ again = entry.Intent 1 2 (codes "f1") (codes "Web") (request.Create file (file_p
 
 abbrev pub RetriedUnderAnotherToken : Type 0
 RetriedUnderAnotherToken = IsRefusedAfter (opened ∷ begun ∷ intended ∷ broken ∷ []) again
+
+-- while the doubt itself may come
+abbrev pub DoubtIsLegal : Type 0
+DoubtIsLegal = IsLegal schemas empty_world (opened ∷ begun ∷ intended ∷ broken ∷ [])

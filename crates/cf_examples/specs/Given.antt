@@ -1,5 +1,5 @@
 -- What the worked runs share: the two shipped types, and the parts of their entries.
-use Rattle.std.specs.Prelude.{ℕ, List, [], ◌∷◌, codes, pos, Bool, map}
+use Rattle.std.specs.Prelude.{ℕ, List, [], ◌∷◌, codes, pos, Bool, map, ◌++◌}
 use Rattle.cf_tree.specs.Datum.{Data, text, whole}
 use Rattle.cf_tree.specs.declared.source.Source.{Source}
 use Rattle.cf_entry.specs.declared.entry.Entry.{Entry}
@@ -9,8 +9,11 @@ use Rattle.cf_stacks.specs.declared.held.HeldStatus.{HeldStatus}
 use Rattle.cf_stacks.specs.declared.held.Leftover.{Leftover}
 use Rattle.cf_stacks.specs.declared.state.StackState.{StackState}
 use Rattle.cf_stacks.specs.declared.state.World.{World}
-use Rattle.cf_stacks.specs.Fold.{empty_world, fold_of, known_stack}
-use Rattle.cf_plan.specs.Follow.{MayFollow}
+use Rattle.cf_stacks.specs.Fold.{empty_world, known_stack}
+use Rattle.cf_plan.specs.Follow.{IsLegal}
+use Rattle.cf_handler.specs.declared.settled.Settled.{Settled}
+use Rattle.cf_handler.specs.Fence.{Flying}
+use Rattle.cf_plan.specs.Lanes.{Lane}
 use Rattle.cf_schema.specs.declared.described.Schema.{Schema}
 
 -- a file, of which another path needs a new one
@@ -92,6 +95,10 @@ report_from s = record { status = s.status; number = s.number; resources = map l
 abbrev pub report_of : List ℕ → World → Report
 report_of name x = report_from (known_stack name x)
 
--- behind these entries this one may not stand, whatever leases are out
+-- a list in which this entry stands behind these is refused, whatever stands behind it
 abbrev pub IsRefusedAfter : List Entry → Entry → Type 0
-IsRefusedAfter before e = (out : List ℕ) → MayFollow schemas (fold_of empty_world before) out e → ⊥
+IsRefusedAfter before e = (rest : List Entry) → ¬ IsLegal schemas empty_world (before ++ e ∷ rest)
+
+-- a lane with what is settled on it, what may act later, and its fence; nothing was live there before
+abbrev pub lane_with : List ℕ → List ℕ → List Settled → List Flying → ℕ → Lane
+lane_with name k settled flying fence = record { name = name; kind = k; state = record { state = record { base = []; settled = settled }; flying = flying; fence = fence } }

@@ -13,3 +13,10 @@ pub mod Skipped
 pub mod Retained
 pub mod Nested
 pub mod Pinned
+pub mod RestoreRefused
+pub mod LostCreation
+pub mod Undeleted
+pub mod Reviewed
+pub mod Ends
+pub mod FirstLife
+pub mod CrashedLife

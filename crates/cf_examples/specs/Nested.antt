@@ -1,5 +1,5 @@
 -- A nested stack gets the length of a file of the stack around it as its parameter.
-use Rattle.std.specs.Prelude.{◌≡◌, List, [], ◌∷◌, codes, false}
+use Rattle.std.specs.Prelude.{option_map, Some, ◌≡◌, List, [], ◌∷◌, codes, false}
 use Rattle.cf_tree.specs.declared.request.Request.TheVariants as request
 use Rattle.cf_tree.specs.declared.source.Source.{Source}
 use Rattle.cf_entry.specs.declared.entry.Entry.{Entry}
@@ -9,6 +9,10 @@ use Rattle.cf_entry.specs.declared.entry.Reply.TheVariants as reply
 use Rattle.cf_entry.specs.declared.status.Status.TheVariants as status
 use Rattle.cf_stacks.specs.declared.held.HeldStatus.TheVariants as held
 use Rattle.cf_stacks.specs.Fold.{empty_world, fold_of}
+use Rattle.cf_eval.specs.declared.fault.EvalWhy.TheVariants.{UnknownAttribute}
+use Rattle.cf_desired.specs.Flaw.{eval}
+use Rattle.cf_desired.specs.Plan.{Seen, flawed, plan_of}
+use Rattle.cf_desired.specs.Whole.{wanted_at}
 use Rattle.cf_plan.specs.Follow.{IsLegal}
 use Rattle.cf_examples.specs.Given.{file, note, file_props, file_attrs, note_props, note_attrs, schemas, lane_pair, report_of}
 
@@ -46,3 +50,21 @@ Legal = IsLegal schemas empty_world run
 -- what the report shows in the end
 abbrev pub Shows : Type 0
 Shows = report_of (codes "top") (fold_of empty_world run) ≡ record { status = status.CreateComplete; number = 1; resources = (record { path = (codes "Src"); kind = file; physical = (codes "f1:1"); status = held.CreateComplete; unsure = false; props = (file_props (codes "s") (codes "12")) } ∷ record { path = (codes "Child/Rec"); kind = note; physical = (codes "r1:2"); status = held.CreateComplete; unsure = false; props = (note_props (codes "k") (codes "2")) } ∷ []); made = []; leftovers = [] }
+
+-- Of two nested outputs that are at fault, a resource that refers to both has the fault of the one that it names first.
+abbrev pub two_faults : Source
+two_faults = record {
+  root = (codes "root");
+  texts =
+      (((codes "kid"), (codes "{\"Resources\":{\"Rec\":{\"Type\":\"Local::Records::Record\",\"Properties\":{\"Key\":\"k\",\"Value\":\"v\"}}},\"Outputs\":{\"A\":{\"Value\":{\"Fn::Select\":[\"7\",[\"x\"]]}},\"B\":{\"Value\":{\"Fn::GetAtt\":[\"Rec\",\"Nope\"]}}}}")) ∷ ((codes "root"), (codes "{\"Resources\":{\"Child\":{\"Type\":\"AWS::CloudFormation::Stack\",\"Properties\":{\"TemplateURL\":\"kid\"}},\"Src\":{\"Type\":\"Local::Files::File\",\"Properties\":{\"Path\":\"s\",\"Content\":{\"Fn::Sub\":\"${Child.Outputs.B}${Child.Outputs.A}\"}}}}}")) ∷ []);
+  given = [];
+  imports = [];
+  stack = (codes "top");
+  number = 0;
+}
+
+abbrev pub record_seen : Seen
+record_seen = (codes "Child/Rec", record { physical = Some (codes "r1:1"); attrs = Some (note_attrs (codes "r1:1") 1 (codes "k") (codes "v")) }) ∷ []
+
+abbrev pub FirstNamedIsTold : Type 0
+FirstNamedIsTold = option_map (λ w. w.props) (wanted_at (codes "Src") (plan_of two_faults record_seen)) ≡ Some (flawed (eval UnknownAttribute (codes "Child") (codes "/Outputs/B/Value")))

@@ -13,14 +13,22 @@ ghost use Rattle.cf_examples.specs.Blamed as who_is_blamed_run;
 ghost use Rattle.cf_examples.specs.NotUpdatable as an_update_becomes_a_replacement_run;
 ghost use Rattle.cf_examples.specs.LateEffect as a_late_effect_run;
 ghost use Rattle.cf_examples.specs.Skipped as a_skipped_update_run;
+ghost use Rattle.cf_examples.specs.Reviewed as a_change_set_run;
+ghost use Rattle.cf_examples.specs.Undeleted as an_undeleted_resource_run;
+ghost use Rattle.cf_examples.specs.LostCreation as a_lost_creation_run;
+ghost use Rattle.cf_examples.specs.RestoreRefused as a_refused_restore_run;
 ghost use Rattle.cf_examples.specs.Retained as a_retained_resource_run;
 ghost use Rattle.cf_examples.specs.Nested as a_nested_stack_run;
+ghost use Rattle.cf_examples.specs.Ends.{ReplacementIsComplete, LateEffectIsRestored, RollbackIsCleared, FailuresAreBlamed};
+ghost use Rattle.cf_examples.specs.CrashedLife.{Crashes, HoldsWhileItFlies, GoesOn};
+ghost use Rattle.cf_examples.specs.FirstLife.{Lives, HoldsInTheEnd};
 ghost use Rattle.cf_examples.specs.Pinned as a_pinned_export_run;
 
 /// A stack of one file: the whole world that is left is told. A creation in doubt may not be tried again under another token.
 pub fn the_first_resource()
     ensures legal { the_first_resource_run.Legal }
     ensures leaves { the_first_resource_run.Leaves }
+    ensures doubt { the_first_resource_run.DoubtIsLegal }
     ensures another_token { the_first_resource_run.RetriedUnderAnotherToken }
 {}
 
@@ -101,10 +109,11 @@ pub fn a_retained_resource()
     ensures kept_too_early { a_retained_resource_run.KeptTooEarly }
 {}
 
-/// A nested stack.
+/// A nested stack; of two of its outputs that are at fault, the one that is named first is told.
 pub fn a_nested_stack()
     ensures legal { a_nested_stack_run.Legal }
     ensures shows { a_nested_stack_run.Shows }
+    ensures first_named { a_nested_stack_run.FirstNamedIsTold }
 {}
 
 /// An exported value that another stack imports stays, and its stack may not be deleted.
@@ -113,4 +122,54 @@ pub fn a_pinned_export()
     ensures shows { a_pinned_export_run.Shows }
     ensures changed_though_pinned { a_pinned_export_run.ChangedThoughPinned }
     ensures deleted_though_pinned { a_pinned_export_run.DeletedThoughPinned }
+{}
+
+/// A change set, with the rows that its report shows; another list of rows is refused.
+pub fn a_change_set()
+    ensures legal { a_change_set_run.Legal }
+    ensures shows { a_change_set_run.Shows }
+    ensures other_rows { a_change_set_run.OtherRows }
+{}
+
+/// A removed resource that cannot be deleted is left over after the third refusal, and not before.
+pub fn an_undeleted_resource()
+    ensures legal { an_undeleted_resource_run.Legal }
+    ensures shows { an_undeleted_resource_run.Shows }
+    ensures kept_too_early { an_undeleted_resource_run.KeptTooEarly }
+{}
+
+/// A creation that stays in doubt until the stack is deleted without it.
+pub fn a_lost_creation()
+    ensures legal { a_lost_creation_run.Legal }
+    ensures fails { a_lost_creation_run.Fails }
+    ensures shows { a_lost_creation_run.Shows }
+{}
+
+/// A restore that is refused, and the continued rollback that skips its resource.
+pub fn a_refused_restore()
+    ensures legal { a_refused_restore_run.Legal }
+    ensures fails { a_refused_restore_run.Fails }
+    ensures shows { a_refused_restore_run.Shows }
+{}
+
+/// The ends: the new template is live, the earlier resources are back, nothing is left, and the failed paths are blamed.
+pub fn the_ends()
+    ensures complete { ReplacementIsComplete }
+    ensures restored { LateEffectIsRestored }
+    ensures cleared { RollbackIsCleared }
+    ensures blamed { FailuresAreBlamed }
+{}
+
+/// The first resource as the life of an engine, from a new journal on: in the end journal and lanes agree.
+pub fn the_first_life()
+    ensures lives { Lives }
+    ensures holds { HoldsInTheEnd }
+{}
+
+/// A life with a crash: a call breaks off and may act later, and journal and lanes agree while it does. The engine is opened
+/// again, the call is repeated under its token, and the operation ends.
+pub fn the_crashed_life()
+    ensures crashes { Crashes }
+    ensures holds { HoldsWhileItFlies }
+    ensures goes_on { GoesOn }
 {}

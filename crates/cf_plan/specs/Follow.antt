@@ -155,9 +155,13 @@ abbrev pub MayRepeat : List Schema → List ℕ → World → List ℕ → Stack
 MayRepeat schemas name x out s Forward p = ¬ HasFailed schemas name x s × In p s.tokens × IsTrue (may_repeat Forward out s p)
 MayRepeat schemas name x out s stage p = In p s.tokens × IsTrue (may_repeat stage out s p)
 
+-- the calls of a stack that are out, also one whose token was given up meanwhile
+abbrev pub calls_out : List ℕ → StackState → List Call
+calls_out out s = filter (λ c. is_out out c.token) (calls_in s.entries)
+
 -- a repeat is out where its token has a doubt, or its Intent stands before, this phase and opening
 abbrev pub is_repeat_out : List ℕ → StackState → Bool
-is_repeat_out out s = list_any (λ p. is_out out p.token && (nat_lt 0 (doubts_of p.token s) || not (is_new p.token s))) s.tokens
+is_repeat_out out s = list_any (λ c. nat_lt 0 (doubts_of c.token s) || not (is_new c.token s)) (calls_out out s)
 
 abbrev pub waits_for_repeats : Stage → List ℕ → StackState → Bool
 waits_for_repeats Back out s = is_repeat_out out s || list_any (may_repeat Back out s) s.tokens
@@ -166,7 +170,7 @@ waits_for_repeats _ out s = false
 
 -- the lane of a token that is out is out, whichever stack's it is
 abbrev pub is_lane_out : List ℕ → World → List ℕ → Bool
-is_lane_out out x lane = list_any (λ s. list_any (λ p. is_out out p.token && bytes_eq lane p.lane) s.1.tokens) x.stacks
+is_lane_out out x lane = list_any (λ s. list_any (λ c. bytes_eq lane c.lane) (calls_out out s.1)) x.stacks
 
 abbrev pub is_lane_of : List ℕ → List ℕ → List ℕ × List ℕ → Bool
 is_lane_of lane k named = bytes_eq lane named.0 && bytes_eq k named.1
@@ -383,7 +387,7 @@ MayOpen x out epoch lanes = (out ≡ []) × (epoch ≡ x.epoch + 1) × ((name : 
 
 -- no lease of the stack is out
 abbrev pub none_out : List ℕ → StackState → Bool
-none_out out s = not (list_any (λ p. is_out out p.token) s.tokens)
+none_out out s = is_empty (calls_out out s)
 
 -- An entry of the operation in progress on a stack.
 abbrev pub MayFollowIn : List Schema → List ℕ → World → List ℕ → StackState → Stage → Entry → Type 0

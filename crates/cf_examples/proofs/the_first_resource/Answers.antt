@@ -1,4 +1,4 @@
-use Rattle.cf_examples.proofs.FirstResource.{leaves, legal, another_token}
+use Rattle.cf_examples.proofs.FirstResource.{leaves, legal, another_token, doubt_is_legal}
 use Rattle.cf_examples.proofs.the_first_resource.Goals as goal
 
 pub returns-clause-legal : goal.returns-clause-legal
@@ -9,3 +9,6 @@ returns-clause-leaves c = leaves
 
 pub returns-clause-another_token : goal.returns-clause-another_token
 returns-clause-another_token c = another_token
+
+pub returns-clause-doubt : goal.returns-clause-doubt
+returns-clause-doubt c = doubt_is_legal

@@ -1,0 +1,169 @@
+-- The ends of some runs.
+use Rattle.std.proofs.Common.{◌≡◌, refl, List, [], ◌∷◌, Some, true, false, ℕ, Bool, sym, subst, ap, true≢false, lit≤}
+use Rattle.std.specs.Prelude.{codes, not, find}
+use Rattle.std.specs.Str.{bytes_eq}
+use Rattle.std.proofs.lemmas.Slice.Eq.{bytes_eq-Decides}
+use Rattle.cf_tree.specs.Keys.{value_at}
+use Rattle.cf_tree.specs.declared.template.Deletion.TheVariants as deletion
+use Rattle.cf_tree.specs.declared.template.Replace.TheVariants as replace
+use Rattle.cf_tree.specs.declared.request.Request.TheVariants as request
+use Rattle.cf_tree.specs.declared.code.Code.TheVariants as code
+use Rattle.cf_entry.specs.declared.entry.Reply.TheVariants as reply
+use Rattle.cf_stacks.specs.declared.held.HeldStatus.TheVariants as held
+use Rattle.cf_stacks.specs.Operation.{Call, Answered}
+use Rattle.cf_examples.specs.RollbackFailed as unrolled
+use Rattle.cf_handler.specs.Lane.{Live}
+use Rattle.cf_desired.specs.Plan.{Seen}
+use Rattle.cf_desired.specs.Whole.{Right, Whole}
+use Rattle.cf_stacks.specs.declared.held.Held.{Held}
+use Rattle.cf_stacks.specs.Words.{current_at, is_current_at}
+use Rattle.cf_stacks.specs.Fold.{known_stack, source_for, is_right_at}
+use Rattle.cf_plan.specs.Forward.{In, here, there}
+use Rattle.cf_plan.specs.Ends.{IsLive, Sees, right_at, IsWholeLive, IsComplete, IsRestored, IsCleared, IsBlamedFor}
+use Rattle.cf_examples.specs.Given.{file, note, file_props, file_attrs, note_props, note_attrs}
+use Rattle.cf_examples.specs.Replacement.{second}
+use Rattle.cf_examples.specs.Ends.{files_replaced, notes_replaced, files_restored, lanes_replaced, lanes_restored, ReplacementIsComplete, LateEffectIsRestored, RollbackIsCleared, FailuresAreBlamed}
+use Rattle.cf_examples.proofs.Computing.{computing}
+use Rattle.cf_examples.proofs.Lists.{some_is, and_true, only, either, found_passes}
+use Rattle.cf_examples.proofs.Replacement.{arrives_16, world_16, stack_16_app}
+use Rattle.cf_examples.proofs.LateEffect as late
+use Rattle.cf_examples.proofs.RolledBack as rolled
+
+-- the resource of a path is one of the list, and its own path is that one
+held_there : (path : List ℕ) (hs : List Held) (r : Held) → current_at path hs ≡ Some r → (r.path ≡ path) × In r hs
+held_there path hs r e =
+    let found = found_passes (is_current_at path) hs r e in
+    (sym ((bytes_eq-Decides path r.path).0 (and_true (bytes_eq path r.path) (not r.superseded) found.0).0), found.1)
+
+wanted_there : (path : List ℕ) (ws : List Right) (w : Right) → find (is_right_at path) ws ≡ Some w → (w.path ≡ path) × In w ws
+wanted_there path ws w e = let found = found_passes (is_right_at path) ws w e in (sym ((bytes_eq-Decides path w.path).0 found.0), found.1)
+
+-- The replacement: what is seen, and the whole map.
+abbrev seen : Seen
+seen = (codes "Ptr", record { physical = Some (codes "r1:2"); attrs = Some (note_attrs (codes "r1:2") 4 (codes "p") (codes "f1:3")) }) ∷ (codes "Web", record { physical = Some (codes "f1:3"); attrs = Some (file_attrs (codes "f1:3") 1 (codes "new.txt") (codes "x")) }) ∷ []
+
+abbrev web : Right
+web = record { path = codes "Web"; kind = file; deletion = deletion.Delete; replace = replace.Delete; needs = []; props = file_props (codes "new.txt") (codes "x") }
+
+abbrev ptr : Right
+ptr = record { path = codes "Ptr"; kind = note; deletion = deletion.Delete; replace = replace.Delete; needs = codes "Web" ∷ []; props = note_props (codes "p") (codes "f1:3") }
+
+abbrev whole : Whole
+whole = record { wanted = web ∷ ptr ∷ []; outputs = []; exports = [] }
+
+abbrev ptr_held : Held
+ptr_held = record { path = codes "Ptr"; kind = note; physical = codes "r1:2"; props = note_props (codes "p") (codes "f1:3"); attrs = note_attrs (codes "r1:2") 4 (codes "p") (codes "f1:3"); needs = codes "Web" ∷ []; deletion = deletion.Delete; replace = replace.Delete; status = held.UpdateComplete; unsure = false; superseded = false }
+
+abbrev web_held : Held
+web_held = record { path = codes "Web"; kind = file; physical = codes "f1:3"; props = file_props (codes "new.txt") (codes "x"); attrs = file_attrs (codes "f1:3") 1 (codes "new.txt") (codes "x"); needs = []; deletion = deletion.Delete; replace = replace.Delete; status = held.UpdateComplete; unsure = false; superseded = false }
+
+abbrev ptr_live : Live
+ptr_live = record { id = codes "r1:2"; kind = note; props = note_props (codes "p") (codes "f1:3"); attrs = note_attrs (codes "r1:2") 4 (codes "p") (codes "f1:3") }
+
+abbrev web_live : Live
+web_live = record { id = codes "f1:3"; kind = file; props = file_props (codes "new.txt") (codes "x"); attrs = file_attrs (codes "f1:3") 1 (codes "new.txt") (codes "x") }
+
+ptr_is_live : IsLive lanes_replaced ptr_held ptr_live
+ptr_is_live = record { lane = notes_replaced; handed_in = refl; named = (codes "2", refl); live = refl }
+
+web_is_live : IsLive lanes_replaced web_held web_live
+web_is_live = record { lane = files_replaced; handed_in = refl; named = (codes "3", refl); live = refl }
+
+abbrev SeesOne : Held → Type 0
+SeesOne r = (v : Live) × IsLive lanes_replaced r v × (value_at r.path seen ≡ Some (record { physical = Some r.physical; attrs = Some v.attrs }))
+
+sees : Sees lanes_replaced stack_16_app seen
+sees path r e =
+    let found = held_there path stack_16_app.held r e in
+    subst (λ p. (v : Live) × IsLive lanes_replaced r v × (value_at p seen ≡ Some (record { physical = Some r.physical; attrs = Some v.attrs }))) found.0 (either SeesOne {a = ptr_held} {b = web_held} (ptr_live, ptr_is_live, refl) (web_live, web_is_live, refl) r found.1)
+
+abbrev IsRightFor : Right → Held → Type 0
+IsRightFor w r = (v : Live) × IsLive lanes_replaced r v × (v.kind ≡ w.kind) × (v.props ≡ w.props)
+
+abbrev IsRightLive : Held → Type 0
+IsRightLive r = (w : Right) → right_at r.path whole ≡ Some w → IsRightFor w r
+
+ptr_right : IsRightLive ptr_held
+ptr_right w e = subst (λ q. IsRightFor q ptr_held) (some_is {a = ptr} e) (ptr_live, ptr_is_live, refl, refl)
+
+web_right : IsRightLive web_held
+web_right w e = subst (λ q. IsRightFor q web_held) (some_is {a = web} e) (web_live, web_is_live, refl, refl)
+
+abbrev HasRight : List ℕ → Type 0
+HasRight path = (w : Right) × (right_at path whole ≡ Some w)
+
+abbrev HasHeld : List ℕ → Type 0
+HasHeld path = (r : Held) × (current_at path stack_16_app.held ≡ Some r)
+
+whole_live : IsWholeLive lanes_replaced stack_16_app whole
+whole_live = record {
+  paths = λ path. (
+    (λ (w, e). let found = wanted_there path whole.wanted w e in subst HasHeld found.0 (either (λ (q : Right). HasHeld q.path) {a = web} {b = ptr} (web_held, refl) (ptr_held, refl) w found.1)),
+    (λ (r, e). let found = held_there path stack_16_app.held r e in subst HasRight found.0 (either (λ (q : Held). HasRight q.path) {a = ptr_held} {b = web_held} (ptr, refl) (web, refl) r found.1)),
+  );
+  live = λ path w r wanted held. let found = held_there path stack_16_app.held r held in either IsRightLive {a = ptr_held} {b = web_held} ptr_right web_right r found.1 w (subst (λ p. right_at p whole ≡ Some w) (sym found.0) wanted);
+  nothing_else = λ r i. either (λ (q : Held). current_at q.path stack_16_app.held ≡ Some q) {a = ptr_held} {b = web_held} refl refl r i;
+  outputs = refl;
+}
+
+complete : IsComplete (codes "app") world_16 stack_16_app lanes_replaced
+unfolding computing
+complete = record {
+  settled = record { none_open = refl; none_made = refl };
+  evaluated = (source_for (codes "app") 1 second, seen, whole, refl, sees, refl, whole_live, λ e. (λ i. i, λ i. i));
+}
+
+pub replacement_is_complete : ReplacementIsComplete
+replacement_is_complete = subst (λ x. IsComplete (codes "app") x (known_stack (codes "app") x) lanes_replaced) (sym arrives_16) complete
+
+-- The late effect: what was there is back.
+abbrev a_before : Held
+a_before = record { path = codes "A"; kind = file; physical = codes "f1:1"; props = file_props (codes "a") (codes "x"); attrs = file_attrs (codes "f1:1") 1 (codes "a") (codes "x"); needs = []; deletion = deletion.Delete; replace = replace.Delete; status = held.CreateComplete; unsure = false; superseded = false }
+
+abbrev a_held : Held
+a_held = record { path = codes "A"; kind = file; physical = codes "f1:1"; props = file_props (codes "a") (codes "x"); attrs = file_attrs (codes "f1:1") 1 (codes "a") (codes "x"); needs = []; deletion = deletion.Delete; replace = replace.Delete; status = held.UpdateComplete; unsure = false; superseded = false }
+
+abbrev a_live : Live
+a_live = record { id = codes "f1:1"; kind = file; props = file_props (codes "a") (codes "x"); attrs = file_attrs (codes "f1:1") 1 (codes "a") (codes "x") }
+
+restored : IsRestored late.stack_16_s lanes_restored
+restored = record {
+  settled = record { none_open = refl; none_made = refl };
+  held = λ b i. only (λ (q : Held). (r : Held) × In r late.stack_16_s.held × (r.path ≡ q.path) × (r.physical ≡ q.physical) × (r.kind ≡ q.kind)) {a = a_before} (a_held, here, refl, refl, refl) b i;
+  nothing_else = λ r i. only (λ (q : Held). (b : Held) × In b late.stack_16_s.before × (b.path ≡ q.path) × (b.physical ≡ q.physical)) {a = a_held} (a_before, here, refl, refl) r i;
+  live = λ b r i j same. only (λ (q : Held). (v : Live) × IsLive lanes_restored r v × (v.kind ≡ q.kind) × (r.unsure ≡ false → v.props ≡ q.props)) {a = a_before} (only (λ (q : Held). (v : Live) × IsLive lanes_restored q v × (v.kind ≡ a_before.kind) × (q.unsure ≡ false → v.props ≡ a_before.props)) {a = a_held} (a_live, record { lane = files_restored; handed_in = refl; named = (codes "1", refl); live = refl }, refl, λ _. refl) r j) b i;
+}
+
+pub late_effect_is_restored : LateEffectIsRestored
+late_effect_is_restored = subst (λ x. IsRestored (known_stack (codes "s") x) lanes_restored) (sym late.arrives_16) restored
+
+cleared : IsCleared rolled.stack_10_s
+cleared = record { settled = record { none_open = refl; none_made = refl }; none_held = refl }
+
+pub rollback_is_cleared : RollbackIsCleared
+rollback_is_cleared = subst (λ x. IsCleared (known_stack (codes "s") x)) (sym rolled.arrives_10) cleared
+
+abbrev is_none : List (List ℕ) → Bool
+is_none [] = false
+is_none (p ∷ ps) = true
+
+abbrev reply_2 : Answered
+reply_2 = record { token = 2; answer = reply.Failed code.ServiceLimitExceeded; before = 0; after = 1 }
+
+abbrev reply_3 : Answered
+reply_3 = record { token = 3; answer = reply.Failed code.AccessDenied; before = 0; after = 1 }
+
+abbrev call_2 : Call
+call_2 = record { number = 1; token = 2; lane = codes "r1"; path = codes "B"; request = request.Create note (note_props (codes "b") (codes "u")) }
+
+abbrev call_3 : Call
+call_3 = record { number = 1; token = 3; lane = codes "f1"; path = codes "A"; request = request.Delete (codes "f1:1") }
+
+-- who is blamed: each path has a refused call of the operation, and the count rose
+pub failures_are_blamed : FailuresAreBlamed
+failures_are_blamed = record {
+  some = λ e. true≢false (ap is_none e);
+  each = λ path i. either (IsBlamedFor unrolled.run 1) {a = codes "A"} {b = codes "B"}
+      (record { reply = reply_3; call = call_3; of_call = refl; at_path = refl; stands = there (there here); failed = refl; rose = λ _. lit≤ tt })
+      (record { reply = reply_2; call = call_2; of_call = refl; at_path = refl; stands = there here; failed = refl; rose = λ _. lit≤ tt }) path i;
+}

@@ -1,0 +1,152 @@
+-- The life that makes the first resource.
+use Rattle.std.proofs.Common.{◌≡◌, refl, List, [], ◌∷◌, Some, None, true, false, ℕ, inl, sym, subst, lit≤}
+use Rattle.std.specs.Prelude.{codes}
+use Rattle.cf_tree.specs.declared.request.Answer.TheVariants as answer
+use Rattle.std.specs.Prelude.{map, ◌==◌, ◌≤◌}
+use Rattle.std.specs.Str.{bytes_eq}
+use Rattle.cf_handler.specs.declared.settled.Settled.{Settled}
+use Rattle.cf_handler.specs.Lane.{Live, live_of, is_used}
+use Rattle.cf_handler.specs.Fence.{Raised, live_at, settled_at}
+use Rattle.cf_stacks.specs.declared.held.Held.{Held}
+use Rattle.cf_stacks.specs.declared.held.Pending.{Pending}
+use Rattle.cf_stacks.specs.Operation.{Call, Answered, call_at}
+use Rattle.cf_stacks.specs.Words.{all_differ}
+use Rattle.cf_plan.specs.Forward.{In, here}
+use Rattle.cf_plan.specs.Lanes.{Lane, lane_at, open_at, IsAnswered, told_of}
+use Rattle.cf_plan.specs.Agrees.{Ties, FitsCall, IsHome, IsListed}
+use Rattle.cf_plan.specs.Life.{Life, Lease, Happens, IsLife, AreLeased, Holds}
+use Rattle.cf_plan.specs.Life as life
+use Rattle.cf_examples.specs.Given.{file, file_props, file_attrs, schemas}
+use Rattle.cf_examples.specs.FirstResource.{opened, begun, intended, answered, done, run, app, web, world}
+use Rattle.cf_examples.specs.FirstLife.{files_with, start, made, end, Lives, HoldsInTheEnd}
+use Rattle.cf_examples.proofs.Computing.{computing}
+use Rattle.cf_examples.proofs.Lists.{some_is, in_none, only, found_passes}
+use Rattle.cf_examples.proofs.FirstResource.{leaves, legal, opens, begins, intends, answers, ends}
+
+abbrev life_1 : Life
+life_1 = record { entries = opened ∷ []; lanes = files_with [] [] 0 ∷ []; leases = []; is_open = true; has_granted = false; is_stopped = false }
+
+abbrev life_2 : Life
+life_2 = record life_1 { lanes = files_with [] [] 1 ∷ [] }
+
+abbrev life_3 : Life
+life_3 = record life_2 { entries = opened ∷ begun ∷ [] }
+
+abbrev lease : Lease
+lease = record { number = 1; token = 1; lane = codes "f1"; request = made.request; reply = None }
+
+abbrev life_4 : Life
+life_4 = record life_3 { entries = opened ∷ begun ∷ intended ∷ []; leases = lease ∷ []; has_granted = true }
+
+abbrev answer_1 : life.CallEnd
+answer_1 = life.Answered (answer.Success (codes "f1:1") (file_attrs (codes "f1:1") 5 (codes "web.txt") (codes "hello"))) 0 0
+
+abbrev life_5 : Life
+life_5 = record life_4 { leases = record lease { reply = Some answer_1 } ∷ []; lanes = files_with (made ∷ []) [] 1 ∷ [] }
+
+abbrev life_6 : Life
+life_6 = record life_5 { entries = opened ∷ begun ∷ intended ∷ answered ∷ []; leases = [] }
+
+abbrev life_7 : Life
+life_7 = record life_6 { entries = run }
+
+opening : Happens schemas start (life.Opened 1 ((codes "f1", file) ∷ []) life.Whole) life_1
+opening = (refl, opens, refl, refl)
+
+raising : Happens schemas life_1 (life.Raise (codes "f1") Raised 0 0) life_2
+raising = (refl, refl, files_with [] [] 0, (files_with [] [] 1).state, refl, lit≤ tt, (lit≤ tt, refl), refl)
+
+beginning : Happens schemas life_2 (life.Begin begun life.Whole) life_3
+beginning = (refl, (λ l i. only (λ (q : Lane). q.state.fence ≡ 1) {a = files_with [] [] 1} refl l i), tt, begins, refl)
+
+granting : Happens schemas life_3 (life.Grant intended life.Whole) life_4
+granting = (refl, tt, intends, refl)
+
+acting : Happens schemas life_4 (life.Act 1 answer_1) life_5
+acting = (lease, files_with [] [] 1, (files_with (made ∷ []) [] 1).state, refl, refl, refl, ((lit≤ tt, tt), (lit≤ tt, (_, (((codes "1", refl), lit≤ tt, refl, lit≤ tt), refl), refl))), refl)
+
+settling : Happens schemas life_5 (life.Settle 1 answered life.Whole) life_6
+settling = (refl, record lease { reply = Some answer_1 }, answer_1, refl, refl, refl, answers, refl)
+
+ending : Happens schemas life_6 (life.Grant done life.Whole) life_7
+ending = (refl, tt, ends, refl)
+
+closing : Happens schemas life_7 life.Close end
+closing = (refl, refl, refl)
+
+pub lives : Lives
+lives = (life_1, opening, (life_2, raising, (life_3, beginning, (life_4, granting, (life_5, acting, (life_6, settling, (life_7, ending, (end, closing, refl))))))))
+
+-- In the end: no call is open, one lane is there, and one resource is live on it.
+abbrev f1 : Lane
+f1 = files_with (made ∷ []) [] 1
+
+abbrev web_live : Live
+web_live = record { id = codes "f1:1"; kind = file; props = file_props (codes "web.txt") (codes "hello"); attrs = file_attrs (codes "f1:1") 5 (codes "web.txt") (codes "hello") }
+
+abbrev made_call : Call
+made_call = record { number = 1; token = 1; lane = codes "f1"; path = codes "Web"; request = made.request }
+
+none_open : (token : ℕ) (p : Pending) → open_at token world ≡ Some p → ⊥
+none_open token p e = let z : None ≡ Some p = e in cc
+
+none_answered : {p : Pending} {l : Lane} {s : Settled} → IsAnswered world end.lanes p l s → ⊥
+none_answered {p} a = none_open p.token p a.is_open
+
+-- the lane of a resource is the one
+home : (id : List ℕ) (l : Lane) → IsHome end.lanes id l → In l end.lanes
+home id l h = (found_passes (λ (q : Lane). bytes_eq l.name q.name) end.lanes l h.handed_in).1
+
+abbrev reply_1 : Answered
+reply_1 = record { token = 1; answer = told_of made.settlement; before = 0; after = 0 }
+
+is_made_call : (c : Call) → call_at 1 run ≡ Some c → made_call ≡ c
+is_made_call c e = some_is e
+
+fits : FitsCall run world (codes "f1") 1 made.request
+fits = record {
+  number = lit≤ tt;
+  written = λ c e. subst (λ q. (q.lane ≡ codes "f1") × (q.request ≡ made.request)) (is_made_call c e) (refl, refl);
+  is_open = λ p e. absurd (none_open 1 p e);
+}
+
+answered_at : (c : Call) (l : Lane) → call_at 1 run ≡ Some c → lane_at c.lane end.lanes ≡ Some l → (s : Settled) × (settled_at 1 l.state ≡ Some s) × (told_of s.settlement ≡ reply_1.answer)
+answered_at c l e at_lane = only (λ (q : Lane). (s : Settled) × (settled_at 1 q.state ≡ Some s) × (told_of s.settlement ≡ reply_1.answer)) {a = f1} (made, refl, refl) l (found_passes (λ (q : Lane). bytes_eq c.lane q.name) end.lanes l at_lane).1
+
+same_as_web : (v : Live) → live_at web.physical f1.state ≡ Some v → (v.props ≡ web.props) × (v.attrs ≡ web.attrs)
+same_as_web v e = subst (λ q. (q.props ≡ web.props) × (q.attrs ≡ web.attrs)) (some_is {a = web_live} e) (refl, refl)
+
+ties : Ties run world end.lanes
+ties = record {
+  settled_once = λ l i. only (λ (q : Lane). all_differ ◌==◌ (map (λ s. s.token) q.state.state.settled) ≡ true) {a = f1} refl l i;
+  base_once = λ l i. only (λ (q : Lane). all_differ bytes_eq (map (λ v. v.id) q.state.state.base) ≡ true) {a = f1} refl l i;
+  base_named = λ l v i j. absurd (in_none (only (λ (q : Lane). In v q.state.state.base → In v []) {a = f1} (λ k. k) l i j));
+  settled_calls = λ l s i j. only (λ (q : Lane). In s q.state.state.settled → FitsCall run world q.name s.token s.request) {a = f1} (λ k. only (λ (r : Settled). FitsCall run world (codes "f1") r.token r.request) {a = made} fits s k) l i j;
+  flying_calls = λ l f i j. absurd (in_none (only (λ (q : Lane). In f q.state.flying → In f []) {a = f1} (λ k. k) l i j));
+  answers = λ c r l i final called at_lane. only (λ (q : Answered). call_at q.token run ≡ Some c → (s : Settled) × (settled_at q.token l.state ≡ Some s) × (told_of s.settlement ≡ q.answer)) {a = reply_1} (λ k. answered_at c l k at_lane) r i called;
+  flying_open = λ l f i j. absurd (in_none (only (λ (q : Lane). In f q.state.flying → In f []) {a = f1} (λ k. k) l i j));
+  flying_epochs = λ l f i j. absurd (in_none (only (λ (q : Lane). In f q.state.flying → In f []) {a = f1} (λ k. k) l i j));
+  flying_at_rest = λ l f name s p i j. absurd (in_none (only (λ (q : Lane). In f q.state.flying → In f []) {a = f1} (λ k. k) l i j));
+  fences = λ l i. only (λ (q : Lane). q.state.fence ≤ 1) {a = f1} (lit≤ tt) l i;
+  ids_differ = refl;
+  ids_known = λ id l i h. only (λ (q : List ℕ). is_used q l.state.state ≡ true) {a = codes "f1:1"} (only (λ (q : Lane). is_used (codes "f1:1") q.state.state ≡ true) {a = f1} refl l (home id l h)) id i;
+  gone = λ r l i h (p, lane, s, a, e). absurd (none_answered a);
+  alive = λ r l i h there_is. only (λ (q : Held). (v : Live) × (live_at q.physical l.state ≡ Some v) × (v.kind ≡ q.kind)) {a = web} (only (λ (q : Lane). (v : Live) × (live_at web.physical q.state ≡ Some v) × (v.kind ≡ web.kind)) {a = f1} (web_live, refl, refl) l (home r.physical l h)) r i;
+  same = λ r l v i h sure unchanged live. only (λ (q : Held). live_at q.physical l.state ≡ Some v → (v.props ≡ q.props) × (v.attrs ≡ q.attrs)) {a = web} (only (λ (q : Lane). live_at web.physical q.state ≡ Some v → (v.props ≡ web.props) × (v.attrs ≡ web.attrs)) {a = f1} (λ k. same_as_web v k) l (home r.physical l h)) r i live;
+  changed = λ p l s id props attrs a e. absurd (none_answered a);
+  born = λ p l s id k props attrs a e. absurd (none_answered a);
+  born_once = λ p q l m s t id k k' props attrs props' attrs' a b e f. absurd (none_answered a);
+  listed = λ l v i j. only (λ (q : Lane). In v (live_of q.state.state) → IsListed world end.lanes q v.id) {a = f1} (λ k. only (λ (w : Live). IsListed world end.lanes f1 w.id) {a = web_live} (inl (codes "app", app, web, refl, inl here, refl)) v k) l i j;
+}
+
+abbrev leased : AreLeased end
+leased = record {
+  once = refl;
+  own_call = λ l i. absurd (in_none i);
+  accounted = λ l i. absurd (in_none i);
+  settled = λ l reply s lane i. absurd (in_none i);
+}
+
+pub holds : HoldsInTheEnd
+unfolding computing
+holds = record { agrees = record { legal = legal; ties = subst (λ x. Ties run x end.lanes) (sym leaves) ties }; leased = leased }

@@ -1,0 +1,322 @@
+-- A change set: another path replaces the file, and what refers to it may be replaced.
+use Rattle.std.proofs.Common.{◌≡◌, refl, List, [], ◌∷◌, Some, None, false, ℕ, inl, inr, sym, ap, lit≤}
+use Rattle.std.specs.Prelude.{codes}
+use Rattle.cf_tree.specs.declared.request.Request.TheVariants as request
+use Rattle.cf_entry.specs.declared.entry.Entry.{Entry}
+use Rattle.cf_stacks.specs.declared.state.World.{World}
+use Rattle.cf_stacks.specs.declared.state.StackState.{StackState}
+use Rattle.cf_stacks.specs.Fold.{empty_world, world_after, source_for}
+use Rattle.cf_stacks.specs.Status.{Forward}
+use Rattle.cf_plan.specs.Forward.{here, there, HasFailed, IsReady, AllDone, IsDone, is_made}
+use Rattle.cf_plan.specs.Follow.{MayFollow}
+use Rattle.cf_examples.specs.Given.{schemas, file, note, file_props, note_props, file_attrs, note_attrs}
+use Rattle.cf_examples.proofs.Computing.{computing}
+use Rattle.cf_examples.proofs.Lists.{in_none, only, either, not_empty}
+use Rattle.cf_examples.proofs.Failing.{not_failed, not_done_new}
+use Rattle.cf_examples.proofs.Ending.{end_of_create}
+use Rattle.cf_tree.specs.declared.template.Deletion.TheVariants as deletion
+use Rattle.cf_tree.specs.declared.template.Replace.TheVariants as replace
+use Rattle.cf_entry.specs.declared.entry.Entry.TheVariants as entry
+use Rattle.cf_entry.specs.declared.status.Status.TheVariants as status
+use Rattle.cf_stacks.specs.declared.held.HeldStatus.TheVariants as held
+use Rattle.cf_stacks.specs.Fold.{fold_of}
+use Rattle.cf_examples.specs.Given.{lane_pair, report_of}
+use Rattle.cf_examples.proofs.Refusing.{legal_step, fold_step, refused_at}
+use Rattle.cf_examples.proofs.Beginning.{no_imports}
+use Rattle.cf_examples.specs.Reviewed.{first, second, rows, opened, begun, intended_web, made_web, intended_rec, made_rec, created, reviewed, Legal, Shows, OtherRows}
+
+abbrev world_0 : World
+world_0 = empty_world
+
+may_opened : MayFollow schemas world_0 [] opened
+unfolding computing
+may_opened = (refl, refl, λ name s e. absurd (cc))
+
+abbrev world_1 : World
+world_1 = record { stacks = []; exports = []; pins = []; claims = []; lanes = (lane_pair (codes "f1") file ∷ lane_pair (codes "r1") note ∷ []); epoch = 1; operation = 0; set = 0; token = 0; place = 1 }
+
+leads_1 : world_after world_0 opened ≡ world_1
+unfolding computing
+leads_1 = refl
+
+may_begun : MayFollow schemas world_1 [] begun
+unfolding computing
+may_begun = (refl, refl, record { no_flaw = refl; known_types = refl; same_types = refl; imports = no_imports _ _ _ _ refl refl; free = refl; not_in_use = refl; changing = inl refl })
+
+abbrev stack_2_app : StackState
+stack_2_app = record {
+  status = status.CreateInProgress;
+  number = 1;
+  operation = 1;
+  held = [];
+  before = [];
+  made = [];
+  leftovers = [];
+  tokens = [];
+  abandoned = [];
+  source = None;
+  going = Some (source_for (codes "app") 1 first);
+  outputs = [];
+  sets = [];
+  events = ((codes "event 2 - CREATE_IN_PROGRESS") ∷ []);
+  entries = (begun ∷ []);
+}
+
+abbrev world_2 : World
+world_2 = record { stacks = (((codes "app"), stack_2_app) ∷ []); exports = []; pins = []; claims = []; lanes = (lane_pair (codes "f1") file ∷ lane_pair (codes "r1") note ∷ []); epoch = 1; operation = 1; set = 0; token = 0; place = 2 }
+
+leads_2 : world_after world_1 begun ≡ world_2
+unfolding computing
+leads_2 = refl
+
+sound_2 : ¬ HasFailed schemas (codes "app") world_2 stack_2_app
+unfolding computing
+sound_2 = not_failed schemas (codes "app") world_2 stack_2_app (record { calls = refl; paths = refl; inner = refl; flaws = refl; exports = refl })
+
+ready_2_Web : IsReady stack_2_app (codes "Web")
+unfolding computing
+ready_2_Web = (here, λ q i. absurd (in_none i))
+
+may_intended_web : MayFollow schemas world_2 [] intended_web
+unfolding computing
+may_intended_web = ((codes "app"), stack_2_app, Forward, refl, refl, record { next = refl; free = refl; home = refl; fits = refl; no_repeat = refl; chosen = (sound_2, ready_2_Web, not_done_new (codes "Web") stack_2_app refl refl refl, (refl, tt)) })
+
+abbrev stack_3_app : StackState
+stack_3_app = record {
+  status = status.CreateInProgress;
+  number = 1;
+  operation = 1;
+  held = [];
+  before = [];
+  made = [];
+  leftovers = [];
+  tokens = (record { token = 1; path = (codes "Web"); lane = (codes "f1"); request = (request.Create file (file_props (codes "a") (codes "x"))) } ∷ []);
+  abandoned = [];
+  source = None;
+  going = Some (source_for (codes "app") 1 first);
+  outputs = [];
+  sets = [];
+  events = ((codes "event 2 - CREATE_IN_PROGRESS") ∷ (codes "event 3 Web CREATE_IN_PROGRESS") ∷ []);
+  entries = (begun ∷ intended_web ∷ []);
+}
+
+abbrev world_3 : World
+world_3 = record { stacks = (((codes "app"), stack_3_app) ∷ []); exports = []; pins = []; claims = []; lanes = (lane_pair (codes "f1") file ∷ lane_pair (codes "r1") note ∷ []); epoch = 1; operation = 1; set = 0; token = 1; place = 3 }
+
+leads_3 : world_after world_2 intended_web ≡ world_3
+unfolding computing
+leads_3 = refl
+
+may_made_web : MayFollow schemas world_3 (1 ∷ []) made_web
+unfolding computing
+may_made_web = ((codes "app"), stack_3_app, Forward, refl, refl, (refl, refl, lit≤ tt))
+
+abbrev stack_4_app : StackState
+stack_4_app = record {
+  status = status.CreateInProgress;
+  number = 1;
+  operation = 1;
+  held = [];
+  before = [];
+  made = (record { path = (codes "Web"); kind = file; physical = (codes "f1:1"); props = (file_props (codes "a") (codes "x")); attrs = (file_attrs (codes "f1:1") 1 (codes "a") (codes "x")); needs = []; deletion = deletion.Delete; replace = replace.Delete; status = held.CreateComplete; unsure = false; superseded = false } ∷ []);
+  leftovers = [];
+  tokens = [];
+  abandoned = [];
+  source = None;
+  going = Some (source_for (codes "app") 1 first);
+  outputs = [];
+  sets = [];
+  events = ((codes "event 2 - CREATE_IN_PROGRESS") ∷ (codes "event 3 Web CREATE_IN_PROGRESS") ∷ (codes "event 4 Web CREATE_COMPLETE") ∷ []);
+  entries = (begun ∷ intended_web ∷ made_web ∷ []);
+}
+
+abbrev world_4 : World
+world_4 = record { stacks = (((codes "app"), stack_4_app) ∷ []); exports = []; pins = []; claims = []; lanes = (lane_pair (codes "f1") file ∷ lane_pair (codes "r1") note ∷ []); epoch = 1; operation = 1; set = 0; token = 1; place = 4 }
+
+leads_4 : world_after world_3 made_web ≡ world_4
+unfolding computing
+leads_4 = refl
+
+sound_4 : ¬ HasFailed schemas (codes "app") world_4 stack_4_app
+unfolding computing
+sound_4 = not_failed schemas (codes "app") world_4 stack_4_app (record { calls = refl; paths = refl; inner = refl; flaws = refl; exports = refl })
+
+ready_4_Rec : IsReady stack_4_app (codes "Rec")
+unfolding computing
+ready_4_Rec = (there here, λ q i. only (IsDone stack_4_app) (is_made _ refl) q i)
+
+may_intended_rec : MayFollow schemas world_4 [] intended_rec
+unfolding computing
+may_intended_rec = ((codes "app"), stack_4_app, Forward, refl, refl, record { next = refl; free = refl; home = refl; fits = refl; no_repeat = refl; chosen = (sound_4, ready_4_Rec, not_done_new (codes "Rec") stack_4_app refl refl refl, (refl, tt)) })
+
+abbrev stack_5_app : StackState
+stack_5_app = record {
+  status = status.CreateInProgress;
+  number = 1;
+  operation = 1;
+  held = [];
+  before = [];
+  made = (record { path = (codes "Web"); kind = file; physical = (codes "f1:1"); props = (file_props (codes "a") (codes "x")); attrs = (file_attrs (codes "f1:1") 1 (codes "a") (codes "x")); needs = []; deletion = deletion.Delete; replace = replace.Delete; status = held.CreateComplete; unsure = false; superseded = false } ∷ []);
+  leftovers = [];
+  tokens = (record { token = 2; path = (codes "Rec"); lane = (codes "r1"); request = (request.Create note (note_props (codes "f1:1") (codes "v"))) } ∷ []);
+  abandoned = [];
+  source = None;
+  going = Some (source_for (codes "app") 1 first);
+  outputs = [];
+  sets = [];
+  events = ((codes "event 2 - CREATE_IN_PROGRESS") ∷ (codes "event 3 Web CREATE_IN_PROGRESS") ∷ (codes "event 4 Web CREATE_COMPLETE") ∷ (codes "event 5 Rec CREATE_IN_PROGRESS") ∷ []);
+  entries = (begun ∷ intended_web ∷ made_web ∷ intended_rec ∷ []);
+}
+
+abbrev world_5 : World
+world_5 = record { stacks = (((codes "app"), stack_5_app) ∷ []); exports = []; pins = []; claims = []; lanes = (lane_pair (codes "f1") file ∷ lane_pair (codes "r1") note ∷ []); epoch = 1; operation = 1; set = 0; token = 2; place = 5 }
+
+leads_5 : world_after world_4 intended_rec ≡ world_5
+unfolding computing
+leads_5 = refl
+
+may_made_rec : MayFollow schemas world_5 (2 ∷ []) made_rec
+unfolding computing
+may_made_rec = ((codes "app"), stack_5_app, Forward, refl, refl, (refl, refl, lit≤ tt))
+
+abbrev stack_6_app : StackState
+stack_6_app = record {
+  status = status.CreateInProgress;
+  number = 1;
+  operation = 1;
+  held = [];
+  before = [];
+  made = (record { path = (codes "Web"); kind = file; physical = (codes "f1:1"); props = (file_props (codes "a") (codes "x")); attrs = (file_attrs (codes "f1:1") 1 (codes "a") (codes "x")); needs = []; deletion = deletion.Delete; replace = replace.Delete; status = held.CreateComplete; unsure = false; superseded = false } ∷ record { path = (codes "Rec"); kind = note; physical = (codes "r1:2"); props = (note_props (codes "f1:1") (codes "v")); attrs = (note_attrs (codes "r1:2") 1 (codes "f1:1") (codes "v")); needs = ((codes "Web") ∷ []); deletion = deletion.Delete; replace = replace.Delete; status = held.CreateComplete; unsure = false; superseded = false } ∷ []);
+  leftovers = [];
+  tokens = [];
+  abandoned = [];
+  source = None;
+  going = Some (source_for (codes "app") 1 first);
+  outputs = [];
+  sets = [];
+  events = ((codes "event 2 - CREATE_IN_PROGRESS") ∷ (codes "event 3 Web CREATE_IN_PROGRESS") ∷ (codes "event 4 Web CREATE_COMPLETE") ∷ (codes "event 5 Rec CREATE_IN_PROGRESS") ∷ (codes "event 6 Rec CREATE_COMPLETE") ∷ []);
+  entries = (begun ∷ intended_web ∷ made_web ∷ intended_rec ∷ made_rec ∷ []);
+}
+
+abbrev world_6 : World
+world_6 = record { stacks = (((codes "app"), stack_6_app) ∷ []); exports = []; pins = []; claims = []; lanes = (lane_pair (codes "f1") file ∷ lane_pair (codes "r1") note ∷ []); epoch = 1; operation = 1; set = 0; token = 2; place = 6 }
+
+leads_6 : world_after world_5 made_rec ≡ world_6
+unfolding computing
+leads_6 = refl
+
+all_done_6 : AllDone stack_6_app
+unfolding computing
+all_done_6 = λ p i. either (IsDone stack_6_app) (is_made _ refl) (is_made _ refl) p i
+
+sound_6 : ¬ HasFailed schemas (codes "app") world_6 stack_6_app
+unfolding computing
+sound_6 = not_failed schemas (codes "app") world_6 stack_6_app (record { calls = refl; paths = refl; inner = refl; flaws = refl; exports = refl })
+
+may_created : MayFollow schemas world_6 [] created
+unfolding computing
+may_created = ((codes "app"), stack_6_app, Forward, refl, refl, (refl, end_of_create schemas (codes "app") world_6 stack_6_app refl all_done_6 sound_6 refl, (sound_6, all_done_6), refl))
+
+abbrev stack_7_app : StackState
+stack_7_app = record {
+  status = status.CreateComplete;
+  number = 1;
+  operation = 1;
+  held = (record { path = (codes "Web"); kind = file; physical = (codes "f1:1"); props = (file_props (codes "a") (codes "x")); attrs = (file_attrs (codes "f1:1") 1 (codes "a") (codes "x")); needs = []; deletion = deletion.Delete; replace = replace.Delete; status = held.CreateComplete; unsure = false; superseded = false } ∷ record { path = (codes "Rec"); kind = note; physical = (codes "r1:2"); props = (note_props (codes "f1:1") (codes "v")); attrs = (note_attrs (codes "r1:2") 1 (codes "f1:1") (codes "v")); needs = ((codes "Web") ∷ []); deletion = deletion.Delete; replace = replace.Delete; status = held.CreateComplete; unsure = false; superseded = false } ∷ []);
+  before = [];
+  made = [];
+  leftovers = [];
+  tokens = [];
+  abandoned = [];
+  source = Some (source_for (codes "app") 1 first);
+  going = Some (source_for (codes "app") 1 first);
+  outputs = [];
+  sets = [];
+  events = ((codes "event 2 - CREATE_IN_PROGRESS") ∷ (codes "event 3 Web CREATE_IN_PROGRESS") ∷ (codes "event 4 Web CREATE_COMPLETE") ∷ (codes "event 5 Rec CREATE_IN_PROGRESS") ∷ (codes "event 6 Rec CREATE_COMPLETE") ∷ (codes "event 7 - CREATE_COMPLETE") ∷ []);
+  entries = (begun ∷ intended_web ∷ made_web ∷ intended_rec ∷ made_rec ∷ created ∷ []);
+}
+
+abbrev world_7 : World
+world_7 = record { stacks = (((codes "app"), stack_7_app) ∷ []); exports = []; pins = []; claims = []; lanes = (lane_pair (codes "f1") file ∷ lane_pair (codes "r1") note ∷ []); epoch = 1; operation = 1; set = 0; token = 2; place = 7 }
+
+leads_7 : world_after world_6 created ≡ world_7
+unfolding computing
+leads_7 = refl
+
+may_reviewed : MayFollow schemas world_7 [] reviewed
+unfolding computing
+may_reviewed = (refl, refl, record { accepted = record { no_flaw = refl; known_types = refl; same_types = refl; imports = no_imports _ _ _ _ refl refl; free = refl; not_in_use = refl; changing = inr (inl refl) }; changing = inl refl; rows_are = refl; outputs_are = refl })
+
+-- the set is kept
+
+abbrev stack_8_app : StackState
+stack_8_app = record {
+  status = status.CreateComplete;
+  number = 1;
+  operation = 1;
+  held = (record { path = (codes "Web"); kind = file; physical = (codes "f1:1"); props = (file_props (codes "a") (codes "x")); attrs = (file_attrs (codes "f1:1") 1 (codes "a") (codes "x")); needs = []; deletion = deletion.Delete; replace = replace.Delete; status = held.CreateComplete; unsure = false; superseded = false } ∷ record { path = (codes "Rec"); kind = note; physical = (codes "r1:2"); props = (note_props (codes "f1:1") (codes "v")); attrs = (note_attrs (codes "r1:2") 1 (codes "f1:1") (codes "v")); needs = ((codes "Web") ∷ []); deletion = deletion.Delete; replace = replace.Delete; status = held.CreateComplete; unsure = false; superseded = false } ∷ []);
+  before = [];
+  made = [];
+  leftovers = [];
+  tokens = [];
+  abandoned = [];
+  source = Some (source_for (codes "app") 1 first);
+  going = Some (source_for (codes "app") 1 first);
+  outputs = [];
+  sets = record { number = 1; source = source_for (codes "app") 0 second; rows = rows; outputs = false } ∷ [];
+  events = ((codes "event 2 - CREATE_IN_PROGRESS") ∷ (codes "event 3 Web CREATE_IN_PROGRESS") ∷ (codes "event 4 Web CREATE_COMPLETE") ∷ (codes "event 5 Rec CREATE_IN_PROGRESS") ∷ (codes "event 6 Rec CREATE_COMPLETE") ∷ (codes "event 7 - CREATE_COMPLETE") ∷ []);
+  entries = (begun ∷ intended_web ∷ made_web ∷ intended_rec ∷ made_rec ∷ created ∷ []);
+}
+
+abbrev world_8 : World
+world_8 = record { stacks = (((codes "app"), stack_8_app) ∷ []); exports = []; pins = []; claims = []; lanes = (lane_pair (codes "f1") file ∷ lane_pair (codes "r1") note ∷ []); epoch = 1; operation = 1; set = 1; token = 2; place = 8 }
+
+leads_8 : world_after world_7 reviewed ≡ world_8
+unfolding computing
+leads_8 = refl
+
+abbrev rest_8 : List Entry
+rest_8 = []
+
+abbrev rest_7 : List Entry
+rest_7 = reviewed ∷ rest_8
+
+abbrev rest_6 : List Entry
+rest_6 = created ∷ rest_7
+
+abbrev rest_5 : List Entry
+rest_5 = made_rec ∷ rest_6
+
+abbrev rest_4 : List Entry
+rest_4 = intended_rec ∷ rest_5
+
+abbrev rest_3 : List Entry
+rest_3 = made_web ∷ rest_4
+
+abbrev rest_2 : List Entry
+rest_2 = intended_web ∷ rest_3
+
+abbrev rest_1 : List Entry
+rest_1 = begun ∷ rest_2
+
+abbrev rest_0 : List Entry
+rest_0 = opened ∷ rest_1
+
+pub legal : Legal
+legal = legal_step world_0 world_1 opened rest_1 [] may_opened leads_1 (legal_step world_1 world_2 begun rest_2 [] may_begun leads_2 (legal_step world_2 world_3 intended_web rest_3 [] may_intended_web leads_3 (legal_step world_3 world_4 made_web rest_4 (1 ∷ []) may_made_web leads_4 (legal_step world_4 world_5 intended_rec rest_5 [] may_intended_rec leads_5 (legal_step world_5 world_6 made_rec rest_6 (2 ∷ []) may_made_rec leads_6 (legal_step world_6 world_7 created rest_7 [] may_created leads_7 (legal_step world_7 world_8 reviewed rest_8 [] may_reviewed leads_8 (tt))))))))
+
+arrives_7 : fold_of empty_world (opened ∷ begun ∷ intended_web ∷ made_web ∷ intended_rec ∷ made_rec ∷ created ∷ []) ≡ world_7
+arrives_7 = fold_step world_0 world_1 opened (begun ∷ intended_web ∷ made_web ∷ intended_rec ∷ made_rec ∷ created ∷ []) leads_1 (fold_step world_1 world_2 begun (intended_web ∷ made_web ∷ intended_rec ∷ made_rec ∷ created ∷ []) leads_2 (fold_step world_2 world_3 intended_web (made_web ∷ intended_rec ∷ made_rec ∷ created ∷ []) leads_3 (fold_step world_3 world_4 made_web (intended_rec ∷ made_rec ∷ created ∷ []) leads_4 (fold_step world_4 world_5 intended_rec (made_rec ∷ created ∷ []) leads_5 (fold_step world_5 world_6 made_rec (created ∷ []) leads_6 (fold_step world_6 world_7 created ([]) leads_7 (refl)))))))
+
+arrives_8 : fold_of empty_world (opened ∷ begun ∷ intended_web ∷ made_web ∷ intended_rec ∷ made_rec ∷ created ∷ reviewed ∷ []) ≡ world_8
+arrives_8 = fold_step world_0 world_1 opened (begun ∷ intended_web ∷ made_web ∷ intended_rec ∷ made_rec ∷ created ∷ reviewed ∷ []) leads_1 (fold_step world_1 world_2 begun (intended_web ∷ made_web ∷ intended_rec ∷ made_rec ∷ created ∷ reviewed ∷ []) leads_2 (fold_step world_2 world_3 intended_web (made_web ∷ intended_rec ∷ made_rec ∷ created ∷ reviewed ∷ []) leads_3 (fold_step world_3 world_4 made_web (intended_rec ∷ made_rec ∷ created ∷ reviewed ∷ []) leads_4 (fold_step world_4 world_5 intended_rec (made_rec ∷ created ∷ reviewed ∷ []) leads_5 (fold_step world_5 world_6 made_rec (created ∷ reviewed ∷ []) leads_6 (fold_step world_6 world_7 created (reviewed ∷ []) leads_7 (fold_step world_7 world_8 reviewed ([]) leads_8 (refl))))))))
+
+pub report_0 : Shows
+report_0 = ap (report_of (codes "app")) arrives_8
+
+may_not_0 : (out : List ℕ) → MayFollow schemas world_7 out (entry.ChangeSet 1 (codes "app") second [] false) → ⊥
+unfolding computing
+may_not_0 = λ out may. not_empty rows refl (sym may.2.rows_are)
+
+pub refused_0 : OtherRows
+refused_0 = refused_at world_7 (opened ∷ begun ∷ intended_web ∷ made_web ∷ intended_rec ∷ made_rec ∷ created ∷ []) (entry.ChangeSet 1 (codes "app") second [] false) arrives_7 may_not_0

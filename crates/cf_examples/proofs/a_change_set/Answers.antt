@@ -1,0 +1,11 @@
+use Rattle.cf_examples.proofs.Reviewed.{legal, report_0, refused_0}
+use Rattle.cf_examples.proofs.a_change_set.Goals as goal
+
+pub returns-clause-legal : goal.returns-clause-legal
+returns-clause-legal c = legal
+
+pub returns-clause-shows : goal.returns-clause-shows
+returns-clause-shows c = report_0
+
+pub returns-clause-other_rows : goal.returns-clause-other_rows
+returns-clause-other_rows c = refused_0

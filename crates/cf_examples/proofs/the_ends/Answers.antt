@@ -1,0 +1,14 @@
+use Rattle.cf_examples.proofs.Ends.{replacement_is_complete, late_effect_is_restored, rollback_is_cleared, failures_are_blamed}
+use Rattle.cf_examples.proofs.the_ends.Goals as goal
+
+pub returns-clause-complete : goal.returns-clause-complete
+returns-clause-complete c = replacement_is_complete
+
+pub returns-clause-restored : goal.returns-clause-restored
+returns-clause-restored c = late_effect_is_restored
+
+pub returns-clause-cleared : goal.returns-clause-cleared
+returns-clause-cleared c = rollback_is_cleared
+
+pub returns-clause-blamed : goal.returns-clause-blamed
+returns-clause-blamed c = failures_are_blamed

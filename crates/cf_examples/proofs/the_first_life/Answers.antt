@@ -1,0 +1,8 @@
+use Rattle.cf_examples.proofs.FirstLife.{lives, holds}
+use Rattle.cf_examples.proofs.the_first_life.Goals as goal
+
+pub returns-clause-lives : goal.returns-clause-lives
+returns-clause-lives c = lives
+
+pub returns-clause-holds : goal.returns-clause-holds
+returns-clause-holds c = holds

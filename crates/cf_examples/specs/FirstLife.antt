@@ -1,0 +1,35 @@
+-- The first resource as the life of an engine: a new journal is opened over one lane, its fence is raised, a stack is begun, a call is granted, made and written down, and the book is closed.
+use Rattle.std.specs.Prelude.{ℕ, List, [], ◌∷◌, codes, true, false}
+use Rattle.cf_tree.specs.declared.request.Answer.TheVariants as answer
+use Rattle.cf_tree.specs.declared.request.Request.TheVariants as request
+use Rattle.cf_handler.specs.declared.settled.Settled.{Settled}
+use Rattle.cf_handler.specs.declared.settled.Settlement.TheVariants as settlement
+use Rattle.cf_handler.specs.Fence.{Flying, Raised}
+use Rattle.cf_plan.specs.Lanes.{Lane}
+use Rattle.cf_plan.specs.Life.{Life, Event, Opened, Begin, Grant, Settle, Raise, Act, Close, Whole, Answered, IsLife, Holds}
+use Rattle.cf_examples.specs.Given.{file, file_props, file_attrs, schemas, lane_with}
+use Rattle.cf_examples.specs.FirstResource.{begun, intended, answered, done, run}
+
+-- the one lane
+abbrev pub files_with : List Settled → List Flying → ℕ → Lane
+files_with = lane_with (codes "f1") file
+
+abbrev pub start : Life
+start = record { entries = []; lanes = files_with [] [] 0 ∷ []; leases = []; is_open = false; has_granted = false; is_stopped = false }
+
+abbrev pub events : List Event
+events =
+    Opened 1 ((codes "f1", file) ∷ []) Whole ∷ Raise (codes "f1") Raised 0 0 ∷ Begin begun Whole ∷ Grant intended Whole ∷ Act 1 (Answered (answer.Success (codes "f1:1") (file_attrs (codes "f1:1") 5 (codes "web.txt") (codes "hello"))) 0 0) ∷ Settle 1 answered Whole ∷ Grant done Whole ∷ Close ∷ []
+
+-- what is settled in the end
+abbrev pub made : Settled
+made = record { token = 1; request = request.Create file (file_props (codes "web.txt") (codes "hello")); settlement = settlement.Success (codes "f1:1") (file_attrs (codes "f1:1") 5 (codes "web.txt") (codes "hello")) }
+
+abbrev pub end : Life
+end = record { entries = run; lanes = files_with (made ∷ []) [] 1 ∷ []; leases = []; is_open = false; has_granted = true; is_stopped = false }
+
+abbrev pub Lives : Type 0
+Lives = IsLife schemas start events end
+
+abbrev pub HoldsInTheEnd : Type 0
+HoldsInTheEnd = Holds schemas end
