@@ -1,5 +1,5 @@
 -- A text with a word in place of each byte, piece by piece.
-use Rattle.std.proofs.Common.{◌≡◌, ℕ, ◌&&◌, ◌==◌, List, [], ◌∷◌, ◌++◌, length, drop, slice_index, Bool, true, false, Option, Some, None, option_map, append_assoc, refl, ap, sym, ◌∙◌, nat_eq, arith, cond, subst}
+use Rattle.std.proofs.Common.{◌≡◌, ℕ, ◌&&◌, List, [], ◌∷◌, ◌++◌, length, slice_index, Bool, true, false, Option, Some, None, option_map, append_assoc, refl, ap, sym, ◌∙◌, nat_eq, arith, cond, subst}
 use Rattle.std.specs.List.{starts_with}
 use Rattle.cf_funcs.specs.Pieces.{cut_at}
 use Rattle.cf_template.specs.Places.{replaced}

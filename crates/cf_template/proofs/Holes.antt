@@ -6,7 +6,6 @@ use Rattle.std.proofs.lemmas.Str.{encode_ascii}
 use Rattle.cf_funcs.proofs.Found.{false_from}
 use Rattle.cf_tree.specs.declared.parts.Part.TheVariants as part
 use Rattle.std.specs.List.{starts_with}
-use Rattle.std.proofs.lemmas.Option.{none-some}
 use Rattle.std.proofs.lemmas.List.{take-append-drop}
 use Rattle.std.proofs.lemmas.Slice.Eq.{bytes_eq-Decides}
 use Rattle.cf_funcs.specs.Pieces.{cut_at}

@@ -3,3 +3,4 @@ pub mod Counts
 pub mod References
 pub mod Escapes
 pub mod Holes
+pub mod Steps

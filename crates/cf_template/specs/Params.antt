@@ -9,6 +9,8 @@ use Rattle.cf_tree.specs.declared.template.Param.{Param}
 use Rattle.cf_tree.specs.declared.template.Kind.{Kind}
 use Rattle.cf_tree.specs.declared.template.Kind.TheVariants as kind
 use Rattle.cf_template.specs.declared.refusal.ReadFault.TheVariants.{WrongShape, BadName, Unsupported}
+use Rattle.cf_template.specs.declared.param.Words.{Words}
+use Rattle.cf_template.specs.declared.param.Limits.{Limits}
 use Rattle.cf_template.specs.Refusals.{Reading, after, mapped, provided}
 use Rattle.cf_template.specs.Places.{member_at}
 use Rattle.cf_template.specs.Words.{is_name}
@@ -41,10 +43,13 @@ abbrev pub length_bound : Option ℕ → Option ℕ
 length_bound None = None
 length_bound (Some n) = if nat_le n 999999999 then Some n else None
 
+abbrev pub length_in : Data → Option ℕ
+length_in (number n) = as_u64 n
+length_in (string t) = digits_of 18 t
+length_in d = None
+
 abbrev pub length_of : Data → List ℕ → Reading ℕ
-length_of (number n) at = found_or at (length_bound (as_u64 n))
-length_of (string t) at = found_or at (length_bound (digits_of 18 t))
-length_of d at = Err (WrongShape at)
+length_of d at = found_or at (length_bound (length_in d))
 
 -- a bound on values: a number text, or a number whose decimal text is one; it counts in 10^-9
 abbrev pub bound_of : Data → List ℕ → Reading ℤ
@@ -58,42 +63,67 @@ truth_of (boolean b) at = Ok b
 truth_of (string t) at = if bytes_eq t (codes "true") then Ok true else if bytes_eq t (codes "false") then Ok false else Err (WrongShape at)
 truth_of d at = Err (WrongShape at)
 
-abbrev pub kind_of : Data → List ℕ → Reading Kind
-kind_of (string t) at =
+abbrev pub kind_named : List ℕ → List ℕ → Reading Kind
+kind_named t at =
     if bytes_eq t (codes "String") then Ok kind.Text
     else if bytes_eq t (codes "Number") then Ok kind.Number
     else if bytes_eq t (codes "List<Number>") then Ok kind.Numbers
     else if bytes_eq t (codes "CommaDelimitedList") then Ok kind.Commas
     else Err (Unsupported at t)
+
+abbrev pub kind_of : Data → List ℕ → Reading Kind
+kind_of (string t) at = kind_named t at
 kind_of d at = Err (WrongShape at)
 
--- the members of a parameter, one after another in byte order
-abbrev pub param_fields : List ℕ → Data → List ℕ → Reading Param
-param_fields name d at =
+-- the members of a parameter, one after another in byte order: first those that are texts, then the others
+abbrev pub words_of : Data → List ℕ → Reading Words
+words_of d at =
     after (optional plain_text (codes "AllowedPattern") d at) (λ pattern.
     after (optional scalars_of (codes "AllowedValues") d at) (λ allowed.
     after (optional plain_text (codes "ConstraintDescription") d at) (λ constraint.
     after (optional scalar_of (codes "Default") d at) (λ default.
-    after (optional plain_text (codes "Description") d at) (λ description.
+    mapped (λ description. record {
+      pattern = pattern;
+      allowed = allowed;
+      constraint = constraint;
+      default = default;
+      description = description;
+    }) (optional plain_text (codes "Description") d at)))))
+
+abbrev pub limits_of : Data → List ℕ → Reading Limits
+limits_of d at =
     after (optional length_of (codes "MaxLength") d at) (λ max_length.
     after (optional bound_of (codes "MaxValue") d at) (λ max_value.
     after (optional length_of (codes "MinLength") d at) (λ min_length.
     after (optional bound_of (codes "MinValue") d at) (λ min_value.
     after (optional truth_of (codes "NoEcho") d at) (λ no_echo.
     mapped (λ kind. record {
-      name = name;
-      kind = kind;
-      default = default;
-      allowed = allowed;
-      pattern = pattern;
-      min_length = min_length;
       max_length = max_length;
-      min_value = min_value;
       max_value = max_value;
-      no_echo = unwrap_or no_echo false;
-      description = description;
-      constraint = constraint;
-    }) (required kind_of (codes "Type") d at)))))))))))
+      min_length = min_length;
+      min_value = min_value;
+      no_echo = no_echo;
+      kind = kind;
+    }) (required kind_of (codes "Type") d at))))))
+
+abbrev pub param_with : List ℕ → Words → Limits → Param
+param_with name w l = record {
+  name = name;
+  kind = l.kind;
+  default = w.default;
+  allowed = w.allowed;
+  pattern = w.pattern;
+  min_length = l.min_length;
+  max_length = l.max_length;
+  min_value = l.min_value;
+  max_value = l.max_value;
+  no_echo = unwrap_or l.no_echo false;
+  description = w.description;
+  constraint = w.constraint;
+}
+
+abbrev pub param_fields : List ℕ → Data → List ℕ → Reading Param
+param_fields name d at = after (words_of d at) (λ w. mapped (param_with name w) (limits_of d at))
 
 -- a parameter: an object with known members and a type
 abbrev pub param_of : List ℕ → Data → List ℕ → Reading Param

@@ -1,5 +1,5 @@
 -- Nulls and numbers, wherever they stand in a template: a null is refused everywhere, and a number that is no signed whole number of 64 bits everywhere but in the Metadata of the template and of its resources (this project's own; User Guide: Metadata is free). An object or a list comes before its members, members come in the order of their names' bytes.
-use Rattle.std.specs.Prelude.{◌≡◌, ◌⊎◌, ℕ, suc, List, [], ◌∷◌, codes, Bool, true, is_some, Option, Some, None, Result, Ok, Err, ⊤, if◌then◌else◌}
+use Rattle.std.specs.Prelude.{◌≡◌, ◌⊎◌, ℕ, suc, List, codes, Bool, true, is_some, Option, Some, None, Result, Ok, Err, ⊤, if◌then◌else◌}
 use Rattle.std.specs.Str.{bytes_eq}
 use Rattle.serde_json.specs.Data.{Num, Data, null, boolean, number, string, array, object, Items, no_items, item, Members, no_members, member}
 use Rattle.serde_json.specs.Find.{as_i64}

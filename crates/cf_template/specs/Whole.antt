@@ -43,10 +43,14 @@ is_version None = true
 is_version (Some (string t)) = bytes_eq t (codes "2010-09-09")
 is_version (Some d) = false
 
+-- why a section may not have so many members
+abbrev pub count_fault : List ℕ → ℕ → ℕ → Option ReadFault
+count_fault name most n = if nat_le n most then None else Some (TooMany name n)
+
 -- a section of a name, with so many members at most
 abbrev pub section : {A : Type 0} → (Members → List ℕ → List A → Reading (List A)) → ℕ → List ℕ → Option Data → Reading (List A)
 section read most name None = Ok []
-section read most name (Some (object ms)) = provided (nat_le (count ms) most) (TooMany name (count ms)) (read ms (member_at [] name) [])
+section read most name (Some (object ms)) = unless (count_fault name most (count ms)) (read ms (member_at [] name) [])
 section read most name (Some d) = Err (WrongShape (member_at [] name))
 
 -- a section of a name without a limit
@@ -55,10 +59,14 @@ free_section read name None = Ok []
 free_section read name (Some (object ms)) = read ms (member_at [] name) []
 free_section read name (Some d) = Err (WrongShape (member_at [] name))
 
+-- why the section that must be there may not have so few members
+abbrev pub empty_fault : List ℕ → ℕ → Option ReadFault
+empty_fault name n = if nat_lt 0 n then None else Some (WrongShape (member_at [] name))
+
 -- the section that must be there, with one member at least
 abbrev pub required_section : {A : Type 0} → (Members → List ℕ → List A → Reading (List A)) → ℕ → List ℕ → Option Data → Reading (List A)
 required_section read most name None = Err (WrongShape (member_at [] name))
-required_section read most name (Some (object ms)) = provided (nat_lt 0 (count ms)) (WrongShape (member_at [] name)) (section read most name (Some (object ms)))
+required_section read most name (Some (object ms)) = unless (empty_fault name (count ms)) (section read most name (Some (object ms)))
 required_section read most name (Some d) = Err (WrongShape (member_at [] name))
 
 -- the sections, one after another

@@ -9,6 +9,7 @@ ghost use Rattle.cf_template.specs.Functions.{function_in, function_named, is_de
 ghost use Rattle.cf_funcs.specs.Pieces.{cut_at};
 ghost use Rattle.cf_template.specs.declared.refusal.ReadFault.TheVariants.{WrongShape};
 ghost use Rattle.cf_template.specs.Refusals.{Gives, GivesBy, after, mapped};
+ghost use Rattle.cf_template.specs.Places.{item_at};
 
 use crate::function::{Function, function_named, has_function, is_declared};
 use crate::path::{cut, item_at, member_at};
@@ -42,6 +43,19 @@ pub(crate) fn text(alloc: Global, value: &Value, at: Txt) -> Result<Txt, ReadFau
             Err(ReadFault::WrongShape { path: at })
         }
     }
+}
+
+/// A literal text that is the item of an index.
+pub(crate) fn text_item(
+    alloc: Global,
+    value: &Value,
+    at: &Txt,
+    index: usize,
+) -> Result<Txt, ReadFault>
+    ensures { Gives (text_of (view value.now) (item_at at.now index)) result }
+{
+    let place = item_at(alloc, at.as_str(), index)?;
+    text(alloc, value, place)
 }
 
 /// A literal text as an expression.
@@ -198,7 +212,7 @@ fn parameter(
 }
 
 /// A delimiter at which texts are cut: a literal text that isn't empty.
-pub(crate) fn cut_at(alloc: Global, value: &Value, at: Txt) -> Result<Txt, ReadFault>
+fn cut_at(alloc: Global, value: &Value, at: Txt) -> Result<Txt, ReadFault>
     ensures { Gives (delimiter (view value.now) at) result }
 {
     let place = at.try_clone(alloc)?;
@@ -208,4 +222,17 @@ pub(crate) fn cut_at(alloc: Global, value: &Value, at: Txt) -> Result<Txt, ReadF
     } else {
         Ok(text)
     }
+}
+
+/// A delimiter at which texts are cut, that is the item of an index.
+pub(crate) fn cut_at_item(
+    alloc: Global,
+    value: &Value,
+    at: &Txt,
+    index: usize,
+) -> Result<Txt, ReadFault>
+    ensures { Gives (delimiter (view value.now) (item_at at.now index)) result }
+{
+    let place = item_at(alloc, at.as_str(), index)?;
+    cut_at(alloc, value, place)
 }

@@ -2,21 +2,30 @@
 #![tactic(auto)]
 
 mod arguments;
+mod cond;
+mod expr;
 mod fault;
 mod find;
 mod function;
+mod mapping;
+mod output;
+mod param;
 mod path;
 mod plain;
 mod refusal;
+mod resource;
+mod shape;
 mod subs;
 mod value;
 mod walk;
+mod whole;
 mod words;
 
 pub use fault::TemplateFault;
 pub use plain::read_template;
 pub use refusal::ReadFault;
 pub use subs::{SubFault, sub_parts};
+pub use whole::read_whole;
 
 #[cfg(test)]
 mod tests;

@@ -1,0 +1,412 @@
+//! The values of properties, outputs and conditions.
+ghost use Rattle.std.specs.Prelude.{◌≡◌, []};
+ghost use Rattle.serde_json.specs.Data.{array, object};
+ghost use Rattle.serde_json.specs.View.{view, items_view, members_view};
+ghost use Rattle.cf_tree.specs.Form.{node_of};
+ghost use Rattle.cf_template.specs.Functions.{function_in};
+ghost use Rattle.cf_template.specs.Exprs.{call_of, choice_of, fields_in, form_of, forms_in, holed_text, join_of, map_of, select_of, split_of, sub_of, values_of};
+ghost use Rattle.cf_template.specs.Refusals.{Gives, GivesBy, inside};
+ghost use Rattle.cf_template.specs.Places.{item_at};
+
+use crate::arguments::{
+    cut_at_item, get_att, stray, stray_object, text, text_form, text_item, wrong_shape,
+};
+use crate::find::find;
+use crate::function::{Function, function_named, has_function};
+use crate::path::{item_at, member_at};
+use crate::refusal::ReadFault;
+use crate::subs::{SubFault, sub_parts};
+use cf_tree::{Expr, ExprDict, ExprNode, Exprs, Params, Parts, Txt, Val};
+use serde_json::{Map, Value};
+use std::alloc::Global;
+
+/// A value, as an expression.
+#[cycle(form)]
+pub(crate) fn value(
+    alloc: Global,
+    params: &Params,
+    value: &Value,
+    at: Txt,
+) -> Result<Expr, ReadFault>
+    ensures { Gives (form_of params.now (view value.now) at) result }
+{
+    match value {
+        Value::Null => Err(ReadFault::WrongShape { path: at }),
+        Value::Bool(truth) => Ok(Expr::new(at, ExprNode::Lit(Val::Truth(*truth)))),
+        Value::Number(number) => match number.as_i64() {
+            Some(whole) => Ok(Expr::new(at, ExprNode::Lit(Val::Whole(whole)))),
+            None => Err(ReadFault::WrongShape { path: at }),
+        },
+        Value::String(text) => text_form(alloc, text.as_str(), at),
+        Value::Array(items) => {
+            let items = values(alloc, params, items, &at)?;
+            Ok(Expr::new(at, ExprNode::List(items)))
+        }
+        Value::Object(members) => object(alloc, params, members, at),
+    }
+}
+
+#[cycle(form)]
+fn object(
+    alloc: Global,
+    params: &Params,
+    members: &Map<String, Value>,
+    at: Txt,
+) -> Result<Expr, ReadFault>
+    ensures { Gives (form_of params.now (object (members_view members.now.entries)) at) result }
+{
+    if has_function(members) {
+        let node = call(alloc, params, members, &at)?;
+        Ok(Expr::new(at, node))
+    } else {
+        let fields = fields(alloc, params, members, &at)?;
+        Ok(Expr::new(at, ExprNode::Dict(fields)))
+    }
+}
+
+#[cycle(form)]
+fn values(alloc: Global, params: &Params, items: &Vec<Value>, at: &Txt) -> Result<Exprs, ReadFault>
+    ensures { Gives (forms_in params.now (items_view items.now.items) at.now 0 []) result }
+{
+    let mut found = Exprs::new(alloc);
+    let mut index = 0;
+    for item in items {
+        let place = item_at(alloc, at.as_str(), index)?;
+        found.push(value(alloc, params, item, place)?)?;
+        index += 1;
+    }
+    Ok(found)
+}
+
+#[cycle(form)]
+fn fields(
+    alloc: Global,
+    params: &Params,
+    members: &Map<String, Value>,
+    at: &Txt,
+) -> Result<ExprDict, ReadFault>
+    ensures { Gives (fields_in params.now (members_view members.now.entries) at.now []) result }
+{
+    let mut found = ExprDict::new(alloc);
+    for (name, member) in members.iter() {
+        let place = member_at(alloc, at.as_str(), name.as_str())?;
+        let field = value(alloc, params, member, place)?;
+        found.insert(Txt::from_str(alloc, name.as_str())?, field)?;
+    }
+    Ok(found)
+}
+
+#[cycle(form)]
+fn call(
+    alloc: Global,
+    params: &Params,
+    members: &Map<String, Value>,
+    at: &Txt,
+) -> Result<ExprNode, ReadFault>
+    ensures { GivesBy node_of (call_of params.now (function_in (members_view members.now.entries)) (members_view members.now.entries) at.now) result }
+{
+    let mut left = members.iter();
+    let (Some((name, argument)), None) = (left.next(), left.next()) else {
+        return Err(ReadFault::WrongShape {
+            path: at.try_clone(alloc)?,
+        });
+    };
+    let place = member_at(alloc, at.as_str(), name.as_str())?;
+    match function_named(name.as_str()) {
+        Function::Ref => Ok(ExprNode::Ref(text(alloc, argument, place)?)),
+        Function::GetAtt => get_att(alloc, params, argument, place),
+        Function::Sub => sub(alloc, params, argument, place),
+        Function::Join => join(alloc, params, argument, place),
+        Function::Split => split(alloc, params, argument, place),
+        Function::Select => select(alloc, params, argument, place),
+        Function::FindInMap => find(alloc, params, argument, place),
+        Function::If => choice(alloc, params, argument, place),
+        Function::ImportValue => Ok(ExprNode::Import(value_box(alloc, params, argument, place)?)),
+        Function::Base64 => Ok(ExprNode::Base64(value_box(alloc, params, argument, place)?)),
+        Function::Equals
+        | Function::Not
+        | Function::And
+        | Function::Or
+        | Function::Unsupported
+        | Function::Unknown => Err(stray(alloc, name.as_str(), at)?),
+    }
+}
+
+#[cycle(form)]
+fn value_box(
+    alloc: Global,
+    params: &Params,
+    argument: &Value,
+    at: Txt,
+) -> Result<Box<Expr>, ReadFault>
+    ensures { GivesBy inside (form_of params.now (view argument.now) at) result }
+{
+    let value = value(alloc, params, argument, at)?;
+    Ok(Box::new(alloc, value)?)
+}
+
+#[cycle(form)]
+fn value_item(
+    alloc: Global,
+    params: &Params,
+    argument: &Value,
+    at: &Txt,
+    index: usize,
+) -> Result<Box<Expr>, ReadFault>
+    ensures { GivesBy inside (form_of params.now (view argument.now) (item_at at.now index)) result }
+{
+    let place = item_at(alloc, at.as_str(), index)?;
+    let value = value(alloc, params, argument, place)?;
+    Ok(Box::new(alloc, value)?)
+}
+
+/// A text with holes, or such a text and a map of values for its names.
+#[cycle(form)]
+fn sub(alloc: Global, params: &Params, argument: &Value, at: Txt) -> Result<ExprNode, ReadFault>
+    ensures { GivesBy node_of (sub_of params.now (view argument.now) at) result }
+{
+    match argument {
+        Value::String(_) => {
+            let parts = holed_text(alloc, argument, at)?;
+            let map = ExprDict::new(alloc);
+            Ok(ExprNode::Sub { parts, map })
+        }
+        Value::Array(items) => sub_items(alloc, params, items, &at),
+        Value::Null | Value::Bool(_) | Value::Number(_) | Value::Object(_) => {
+            Err(ReadFault::WrongShape { path: at })
+        }
+    }
+}
+
+#[cycle(form)]
+fn sub_items(
+    alloc: Global,
+    params: &Params,
+    items: &Vec<Value>,
+    at: &Txt,
+) -> Result<ExprNode, ReadFault>
+    ensures { GivesBy node_of (sub_of params.now (array (items_view items.now.items)) at.now) result }
+{
+    let mut left = items.iter();
+    let Some(text) = left.next() else {
+        return Err(wrong_shape(alloc, at)?);
+    };
+    let Some(map) = left.next() else {
+        return Err(wrong_shape(alloc, at)?);
+    };
+    if left.next().is_some() {
+        return Err(wrong_shape(alloc, at)?);
+    }
+    let parts = holed_item(alloc, text, at, 0)?;
+    let map = map_item(alloc, params, map, at, 1)?;
+    Ok(ExprNode::Sub { parts, map })
+}
+
+#[cycle(form)]
+fn map_item(
+    alloc: Global,
+    params: &Params,
+    value: &Value,
+    at: &Txt,
+    index: usize,
+) -> Result<ExprDict, ReadFault>
+    ensures { Gives (map_of params.now (view value.now) (item_at at.now index)) result }
+{
+    let place = item_at(alloc, at.as_str(), index)?;
+    map_of(alloc, params, value, place)
+}
+
+/// An object that is a map of values and no function.
+#[cycle(form)]
+pub(crate) fn map_of(
+    alloc: Global,
+    params: &Params,
+    value: &Value,
+    at: Txt,
+) -> Result<ExprDict, ReadFault>
+    ensures { Gives (map_of params.now (view value.now) at) result }
+{
+    match value {
+        Value::Object(members) => {
+            if has_function(members) {
+                Err(stray_object(alloc, members, at)?)
+            } else {
+                fields(alloc, params, members, &at)
+            }
+        }
+        Value::Null | Value::Bool(_) | Value::Number(_) | Value::String(_) | Value::Array(_) => {
+            Err(ReadFault::WrongShape { path: at })
+        }
+    }
+}
+
+#[cycle(form)]
+fn join(alloc: Global, params: &Params, argument: &Value, at: Txt) -> Result<ExprNode, ReadFault>
+    ensures { GivesBy node_of (join_of params.now (view argument.now) at) result }
+{
+    match argument {
+        Value::Array(items) => join_items(alloc, params, items, &at),
+        Value::Null | Value::Bool(_) | Value::Number(_) | Value::String(_) | Value::Object(_) => {
+            Err(ReadFault::WrongShape { path: at })
+        }
+    }
+}
+
+#[cycle(form)]
+fn join_items(
+    alloc: Global,
+    params: &Params,
+    items: &Vec<Value>,
+    at: &Txt,
+) -> Result<ExprNode, ReadFault>
+    ensures { GivesBy node_of (join_of params.now (array (items_view items.now.items)) at.now) result }
+{
+    let mut left = items.iter();
+    let Some(delimiter) = left.next() else {
+        return Err(wrong_shape(alloc, at)?);
+    };
+    let Some(list) = left.next() else {
+        return Err(wrong_shape(alloc, at)?);
+    };
+    if left.next().is_some() {
+        return Err(wrong_shape(alloc, at)?);
+    }
+    let delimiter = text_item(alloc, delimiter, at, 0)?;
+    let list = value_item(alloc, params, list, at, 1)?;
+    Ok(ExprNode::Join { delimiter, list })
+}
+
+#[cycle(form)]
+fn split(alloc: Global, params: &Params, argument: &Value, at: Txt) -> Result<ExprNode, ReadFault>
+    ensures { GivesBy node_of (split_of params.now (view argument.now) at) result }
+{
+    match argument {
+        Value::Array(items) => split_items(alloc, params, items, &at),
+        Value::Null | Value::Bool(_) | Value::Number(_) | Value::String(_) | Value::Object(_) => {
+            Err(ReadFault::WrongShape { path: at })
+        }
+    }
+}
+
+#[cycle(form)]
+fn split_items(
+    alloc: Global,
+    params: &Params,
+    items: &Vec<Value>,
+    at: &Txt,
+) -> Result<ExprNode, ReadFault>
+    ensures { GivesBy node_of (split_of params.now (array (items_view items.now.items)) at.now) result }
+{
+    let mut left = items.iter();
+    let Some(delimiter) = left.next() else {
+        return Err(wrong_shape(alloc, at)?);
+    };
+    let Some(text) = left.next() else {
+        return Err(wrong_shape(alloc, at)?);
+    };
+    if left.next().is_some() {
+        return Err(wrong_shape(alloc, at)?);
+    }
+    let delimiter = cut_at_item(alloc, delimiter, at, 0)?;
+    let text = value_item(alloc, params, text, at, 1)?;
+    Ok(ExprNode::Split { delimiter, text })
+}
+
+#[cycle(form)]
+fn select(alloc: Global, params: &Params, argument: &Value, at: Txt) -> Result<ExprNode, ReadFault>
+    ensures { GivesBy node_of (select_of params.now (view argument.now) at) result }
+{
+    match argument {
+        Value::Array(items) => select_items(alloc, params, items, &at),
+        Value::Null | Value::Bool(_) | Value::Number(_) | Value::String(_) | Value::Object(_) => {
+            Err(ReadFault::WrongShape { path: at })
+        }
+    }
+}
+
+#[cycle(form)]
+fn select_items(
+    alloc: Global,
+    params: &Params,
+    items: &Vec<Value>,
+    at: &Txt,
+) -> Result<ExprNode, ReadFault>
+    ensures { GivesBy node_of (select_of params.now (array (items_view items.now.items)) at.now) result }
+{
+    let mut left = items.iter();
+    let Some(index) = left.next() else {
+        return Err(wrong_shape(alloc, at)?);
+    };
+    let Some(list) = left.next() else {
+        return Err(wrong_shape(alloc, at)?);
+    };
+    if left.next().is_some() {
+        return Err(wrong_shape(alloc, at)?);
+    }
+    let index = value_item(alloc, params, index, at, 0)?;
+    let list = value_item(alloc, params, list, at, 1)?;
+    Ok(ExprNode::Select { index, list })
+}
+
+/// The name of a condition, and a value for each outcome.
+#[cycle(form)]
+fn choice(alloc: Global, params: &Params, argument: &Value, at: Txt) -> Result<ExprNode, ReadFault>
+    ensures { GivesBy node_of (choice_of params.now (view argument.now) at) result }
+{
+    match argument {
+        Value::Array(items) => choice_items(alloc, params, items, &at),
+        Value::Null | Value::Bool(_) | Value::Number(_) | Value::String(_) | Value::Object(_) => {
+            Err(ReadFault::WrongShape { path: at })
+        }
+    }
+}
+
+#[cycle(form)]
+fn choice_items(
+    alloc: Global,
+    params: &Params,
+    items: &Vec<Value>,
+    at: &Txt,
+) -> Result<ExprNode, ReadFault>
+    ensures { GivesBy node_of (choice_of params.now (array (items_view items.now.items)) at.now) result }
+{
+    let mut left = items.iter();
+    let Some(name) = left.next() else {
+        return Err(wrong_shape(alloc, at)?);
+    };
+    let Some(yes) = left.next() else {
+        return Err(wrong_shape(alloc, at)?);
+    };
+    let Some(no) = left.next() else {
+        return Err(wrong_shape(alloc, at)?);
+    };
+    if left.next().is_some() {
+        return Err(wrong_shape(alloc, at)?);
+    }
+    let name = text_item(alloc, name, at, 0)?;
+    let yes = value_item(alloc, params, yes, at, 1)?;
+    let no = value_item(alloc, params, no, at, 2)?;
+    Ok(ExprNode::If { name, yes, no })
+}
+
+/// A text with holes.
+fn holed_text(alloc: Global, value: &Value, at: Txt) -> Result<Parts, ReadFault>
+    ensures { Gives (holed_text (view value.now) at) result }
+{
+    let place = at.try_clone(alloc)?;
+    let text = text(alloc, value, at)?;
+    match sub_parts(alloc, text.as_str()) {
+        Ok(parts) => Ok(parts),
+        Err(SubFault::NoMemory) => Err(ReadFault::NoMemory),
+        Err(SubFault::Unclosed { at: _ } | SubFault::Empty { at: _ }) => Err(ReadFault::WrongShape {
+            path: place,
+        }),
+    }
+}
+
+fn holed_item(alloc: Global, value: &Value, at: &Txt, index: usize) -> Result<Parts, ReadFault>
+    ensures { Gives (holed_text (view value.now) (item_at at.now index)) result }
+{
+    let place = item_at(alloc, at.as_str(), index)?;
+    holed_text(alloc, value, place)
+}

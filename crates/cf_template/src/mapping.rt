@@ -1,0 +1,111 @@
+//! The mappings of a template.
+ghost use Rattle.std.specs.Prelude.{◌≡◌, []};
+ghost use Rattle.cf_tree.specs.Value.{datum_of};
+ghost use Rattle.serde_json.specs.View.{view, items_view, members_view};
+ghost use Rattle.cf_template.specs.Maps.{mapped_text, mapped_value, mapping_of, mappings_in, row_of, rows_in, values_in};
+ghost use Rattle.cf_template.specs.Shapes.{items_from};
+ghost use Rattle.cf_template.specs.Refusals.{Gives, GivesBy};
+
+use crate::path::{item_at, member_at};
+use crate::refusal::ReadFault;
+use crate::shape::plain_text;
+use crate::words::is_name;
+use cf_tree::{ByName, Dict, Mappings, Txt, Val, Vals};
+use serde_json::{Map, Value};
+use std::alloc::Global;
+
+/// The section of mappings.
+pub(crate) fn mappings(
+    alloc: Global,
+    members: &Map<String, Value>,
+    at: &Txt,
+) -> Result<Mappings, ReadFault>
+    ensures { Gives (mappings_in (members_view members.now.entries) at.now []) result }
+{
+    let mut found = Mappings::new(alloc);
+    for (name, member) in members.iter() {
+        let place = member_at(alloc, at.as_str(), name.as_str())?;
+        if !is_name(name.as_str()) {
+            return Err(ReadFault::BadName { path: place });
+        }
+        let mapping = mapping(alloc, member, place)?;
+        found.insert(Txt::from_str(alloc, name.as_str())?, mapping)?;
+    }
+    Ok(found)
+}
+
+fn mapping(alloc: Global, value: &Value, at: Txt) -> Result<ByName<Dict>, ReadFault>
+    ensures { Gives (mapping_of (view value.now) at) result }
+{
+    match value {
+        Value::Object(members) => rows(alloc, members, &at),
+        Value::Null | Value::Bool(_) | Value::Number(_) | Value::String(_) | Value::Array(_) => {
+            Err(ReadFault::WrongShape { path: at })
+        }
+    }
+}
+
+fn rows(alloc: Global, members: &Map<String, Value>, at: &Txt) -> Result<ByName<Dict>, ReadFault>
+    ensures { Gives (rows_in (members_view members.now.entries) at.now []) result }
+{
+    let mut found = ByName::new(alloc);
+    for (name, member) in members.iter() {
+        let place = member_at(alloc, at.as_str(), name.as_str())?;
+        let row = row(alloc, member, place)?;
+        found.insert(Txt::from_str(alloc, name.as_str())?, row)?;
+    }
+    Ok(found)
+}
+
+fn row(alloc: Global, value: &Value, at: Txt) -> Result<Dict, ReadFault>
+    ensures { Gives (row_of (view value.now) at) result }
+{
+    match value {
+        Value::Object(members) => cells(alloc, members, &at),
+        Value::Null | Value::Bool(_) | Value::Number(_) | Value::String(_) | Value::Array(_) => {
+            Err(ReadFault::WrongShape { path: at })
+        }
+    }
+}
+
+fn cells(alloc: Global, members: &Map<String, Value>, at: &Txt) -> Result<Dict, ReadFault>
+    ensures { Gives (values_in (members_view members.now.entries) at.now []) result }
+{
+    let mut found = Dict::new(alloc);
+    for (name, member) in members.iter() {
+        let place = member_at(alloc, at.as_str(), name.as_str())?;
+        let cell = cell(alloc, member, place)?;
+        found.insert(Txt::from_str(alloc, name.as_str())?, cell)?;
+    }
+    Ok(found)
+}
+
+/// A text, a whole number, a truth value, or a list of texts.
+fn cell(alloc: Global, value: &Value, at: Txt) -> Result<Val, ReadFault>
+    ensures { GivesBy datum_of (mapped_value (view value.now) at) result }
+{
+    match value {
+        Value::String(text) => Ok(Val::Text(Txt::from_str(alloc, text.as_str())?)),
+        Value::Bool(truth) => Ok(Val::Truth(*truth)),
+        Value::Number(number) => match number.as_i64() {
+            Some(whole) => Ok(Val::Whole(whole)),
+            None => Err(ReadFault::WrongShape { path: at }),
+        },
+        Value::Array(items) => Ok(Val::List(texts(alloc, items, &at)?)),
+        Value::Null | Value::Object(_) => Err(ReadFault::WrongShape { path: at }),
+    }
+}
+
+fn texts(alloc: Global, items: &Vec<Value>, at: &Txt) -> Result<Vals, ReadFault>
+    ensures { Gives (items_from mapped_text (items_view items.now.items) at.now 0 []) result }
+{
+    let mut found = Vals::new(alloc);
+    let mut index = 0;
+    for item in items {
+        let place = item_at(alloc, at.as_str(), index)?;
+        let text = plain_text(alloc, item, place)?;
+        found.push(Val::Text(text))?;
+        index += 1;
+    }
+    Ok(found)
+}

@@ -1,0 +1,274 @@
+//! The resources of a template.
+ghost use Rattle.std.specs.Prelude.{◌≡◌, []};
+ghost use Rattle.serde_json.specs.Data.{object};
+ghost use Rattle.serde_json.specs.View.{view, members_view};
+ghost use Rattle.cf_template.specs.Exprs.{values_of};
+ghost use Rattle.cf_template.specs.Resources.{deletion_of, deletion_named, names_of, replace_named, replace_of, resource_fields, resource_member_fault, resource_members_fault, resource_of, resources_in, is_resource_member, is_untaken_member};
+ghost use Rattle.cf_template.specs.Shapes.{optional};
+ghost use Rattle.cf_template.specs.Refusals.{Gives, Finds};
+
+use crate::expr::map_of;
+use crate::path::member_at;
+use crate::refusal::ReadFault;
+use crate::shape::{has, optional_text, plain_texts, required_text, skip_object};
+use crate::words::is_name;
+use cf_tree::{Deletion, ExprDict, Names, Params, Replace, Res, Resources, Txt};
+use serde_json::{Map, Value};
+use std::alloc::Global;
+
+/// The section of resources.
+pub(crate) fn resources(
+    alloc: Global,
+    params: &Params,
+    members: &Map<String, Value>,
+    at: &Txt,
+) -> Result<Resources, ReadFault>
+    ensures { Gives (resources_in params.now (members_view members.now.entries) at.now []) result }
+{
+    let mut found = Resources::new(alloc);
+    for (name, member) in members.iter() {
+        let place = member_at(alloc, at.as_str(), name.as_str())?;
+        if !is_name(name.as_str()) {
+            return Err(ReadFault::BadName { path: place });
+        }
+        let resource = resource(alloc, params, name.as_str(), member, &place)?;
+        found.push(resource)?;
+    }
+    Ok(found)
+}
+
+fn resource(
+    alloc: Global,
+    params: &Params,
+    name: &str,
+    value: &Value,
+    at: &Txt,
+) -> Result<Res, ReadFault>
+    ensures { Gives (resource_of params.now name.now (view value.now) at.now) result }
+{
+    let Value::Object(members) = value else {
+        return Err(ReadFault::WrongShape {
+            path: at.try_clone(alloc)?,
+        });
+    };
+    test_members(alloc, members, at)?;
+    if has(value, "Type") {
+        fields(alloc, params, name, value, at)
+    } else {
+        Err(ReadFault::WrongShape {
+            path: at.try_clone(alloc)?,
+        })
+    }
+}
+
+/// Refuses the first member that a resource may not have.
+fn test_members(alloc: Global, members: &Map<String, Value>, at: &Txt) -> Result<(), ReadFault>
+    ensures { Finds (resource_members_fault (members_view members.now.entries) at.now) result }
+{
+    for (name, _) in members.iter() {
+        test_member(alloc, name.as_str(), at)?;
+    }
+    Ok(())
+}
+
+fn test_member(alloc: Global, name: &str, at: &Txt) -> Result<(), ReadFault>
+    ensures { Finds (resource_member_fault name.now at.now) result }
+{
+    if is_resource_member(name) {
+        Ok(())
+    } else if is_untaken_member(name) {
+        Err(ReadFault::Unsupported {
+            path: member_at(alloc, at.as_str(), name)?,
+            name: Txt::from_str(alloc, name)?,
+        })
+    } else {
+        Err(ReadFault::WrongShape {
+            path: at.try_clone(alloc)?,
+        })
+    }
+}
+
+fn is_resource_member(name: &str) -> bool
+    ensures { result ≡ is_resource_member name.now }
+{
+    matches!(
+        name,
+        "Condition"
+            | "DeletionPolicy"
+            | "DependsOn"
+            | "Metadata"
+            | "Properties"
+            | "Type"
+            | "UpdateReplacePolicy"
+    )
+}
+
+fn is_untaken_member(name: &str) -> bool
+    ensures { result ≡ is_untaken_member name.now }
+{
+    matches!(name, "CreationPolicy" | "UpdatePolicy")
+}
+
+fn fields(
+    alloc: Global,
+    params: &Params,
+    name: &str,
+    object: &Value,
+    at: &Txt,
+) -> Result<Res, ReadFault>
+    ensures { Gives (resource_fields params.now name.now (view object.now) at.now) result }
+{
+    let condition = optional_text(alloc, object, "Condition", at)?;
+    let deletion = optional_deletion(alloc, object, "DeletionPolicy", at)?;
+    let depends = optional_names(alloc, object, "DependsOn", at)?;
+    skip_object(alloc, object, "Metadata", at)?;
+    let props = optional_values(alloc, params, object, "Properties", at)?;
+    let kind = required_text(alloc, object, "Type", at)?;
+    let replace = optional_replace(alloc, object, "UpdateReplacePolicy", at)?;
+    Ok(Res {
+        name: Txt::from_str(alloc, name)?,
+        kind,
+        props: props.unwrap_or(ExprDict::new(alloc)),
+        depends: depends.unwrap_or(Names::new(alloc)),
+        condition,
+        deletion,
+        replace,
+    })
+}
+
+/// A text, or a list of texts.
+fn names(alloc: Global, value: &Value, at: Txt) -> Result<Names, ReadFault>
+    ensures { Gives (names_of (view value.now) at) result }
+{
+    match value {
+        Value::String(text) => {
+            let mut found = Names::new(alloc);
+            found.push(Txt::from_str(alloc, text.as_str())?)?;
+            Ok(found)
+        }
+        Value::Array(items) => plain_texts(alloc, items, &at),
+        Value::Null | Value::Bool(_) | Value::Number(_) | Value::Object(_) => {
+            Err(ReadFault::WrongShape { path: at })
+        }
+    }
+}
+
+fn optional_names(
+    alloc: Global,
+    object: &Value,
+    name: &str,
+    at: &Txt,
+) -> Result<Option<Names>, ReadFault>
+    ensures { Gives (optional names_of name.now (view object.now) at.now) result }
+{
+    match object.get(name) {
+        Some(value) => {
+            let place = member_at(alloc, at.as_str(), name)?;
+            Ok(Some(names(alloc, value, place)?))
+        }
+        None => Ok(None),
+    }
+}
+
+fn optional_values(
+    alloc: Global,
+    params: &Params,
+    object: &Value,
+    name: &str,
+    at: &Txt,
+) -> Result<Option<ExprDict>, ReadFault>
+    ensures { Gives (optional (values_of params.now) name.now (view object.now) at.now) result }
+{
+    match object.get(name) {
+        Some(value) => {
+            let place = member_at(alloc, at.as_str(), name)?;
+            Ok(Some(map_of(alloc, params, value, place)?))
+        }
+        None => Ok(None),
+    }
+}
+
+fn deletion(alloc: Global, value: &Value, at: Txt) -> Result<Deletion, ReadFault>
+    ensures { Gives (deletion_of (view value.now) at) result }
+{
+    match value {
+        Value::String(text) => deletion_named(alloc, text.as_str(), at),
+        Value::Null | Value::Bool(_) | Value::Number(_) | Value::Array(_) | Value::Object(_) => {
+            Err(ReadFault::WrongShape { path: at })
+        }
+    }
+}
+
+fn deletion_named(alloc: Global, text: &str, at: Txt) -> Result<Deletion, ReadFault>
+    ensures { Gives (deletion_named text.now at) result }
+{
+    match text {
+        "Delete" => Ok(Deletion::Delete),
+        "Retain" => Ok(Deletion::Retain),
+        "RetainExceptOnCreate" => Ok(Deletion::RetainExceptOnCreate),
+        "Snapshot" => Err(ReadFault::Unsupported {
+            path: at,
+            name: Txt::from_str(alloc, text)?,
+        }),
+        _ => Err(ReadFault::WrongShape { path: at }),
+    }
+}
+
+fn optional_deletion(
+    alloc: Global,
+    object: &Value,
+    name: &str,
+    at: &Txt,
+) -> Result<Option<Deletion>, ReadFault>
+    ensures { Gives (optional deletion_of name.now (view object.now) at.now) result }
+{
+    match object.get(name) {
+        Some(value) => {
+            let place = member_at(alloc, at.as_str(), name)?;
+            Ok(Some(deletion(alloc, value, place)?))
+        }
+        None => Ok(None),
+    }
+}
+
+fn replace(alloc: Global, value: &Value, at: Txt) -> Result<Replace, ReadFault>
+    ensures { Gives (replace_of (view value.now) at) result }
+{
+    match value {
+        Value::String(text) => replace_named(alloc, text.as_str(), at),
+        Value::Null | Value::Bool(_) | Value::Number(_) | Value::Array(_) | Value::Object(_) => {
+            Err(ReadFault::WrongShape { path: at })
+        }
+    }
+}
+
+fn replace_named(alloc: Global, text: &str, at: Txt) -> Result<Replace, ReadFault>
+    ensures { Gives (replace_named text.now at) result }
+{
+    match text {
+        "Delete" => Ok(Replace::Delete),
+        "Retain" => Ok(Replace::Retain),
+        "Snapshot" => Err(ReadFault::Unsupported {
+            path: at,
+            name: Txt::from_str(alloc, text)?,
+        }),
+        _ => Err(ReadFault::WrongShape { path: at }),
+    }
+}
+
+fn optional_replace(
+    alloc: Global,
+    object: &Value,
+    name: &str,
+    at: &Txt,
+) -> Result<Option<Replace>, ReadFault>
+    ensures { Gives (optional replace_of name.now (view object.now) at.now) result }
+{
+    match object.get(name) {
+        Some(value) => {
+            let place = member_at(alloc, at.as_str(), name)?;
+            Ok(Some(replace(alloc, value, place)?))
+        }
+        None => Ok(None),
+    }
+}
