@@ -15,7 +15,7 @@ use Rattle.cf_engine.specs.Lanes.{Told, settled_by, settled_at, IsFresh, AreFres
 use Rattle.cf_engine.specs.Step.{StepTells, StepBlames, TellsAt, BlamesAt}
 
 -- what the list says of the lane x at i
-read_at : {A X : Type 0} (f : A → X) (xs : List A) (i : ℕ) (x : A) (d : X) → i < length xs → x ≡ get_or xs i x → get_or (map f xs) i d ≡ f x
+pub read_at : {A X : Type 0} (f : A → X) (xs : List A) (i : ℕ) (x : A) (d : X) → i < length xs → x ≡ get_or xs i x → get_or (map f xs) i d ≡ f x
 read_at f xs i x d h e = get_or-map f xs i x d h ∙ ap f (sym e)
 
 pub same_at : {A X : Type 0} (f : A → X) (xs : List A) (i : ℕ) (x y : A) → x ≡ get_or xs i x → f y ≡ f x → map f (slice_set xs i y) ≡ map f xs
@@ -36,13 +36,13 @@ tells_at told xs i token r Faulted x y h e (inr t) = inr (t.0, settled_now told 
 tells_at told xs i token r NoMemory x y h e t = same_at told xs i x y e t
 
 -- and of y, which takes its place
-now_at : {A X : Type 0} (f : A → X) (xs : List A) (i : ℕ) (y : A) (d : X) → i < length xs → get_or (map f (slice_set xs i y)) i d ≡ f y
+pub now_at : {A X : Type 0} (f : A → X) (xs : List A) (i : ℕ) (y : A) (d : X) → i < length xs → get_or (map f (slice_set xs i y)) i d ≡ f y
 now_at f xs i y d h = ap (λ l. get_or l i d) (map-set f xs i y) ∙ get_or-set_same (map f xs) i (f y) d (rw (length-map xs f) h)
 
 else_at : {A X : Type 0} (f : A → X) (xs : List A) (i k : ℕ) (y : A) (d : X) → k ≢ i → get_or (map f (slice_set xs i y)) k d ≡ get_or (map f xs) k d
 else_at f xs i k y d n = ap (λ l. get_or l k d) (map-set f xs i y) ∙ get_or-set_other (map f xs) i k (f y) d n
 
-later_at : {A : Type 0} (count : A → ℕ) (xs : List A) (i : ℕ) (x y : A) → i < length xs → x ≡ get_or xs i x → count x ≤ count y → AreLater (map count xs) (map count (slice_set xs i y))
+pub later_at : {A : Type 0} (count : A → ℕ) (xs : List A) (i : ℕ) (x y : A) → i < length xs → x ≡ get_or xs i x → count x ≤ count y → AreLater (map count xs) (map count (slice_set xs i y))
 later_at count xs i x y h e t k =
     elim (eqb_tells k i) [
       | inl d ↦ rw (d.1, read_at count xs i x 0 h e, now_at count xs i y 0 h) t

@@ -2,6 +2,11 @@ pub mod Texts
 pub mod Spaced
 pub mod Lanes
 pub mod Runs
+pub mod Moved
+pub mod Written
+pub mod Cut
+pub mod Behind
+pub mod Stepped
 pub mod Rows
 pub mod Alive
 pub mod Lines

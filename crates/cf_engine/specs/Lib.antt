@@ -3,7 +3,14 @@ pub mod Words
 pub mod StatusName
 pub mod Exit
 pub mod Report
+pub mod Stack
+pub mod Book
 pub mod Lanes
+pub mod Written
+pub mod Calls
+pub mod Run
+pub mod Make
+pub mod Opening
 pub mod Step
 pub mod Create
 pub mod Refusals

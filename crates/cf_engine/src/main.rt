@@ -1,13 +1,19 @@
 //! A stack engine on one machine: `cfstack HOME WORKERS WORD ..`.
 #![tactic(auto)]
 
+mod book;
 mod cause;
+mod course;
 mod create;
 mod deploy;
 mod exit;
 mod line;
+mod make;
+mod numbers;
+mod opening;
 mod print;
 mod report;
+mod stack;
 mod status_name;
 #[cfg(test)]
 mod tests;
