@@ -7,6 +7,8 @@ pub mod Written
 pub mod Cut
 pub mod Behind
 pub mod Stepped
+pub mod Folded
+pub mod Deployed
 pub mod Rows
 pub mod Alive
 pub mod Lines

@@ -11,6 +11,7 @@ pub mod Calls
 pub mod Run
 pub mod Make
 pub mod Opening
+pub mod Deployment
 pub mod Step
 pub mod Create
 pub mod Refusals

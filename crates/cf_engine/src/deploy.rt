@@ -28,7 +28,7 @@ pub enum Outcome {
 }
 
 /// The exit where the library holds no template of the name.
-fn missing(alloc: Global, name: &Txt) -> Exit
+pub fn missing(alloc: Global, name: &Txt) -> Exit
     ensures { RefusesAs (Plan (TemplateMissing name.now)) result }
 {
     match name.try_clone(alloc) {
@@ -54,7 +54,7 @@ fn refused(alloc: Global, name: &Txt, fault: TemplateFault) -> Exit
 }
 
 /// The exit where the bytes under the name were not read.
-fn unread(alloc: Global, name: &Txt, fault: TemplateFault) -> Exit
+pub fn unread(alloc: Global, name: &Txt, fault: TemplateFault) -> Exit
     ensures { UnreadAs name.now fault result }
 {
     match fault {
@@ -65,7 +65,7 @@ fn unread(alloc: Global, name: &Txt, fault: TemplateFault) -> Exit
 }
 
 /// The exit where a resource's type has no lane.
-fn unknown(alloc: Global, resource: &Planned) -> Exit
+pub fn unknown(alloc: Global, resource: &Planned) -> Exit
     ensures { RefusesAs (UnknownType resource.now.name resource.now.kind) result }
 {
     match (

@@ -6,6 +6,7 @@ mod cause;
 mod course;
 mod create;
 mod deploy;
+mod deployment;
 mod exit;
 mod line;
 mod make;
