@@ -9,6 +9,9 @@ pub mod Behind
 pub mod Stepped
 pub mod Folded
 pub mod Deployed
+pub mod Entered
 pub mod Rows
+pub mod Settles
 pub mod Alive
+pub mod Journaled
 pub mod Lines

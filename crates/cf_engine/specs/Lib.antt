@@ -12,10 +12,10 @@ pub mod Run
 pub mod Make
 pub mod Opening
 pub mod Deployment
-pub mod Step
-pub mod Create
+pub mod Meeting
+pub mod Telling
 pub mod Refusals
-pub mod Deploy
 pub mod Print
 pub mod Alive
 pub mod Alone
+pub mod Answer

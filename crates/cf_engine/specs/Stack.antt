@@ -1,5 +1,5 @@
 -- What a journal's entries leave of one stack: the part of the fold that creations need ("Stack status codes" of the CloudFormation User Guide; tokens and numbers are this project's own).
-use Rattle.std.specs.Prelude.{◌≡◌, ℕ, ◌==◌, ◌&&◌, Bool, true, false, List, [], ◌∷◌, ◌++◌, Option, Some, None, option_map, if◌then◌else◌, map, codes}
+use Rattle.std.specs.Prelude.{◌≡◌, ℕ, ◌==◌, ◌&&◌, Bool, true, false, List, [], ◌∷◌, ◌++◌, Option, Some, None, option_map, if◌then◌else◌, codes}
 use Rattle.std.specs.Str.{bytes_eq}
 use Rattle.cf_tree.specs.declared.request.Request.{Request}
 use Rattle.cf_tree.specs.declared.request.Request.TheVariants as request
@@ -80,6 +80,3 @@ stack_of name es = stack_behind name None es
 -- what a report says of what is held
 abbrev pub row_of : Held → Row
 row_of h = record { path = h.path; kind = h.kind; physical = h.physical; status = codes "CREATE_COMPLETE" }
-
-abbrev pub rows_of : List Held → List Row
-rows_of hs = map row_of hs
