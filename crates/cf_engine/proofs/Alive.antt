@@ -2,17 +2,20 @@
 use Rattle.std.proofs.Common.{◌≡◌, ◌≢◌, ℕ, zero, suc, ◌+◌, ◌≤◌, ◌==◌, Bool, true, false, cond, List, [], ◌∷◌, ◌++◌, length, Option, Some, None, option_map, ◌⊎◌, inl, inr, get_or, slice_set, refl, sym, ap, ◌∙◌, subst, true≢false, arith, append_assoc, append-nil}
 use Rattle.std.proofs.lemmas.Bool.{eqb-true, eq-eqb}
 use Rattle.std.proofs.lemmas.List.{get_or-set_other}
-use Rattle.cf_tree.specs.Datum.{Data}
 use Rattle.cf_tree.specs.declared.planned.Planned.{Planned}
 use Rattle.cf_tree.specs.declared.request.Request.TheVariants.{Create}
+use Rattle.cf_entry.specs.declared.entry.Reply.{Reply}
+use Rattle.cf_entry.specs.declared.entry.Reply.TheVariants as reply
 use Rattle.cf_handler.specs.declared.settled.Settled.{Settled}
 use Rattle.cf_handler.specs.declared.settled.Settlement.{Settlement}
 use Rattle.cf_handler.specs.declared.settled.Settlement.TheVariants.{Success, Failed}
 use Rattle.cf_handler.specs.Lane.{Live, LaneState, live_of, live_after, changed_by}
-use Rattle.cf_engine.specs.declared.create.Made.{Made}
-use Rattle.cf_engine.specs.Lanes.{Told, lane_for, settled_by, settled_at}
-use Rattle.cf_engine.specs.Create.{after_creates, StopsAt}
-use Rattle.cf_engine.specs.Alive.{live_as, is_lane, lives_at, Grows, AreLive, AreLiveAtLeast}
+use Rattle.cf_engine.specs.declared.cause.Reason.{Reason}
+use Rattle.cf_engine.specs.Lanes.{Told, lane_for, settled_by, settled_at, AreFresh}
+use Rattle.cf_engine.specs.Written.{Call}
+use Rattle.cf_engine.specs.Calls.{reason_of, IsMade, AreMade, FailsLast, AreCalled}
+use Rattle.cf_engine.specs.Alive.{lives_by, is_lane, lives_at, Grows, AreLive, AreLiveAtLeast}
+use Rattle.cf_engine.proofs.Settles.{SettlesAs, called_settles, fresh_next}
 
 -- one more settled call changes what is live last
 live_more : (live : List Live) (ss : List Settled) (s : Settled) → live_after live (ss ++ s ∷ []) ≡ changed_by s.request s.settlement (live_after live ss)
@@ -64,21 +67,6 @@ grows_at : (lane : Option ℕ) (k token : ℕ) (r : Planned) (s : Settlement) (t
 grows_at None k token r s told = grows_not (get_or told k None)
 grows_at (Some i) k token r s told = grows_at-by k i token r s told (k == i) refl
 
-more_at : (k : ℕ) (lane : Option ℕ) (r : Planned) (m : Made) (rest : List Live) → made_at k lane r (Success m.physical m.attrs) ++ rest ≡ cond (is_lane k lane) (live_as r m ∷ rest) rest
-more_at k None r m rest = refl
-more_at k (Some i) r m rest = elim (k == i) as (λ b. cond b (live_as r m ∷ []) [] ++ rest ≡ cond b (live_as r m ∷ rest) rest) [ true ↦ refl | false ↦ refl ]
-
--- the creations that were answered make their resources live, and nothing else
-pub creates_live : (kinds : List (List ℕ)) (told : Told) (token : ℕ) (rs : List Planned) (ms : List Made) (k : ℕ) → Grows (get_or told k None) (get_or (after_creates kinds told token rs ms) k None) (lives_at kinds k rs ms)
-creates_live kinds told token [] ms k = grows_not (get_or told k None)
-creates_live kinds told token (r ∷ rs) [] k = grows_not (get_or told k None)
-creates_live kinds told token (r ∷ rs) (m ∷ ms) k =
-    let next : Told = settled_at (lane_for kinds r.kind) token r (Success m.physical m.attrs) told in
-    let after : Told = after_creates kinds next (token + 1) rs ms in
-    subst (Grows (get_or told k None) (get_or after k None)) (more_at k (lane_for kinds r.kind) r m (lives_at kinds k rs ms))
-    (grows_both (get_or told k None) (get_or next k None) (get_or after k None) (made_at k (lane_for kinds r.kind) r (Success m.physical m.attrs)) (lives_at kinds k rs ms)
-    (grows_at (lane_for kinds r.kind) k token r (Success m.physical m.attrs) told) (creates_live kinds next (token + 1) rs ms k))
-
 made_short : (b : Bool) (r : Planned) (s : Settlement) → length (cond b (made_by r s) []) ≤ 1
 made_short true r (Success physical attrs) = omega arith
 made_short true r (Failed code) = omega arith
@@ -88,15 +76,80 @@ settle_live : (lane : Option ℕ) (before after : Told) (token : ℕ) (r : Plann
 settle_live lane before after token r s k e =
     (made_at k lane r s, made_short (is_lane k lane) r s, subst (λ (t : Told). Grows (get_or before k None) (get_or t k None) (made_at k lane r s)) (sym e) (grows_at lane k token r s before))
 
--- one more that stopped the run makes one more live at most
-pub stop_live : (lane : Option ℕ) (before after : Told) (token : ℕ) (r : Planned) (k : ℕ) → StopsAt lane before after token r → (more : List Live) × (length more ≤ 1) × Grows (get_or before k None) (get_or after k None) more
-stop_live lane before after token r k (inl (code, e)) = settle_live lane before after token r (Failed code) k e
-stop_live lane before after token r k (inr (inl e)) =
-    ([], omega arith, subst (λ (t : Told). Grows (get_or before k None) (get_or t k None) []) (sym e) (grows_not (get_or before k None)))
-stop_live lane before after token r k (inr (inr (s, e))) = settle_live lane before after token r s k e
+none≢some : {A : Type 0} (x : A) → None ≡ Some x → ⊥
+none≢some x e = cc
 
--- so the run that stopped made those before it live, and one more at most
-pub stops_live : (kinds : List (List ℕ)) (told after : Told) (rs : List Planned) (ms : List Made) (lane : Option ℕ) (token : ℕ) (r : Planned) → StopsAt lane (after_creates kinds told 1 rs ms) after token r → AreLiveAtLeast kinds told after rs ms
-stops_live kinds told after rs ms lane token r s k =
-    let one = stop_live lane (after_creates kinds told 1 rs ms) after token r k s in
-    (one.0, one.1, grows_both (get_or told k None) (get_or (after_creates kinds told 1 rs ms) k None) (get_or after k None) (lives_at kinds k rs ms) one.0 (creates_live kinds told 1 rs ms k) one.2)
+-- what a call of one lane makes live in the lane at k
+abbrev lived : ℕ → Option ℕ → Planned → Reply → List Live
+lived k lane r a = cond (is_lane k lane) (lives_by r a) []
+
+made_live : (lane : Option ℕ) (t t' : Told) (token : ℕ) (r : Planned) (a : Reply) (k : ℕ) → IsMade (reason_of a) → SettlesAs lane t t' token r a → Grows (get_or t k None) (get_or t' k None) (lived k lane r a)
+made_live lane t t' token r (reply.Success physical attrs) k m e =
+    subst (λ (x : Told). Grows (get_or t k None) (get_or x k None) (made_at k lane r (Success physical attrs))) (sym e) (grows_at lane k token r (Success physical attrs) t)
+made_live lane t t' token r (reply.Failed code) k m e = absurd m
+made_live lane t t' token r reply.Doubt k m e = absurd m
+
+same_live : (t t' : Told) (k : ℕ) → t' ≡ t → Grows (get_or t k None) (get_or t' k None) []
+same_live t t' k e = subst (λ (x : Told). Grows (get_or t k None) (get_or x k None) []) (sym e) (grows_not (get_or t k None))
+
+-- calls that all succeeded make their resources live, and nothing else
+pub calls_live : (names kinds : List (List ℕ)) (t t' : Told) (n n' : List ℕ) (token : ℕ) (rs : List Planned) (cs : List Call) (k : ℕ) → AreFresh token t → AreMade cs → AreCalled names kinds t t' n n' token rs cs → Grows (get_or t k None) (get_or t' k None) (lives_at kinds k rs cs)
+calls_live names kinds t t' n n' token [] [] k f m c = same_live t t' k c.0
+calls_live names kinds t t' n n' token [] (x ∷ cs) k f m c = absurd c
+calls_live names kinds t t' n n' token (r ∷ rs) [] k f m c = same_live t t' k c.0
+calls_live names kinds t t' n n' token (r ∷ rs) (x ∷ cs) k f m c =
+    let lane : Option ℕ = lane_for kinds r.kind in
+    let s = called_settles lane names t c.0 n c.1 token r x f c.2 in
+    grows_both (get_or t k None) (get_or c.0 k None) (get_or t' k None) (lived k lane r x.reply) (lives_at kinds k rs cs)
+    (made_live lane t c.0 token r x.reply k m.0 s)
+    (calls_live names kinds c.0 t' c.1 n' (token + 1) rs cs k (fresh_next lane t c.0 token r x.reply f s) m.1 c.3)
+
+abbrev no_lives : List Live
+no_lives = []
+
+nothing : (b : Bool) → cond b no_lives no_lives ≡ no_lives
+nothing true = refl
+nothing false = refl
+
+-- one that did not makes one more live at most
+last_live : (lane : Option ℕ) (t t' : Told) (token : ℕ) (r : Planned) (a : Reply) (why : Reason) (k : ℕ) → reason_of a ≡ Some why → SettlesAs lane t t' token r a → (more : List Live) × (length more ≤ 1) × Grows (get_or t k None) (get_or t' k None) (lived k lane r a ++ more)
+last_live lane t t' token r (reply.Success physical attrs) why k e s = absurd (none≢some why e)
+last_live lane t t' token r (reply.Failed code) why k e s =
+    let one = settle_live lane t t' token r (Failed code) k s in
+    (one.0, one.1, subst (Grows (get_or t k None) (get_or t' k None)) (sym (ap (λ (x : List Live). x ++ one.0) (nothing (is_lane k lane)))) one.2)
+last_live lane t t' token r reply.Doubt why k e (inl s) =
+    ([], omega arith, subst (Grows (get_or t k None) (get_or t' k None)) (sym (ap (λ (x : List Live). x ++ []) (nothing (is_lane k lane)))) (same_live t t' k s))
+last_live lane t t' token r reply.Doubt why k e (inr s) =
+    let one = settle_live lane t t' token r s.0 k s.1 in
+    (one.0, one.1, subst (Grows (get_or t k None) (get_or t' k None)) (sym (ap (λ (x : List Live). x ++ one.0) (nothing (is_lane k lane)))) one.2)
+
+lives_none : (kinds : List (List ℕ)) (k : ℕ) (rs : List Planned) → lives_at kinds k rs [] ≡ []
+lives_none kinds k [] = refl
+lives_none kinds k (r ∷ rs) = refl
+
+none_called : (names kinds : List (List ℕ)) (t t' : Told) (n n' : List ℕ) (token : ℕ) (rs : List Planned) → AreCalled names kinds t t' n n' token rs [] → t' ≡ t
+none_called names kinds t t' n n' token [] c = c.0
+none_called names kinds t t' n n' token (r ∷ rs) c = c.0
+
+-- so calls of which the last failed make those before it live, and one more at most
+pub failed_live : (names kinds : List (List ℕ)) (t t' : Told) (n n' : List ℕ) (token : ℕ) (rs : List Planned) (cs : List Call) (why : Reason) (k : ℕ) → AreFresh token t → FailsLast why cs → AreCalled names kinds t t' n n' token rs cs → (more : List Live) × (length more ≤ 1) × Grows (get_or t k None) (get_or t' k None) (lives_at kinds k rs cs ++ more)
+failed_live names kinds t t' n n' token rs [] why k f m c = absurd m
+failed_live names kinds t t' n n' token [] (x ∷ cs) why k f m c = absurd c
+failed_live names kinds t t' n n' token (r ∷ rs) (x ∷ []) why k f m c =
+    let lane : Option ℕ = lane_for kinds r.kind in
+    let one = last_live lane t c.0 token r x.reply why k m (called_settles lane names t c.0 n c.1 token r x f c.2) in (
+      one.0,
+      one.1,
+      subst (λ (u : Told). Grows (get_or t k None) (get_or u k None) ((lived k lane r x.reply ++ lives_at kinds k rs []) ++ one.0)) (sym (none_called names kinds c.0 t' c.1 n' (token + 1) rs c.3))
+          (subst (λ (l : List Live). Grows (get_or t k None) (get_or c.0 k None) (l ++ one.0)) (sym (ap (λ (l : List Live). lived k lane r x.reply ++ l) (lives_none kinds k rs) ∙ append-nil (lived k lane r x.reply))) one.2),
+    )
+failed_live names kinds t t' n n' token (r ∷ rs) (x ∷ y ∷ cs) why k f m c =
+    let lane : Option ℕ = lane_for kinds r.kind in
+    let s = called_settles lane names t c.0 n c.1 token r x f c.2 in
+    let rest = failed_live names kinds c.0 t' c.1 n' (token + 1) rs (y ∷ cs) why k (fresh_next lane t c.0 token r x.reply f s) m.1 c.3 in (
+      rest.0,
+      rest.1,
+      subst (Grows (get_or t k None) (get_or t' k None)) (sym (append_assoc (lived k lane r x.reply) (lives_at kinds k rs (y ∷ cs)) rest.0))
+          (grows_both (get_or t k None) (get_or c.0 k None) (get_or t' k None) (lived k lane r x.reply) (lives_at kinds k rs (y ∷ cs) ++ rest.0)
+          (made_live lane t c.0 token r x.reply k m.0 s) rest.2),
+    )

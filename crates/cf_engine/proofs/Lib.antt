@@ -2,6 +2,16 @@ pub mod Texts
 pub mod Spaced
 pub mod Lanes
 pub mod Runs
+pub mod Moved
+pub mod Written
+pub mod Cut
+pub mod Behind
+pub mod Stepped
+pub mod Folded
+pub mod Deployed
+pub mod Entered
 pub mod Rows
+pub mod Settles
 pub mod Alive
+pub mod Journaled
 pub mod Lines

@@ -1,45 +1,39 @@
 -- What each answer of the top call says, from what its run came to.
-use Rattle.std.proofs.Common.{◌≡◌, ℕ, ◌+◌, ◌<◌, ◌≤◌, Bool, true, false, cond, List, [], ◌∷◌, ◌++◌, length, take, Option, Some, None, option_map, option_and_then, slice_get, ◌⊎◌, inl, inr, find, get_or, refl, sym, ap, ◌∙◌, subst, true≢false, arith, codes}
+use Rattle.std.proofs.Common.{◌≡◌, ◌⊎◌, inl, inr, ℕ, ◌+◌, ◌<◌, ◌≤◌, Bool, true, false, cond, List, [], ◌∷◌, ◌++◌, length, take, Option, Some, None, option_map, option_and_then, find, Result, Ok, Err, get_or, refl, sym, ap, ◌∙◌, subst, arith}
 use Rattle.std.proofs.Math.Seq.{take-length}
 use Rattle.std.specs.Io.KnownBytes.{Appends}
+use Rattle.cf_entry.specs.declared.entry.Entry.{Entry}
+use Rattle.cf_entry.specs.declared.entry.Entry.TheVariants as entry
 use Rattle.cf_tree.specs.declared.planned.Planned.{Planned}
-use Rattle.cf_io.specs.Counts.{HasRisen}
 use Rattle.cf_io.specs.Library.{Texts, text_at, StandsUnder}
+use Rattle.cf_engine.specs.declared.cause.Cause.{Cause}
+use Rattle.cf_engine.specs.declared.exit.Refusal.{Refusal}
+use Rattle.cf_engine.specs.declared.exit.Refusal.TheVariants.{UnknownType}
+use Rattle.cf_engine.specs.Refusals.{template_of, refusal_of, bytes_unread, type_refusal, or_else}
 use Rattle.cf_engine.specs.declared.exit.Exit.{Exit}
 use Rattle.cf_engine.specs.declared.exit.Exit.TheVariants as exit
-use Rattle.cf_engine.specs.declared.exit.Refusal.{Refusal}
-use Rattle.cf_engine.specs.declared.create.Made.{Made}
-use Rattle.cf_engine.specs.declared.create.RunEnd.{RunEnd}
-use Rattle.cf_engine.specs.declared.create.RunEnd.TheVariants.{Done, Stopped, NoMemory}
-use Rattle.cf_engine.specs.declared.deploy.Outcome.{Outcome}
-use Rattle.cf_engine.specs.declared.deploy.Outcome.TheVariants.{Refused, Ran}
-use Rattle.cf_engine.specs.Exit.{exit_line}
-use Rattle.cf_engine.specs.Report.{report_of}
-use Rattle.cf_engine.specs.Lanes.{Told, lane_for, is_unknown, RoseAt}
-use Rattle.cf_engine.specs.Refusals.{template_in, refusal_of, MissesFor}
-use Rattle.cf_engine.specs.Create.{after_creates, StandsAt, StopsAt, RunTells, RunBlames}
-use Rattle.cf_engine.specs.Deploy.{Outside, IsRefusedBy, AreWanted, DeployTells}
-use Rattle.cf_engine.specs.Print.{rows_of, path_of, path_at, text_of, exit_of, PrintTells}
-use Rattle.cf_engine.specs.Alive.{AreLive, AreLiveAtLeast, Grows, lives_at}
-use Rattle.cf_engine.specs.Alone.{Printing, deploy_words, Unchanged, Comes, AloneTells, IsMade, HasFailed, IsRefused, IsCutShort, IsPrinted, IsOneOf, NoCountRose, IsAnswered}
-use Rattle.cf_engine.proofs.Alive.{creates_live, stops_live}
-use Rattle.cf_engine.proofs.Rows.{got}
+use Rattle.cf_engine.specs.declared.numbers.Numbered.TheVariants.{Openings, Tokens}
+use Rattle.cf_engine.specs.declared.stack.Stack.{Stack}
+use Rattle.cf_engine.specs.Lanes.{AreFresh, lane_for, is_unknown, RoseAt}
+use Rattle.cf_engine.specs.Written.{opening, lane_pairs, is_of, how_many, next_of}
+use Rattle.cf_engine.specs.Meeting.{Meeting, opened, WasEntered, RunsAs}
+use Rattle.cf_engine.specs.Telling.{text_of, exit_of}
+use Rattle.cf_engine.specs.Print.{PrintTells}
+use Rattle.cf_engine.specs.Alone.{Printing, deploy_words, Comes, AloneTells, IsMade, HasFailed, HasEnded, IsCutShort, Says, IsOneOf, NoCountRose, IsRefusal, ComesBefore, IsAnswered}
+use Rattle.cf_engine.proofs.Alive.{calls_live, failed_live}
+use Rattle.cf_engine.proofs.Journaled.{journals}
 
--- what each answer says
-abbrev pub Says : Outside → Printing → List (List ℕ) → Exit → Type 0
-Says o p words exit.Done = IsMade o p words
-Says o p words (exit.Failed blamed) = HasFailed o p words blamed
-Says o p words (exit.TemplateRefused fault) = IsRefused o words fault × Appends p.held p.held' (exit_line (exit.TemplateRefused fault))
-Says o p words exit.BadWords = (deploy_words words ≡ None) × (o.told' ≡ o.told) × Appends p.held p.held' (exit_line exit.BadWords)
-Says o p words exit.LibraryFault =
-    ((said : List ℕ × List ℕ) × (deploy_words words ≡ Some said)) × HasRisen o.faults o.faults' × (o.told' ≡ o.told) × Appends p.held p.held' (exit_line exit.LibraryFault)
-Says o p words exit.SinkFault = HasRisen p.faults p.faults' × IsCutShort o p words
-Says o p words exit.NoMemory = IsCutShort o p words
-Says o p words _ = ⊥
+-- an opening is no token
+tokens_same : (es : List Entry) (epoch : ℕ) (lanes : List (List ℕ × List ℕ)) → how_many Tokens (es ++ entry.Opened epoch lanes ∷ []) ≡ how_many Tokens es
+tokens_same [] epoch lanes = refl
+tokens_same (e ∷ es) epoch lanes = ap (λ (n : ℕ). cond (is_of Tokens e) (n + 1) n) (tokens_same es epoch lanes)
+
+fresh_open : (m : Meeting) (old : List Entry) → AreFresh (next_of Tokens old) m.told → AreFresh (next_of Tokens (old ++ opening m.names m.kinds old ∷ [])) m.told
+fresh_open m old f = subst (λ (n : ℕ). AreFresh (n + 1) m.told) (sym (tokens_same old (next_of Openings old) (lane_pairs m.names m.kinds))) f
 
 -- a text that was printed whole is a prefix of itself
-cut_whole : (o : Outside) (p : Printing) (words : List (List ℕ)) (stack : List ℕ) (outcome : Outcome) → Comes o words stack outcome → Appends p.held p.held' (text_of stack outcome) → IsCutShort o p words
-cut_whole o p words stack outcome c a = record {
+cut_whole : (m : Meeting) (p : Printing) (words : List (List ℕ)) (stack : List ℕ) (outcome : Result Stack Exit) → Comes m words stack outcome → Appends p.held p.held' (text_of stack outcome) → IsCutShort m p words
+cut_whole m p words stack outcome c a = record {
   stack = stack;
   outcome = outcome;
   length = length (text_of stack outcome);
@@ -47,90 +41,108 @@ cut_whole o p words stack outcome c a = record {
   printed = subst (Appends p.held p.held') (sym (take-length (text_of stack outcome))) a;
 }
 
-refused_says : (o : Outside) (p : Printing) (words : List (List ℕ)) (stack template : List ℕ) (e : Exit) → deploy_words words ≡ Some (stack, template) → DeployTells o template (Refused e) → Appends p.held p.held' (exit_line e) → Says o p words e
-refused_says o p words stack template (exit.TemplateRefused fault) s d a = (
-  record {
-    stack = stack;
-    template = template;
-    found = d.0.0;
-    said = s;
-    stands = d.0.1;
-    refused = d.0.2;
-    missed = d.0.3;
-    nothing = d.1;
-  },
-  a,
-)
-refused_says o p words stack template exit.LibraryFault s d a = (((stack, template), s), d.0, d.1, a)
-refused_says o p words stack template exit.NoMemory s d a = cut_whole o p words stack (Refused exit.NoMemory) (inr (inr (template, s, d))) a
-refused_says o p words stack template _ s d a = absurd d.0
-
-one_place : (rs : List Planned) (at : ℕ) (r : Planned) → StandsAt rs at r → path_at rs at ≡ r.name ∷ []
-one_place rs at r d = ap path_of (sym (got rs at r d.0 d.1))
-
-some_inside : {A : Type 0} (x y : A) → Some x ≡ Some y → x ≡ y
-some_inside x y e = cc
-
-ran_says : (o : Outside) (p : Printing) (words : List (List ℕ)) (stack template : List ℕ) (rs : List Planned) (ms : _) (end : RunEnd) → deploy_words words ≡ Some (stack, template) → DeployTells o template (Ran rs ms end) → Appends p.held p.held' (text_of stack (Ran rs ms end)) → Says o p words (exit_of (Ran rs ms end))
-ran_says o p words stack template rs ms Done s d a = record {
-  stack = stack;
+made_says : (m : Meeting) (p : Printing) (words : List (List ℕ)) (name template : List ℕ) (st : Stack) → deploy_words words ≡ Some (name, template) → (w : WasEntered m name template (Ok st)) → Appends p.held p.held' (text_of name (Ok st)) → IsMade m p words
+made_says m p words name template st s w a = record {
+  name = name;
   template = template;
-  found = d.0.0;
-  resources = rs;
-  made = ms.items;
   said = s;
-  stands = d.0.1;
-  wanted = d.0.2;
-  unrefused = d.0.3;
-  all = d.1.0;
-  run = d.1.1;
-  live = λ k. subst (λ (t : Told). Grows (get_or o.told k None) (get_or t k None) (lives_at o.kinds k rs ms.items)) (sym d.1.1) (creates_live o.kinds o.told 1 rs ms.items k);
+  old = w.old;
+  now = w.now;
+  faults = w.faults;
+  was = w.was;
+  differ = w.differ;
+  bytes = w.came.0;
+  resources = w.came.1;
+  stack = st;
+  found = w.came.2;
+  deployed = w.came.3;
+  live = λ f k. calls_live m.names m.kinds m.told m.told' m.counts m.counts' (next_of Tokens (w.old ++ opening m.names m.kinds w.old ∷ [])) w.came.1 w.came.3.calls k (fresh_open m w.old f) w.came.3.made w.came.3.called;
   printed = a;
 }
-ran_says o p words stack template rs ms (Stopped at) s d a = record {
-  stack = stack;
-  template = template;
-  found = d.0.0;
-  resources = rs;
-  made = ms.items;
-  resource = d.1.1.0;
-  said = s;
-  stands = d.0.1;
-  wanted = d.0.2;
-  unrefused = d.0.3;
-  place = subst (λ (n : ℕ). StandsAt rs n d.1.1.0) (sym d.1.0) d.1.1.1;
-  named = one_place rs at d.1.1.0 d.1.1.1;
-  rose = subst (λ (x : Planned). RoseAt (lane_for o.kinds x.kind) o.counts o.counts') (some_inside d.2.1.0 d.1.1.0 (got rs at d.2.1.0 d.2.1.1.0 d.2.1.1.1 ∙ sym (got rs at d.1.1.0 d.1.1.1.0 d.1.1.1.1))) d.2.1.2;
-  run = subst (λ (n : ℕ). StopsAt (lane_for o.kinds d.1.1.0.kind) (after_creates o.kinds o.told 1 rs ms.items) o.told' (n + 1) d.1.1.0) (sym d.1.0) d.1.1.2;
-  live = stops_live o.kinds o.told o.told' rs ms.items (lane_for o.kinds d.1.1.0.kind) (at + 1) d.1.1.0 d.1.1.2;
-  printed = a;
-}
-ran_says o p words stack template rs ms NoMemory s d a = cut_whole o p words stack (Ran rs ms NoMemory) (inr (inr (template, s, d))) a
 
-deploy_says : (o : Outside) (p : Printing) (words : List (List ℕ)) (stack template : List ℕ) (outcome : Outcome) → deploy_words words ≡ Some (stack, template) → DeployTells o template outcome → Appends p.held p.held' (text_of stack outcome) → Says o p words (exit_of outcome)
-deploy_says o p words stack template (Refused e) s d a = refused_says o p words stack template e s d a
-deploy_says o p words stack template (Ran rs ms end) s d a = ran_says o p words stack template rs ms end s d a
+failed_says : (m : Meeting) (p : Printing) (words : List (List ℕ)) (name template : List ℕ) (why : Cause) → deploy_words words ≡ Some (name, template) → RunsAs m name template (Err (exit.Unrolled why)) → Appends p.held p.held' (text_of name (Err (exit.Unrolled why))) → HasFailed m p words why
+failed_says m p words name template why s (inl x) a = absurd x.0
+failed_says m p words name template why s (inr (inl w)) a = absurd w.why
+failed_says m p words name template why s (inr (inr w)) a =
+    elim w.came [
+      | inl x ↦ absurd x.0
+      | inr x ↦ record {
+        name = name;
+        template = template;
+        said = s;
+        old = w.old;
+        now = w.now;
+        faults = w.faults;
+        was = w.was;
+        differ = w.differ;
+        bytes = x.0;
+        resources = x.1;
+        found = x.2;
+        stopped = x.3;
+        live = λ f k. failed_live m.names m.kinds m.told m.told' m.counts m.counts' (next_of Tokens (w.old ++ opening m.names m.kinds w.old ∷ [])) x.1 x.3.calls x.3.reason k (fresh_open m w.old f) x.3.fails x.3.called;
+        printed = a;
+      }
+    ]
 
-said_by : (o : Outside) (p : Printing) (words : List (List ℕ)) (stack : List ℕ) (outcome : Outcome) → Comes o words stack outcome → Appends p.held p.held' (text_of stack outcome) → Says o p words (exit_of outcome)
-said_by o p words stack outcome (inl (q, n, u)) a =
-    subst (λ (x : Outcome). Says o p words (exit_of x)) (sym q) (n, u.0, subst (λ (x : Outcome). Appends p.held p.held' (text_of stack x)) q a)
-said_by o p words stack outcome (inr (inl (q, u))) a =
-    subst (λ (x : Outcome). Says o p words (exit_of x)) (sym q) (cut_whole o p words stack outcome (inr (inl (q, u))) a)
-said_by o p words stack outcome (inr (inr (template, s, d))) a = deploy_says o p words stack template outcome s d a
+-- a deployment never ends with these
+no_Done : (m : Meeting) (name template : List ℕ) → RunsAs m name template (Err exit.Done) → ⊥
+no_Done m name template (inl x) = x.0
+no_Done m name template (inr (inl w)) = w.why
+no_Done m name template (inr (inr w)) = elim w.came [ inl x ↦ x.0 | inr x ↦ x.3 ]
 
-printed_says : (o : Outside) (p : Printing) (words : List (List ℕ)) (result : Exit) (stack : List ℕ) (outcome : Outcome) → Comes o words stack outcome → PrintTells p.held p.held' p.faults p.faults' (text_of stack outcome) (exit_of outcome) result → Says o p words result
-printed_says o p words result stack outcome c (inl (e, a)) = subst (Says o p words) (sym e) (said_by o p words stack outcome c a)
-printed_says o p words result stack outcome c (inr (inl (e, r, a))) =
-    subst (Says o p words) (sym e) (r, record { stack = stack; outcome = outcome; length = a.0; comes = c; printed = a.1 })
-printed_says o p words result stack outcome c (inr (inr (e, a))) =
-    subst (Says o p words) (sym e) (record { stack = stack; outcome = outcome; length = a.0; comes = c; printed = a.1 })
+no_BadWords : (m : Meeting) (name template : List ℕ) → RunsAs m name template (Err exit.BadWords) → ⊥
+no_BadWords m name template (inl x) = x.0
+no_BadWords m name template (inr (inl w)) = w.why
+no_BadWords m name template (inr (inr w)) = elim w.came [ inl x ↦ x.0 | inr x ↦ x.3 ]
 
-pub tells : (o : Outside) (p : Printing) (words : List (List ℕ)) (result : Exit) → AloneTells o p words result → Says o p words result
-tells o p words result t = printed_says o p words result t.0 t.1 t.2 t.3
+no_SinkFault : (m : Meeting) (name template : List ℕ) → RunsAs m name template (Err exit.SinkFault) → ⊥
+no_SinkFault m name template (inl x) = x.0
+no_SinkFault m name template (inr (inl w)) = w.why
+no_SinkFault m name template (inr (inr w)) = elim w.came [ inl x ↦ x.0 | inr x ↦ x.3 ]
 
--- what is said of an answer is said where the answer is that one
-said : (o : Outside) (p : Printing) (words : List (List ℕ)) (result e : Exit) → Says o p words result → result ≡ e → Says o p words e
-said o p words result e s q = subst (Says o p words) q s
+no_Failed : (m : Meeting) (name template : List ℕ) (blamed : List (List ℕ)) → RunsAs m name template (Err (exit.Failed blamed)) → ⊥
+no_Failed m name template blamed (inl x) = x.0
+no_Failed m name template blamed (inr (inl w)) = w.why
+no_Failed m name template blamed (inr (inr w)) = elim w.came [ inl x ↦ x.0 | inr x ↦ x.3 ]
+
+no_LaneMissing : (m : Meeting) (name template lane : List ℕ) → RunsAs m name template (Err (exit.LaneMissing lane)) → ⊥
+no_LaneMissing m name template lane (inl x) = x.0
+no_LaneMissing m name template lane (inr (inl w)) = w.why
+no_LaneMissing m name template lane (inr (inr w)) = elim w.came [ inl x ↦ x.0 | inr x ↦ x.3 ]
+
+ended_says : (m : Meeting) (p : Printing) (words : List (List ℕ)) (name template : List ℕ) (e : Exit) → deploy_words words ≡ Some (name, template) → RunsAs m name template (Err e) → Appends p.held p.held' (text_of name (Err e)) → Says m p words e
+ended_says m p words name template exit.Done s r a = absurd (no_Done m name template r)
+ended_says m p words name template exit.BadWords s r a = absurd (no_BadWords m name template r)
+ended_says m p words name template exit.SinkFault s r a = absurd (no_SinkFault m name template r)
+ended_says m p words name template (exit.Failed blamed) s r a = absurd (no_Failed m name template blamed r)
+ended_says m p words name template (exit.LaneMissing lane) s r a = absurd (no_LaneMissing m name template lane r)
+ended_says m p words name template (exit.Unrolled why) s r a = failed_says m p words name template why s r a
+ended_says m p words name template exit.NoMemory s r a = cut_whole m p words name (Err exit.NoMemory) (inr (inr (template, s, r))) a
+ended_says m p words name template (exit.TemplateRefused fault) s r a = record { name = name; template = template; said = s; ran = r; printed = a }
+ended_says m p words name template (exit.StackRefused fault) s r a = record { name = name; template = template; said = s; ran = r; printed = a }
+ended_says m p words name template exit.LibraryFault s r a = record { name = name; template = template; said = s; ran = r; printed = a }
+ended_says m p words name template exit.DiskFault s r a = record { name = name; template = template; said = s; ran = r; printed = a }
+ended_says m p words name template (exit.NotAJournal offset) s r a = record { name = name; template = template; said = s; ran = r; printed = a }
+ended_says m p words name template (exit.LaneTwice lane) s r a = record { name = name; template = template; said = s; ran = r; printed = a }
+ended_says m p words name template (exit.Full long need room) s r a = record { name = name; template = template; said = s; ran = r; printed = a }
+
+deploy_says : (m : Meeting) (p : Printing) (words : List (List ℕ)) (name template : List ℕ) (outcome : Result Stack Exit) → deploy_words words ≡ Some (name, template) → RunsAs m name template outcome → Appends p.held p.held' (text_of name outcome) → Says m p words (exit_of outcome)
+deploy_says m p words name template (Ok st) s r a = made_says m p words name template st s r a
+deploy_says m p words name template (Err e) s r a = ended_says m p words name template e s r a
+
+said_by : (m : Meeting) (p : Printing) (words : List (List ℕ)) (stack : List ℕ) (outcome : Result Stack Exit) → Comes m words stack outcome → Appends p.held p.held' (text_of stack outcome) → Says m p words (exit_of outcome)
+said_by m p words stack outcome (inl (q, n, u)) a =
+    subst (λ (x : Result Stack Exit). Says m p words (exit_of x)) (sym q) (n, u, subst (λ (x : Result Stack Exit). Appends p.held p.held' (text_of stack x)) q a)
+said_by m p words stack outcome (inr (inl (q, u))) a =
+    subst (λ (x : Result Stack Exit). Says m p words (exit_of x)) (sym q) (cut_whole m p words stack outcome (inr (inl (q, u))) a)
+said_by m p words stack outcome (inr (inr (template, s, r))) a = deploy_says m p words stack template outcome s r a
+
+printed_says : (m : Meeting) (p : Printing) (words : List (List ℕ)) (result : Exit) (stack : List ℕ) (outcome : Result Stack Exit) → Comes m words stack outcome → PrintTells p.held p.held' p.faults p.faults' (text_of stack outcome) (exit_of outcome) result → Says m p words result
+printed_says m p words result stack outcome c (inl (e, a)) = subst (Says m p words) (sym e) (said_by m p words stack outcome c a)
+printed_says m p words result stack outcome c (inr (inl (e, r, a))) =
+    subst (Says m p words) (sym e) (r, record { stack = stack; outcome = outcome; length = a.0; comes = c; printed = a.1 })
+printed_says m p words result stack outcome c (inr (inr (e, a))) =
+    subst (Says m p words) (sym e) (record { stack = stack; outcome = outcome; length = a.0; comes = c; printed = a.1 })
 
 some≢none : {A : Type 0} (x : A) → Some x ≡ None → ⊥
 some≢none x e = cc
@@ -138,73 +150,107 @@ some≢none x e = cc
 no_words : (words : List (List ℕ)) (said : List ℕ × List ℕ) → deploy_words words ≡ Some said → deploy_words words ≡ None → ⊥
 no_words words said s n = some≢none said (sym s ∙ n)
 
-no_deploy : (o : Outside) (p : Printing) (words : List (List ℕ)) (result : Exit) → Says o p words result → deploy_words words ≡ None → IsOneOf result (exit.BadWords ∷ exit.SinkFault ∷ exit.NoMemory ∷ [])
-no_deploy o p words exit.BadWords s n = inl refl
-no_deploy o p words exit.SinkFault s n = inr (inl refl)
-no_deploy o p words exit.NoMemory s n = inr (inr (inl refl))
-no_deploy o p words exit.Done s n = absurd (no_words words (s.stack, s.template) s.said n)
-no_deploy o p words (exit.Failed blamed) s n = absurd (no_words words (s.stack, s.template) s.said n)
-no_deploy o p words (exit.TemplateRefused fault) s n = absurd (no_words words (s.0.stack, s.0.template) s.0.said n)
-no_deploy o p words exit.LibraryFault s n = absurd (no_words words s.0.0 s.0.1 n)
-no_deploy o p words _ s n = absurd s
+no_deploy : (m : Meeting) (p : Printing) (words : List (List ℕ)) (result : Exit) → Says m p words result → deploy_words words ≡ None → IsOneOf result (exit.BadWords ∷ exit.SinkFault ∷ exit.NoMemory ∷ [])
+no_deploy m p words exit.BadWords s n = inl refl
+no_deploy m p words exit.SinkFault s n = inr (inl refl)
+no_deploy m p words exit.NoMemory s n = inr (inr (inl refl))
+no_deploy m p words exit.Done s n = absurd (no_words words (s.name, s.template) s.said n)
+no_deploy m p words (exit.Unrolled why) s n = absurd (no_words words (s.name, s.template) s.said n)
+no_deploy m p words (exit.TemplateRefused fault) s n = absurd (no_words words (s.name, s.template) s.said n)
+no_deploy m p words (exit.StackRefused fault) s n = absurd (no_words words (s.name, s.template) s.said n)
+no_deploy m p words exit.LibraryFault s n = absurd (no_words words (s.name, s.template) s.said n)
+no_deploy m p words exit.DiskFault s n = absurd (no_words words (s.name, s.template) s.said n)
+no_deploy m p words (exit.NotAJournal offset) s n = absurd (no_words words (s.name, s.template) s.said n)
+no_deploy m p words (exit.LaneTwice lane) s n = absurd (no_words words (s.name, s.template) s.said n)
+no_deploy m p words (exit.Full long need room) s n = absurd (no_words words (s.name, s.template) s.said n)
+no_deploy m p words (exit.Failed blamed) s n = absurd s
+no_deploy m p words (exit.LaneMissing lane) s n = absurd s
 
--- what stands in a library that tells its texts decides whether the template is refused
-foretold : (o : Outside) (words : List (List ℕ)) (stack template stack' template' : List ℕ) (texts : Texts) (found : Option (List ℕ)) → deploy_words words ≡ Some (stack, template) → deploy_words words ≡ Some (stack', template') → o.texts ≡ Some texts → StandsUnder o.texts template' found → refusal_of o.kinds template' found ≡ refusal_of o.kinds template (text_at template texts)
-foretold o words stack template stack' template' texts found s s' t u =
-    let same : template' ≡ template = ap (λ (x : List ℕ × List ℕ). x.1) (some_inside (stack', template') (stack, template) (sym s' ∙ s)) in
-    let stands : found ≡ text_at template' texts = subst (λ (x : Option Texts). StandsUnder x template' found) t u in
-    ap (refusal_of o.kinds template') stands ∙ ap (λ (x : List ℕ). refusal_of o.kinds x (text_at x texts)) same
-
-refuses : (o : Outside) (p : Printing) (words : List (List ℕ)) (result : Exit) (stack template : List ℕ) (texts : Texts) (fault : Refusal) → Says o p words result → deploy_words words ≡ Some (stack, template) → o.texts ≡ Some texts → refusal_of o.kinds template (text_at template texts) ≡ Some fault → IsOneOf result (exit.TemplateRefused fault ∷ exit.LibraryFault ∷ exit.SinkFault ∷ exit.NoMemory ∷ [])
-refuses o p words exit.LibraryFault stack template texts fault s w t r = inr (inl refl)
-refuses o p words exit.SinkFault stack template texts fault s w t r = inr (inr (inl refl))
-refuses o p words exit.NoMemory stack template texts fault s w t r = inr (inr (inr (inl refl)))
-refuses o p words exit.BadWords stack template texts fault s w t r = absurd (no_words words (stack, template) w s.0)
-refuses o p words exit.Done stack template texts fault s w t r =
-    absurd (some≢none fault (sym r ∙ sym (foretold o words stack template s.stack s.template texts s.found w s.said t s.stands) ∙ s.unrefused))
-refuses o p words (exit.Failed blamed) stack template texts fault s w t r =
-    absurd (some≢none fault (sym r ∙ sym (foretold o words stack template s.stack s.template texts s.found w s.said t s.stands) ∙ s.unrefused))
-refuses o p words (exit.TemplateRefused f) stack template texts fault s w t r =
-    inl (ap exit.TemplateRefused (some_inside f fault (sym s.0.refused ∙ foretold o words stack template s.0.stack s.0.template texts s.0.found w s.0.said t s.0.stands ∙ r)))
-refuses o p words _ stack template texts fault s w t r = absurd s
-
-no_lane_rose : (lane : Option ℕ) (before after : List ℕ) → ((k : ℕ) → HasRisen (get_or before k 0) (get_or after k 0) → ⊥) → RoseAt lane before after → ⊥
+no_lane_rose : (lane : Option ℕ) (before after : List ℕ) → ((k : ℕ) → RoseAt (Some k) before after → ⊥) → RoseAt lane before after → ⊥
 no_lane_rose None before after n r = r
 no_lane_rose (Some k) before after n r = n k r
 
-otherwise : (o : Outside) (p : Printing) (words : List (List ℕ)) (result : Exit) (said : List ℕ × List ℕ) → Says o p words result → deploy_words words ≡ Some said → ((fault : Refusal) → result ≡ exit.TemplateRefused fault → ⊥) → NoCountRose o p → IsOneOf result (exit.Done ∷ exit.NoMemory ∷ [])
-otherwise o p words exit.Done said s w n c = inl refl
-otherwise o p words exit.NoMemory said s w n c = inr (inl refl)
-otherwise o p words exit.BadWords said s w n c = absurd (no_words words said w s.0)
-otherwise o p words (exit.TemplateRefused f) said s w n c = absurd (n f refl)
-otherwise o p words (exit.Failed blamed) said s w n c = absurd (no_lane_rose (lane_for o.kinds s.resource.kind) o.counts o.counts' c.lanes s.rose)
-otherwise o p words exit.LibraryFault said s w n c = absurd (c.library s.1)
-otherwise o p words exit.SinkFault said s w n c = absurd (c.sink s.0)
-otherwise o p words _ said s w n c = absurd s
+library_rose : (m : Meeting) (p : Printing) (name template : List ℕ) → RunsAs m name template (Err exit.LibraryFault) → NoCountRose m p → ⊥
+library_rose m p name template (inl x) c = x.0
+library_rose m p name template (inr (inl w)) c = w.why
+library_rose m p name template (inr (inr w)) c = elim w.came [ inl x ↦ c.library x.0.0 | inr x ↦ x.3 ]
 
-printed_by : (o : Outside) (p : Printing) (words : List (List ℕ)) (result : Exit) → Says o p words result → IsPrinted o p words result
-printed_by o p words exit.Done s = tt
-printed_by o p words (exit.Failed blamed) s = tt
-printed_by o p words exit.SinkFault s = s.1
-printed_by o p words exit.NoMemory s = s
-printed_by o p words exit.BadWords s = s.2
-printed_by o p words (exit.TemplateRefused fault) s = s.1
-printed_by o p words exit.LibraryFault s = s.3
-printed_by o p words _ s = absurd s
+disk_rose : (m : Meeting) (p : Printing) (name template : List ℕ) → RunsAs m name template (Err exit.DiskFault) → NoCountRose m p → ⊥
+disk_rose m p name template (inl x) c = c.disk x.0
+disk_rose m p name template (inr (inl w)) c = c.disk (omega (arith, w.later, w.why.1.0))
+disk_rose m p name template (inr (inr w)) c = elim w.came [ inl x ↦ x.0 | inr x ↦ c.disk (omega (arith, w.later, x.3.cut.cause)) ]
+
+otherwise : (m : Meeting) (p : Printing) (words : List (List ℕ)) (result : Exit) (said : List ℕ × List ℕ) → Says m p words result → deploy_words words ≡ Some said → NoCountRose m p → (result ≡ exit.Done) ⊎ ((result ≡ exit.NoMemory) ⊎ IsRefusal result)
+otherwise m p words exit.Done said s w c = inl refl
+otherwise m p words exit.NoMemory said s w c = inr (inl refl)
+otherwise m p words exit.BadWords said s w c = absurd (no_words words said w s.0)
+otherwise m p words (exit.Unrolled why) said s w c = absurd (no_lane_rose (lane_for m.kinds s.stopped.resource.kind) m.counts m.counts' c.lanes s.stopped.rose)
+otherwise m p words (exit.TemplateRefused fault) said s w c = inr (inr tt)
+otherwise m p words (exit.StackRefused fault) said s w c = inr (inr tt)
+otherwise m p words (exit.NotAJournal offset) said s w c = inr (inr tt)
+otherwise m p words (exit.LaneTwice lane) said s w c = inr (inr tt)
+otherwise m p words (exit.Full long need room) said s w c = inr (inr tt)
+otherwise m p words exit.LibraryFault said s w c = absurd (library_rose m p s.name s.template s.ran c)
+otherwise m p words exit.DiskFault said s w c = absurd (disk_rose m p s.name s.template s.ran c)
+otherwise m p words exit.SinkFault said s w c = absurd (c.sink s.0)
+otherwise m p words (exit.Failed blamed) said s w c = absurd s
+otherwise m p words (exit.LaneMissing lane) said s w c = absurd s
+
+some_inside : {A : Type 0} (x y : A) → Some x ≡ Some y → x ≡ y
+some_inside x y e = cc
+
+-- what stands in a library that tells its texts decides whether the template is refused
+foretold : (m : Meeting) (words : List (List ℕ)) (name template name' template' : List ℕ) (texts : Texts) (found : Option (List ℕ)) (fault : Refusal) → deploy_words words ≡ Some (name, template) → deploy_words words ≡ Some (name', template') → m.shelf.texts ≡ Some texts → StandsUnder m.shelf.texts template' found → refusal_of m.kinds template (text_at template texts) ≡ Some fault → refusal_of m.kinds template' found ≡ Some fault
+foretold m words name template name' template' texts found fault s s' t u r =
+    let same : template' ≡ template = ap (λ (x : List ℕ × List ℕ). x.1) (some_inside (name', template') (name, template) (sym s' ∙ s)) in
+    let stands : found ≡ text_at template' texts = subst (λ (x : Option Texts). StandsUnder x template' found) t u in
+    ap (refusal_of m.kinds template') stands ∙ ap (λ (x : List ℕ). refusal_of m.kinds x (text_at x texts)) same ∙ r
+
+-- a template that was read is refused for its types alone
+read_refusal : (kinds : List (List ℕ)) (template bytes : List ℕ) (rs : List Planned) → template_of bytes ≡ Some rs → refusal_of kinds template (Some bytes) ≡ type_refusal kinds rs
+read_refusal kinds template bytes rs e = ap (λ (x : Option (List Planned)). or_else (bytes_unread template bytes x) (option_and_then (type_refusal kinds) x)) e
+
+first_unknown : (kinds : List (List ℕ)) (rs : List Planned) (o : Option Planned) → find (is_unknown kinds) rs ≡ o → type_refusal kinds rs ≡ option_map (λ r. UnknownType r.name r.kind) o
+first_unknown kinds rs o e = ap (option_map (λ (r : Planned). UnknownType r.name r.kind)) e
+
+unrefused : (kinds : List (List ℕ)) (template bytes : List ℕ) (rs : List Planned) (fault : Refusal) → template_of bytes ≡ Some rs → find (is_unknown kinds) rs ≡ None → refusal_of kinds template (Some bytes) ≡ Some fault → ⊥
+unrefused kinds template bytes rs fault e k r = some≢none fault (sym r ∙ read_refusal kinds template bytes rs e ∙ first_unknown kinds rs None k)
+
+refused_as : (m : Meeting) (words : List (List ℕ)) (name template name' template' : List ℕ) (texts : Texts) (fault f : Refusal) → deploy_words words ≡ Some (name, template) → deploy_words words ≡ Some (name', template') → m.shelf.texts ≡ Some texts → refusal_of m.kinds template (text_at template texts) ≡ Some fault → RunsAs m name' template' (Err (exit.TemplateRefused f)) → f ≡ fault
+refused_as m words name template name' template' texts fault f s s' t r (inl x) = absurd x.0
+refused_as m words name template name' template' texts fault f s s' t r (inr (inl w)) = absurd w.why
+refused_as m words name template name' template' texts fault f s s' t r (inr (inr w)) =
+    elim w.came [
+      | inl x ↦ some_inside f fault (sym x.0.2 ∙ foretold m words name template name' template' texts x.0.0 fault s s' t x.0.1 r)
+      | inr x ↦ x.3.2 ∙ some_inside (UnknownType x.3.0.name x.3.0.kind) fault (sym (read_refusal m.kinds template' x.0 x.1 x.2.wanted ∙ first_unknown m.kinds x.1 (Some x.3.0) x.3.1) ∙ foretold m words name template name' template' texts (Some x.0) fault s s' t x.2.stands r)
+    ]
+
+refuses : (m : Meeting) (p : Printing) (words : List (List ℕ)) (result : Exit) (name template : List ℕ) (texts : Texts) (fault : Refusal) → Says m p words result → deploy_words words ≡ Some (name, template) → m.shelf.texts ≡ Some texts → refusal_of m.kinds template (text_at template texts) ≡ Some fault → (result ≡ exit.TemplateRefused fault) ⊎ ComesBefore result
+refuses m p words exit.Done name template texts fault s w t r =
+    absurd (unrefused m.kinds s.template s.bytes s.resources fault s.found.wanted s.deployed.known (foretold m words name template s.name s.template texts (Some s.bytes) fault w s.said t s.found.stands r))
+refuses m p words (exit.Unrolled why) name template texts fault s w t r =
+    absurd (unrefused m.kinds s.template s.bytes s.resources fault s.found.wanted s.stopped.known (foretold m words name template s.name s.template texts (Some s.bytes) fault w s.said t s.found.stands r))
+refuses m p words (exit.TemplateRefused f) name template texts fault s w t r = inl (ap exit.TemplateRefused (refused_as m words name template s.name s.template texts fault f w s.said t r s.ran))
+refuses m p words exit.BadWords name template texts fault s w t r = absurd (no_words words (name, template) w s.0)
+refuses m p words (exit.StackRefused f) name template texts fault s w t r = inr tt
+refuses m p words exit.LibraryFault name template texts fault s w t r = inr tt
+refuses m p words exit.DiskFault name template texts fault s w t r = inr tt
+refuses m p words exit.SinkFault name template texts fault s w t r = inr tt
+refuses m p words exit.NoMemory name template texts fault s w t r = inr tt
+refuses m p words (exit.NotAJournal offset) name template texts fault s w t r = inr tt
+refuses m p words (exit.LaneTwice lane) name template texts fault s w t r = inr tt
+refuses m p words (exit.Full long need room) name template texts fault s w t r = inr tt
+refuses m p words (exit.Failed blamed) name template texts fault s w t r = absurd s
+refuses m p words (exit.LaneMissing lane) name template texts fault s w t r = absurd s
 
 -- all of it
-pub answers_of : (o : Outside) (p : Printing) (words : List (List ℕ)) (result : Exit) → AloneTells o p words result → IsAnswered o p words result
-answers_of o p words result t =
-    let s : Says o p words result = tells o p words result t in
+pub answers_of : (m : Meeting) (p : Printing) (words : List (List ℕ)) (result : Exit) → AloneTells m p words result → IsAnswered m p words result
+answers_of m p words result t =
+    let s : Says m p words result = printed_says m p words result t.0 t.1 t.2 t.3 in
     record {
-      done = said o p words result exit.Done s;
-      failed = λ blamed. said o p words result (exit.Failed blamed) s;
-      refused = λ fault e. (said o p words result (exit.TemplateRefused fault) s e).0;
-      bad_words = λ e. let t = said o p words result exit.BadWords s e in (t.0, t.1);
-      library = λ e. let t = said o p words result exit.LibraryFault s e in (t.1, t.2);
-      sink = λ e. (said o p words result exit.SinkFault s e).0;
-      no_deploy = no_deploy o p words result s;
-      refuses = λ stack template texts fault. refuses o p words result stack template texts fault s;
-      otherwise = λ stack template w n c. otherwise o p words result (stack, template) s w n c;
-      printed = printed_by o p words result s;
+      says = s;
+      no_deploy = no_deploy m p words result s;
+      otherwise = λ said w c. otherwise m p words result said s w c;
+      refuses = λ name template texts fault. refuses m p words result name template texts fault s;
+      journal = journals m words t.0 t.1 t.2;
     }

@@ -1,34 +1,44 @@
 //! A stack engine on one machine: `cfstack HOME WORKERS WORD ..`.
 #![tactic(auto)]
 
+mod book;
 mod cause;
+mod course;
 mod create;
-mod deploy;
+mod deployment;
 mod exit;
 mod line;
+mod make;
+mod meeting;
+mod numbers;
+mod opening;
 mod print;
+mod refusals;
 mod report;
+mod stack;
 mod status_name;
+mod telling;
 #[cfg(test)]
 mod tests;
 mod top;
 mod words;
 
-ghost use Rattle.std.specs.Prelude.{◌≡◌, ◌≤◌, ◌++◌, ◌∷◌, [], ℕ, List, true, false, Some, IfOk, IfErr, codes, map, string_bytes};
+ghost use Rattle.std.specs.Prelude.{◌≡◌, ◌++◌, ◌∷◌, [], ◌&&◌, ℕ, List, false, true, Some, IfOk, IfErr, codes, length, map, nat_lt, string_bytes};
 ghost use Rattle.cf_engine.specs.Exit.{exit_line};
-ghost use Rattle.cf_engine.specs.Lanes.{AreUnsettled};
 ghost use Rattle.cf_engine.specs.Print.{PrintTells};
 ghost use Rattle.cf_engine.specs.Words.{are_short, is_in_form, is_command_line};
-ghost use Rattle.cf_engine.specs.Alone.{IsRun, IsWordless};
+ghost use Rattle.cf_engine.specs.Answer.{IsRun, IsWordless};
 ghost use Rattle.cf_engine.specs.declared.exit.Exit.TheVariants.{BadWords};
 
 use crate::exit::Exit;
 use crate::print::{print_exit, print_text};
-use crate::top::alone;
+use crate::top::{Ended, cfstack};
 use crate::words::read_workers;
-use cf_handler::{FileHandler, Handler};
+use cf_disk::{Disk, MemoryDisk};
+use cf_fake::MemoryHandler;
+use cf_handler::Handler;
 use cf_io::{FolderLibrary, Sink, StdoutSink};
-use cf_tree::{NoMemory, Txt};
+use cf_tree::{Listing, NoMemory, Txt};
 use std::alloc::Global;
 use std::io::ErrorKind;
 use std::process::ExitCode;
@@ -37,6 +47,13 @@ use std::{env, io};
 /// The words of a command line have fewer bytes than this together.
 const MOST_BYTES: usize = 1 << 30;
 
+/// How long the journal may become, how many calls of its disk can be noted, and how many written bytes.
+const ROOM: u64 = 16_777_216;
+
+const MOST_CALLS: u64 = 65_536;
+
+const MOST_WRITTEN: u64 = 33_554_432;
+
 const VERSION: &str = "cfstack 0.1.0\n";
 
 const USAGE: &str = "usage: cfstack HOME WORKERS WORD ..\n\
@@ -44,15 +61,21 @@ const USAGE: &str = "usage: cfstack HOME WORKERS WORD ..\n\
 HOME is a folder with templates/ in it, WORKERS a number from 1 to 64.\n\
 \n\
   deploy STACK TEMPLATE  make the resources of the template HOME/templates/TEMPLATE\n\
+  describe STACK         tell the stack that the journal leaves\n\
 \n\
 exits:\n\
-  0 Done             the stack is made\n\
-  1 BadWords         the command line says nothing that is known\n\
-  2 TemplateRefused  no template, or one that can't be made; nothing was done\n\
-  5 Failed           a resource was refused or failed; those before it are live\n\
-  6 LibraryFault     the templates can't be read\n\
-  8 SinkFault        the report can't be printed\n\
-  9 NoMemory         memory was not there\n";
+   0 Done             the stack is made, or told\n\
+   1 BadWords         the command line says nothing that is known\n\
+   2 TemplateRefused  no template, or one that can't be made; nothing was made\n\
+   3 StackRefused     no such stack, or one that is there already; nothing was made\n\
+   6 LibraryFault     the templates can't be read\n\
+   7 DiskFault        the journal can't be read or written\n\
+   8 SinkFault        the report can't be printed\n\
+   9 NoMemory         memory was not there\n\
+  10 NotAJournal      the disk holds something else than a journal\n\
+  11 LaneTwice        two lanes have one name\n\
+  14 Full             the journal has no room for its next entry\n\
+  15 Unrolled         a resource was refused or is in doubt; those before it are live\n";
 
 fn main(rt: HostRuntime) -> ExitCode {
     let mut out = StdoutSink::new(io::writer(&rt));
@@ -96,18 +119,19 @@ fn run<K: Sink>(rt: HostRuntime, words: &[Txt], out: &mut K) -> Exit
     match words {
         [word] if word.is("--help") => print_text(out, USAGE),
         [word] if word.is("--version") => print_text(out, VERSION),
-        [home, workers, rest @ ..] if is_in_form(home, workers, words) => {
-            run_in(rt, home, rest, out)
-        }
+        [home, workers, rest @ ..] if is_in_form(home, words) => match read_workers(workers) {
+            Some(workers) => run_in(rt, home, workers, rest, out),
+            None => print_exit(rt.alloc(), out, Exit::BadWords),
+        },
         _ => print_exit(rt.alloc(), out, Exit::BadWords),
     }
 }
 
-/// Whether the folder and the number of workers are in form, and the words are few enough.
-fn is_in_form(home: &Txt, workers: &Txt, words: &[Txt]) -> bool
-    ensures { result ≡ is_in_form home.now workers.now words.now }
+/// Whether the folder is in form and the words are few enough.
+fn is_in_form(home: &Txt, words: &[Txt]) -> bool
+    ensures { result ≡ (nat_lt 0 (length home.now) && are_short words.now) }
 {
-    !home.as_str().is_empty() && read_workers(workers).is_some() && are_short(words)
+    !home.as_str().is_empty() && are_short(words)
 }
 
 /// Whether the words have fewer than 2^30 bytes together.
@@ -121,21 +145,33 @@ fn are_short(words: &[Txt]) -> bool
     total < MOST_BYTES
 }
 
-/// Does what the words say over the templates of the folder and its one lane.
-fn run_in<K: Sink>(rt: HostRuntime, home: &Txt, words: &[Txt], out: &mut K) -> Exit
+/// Does what the words say over the templates of the folder, a new disk and one lane, both in memory.
+fn run_in<K: Sink>(rt: HostRuntime, home: &Txt, workers: u32, words: &[Txt], out: &mut K) -> Exit
     ensures { IsRun
         (record { held = K.held out.old; held' = K.held out.new; faults = K.count out.old; faults' = K.count out.new })
         words.now result }
 {
     let alloc = rt.alloc();
-    match (templates_of(alloc, home), lanes_of(alloc)) {
-        (Ok(folder), Ok(lanes)) => {
-            let mut lanes = lanes;
+    match (templates_of(alloc, home), new_disk(alloc), lanes_of(alloc)) {
+        (Ok(folder), Ok(disk), Ok(lanes)) => {
             let mut library = FolderLibrary::new(rt, folder);
-            alone(alloc, words, &mut library, out, &mut lanes)
+            let Ended {
+                exit,
+                disk: _,
+                lanes: _,
+            } = cfstack(alloc, words, workers, &mut library, out, disk, lanes);
+            exit
         }
         _ => print_exit(alloc, out, Exit::NoMemory),
     }
+}
+
+/// A disk in memory on which nothing stands yet.
+fn new_disk(alloc: Global) -> Result<MemoryDisk, NoMemory>
+    ensures room { IfOk result (λ disk. ⟦<MemoryDisk as Disk>⟧.room_of disk ≡ 16777216) }
+    ensures bytes { IfOk result (λ disk. ⟦<MemoryDisk as Disk>⟧.seen disk ≡ []) }
+{
+    MemoryDisk::new(alloc, &[], ROOM, &[], MOST_CALLS, MOST_WRITTEN)
 }
 
 /// The folder of templates.
@@ -148,13 +184,12 @@ fn templates_of(alloc: Global, home: &Txt) -> Result<String, NoMemory>
 }
 
 /// The lanes: one for files, in memory.
-fn lanes_of(alloc: Global) -> Result<Vec<FileHandler>, NoMemory>
-    ensures kinds { IfOk result (λ lanes. map ⟦<FileHandler as Handler>⟧.of_kind lanes.items ≡ codes "Local::Files::File" ∷ []) }
-    ensures told { IfOk result (λ lanes. map ⟦<FileHandler as Handler>⟧.told lanes.items ≡ Some (record { base = []; settled = [] }) ∷ []) }
-    ensures unsettled { IfOk result (λ lanes. AreUnsettled (map ⟦<FileHandler as Handler>⟧.told lanes.items)) }
-    ensures names { IfOk result (λ lanes. map ⟦<FileHandler as Handler>⟧.label lanes.items ≡ codes "files1" ∷ []) }
+fn lanes_of(alloc: Global) -> Result<Vec<MemoryHandler>, NoMemory>
+    ensures kinds { IfOk result (λ lanes. map ⟦<MemoryHandler as Handler>⟧.of_kind lanes.items ≡ codes "Local::Files::File" ∷ []) }
+    ensures told { IfOk result (λ lanes. map ⟦<MemoryHandler as Handler>⟧.told lanes.items ≡ Some (record { base = []; settled = [] }) ∷ []) }
+    ensures names { IfOk result (λ lanes. map ⟦<MemoryHandler as Handler>⟧.label lanes.items ≡ codes "files1" ∷ []) }
 {
     let mut lanes = Vec::new(alloc);
-    lanes.push(FileHandler::new(alloc, "files1", Vec::new(alloc))?)?;
+    lanes.push(MemoryHandler::files(alloc, "files1", Listing::new(alloc))?)?;
     Ok(lanes)
 }

@@ -1,44 +1,31 @@
-//! The top call over stores in memory: what it prints and answers.
-ghost use Rattle.std.specs.Prelude.{IfOk, map};
-ghost use Rattle.cf_engine.specs.Lanes.{AreUnsettled};
+//! The top calls over stores in memory: what they print and answer.
+ghost use Rattle.std.specs.Prelude.{◌≡◌, ◌≤◌, ◌^◌, length, IfOk, IsTrue};
+ghost use Rattle.cf_fake.specs.Refusable.{may_break};
 
-use crate::exit::{DesiredFault, Exit, Refusal};
-use crate::top::alone;
-use cf_handler::{FileHandler, Handler};
-use cf_io::{MemoryLibrary, MemorySink, Sink};
-use cf_template::TemplateFault;
-use cf_tree::{Code, Names, NoMemory, Txt};
+use crate::exit::Exit;
+use crate::top::{Ended, cfstack};
+use cf_disk::{Disk, FuseDisk, MemoryDisk};
+use cf_fake::{Break, MemoryHandler, Plan, Planned};
+use cf_io::{MemoryLibrary, MemorySink};
+use cf_tree::{Code, Listing, NoMemory, Txt};
 use std::alloc::Global;
 use std::test::Fail;
 
-// Three resources, not in order.
-const THREE: &str = "{\"Resources\":{\
-    \"C\":{\"Type\":\"Local::Files::File\",\"Properties\":{\"Path\":\"c\",\"Content\":\"\"}},\
-    \"A\":{\"Type\":\"Local::Files::File\",\"Properties\":{\"Path\":\"a\",\"Content\":\"x\"}},\
-    \"B\":{\"Type\":\"Local::Files::File\",\"Properties\":{\"Content\":\"y\",\"Path\":\"b\"}}}}";
+// One resource.
+const ONE: &str = "{\"Resources\":{\
+    \"Web\":{\"Type\":\"Local::Files::File\",\"Properties\":{\"Path\":\"web.txt\",\"Content\":\"hello\"}}}}";
 
-// A library that holds a text under the name `x` and fails in these fetches.
-fn library_of(alloc: Global, text: &str, fails: &[u64]) -> Result<MemoryLibrary, NoMemory> {
-    let mut texts = Vec::new(alloc);
-    let name = Txt::from_str(alloc, "x")?;
-    texts.push((name, Vec::from_slice(alloc, text.as_bytes())?))?;
-    MemoryLibrary::new(alloc, texts.as_slice(), fails)
-}
+// Two resources, not in order.
+const TWO: &str = "{\"Resources\":{\
+    \"B\":{\"Type\":\"Local::Files::File\",\"Properties\":{\"Content\":\"y\",\"Path\":\"b\"}},\
+    \"A\":{\"Type\":\"Local::Files::File\",\"Properties\":{\"Path\":\"a\",\"Content\":\"x\"}}}}";
 
-// The one lane `f1`, which refuses the call of this number.
-fn lanes_of(alloc: Global, refused: Option<u64>) -> Result<Vec<FileHandler>, NoMemory>
-    ensures { IfOk result (λ lanes. AreUnsettled (map ⟦<FileHandler as Handler>⟧.told lanes.items)) }
-{
-    let mut plan = Vec::new(alloc);
-    if let Some(call) = refused {
-        plan.push(cf_handler::Refusal {
-            call,
-            code: Code::GeneralServiceException,
-        })?;
-    }
-    let mut lanes = Vec::new(alloc);
-    lanes.push(FileHandler::new(alloc, "f1", plan)?)?;
-    Ok(lanes)
+// What a command left, and whether it printed what was wanted.
+#[derive(Drop)]
+struct Ran<D> {
+    is_wanted: bool,
+    disk: D,
+    lanes: Vec<MemoryHandler>,
 }
 
 // The words of a line.
@@ -50,221 +37,253 @@ fn words_of(alloc: Global, line: &str) -> Result<Vec<Txt>, NoMemory> {
     Ok(words)
 }
 
-// Whether the words of a line, over a library that holds a template under `x` and lanes, are answered by this exit and
-// print this.
-fn ends(
+// A library that holds a text under the name `x`.
+fn library_of(alloc: Global, text: &str) -> Result<MemoryLibrary, NoMemory> {
+    let mut texts = Vec::new(alloc);
+    let name = Txt::from_str(alloc, "x")?;
+    texts.push((name, Vec::from_slice(alloc, text.as_bytes())?))?;
+    MemoryLibrary::new(alloc, texts.as_slice(), [].as_slice())
+}
+
+// A disk that holds these bytes.
+fn disk_of(alloc: Global, bytes: &[u8], room: u64) -> Result<MemoryDisk, NoMemory>
+    requires { length bytes.now ≤ room }
+    ensures { IfOk result (λ disk. ⟦<MemoryDisk as Disk>⟧.room_of disk ≡ room) }
+{
+    MemoryDisk::new(alloc, bytes, room, &[], 1_000, 100_000)
+}
+
+// The one lane `f1`.
+fn one_lane(alloc: Global, plan: Plan) -> Result<Vec<MemoryHandler>, NoMemory> {
+    let mut lanes = Vec::new(alloc);
+    lanes.push(MemoryHandler::files(alloc, "f1", plan)?)?;
+    Ok(lanes)
+}
+
+// The one lane `f1`, of which the call of this number is broken.
+fn broken_lane(alloc: Global, call: u64, break_: Break) -> Result<Vec<MemoryHandler>, NoMemory>
+    requires { IsTrue (may_break break_) }
+{
+    let mut plan: Plan = Listing::new(alloc);
+    plan.push(Planned { call, break_ })?;
+    one_lane(alloc, plan)
+}
+
+// Does what the line says over a library that holds a template under `x`.
+fn run_line<D: Disk + Drop + Send>(
     alloc: Global,
     line: &str,
     template: &str,
-    lanes: Vec<FileHandler>,
-    exit: &Exit,
+    disk: D,
+    lanes: Vec<MemoryHandler>,
     wanted: &str,
-) -> Result<bool, NoMemory>
-    requires { AreUnsettled (map ⟦<FileHandler as Handler>⟧.told lanes.items) }
+) -> Result<Ran<D>, NoMemory>
+    requires least { 16 ≤ D.room_of disk }
+    requires most { D.room_of disk ≤ 2 ^ 32 }
+    ensures { IfOk result (λ ran. D.room_of ran.disk ≡ D.room_of disk) }
 {
     let words = words_of(alloc, line)?;
-    let mut library = library_of(alloc, template, [].as_slice())?;
+    let mut library = library_of(alloc, template)?;
     let mut out = MemorySink::new(alloc, [].as_slice())?;
-    let mut lanes = lanes;
-    let answered = alone(alloc, words.as_slice(), &mut library, &mut out, &mut lanes);
-    Ok(answered == *exit && out.bytes() == wanted.as_bytes())
+    let Ended {
+        exit: _,
+        disk,
+        lanes,
+    } = cfstack(
+        alloc,
+        words.as_slice(),
+        1,
+        &mut library,
+        &mut out,
+        disk,
+        lanes,
+    );
+    Ok(Ran {
+        is_wanted: out.bytes() == wanted.as_bytes(),
+        disk,
+        lanes,
+    })
 }
 
 #[test]
-fn resources_are_made_in_byte_order(rt: HostRuntime) -> Result<(), Fail> {
+fn a_stack_is_made_and_described(rt: HostRuntime) -> Result<(), Fail> {
     let alloc = rt.alloc();
     let wanted = "stack app CREATE_COMPLETE 1\n\
         resource A Local::Files::File f1:1 CREATE_COMPLETE\n\
         resource B Local::Files::File f1:2 CREATE_COMPLETE\n\
-        resource C Local::Files::File f1:3 CREATE_COMPLETE\n\
         exit 0 Done\n";
-    let lanes = lanes_of(alloc, None)?;
-    assert!(rt; ends(alloc, "deploy app x", THREE, lanes, &Exit::Done, wanted)?);
+    let disk = disk_of(alloc, &[], 65_536)?;
+    let lanes = one_lane(alloc, Listing::new(alloc))?;
+    let Ran {
+        is_wanted,
+        disk,
+        lanes,
+    } = run_line(alloc, "deploy app x", TWO, disk, lanes, wanted)?;
+    assert!(rt; is_wanted);
+    let Ran {
+        is_wanted,
+        disk,
+        lanes,
+    } = run_line(alloc, "describe app", TWO, disk, lanes, wanted)?;
+    assert!(rt; is_wanted);
+    let again = "exit 3 StackRefused WrongStatus CREATE_COMPLETE\n";
+    let ran = run_line(alloc, "deploy app x", TWO, disk, lanes, again)?;
+    assert!(rt; ran.is_wanted);
     Ok(())
 }
 
-// The lanes `f2` and `f1` of one type, in this order.
-fn two_lanes(alloc: Global) -> Result<Vec<FileHandler>, NoMemory>
-    ensures { IfOk result (λ lanes. AreUnsettled (map ⟦<FileHandler as Handler>⟧.told lanes.items)) }
+// Whether a deployment of one resource over a new disk prints this.
+fn refuses(
+    alloc: Global,
+    bytes: &[u8],
+    room: u64,
+    lanes: Vec<MemoryHandler>,
+    wanted: &str,
+) -> Result<bool, NoMemory>
+    requires fits { length bytes.now ≤ room }
+    requires least { 16 ≤ room }
+    requires most { room ≤ 2 ^ 32 }
 {
-    let mut lanes = Vec::new(alloc);
-    lanes.push(FileHandler::new(alloc, "f2", Vec::new(alloc))?)?;
-    lanes.push(FileHandler::new(alloc, "f1", Vec::new(alloc))?)?;
-    Ok(lanes)
+    let disk = disk_of(alloc, bytes, room)?;
+    let ran = run_line(alloc, "deploy app x", ONE, disk, lanes, wanted)?;
+    Ok(ran.is_wanted)
 }
 
 #[test]
-fn the_first_lane_of_a_type_makes_its_resources(rt: HostRuntime) -> Result<(), Fail> {
+fn disks_and_lanes_that_are_refused(rt: HostRuntime) -> Result<(), Fail> {
     let alloc = rt.alloc();
-    let wanted = "stack app CREATE_COMPLETE 1\n\
-        resource A Local::Files::File f2:1 CREATE_COMPLETE\n\
-        resource B Local::Files::File f2:2 CREATE_COMPLETE\n\
-        resource C Local::Files::File f2:3 CREATE_COMPLETE\n\
-        exit 0 Done\n";
-    let lanes = two_lanes(alloc)?;
-    assert!(rt; ends(alloc, "deploy app x", THREE, lanes, &Exit::Done, wanted)?);
-    Ok(())
-}
-
-#[test]
-fn a_refused_creation_stops_the_run(rt: HostRuntime) -> Result<(), Fail> {
-    let alloc = rt.alloc();
-    let wanted = "stack app CREATE_FAILED 1\n\
-        resource A Local::Files::File f1:1 CREATE_COMPLETE\n\
-        failed B\n\
-        exit 5 Failed [\"B\"]\n";
-    let mut blamed = Names::new(alloc);
-    blamed.push(Txt::from_str(alloc, "B")?)?;
-    let lanes = lanes_of(alloc, Some(2))?;
+    let lanes = one_lane(alloc, Listing::new(alloc))?;
+    assert!(rt; refuses(alloc, &[], 20, lanes, "exit 14 Full 10 46 20\n")?);
+    let lanes = one_lane(alloc, Listing::new(alloc))?;
     assert!(rt;
-        ends(
+        refuses(
             alloc,
-            "deploy app x",
-            THREE,
+            b"hello world",
+            65_536,
             lanes,
-            &Exit::Failed { blamed },
-            wanted
+            "exit 10 NotAJournal 1\n"
         )?
     );
+    let mut lanes = one_lane(alloc, Listing::new(alloc))?;
+    lanes.push(MemoryHandler::records(alloc, "f1", Listing::new(alloc))?)?;
+    assert!(rt; refuses(alloc, &[], 65_536, lanes, "exit 11 LaneTwice \"f1\"\n")?);
     Ok(())
 }
 
-// Whether a template under `x` is refused with this fault and exit line, and nothing else is printed.
-fn refuses(alloc: Global, template: &str, fault: Refusal, line: &str) -> Result<bool, NoMemory> {
-    let exit = Exit::TemplateRefused { fault };
-    ends(
-        alloc,
-        "deploy app x",
-        template,
-        lanes_of(alloc, None)?,
-        &exit,
-        line,
-    )
-}
-
-// Whether a template under `x` is not read for this reason, and this exit line is printed.
-fn is_unread(
-    alloc: Global,
-    template: &str,
-    fault: TemplateFault,
-    line: &str,
-) -> Result<bool, NoMemory> {
-    let name = Txt::from_str(alloc, "x")?;
-    refuses(alloc, template, Refusal::Read { name, fault }, line)
+// Whether a deployment of two resources, of which the call of this number is broken, prints this; and then leaves the
+// stack in progress.
+fn stops(alloc: Global, call: u64, break_: Break, wanted: &str) -> Result<bool, NoMemory>
+    requires { IsTrue (may_break break_) }
+{
+    let disk = disk_of(alloc, &[], 65_536)?;
+    let lanes = broken_lane(alloc, call, break_)?;
+    let first = run_line(alloc, "deploy app x", TWO, disk, lanes, wanted)?;
+    let going = "stack app CREATE_IN_PROGRESS 1\nexit 0 Done\n";
+    let second = run_line(alloc, "describe app", TWO, first.disk, first.lanes, going)?;
+    let again = "exit 3 StackRefused WrongStatus CREATE_IN_PROGRESS\n";
+    let third = run_line(alloc, "deploy app x", TWO, second.disk, second.lanes, again)?;
+    Ok(first.is_wanted && second.is_wanted && third.is_wanted)
 }
 
 #[test]
-fn templates_that_are_not_read(rt: HostRuntime) -> Result<(), Fail> {
+fn a_broken_creation_stops_the_run(rt: HostRuntime) -> Result<(), Fail> {
     let alloc = rt.alloc();
-    let not_json = "exit 2 TemplateRefused Read \"x\" NotJson\n";
-    let not_yet = "exit 2 TemplateRefused Read \"x\" NotYet\n";
-    assert!(rt; is_unread(alloc, "{\"Resources\":", TemplateFault::NotJson, not_json)?);
-    assert!(rt; is_unread(alloc, "[]", TemplateFault::NotYet, not_yet)?);
-    for value in ["1", "{\"Ref\":\"B\"}", "\"{{resolve:ssm:a}}\""] {
-        let mut text = String::from_str(
-            alloc,
-            "{\"Resources\":{\"A\":{\"Type\":\"Local::Files::File\",\"Properties\":{\"Path\":",
-        )?;
-        text.push_str(value)?;
-        text.push_str("}}}}")?;
-        assert!(rt;
-            is_unread(alloc, text.as_str(), TemplateFault::NotYet, not_yet)?,
-            "at {value}"
-        );
+    let refused = Break::Refuse(Code::ServiceLimitExceeded);
+    let limit = "exit 15 Unrolled Handler \"B\" ServiceLimitExceeded\n";
+    assert!(rt; stops(alloc, 2, refused, limit)?);
+    for break_ in [Break::FaultBefore, Break::FaultAfter] {
+        assert!(rt; stops(alloc, 1, break_, "exit 15 Unrolled Handler \"A\" Fault\n")?);
+        assert!(rt; stops(alloc, 2, break_, "exit 15 Unrolled Handler \"B\" Fault\n")?);
     }
     Ok(())
 }
 
 #[test]
-fn a_type_without_a_lane_is_refused(rt: HostRuntime) -> Result<(), Fail> {
+fn words_and_templates_that_are_refused(rt: HostRuntime) -> Result<(), Fail> {
     let alloc = rt.alloc();
-    let template = "{\"Resources\":{\
-        \"B\":{\"Type\":\"No::Other\",\"Properties\":{}},\
-        \"A\":{\"Type\":\"No::Such\",\"Properties\":{}}}}";
-    let fault = Refusal::UnknownType {
-        path: Txt::from_str(alloc, "A")?,
-        name: Txt::from_str(alloc, "No::Such")?,
-    };
-    let wanted = "exit 2 TemplateRefused UnknownType \"A\" \"No::Such\"\n";
-    assert!(rt; refuses(alloc, template, fault, wanted)?);
+    let cases = [
+        ("deploy app", ONE, "exit 1 BadWords\n"),
+        ("describe app", ONE, "exit 3 StackRefused NoStack\n"),
+        (
+            "deploy app y",
+            ONE,
+            "exit 2 TemplateRefused Plan TemplateMissing \"y\"\n",
+        ),
+        (
+            "deploy app x",
+            "[]",
+            "exit 2 TemplateRefused Read \"x\" NotYet\n",
+        ),
+        (
+            "deploy app x",
+            "{\"Resources\":{\"A\":{\"Type\":\"No::Such\",\"Properties\":{}}}}",
+            "exit 2 TemplateRefused UnknownType \"A\" \"No::Such\"\n",
+        ),
+    ];
+    for (line, template, wanted) in cases {
+        let disk = disk_of(alloc, &[], 65_536)?;
+        let lanes = one_lane(alloc, Listing::new(alloc))?;
+        let ran = run_line(alloc, line, template, disk, lanes, wanted)?;
+        assert!(rt; ran.is_wanted, "at {line}");
+    }
     Ok(())
 }
 
+// A sink that fails leaves the stack complete.
 #[test]
-fn a_template_that_is_missing(rt: HostRuntime) -> Result<(), Fail> {
+fn a_sink_that_fails_at_the_report(rt: HostRuntime) -> Result<(), Fail> {
     let alloc = rt.alloc();
     let words = words_of(alloc, "deploy app x")?;
-    let texts = Vec::new(alloc);
-    let mut library = MemoryLibrary::new(alloc, texts.as_slice(), [].as_slice())?;
-    let mut out = MemorySink::new(alloc, [].as_slice())?;
-    let mut lanes = lanes_of(alloc, None)?;
-    let name = Txt::from_str(alloc, "x")?;
-    let fault = Refusal::Plan {
-        fault: DesiredFault::TemplateMissing { name },
-    };
-    let exit = alone(alloc, words.as_slice(), &mut library, &mut out, &mut lanes);
-    assert!(rt; exit == Exit::TemplateRefused { fault });
-    let wanted = "exit 2 TemplateRefused Plan TemplateMissing \"x\"\n";
-    assert!(rt; out.bytes() == wanted.as_bytes());
-    Ok(())
-}
-
-#[test]
-fn words_that_say_nothing_known(rt: HostRuntime) -> Result<(), Fail> {
-    let alloc = rt.alloc();
-    let wanted = "exit 1 BadWords\n";
-    for line in ["", "deploy app", "deploy app x K=V", "describe app"] {
-        let lanes = lanes_of(alloc, None)?;
-        assert!(rt;
-            ends(alloc, line, THREE, lanes, &Exit::BadWords, wanted)?,
-            "at {line}"
-        );
-    }
-    Ok(())
-}
-
-// Whether the words of a line are answered by this exit and print this, over a library whose first fetch fails.
-fn ends_over_a_failing_library(
-    alloc: Global,
-    line: &str,
-    exit: &Exit,
-    wanted: &str,
-) -> Result<bool, NoMemory> {
-    let words = words_of(alloc, line)?;
-    let mut library = library_of(alloc, "[]", [1].as_slice())?;
-    let mut out = MemorySink::new(alloc, [].as_slice())?;
-    let mut lanes = lanes_of(alloc, None)?;
-    let answered = alone(alloc, words.as_slice(), &mut library, &mut out, &mut lanes);
-    Ok(answered == *exit && out.bytes() == wanted.as_bytes())
-}
-
-#[test]
-fn a_library_that_fails_comes_behind_bad_words_and_before_refusals(
-    rt: HostRuntime,
-) -> Result<(), Fail> {
-    let alloc = rt.alloc();
-    for line in ["deploy app x", "deploy app y"] {
-        assert!(rt;
-            ends_over_a_failing_library(alloc, line, &Exit::LibraryFault, "exit 6 LibraryFault\n")?,
-            "at {line}"
-        );
-    }
-    assert!(rt;
-        ends_over_a_failing_library(alloc, "deploy", &Exit::BadWords, "exit 1 BadWords\n")?
-    );
-    Ok(())
-}
-
-#[test]
-fn a_sink_that_fails(rt: HostRuntime) -> Result<(), Fail> {
-    let alloc = rt.alloc();
-    let words = words_of(alloc, "deploy app x")?;
-    let mut library = library_of(alloc, THREE, [].as_slice())?;
+    let mut library = library_of(alloc, ONE)?;
     let mut out = MemorySink::new(alloc, [1].as_slice())?;
-    let mut lanes = lanes_of(alloc, None)?;
-    let exit = alone(alloc, words.as_slice(), &mut library, &mut out, &mut lanes);
+    let disk = disk_of(alloc, &[], 65_536)?;
+    let lanes = one_lane(alloc, Listing::new(alloc))?;
+    let Ended { exit, disk, lanes } = cfstack(
+        alloc,
+        words.as_slice(),
+        1,
+        &mut library,
+        &mut out,
+        disk,
+        lanes,
+    );
     assert!(rt; exit == Exit::SinkFault);
-    assert!(rt; out.bytes() == b"".as_slice());
-    assert_eq!(rt; out.faults(), 1);
+    let wanted = "stack app CREATE_COMPLETE 1\n\
+        resource Web Local::Files::File f1:1 CREATE_COMPLETE\n\
+        exit 0 Done\n";
+    let ran = run_line(alloc, "describe app", ONE, disk, lanes, wanted)?;
+    assert!(rt; ran.is_wanted);
+    Ok(())
+}
+
+// Whether a run that is stopped behind so many calls of its disk leaves a stack that this is told of.
+fn is_left(alloc: Global, calls: u64, wanted: &str) -> Result<bool, NoMemory> {
+    let fuse = FuseDisk::new(disk_of(alloc, &[], 65_536)?, calls);
+    let lanes = one_lane(alloc, Listing::new(alloc))?;
+    let cut = "exit 7 DiskFault\n";
+    let first = run_line(alloc, "deploy app x", ONE, fuse, lanes, cut)?;
+    let disk = first.disk.into_disk();
+    let second = run_line(alloc, "describe app", ONE, disk, first.lanes, wanted)?;
+    Ok(first.is_wanted && second.is_wanted)
+}
+
+// Opening a new journal takes 8 calls and each of the five entries 4; an entry stands from its third call on.
+#[test]
+fn a_run_is_stopped_at_each_call_of_its_disk(rt: HostRuntime) -> Result<(), Fail> {
+    let alloc = rt.alloc();
+    for calls in 0..15 {
+        assert!(rt;
+            is_left(alloc, calls, "exit 3 StackRefused NoStack\n")?,
+            "at {calls}"
+        );
+    }
+    let going = "stack app CREATE_IN_PROGRESS 1\nexit 0 Done\n";
+    for calls in 15..27 {
+        assert!(rt; is_left(alloc, calls, going)?, "at {calls}");
+    }
+    let complete = "stack app CREATE_COMPLETE 1\n\
+        resource Web Local::Files::File f1:1 CREATE_COMPLETE\n\
+        exit 0 Done\n";
+    assert!(rt; is_left(alloc, 27, complete)?);
     Ok(())
 }

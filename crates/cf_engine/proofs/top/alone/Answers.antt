@@ -1,30 +1,35 @@
 use Rattle.std.proofs.Common.{map}
-use Rattle.cf_engine.proofs.Runs.{fresh_first}
 use Rattle.cf_engine.proofs.Lines.{answers_of}
 use Rattle.cf_engine.proofs.top.alone.Goals as goal
-
-pub run_words-requires : goal.run_words-requires
-run_words-requires g c = fresh_first (map g.H.Handler.told c.args.lanes.now.items) c.requires
 
 pub returns-clause-answered : goal.returns-clause-answered
 returns-clause-answered g c =
     answers_of
     (record {
-      texts = g.L.Library.texts c.args.library.now;
-      faults = g.L.Library.count c.args.library.now;
-      faults' = g.L.Library.count c.run_words.new.library;
-      misses = g.L.Library.missed c.args.library.now;
-      misses' = g.L.Library.missed c.run_words.new.library;
-      kinds = map g.H.Handler.of_kind c.args.lanes.now.items;
-      told = map g.H.Handler.told c.args.lanes.now.items;
-      told' = map g.H.Handler.told c.run_words.new.lanes.items;
-      counts = map g.H.Handler.count c.args.lanes.now.items;
-      counts' = map g.H.Handler.count c.run_words.new.lanes.items;
+      shelf = record {
+        texts = g.L.Library.texts c.args.library.now;
+        faults = g.L.Library.count c.args.library.now;
+        faults' = g.L.Library.count c.run_words-exit.new.library;
+        misses = g.L.Library.missed c.args.library.now;
+        misses' = g.L.Library.missed c.run_words-exit.new.library;
+      };
+      names = map g.H.Handler.label c.args.lanes.items;
+      kinds = map g.H.Handler.of_kind c.args.lanes.items;
+      told = map g.H.Handler.told c.args.lanes.items;
+      told' = map g.H.Handler.told c.run_words-exit.new.lanes.items;
+      counts = map g.H.Handler.count c.args.lanes.items;
+      counts' = map g.H.Handler.count c.run_words-exit.new.lanes.items;
+      tells = g.D.Disk.tells;
+      bytes = g.D.Disk.seen c.args.disk;
+      bytes' = g.D.Disk.seen c.run_words-exit.new.disk;
+      room = g.D.Disk.room_of c.args.disk;
+      faults = g.D.Disk.count c.args.disk;
+      faults' = g.D.Disk.count c.run_words-exit.new.disk;
     })
     (record {
       held = g.K.Sink.held c.args.out.now;
-      held' = g.K.Sink.held c.run_words.new.out;
+      held' = g.K.Sink.held c.run_words-exit.new.out;
       faults = g.K.Sink.count c.args.out.now;
-      faults' = g.K.Sink.count c.run_words.new.out;
+      faults' = g.K.Sink.count c.run_words-exit.new.out;
     })
-    c.args.words.now c.run_words.result c.run_words.ensures.tells
+    c.args.words.now c.run_words-exit.result c.run_words-exit.ensures.tells

@@ -1,0 +1,150 @@
+-- What a deployment comes to, from what its parts came to.
+use Rattle.std.proofs.Common.{◌≡◌, ◌⊎◌, inl, inr, ℕ, ◌+◌, ◌<◌, ◌≤◌, List, [], ◌∷◌, ◌++◌, length, find, Option, Some, None, option_and_then, Result, Ok, Err, IfOk, IfErr, get_or, slice_get, refl, sym, ap, ◌∙◌, subst, arith, append-nil}
+use Rattle.std.specs.Global.{Vec}
+use Rattle.cf_tree.specs.declared.planned.Planned.{Planned}
+use Rattle.cf_entry.specs.declared.entry.Entry.{Entry}
+use Rattle.cf_io.specs.Library.{Texts, StandsUnder}
+use Rattle.cf_engine.specs.declared.book.Halt.{Halt}
+use Rattle.cf_engine.specs.declared.book.Halt.TheVariants as halt
+use Rattle.cf_engine.specs.declared.cause.Cause.TheVariants as cause
+use Rattle.cf_engine.specs.declared.cause.Reason.{Reason}
+use Rattle.cf_engine.specs.declared.course.RunEnd.{RunEnd}
+use Rattle.cf_engine.specs.declared.course.RunEnd.TheVariants as run
+use Rattle.cf_engine.specs.declared.exit.Exit.{Exit}
+use Rattle.cf_engine.specs.declared.exit.Exit.TheVariants as exit
+use Rattle.cf_engine.specs.declared.exit.Refusal.{Refusal}
+use Rattle.cf_engine.specs.declared.exit.Refusal.TheVariants.{UnknownType}
+use Rattle.cf_engine.specs.declared.numbers.Numbered.TheVariants.{Operations, Tokens}
+use Rattle.cf_engine.specs.declared.stack.Stack.{Stack}
+use Rattle.cf_engine.specs.Lanes.{lane_for, is_unknown}
+use Rattle.cf_engine.specs.Refusals.{template_of, template_in, refusal_of, unread_of, type_refusal, or_else, RefusesAs, ReadsAs}
+use Rattle.cf_engine.specs.Book.{Holds}
+use Rattle.cf_engine.specs.Written.{Call, next_of, calls_written, due_after, run_written}
+use Rattle.cf_engine.specs.Calls.{FailsLast}
+use Rattle.cf_engine.specs.Run.{Scene, StandsAt, IsCut}
+use Rattle.cf_engine.specs.Make.{MakeTells}
+use Rattle.cf_engine.specs.Opening.{exit_of}
+use Rattle.cf_engine.specs.Stack.{stack_of}
+use Rattle.cf_engine.specs.Deployment.{Shelf, FetchesAs, held_of, completed, IsQuiet, beginning_in, IsDeployed, HasStopped, WasCut, StopsAs, ReadFails, ReadAs, IsFound, RefusesEarly, DeploysAs}
+use Rattle.cf_engine.proofs.Rows.{got}
+use Rattle.cf_engine.proofs.Moved.{same_later}
+use Rattle.cf_engine.proofs.Cut.{nearly_none, nearly_one}
+use Rattle.cf_engine.proofs.Folded.{folds}
+
+-- the making of a stack behind what was there
+abbrev pub Makes : Scene → List ℕ → List ℕ → List ℕ → List Planned → RunEnd → Type 0
+Makes s name template bytes rs end = MakeTells s (next_of Operations s.entries) (next_of Tokens s.entries) (beginning_in s.entries name template bytes) rs end
+
+some_inside : {A : Type 0} (x y : A) → Some x ≡ Some y → x ≡ y
+some_inside x y e = cc
+
+folded : (s : Scene) (name template bytes : List ℕ) (rs : List Planned) → (t : Makes s name template bytes rs run.Done) → stack_of name s.entries' ≡ Some (completed (next_of Operations s.entries) (held_of rs t.0))
+folded s name template bytes rs t =
+    ap (λ (es : List Entry). stack_of name es) t.4 ∙ folds name template bytes (next_of Operations s.entries) (next_of Tokens s.entries) s.names s.kinds s.entries rs t.0 t.2 t.1
+
+-- there is a stack then
+pub is_there : (s : Scene) (name template bytes : List ℕ) (rs : List Planned) → Makes s name template bytes rs run.Done → (st : Stack) × (stack_of name s.entries' ≡ Some st)
+is_there s name template bytes rs t = (completed (next_of Operations s.entries) (held_of rs t.0), folded s name template bytes rs t)
+
+pub deployed : (s : Scene) (name template bytes : List ℕ) (rs : List Planned) (st : Stack) → find (is_unknown s.kinds) rs ≡ None → Makes s name template bytes rs run.Done → Holds s.tells s.bytes' s.entries' → stack_of name s.entries' ≡ Some st → IsDeployed s name template bytes rs st
+deployed s name template bytes rs st k t h f = record {
+  calls = t.0;
+  known = k;
+  all = t.1;
+  made = t.2;
+  called = t.3;
+  written = t.4;
+  folded = f;
+  held = some_inside st (completed (next_of Operations s.entries) (held_of rs t.0)) (sym f ∙ folded s name template bytes rs t);
+  stays = h;
+}
+
+-- memory was short behind the end
+pub short_at_end : (s : Scene) (name template bytes : List ℕ) (rs : List Planned) (e : Exit) → find (is_unknown s.kinds) rs ≡ None → Makes s name template bytes rs run.Done → Holds s.tells s.bytes' s.entries' → e ≡ exit.NoMemory → ReadFails s name template bytes rs e
+short_at_end s name template bytes rs e k t h q =
+    let all : List Entry = beginning_in s.entries name template bytes ∷ run_written (next_of Operations s.entries) (next_of Tokens s.entries) s.names s.kinds rs t.0 in
+    subst (ReadFails s name template bytes rs) (sym q) (inr (record {
+      known = k;
+      cut = record {
+        calls = t.0;
+        written = all;
+        missing = [];
+        counted = s.counts';
+        called = t.3;
+        later = same_later s.counts' s.counts' refl;
+        whole = sym (append-nil all);
+        nearly = nearly_none t.0;
+        holds = subst (Holds s.tells s.bytes') t.4 h;
+        cause = tt;
+      };
+    }))
+
+pub ended : (s : Scene) (name template bytes : List ℕ) (rs : List Planned) (result : Result Stack Exit) → find (is_unknown s.kinds) rs ≡ None → Makes s name template bytes rs run.Done → Holds s.tells s.bytes' s.entries' → IfOk result (λ st. stack_of name s.entries' ≡ Some st) → IfErr result (λ e. e ≡ exit.NoMemory) → ReadAs s name template bytes rs result
+ended s name template bytes rs (Ok st) k t h f q = deployed s name template bytes rs st k t h f
+ended s name template bytes rs (Err e) k t h f q = short_at_end s name template bytes rs e k t h q
+
+-- a run that stopped, and its exit
+pub stopped : (s : Scene) (name template bytes : List ℕ) (rs : List Planned) (at : ℕ) (why : Reason) (e : Exit) → find (is_unknown s.kinds) rs ≡ None → Makes s name template bytes rs (run.Failed at why) → Holds s.tells s.bytes' s.entries' → StopsAs rs at why e → ReadFails s name template bytes rs e
+stopped s name template bytes rs at why (exit.Unrolled (cause.Handler path reason)) k t h d = record {
+  calls = t.0;
+  at = at;
+  resource = t.5.0;
+  reason = reason;
+  known = k;
+  many = t.1;
+  fails = subst (λ (x : Reason). FailsLast x t.0) (sym d.1) t.2;
+  called = t.3;
+  written = t.4;
+  place = t.5.1;
+  named = ap (λ (x : List ℕ). cause.Handler x reason) (d.0.2 ∙ ap (λ (x : Planned). x.name) (some_inside d.0.0 t.5.0 (got rs at d.0.0 d.0.1.0 d.0.1.1 ∙ sym (got rs at t.5.0 t.5.1.0 t.5.1.1))));
+  rose = t.5.2;
+  stays = h;
+}
+stopped s name template bytes rs at why (exit.Unrolled (cause.Plan fault)) k t h d = absurd d
+stopped s name template bytes rs at why (exit.Unrolled (cause.Export export)) k t h d = absurd d
+stopped s name template bytes rs at why exit.NoMemory k t h d =
+    let begin : Entry = beginning_in s.entries name template bytes in
+    let due : Entry = due_after (next_of Operations s.entries) (next_of Tokens s.entries) s.names s.kinds rs t.0 in
+    inr (record {
+      known = k;
+      cut = record {
+        calls = t.0;
+        written = begin ∷ calls_written (next_of Operations s.entries) (next_of Tokens s.entries) s.names s.kinds rs t.0;
+        missing = due ∷ [];
+        counted = s.counts';
+        called = t.3;
+        later = same_later s.counts' s.counts' refl;
+        whole = refl;
+        nearly = nearly_one t.0 due;
+        holds = subst (Holds s.tells s.bytes') t.4 h;
+        cause = tt;
+      };
+    })
+stopped s name template bytes rs at why _ k t h d = absurd d
+
+-- a run that halted
+pub halted : (s : Scene) (name template bytes : List ℕ) (rs : List Planned) (h : Halt) → find (is_unknown s.kinds) rs ≡ None → Makes s name template bytes rs (run.Halted h) → ReadFails s name template bytes rs (exit_of h)
+halted s name template bytes rs (halt.Full long need room) k t = record { known = k; cut = t }
+halted s name template bytes rs halt.DiskFault k t = record { known = k; cut = t }
+halted s name template bytes rs halt.NoMemory k t = inr (record { known = k; cut = t })
+
+-- a type that no lane has
+pub unknown_type : (s : Scene) (name template bytes : List ℕ) (rs : List Planned) (r : Planned) (e : Exit) → find (is_unknown s.kinds) rs ≡ Some r → IsQuiet s → RefusesAs (UnknownType r.name r.kind) e → ReadFails s name template bytes rs e
+unknown_type s name template bytes rs r (exit.TemplateRefused fault) f q d = (r, f, d, q)
+unknown_type s name template bytes rs r exit.NoMemory f q d = inl q
+unknown_type s name template bytes rs r _ f q d = absurd d
+
+-- a template that was found, and what was made of it
+pub found_tells : (o : Shelf) (s : Scene) (name template bytes : List ℕ) (rs : List Planned) (result : Result Stack Exit) → IsFound o s name template bytes rs → ReadAs s name template bytes rs result → DeploysAs o s name template result
+found_tells o s name template bytes rs (Ok st) f t = (bytes, rs, f, t)
+found_tells o s name template bytes rs (Err e) f t = inr (bytes, rs, f, t)
+
+refused_first : (kinds : List (List ℕ)) (template : List ℕ) (found : Option (List ℕ)) (fault : Refusal) → unread_of template found ≡ Some fault → refusal_of kinds template found ≡ Some fault
+refused_first kinds template found fault e = ap (λ (x : Option Refusal). or_else x (option_and_then (type_refusal kinds) (template_in found))) e
+
+-- a template that was not read
+pub unread_tells : (o : Shelf) (s : Scene) (name template : List ℕ) (e : Exit) → stack_of name s.entries ≡ None → IsQuiet s → ReadsAs o.texts template o.faults o.faults' o.misses o.misses' (Err e) → DeploysAs o s name template (Err e)
+unread_tells o s name template (exit.TemplateRefused fault) n q t = inl ((t.0, t.1, refused_first s.kinds template t.0 fault t.2, t.3, n), q)
+unread_tells o s name template exit.LibraryFault n q t = inl ((t, n), q)
+unread_tells o s name template exit.NoMemory n q t = inl (tt, q)
+unread_tells o s name template _ n q t = absurd t

@@ -1,0 +1,70 @@
+//! The journal of a run, and its entries.
+ghost use Rattle.std.specs.Prelude.{◌≡◌, ◌≤◌, ◌<◌, OnOk, length, vec_len, vec_capacity};
+ghost use Rattle.cf_tree.specs.SizeOf.{capped};
+ghost use Rattle.cf_entry.specs.Entry.{IsProper, spelling_of};
+ghost use Rattle.cf_journal.specs.Record.{spare_of};
+ghost use Rattle.cf_engine.specs.Book.{IsOpen, AppendTells};
+
+use cf_disk::Disk;
+use cf_entry::{Entry, entry_size};
+use cf_journal::{AppendFault, Journal};
+
+/// A journal that is open for more entries, with those that it has.
+#[derive(Drop)]
+pub struct Book {
+    pub journal: Journal,
+    pub entries: Vec<Entry>,
+}
+
+/// Why a run can't go on.
+#[derive(Clone, Copy, Debug, Drop, PartialEq, Eq)]
+pub enum Halt {
+    /// The journal's length and the bytes that the next entry needs pass the disk's room.
+    Full { length: u64, need: u64, room: u64 },
+    /// The disk failed.
+    DiskFault,
+    /// Memory was not there.
+    NoMemory,
+}
+
+/// Appends an entry to the journal of the disk and to the book's entries.
+///
+/// After `Full` and `NoMemory` neither has changed. After `DiskFault` the disk has the entry or not, and the journal
+/// must be recovered again.
+pub fn append<D: Disk>(book: &mut Book, disk: &mut D, entry: Entry) -> Result<(), Halt>
+    requires open { IsOpen D.tells D.seen D.may_leave D.room_of book.old disk.old }
+    requires proper { IsProper entry }
+    ensures open { OnOk result (IsOpen D.tells D.seen D.may_leave D.room_of book.new disk.new) }
+    ensures room { D.room_of disk.new ≡ D.room_of disk.old }
+    ensures count { D.count disk.old ≤ D.count disk.new }
+    ensures tells { AppendTells D.tells (D.seen disk.new) (D.room_of disk.old) (D.count disk.old) (D.count disk.new) book.old.entries.items book.new.entries.items entry result }
+{
+    match (
+        book.entries.reserve(1),
+        book.journal.reserve(entry_size(&entry)),
+    ) {
+        (Ok(()), Ok(())) => write(book, disk, entry),
+        _ => Err(Halt::NoMemory),
+    }
+}
+
+/// Appends an entry for which there is memory.
+fn write<D: Disk>(book: &mut Book, disk: &mut D, entry: Entry) -> Result<(), Halt>
+    requires open { IsOpen D.tells D.seen D.may_leave D.room_of book.old disk.old }
+    requires proper { IsProper entry }
+    requires memory { vec_len book.old.entries < vec_capacity book.old.entries }
+    requires spare { capped (length (spelling_of entry)) ≤ spare_of book.old.journal }
+    ensures open { OnOk result (IsOpen D.tells D.seen D.may_leave D.room_of book.new disk.new) }
+    ensures room { D.room_of disk.new ≡ D.room_of disk.old }
+    ensures count { D.count disk.old ≤ D.count disk.new }
+    ensures tells { AppendTells D.tells (D.seen disk.new) (D.room_of disk.old) (D.count disk.old) (D.count disk.new) book.old.entries.items book.new.entries.items entry result }
+{
+    match book.journal.append(disk, &entry) {
+        Ok(()) => {
+            book.entries.push_reserved(entry);
+            Ok(())
+        }
+        Err(AppendFault::Full { length, need, room }) => Err(Halt::Full { length, need, room }),
+        Err(AppendFault::DiskFault) => Err(Halt::DiskFault),
+    }
+}

@@ -1,0 +1,88 @@
+//! Commands over the journal of a disk.
+ghost use Rattle.std.specs.Prelude.{◌≡◌, ◌≤◌, ◌^◌, map};
+ghost use Rattle.cf_engine.specs.Meeting.{RunsAs, Describes};
+
+use crate::deployment::deploy_in;
+use crate::exit::{Exit, StackFault};
+use crate::opening::{enter, open};
+use crate::stack::{Stack, stack_of};
+use cf_disk::Disk;
+use cf_handler::Handler;
+use cf_io::Library;
+use cf_tree::{NoMemory, Txt};
+use std::alloc::Global;
+
+/// Deploys a stack over the journal of a disk: the stack that the journal's entries then leave, or the exit.
+///
+/// The order is: the disk is read, `DiskFault` and `NotAJournal`; `LaneTwice`; the opening is written, `Full` and
+/// `DiskFault`; `WrongStatus` where there is a stack of the name; `LibraryFault`; `TemplateRefused`; then the beginning,
+/// the creations and the end.
+pub fn deploy_on<L: Library, D: Disk, H: Handler>(
+    alloc: Global,
+    library: &mut L,
+    disk: &mut D,
+    lanes: &mut Vec<H>,
+    stack: &Txt,
+    template: &Txt,
+) -> Result<Stack, Exit>
+    requires least { 16 ≤ D.room_of disk.old }
+    requires most { D.room_of disk.old ≤ 2 ^ 32 }
+    ensures same { L.texts library.new ≡ L.texts library.old }
+    ensures names { map H.label lanes.new.items ≡ map H.label lanes.old.items }
+    ensures kinds { map H.of_kind lanes.new.items ≡ map H.of_kind lanes.old.items }
+    ensures room { D.room_of disk.new ≡ D.room_of disk.old }
+    ensures tells { RunsAs (record {
+      shelf = record {
+        texts = L.texts library.old;
+        faults = L.count library.old;
+        faults' = L.count library.new;
+        misses = L.missed library.old;
+        misses' = L.missed library.new;
+      };
+      names = map H.label lanes.old.items;
+      kinds = map H.of_kind lanes.old.items;
+      told = map H.told lanes.old.items;
+      told' = map H.told lanes.new.items;
+      counts = map H.count lanes.old.items;
+      counts' = map H.count lanes.new.items;
+      tells = D.tells;
+      bytes = D.seen disk.old;
+      bytes' = D.seen disk.new;
+      room = D.room_of disk.old;
+      faults = D.count disk.old;
+      faults' = D.count disk.new;
+    })
+        stack.now template.now result }
+{
+    let mut book = match open(alloc, disk) {
+        Ok(book) => book,
+        Err(exit) => return Err(exit),
+    };
+    match enter(alloc, &mut book, disk, lanes.as_slice()) {
+        Ok(()) => deploy_in(alloc, &mut book, disk, library, lanes, stack, template),
+        Err(exit) => Err(exit),
+    }
+}
+
+/// The stack of a name that the journal of a disk leaves.
+///
+/// `DiskFault` and `NotAJournal` come where the disk can't be read or holds no journal, `NoStack` exactly where no stack
+/// has the name. No entry is written.
+pub fn describe_on<D: Disk>(alloc: Global, disk: &mut D, stack: &Txt) -> Result<Stack, Exit>
+    requires least { 16 ≤ D.room_of disk.old }
+    requires most { D.room_of disk.old ≤ 2 ^ 32 }
+    ensures room { D.room_of disk.new ≡ D.room_of disk.old }
+    ensures tells { Describes D.tells (D.seen disk.old) (D.seen disk.new) (D.count disk.old) (D.count disk.new) stack.now result }
+{
+    let book = match open(alloc, disk) {
+        Ok(book) => book,
+        Err(exit) => return Err(exit),
+    };
+    match stack_of(alloc, stack, book.entries.as_slice()) {
+        Ok(Some(found)) => Ok(found),
+        Ok(None) => Err(Exit::StackRefused {
+            fault: StackFault::NoStack,
+        }),
+        Err(NoMemory) => Err(Exit::NoMemory),
+    }
+}

@@ -1,0 +1,144 @@
+//! The opening of a journal over lanes.
+ghost use Rattle.std.specs.Prelude.{◌≡◌, ◌≤◌, ◌^◌, map, Ok, IfOk, IfErr, OnOk};
+ghost use Rattle.cf_engine.specs.Book.{IsOpen, Holds};
+ghost use Rattle.cf_engine.specs.Written.{lane_pairs, opening};
+ghost use Rattle.cf_engine.specs.Opening.{number_named, twice, exit_of, HasOpenCause, EnterTells};
+
+use crate::book::{Book, Halt, append};
+use crate::exit::Exit;
+use crate::numbers::{Numbered, next_of};
+use cf_disk::Disk;
+use cf_entry::{Entry, LaneNames};
+use cf_handler::Handler;
+use cf_journal::{RecoverFault, recover};
+use cf_tree::Txt;
+use std::alloc::{AllocError, Global};
+
+/// The exit of a run that halted.
+pub fn exit_of(halt: Halt) -> Exit
+    ensures { result ≡ exit_of halt }
+{
+    match halt {
+        Halt::Full { length, need, room } => Exit::Full { length, need, room },
+        Halt::DiskFault => Exit::DiskFault,
+        Halt::NoMemory => Exit::NoMemory,
+    }
+}
+
+/// The journal of a disk, with its entries; a disk that holds none gets a new one.
+///
+/// `NotAJournal` comes exactly where the disk's bytes are no journal, `DiskFault` only where its count of faults rose.
+pub fn open<D: Disk>(alloc: Global, disk: &mut D) -> Result<Book, Exit>
+    requires least { 16 ≤ D.room_of disk.old }
+    requires most { D.room_of disk.old ≤ 2 ^ 32 }
+    ensures open { IfOk result (λ book. IsOpen D.tells D.seen D.may_leave D.room_of book disk.new) }
+    ensures found { IfOk result (λ book. Holds D.tells (D.seen disk.old) book.entries.items) }
+    ensures cause { IfErr result (HasOpenCause D.tells (D.seen disk.old) (D.count disk.old) (D.count disk.new)) }
+    ensures room { D.room_of disk.new ≡ D.room_of disk.old }
+    ensures count { D.count disk.old ≤ D.count disk.new }
+{
+    match recover(alloc, disk) {
+        Ok((journal, entries)) => Ok(Book {
+            journal,
+            entries: entries.into_vec(),
+        }),
+        Err(RecoverFault::NotAJournal { offset }) => Err(Exit::NotAJournal { offset }),
+        Err(RecoverFault::DiskFault) => Err(Exit::DiskFault),
+        Err(RecoverFault::NoMemory) => Err(Exit::NoMemory),
+    }
+}
+
+/// How many lanes have the name.
+fn number_named<H: Handler>(lanes: &[H], name: &str) -> usize
+    ensures { result ≡ number_named name.now (map H.label lanes.now) }
+{
+    let mut number = 0;
+    for lane in lanes.iter() {
+        if name == lane.name() {
+            number += 1;
+        }
+    }
+    number
+}
+
+/// The first name that two lanes have.
+fn first_twice<H: Handler>(alloc: Global, lanes: &[H]) -> Result<Option<Txt>, AllocError>
+    ensures { IfOk result (λ name. name ≡ twice (map H.label lanes.now)) }
+{
+    for lane in lanes.iter() {
+        if number_named(lanes, lane.name()) > 1 {
+            return Ok(Some(Txt::from_str(alloc, lane.name())?));
+        }
+    }
+    Ok(None)
+}
+
+/// The name and the type of each lane, in the order handed in.
+fn lane_names<H: Handler>(alloc: Global, lanes: &[H]) -> Result<LaneNames, AllocError>
+    ensures { IfOk result (λ names. names ≡ lane_pairs (map H.label lanes.now) (map H.of_kind lanes.now)) }
+{
+    let mut names = LaneNames::new(alloc);
+    for lane in lanes.iter() {
+        let name = Txt::from_str(alloc, lane.name())?;
+        let kind = Txt::from_str(alloc, lane.kind())?;
+        names.push((name, kind))?;
+    }
+    Ok(names)
+}
+
+/// The entry of an opening over these lanes.
+fn opening<H: Handler>(alloc: Global, entries: &[Entry], lanes: &[H]) -> Result<Entry, AllocError>
+    ensures { IfOk result (λ e. e ≡ opening (map H.label lanes.now) (map H.of_kind lanes.now) entries.now) }
+{
+    let epoch = next_of(Numbered::Openings, entries);
+    let lanes = lane_names(alloc, lanes)?;
+    Ok(Entry::Opened { epoch, lanes })
+}
+
+/// Appends the opening over these lanes, whose names differ.
+///
+/// `LaneTwice` comes exactly where two lanes have one name, with the first such name, and `Full` exactly where the disk
+/// has no room for the entry.
+pub fn enter<D: Disk, H: Handler>(
+    alloc: Global,
+    book: &mut Book,
+    disk: &mut D,
+    lanes: &[H],
+) -> Result<(), Exit>
+    requires { IsOpen D.tells D.seen D.may_leave D.room_of book.old disk.old }
+    ensures open { OnOk result (IsOpen D.tells D.seen D.may_leave D.room_of book.new disk.new) }
+    ensures room { D.room_of disk.new ≡ D.room_of disk.old }
+    ensures count { D.count disk.old ≤ D.count disk.new }
+    ensures tells { EnterTells D.tells (D.seen disk.new) (D.room_of disk.old) (D.count disk.old) (D.count disk.new) (map H.label lanes.now) (map H.of_kind lanes.now)
+        book.old.entries.items book.new.entries.items result }
+{
+    match first_twice(alloc, lanes) {
+        Ok(None) => write_opening(alloc, book, disk, lanes),
+        Ok(Some(name)) => Err(Exit::LaneTwice { name }),
+        Err(_) => Err(Exit::NoMemory),
+    }
+}
+
+/// Appends the opening over these lanes.
+fn write_opening<D: Disk, H: Handler>(
+    alloc: Global,
+    book: &mut Book,
+    disk: &mut D,
+    lanes: &[H],
+) -> Result<(), Exit>
+    requires open { IsOpen D.tells D.seen D.may_leave D.room_of book.old disk.old }
+    requires differ { twice (map H.label lanes.now) ≡ None }
+    ensures open { OnOk result (IsOpen D.tells D.seen D.may_leave D.room_of book.new disk.new) }
+    ensures room { D.room_of disk.new ≡ D.room_of disk.old }
+    ensures count { D.count disk.old ≤ D.count disk.new }
+    ensures tells { EnterTells D.tells (D.seen disk.new) (D.room_of disk.old) (D.count disk.old) (D.count disk.new) (map H.label lanes.now) (map H.of_kind lanes.now)
+        book.old.entries.items book.new.entries.items result }
+{
+    match opening(alloc, book.entries.as_slice(), lanes) {
+        Ok(entry) => match append(book, disk, entry) {
+            Ok(()) => Ok(()),
+            Err(halt) => Err(exit_of(halt)),
+        },
+        Err(_) => Err(Exit::NoMemory),
+    }
+}
