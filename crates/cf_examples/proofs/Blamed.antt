@@ -1,10 +1,11 @@
 -- A creation is refused at its third resource; of the two that were made one is deleted and one is not.
-use Rattle.std.proofs.Common.{◌≡◌, refl, List, [], ◌∷◌, Some, None, true, false, ℕ, inl, sym, ap, lit≤, true≢false}
+use Rattle.std.proofs.Common.{◌≡◌, refl, List, [], ◌∷◌, ◌++◌, Some, true, false, ℕ, inl, sym, ap, lit≤, true≢false}
 use Rattle.std.specs.Prelude.{codes}
 use Rattle.cf_tree.specs.declared.request.Request.TheVariants as request
 use Rattle.cf_tree.specs.declared.code.Code.TheVariants as code
 use Rattle.cf_entry.specs.declared.turn.Reason.TheVariants as reason
 use Rattle.cf_entry.specs.declared.entry.Entry.{Entry}
+use Rattle.cf_stacks.specs.declared.held.Held.{Held}
 use Rattle.cf_stacks.specs.declared.state.World.{World}
 use Rattle.cf_stacks.specs.declared.state.StackState.{StackState}
 use Rattle.cf_stacks.specs.Fold.{empty_world, world_after, source_for}
@@ -21,7 +22,7 @@ use Rattle.cf_tree.specs.declared.template.Replace.TheVariants as replace
 use Rattle.cf_entry.specs.declared.entry.Entry.TheVariants as entry
 use Rattle.cf_entry.specs.declared.status.Status.TheVariants as status
 use Rattle.cf_stacks.specs.declared.held.HeldStatus.TheVariants as held
-use Rattle.cf_stacks.specs.Fold.{fold_of}
+use Rattle.cf_stacks.specs.Fold.{fold_of, no_stack}
 use Rattle.cf_examples.specs.Given.{lane_pair, report_of}
 use Rattle.cf_examples.proofs.Refusing.{follows_on, are_failed, legal_step, fold_step, refused_at}
 use Rattle.cf_examples.proofs.Beginning.{no_imports}
@@ -35,7 +36,7 @@ unfolding computing
 may_opened = (refl, refl, λ name s e. absurd (cc))
 
 abbrev world_1 : World
-world_1 = record { stacks = []; exports = []; pins = []; claims = []; lanes = (lane_pair (codes "f1") file ∷ lane_pair (codes "r1") note ∷ []); epoch = 1; operation = 0; set = 0; token = 0; place = 1 }
+world_1 = record world_0 { lanes = (lane_pair (codes "f1") file ∷ lane_pair (codes "r1") note ∷ []); epoch = 1; place = 1 }
 
 leads_1 : world_after world_0 opened ≡ world_1
 unfolding computing
@@ -46,26 +47,10 @@ unfolding computing
 may_begun = (refl, refl, record { no_flaw = refl; known_types = refl; same_types = refl; imports = no_imports _ _ _ _ refl refl; free = refl; not_in_use = refl; changing = inl refl })
 
 abbrev stack_2_s : StackState
-stack_2_s = record {
-  status = status.CreateInProgress;
-  number = 1;
-  operation = 1;
-  held = [];
-  before = [];
-  made = [];
-  leftovers = [];
-  tokens = [];
-  abandoned = [];
-  source = None;
-  going = Some (source_for (codes "s") 1 first);
-  outputs = [];
-  sets = [];
-  events = ((codes "event 2 - CREATE_IN_PROGRESS") ∷ []);
-  entries = (begun ∷ []);
-}
+stack_2_s = record no_stack { status = status.CreateInProgress; number = 1; operation = 1; going = Some (source_for (codes "s") 1 first); events = ((codes "event 2 - CREATE_IN_PROGRESS") ∷ []); entries = (begun ∷ []) }
 
 abbrev world_2 : World
-world_2 = record { stacks = (((codes "s"), stack_2_s) ∷ []); exports = []; pins = []; claims = []; lanes = (lane_pair (codes "f1") file ∷ lane_pair (codes "r1") note ∷ []); epoch = 1; operation = 1; set = 0; token = 0; place = 2 }
+world_2 = record world_1 { stacks = (((codes "s"), stack_2_s) ∷ []); operation = 1; place = 2 }
 
 leads_2 : world_after world_1 begun ≡ world_2
 unfolding computing
@@ -84,26 +69,10 @@ unfolding computing
 may_intended_a = ((codes "s"), stack_2_s, Forward, refl, refl, record { next = refl; free = refl; home = refl; fits = refl; no_repeat = refl; chosen = (sound_2, ready_2_A, not_done_new (codes "A") stack_2_s refl refl refl, (refl, tt)) })
 
 abbrev stack_3_s : StackState
-stack_3_s = record {
-  status = status.CreateInProgress;
-  number = 1;
-  operation = 1;
-  held = [];
-  before = [];
-  made = [];
-  leftovers = [];
-  tokens = (record { token = 1; path = (codes "A"); lane = (codes "f1"); request = (request.Create file (file_props (codes "a") (codes "x"))) } ∷ []);
-  abandoned = [];
-  source = None;
-  going = Some (source_for (codes "s") 1 first);
-  outputs = [];
-  sets = [];
-  events = ((codes "event 2 - CREATE_IN_PROGRESS") ∷ (codes "event 3 A CREATE_IN_PROGRESS") ∷ []);
-  entries = (begun ∷ intended_a ∷ []);
-}
+stack_3_s = record stack_2_s { tokens = (record { token = 1; path = (codes "A"); lane = (codes "f1"); request = (request.Create file (file_props (codes "a") (codes "x"))) } ∷ []); events = stack_2_s.events ++ (codes "event 3 A CREATE_IN_PROGRESS") ∷ []; entries = stack_2_s.entries ++ intended_a ∷ [] }
 
 abbrev world_3 : World
-world_3 = record { stacks = (((codes "s"), stack_3_s) ∷ []); exports = []; pins = []; claims = []; lanes = (lane_pair (codes "f1") file ∷ lane_pair (codes "r1") note ∷ []); epoch = 1; operation = 1; set = 0; token = 1; place = 3 }
+world_3 = record world_2 { stacks = (((codes "s"), stack_3_s) ∷ []); token = 1; place = 3 }
 
 leads_3 : world_after world_2 intended_a ≡ world_3
 unfolding computing
@@ -113,27 +82,14 @@ may_made_a : MayFollow schemas world_3 (1 ∷ []) made_a
 unfolding computing
 may_made_a = ((codes "s"), stack_3_s, Forward, refl, refl, (refl, refl, lit≤ tt))
 
+abbrev a_1 : Held
+a_1 = record { path = (codes "A"); kind = file; physical = (codes "f1:1"); props = (file_props (codes "a") (codes "x")); attrs = (file_attrs (codes "f1:1") 1 (codes "a") (codes "x")); needs = []; deletion = deletion.Delete; replace = replace.Delete; status = held.CreateComplete; unsure = false; superseded = false }
+
 abbrev stack_4_s : StackState
-stack_4_s = record {
-  status = status.CreateInProgress;
-  number = 1;
-  operation = 1;
-  held = [];
-  before = [];
-  made = (record { path = (codes "A"); kind = file; physical = (codes "f1:1"); props = (file_props (codes "a") (codes "x")); attrs = (file_attrs (codes "f1:1") 1 (codes "a") (codes "x")); needs = []; deletion = deletion.Delete; replace = replace.Delete; status = held.CreateComplete; unsure = false; superseded = false } ∷ []);
-  leftovers = [];
-  tokens = [];
-  abandoned = [];
-  source = None;
-  going = Some (source_for (codes "s") 1 first);
-  outputs = [];
-  sets = [];
-  events = ((codes "event 2 - CREATE_IN_PROGRESS") ∷ (codes "event 3 A CREATE_IN_PROGRESS") ∷ (codes "event 4 A CREATE_COMPLETE") ∷ []);
-  entries = (begun ∷ intended_a ∷ made_a ∷ []);
-}
+stack_4_s = record stack_3_s { made = (a_1 ∷ []); tokens = []; events = stack_3_s.events ++ (codes "event 4 A CREATE_COMPLETE") ∷ []; entries = stack_3_s.entries ++ made_a ∷ [] }
 
 abbrev world_4 : World
-world_4 = record { stacks = (((codes "s"), stack_4_s) ∷ []); exports = []; pins = []; claims = []; lanes = (lane_pair (codes "f1") file ∷ lane_pair (codes "r1") note ∷ []); epoch = 1; operation = 1; set = 0; token = 1; place = 4 }
+world_4 = record world_3 { stacks = (((codes "s"), stack_4_s) ∷ []); place = 4 }
 
 leads_4 : world_after world_3 made_a ≡ world_4
 unfolding computing
@@ -152,26 +108,10 @@ unfolding computing
 may_intended_b = ((codes "s"), stack_4_s, Forward, refl, refl, record { next = refl; free = refl; home = refl; fits = refl; no_repeat = refl; chosen = (sound_4, ready_4_B, not_done_new (codes "B") stack_4_s refl refl refl, (refl, tt)) })
 
 abbrev stack_5_s : StackState
-stack_5_s = record {
-  status = status.CreateInProgress;
-  number = 1;
-  operation = 1;
-  held = [];
-  before = [];
-  made = (record { path = (codes "A"); kind = file; physical = (codes "f1:1"); props = (file_props (codes "a") (codes "x")); attrs = (file_attrs (codes "f1:1") 1 (codes "a") (codes "x")); needs = []; deletion = deletion.Delete; replace = replace.Delete; status = held.CreateComplete; unsure = false; superseded = false } ∷ []);
-  leftovers = [];
-  tokens = (record { token = 2; path = (codes "B"); lane = (codes "f1"); request = (request.Create file (file_props (codes "b") (codes "y"))) } ∷ []);
-  abandoned = [];
-  source = None;
-  going = Some (source_for (codes "s") 1 first);
-  outputs = [];
-  sets = [];
-  events = ((codes "event 2 - CREATE_IN_PROGRESS") ∷ (codes "event 3 A CREATE_IN_PROGRESS") ∷ (codes "event 4 A CREATE_COMPLETE") ∷ (codes "event 5 B CREATE_IN_PROGRESS") ∷ []);
-  entries = (begun ∷ intended_a ∷ made_a ∷ intended_b ∷ []);
-}
+stack_5_s = record stack_4_s { tokens = (record { token = 2; path = (codes "B"); lane = (codes "f1"); request = (request.Create file (file_props (codes "b") (codes "y"))) } ∷ []); events = stack_4_s.events ++ (codes "event 5 B CREATE_IN_PROGRESS") ∷ []; entries = stack_4_s.entries ++ intended_b ∷ [] }
 
 abbrev world_5 : World
-world_5 = record { stacks = (((codes "s"), stack_5_s) ∷ []); exports = []; pins = []; claims = []; lanes = (lane_pair (codes "f1") file ∷ lane_pair (codes "r1") note ∷ []); epoch = 1; operation = 1; set = 0; token = 2; place = 5 }
+world_5 = record world_4 { stacks = (((codes "s"), stack_5_s) ∷ []); token = 2; place = 5 }
 
 leads_5 : world_after world_4 intended_b ≡ world_5
 unfolding computing
@@ -181,27 +121,14 @@ may_made_b : MayFollow schemas world_5 (2 ∷ []) made_b
 unfolding computing
 may_made_b = ((codes "s"), stack_5_s, Forward, refl, refl, (refl, refl, lit≤ tt))
 
+abbrev b_1 : Held
+b_1 = record { path = (codes "B"); kind = file; physical = (codes "f1:2"); props = (file_props (codes "b") (codes "y")); attrs = (file_attrs (codes "f1:2") 1 (codes "b") (codes "y")); needs = []; deletion = deletion.Delete; replace = replace.Delete; status = held.CreateComplete; unsure = false; superseded = false }
+
 abbrev stack_6_s : StackState
-stack_6_s = record {
-  status = status.CreateInProgress;
-  number = 1;
-  operation = 1;
-  held = [];
-  before = [];
-  made = (record { path = (codes "A"); kind = file; physical = (codes "f1:1"); props = (file_props (codes "a") (codes "x")); attrs = (file_attrs (codes "f1:1") 1 (codes "a") (codes "x")); needs = []; deletion = deletion.Delete; replace = replace.Delete; status = held.CreateComplete; unsure = false; superseded = false } ∷ record { path = (codes "B"); kind = file; physical = (codes "f1:2"); props = (file_props (codes "b") (codes "y")); attrs = (file_attrs (codes "f1:2") 1 (codes "b") (codes "y")); needs = []; deletion = deletion.Delete; replace = replace.Delete; status = held.CreateComplete; unsure = false; superseded = false } ∷ []);
-  leftovers = [];
-  tokens = [];
-  abandoned = [];
-  source = None;
-  going = Some (source_for (codes "s") 1 first);
-  outputs = [];
-  sets = [];
-  events = ((codes "event 2 - CREATE_IN_PROGRESS") ∷ (codes "event 3 A CREATE_IN_PROGRESS") ∷ (codes "event 4 A CREATE_COMPLETE") ∷ (codes "event 5 B CREATE_IN_PROGRESS") ∷ (codes "event 6 B CREATE_COMPLETE") ∷ []);
-  entries = (begun ∷ intended_a ∷ made_a ∷ intended_b ∷ made_b ∷ []);
-}
+stack_6_s = record stack_5_s { made = (a_1 ∷ b_1 ∷ []); tokens = []; events = stack_5_s.events ++ (codes "event 6 B CREATE_COMPLETE") ∷ []; entries = stack_5_s.entries ++ made_b ∷ [] }
 
 abbrev world_6 : World
-world_6 = record { stacks = (((codes "s"), stack_6_s) ∷ []); exports = []; pins = []; claims = []; lanes = (lane_pair (codes "f1") file ∷ lane_pair (codes "r1") note ∷ []); epoch = 1; operation = 1; set = 0; token = 2; place = 6 }
+world_6 = record world_5 { stacks = (((codes "s"), stack_6_s) ∷ []); place = 6 }
 
 leads_6 : world_after world_5 made_b ≡ world_6
 unfolding computing
@@ -220,26 +147,10 @@ unfolding computing
 may_intended_c = ((codes "s"), stack_6_s, Forward, refl, refl, record { next = refl; free = refl; home = refl; fits = refl; no_repeat = refl; chosen = (sound_6, ready_6_C, not_done_new (codes "C") stack_6_s refl refl refl, (refl, tt)) })
 
 abbrev stack_7_s : StackState
-stack_7_s = record {
-  status = status.CreateInProgress;
-  number = 1;
-  operation = 1;
-  held = [];
-  before = [];
-  made = (record { path = (codes "A"); kind = file; physical = (codes "f1:1"); props = (file_props (codes "a") (codes "x")); attrs = (file_attrs (codes "f1:1") 1 (codes "a") (codes "x")); needs = []; deletion = deletion.Delete; replace = replace.Delete; status = held.CreateComplete; unsure = false; superseded = false } ∷ record { path = (codes "B"); kind = file; physical = (codes "f1:2"); props = (file_props (codes "b") (codes "y")); attrs = (file_attrs (codes "f1:2") 1 (codes "b") (codes "y")); needs = []; deletion = deletion.Delete; replace = replace.Delete; status = held.CreateComplete; unsure = false; superseded = false } ∷ []);
-  leftovers = [];
-  tokens = (record { token = 3; path = (codes "C"); lane = (codes "r1"); request = (request.Create note (note_props (codes "c") (codes "u"))) } ∷ []);
-  abandoned = [];
-  source = None;
-  going = Some (source_for (codes "s") 1 first);
-  outputs = [];
-  sets = [];
-  events = ((codes "event 2 - CREATE_IN_PROGRESS") ∷ (codes "event 3 A CREATE_IN_PROGRESS") ∷ (codes "event 4 A CREATE_COMPLETE") ∷ (codes "event 5 B CREATE_IN_PROGRESS") ∷ (codes "event 6 B CREATE_COMPLETE") ∷ (codes "event 7 C CREATE_IN_PROGRESS") ∷ []);
-  entries = (begun ∷ intended_a ∷ made_a ∷ intended_b ∷ made_b ∷ intended_c ∷ []);
-}
+stack_7_s = record stack_6_s { tokens = (record { token = 3; path = (codes "C"); lane = (codes "r1"); request = (request.Create note (note_props (codes "c") (codes "u"))) } ∷ []); events = stack_6_s.events ++ (codes "event 7 C CREATE_IN_PROGRESS") ∷ []; entries = stack_6_s.entries ++ intended_c ∷ [] }
 
 abbrev world_7 : World
-world_7 = record { stacks = (((codes "s"), stack_7_s) ∷ []); exports = []; pins = []; claims = []; lanes = (lane_pair (codes "f1") file ∷ lane_pair (codes "r1") note ∷ []); epoch = 1; operation = 1; set = 0; token = 3; place = 7 }
+world_7 = record world_6 { stacks = (((codes "s"), stack_7_s) ∷ []); token = 3; place = 7 }
 
 leads_7 : world_after world_6 intended_c ≡ world_7
 unfolding computing
@@ -250,26 +161,10 @@ unfolding computing
 may_refused = ((codes "s"), stack_7_s, Forward, refl, refl, (refl, refl, (lit≤ tt, λ _. lit≤ tt)))
 
 abbrev stack_8_s : StackState
-stack_8_s = record {
-  status = status.CreateInProgress;
-  number = 1;
-  operation = 1;
-  held = [];
-  before = [];
-  made = (record { path = (codes "A"); kind = file; physical = (codes "f1:1"); props = (file_props (codes "a") (codes "x")); attrs = (file_attrs (codes "f1:1") 1 (codes "a") (codes "x")); needs = []; deletion = deletion.Delete; replace = replace.Delete; status = held.CreateComplete; unsure = false; superseded = false } ∷ record { path = (codes "B"); kind = file; physical = (codes "f1:2"); props = (file_props (codes "b") (codes "y")); attrs = (file_attrs (codes "f1:2") 1 (codes "b") (codes "y")); needs = []; deletion = deletion.Delete; replace = replace.Delete; status = held.CreateComplete; unsure = false; superseded = false } ∷ []);
-  leftovers = [];
-  tokens = [];
-  abandoned = [];
-  source = None;
-  going = Some (source_for (codes "s") 1 first);
-  outputs = [];
-  sets = [];
-  events = ((codes "event 2 - CREATE_IN_PROGRESS") ∷ (codes "event 3 A CREATE_IN_PROGRESS") ∷ (codes "event 4 A CREATE_COMPLETE") ∷ (codes "event 5 B CREATE_IN_PROGRESS") ∷ (codes "event 6 B CREATE_COMPLETE") ∷ (codes "event 7 C CREATE_IN_PROGRESS") ∷ (codes "event 8 C CREATE_FAILED ServiceLimitExceeded") ∷ []);
-  entries = (begun ∷ intended_a ∷ made_a ∷ intended_b ∷ made_b ∷ intended_c ∷ refused ∷ []);
-}
+stack_8_s = record stack_7_s { tokens = []; events = stack_7_s.events ++ (codes "event 8 C CREATE_FAILED ServiceLimitExceeded") ∷ []; entries = stack_7_s.entries ++ refused ∷ [] }
 
 abbrev world_8 : World
-world_8 = record { stacks = (((codes "s"), stack_8_s) ∷ []); exports = []; pins = []; claims = []; lanes = (lane_pair (codes "f1") file ∷ lane_pair (codes "r1") note ∷ []); epoch = 1; operation = 1; set = 0; token = 3; place = 8 }
+world_8 = record world_7 { stacks = (((codes "s"), stack_8_s) ∷ []); place = 8 }
 
 leads_8 : world_after world_7 refused ≡ world_8
 unfolding computing
@@ -280,26 +175,10 @@ unfolding computing
 may_turned = ((codes "s"), stack_8_s, Forward, refl, refl, (refl, (refl, (inl ((3, (reason.Code code.ServiceLimitExceeded)), refl)), (3, refl, refl))))
 
 abbrev stack_9_s : StackState
-stack_9_s = record {
-  status = status.RollbackInProgress;
-  number = 1;
-  operation = 1;
-  held = [];
-  before = [];
-  made = (record { path = (codes "A"); kind = file; physical = (codes "f1:1"); props = (file_props (codes "a") (codes "x")); attrs = (file_attrs (codes "f1:1") 1 (codes "a") (codes "x")); needs = []; deletion = deletion.Delete; replace = replace.Delete; status = held.CreateComplete; unsure = false; superseded = false } ∷ record { path = (codes "B"); kind = file; physical = (codes "f1:2"); props = (file_props (codes "b") (codes "y")); attrs = (file_attrs (codes "f1:2") 1 (codes "b") (codes "y")); needs = []; deletion = deletion.Delete; replace = replace.Delete; status = held.CreateComplete; unsure = false; superseded = false } ∷ []);
-  leftovers = [];
-  tokens = [];
-  abandoned = [];
-  source = None;
-  going = Some (source_for (codes "s") 1 first);
-  outputs = [];
-  sets = [];
-  events = ((codes "event 2 - CREATE_IN_PROGRESS") ∷ (codes "event 3 A CREATE_IN_PROGRESS") ∷ (codes "event 4 A CREATE_COMPLETE") ∷ (codes "event 5 B CREATE_IN_PROGRESS") ∷ (codes "event 6 B CREATE_COMPLETE") ∷ (codes "event 7 C CREATE_IN_PROGRESS") ∷ (codes "event 8 C CREATE_FAILED ServiceLimitExceeded") ∷ (codes "event 9 - ROLLBACK_IN_PROGRESS") ∷ []);
-  entries = (begun ∷ intended_a ∷ made_a ∷ intended_b ∷ made_b ∷ intended_c ∷ refused ∷ turned ∷ []);
-}
+stack_9_s = record stack_8_s { status = status.RollbackInProgress; events = stack_8_s.events ++ (codes "event 9 - ROLLBACK_IN_PROGRESS") ∷ []; entries = stack_8_s.entries ++ turned ∷ [] }
 
 abbrev world_9 : World
-world_9 = record { stacks = (((codes "s"), stack_9_s) ∷ []); exports = []; pins = []; claims = []; lanes = (lane_pair (codes "f1") file ∷ lane_pair (codes "r1") note ∷ []); epoch = 1; operation = 1; set = 0; token = 3; place = 9 }
+world_9 = record world_8 { stacks = (((codes "s"), stack_9_s) ∷ []); place = 9 }
 
 leads_9 : world_after world_8 turned ≡ world_9
 unfolding computing
@@ -310,26 +189,10 @@ unfolding computing
 may_intended_deletion_a = ((codes "s"), stack_9_s, Back, refl, refl, record { next = refl; free = refl; home = refl; fits = ((codes "1", refl), refl); no_repeat = refl; chosen = inl (_, (refl, here, refl, refl), refl, refl, refl) })
 
 abbrev stack_10_s : StackState
-stack_10_s = record {
-  status = status.RollbackInProgress;
-  number = 1;
-  operation = 1;
-  held = [];
-  before = [];
-  made = (record { path = (codes "A"); kind = file; physical = (codes "f1:1"); props = (file_props (codes "a") (codes "x")); attrs = (file_attrs (codes "f1:1") 1 (codes "a") (codes "x")); needs = []; deletion = deletion.Delete; replace = replace.Delete; status = held.CreateComplete; unsure = false; superseded = false } ∷ record { path = (codes "B"); kind = file; physical = (codes "f1:2"); props = (file_props (codes "b") (codes "y")); attrs = (file_attrs (codes "f1:2") 1 (codes "b") (codes "y")); needs = []; deletion = deletion.Delete; replace = replace.Delete; status = held.CreateComplete; unsure = false; superseded = false } ∷ []);
-  leftovers = [];
-  tokens = (record { token = 4; path = (codes "A"); lane = (codes "f1"); request = (request.Delete (codes "f1:1")) } ∷ []);
-  abandoned = [];
-  source = None;
-  going = Some (source_for (codes "s") 1 first);
-  outputs = [];
-  sets = [];
-  events = ((codes "event 2 - CREATE_IN_PROGRESS") ∷ (codes "event 3 A CREATE_IN_PROGRESS") ∷ (codes "event 4 A CREATE_COMPLETE") ∷ (codes "event 5 B CREATE_IN_PROGRESS") ∷ (codes "event 6 B CREATE_COMPLETE") ∷ (codes "event 7 C CREATE_IN_PROGRESS") ∷ (codes "event 8 C CREATE_FAILED ServiceLimitExceeded") ∷ (codes "event 9 - ROLLBACK_IN_PROGRESS") ∷ (codes "event 10 A DELETE_IN_PROGRESS") ∷ []);
-  entries = (begun ∷ intended_a ∷ made_a ∷ intended_b ∷ made_b ∷ intended_c ∷ refused ∷ turned ∷ intended_deletion_a ∷ []);
-}
+stack_10_s = record stack_9_s { tokens = (record { token = 4; path = (codes "A"); lane = (codes "f1"); request = (request.Delete (codes "f1:1")) } ∷ []); events = stack_9_s.events ++ (codes "event 10 A DELETE_IN_PROGRESS") ∷ []; entries = stack_9_s.entries ++ intended_deletion_a ∷ [] }
 
 abbrev world_10 : World
-world_10 = record { stacks = (((codes "s"), stack_10_s) ∷ []); exports = []; pins = []; claims = []; lanes = (lane_pair (codes "f1") file ∷ lane_pair (codes "r1") note ∷ []); epoch = 1; operation = 1; set = 0; token = 4; place = 10 }
+world_10 = record world_9 { stacks = (((codes "s"), stack_10_s) ∷ []); token = 4; place = 10 }
 
 leads_10 : world_after world_9 intended_deletion_a ≡ world_10
 unfolding computing
@@ -339,27 +202,14 @@ may_undeleted : MayFollow schemas world_10 (4 ∷ []) undeleted
 unfolding computing
 may_undeleted = ((codes "s"), stack_10_s, Back, refl, refl, (refl, refl, (lit≤ tt, λ _. lit≤ tt)))
 
+abbrev a_2 : Held
+a_2 = record { path = (codes "A"); kind = file; physical = (codes "f1:1"); props = (file_props (codes "a") (codes "x")); attrs = (file_attrs (codes "f1:1") 1 (codes "a") (codes "x")); needs = []; deletion = deletion.Delete; replace = replace.Delete; status = held.DeleteFailed; unsure = false; superseded = false }
+
 abbrev stack_11_s : StackState
-stack_11_s = record {
-  status = status.RollbackInProgress;
-  number = 1;
-  operation = 1;
-  held = [];
-  before = [];
-  made = (record { path = (codes "A"); kind = file; physical = (codes "f1:1"); props = (file_props (codes "a") (codes "x")); attrs = (file_attrs (codes "f1:1") 1 (codes "a") (codes "x")); needs = []; deletion = deletion.Delete; replace = replace.Delete; status = held.DeleteFailed; unsure = false; superseded = false } ∷ record { path = (codes "B"); kind = file; physical = (codes "f1:2"); props = (file_props (codes "b") (codes "y")); attrs = (file_attrs (codes "f1:2") 1 (codes "b") (codes "y")); needs = []; deletion = deletion.Delete; replace = replace.Delete; status = held.CreateComplete; unsure = false; superseded = false } ∷ []);
-  leftovers = [];
-  tokens = [];
-  abandoned = [];
-  source = None;
-  going = Some (source_for (codes "s") 1 first);
-  outputs = [];
-  sets = [];
-  events = ((codes "event 2 - CREATE_IN_PROGRESS") ∷ (codes "event 3 A CREATE_IN_PROGRESS") ∷ (codes "event 4 A CREATE_COMPLETE") ∷ (codes "event 5 B CREATE_IN_PROGRESS") ∷ (codes "event 6 B CREATE_COMPLETE") ∷ (codes "event 7 C CREATE_IN_PROGRESS") ∷ (codes "event 8 C CREATE_FAILED ServiceLimitExceeded") ∷ (codes "event 9 - ROLLBACK_IN_PROGRESS") ∷ (codes "event 10 A DELETE_IN_PROGRESS") ∷ (codes "event 11 A DELETE_FAILED AccessDenied") ∷ []);
-  entries = (begun ∷ intended_a ∷ made_a ∷ intended_b ∷ made_b ∷ intended_c ∷ refused ∷ turned ∷ intended_deletion_a ∷ undeleted ∷ []);
-}
+stack_11_s = record stack_10_s { made = (a_2 ∷ b_1 ∷ []); tokens = []; events = stack_10_s.events ++ (codes "event 11 A DELETE_FAILED AccessDenied") ∷ []; entries = stack_10_s.entries ++ undeleted ∷ [] }
 
 abbrev world_11 : World
-world_11 = record { stacks = (((codes "s"), stack_11_s) ∷ []); exports = []; pins = []; claims = []; lanes = (lane_pair (codes "f1") file ∷ lane_pair (codes "r1") note ∷ []); epoch = 1; operation = 1; set = 0; token = 4; place = 11 }
+world_11 = record world_10 { stacks = (((codes "s"), stack_11_s) ∷ []); place = 11 }
 
 leads_11 : world_after world_10 undeleted ≡ world_11
 unfolding computing
@@ -370,26 +220,10 @@ unfolding computing
 may_intended_deletion_b = ((codes "s"), stack_11_s, Back, refl, refl, record { next = refl; free = refl; home = refl; fits = ((codes "2", refl), refl); no_repeat = refl; chosen = inl (_, (refl, there here, refl, refl), refl, refl, refl) })
 
 abbrev stack_12_s : StackState
-stack_12_s = record {
-  status = status.RollbackInProgress;
-  number = 1;
-  operation = 1;
-  held = [];
-  before = [];
-  made = (record { path = (codes "A"); kind = file; physical = (codes "f1:1"); props = (file_props (codes "a") (codes "x")); attrs = (file_attrs (codes "f1:1") 1 (codes "a") (codes "x")); needs = []; deletion = deletion.Delete; replace = replace.Delete; status = held.DeleteFailed; unsure = false; superseded = false } ∷ record { path = (codes "B"); kind = file; physical = (codes "f1:2"); props = (file_props (codes "b") (codes "y")); attrs = (file_attrs (codes "f1:2") 1 (codes "b") (codes "y")); needs = []; deletion = deletion.Delete; replace = replace.Delete; status = held.CreateComplete; unsure = false; superseded = false } ∷ []);
-  leftovers = [];
-  tokens = (record { token = 5; path = (codes "B"); lane = (codes "f1"); request = (request.Delete (codes "f1:2")) } ∷ []);
-  abandoned = [];
-  source = None;
-  going = Some (source_for (codes "s") 1 first);
-  outputs = [];
-  sets = [];
-  events = ((codes "event 2 - CREATE_IN_PROGRESS") ∷ (codes "event 3 A CREATE_IN_PROGRESS") ∷ (codes "event 4 A CREATE_COMPLETE") ∷ (codes "event 5 B CREATE_IN_PROGRESS") ∷ (codes "event 6 B CREATE_COMPLETE") ∷ (codes "event 7 C CREATE_IN_PROGRESS") ∷ (codes "event 8 C CREATE_FAILED ServiceLimitExceeded") ∷ (codes "event 9 - ROLLBACK_IN_PROGRESS") ∷ (codes "event 10 A DELETE_IN_PROGRESS") ∷ (codes "event 11 A DELETE_FAILED AccessDenied") ∷ (codes "event 12 B DELETE_IN_PROGRESS") ∷ []);
-  entries = (begun ∷ intended_a ∷ made_a ∷ intended_b ∷ made_b ∷ intended_c ∷ refused ∷ turned ∷ intended_deletion_a ∷ undeleted ∷ intended_deletion_b ∷ []);
-}
+stack_12_s = record stack_11_s { tokens = (record { token = 5; path = (codes "B"); lane = (codes "f1"); request = (request.Delete (codes "f1:2")) } ∷ []); events = stack_11_s.events ++ (codes "event 12 B DELETE_IN_PROGRESS") ∷ []; entries = stack_11_s.entries ++ intended_deletion_b ∷ [] }
 
 abbrev world_12 : World
-world_12 = record { stacks = (((codes "s"), stack_12_s) ∷ []); exports = []; pins = []; claims = []; lanes = (lane_pair (codes "f1") file ∷ lane_pair (codes "r1") note ∷ []); epoch = 1; operation = 1; set = 0; token = 5; place = 12 }
+world_12 = record world_11 { stacks = (((codes "s"), stack_12_s) ∷ []); token = 5; place = 12 }
 
 leads_12 : world_after world_11 intended_deletion_b ≡ world_12
 unfolding computing
@@ -400,26 +234,10 @@ unfolding computing
 may_deleted = ((codes "s"), stack_12_s, Back, refl, refl, (refl, refl, lit≤ tt))
 
 abbrev stack_13_s : StackState
-stack_13_s = record {
-  status = status.RollbackInProgress;
-  number = 1;
-  operation = 1;
-  held = [];
-  before = [];
-  made = (record { path = (codes "A"); kind = file; physical = (codes "f1:1"); props = (file_props (codes "a") (codes "x")); attrs = (file_attrs (codes "f1:1") 1 (codes "a") (codes "x")); needs = []; deletion = deletion.Delete; replace = replace.Delete; status = held.DeleteFailed; unsure = false; superseded = false } ∷ []);
-  leftovers = [];
-  tokens = [];
-  abandoned = [];
-  source = None;
-  going = Some (source_for (codes "s") 1 first);
-  outputs = [];
-  sets = [];
-  events = ((codes "event 2 - CREATE_IN_PROGRESS") ∷ (codes "event 3 A CREATE_IN_PROGRESS") ∷ (codes "event 4 A CREATE_COMPLETE") ∷ (codes "event 5 B CREATE_IN_PROGRESS") ∷ (codes "event 6 B CREATE_COMPLETE") ∷ (codes "event 7 C CREATE_IN_PROGRESS") ∷ (codes "event 8 C CREATE_FAILED ServiceLimitExceeded") ∷ (codes "event 9 - ROLLBACK_IN_PROGRESS") ∷ (codes "event 10 A DELETE_IN_PROGRESS") ∷ (codes "event 11 A DELETE_FAILED AccessDenied") ∷ (codes "event 12 B DELETE_IN_PROGRESS") ∷ (codes "event 13 B DELETE_COMPLETE") ∷ []);
-  entries = (begun ∷ intended_a ∷ made_a ∷ intended_b ∷ made_b ∷ intended_c ∷ refused ∷ turned ∷ intended_deletion_a ∷ undeleted ∷ intended_deletion_b ∷ deleted ∷ []);
-}
+stack_13_s = record stack_12_s { made = (a_2 ∷ []); tokens = []; events = stack_12_s.events ++ (codes "event 13 B DELETE_COMPLETE") ∷ []; entries = stack_12_s.entries ++ deleted ∷ [] }
 
 abbrev world_13 : World
-world_13 = record { stacks = (((codes "s"), stack_13_s) ∷ []); exports = []; pins = []; claims = []; lanes = (lane_pair (codes "f1") file ∷ lane_pair (codes "r1") note ∷ []); epoch = 1; operation = 1; set = 0; token = 5; place = 13 }
+world_13 = record world_12 { stacks = (((codes "s"), stack_13_s) ∷ []); place = 13 }
 
 leads_13 : world_after world_12 deleted ≡ world_13
 unfolding computing
@@ -430,26 +248,10 @@ unfolding computing
 may_failed = ((codes "s"), stack_13_s, Back, refl, refl, (refl, end_of_rollback schemas (codes "s") world_13 stack_13_s refl refl refl, refl, (refl, are_failed stack_13_s ((codes "A") ∷ (codes "C") ∷ []) refl refl)))
 
 abbrev stack_14_s : StackState
-stack_14_s = record {
-  status = status.RollbackFailed;
-  number = 1;
-  operation = 1;
-  held = (record { path = (codes "A"); kind = file; physical = (codes "f1:1"); props = (file_props (codes "a") (codes "x")); attrs = (file_attrs (codes "f1:1") 1 (codes "a") (codes "x")); needs = []; deletion = deletion.Delete; replace = replace.Delete; status = held.DeleteFailed; unsure = false; superseded = false } ∷ []);
-  before = [];
-  made = [];
-  leftovers = [];
-  tokens = [];
-  abandoned = [];
-  source = None;
-  going = Some (source_for (codes "s") 1 first);
-  outputs = [];
-  sets = [];
-  events = ((codes "event 2 - CREATE_IN_PROGRESS") ∷ (codes "event 3 A CREATE_IN_PROGRESS") ∷ (codes "event 4 A CREATE_COMPLETE") ∷ (codes "event 5 B CREATE_IN_PROGRESS") ∷ (codes "event 6 B CREATE_COMPLETE") ∷ (codes "event 7 C CREATE_IN_PROGRESS") ∷ (codes "event 8 C CREATE_FAILED ServiceLimitExceeded") ∷ (codes "event 9 - ROLLBACK_IN_PROGRESS") ∷ (codes "event 10 A DELETE_IN_PROGRESS") ∷ (codes "event 11 A DELETE_FAILED AccessDenied") ∷ (codes "event 12 B DELETE_IN_PROGRESS") ∷ (codes "event 13 B DELETE_COMPLETE") ∷ (codes "event 14 - ROLLBACK_FAILED") ∷ []);
-  entries = (begun ∷ intended_a ∷ made_a ∷ intended_b ∷ made_b ∷ intended_c ∷ refused ∷ turned ∷ intended_deletion_a ∷ undeleted ∷ intended_deletion_b ∷ deleted ∷ failed ∷ []);
-}
+stack_14_s = record stack_13_s { status = status.RollbackFailed; held = (a_2 ∷ []); made = []; events = stack_13_s.events ++ (codes "event 14 - ROLLBACK_FAILED") ∷ []; entries = stack_13_s.entries ++ failed ∷ [] }
 
 abbrev world_14 : World
-world_14 = record { stacks = (((codes "s"), stack_14_s) ∷ []); exports = []; pins = []; claims = []; lanes = (lane_pair (codes "f1") file ∷ lane_pair (codes "r1") note ∷ []); epoch = 1; operation = 1; set = 0; token = 5; place = 14 }
+world_14 = record world_13 { stacks = (((codes "s"), stack_14_s) ∷ []); place = 14 }
 
 leads_14 : world_after world_13 failed ≡ world_14
 unfolding computing

@@ -1,8 +1,9 @@
 -- An index turns out to lie outside its list, once the file that gives it is there: the creation is taken back.
-use Rattle.std.proofs.Common.{◌≡◌, refl, List, [], ◌∷◌, Some, None, false, inl, inr, ap, lit≤}
+use Rattle.std.proofs.Common.{◌≡◌, refl, List, [], ◌∷◌, ◌++◌, Some, false, inl, inr, ap, lit≤}
 use Rattle.std.specs.Prelude.{codes}
 use Rattle.cf_tree.specs.declared.request.Request.TheVariants as request
 use Rattle.cf_entry.specs.declared.entry.Entry.{Entry}
+use Rattle.cf_stacks.specs.declared.held.Held.{Held}
 use Rattle.cf_stacks.specs.declared.state.World.{World}
 use Rattle.cf_stacks.specs.declared.state.StackState.{StackState}
 use Rattle.cf_stacks.specs.Fold.{empty_world, world_after, source_for}
@@ -20,7 +21,7 @@ use Rattle.cf_tree.specs.declared.template.Deletion.TheVariants as deletion
 use Rattle.cf_tree.specs.declared.template.Replace.TheVariants as replace
 use Rattle.cf_entry.specs.declared.status.Status.TheVariants as status
 use Rattle.cf_stacks.specs.declared.held.HeldStatus.TheVariants as held
-use Rattle.cf_stacks.specs.Fold.{fold_of}
+use Rattle.cf_stacks.specs.Fold.{fold_of, no_stack}
 use Rattle.cf_examples.specs.Given.{lane_pair, report_of}
 use Rattle.cf_examples.proofs.Refusing.{legal_step, fold_step}
 use Rattle.cf_examples.proofs.Beginning.{no_imports}
@@ -34,7 +35,7 @@ unfolding computing
 may_opened = (refl, refl, λ name s e. absurd (cc))
 
 abbrev world_1 : World
-world_1 = record { stacks = []; exports = []; pins = []; claims = []; lanes = (lane_pair (codes "f1") file ∷ lane_pair (codes "r1") note ∷ []); epoch = 1; operation = 0; set = 0; token = 0; place = 1 }
+world_1 = record world_0 { lanes = (lane_pair (codes "f1") file ∷ lane_pair (codes "r1") note ∷ []); epoch = 1; place = 1 }
 
 leads_1 : world_after world_0 opened ≡ world_1
 unfolding computing
@@ -45,26 +46,10 @@ unfolding computing
 may_begun = (refl, refl, record { no_flaw = refl; known_types = refl; same_types = refl; imports = no_imports _ _ _ _ refl refl; free = refl; not_in_use = refl; changing = inl refl })
 
 abbrev stack_2_t : StackState
-stack_2_t = record {
-  status = status.CreateInProgress;
-  number = 1;
-  operation = 1;
-  held = [];
-  before = [];
-  made = [];
-  leftovers = [];
-  tokens = [];
-  abandoned = [];
-  source = None;
-  going = Some (source_for (codes "t") 1 first);
-  outputs = [];
-  sets = [];
-  events = ((codes "event 2 - CREATE_IN_PROGRESS") ∷ []);
-  entries = (begun ∷ []);
-}
+stack_2_t = record no_stack { status = status.CreateInProgress; number = 1; operation = 1; going = Some (source_for (codes "t") 1 first); events = ((codes "event 2 - CREATE_IN_PROGRESS") ∷ []); entries = (begun ∷ []) }
 
 abbrev world_2 : World
-world_2 = record { stacks = (((codes "t"), stack_2_t) ∷ []); exports = []; pins = []; claims = []; lanes = (lane_pair (codes "f1") file ∷ lane_pair (codes "r1") note ∷ []); epoch = 1; operation = 1; set = 0; token = 0; place = 2 }
+world_2 = record world_1 { stacks = (((codes "t"), stack_2_t) ∷ []); operation = 1; place = 2 }
 
 leads_2 : world_after world_1 begun ≡ world_2
 unfolding computing
@@ -83,26 +68,10 @@ unfolding computing
 may_intended = ((codes "t"), stack_2_t, Forward, refl, refl, record { next = refl; free = refl; home = refl; fits = refl; no_repeat = refl; chosen = (sound_2, ready_2_A, not_done_new (codes "A") stack_2_t refl refl refl, (refl, tt)) })
 
 abbrev stack_3_t : StackState
-stack_3_t = record {
-  status = status.CreateInProgress;
-  number = 1;
-  operation = 1;
-  held = [];
-  before = [];
-  made = [];
-  leftovers = [];
-  tokens = (record { token = 1; path = (codes "A"); lane = (codes "f1"); request = (request.Create file (file_props (codes "a") (codes "ab"))) } ∷ []);
-  abandoned = [];
-  source = None;
-  going = Some (source_for (codes "t") 1 first);
-  outputs = [];
-  sets = [];
-  events = ((codes "event 2 - CREATE_IN_PROGRESS") ∷ (codes "event 3 A CREATE_IN_PROGRESS") ∷ []);
-  entries = (begun ∷ intended ∷ []);
-}
+stack_3_t = record stack_2_t { tokens = (record { token = 1; path = (codes "A"); lane = (codes "f1"); request = (request.Create file (file_props (codes "a") (codes "ab"))) } ∷ []); events = stack_2_t.events ++ (codes "event 3 A CREATE_IN_PROGRESS") ∷ []; entries = stack_2_t.entries ++ intended ∷ [] }
 
 abbrev world_3 : World
-world_3 = record { stacks = (((codes "t"), stack_3_t) ∷ []); exports = []; pins = []; claims = []; lanes = (lane_pair (codes "f1") file ∷ lane_pair (codes "r1") note ∷ []); epoch = 1; operation = 1; set = 0; token = 1; place = 3 }
+world_3 = record world_2 { stacks = (((codes "t"), stack_3_t) ∷ []); token = 1; place = 3 }
 
 leads_3 : world_after world_2 intended ≡ world_3
 unfolding computing
@@ -112,27 +81,14 @@ may_made : MayFollow schemas world_3 (1 ∷ []) made
 unfolding computing
 may_made = ((codes "t"), stack_3_t, Forward, refl, refl, (refl, refl, lit≤ tt))
 
+abbrev a_1 : Held
+a_1 = record { path = (codes "A"); kind = file; physical = (codes "f1:1"); props = (file_props (codes "a") (codes "ab")); attrs = (file_attrs (codes "f1:1") 2 (codes "a") (codes "ab")); needs = []; deletion = deletion.Delete; replace = replace.Delete; status = held.CreateComplete; unsure = false; superseded = false }
+
 abbrev stack_4_t : StackState
-stack_4_t = record {
-  status = status.CreateInProgress;
-  number = 1;
-  operation = 1;
-  held = [];
-  before = [];
-  made = (record { path = (codes "A"); kind = file; physical = (codes "f1:1"); props = (file_props (codes "a") (codes "ab")); attrs = (file_attrs (codes "f1:1") 2 (codes "a") (codes "ab")); needs = []; deletion = deletion.Delete; replace = replace.Delete; status = held.CreateComplete; unsure = false; superseded = false } ∷ []);
-  leftovers = [];
-  tokens = [];
-  abandoned = [];
-  source = None;
-  going = Some (source_for (codes "t") 1 first);
-  outputs = [];
-  sets = [];
-  events = ((codes "event 2 - CREATE_IN_PROGRESS") ∷ (codes "event 3 A CREATE_IN_PROGRESS") ∷ (codes "event 4 A CREATE_COMPLETE") ∷ []);
-  entries = (begun ∷ intended ∷ made ∷ []);
-}
+stack_4_t = record stack_3_t { made = (a_1 ∷ []); tokens = []; events = stack_3_t.events ++ (codes "event 4 A CREATE_COMPLETE") ∷ []; entries = stack_3_t.entries ++ made ∷ [] }
 
 abbrev world_4 : World
-world_4 = record { stacks = (((codes "t"), stack_4_t) ∷ []); exports = []; pins = []; claims = []; lanes = (lane_pair (codes "f1") file ∷ lane_pair (codes "r1") note ∷ []); epoch = 1; operation = 1; set = 0; token = 1; place = 4 }
+world_4 = record world_3 { stacks = (((codes "t"), stack_4_t) ∷ []); place = 4 }
 
 leads_4 : world_after world_3 made ≡ world_4
 unfolding computing
@@ -147,26 +103,10 @@ unfolding computing
 may_turned = ((codes "t"), stack_4_t, Forward, refl, refl, (refl, (refl, inr (inl (codes "B", (eval IndexOutside (codes "") (codes "/Resources/B/Properties/Value")), inl (ready_4_B, refl))), ((eval IndexOutside (codes "") (codes "/Resources/B/Properties/Value")), refl, refl, inl (codes "B", inl (ready_4_B, refl), only_bad stack_4_t (codes "B") refl refl)))))
 
 abbrev stack_5_t : StackState
-stack_5_t = record {
-  status = status.RollbackInProgress;
-  number = 1;
-  operation = 1;
-  held = [];
-  before = [];
-  made = (record { path = (codes "A"); kind = file; physical = (codes "f1:1"); props = (file_props (codes "a") (codes "ab")); attrs = (file_attrs (codes "f1:1") 2 (codes "a") (codes "ab")); needs = []; deletion = deletion.Delete; replace = replace.Delete; status = held.CreateComplete; unsure = false; superseded = false } ∷ []);
-  leftovers = [];
-  tokens = [];
-  abandoned = [];
-  source = None;
-  going = Some (source_for (codes "t") 1 first);
-  outputs = [];
-  sets = [];
-  events = ((codes "event 2 - CREATE_IN_PROGRESS") ∷ (codes "event 3 A CREATE_IN_PROGRESS") ∷ (codes "event 4 A CREATE_COMPLETE") ∷ (codes "event 5 - ROLLBACK_IN_PROGRESS") ∷ []);
-  entries = (begun ∷ intended ∷ made ∷ turned ∷ []);
-}
+stack_5_t = record stack_4_t { status = status.RollbackInProgress; events = stack_4_t.events ++ (codes "event 5 - ROLLBACK_IN_PROGRESS") ∷ []; entries = stack_4_t.entries ++ turned ∷ [] }
 
 abbrev world_5 : World
-world_5 = record { stacks = (((codes "t"), stack_5_t) ∷ []); exports = []; pins = []; claims = []; lanes = (lane_pair (codes "f1") file ∷ lane_pair (codes "r1") note ∷ []); epoch = 1; operation = 1; set = 0; token = 1; place = 5 }
+world_5 = record world_4 { stacks = (((codes "t"), stack_5_t) ∷ []); place = 5 }
 
 leads_5 : world_after world_4 turned ≡ world_5
 unfolding computing
@@ -177,26 +117,10 @@ unfolding computing
 may_intended_deletion = ((codes "t"), stack_5_t, Back, refl, refl, record { next = refl; free = refl; home = refl; fits = ((codes "1", refl), refl); no_repeat = refl; chosen = inl (_, (refl, here, refl, refl), refl, refl, refl) })
 
 abbrev stack_6_t : StackState
-stack_6_t = record {
-  status = status.RollbackInProgress;
-  number = 1;
-  operation = 1;
-  held = [];
-  before = [];
-  made = (record { path = (codes "A"); kind = file; physical = (codes "f1:1"); props = (file_props (codes "a") (codes "ab")); attrs = (file_attrs (codes "f1:1") 2 (codes "a") (codes "ab")); needs = []; deletion = deletion.Delete; replace = replace.Delete; status = held.CreateComplete; unsure = false; superseded = false } ∷ []);
-  leftovers = [];
-  tokens = (record { token = 2; path = (codes "A"); lane = (codes "f1"); request = (request.Delete (codes "f1:1")) } ∷ []);
-  abandoned = [];
-  source = None;
-  going = Some (source_for (codes "t") 1 first);
-  outputs = [];
-  sets = [];
-  events = ((codes "event 2 - CREATE_IN_PROGRESS") ∷ (codes "event 3 A CREATE_IN_PROGRESS") ∷ (codes "event 4 A CREATE_COMPLETE") ∷ (codes "event 5 - ROLLBACK_IN_PROGRESS") ∷ (codes "event 6 A DELETE_IN_PROGRESS") ∷ []);
-  entries = (begun ∷ intended ∷ made ∷ turned ∷ intended_deletion ∷ []);
-}
+stack_6_t = record stack_5_t { tokens = (record { token = 2; path = (codes "A"); lane = (codes "f1"); request = (request.Delete (codes "f1:1")) } ∷ []); events = stack_5_t.events ++ (codes "event 6 A DELETE_IN_PROGRESS") ∷ []; entries = stack_5_t.entries ++ intended_deletion ∷ [] }
 
 abbrev world_6 : World
-world_6 = record { stacks = (((codes "t"), stack_6_t) ∷ []); exports = []; pins = []; claims = []; lanes = (lane_pair (codes "f1") file ∷ lane_pair (codes "r1") note ∷ []); epoch = 1; operation = 1; set = 0; token = 2; place = 6 }
+world_6 = record world_5 { stacks = (((codes "t"), stack_6_t) ∷ []); token = 2; place = 6 }
 
 leads_6 : world_after world_5 intended_deletion ≡ world_6
 unfolding computing
@@ -207,26 +131,10 @@ unfolding computing
 may_deleted = ((codes "t"), stack_6_t, Back, refl, refl, (refl, refl, lit≤ tt))
 
 abbrev stack_7_t : StackState
-stack_7_t = record {
-  status = status.RollbackInProgress;
-  number = 1;
-  operation = 1;
-  held = [];
-  before = [];
-  made = [];
-  leftovers = [];
-  tokens = [];
-  abandoned = [];
-  source = None;
-  going = Some (source_for (codes "t") 1 first);
-  outputs = [];
-  sets = [];
-  events = ((codes "event 2 - CREATE_IN_PROGRESS") ∷ (codes "event 3 A CREATE_IN_PROGRESS") ∷ (codes "event 4 A CREATE_COMPLETE") ∷ (codes "event 5 - ROLLBACK_IN_PROGRESS") ∷ (codes "event 6 A DELETE_IN_PROGRESS") ∷ (codes "event 7 A DELETE_COMPLETE") ∷ []);
-  entries = (begun ∷ intended ∷ made ∷ turned ∷ intended_deletion ∷ deleted ∷ []);
-}
+stack_7_t = record stack_6_t { made = []; tokens = []; events = stack_6_t.events ++ (codes "event 7 A DELETE_COMPLETE") ∷ []; entries = stack_6_t.entries ++ deleted ∷ [] }
 
 abbrev world_7 : World
-world_7 = record { stacks = (((codes "t"), stack_7_t) ∷ []); exports = []; pins = []; claims = []; lanes = (lane_pair (codes "f1") file ∷ lane_pair (codes "r1") note ∷ []); epoch = 1; operation = 1; set = 0; token = 2; place = 7 }
+world_7 = record world_6 { stacks = (((codes "t"), stack_7_t) ∷ []); place = 7 }
 
 leads_7 : world_after world_6 deleted ≡ world_7
 unfolding computing
@@ -237,26 +145,10 @@ unfolding computing
 may_rolled_back = ((codes "t"), stack_7_t, Back, refl, refl, (refl, end_of_rollback schemas (codes "t") world_7 stack_7_t refl refl refl, refl, refl))
 
 abbrev stack_8_t : StackState
-stack_8_t = record {
-  status = status.RollbackComplete;
-  number = 1;
-  operation = 1;
-  held = [];
-  before = [];
-  made = [];
-  leftovers = [];
-  tokens = [];
-  abandoned = [];
-  source = None;
-  going = Some (source_for (codes "t") 1 first);
-  outputs = [];
-  sets = [];
-  events = ((codes "event 2 - CREATE_IN_PROGRESS") ∷ (codes "event 3 A CREATE_IN_PROGRESS") ∷ (codes "event 4 A CREATE_COMPLETE") ∷ (codes "event 5 - ROLLBACK_IN_PROGRESS") ∷ (codes "event 6 A DELETE_IN_PROGRESS") ∷ (codes "event 7 A DELETE_COMPLETE") ∷ (codes "event 8 - ROLLBACK_COMPLETE") ∷ []);
-  entries = (begun ∷ intended ∷ made ∷ turned ∷ intended_deletion ∷ deleted ∷ rolled_back ∷ []);
-}
+stack_8_t = record stack_7_t { status = status.RollbackComplete; events = stack_7_t.events ++ (codes "event 8 - ROLLBACK_COMPLETE") ∷ []; entries = stack_7_t.entries ++ rolled_back ∷ [] }
 
 abbrev world_8 : World
-world_8 = record { stacks = (((codes "t"), stack_8_t) ∷ []); exports = []; pins = []; claims = []; lanes = (lane_pair (codes "f1") file ∷ lane_pair (codes "r1") note ∷ []); epoch = 1; operation = 1; set = 0; token = 2; place = 8 }
+world_8 = record world_7 { stacks = (((codes "t"), stack_8_t) ∷ []); place = 8 }
 
 leads_8 : world_after world_7 rolled_back ≡ world_8
 unfolding computing

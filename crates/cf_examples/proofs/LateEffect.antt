@@ -1,9 +1,10 @@
 -- An update breaks off three times, and acts late: the first repeat on the way back meets it, and what was there is given back.
-use Rattle.std.proofs.Common.{◌≡◌, refl, List, [], ◌∷◌, Some, None, false, inl, inr, ap, lit≤}
+use Rattle.std.proofs.Common.{◌≡◌, refl, List, [], ◌∷◌, ◌++◌, Some, false, inl, inr, ap, lit≤}
 use Rattle.std.specs.Prelude.{codes}
 use Rattle.cf_tree.specs.declared.request.Request.TheVariants as request
 use Rattle.cf_entry.specs.declared.turn.Reason.TheVariants as reason
 use Rattle.cf_entry.specs.declared.entry.Entry.{Entry}
+use Rattle.cf_stacks.specs.declared.held.Held.{Held}
 use Rattle.cf_stacks.specs.declared.state.World.{World}
 use Rattle.cf_stacks.specs.declared.state.StackState.{StackState}
 use Rattle.cf_stacks.specs.Fold.{empty_world, world_after, source_for}
@@ -20,7 +21,7 @@ use Rattle.cf_tree.specs.declared.template.Deletion.TheVariants as deletion
 use Rattle.cf_tree.specs.declared.template.Replace.TheVariants as replace
 use Rattle.cf_entry.specs.declared.status.Status.TheVariants as status
 use Rattle.cf_stacks.specs.declared.held.HeldStatus.TheVariants as held
-use Rattle.cf_stacks.specs.Fold.{fold_of}
+use Rattle.cf_stacks.specs.Fold.{fold_of, no_stack}
 use Rattle.cf_examples.specs.Given.{lane_pair, report_of}
 use Rattle.cf_examples.proofs.Refusing.{legal_step, fold_step}
 use Rattle.cf_examples.proofs.Beginning.{no_imports}
@@ -34,7 +35,7 @@ unfolding computing
 may_opened = (refl, refl, λ name s e. absurd (cc))
 
 abbrev world_1 : World
-world_1 = record { stacks = []; exports = []; pins = []; claims = []; lanes = (lane_pair (codes "f1") file ∷ []); epoch = 1; operation = 0; set = 0; token = 0; place = 1 }
+world_1 = record world_0 { lanes = (lane_pair (codes "f1") file ∷ []); epoch = 1; place = 1 }
 
 leads_1 : world_after world_0 opened ≡ world_1
 unfolding computing
@@ -45,26 +46,10 @@ unfolding computing
 may_begun = (refl, refl, record { no_flaw = refl; known_types = refl; same_types = refl; imports = no_imports _ _ _ _ refl refl; free = refl; not_in_use = refl; changing = inl refl })
 
 abbrev stack_2_s : StackState
-stack_2_s = record {
-  status = status.CreateInProgress;
-  number = 1;
-  operation = 1;
-  held = [];
-  before = [];
-  made = [];
-  leftovers = [];
-  tokens = [];
-  abandoned = [];
-  source = None;
-  going = Some (source_for (codes "s") 1 first);
-  outputs = [];
-  sets = [];
-  events = ((codes "event 2 - CREATE_IN_PROGRESS") ∷ []);
-  entries = (begun ∷ []);
-}
+stack_2_s = record no_stack { status = status.CreateInProgress; number = 1; operation = 1; going = Some (source_for (codes "s") 1 first); events = ((codes "event 2 - CREATE_IN_PROGRESS") ∷ []); entries = (begun ∷ []) }
 
 abbrev world_2 : World
-world_2 = record { stacks = (((codes "s"), stack_2_s) ∷ []); exports = []; pins = []; claims = []; lanes = (lane_pair (codes "f1") file ∷ []); epoch = 1; operation = 1; set = 0; token = 0; place = 2 }
+world_2 = record world_1 { stacks = (((codes "s"), stack_2_s) ∷ []); operation = 1; place = 2 }
 
 leads_2 : world_after world_1 begun ≡ world_2
 unfolding computing
@@ -83,26 +68,10 @@ unfolding computing
 may_intended = ((codes "s"), stack_2_s, Forward, refl, refl, record { next = refl; free = refl; home = refl; fits = refl; no_repeat = refl; chosen = (sound_2, ready_2_A, not_done_new (codes "A") stack_2_s refl refl refl, (refl, tt)) })
 
 abbrev stack_3_s : StackState
-stack_3_s = record {
-  status = status.CreateInProgress;
-  number = 1;
-  operation = 1;
-  held = [];
-  before = [];
-  made = [];
-  leftovers = [];
-  tokens = (record { token = 1; path = (codes "A"); lane = (codes "f1"); request = (request.Create file (file_props (codes "a") (codes "x"))) } ∷ []);
-  abandoned = [];
-  source = None;
-  going = Some (source_for (codes "s") 1 first);
-  outputs = [];
-  sets = [];
-  events = ((codes "event 2 - CREATE_IN_PROGRESS") ∷ (codes "event 3 A CREATE_IN_PROGRESS") ∷ []);
-  entries = (begun ∷ intended ∷ []);
-}
+stack_3_s = record stack_2_s { tokens = (record { token = 1; path = (codes "A"); lane = (codes "f1"); request = (request.Create file (file_props (codes "a") (codes "x"))) } ∷ []); events = stack_2_s.events ++ (codes "event 3 A CREATE_IN_PROGRESS") ∷ []; entries = stack_2_s.entries ++ intended ∷ [] }
 
 abbrev world_3 : World
-world_3 = record { stacks = (((codes "s"), stack_3_s) ∷ []); exports = []; pins = []; claims = []; lanes = (lane_pair (codes "f1") file ∷ []); epoch = 1; operation = 1; set = 0; token = 1; place = 3 }
+world_3 = record world_2 { stacks = (((codes "s"), stack_3_s) ∷ []); token = 1; place = 3 }
 
 leads_3 : world_after world_2 intended ≡ world_3
 unfolding computing
@@ -112,27 +81,14 @@ may_made : MayFollow schemas world_3 (1 ∷ []) made
 unfolding computing
 may_made = ((codes "s"), stack_3_s, Forward, refl, refl, (refl, refl, lit≤ tt))
 
+abbrev a_1 : Held
+a_1 = record { path = (codes "A"); kind = file; physical = (codes "f1:1"); props = (file_props (codes "a") (codes "x")); attrs = (file_attrs (codes "f1:1") 1 (codes "a") (codes "x")); needs = []; deletion = deletion.Delete; replace = replace.Delete; status = held.CreateComplete; unsure = false; superseded = false }
+
 abbrev stack_4_s : StackState
-stack_4_s = record {
-  status = status.CreateInProgress;
-  number = 1;
-  operation = 1;
-  held = [];
-  before = [];
-  made = (record { path = (codes "A"); kind = file; physical = (codes "f1:1"); props = (file_props (codes "a") (codes "x")); attrs = (file_attrs (codes "f1:1") 1 (codes "a") (codes "x")); needs = []; deletion = deletion.Delete; replace = replace.Delete; status = held.CreateComplete; unsure = false; superseded = false } ∷ []);
-  leftovers = [];
-  tokens = [];
-  abandoned = [];
-  source = None;
-  going = Some (source_for (codes "s") 1 first);
-  outputs = [];
-  sets = [];
-  events = ((codes "event 2 - CREATE_IN_PROGRESS") ∷ (codes "event 3 A CREATE_IN_PROGRESS") ∷ (codes "event 4 A CREATE_COMPLETE") ∷ []);
-  entries = (begun ∷ intended ∷ made ∷ []);
-}
+stack_4_s = record stack_3_s { made = (a_1 ∷ []); tokens = []; events = stack_3_s.events ++ (codes "event 4 A CREATE_COMPLETE") ∷ []; entries = stack_3_s.entries ++ made ∷ [] }
 
 abbrev world_4 : World
-world_4 = record { stacks = (((codes "s"), stack_4_s) ∷ []); exports = []; pins = []; claims = []; lanes = (lane_pair (codes "f1") file ∷ []); epoch = 1; operation = 1; set = 0; token = 1; place = 4 }
+world_4 = record world_3 { stacks = (((codes "s"), stack_4_s) ∷ []); place = 4 }
 
 leads_4 : world_after world_3 made ≡ world_4
 unfolding computing
@@ -151,26 +107,10 @@ unfolding computing
 may_created = ((codes "s"), stack_4_s, Forward, refl, refl, (refl, end_of_create schemas (codes "s") world_4 stack_4_s refl all_done_4 sound_4 refl, (sound_4, all_done_4), refl))
 
 abbrev stack_5_s : StackState
-stack_5_s = record {
-  status = status.CreateComplete;
-  number = 1;
-  operation = 1;
-  held = (record { path = (codes "A"); kind = file; physical = (codes "f1:1"); props = (file_props (codes "a") (codes "x")); attrs = (file_attrs (codes "f1:1") 1 (codes "a") (codes "x")); needs = []; deletion = deletion.Delete; replace = replace.Delete; status = held.CreateComplete; unsure = false; superseded = false } ∷ []);
-  before = [];
-  made = [];
-  leftovers = [];
-  tokens = [];
-  abandoned = [];
-  source = Some (source_for (codes "s") 1 first);
-  going = Some (source_for (codes "s") 1 first);
-  outputs = [];
-  sets = [];
-  events = ((codes "event 2 - CREATE_IN_PROGRESS") ∷ (codes "event 3 A CREATE_IN_PROGRESS") ∷ (codes "event 4 A CREATE_COMPLETE") ∷ (codes "event 5 - CREATE_COMPLETE") ∷ []);
-  entries = (begun ∷ intended ∷ made ∷ created ∷ []);
-}
+stack_5_s = record stack_4_s { status = status.CreateComplete; held = (a_1 ∷ []); made = []; source = Some (source_for (codes "s") 1 first); events = stack_4_s.events ++ (codes "event 5 - CREATE_COMPLETE") ∷ []; entries = stack_4_s.entries ++ created ∷ [] }
 
 abbrev world_5 : World
-world_5 = record { stacks = (((codes "s"), stack_5_s) ∷ []); exports = []; pins = []; claims = []; lanes = (lane_pair (codes "f1") file ∷ []); epoch = 1; operation = 1; set = 0; token = 1; place = 5 }
+world_5 = record world_4 { stacks = (((codes "s"), stack_5_s) ∷ []); place = 5 }
 
 leads_5 : world_after world_4 created ≡ world_5
 unfolding computing
@@ -181,26 +121,10 @@ unfolding computing
 may_updating = (refl, refl, record { no_flaw = refl; known_types = refl; same_types = refl; imports = no_imports _ _ _ _ refl refl; free = refl; not_in_use = refl; changing = inr (inl refl) })
 
 abbrev stack_6_s : StackState
-stack_6_s = record {
-  status = status.UpdateInProgress;
-  number = 1;
-  operation = 2;
-  held = (record { path = (codes "A"); kind = file; physical = (codes "f1:1"); props = (file_props (codes "a") (codes "x")); attrs = (file_attrs (codes "f1:1") 1 (codes "a") (codes "x")); needs = []; deletion = deletion.Delete; replace = replace.Delete; status = held.CreateComplete; unsure = false; superseded = false } ∷ []);
-  before = (record { path = (codes "A"); kind = file; physical = (codes "f1:1"); props = (file_props (codes "a") (codes "x")); attrs = (file_attrs (codes "f1:1") 1 (codes "a") (codes "x")); needs = []; deletion = deletion.Delete; replace = replace.Delete; status = held.CreateComplete; unsure = false; superseded = false } ∷ []);
-  made = [];
-  leftovers = [];
-  tokens = [];
-  abandoned = [];
-  source = Some (source_for (codes "s") 1 first);
-  going = Some (source_for (codes "s") 1 second);
-  outputs = [];
-  sets = [];
-  events = ((codes "event 2 - CREATE_IN_PROGRESS") ∷ (codes "event 3 A CREATE_IN_PROGRESS") ∷ (codes "event 4 A CREATE_COMPLETE") ∷ (codes "event 5 - CREATE_COMPLETE") ∷ (codes "event 6 - UPDATE_IN_PROGRESS") ∷ []);
-  entries = (updating ∷ []);
-}
+stack_6_s = record stack_5_s { status = status.UpdateInProgress; operation = 2; before = (a_1 ∷ []); going = Some (source_for (codes "s") 1 second); events = stack_5_s.events ++ (codes "event 6 - UPDATE_IN_PROGRESS") ∷ []; entries = (updating ∷ []) }
 
 abbrev world_6 : World
-world_6 = record { stacks = (((codes "s"), stack_6_s) ∷ []); exports = []; pins = []; claims = []; lanes = (lane_pair (codes "f1") file ∷ []); epoch = 1; operation = 2; set = 0; token = 1; place = 6 }
+world_6 = record world_5 { stacks = (((codes "s"), stack_6_s) ∷ []); operation = 2; place = 6 }
 
 leads_6 : world_after world_5 updating ≡ world_6
 unfolding computing
@@ -219,26 +143,10 @@ unfolding computing
 may_intended_change = ((codes "s"), stack_6_s, Forward, refl, refl, record { next = refl; free = refl; home = refl; fits = ((codes "1", refl), refl); no_repeat = refl; chosen = (sound_6, ready_6_A, not_done_other (codes "A") stack_6_s (same_at (codes "Content") (codes "x")) _ _ _ refl refl refl refl refl refl, (_, refl, refl, refl, ((λ e. let z : Update ≡ Replace = e in cc), inr (λ e. let z : Update ≡ Same = e in cc)), refl)) })
 
 abbrev stack_7_s : StackState
-stack_7_s = record {
-  status = status.UpdateInProgress;
-  number = 1;
-  operation = 2;
-  held = (record { path = (codes "A"); kind = file; physical = (codes "f1:1"); props = (file_props (codes "a") (codes "x")); attrs = (file_attrs (codes "f1:1") 1 (codes "a") (codes "x")); needs = []; deletion = deletion.Delete; replace = replace.Delete; status = held.CreateComplete; unsure = false; superseded = false } ∷ []);
-  before = (record { path = (codes "A"); kind = file; physical = (codes "f1:1"); props = (file_props (codes "a") (codes "x")); attrs = (file_attrs (codes "f1:1") 1 (codes "a") (codes "x")); needs = []; deletion = deletion.Delete; replace = replace.Delete; status = held.CreateComplete; unsure = false; superseded = false } ∷ []);
-  made = [];
-  leftovers = [];
-  tokens = (record { token = 2; path = (codes "A"); lane = (codes "f1"); request = (request.Update (codes "f1:1") (file_props (codes "a") (codes "y"))) } ∷ []);
-  abandoned = [];
-  source = Some (source_for (codes "s") 1 first);
-  going = Some (source_for (codes "s") 1 second);
-  outputs = [];
-  sets = [];
-  events = ((codes "event 2 - CREATE_IN_PROGRESS") ∷ (codes "event 3 A CREATE_IN_PROGRESS") ∷ (codes "event 4 A CREATE_COMPLETE") ∷ (codes "event 5 - CREATE_COMPLETE") ∷ (codes "event 6 - UPDATE_IN_PROGRESS") ∷ (codes "event 7 A UPDATE_IN_PROGRESS") ∷ []);
-  entries = (updating ∷ intended_change ∷ []);
-}
+stack_7_s = record stack_6_s { tokens = (record { token = 2; path = (codes "A"); lane = (codes "f1"); request = (request.Update (codes "f1:1") (file_props (codes "a") (codes "y"))) } ∷ []); events = stack_6_s.events ++ (codes "event 7 A UPDATE_IN_PROGRESS") ∷ []; entries = stack_6_s.entries ++ intended_change ∷ [] }
 
 abbrev world_7 : World
-world_7 = record { stacks = (((codes "s"), stack_7_s) ∷ []); exports = []; pins = []; claims = []; lanes = (lane_pair (codes "f1") file ∷ []); epoch = 1; operation = 2; set = 0; token = 2; place = 7 }
+world_7 = record world_6 { stacks = (((codes "s"), stack_7_s) ∷ []); token = 2; place = 7 }
 
 leads_7 : world_after world_6 intended_change ≡ world_7
 unfolding computing
@@ -249,26 +157,10 @@ unfolding computing
 may_broken_once = ((codes "s"), stack_7_s, Forward, refl, refl, (refl, refl, (lit≤ tt, λ _. lit≤ tt)))
 
 abbrev stack_8_s : StackState
-stack_8_s = record {
-  status = status.UpdateInProgress;
-  number = 1;
-  operation = 2;
-  held = (record { path = (codes "A"); kind = file; physical = (codes "f1:1"); props = (file_props (codes "a") (codes "x")); attrs = (file_attrs (codes "f1:1") 1 (codes "a") (codes "x")); needs = []; deletion = deletion.Delete; replace = replace.Delete; status = held.CreateComplete; unsure = false; superseded = false } ∷ []);
-  before = (record { path = (codes "A"); kind = file; physical = (codes "f1:1"); props = (file_props (codes "a") (codes "x")); attrs = (file_attrs (codes "f1:1") 1 (codes "a") (codes "x")); needs = []; deletion = deletion.Delete; replace = replace.Delete; status = held.CreateComplete; unsure = false; superseded = false } ∷ []);
-  made = [];
-  leftovers = [];
-  tokens = (record { token = 2; path = (codes "A"); lane = (codes "f1"); request = (request.Update (codes "f1:1") (file_props (codes "a") (codes "y"))) } ∷ []);
-  abandoned = [];
-  source = Some (source_for (codes "s") 1 first);
-  going = Some (source_for (codes "s") 1 second);
-  outputs = [];
-  sets = [];
-  events = ((codes "event 2 - CREATE_IN_PROGRESS") ∷ (codes "event 3 A CREATE_IN_PROGRESS") ∷ (codes "event 4 A CREATE_COMPLETE") ∷ (codes "event 5 - CREATE_COMPLETE") ∷ (codes "event 6 - UPDATE_IN_PROGRESS") ∷ (codes "event 7 A UPDATE_IN_PROGRESS") ∷ (codes "event 8 A UPDATE_FAILED Fault") ∷ []);
-  entries = (updating ∷ intended_change ∷ broken_once ∷ []);
-}
+stack_8_s = record stack_7_s { events = stack_7_s.events ++ (codes "event 8 A UPDATE_FAILED Fault") ∷ []; entries = stack_7_s.entries ++ broken_once ∷ [] }
 
 abbrev world_8 : World
-world_8 = record { stacks = (((codes "s"), stack_8_s) ∷ []); exports = []; pins = []; claims = []; lanes = (lane_pair (codes "f1") file ∷ []); epoch = 1; operation = 2; set = 0; token = 2; place = 8 }
+world_8 = record world_7 { stacks = (((codes "s"), stack_8_s) ∷ []); place = 8 }
 
 leads_8 : world_after world_7 broken_once ≡ world_8
 unfolding computing
@@ -279,26 +171,10 @@ unfolding computing
 may_broken_twice = ((codes "s"), stack_8_s, Forward, refl, refl, (refl, refl, (lit≤ tt, λ _. lit≤ tt)))
 
 abbrev stack_9_s : StackState
-stack_9_s = record {
-  status = status.UpdateInProgress;
-  number = 1;
-  operation = 2;
-  held = (record { path = (codes "A"); kind = file; physical = (codes "f1:1"); props = (file_props (codes "a") (codes "x")); attrs = (file_attrs (codes "f1:1") 1 (codes "a") (codes "x")); needs = []; deletion = deletion.Delete; replace = replace.Delete; status = held.CreateComplete; unsure = false; superseded = false } ∷ []);
-  before = (record { path = (codes "A"); kind = file; physical = (codes "f1:1"); props = (file_props (codes "a") (codes "x")); attrs = (file_attrs (codes "f1:1") 1 (codes "a") (codes "x")); needs = []; deletion = deletion.Delete; replace = replace.Delete; status = held.CreateComplete; unsure = false; superseded = false } ∷ []);
-  made = [];
-  leftovers = [];
-  tokens = (record { token = 2; path = (codes "A"); lane = (codes "f1"); request = (request.Update (codes "f1:1") (file_props (codes "a") (codes "y"))) } ∷ []);
-  abandoned = [];
-  source = Some (source_for (codes "s") 1 first);
-  going = Some (source_for (codes "s") 1 second);
-  outputs = [];
-  sets = [];
-  events = ((codes "event 2 - CREATE_IN_PROGRESS") ∷ (codes "event 3 A CREATE_IN_PROGRESS") ∷ (codes "event 4 A CREATE_COMPLETE") ∷ (codes "event 5 - CREATE_COMPLETE") ∷ (codes "event 6 - UPDATE_IN_PROGRESS") ∷ (codes "event 7 A UPDATE_IN_PROGRESS") ∷ (codes "event 8 A UPDATE_FAILED Fault") ∷ (codes "event 9 A UPDATE_FAILED Fault") ∷ []);
-  entries = (updating ∷ intended_change ∷ broken_once ∷ broken_twice ∷ []);
-}
+stack_9_s = record stack_8_s { events = stack_8_s.events ++ (codes "event 9 A UPDATE_FAILED Fault") ∷ []; entries = stack_8_s.entries ++ broken_twice ∷ [] }
 
 abbrev world_9 : World
-world_9 = record { stacks = (((codes "s"), stack_9_s) ∷ []); exports = []; pins = []; claims = []; lanes = (lane_pair (codes "f1") file ∷ []); epoch = 1; operation = 2; set = 0; token = 2; place = 9 }
+world_9 = record world_8 { stacks = (((codes "s"), stack_9_s) ∷ []); place = 9 }
 
 leads_9 : world_after world_8 broken_twice ≡ world_9
 unfolding computing
@@ -309,26 +185,10 @@ unfolding computing
 may_broken_thrice = ((codes "s"), stack_9_s, Forward, refl, refl, (refl, refl, (lit≤ tt, λ _. lit≤ tt)))
 
 abbrev stack_10_s : StackState
-stack_10_s = record {
-  status = status.UpdateInProgress;
-  number = 1;
-  operation = 2;
-  held = (record { path = (codes "A"); kind = file; physical = (codes "f1:1"); props = (file_props (codes "a") (codes "x")); attrs = (file_attrs (codes "f1:1") 1 (codes "a") (codes "x")); needs = []; deletion = deletion.Delete; replace = replace.Delete; status = held.CreateComplete; unsure = false; superseded = false } ∷ []);
-  before = (record { path = (codes "A"); kind = file; physical = (codes "f1:1"); props = (file_props (codes "a") (codes "x")); attrs = (file_attrs (codes "f1:1") 1 (codes "a") (codes "x")); needs = []; deletion = deletion.Delete; replace = replace.Delete; status = held.CreateComplete; unsure = false; superseded = false } ∷ []);
-  made = [];
-  leftovers = [];
-  tokens = (record { token = 2; path = (codes "A"); lane = (codes "f1"); request = (request.Update (codes "f1:1") (file_props (codes "a") (codes "y"))) } ∷ []);
-  abandoned = [];
-  source = Some (source_for (codes "s") 1 first);
-  going = Some (source_for (codes "s") 1 second);
-  outputs = [];
-  sets = [];
-  events = ((codes "event 2 - CREATE_IN_PROGRESS") ∷ (codes "event 3 A CREATE_IN_PROGRESS") ∷ (codes "event 4 A CREATE_COMPLETE") ∷ (codes "event 5 - CREATE_COMPLETE") ∷ (codes "event 6 - UPDATE_IN_PROGRESS") ∷ (codes "event 7 A UPDATE_IN_PROGRESS") ∷ (codes "event 8 A UPDATE_FAILED Fault") ∷ (codes "event 9 A UPDATE_FAILED Fault") ∷ (codes "event 10 A UPDATE_FAILED Fault") ∷ []);
-  entries = (updating ∷ intended_change ∷ broken_once ∷ broken_twice ∷ broken_thrice ∷ []);
-}
+stack_10_s = record stack_9_s { events = stack_9_s.events ++ (codes "event 10 A UPDATE_FAILED Fault") ∷ []; entries = stack_9_s.entries ++ broken_thrice ∷ [] }
 
 abbrev world_10 : World
-world_10 = record { stacks = (((codes "s"), stack_10_s) ∷ []); exports = []; pins = []; claims = []; lanes = (lane_pair (codes "f1") file ∷ []); epoch = 1; operation = 2; set = 0; token = 2; place = 10 }
+world_10 = record world_9 { stacks = (((codes "s"), stack_10_s) ∷ []); place = 10 }
 
 leads_10 : world_after world_9 broken_thrice ≡ world_10
 unfolding computing
@@ -339,26 +199,10 @@ unfolding computing
 may_turned = ((codes "s"), stack_10_s, Forward, refl, refl, (refl, (refl, (inl ((2, reason.Fault), refl)), (2, refl, refl))))
 
 abbrev stack_11_s : StackState
-stack_11_s = record {
-  status = status.UpdateRollbackInProgress;
-  number = 1;
-  operation = 2;
-  held = (record { path = (codes "A"); kind = file; physical = (codes "f1:1"); props = (file_props (codes "a") (codes "x")); attrs = (file_attrs (codes "f1:1") 1 (codes "a") (codes "x")); needs = []; deletion = deletion.Delete; replace = replace.Delete; status = held.CreateComplete; unsure = false; superseded = false } ∷ []);
-  before = (record { path = (codes "A"); kind = file; physical = (codes "f1:1"); props = (file_props (codes "a") (codes "x")); attrs = (file_attrs (codes "f1:1") 1 (codes "a") (codes "x")); needs = []; deletion = deletion.Delete; replace = replace.Delete; status = held.CreateComplete; unsure = false; superseded = false } ∷ []);
-  made = [];
-  leftovers = [];
-  tokens = (record { token = 2; path = (codes "A"); lane = (codes "f1"); request = (request.Update (codes "f1:1") (file_props (codes "a") (codes "y"))) } ∷ []);
-  abandoned = [];
-  source = Some (source_for (codes "s") 1 first);
-  going = Some (source_for (codes "s") 1 second);
-  outputs = [];
-  sets = [];
-  events = ((codes "event 2 - CREATE_IN_PROGRESS") ∷ (codes "event 3 A CREATE_IN_PROGRESS") ∷ (codes "event 4 A CREATE_COMPLETE") ∷ (codes "event 5 - CREATE_COMPLETE") ∷ (codes "event 6 - UPDATE_IN_PROGRESS") ∷ (codes "event 7 A UPDATE_IN_PROGRESS") ∷ (codes "event 8 A UPDATE_FAILED Fault") ∷ (codes "event 9 A UPDATE_FAILED Fault") ∷ (codes "event 10 A UPDATE_FAILED Fault") ∷ (codes "event 11 - UPDATE_ROLLBACK_IN_PROGRESS") ∷ []);
-  entries = (updating ∷ intended_change ∷ broken_once ∷ broken_twice ∷ broken_thrice ∷ turned ∷ []);
-}
+stack_11_s = record stack_10_s { status = status.UpdateRollbackInProgress; events = stack_10_s.events ++ (codes "event 11 - UPDATE_ROLLBACK_IN_PROGRESS") ∷ []; entries = stack_10_s.entries ++ turned ∷ [] }
 
 abbrev world_11 : World
-world_11 = record { stacks = (((codes "s"), stack_11_s) ∷ []); exports = []; pins = []; claims = []; lanes = (lane_pair (codes "f1") file ∷ []); epoch = 1; operation = 2; set = 0; token = 2; place = 11 }
+world_11 = record world_10 { stacks = (((codes "s"), stack_11_s) ∷ []); place = 11 }
 
 leads_11 : world_after world_10 turned ≡ world_11
 unfolding computing
@@ -368,27 +212,14 @@ may_repeated : MayFollow schemas world_11 (2 ∷ []) repeated
 unfolding computing
 may_repeated = ((codes "s"), stack_11_s, Back, refl, refl, (refl, refl, lit≤ tt))
 
+abbrev a_2 : Held
+a_2 = record { path = (codes "A"); kind = file; physical = (codes "f1:1"); props = (file_props (codes "a") (codes "y")); attrs = (file_attrs (codes "f1:1") 1 (codes "a") (codes "y")); needs = []; deletion = deletion.Delete; replace = replace.Delete; status = held.UpdateComplete; unsure = false; superseded = false }
+
 abbrev stack_12_s : StackState
-stack_12_s = record {
-  status = status.UpdateRollbackInProgress;
-  number = 1;
-  operation = 2;
-  held = (record { path = (codes "A"); kind = file; physical = (codes "f1:1"); props = (file_props (codes "a") (codes "y")); attrs = (file_attrs (codes "f1:1") 1 (codes "a") (codes "y")); needs = []; deletion = deletion.Delete; replace = replace.Delete; status = held.UpdateComplete; unsure = false; superseded = false } ∷ []);
-  before = (record { path = (codes "A"); kind = file; physical = (codes "f1:1"); props = (file_props (codes "a") (codes "x")); attrs = (file_attrs (codes "f1:1") 1 (codes "a") (codes "x")); needs = []; deletion = deletion.Delete; replace = replace.Delete; status = held.CreateComplete; unsure = false; superseded = false } ∷ []);
-  made = [];
-  leftovers = [];
-  tokens = [];
-  abandoned = [];
-  source = Some (source_for (codes "s") 1 first);
-  going = Some (source_for (codes "s") 1 second);
-  outputs = [];
-  sets = [];
-  events = ((codes "event 2 - CREATE_IN_PROGRESS") ∷ (codes "event 3 A CREATE_IN_PROGRESS") ∷ (codes "event 4 A CREATE_COMPLETE") ∷ (codes "event 5 - CREATE_COMPLETE") ∷ (codes "event 6 - UPDATE_IN_PROGRESS") ∷ (codes "event 7 A UPDATE_IN_PROGRESS") ∷ (codes "event 8 A UPDATE_FAILED Fault") ∷ (codes "event 9 A UPDATE_FAILED Fault") ∷ (codes "event 10 A UPDATE_FAILED Fault") ∷ (codes "event 11 - UPDATE_ROLLBACK_IN_PROGRESS") ∷ (codes "event 12 A UPDATE_COMPLETE") ∷ []);
-  entries = (updating ∷ intended_change ∷ broken_once ∷ broken_twice ∷ broken_thrice ∷ turned ∷ repeated ∷ []);
-}
+stack_12_s = record stack_11_s { held = (a_2 ∷ []); tokens = []; events = stack_11_s.events ++ (codes "event 12 A UPDATE_COMPLETE") ∷ []; entries = stack_11_s.entries ++ repeated ∷ [] }
 
 abbrev world_12 : World
-world_12 = record { stacks = (((codes "s"), stack_12_s) ∷ []); exports = []; pins = []; claims = []; lanes = (lane_pair (codes "f1") file ∷ []); epoch = 1; operation = 2; set = 0; token = 2; place = 12 }
+world_12 = record world_11 { stacks = (((codes "s"), stack_12_s) ∷ []); place = 12 }
 
 leads_12 : world_after world_11 repeated ≡ world_12
 unfolding computing
@@ -399,26 +230,10 @@ unfolding computing
 may_intended_restore = ((codes "s"), stack_12_s, Back, refl, refl, record { next = refl; free = refl; home = refl; fits = ((codes "1", refl), refl); no_repeat = refl; chosen = inr (refl, _, (here, refl, refl, refl), refl, refl, refl, refl) })
 
 abbrev stack_13_s : StackState
-stack_13_s = record {
-  status = status.UpdateRollbackInProgress;
-  number = 1;
-  operation = 2;
-  held = (record { path = (codes "A"); kind = file; physical = (codes "f1:1"); props = (file_props (codes "a") (codes "y")); attrs = (file_attrs (codes "f1:1") 1 (codes "a") (codes "y")); needs = []; deletion = deletion.Delete; replace = replace.Delete; status = held.UpdateComplete; unsure = false; superseded = false } ∷ []);
-  before = (record { path = (codes "A"); kind = file; physical = (codes "f1:1"); props = (file_props (codes "a") (codes "x")); attrs = (file_attrs (codes "f1:1") 1 (codes "a") (codes "x")); needs = []; deletion = deletion.Delete; replace = replace.Delete; status = held.CreateComplete; unsure = false; superseded = false } ∷ []);
-  made = [];
-  leftovers = [];
-  tokens = (record { token = 3; path = (codes "A"); lane = (codes "f1"); request = (request.Update (codes "f1:1") (file_props (codes "a") (codes "x"))) } ∷ []);
-  abandoned = [];
-  source = Some (source_for (codes "s") 1 first);
-  going = Some (source_for (codes "s") 1 second);
-  outputs = [];
-  sets = [];
-  events = ((codes "event 2 - CREATE_IN_PROGRESS") ∷ (codes "event 3 A CREATE_IN_PROGRESS") ∷ (codes "event 4 A CREATE_COMPLETE") ∷ (codes "event 5 - CREATE_COMPLETE") ∷ (codes "event 6 - UPDATE_IN_PROGRESS") ∷ (codes "event 7 A UPDATE_IN_PROGRESS") ∷ (codes "event 8 A UPDATE_FAILED Fault") ∷ (codes "event 9 A UPDATE_FAILED Fault") ∷ (codes "event 10 A UPDATE_FAILED Fault") ∷ (codes "event 11 - UPDATE_ROLLBACK_IN_PROGRESS") ∷ (codes "event 12 A UPDATE_COMPLETE") ∷ (codes "event 13 A UPDATE_IN_PROGRESS") ∷ []);
-  entries = (updating ∷ intended_change ∷ broken_once ∷ broken_twice ∷ broken_thrice ∷ turned ∷ repeated ∷ intended_restore ∷ []);
-}
+stack_13_s = record stack_12_s { tokens = (record { token = 3; path = (codes "A"); lane = (codes "f1"); request = (request.Update (codes "f1:1") (file_props (codes "a") (codes "x"))) } ∷ []); events = stack_12_s.events ++ (codes "event 13 A UPDATE_IN_PROGRESS") ∷ []; entries = stack_12_s.entries ++ intended_restore ∷ [] }
 
 abbrev world_13 : World
-world_13 = record { stacks = (((codes "s"), stack_13_s) ∷ []); exports = []; pins = []; claims = []; lanes = (lane_pair (codes "f1") file ∷ []); epoch = 1; operation = 2; set = 0; token = 3; place = 13 }
+world_13 = record world_12 { stacks = (((codes "s"), stack_13_s) ∷ []); token = 3; place = 13 }
 
 leads_13 : world_after world_12 intended_restore ≡ world_13
 unfolding computing
@@ -428,27 +243,14 @@ may_restored : MayFollow schemas world_13 (3 ∷ []) restored
 unfolding computing
 may_restored = ((codes "s"), stack_13_s, Back, refl, refl, (refl, refl, lit≤ tt))
 
+abbrev a_3 : Held
+a_3 = record { path = (codes "A"); kind = file; physical = (codes "f1:1"); props = (file_props (codes "a") (codes "x")); attrs = (file_attrs (codes "f1:1") 1 (codes "a") (codes "x")); needs = []; deletion = deletion.Delete; replace = replace.Delete; status = held.UpdateComplete; unsure = false; superseded = false }
+
 abbrev stack_14_s : StackState
-stack_14_s = record {
-  status = status.UpdateRollbackInProgress;
-  number = 1;
-  operation = 2;
-  held = (record { path = (codes "A"); kind = file; physical = (codes "f1:1"); props = (file_props (codes "a") (codes "x")); attrs = (file_attrs (codes "f1:1") 1 (codes "a") (codes "x")); needs = []; deletion = deletion.Delete; replace = replace.Delete; status = held.UpdateComplete; unsure = false; superseded = false } ∷ []);
-  before = (record { path = (codes "A"); kind = file; physical = (codes "f1:1"); props = (file_props (codes "a") (codes "x")); attrs = (file_attrs (codes "f1:1") 1 (codes "a") (codes "x")); needs = []; deletion = deletion.Delete; replace = replace.Delete; status = held.CreateComplete; unsure = false; superseded = false } ∷ []);
-  made = [];
-  leftovers = [];
-  tokens = [];
-  abandoned = [];
-  source = Some (source_for (codes "s") 1 first);
-  going = Some (source_for (codes "s") 1 second);
-  outputs = [];
-  sets = [];
-  events = ((codes "event 2 - CREATE_IN_PROGRESS") ∷ (codes "event 3 A CREATE_IN_PROGRESS") ∷ (codes "event 4 A CREATE_COMPLETE") ∷ (codes "event 5 - CREATE_COMPLETE") ∷ (codes "event 6 - UPDATE_IN_PROGRESS") ∷ (codes "event 7 A UPDATE_IN_PROGRESS") ∷ (codes "event 8 A UPDATE_FAILED Fault") ∷ (codes "event 9 A UPDATE_FAILED Fault") ∷ (codes "event 10 A UPDATE_FAILED Fault") ∷ (codes "event 11 - UPDATE_ROLLBACK_IN_PROGRESS") ∷ (codes "event 12 A UPDATE_COMPLETE") ∷ (codes "event 13 A UPDATE_IN_PROGRESS") ∷ (codes "event 14 A UPDATE_COMPLETE") ∷ []);
-  entries = (updating ∷ intended_change ∷ broken_once ∷ broken_twice ∷ broken_thrice ∷ turned ∷ repeated ∷ intended_restore ∷ restored ∷ []);
-}
+stack_14_s = record stack_13_s { held = (a_3 ∷ []); tokens = []; events = stack_13_s.events ++ (codes "event 14 A UPDATE_COMPLETE") ∷ []; entries = stack_13_s.entries ++ restored ∷ [] }
 
 abbrev world_14 : World
-world_14 = record { stacks = (((codes "s"), stack_14_s) ∷ []); exports = []; pins = []; claims = []; lanes = (lane_pair (codes "f1") file ∷ []); epoch = 1; operation = 2; set = 0; token = 3; place = 14 }
+world_14 = record world_13 { stacks = (((codes "s"), stack_14_s) ∷ []); place = 14 }
 
 leads_14 : world_after world_13 restored ≡ world_14
 unfolding computing
@@ -459,26 +261,10 @@ unfolding computing
 may_cleaning = ((codes "s"), stack_14_s, Back, refl, refl, (refl, (refl, refl, nothing_to_restore stack_14_s refl, refl)))
 
 abbrev stack_15_s : StackState
-stack_15_s = record {
-  status = status.UpdateRollbackCompleteCleanupInProgress;
-  number = 1;
-  operation = 2;
-  held = (record { path = (codes "A"); kind = file; physical = (codes "f1:1"); props = (file_props (codes "a") (codes "x")); attrs = (file_attrs (codes "f1:1") 1 (codes "a") (codes "x")); needs = []; deletion = deletion.Delete; replace = replace.Delete; status = held.UpdateComplete; unsure = false; superseded = false } ∷ []);
-  before = (record { path = (codes "A"); kind = file; physical = (codes "f1:1"); props = (file_props (codes "a") (codes "x")); attrs = (file_attrs (codes "f1:1") 1 (codes "a") (codes "x")); needs = []; deletion = deletion.Delete; replace = replace.Delete; status = held.CreateComplete; unsure = false; superseded = false } ∷ []);
-  made = [];
-  leftovers = [];
-  tokens = [];
-  abandoned = [];
-  source = Some (source_for (codes "s") 1 first);
-  going = Some (source_for (codes "s") 1 second);
-  outputs = [];
-  sets = [];
-  events = ((codes "event 2 - CREATE_IN_PROGRESS") ∷ (codes "event 3 A CREATE_IN_PROGRESS") ∷ (codes "event 4 A CREATE_COMPLETE") ∷ (codes "event 5 - CREATE_COMPLETE") ∷ (codes "event 6 - UPDATE_IN_PROGRESS") ∷ (codes "event 7 A UPDATE_IN_PROGRESS") ∷ (codes "event 8 A UPDATE_FAILED Fault") ∷ (codes "event 9 A UPDATE_FAILED Fault") ∷ (codes "event 10 A UPDATE_FAILED Fault") ∷ (codes "event 11 - UPDATE_ROLLBACK_IN_PROGRESS") ∷ (codes "event 12 A UPDATE_COMPLETE") ∷ (codes "event 13 A UPDATE_IN_PROGRESS") ∷ (codes "event 14 A UPDATE_COMPLETE") ∷ (codes "event 15 - UPDATE_ROLLBACK_COMPLETE_CLEANUP_IN_PROGRESS") ∷ []);
-  entries = (updating ∷ intended_change ∷ broken_once ∷ broken_twice ∷ broken_thrice ∷ turned ∷ repeated ∷ intended_restore ∷ restored ∷ cleaning ∷ []);
-}
+stack_15_s = record stack_14_s { status = status.UpdateRollbackCompleteCleanupInProgress; events = stack_14_s.events ++ (codes "event 15 - UPDATE_ROLLBACK_COMPLETE_CLEANUP_IN_PROGRESS") ∷ []; entries = stack_14_s.entries ++ cleaning ∷ [] }
 
 abbrev world_15 : World
-world_15 = record { stacks = (((codes "s"), stack_15_s) ∷ []); exports = []; pins = []; claims = []; lanes = (lane_pair (codes "f1") file ∷ []); epoch = 1; operation = 2; set = 0; token = 3; place = 15 }
+world_15 = record world_14 { stacks = (((codes "s"), stack_15_s) ∷ []); place = 15 }
 
 leads_15 : world_after world_14 cleaning ≡ world_15
 unfolding computing
@@ -489,26 +275,10 @@ unfolding computing
 may_rolled_back = ((codes "s"), stack_15_s, BackClean, refl, refl, (refl, end_of_back_clean schemas (codes "s") world_15 stack_15_s refl refl refl, tt, refl))
 
 abbrev pub stack_16_s : StackState
-stack_16_s = record {
-  status = status.UpdateRollbackComplete;
-  number = 1;
-  operation = 2;
-  held = (record { path = (codes "A"); kind = file; physical = (codes "f1:1"); props = (file_props (codes "a") (codes "x")); attrs = (file_attrs (codes "f1:1") 1 (codes "a") (codes "x")); needs = []; deletion = deletion.Delete; replace = replace.Delete; status = held.UpdateComplete; unsure = false; superseded = false } ∷ []);
-  before = (record { path = (codes "A"); kind = file; physical = (codes "f1:1"); props = (file_props (codes "a") (codes "x")); attrs = (file_attrs (codes "f1:1") 1 (codes "a") (codes "x")); needs = []; deletion = deletion.Delete; replace = replace.Delete; status = held.CreateComplete; unsure = false; superseded = false } ∷ []);
-  made = [];
-  leftovers = [];
-  tokens = [];
-  abandoned = [];
-  source = Some (source_for (codes "s") 1 first);
-  going = Some (source_for (codes "s") 1 second);
-  outputs = [];
-  sets = [];
-  events = ((codes "event 2 - CREATE_IN_PROGRESS") ∷ (codes "event 3 A CREATE_IN_PROGRESS") ∷ (codes "event 4 A CREATE_COMPLETE") ∷ (codes "event 5 - CREATE_COMPLETE") ∷ (codes "event 6 - UPDATE_IN_PROGRESS") ∷ (codes "event 7 A UPDATE_IN_PROGRESS") ∷ (codes "event 8 A UPDATE_FAILED Fault") ∷ (codes "event 9 A UPDATE_FAILED Fault") ∷ (codes "event 10 A UPDATE_FAILED Fault") ∷ (codes "event 11 - UPDATE_ROLLBACK_IN_PROGRESS") ∷ (codes "event 12 A UPDATE_COMPLETE") ∷ (codes "event 13 A UPDATE_IN_PROGRESS") ∷ (codes "event 14 A UPDATE_COMPLETE") ∷ (codes "event 15 - UPDATE_ROLLBACK_COMPLETE_CLEANUP_IN_PROGRESS") ∷ (codes "event 16 - UPDATE_ROLLBACK_COMPLETE") ∷ []);
-  entries = (updating ∷ intended_change ∷ broken_once ∷ broken_twice ∷ broken_thrice ∷ turned ∷ repeated ∷ intended_restore ∷ restored ∷ cleaning ∷ rolled_back ∷ []);
-}
+stack_16_s = record stack_15_s { status = status.UpdateRollbackComplete; events = stack_15_s.events ++ (codes "event 16 - UPDATE_ROLLBACK_COMPLETE") ∷ []; entries = stack_15_s.entries ++ rolled_back ∷ [] }
 
 abbrev pub world_16 : World
-world_16 = record { stacks = (((codes "s"), stack_16_s) ∷ []); exports = []; pins = []; claims = []; lanes = (lane_pair (codes "f1") file ∷ []); epoch = 1; operation = 2; set = 0; token = 3; place = 16 }
+world_16 = record world_15 { stacks = (((codes "s"), stack_16_s) ∷ []); place = 16 }
 
 leads_16 : world_after world_15 rolled_back ≡ world_16
 unfolding computing

@@ -1,5 +1,5 @@
 -- A creation stays in doubt, in its rollback and in the deletion of its stack: a deletion that keeps its path lists it without an id.
-use Rattle.std.proofs.Common.{◌≡◌, refl, List, [], ◌∷◌, Some, None, inl, inr, ap, lit≤}
+use Rattle.std.proofs.Common.{◌≡◌, refl, List, [], ◌∷◌, ◌++◌, Some, inl, inr, ap, lit≤}
 use Rattle.std.specs.Prelude.{codes}
 use Rattle.cf_tree.specs.declared.request.Request.TheVariants as request
 use Rattle.cf_entry.specs.declared.turn.Reason.TheVariants as reason
@@ -17,7 +17,7 @@ use Rattle.cf_examples.proofs.Failing.{not_failed, not_done_new}
 use Rattle.cf_examples.proofs.Ending.{end_of_rollback, end_of_deletion, end_of_failed_deletion}
 use Rattle.cf_entry.specs.declared.status.Status.TheVariants as status
 use Rattle.cf_entry.specs.declared.turn.Why.TheVariants as why
-use Rattle.cf_stacks.specs.Fold.{fold_of}
+use Rattle.cf_stacks.specs.Fold.{fold_of, no_stack}
 use Rattle.cf_examples.specs.Given.{lane_pair, report_of}
 use Rattle.cf_examples.proofs.Refusing.{are_failed, legal_step, fold_step}
 use Rattle.cf_examples.proofs.Beginning.{no_imports}
@@ -31,7 +31,7 @@ unfolding computing
 may_opened = (refl, refl, λ name s e. absurd (cc))
 
 abbrev world_1 : World
-world_1 = record { stacks = []; exports = []; pins = []; claims = []; lanes = (lane_pair (codes "f1") file ∷ []); epoch = 1; operation = 0; set = 0; token = 0; place = 1 }
+world_1 = record world_0 { lanes = (lane_pair (codes "f1") file ∷ []); epoch = 1; place = 1 }
 
 leads_1 : world_after world_0 opened ≡ world_1
 unfolding computing
@@ -42,26 +42,10 @@ unfolding computing
 may_begun = (refl, refl, record { no_flaw = refl; known_types = refl; same_types = refl; imports = no_imports _ _ _ _ refl refl; free = refl; not_in_use = refl; changing = inl refl })
 
 abbrev stack_2_s : StackState
-stack_2_s = record {
-  status = status.CreateInProgress;
-  number = 1;
-  operation = 1;
-  held = [];
-  before = [];
-  made = [];
-  leftovers = [];
-  tokens = [];
-  abandoned = [];
-  source = None;
-  going = Some (source_for (codes "s") 1 first);
-  outputs = [];
-  sets = [];
-  events = ((codes "event 2 - CREATE_IN_PROGRESS") ∷ []);
-  entries = (begun ∷ []);
-}
+stack_2_s = record no_stack { status = status.CreateInProgress; number = 1; operation = 1; going = Some (source_for (codes "s") 1 first); events = ((codes "event 2 - CREATE_IN_PROGRESS") ∷ []); entries = (begun ∷ []) }
 
 abbrev world_2 : World
-world_2 = record { stacks = (((codes "s"), stack_2_s) ∷ []); exports = []; pins = []; claims = []; lanes = (lane_pair (codes "f1") file ∷ []); epoch = 1; operation = 1; set = 0; token = 0; place = 2 }
+world_2 = record world_1 { stacks = (((codes "s"), stack_2_s) ∷ []); operation = 1; place = 2 }
 
 leads_2 : world_after world_1 begun ≡ world_2
 unfolding computing
@@ -80,26 +64,10 @@ unfolding computing
 may_intended = ((codes "s"), stack_2_s, Forward, refl, refl, record { next = refl; free = refl; home = refl; fits = refl; no_repeat = refl; chosen = (sound_2, ready_2_A, not_done_new (codes "A") stack_2_s refl refl refl, (refl, tt)) })
 
 abbrev stack_3_s : StackState
-stack_3_s = record {
-  status = status.CreateInProgress;
-  number = 1;
-  operation = 1;
-  held = [];
-  before = [];
-  made = [];
-  leftovers = [];
-  tokens = (record { token = 1; path = (codes "A"); lane = (codes "f1"); request = (request.Create file (file_props (codes "a") (codes "x"))) } ∷ []);
-  abandoned = [];
-  source = None;
-  going = Some (source_for (codes "s") 1 first);
-  outputs = [];
-  sets = [];
-  events = ((codes "event 2 - CREATE_IN_PROGRESS") ∷ (codes "event 3 A CREATE_IN_PROGRESS") ∷ []);
-  entries = (begun ∷ intended ∷ []);
-}
+stack_3_s = record stack_2_s { tokens = (record { token = 1; path = (codes "A"); lane = (codes "f1"); request = (request.Create file (file_props (codes "a") (codes "x"))) } ∷ []); events = stack_2_s.events ++ (codes "event 3 A CREATE_IN_PROGRESS") ∷ []; entries = stack_2_s.entries ++ intended ∷ [] }
 
 abbrev world_3 : World
-world_3 = record { stacks = (((codes "s"), stack_3_s) ∷ []); exports = []; pins = []; claims = []; lanes = (lane_pair (codes "f1") file ∷ []); epoch = 1; operation = 1; set = 0; token = 1; place = 3 }
+world_3 = record world_2 { stacks = (((codes "s"), stack_3_s) ∷ []); token = 1; place = 3 }
 
 leads_3 : world_after world_2 intended ≡ world_3
 unfolding computing
@@ -110,26 +78,10 @@ unfolding computing
 may_broken_once = ((codes "s"), stack_3_s, Forward, refl, refl, (refl, refl, (lit≤ tt, λ _. lit≤ tt)))
 
 abbrev stack_4_s : StackState
-stack_4_s = record {
-  status = status.CreateInProgress;
-  number = 1;
-  operation = 1;
-  held = [];
-  before = [];
-  made = [];
-  leftovers = [];
-  tokens = (record { token = 1; path = (codes "A"); lane = (codes "f1"); request = (request.Create file (file_props (codes "a") (codes "x"))) } ∷ []);
-  abandoned = [];
-  source = None;
-  going = Some (source_for (codes "s") 1 first);
-  outputs = [];
-  sets = [];
-  events = ((codes "event 2 - CREATE_IN_PROGRESS") ∷ (codes "event 3 A CREATE_IN_PROGRESS") ∷ (codes "event 4 A CREATE_FAILED Fault") ∷ []);
-  entries = (begun ∷ intended ∷ broken_once ∷ []);
-}
+stack_4_s = record stack_3_s { events = stack_3_s.events ++ (codes "event 4 A CREATE_FAILED Fault") ∷ []; entries = stack_3_s.entries ++ broken_once ∷ [] }
 
 abbrev world_4 : World
-world_4 = record { stacks = (((codes "s"), stack_4_s) ∷ []); exports = []; pins = []; claims = []; lanes = (lane_pair (codes "f1") file ∷ []); epoch = 1; operation = 1; set = 0; token = 1; place = 4 }
+world_4 = record world_3 { stacks = (((codes "s"), stack_4_s) ∷ []); place = 4 }
 
 leads_4 : world_after world_3 broken_once ≡ world_4
 unfolding computing
@@ -140,26 +92,10 @@ unfolding computing
 may_broken_twice = ((codes "s"), stack_4_s, Forward, refl, refl, (refl, refl, (lit≤ tt, λ _. lit≤ tt)))
 
 abbrev stack_5_s : StackState
-stack_5_s = record {
-  status = status.CreateInProgress;
-  number = 1;
-  operation = 1;
-  held = [];
-  before = [];
-  made = [];
-  leftovers = [];
-  tokens = (record { token = 1; path = (codes "A"); lane = (codes "f1"); request = (request.Create file (file_props (codes "a") (codes "x"))) } ∷ []);
-  abandoned = [];
-  source = None;
-  going = Some (source_for (codes "s") 1 first);
-  outputs = [];
-  sets = [];
-  events = ((codes "event 2 - CREATE_IN_PROGRESS") ∷ (codes "event 3 A CREATE_IN_PROGRESS") ∷ (codes "event 4 A CREATE_FAILED Fault") ∷ (codes "event 5 A CREATE_FAILED Fault") ∷ []);
-  entries = (begun ∷ intended ∷ broken_once ∷ broken_twice ∷ []);
-}
+stack_5_s = record stack_4_s { events = stack_4_s.events ++ (codes "event 5 A CREATE_FAILED Fault") ∷ []; entries = stack_4_s.entries ++ broken_twice ∷ [] }
 
 abbrev world_5 : World
-world_5 = record { stacks = (((codes "s"), stack_5_s) ∷ []); exports = []; pins = []; claims = []; lanes = (lane_pair (codes "f1") file ∷ []); epoch = 1; operation = 1; set = 0; token = 1; place = 5 }
+world_5 = record world_4 { stacks = (((codes "s"), stack_5_s) ∷ []); place = 5 }
 
 leads_5 : world_after world_4 broken_twice ≡ world_5
 unfolding computing
@@ -170,26 +106,10 @@ unfolding computing
 may_broken_thrice = ((codes "s"), stack_5_s, Forward, refl, refl, (refl, refl, (lit≤ tt, λ _. lit≤ tt)))
 
 abbrev stack_6_s : StackState
-stack_6_s = record {
-  status = status.CreateInProgress;
-  number = 1;
-  operation = 1;
-  held = [];
-  before = [];
-  made = [];
-  leftovers = [];
-  tokens = (record { token = 1; path = (codes "A"); lane = (codes "f1"); request = (request.Create file (file_props (codes "a") (codes "x"))) } ∷ []);
-  abandoned = [];
-  source = None;
-  going = Some (source_for (codes "s") 1 first);
-  outputs = [];
-  sets = [];
-  events = ((codes "event 2 - CREATE_IN_PROGRESS") ∷ (codes "event 3 A CREATE_IN_PROGRESS") ∷ (codes "event 4 A CREATE_FAILED Fault") ∷ (codes "event 5 A CREATE_FAILED Fault") ∷ (codes "event 6 A CREATE_FAILED Fault") ∷ []);
-  entries = (begun ∷ intended ∷ broken_once ∷ broken_twice ∷ broken_thrice ∷ []);
-}
+stack_6_s = record stack_5_s { events = stack_5_s.events ++ (codes "event 6 A CREATE_FAILED Fault") ∷ []; entries = stack_5_s.entries ++ broken_thrice ∷ [] }
 
 abbrev world_6 : World
-world_6 = record { stacks = (((codes "s"), stack_6_s) ∷ []); exports = []; pins = []; claims = []; lanes = (lane_pair (codes "f1") file ∷ []); epoch = 1; operation = 1; set = 0; token = 1; place = 6 }
+world_6 = record world_5 { stacks = (((codes "s"), stack_6_s) ∷ []); place = 6 }
 
 leads_6 : world_after world_5 broken_thrice ≡ world_6
 unfolding computing
@@ -200,26 +120,10 @@ unfolding computing
 may_turned = ((codes "s"), stack_6_s, Forward, refl, refl, (refl, (refl, (inl ((1, reason.Fault), refl)), (1, refl, refl))))
 
 abbrev stack_7_s : StackState
-stack_7_s = record {
-  status = status.RollbackInProgress;
-  number = 1;
-  operation = 1;
-  held = [];
-  before = [];
-  made = [];
-  leftovers = [];
-  tokens = (record { token = 1; path = (codes "A"); lane = (codes "f1"); request = (request.Create file (file_props (codes "a") (codes "x"))) } ∷ []);
-  abandoned = [];
-  source = None;
-  going = Some (source_for (codes "s") 1 first);
-  outputs = [];
-  sets = [];
-  events = ((codes "event 2 - CREATE_IN_PROGRESS") ∷ (codes "event 3 A CREATE_IN_PROGRESS") ∷ (codes "event 4 A CREATE_FAILED Fault") ∷ (codes "event 5 A CREATE_FAILED Fault") ∷ (codes "event 6 A CREATE_FAILED Fault") ∷ (codes "event 7 - ROLLBACK_IN_PROGRESS") ∷ []);
-  entries = (begun ∷ intended ∷ broken_once ∷ broken_twice ∷ broken_thrice ∷ turned ∷ []);
-}
+stack_7_s = record stack_6_s { status = status.RollbackInProgress; events = stack_6_s.events ++ (codes "event 7 - ROLLBACK_IN_PROGRESS") ∷ []; entries = stack_6_s.entries ++ turned ∷ [] }
 
 abbrev world_7 : World
-world_7 = record { stacks = (((codes "s"), stack_7_s) ∷ []); exports = []; pins = []; claims = []; lanes = (lane_pair (codes "f1") file ∷ []); epoch = 1; operation = 1; set = 0; token = 1; place = 7 }
+world_7 = record world_6 { stacks = (((codes "s"), stack_7_s) ∷ []); place = 7 }
 
 leads_7 : world_after world_6 turned ≡ world_7
 unfolding computing
@@ -230,26 +134,10 @@ unfolding computing
 may_broken_back_once = ((codes "s"), stack_7_s, Back, refl, refl, (refl, refl, (lit≤ tt, λ _. lit≤ tt)))
 
 abbrev stack_8_s : StackState
-stack_8_s = record {
-  status = status.RollbackInProgress;
-  number = 1;
-  operation = 1;
-  held = [];
-  before = [];
-  made = [];
-  leftovers = [];
-  tokens = (record { token = 1; path = (codes "A"); lane = (codes "f1"); request = (request.Create file (file_props (codes "a") (codes "x"))) } ∷ []);
-  abandoned = [];
-  source = None;
-  going = Some (source_for (codes "s") 1 first);
-  outputs = [];
-  sets = [];
-  events = ((codes "event 2 - CREATE_IN_PROGRESS") ∷ (codes "event 3 A CREATE_IN_PROGRESS") ∷ (codes "event 4 A CREATE_FAILED Fault") ∷ (codes "event 5 A CREATE_FAILED Fault") ∷ (codes "event 6 A CREATE_FAILED Fault") ∷ (codes "event 7 - ROLLBACK_IN_PROGRESS") ∷ (codes "event 8 A CREATE_FAILED Fault") ∷ []);
-  entries = (begun ∷ intended ∷ broken_once ∷ broken_twice ∷ broken_thrice ∷ turned ∷ broken_back_once ∷ []);
-}
+stack_8_s = record stack_7_s { events = stack_7_s.events ++ (codes "event 8 A CREATE_FAILED Fault") ∷ []; entries = stack_7_s.entries ++ broken_back_once ∷ [] }
 
 abbrev world_8 : World
-world_8 = record { stacks = (((codes "s"), stack_8_s) ∷ []); exports = []; pins = []; claims = []; lanes = (lane_pair (codes "f1") file ∷ []); epoch = 1; operation = 1; set = 0; token = 1; place = 8 }
+world_8 = record world_7 { stacks = (((codes "s"), stack_8_s) ∷ []); place = 8 }
 
 leads_8 : world_after world_7 broken_back_once ≡ world_8
 unfolding computing
@@ -260,26 +148,10 @@ unfolding computing
 may_broken_back_twice = ((codes "s"), stack_8_s, Back, refl, refl, (refl, refl, (lit≤ tt, λ _. lit≤ tt)))
 
 abbrev stack_9_s : StackState
-stack_9_s = record {
-  status = status.RollbackInProgress;
-  number = 1;
-  operation = 1;
-  held = [];
-  before = [];
-  made = [];
-  leftovers = [];
-  tokens = (record { token = 1; path = (codes "A"); lane = (codes "f1"); request = (request.Create file (file_props (codes "a") (codes "x"))) } ∷ []);
-  abandoned = [];
-  source = None;
-  going = Some (source_for (codes "s") 1 first);
-  outputs = [];
-  sets = [];
-  events = ((codes "event 2 - CREATE_IN_PROGRESS") ∷ (codes "event 3 A CREATE_IN_PROGRESS") ∷ (codes "event 4 A CREATE_FAILED Fault") ∷ (codes "event 5 A CREATE_FAILED Fault") ∷ (codes "event 6 A CREATE_FAILED Fault") ∷ (codes "event 7 - ROLLBACK_IN_PROGRESS") ∷ (codes "event 8 A CREATE_FAILED Fault") ∷ (codes "event 9 A CREATE_FAILED Fault") ∷ []);
-  entries = (begun ∷ intended ∷ broken_once ∷ broken_twice ∷ broken_thrice ∷ turned ∷ broken_back_once ∷ broken_back_twice ∷ []);
-}
+stack_9_s = record stack_8_s { events = stack_8_s.events ++ (codes "event 9 A CREATE_FAILED Fault") ∷ []; entries = stack_8_s.entries ++ broken_back_twice ∷ [] }
 
 abbrev world_9 : World
-world_9 = record { stacks = (((codes "s"), stack_9_s) ∷ []); exports = []; pins = []; claims = []; lanes = (lane_pair (codes "f1") file ∷ []); epoch = 1; operation = 1; set = 0; token = 1; place = 9 }
+world_9 = record world_8 { stacks = (((codes "s"), stack_9_s) ∷ []); place = 9 }
 
 leads_9 : world_after world_8 broken_back_twice ≡ world_9
 unfolding computing
@@ -290,26 +162,10 @@ unfolding computing
 may_broken_back_thrice = ((codes "s"), stack_9_s, Back, refl, refl, (refl, refl, (lit≤ tt, λ _. lit≤ tt)))
 
 abbrev stack_10_s : StackState
-stack_10_s = record {
-  status = status.RollbackInProgress;
-  number = 1;
-  operation = 1;
-  held = [];
-  before = [];
-  made = [];
-  leftovers = [];
-  tokens = (record { token = 1; path = (codes "A"); lane = (codes "f1"); request = (request.Create file (file_props (codes "a") (codes "x"))) } ∷ []);
-  abandoned = [];
-  source = None;
-  going = Some (source_for (codes "s") 1 first);
-  outputs = [];
-  sets = [];
-  events = ((codes "event 2 - CREATE_IN_PROGRESS") ∷ (codes "event 3 A CREATE_IN_PROGRESS") ∷ (codes "event 4 A CREATE_FAILED Fault") ∷ (codes "event 5 A CREATE_FAILED Fault") ∷ (codes "event 6 A CREATE_FAILED Fault") ∷ (codes "event 7 - ROLLBACK_IN_PROGRESS") ∷ (codes "event 8 A CREATE_FAILED Fault") ∷ (codes "event 9 A CREATE_FAILED Fault") ∷ (codes "event 10 A CREATE_FAILED Fault") ∷ []);
-  entries = (begun ∷ intended ∷ broken_once ∷ broken_twice ∷ broken_thrice ∷ turned ∷ broken_back_once ∷ broken_back_twice ∷ broken_back_thrice ∷ []);
-}
+stack_10_s = record stack_9_s { events = stack_9_s.events ++ (codes "event 10 A CREATE_FAILED Fault") ∷ []; entries = stack_9_s.entries ++ broken_back_thrice ∷ [] }
 
 abbrev world_10 : World
-world_10 = record { stacks = (((codes "s"), stack_10_s) ∷ []); exports = []; pins = []; claims = []; lanes = (lane_pair (codes "f1") file ∷ []); epoch = 1; operation = 1; set = 0; token = 1; place = 10 }
+world_10 = record world_9 { stacks = (((codes "s"), stack_10_s) ∷ []); place = 10 }
 
 leads_10 : world_after world_9 broken_back_thrice ≡ world_10
 unfolding computing
@@ -320,26 +176,10 @@ unfolding computing
 may_failed = ((codes "s"), stack_10_s, Back, refl, refl, (refl, end_of_rollback schemas (codes "s") world_10 stack_10_s refl refl refl, refl, (refl, are_failed stack_10_s ((codes "A") ∷ []) refl refl)))
 
 abbrev stack_11_s : StackState
-stack_11_s = record {
-  status = status.RollbackFailed;
-  number = 1;
-  operation = 1;
-  held = [];
-  before = [];
-  made = [];
-  leftovers = [];
-  tokens = (record { token = 1; path = (codes "A"); lane = (codes "f1"); request = (request.Create file (file_props (codes "a") (codes "x"))) } ∷ []);
-  abandoned = [];
-  source = None;
-  going = Some (source_for (codes "s") 1 first);
-  outputs = [];
-  sets = [];
-  events = ((codes "event 2 - CREATE_IN_PROGRESS") ∷ (codes "event 3 A CREATE_IN_PROGRESS") ∷ (codes "event 4 A CREATE_FAILED Fault") ∷ (codes "event 5 A CREATE_FAILED Fault") ∷ (codes "event 6 A CREATE_FAILED Fault") ∷ (codes "event 7 - ROLLBACK_IN_PROGRESS") ∷ (codes "event 8 A CREATE_FAILED Fault") ∷ (codes "event 9 A CREATE_FAILED Fault") ∷ (codes "event 10 A CREATE_FAILED Fault") ∷ (codes "event 11 - ROLLBACK_FAILED") ∷ []);
-  entries = (begun ∷ intended ∷ broken_once ∷ broken_twice ∷ broken_thrice ∷ turned ∷ broken_back_once ∷ broken_back_twice ∷ broken_back_thrice ∷ failed ∷ []);
-}
+stack_11_s = record stack_10_s { status = status.RollbackFailed; events = stack_10_s.events ++ (codes "event 11 - ROLLBACK_FAILED") ∷ []; entries = stack_10_s.entries ++ failed ∷ [] }
 
 abbrev world_11 : World
-world_11 = record { stacks = (((codes "s"), stack_11_s) ∷ []); exports = []; pins = []; claims = []; lanes = (lane_pair (codes "f1") file ∷ []); epoch = 1; operation = 1; set = 0; token = 1; place = 11 }
+world_11 = record world_10 { stacks = (((codes "s"), stack_11_s) ∷ []); place = 11 }
 
 leads_11 : world_after world_10 failed ≡ world_11
 unfolding computing
@@ -350,26 +190,10 @@ unfolding computing
 may_deleting = (refl, refl, (refl, refl, refl))
 
 abbrev stack_12_s : StackState
-stack_12_s = record {
-  status = status.DeleteInProgress;
-  number = 1;
-  operation = 2;
-  held = [];
-  before = [];
-  made = [];
-  leftovers = [];
-  tokens = (record { token = 1; path = (codes "A"); lane = (codes "f1"); request = (request.Create file (file_props (codes "a") (codes "x"))) } ∷ []);
-  abandoned = [];
-  source = None;
-  going = Some (source_for (codes "s") 1 first);
-  outputs = [];
-  sets = [];
-  events = ((codes "event 2 - CREATE_IN_PROGRESS") ∷ (codes "event 3 A CREATE_IN_PROGRESS") ∷ (codes "event 4 A CREATE_FAILED Fault") ∷ (codes "event 5 A CREATE_FAILED Fault") ∷ (codes "event 6 A CREATE_FAILED Fault") ∷ (codes "event 7 - ROLLBACK_IN_PROGRESS") ∷ (codes "event 8 A CREATE_FAILED Fault") ∷ (codes "event 9 A CREATE_FAILED Fault") ∷ (codes "event 10 A CREATE_FAILED Fault") ∷ (codes "event 11 - ROLLBACK_FAILED") ∷ (codes "event 12 - DELETE_IN_PROGRESS") ∷ []);
-  entries = (intended ∷ deleting ∷ []);
-}
+stack_12_s = record stack_11_s { status = status.DeleteInProgress; operation = 2; events = stack_11_s.events ++ (codes "event 12 - DELETE_IN_PROGRESS") ∷ []; entries = (intended ∷ deleting ∷ []) }
 
 abbrev world_12 : World
-world_12 = record { stacks = (((codes "s"), stack_12_s) ∷ []); exports = []; pins = []; claims = []; lanes = (lane_pair (codes "f1") file ∷ []); epoch = 1; operation = 2; set = 0; token = 1; place = 12 }
+world_12 = record world_11 { stacks = (((codes "s"), stack_12_s) ∷ []); operation = 2; place = 12 }
 
 leads_12 : world_after world_11 deleting ≡ world_12
 unfolding computing
@@ -380,26 +204,10 @@ unfolding computing
 may_broken_gone_once = ((codes "s"), stack_12_s, Gone, refl, refl, (refl, refl, (lit≤ tt, λ _. lit≤ tt)))
 
 abbrev stack_13_s : StackState
-stack_13_s = record {
-  status = status.DeleteInProgress;
-  number = 1;
-  operation = 2;
-  held = [];
-  before = [];
-  made = [];
-  leftovers = [];
-  tokens = (record { token = 1; path = (codes "A"); lane = (codes "f1"); request = (request.Create file (file_props (codes "a") (codes "x"))) } ∷ []);
-  abandoned = [];
-  source = None;
-  going = Some (source_for (codes "s") 1 first);
-  outputs = [];
-  sets = [];
-  events = ((codes "event 2 - CREATE_IN_PROGRESS") ∷ (codes "event 3 A CREATE_IN_PROGRESS") ∷ (codes "event 4 A CREATE_FAILED Fault") ∷ (codes "event 5 A CREATE_FAILED Fault") ∷ (codes "event 6 A CREATE_FAILED Fault") ∷ (codes "event 7 - ROLLBACK_IN_PROGRESS") ∷ (codes "event 8 A CREATE_FAILED Fault") ∷ (codes "event 9 A CREATE_FAILED Fault") ∷ (codes "event 10 A CREATE_FAILED Fault") ∷ (codes "event 11 - ROLLBACK_FAILED") ∷ (codes "event 12 - DELETE_IN_PROGRESS") ∷ (codes "event 13 A CREATE_FAILED Fault") ∷ []);
-  entries = (intended ∷ deleting ∷ broken_gone_once ∷ []);
-}
+stack_13_s = record stack_12_s { events = stack_12_s.events ++ (codes "event 13 A CREATE_FAILED Fault") ∷ []; entries = stack_12_s.entries ++ broken_gone_once ∷ [] }
 
 abbrev world_13 : World
-world_13 = record { stacks = (((codes "s"), stack_13_s) ∷ []); exports = []; pins = []; claims = []; lanes = (lane_pair (codes "f1") file ∷ []); epoch = 1; operation = 2; set = 0; token = 1; place = 13 }
+world_13 = record world_12 { stacks = (((codes "s"), stack_13_s) ∷ []); place = 13 }
 
 leads_13 : world_after world_12 broken_gone_once ≡ world_13
 unfolding computing
@@ -410,26 +218,10 @@ unfolding computing
 may_broken_gone_twice = ((codes "s"), stack_13_s, Gone, refl, refl, (refl, refl, (lit≤ tt, λ _. lit≤ tt)))
 
 abbrev stack_14_s : StackState
-stack_14_s = record {
-  status = status.DeleteInProgress;
-  number = 1;
-  operation = 2;
-  held = [];
-  before = [];
-  made = [];
-  leftovers = [];
-  tokens = (record { token = 1; path = (codes "A"); lane = (codes "f1"); request = (request.Create file (file_props (codes "a") (codes "x"))) } ∷ []);
-  abandoned = [];
-  source = None;
-  going = Some (source_for (codes "s") 1 first);
-  outputs = [];
-  sets = [];
-  events = ((codes "event 2 - CREATE_IN_PROGRESS") ∷ (codes "event 3 A CREATE_IN_PROGRESS") ∷ (codes "event 4 A CREATE_FAILED Fault") ∷ (codes "event 5 A CREATE_FAILED Fault") ∷ (codes "event 6 A CREATE_FAILED Fault") ∷ (codes "event 7 - ROLLBACK_IN_PROGRESS") ∷ (codes "event 8 A CREATE_FAILED Fault") ∷ (codes "event 9 A CREATE_FAILED Fault") ∷ (codes "event 10 A CREATE_FAILED Fault") ∷ (codes "event 11 - ROLLBACK_FAILED") ∷ (codes "event 12 - DELETE_IN_PROGRESS") ∷ (codes "event 13 A CREATE_FAILED Fault") ∷ (codes "event 14 A CREATE_FAILED Fault") ∷ []);
-  entries = (intended ∷ deleting ∷ broken_gone_once ∷ broken_gone_twice ∷ []);
-}
+stack_14_s = record stack_13_s { events = stack_13_s.events ++ (codes "event 14 A CREATE_FAILED Fault") ∷ []; entries = stack_13_s.entries ++ broken_gone_twice ∷ [] }
 
 abbrev world_14 : World
-world_14 = record { stacks = (((codes "s"), stack_14_s) ∷ []); exports = []; pins = []; claims = []; lanes = (lane_pair (codes "f1") file ∷ []); epoch = 1; operation = 2; set = 0; token = 1; place = 14 }
+world_14 = record world_13 { stacks = (((codes "s"), stack_14_s) ∷ []); place = 14 }
 
 leads_14 : world_after world_13 broken_gone_twice ≡ world_14
 unfolding computing
@@ -440,26 +232,10 @@ unfolding computing
 may_broken_gone_thrice = ((codes "s"), stack_14_s, Gone, refl, refl, (refl, refl, (lit≤ tt, λ _. lit≤ tt)))
 
 abbrev stack_15_s : StackState
-stack_15_s = record {
-  status = status.DeleteInProgress;
-  number = 1;
-  operation = 2;
-  held = [];
-  before = [];
-  made = [];
-  leftovers = [];
-  tokens = (record { token = 1; path = (codes "A"); lane = (codes "f1"); request = (request.Create file (file_props (codes "a") (codes "x"))) } ∷ []);
-  abandoned = [];
-  source = None;
-  going = Some (source_for (codes "s") 1 first);
-  outputs = [];
-  sets = [];
-  events = ((codes "event 2 - CREATE_IN_PROGRESS") ∷ (codes "event 3 A CREATE_IN_PROGRESS") ∷ (codes "event 4 A CREATE_FAILED Fault") ∷ (codes "event 5 A CREATE_FAILED Fault") ∷ (codes "event 6 A CREATE_FAILED Fault") ∷ (codes "event 7 - ROLLBACK_IN_PROGRESS") ∷ (codes "event 8 A CREATE_FAILED Fault") ∷ (codes "event 9 A CREATE_FAILED Fault") ∷ (codes "event 10 A CREATE_FAILED Fault") ∷ (codes "event 11 - ROLLBACK_FAILED") ∷ (codes "event 12 - DELETE_IN_PROGRESS") ∷ (codes "event 13 A CREATE_FAILED Fault") ∷ (codes "event 14 A CREATE_FAILED Fault") ∷ (codes "event 15 A CREATE_FAILED Fault") ∷ []);
-  entries = (intended ∷ deleting ∷ broken_gone_once ∷ broken_gone_twice ∷ broken_gone_thrice ∷ []);
-}
+stack_15_s = record stack_14_s { events = stack_14_s.events ++ (codes "event 15 A CREATE_FAILED Fault") ∷ []; entries = stack_14_s.entries ++ broken_gone_thrice ∷ [] }
 
 abbrev world_15 : World
-world_15 = record { stacks = (((codes "s"), stack_15_s) ∷ []); exports = []; pins = []; claims = []; lanes = (lane_pair (codes "f1") file ∷ []); epoch = 1; operation = 2; set = 0; token = 1; place = 15 }
+world_15 = record world_14 { stacks = (((codes "s"), stack_15_s) ∷ []); place = 15 }
 
 leads_15 : world_after world_14 broken_gone_thrice ≡ world_15
 unfolding computing
@@ -470,26 +246,10 @@ unfolding computing
 may_undeleted = ((codes "s"), stack_15_s, Gone, refl, refl, (refl, end_of_failed_deletion schemas (codes "s") world_15 stack_15_s refl refl refl refl, refl, (refl, are_failed stack_15_s ((codes "A") ∷ []) refl refl)))
 
 abbrev stack_16_s : StackState
-stack_16_s = record {
-  status = status.DeleteFailed;
-  number = 1;
-  operation = 2;
-  held = [];
-  before = [];
-  made = [];
-  leftovers = [];
-  tokens = (record { token = 1; path = (codes "A"); lane = (codes "f1"); request = (request.Create file (file_props (codes "a") (codes "x"))) } ∷ []);
-  abandoned = [];
-  source = None;
-  going = Some (source_for (codes "s") 1 first);
-  outputs = [];
-  sets = [];
-  events = ((codes "event 2 - CREATE_IN_PROGRESS") ∷ (codes "event 3 A CREATE_IN_PROGRESS") ∷ (codes "event 4 A CREATE_FAILED Fault") ∷ (codes "event 5 A CREATE_FAILED Fault") ∷ (codes "event 6 A CREATE_FAILED Fault") ∷ (codes "event 7 - ROLLBACK_IN_PROGRESS") ∷ (codes "event 8 A CREATE_FAILED Fault") ∷ (codes "event 9 A CREATE_FAILED Fault") ∷ (codes "event 10 A CREATE_FAILED Fault") ∷ (codes "event 11 - ROLLBACK_FAILED") ∷ (codes "event 12 - DELETE_IN_PROGRESS") ∷ (codes "event 13 A CREATE_FAILED Fault") ∷ (codes "event 14 A CREATE_FAILED Fault") ∷ (codes "event 15 A CREATE_FAILED Fault") ∷ (codes "event 16 - DELETE_FAILED") ∷ []);
-  entries = (intended ∷ deleting ∷ broken_gone_once ∷ broken_gone_twice ∷ broken_gone_thrice ∷ undeleted ∷ []);
-}
+stack_16_s = record stack_15_s { status = status.DeleteFailed; events = stack_15_s.events ++ (codes "event 16 - DELETE_FAILED") ∷ []; entries = stack_15_s.entries ++ undeleted ∷ [] }
 
 abbrev world_16 : World
-world_16 = record { stacks = (((codes "s"), stack_16_s) ∷ []); exports = []; pins = []; claims = []; lanes = (lane_pair (codes "f1") file ∷ []); epoch = 1; operation = 2; set = 0; token = 1; place = 16 }
+world_16 = record world_15 { stacks = (((codes "s"), stack_16_s) ∷ []); place = 16 }
 
 leads_16 : world_after world_15 undeleted ≡ world_16
 unfolding computing
@@ -500,26 +260,10 @@ unfolding computing
 may_deleting_without = (refl, refl, (refl, refl, refl))
 
 abbrev stack_17_s : StackState
-stack_17_s = record {
-  status = status.DeleteInProgress;
-  number = 1;
-  operation = 3;
-  held = [];
-  before = [];
-  made = [];
-  leftovers = [];
-  tokens = (record { token = 1; path = (codes "A"); lane = (codes "f1"); request = (request.Create file (file_props (codes "a") (codes "x"))) } ∷ []);
-  abandoned = [];
-  source = None;
-  going = Some (source_for (codes "s") 1 first);
-  outputs = [];
-  sets = [];
-  events = ((codes "event 2 - CREATE_IN_PROGRESS") ∷ (codes "event 3 A CREATE_IN_PROGRESS") ∷ (codes "event 4 A CREATE_FAILED Fault") ∷ (codes "event 5 A CREATE_FAILED Fault") ∷ (codes "event 6 A CREATE_FAILED Fault") ∷ (codes "event 7 - ROLLBACK_IN_PROGRESS") ∷ (codes "event 8 A CREATE_FAILED Fault") ∷ (codes "event 9 A CREATE_FAILED Fault") ∷ (codes "event 10 A CREATE_FAILED Fault") ∷ (codes "event 11 - ROLLBACK_FAILED") ∷ (codes "event 12 - DELETE_IN_PROGRESS") ∷ (codes "event 13 A CREATE_FAILED Fault") ∷ (codes "event 14 A CREATE_FAILED Fault") ∷ (codes "event 15 A CREATE_FAILED Fault") ∷ (codes "event 16 - DELETE_FAILED") ∷ (codes "event 17 - DELETE_IN_PROGRESS") ∷ []);
-  entries = (intended ∷ deleting_without ∷ []);
-}
+stack_17_s = record stack_16_s { status = status.DeleteInProgress; operation = 3; events = stack_16_s.events ++ (codes "event 17 - DELETE_IN_PROGRESS") ∷ []; entries = (intended ∷ deleting_without ∷ []) }
 
 abbrev world_17 : World
-world_17 = record { stacks = (((codes "s"), stack_17_s) ∷ []); exports = []; pins = []; claims = []; lanes = (lane_pair (codes "f1") file ∷ []); epoch = 1; operation = 3; set = 0; token = 1; place = 17 }
+world_17 = record world_16 { stacks = (((codes "s"), stack_17_s) ∷ []); operation = 3; place = 17 }
 
 leads_17 : world_after world_16 deleting_without ≡ world_17
 unfolding computing
@@ -530,26 +274,10 @@ unfolding computing
 may_kept = ((codes "s"), stack_17_s, Gone, refl, refl, inr (refl, refl, refl, refl))
 
 abbrev stack_18_s : StackState
-stack_18_s = record {
-  status = status.DeleteInProgress;
-  number = 1;
-  operation = 3;
-  held = [];
-  before = [];
-  made = [];
-  leftovers = (record { path = (codes "A"); physical = (codes "-"); why = why.Retained } ∷ []);
-  tokens = [];
-  abandoned = (record { token = 1; path = (codes "A") } ∷ []);
-  source = None;
-  going = Some (source_for (codes "s") 1 first);
-  outputs = [];
-  sets = [];
-  events = ((codes "event 2 - CREATE_IN_PROGRESS") ∷ (codes "event 3 A CREATE_IN_PROGRESS") ∷ (codes "event 4 A CREATE_FAILED Fault") ∷ (codes "event 5 A CREATE_FAILED Fault") ∷ (codes "event 6 A CREATE_FAILED Fault") ∷ (codes "event 7 - ROLLBACK_IN_PROGRESS") ∷ (codes "event 8 A CREATE_FAILED Fault") ∷ (codes "event 9 A CREATE_FAILED Fault") ∷ (codes "event 10 A CREATE_FAILED Fault") ∷ (codes "event 11 - ROLLBACK_FAILED") ∷ (codes "event 12 - DELETE_IN_PROGRESS") ∷ (codes "event 13 A CREATE_FAILED Fault") ∷ (codes "event 14 A CREATE_FAILED Fault") ∷ (codes "event 15 A CREATE_FAILED Fault") ∷ (codes "event 16 - DELETE_FAILED") ∷ (codes "event 17 - DELETE_IN_PROGRESS") ∷ (codes "event 18 A DELETE_SKIPPED") ∷ []);
-  entries = (intended ∷ deleting_without ∷ kept ∷ []);
-}
+stack_18_s = record stack_17_s { leftovers = (record { path = (codes "A"); physical = (codes "-"); why = why.Retained } ∷ []); tokens = []; abandoned = (record { token = 1; path = (codes "A") } ∷ []); events = stack_17_s.events ++ (codes "event 18 A DELETE_SKIPPED") ∷ []; entries = stack_17_s.entries ++ kept ∷ [] }
 
 abbrev world_18 : World
-world_18 = record { stacks = (((codes "s"), stack_18_s) ∷ []); exports = []; pins = []; claims = []; lanes = (lane_pair (codes "f1") file ∷ []); epoch = 1; operation = 3; set = 0; token = 1; place = 18 }
+world_18 = record world_17 { stacks = (((codes "s"), stack_18_s) ∷ []); place = 18 }
 
 leads_18 : world_after world_17 kept ≡ world_18
 unfolding computing
@@ -560,26 +288,10 @@ unfolding computing
 may_deleted = ((codes "s"), stack_18_s, Gone, refl, refl, (refl, end_of_deletion schemas (codes "s") world_18 stack_18_s refl refl refl, refl, refl))
 
 abbrev stack_19_s : StackState
-stack_19_s = record {
-  status = status.DeleteComplete;
-  number = 1;
-  operation = 3;
-  held = [];
-  before = [];
-  made = [];
-  leftovers = (record { path = (codes "A"); physical = (codes "-"); why = why.Retained } ∷ []);
-  tokens = [];
-  abandoned = (record { token = 1; path = (codes "A") } ∷ []);
-  source = None;
-  going = Some (source_for (codes "s") 1 first);
-  outputs = [];
-  sets = [];
-  events = ((codes "event 2 - CREATE_IN_PROGRESS") ∷ (codes "event 3 A CREATE_IN_PROGRESS") ∷ (codes "event 4 A CREATE_FAILED Fault") ∷ (codes "event 5 A CREATE_FAILED Fault") ∷ (codes "event 6 A CREATE_FAILED Fault") ∷ (codes "event 7 - ROLLBACK_IN_PROGRESS") ∷ (codes "event 8 A CREATE_FAILED Fault") ∷ (codes "event 9 A CREATE_FAILED Fault") ∷ (codes "event 10 A CREATE_FAILED Fault") ∷ (codes "event 11 - ROLLBACK_FAILED") ∷ (codes "event 12 - DELETE_IN_PROGRESS") ∷ (codes "event 13 A CREATE_FAILED Fault") ∷ (codes "event 14 A CREATE_FAILED Fault") ∷ (codes "event 15 A CREATE_FAILED Fault") ∷ (codes "event 16 - DELETE_FAILED") ∷ (codes "event 17 - DELETE_IN_PROGRESS") ∷ (codes "event 18 A DELETE_SKIPPED") ∷ (codes "event 19 - DELETE_COMPLETE") ∷ []);
-  entries = (intended ∷ deleting_without ∷ kept ∷ deleted ∷ []);
-}
+stack_19_s = record stack_18_s { status = status.DeleteComplete; events = stack_18_s.events ++ (codes "event 19 - DELETE_COMPLETE") ∷ []; entries = stack_18_s.entries ++ deleted ∷ [] }
 
 abbrev world_19 : World
-world_19 = record { stacks = (((codes "s"), stack_19_s) ∷ []); exports = []; pins = []; claims = []; lanes = (lane_pair (codes "f1") file ∷ []); epoch = 1; operation = 3; set = 0; token = 1; place = 19 }
+world_19 = record world_18 { stacks = (((codes "s"), stack_19_s) ∷ []); place = 19 }
 
 leads_19 : world_after world_18 deleted ≡ world_19
 unfolding computing

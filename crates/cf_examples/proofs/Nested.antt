@@ -1,8 +1,9 @@
 -- A nested stack gets the length of a file of the stack around it as its parameter.
-use Rattle.std.proofs.Common.{◌≡◌, refl, List, [], ◌∷◌, Some, None, false, inl, ap, lit≤}
+use Rattle.std.proofs.Common.{◌≡◌, refl, List, [], ◌∷◌, ◌++◌, Some, false, inl, ap, lit≤}
 use Rattle.std.specs.Prelude.{codes}
 use Rattle.cf_tree.specs.declared.request.Request.TheVariants as request
 use Rattle.cf_entry.specs.declared.entry.Entry.{Entry}
+use Rattle.cf_stacks.specs.declared.held.Held.{Held}
 use Rattle.cf_stacks.specs.declared.state.World.{World}
 use Rattle.cf_stacks.specs.declared.state.StackState.{StackState}
 use Rattle.cf_stacks.specs.Fold.{empty_world, world_after, source_for}
@@ -18,7 +19,7 @@ use Rattle.cf_tree.specs.declared.template.Deletion.TheVariants as deletion
 use Rattle.cf_tree.specs.declared.template.Replace.TheVariants as replace
 use Rattle.cf_entry.specs.declared.status.Status.TheVariants as status
 use Rattle.cf_stacks.specs.declared.held.HeldStatus.TheVariants as held
-use Rattle.cf_stacks.specs.Fold.{fold_of}
+use Rattle.cf_stacks.specs.Fold.{fold_of, no_stack}
 use Rattle.cf_examples.specs.Given.{lane_pair, report_of}
 use Rattle.cf_examples.proofs.Refusing.{legal_step, fold_step}
 use Rattle.cf_examples.proofs.Beginning.{no_imports}
@@ -32,7 +33,7 @@ unfolding computing
 may_opened = (refl, refl, λ name s e. absurd (cc))
 
 abbrev world_1 : World
-world_1 = record { stacks = []; exports = []; pins = []; claims = []; lanes = (lane_pair (codes "f1") file ∷ lane_pair (codes "r1") note ∷ []); epoch = 1; operation = 0; set = 0; token = 0; place = 1 }
+world_1 = record world_0 { lanes = (lane_pair (codes "f1") file ∷ lane_pair (codes "r1") note ∷ []); epoch = 1; place = 1 }
 
 leads_1 : world_after world_0 opened ≡ world_1
 unfolding computing
@@ -43,26 +44,10 @@ unfolding computing
 may_begun = (refl, refl, record { no_flaw = refl; known_types = refl; same_types = refl; imports = no_imports _ _ _ _ refl refl; free = refl; not_in_use = refl; changing = inl refl })
 
 abbrev stack_2_top : StackState
-stack_2_top = record {
-  status = status.CreateInProgress;
-  number = 1;
-  operation = 1;
-  held = [];
-  before = [];
-  made = [];
-  leftovers = [];
-  tokens = [];
-  abandoned = [];
-  source = None;
-  going = Some (source_for (codes "top") 1 first);
-  outputs = [];
-  sets = [];
-  events = ((codes "event 2 - CREATE_IN_PROGRESS") ∷ []);
-  entries = (begun ∷ []);
-}
+stack_2_top = record no_stack { status = status.CreateInProgress; number = 1; operation = 1; going = Some (source_for (codes "top") 1 first); events = ((codes "event 2 - CREATE_IN_PROGRESS") ∷ []); entries = (begun ∷ []) }
 
 abbrev world_2 : World
-world_2 = record { stacks = (((codes "top"), stack_2_top) ∷ []); exports = []; pins = []; claims = []; lanes = (lane_pair (codes "f1") file ∷ lane_pair (codes "r1") note ∷ []); epoch = 1; operation = 1; set = 0; token = 0; place = 2 }
+world_2 = record world_1 { stacks = (((codes "top"), stack_2_top) ∷ []); operation = 1; place = 2 }
 
 leads_2 : world_after world_1 begun ≡ world_2
 unfolding computing
@@ -81,26 +66,10 @@ unfolding computing
 may_intended_file = ((codes "top"), stack_2_top, Forward, refl, refl, record { next = refl; free = refl; home = refl; fits = refl; no_repeat = refl; chosen = (sound_2, ready_2_Src, not_done_new (codes "Src") stack_2_top refl refl refl, (refl, tt)) })
 
 abbrev stack_3_top : StackState
-stack_3_top = record {
-  status = status.CreateInProgress;
-  number = 1;
-  operation = 1;
-  held = [];
-  before = [];
-  made = [];
-  leftovers = [];
-  tokens = (record { token = 1; path = (codes "Src"); lane = (codes "f1"); request = (request.Create file (file_props (codes "s") (codes "12"))) } ∷ []);
-  abandoned = [];
-  source = None;
-  going = Some (source_for (codes "top") 1 first);
-  outputs = [];
-  sets = [];
-  events = ((codes "event 2 - CREATE_IN_PROGRESS") ∷ (codes "event 3 Src CREATE_IN_PROGRESS") ∷ []);
-  entries = (begun ∷ intended_file ∷ []);
-}
+stack_3_top = record stack_2_top { tokens = (record { token = 1; path = (codes "Src"); lane = (codes "f1"); request = (request.Create file (file_props (codes "s") (codes "12"))) } ∷ []); events = stack_2_top.events ++ (codes "event 3 Src CREATE_IN_PROGRESS") ∷ []; entries = stack_2_top.entries ++ intended_file ∷ [] }
 
 abbrev world_3 : World
-world_3 = record { stacks = (((codes "top"), stack_3_top) ∷ []); exports = []; pins = []; claims = []; lanes = (lane_pair (codes "f1") file ∷ lane_pair (codes "r1") note ∷ []); epoch = 1; operation = 1; set = 0; token = 1; place = 3 }
+world_3 = record world_2 { stacks = (((codes "top"), stack_3_top) ∷ []); token = 1; place = 3 }
 
 leads_3 : world_after world_2 intended_file ≡ world_3
 unfolding computing
@@ -110,27 +79,14 @@ may_made_file : MayFollow schemas world_3 (1 ∷ []) made_file
 unfolding computing
 may_made_file = ((codes "top"), stack_3_top, Forward, refl, refl, (refl, refl, lit≤ tt))
 
+abbrev src_1 : Held
+src_1 = record { path = (codes "Src"); kind = file; physical = (codes "f1:1"); props = (file_props (codes "s") (codes "12")); attrs = (file_attrs (codes "f1:1") 2 (codes "s") (codes "12")); needs = []; deletion = deletion.Delete; replace = replace.Delete; status = held.CreateComplete; unsure = false; superseded = false }
+
 abbrev stack_4_top : StackState
-stack_4_top = record {
-  status = status.CreateInProgress;
-  number = 1;
-  operation = 1;
-  held = [];
-  before = [];
-  made = (record { path = (codes "Src"); kind = file; physical = (codes "f1:1"); props = (file_props (codes "s") (codes "12")); attrs = (file_attrs (codes "f1:1") 2 (codes "s") (codes "12")); needs = []; deletion = deletion.Delete; replace = replace.Delete; status = held.CreateComplete; unsure = false; superseded = false } ∷ []);
-  leftovers = [];
-  tokens = [];
-  abandoned = [];
-  source = None;
-  going = Some (source_for (codes "top") 1 first);
-  outputs = [];
-  sets = [];
-  events = ((codes "event 2 - CREATE_IN_PROGRESS") ∷ (codes "event 3 Src CREATE_IN_PROGRESS") ∷ (codes "event 4 Src CREATE_COMPLETE") ∷ []);
-  entries = (begun ∷ intended_file ∷ made_file ∷ []);
-}
+stack_4_top = record stack_3_top { made = (src_1 ∷ []); tokens = []; events = stack_3_top.events ++ (codes "event 4 Src CREATE_COMPLETE") ∷ []; entries = stack_3_top.entries ++ made_file ∷ [] }
 
 abbrev world_4 : World
-world_4 = record { stacks = (((codes "top"), stack_4_top) ∷ []); exports = []; pins = []; claims = []; lanes = (lane_pair (codes "f1") file ∷ lane_pair (codes "r1") note ∷ []); epoch = 1; operation = 1; set = 0; token = 1; place = 4 }
+world_4 = record world_3 { stacks = (((codes "top"), stack_4_top) ∷ []); place = 4 }
 
 leads_4 : world_after world_3 made_file ≡ world_4
 unfolding computing
@@ -149,26 +105,10 @@ unfolding computing
 may_intended_record = ((codes "top"), stack_4_top, Forward, refl, refl, record { next = refl; free = refl; home = refl; fits = refl; no_repeat = refl; chosen = (sound_4, ready_4_Child_Rec, not_done_new (codes "Child/Rec") stack_4_top refl refl refl, (refl, tt)) })
 
 abbrev stack_5_top : StackState
-stack_5_top = record {
-  status = status.CreateInProgress;
-  number = 1;
-  operation = 1;
-  held = [];
-  before = [];
-  made = (record { path = (codes "Src"); kind = file; physical = (codes "f1:1"); props = (file_props (codes "s") (codes "12")); attrs = (file_attrs (codes "f1:1") 2 (codes "s") (codes "12")); needs = []; deletion = deletion.Delete; replace = replace.Delete; status = held.CreateComplete; unsure = false; superseded = false } ∷ []);
-  leftovers = [];
-  tokens = (record { token = 2; path = (codes "Child/Rec"); lane = (codes "r1"); request = (request.Create note (note_props (codes "k") (codes "2"))) } ∷ []);
-  abandoned = [];
-  source = None;
-  going = Some (source_for (codes "top") 1 first);
-  outputs = [];
-  sets = [];
-  events = ((codes "event 2 - CREATE_IN_PROGRESS") ∷ (codes "event 3 Src CREATE_IN_PROGRESS") ∷ (codes "event 4 Src CREATE_COMPLETE") ∷ (codes "event 5 Child/Rec CREATE_IN_PROGRESS") ∷ []);
-  entries = (begun ∷ intended_file ∷ made_file ∷ intended_record ∷ []);
-}
+stack_5_top = record stack_4_top { tokens = (record { token = 2; path = (codes "Child/Rec"); lane = (codes "r1"); request = (request.Create note (note_props (codes "k") (codes "2"))) } ∷ []); events = stack_4_top.events ++ (codes "event 5 Child/Rec CREATE_IN_PROGRESS") ∷ []; entries = stack_4_top.entries ++ intended_record ∷ [] }
 
 abbrev world_5 : World
-world_5 = record { stacks = (((codes "top"), stack_5_top) ∷ []); exports = []; pins = []; claims = []; lanes = (lane_pair (codes "f1") file ∷ lane_pair (codes "r1") note ∷ []); epoch = 1; operation = 1; set = 0; token = 2; place = 5 }
+world_5 = record world_4 { stacks = (((codes "top"), stack_5_top) ∷ []); token = 2; place = 5 }
 
 leads_5 : world_after world_4 intended_record ≡ world_5
 unfolding computing
@@ -178,27 +118,14 @@ may_made_record : MayFollow schemas world_5 (2 ∷ []) made_record
 unfolding computing
 may_made_record = ((codes "top"), stack_5_top, Forward, refl, refl, (refl, refl, lit≤ tt))
 
+abbrev child_rec_1 : Held
+child_rec_1 = record { path = (codes "Child/Rec"); kind = note; physical = (codes "r1:2"); props = (note_props (codes "k") (codes "2")); attrs = (note_attrs (codes "r1:2") 1 (codes "k") (codes "2")); needs = ((codes "Src") ∷ []); deletion = deletion.Delete; replace = replace.Delete; status = held.CreateComplete; unsure = false; superseded = false }
+
 abbrev stack_6_top : StackState
-stack_6_top = record {
-  status = status.CreateInProgress;
-  number = 1;
-  operation = 1;
-  held = [];
-  before = [];
-  made = (record { path = (codes "Src"); kind = file; physical = (codes "f1:1"); props = (file_props (codes "s") (codes "12")); attrs = (file_attrs (codes "f1:1") 2 (codes "s") (codes "12")); needs = []; deletion = deletion.Delete; replace = replace.Delete; status = held.CreateComplete; unsure = false; superseded = false } ∷ record { path = (codes "Child/Rec"); kind = note; physical = (codes "r1:2"); props = (note_props (codes "k") (codes "2")); attrs = (note_attrs (codes "r1:2") 1 (codes "k") (codes "2")); needs = ((codes "Src") ∷ []); deletion = deletion.Delete; replace = replace.Delete; status = held.CreateComplete; unsure = false; superseded = false } ∷ []);
-  leftovers = [];
-  tokens = [];
-  abandoned = [];
-  source = None;
-  going = Some (source_for (codes "top") 1 first);
-  outputs = [];
-  sets = [];
-  events = ((codes "event 2 - CREATE_IN_PROGRESS") ∷ (codes "event 3 Src CREATE_IN_PROGRESS") ∷ (codes "event 4 Src CREATE_COMPLETE") ∷ (codes "event 5 Child/Rec CREATE_IN_PROGRESS") ∷ (codes "event 6 Child/Rec CREATE_COMPLETE") ∷ []);
-  entries = (begun ∷ intended_file ∷ made_file ∷ intended_record ∷ made_record ∷ []);
-}
+stack_6_top = record stack_5_top { made = (src_1 ∷ child_rec_1 ∷ []); tokens = []; events = stack_5_top.events ++ (codes "event 6 Child/Rec CREATE_COMPLETE") ∷ []; entries = stack_5_top.entries ++ made_record ∷ [] }
 
 abbrev world_6 : World
-world_6 = record { stacks = (((codes "top"), stack_6_top) ∷ []); exports = []; pins = []; claims = []; lanes = (lane_pair (codes "f1") file ∷ lane_pair (codes "r1") note ∷ []); epoch = 1; operation = 1; set = 0; token = 2; place = 6 }
+world_6 = record world_5 { stacks = (((codes "top"), stack_6_top) ∷ []); place = 6 }
 
 leads_6 : world_after world_5 made_record ≡ world_6
 unfolding computing
@@ -217,26 +144,10 @@ unfolding computing
 may_created = ((codes "top"), stack_6_top, Forward, refl, refl, (refl, end_of_create schemas (codes "top") world_6 stack_6_top refl all_done_6 sound_6 refl, (sound_6, all_done_6), refl))
 
 abbrev stack_7_top : StackState
-stack_7_top = record {
-  status = status.CreateComplete;
-  number = 1;
-  operation = 1;
-  held = (record { path = (codes "Src"); kind = file; physical = (codes "f1:1"); props = (file_props (codes "s") (codes "12")); attrs = (file_attrs (codes "f1:1") 2 (codes "s") (codes "12")); needs = []; deletion = deletion.Delete; replace = replace.Delete; status = held.CreateComplete; unsure = false; superseded = false } ∷ record { path = (codes "Child/Rec"); kind = note; physical = (codes "r1:2"); props = (note_props (codes "k") (codes "2")); attrs = (note_attrs (codes "r1:2") 1 (codes "k") (codes "2")); needs = ((codes "Src") ∷ []); deletion = deletion.Delete; replace = replace.Delete; status = held.CreateComplete; unsure = false; superseded = false } ∷ []);
-  before = [];
-  made = [];
-  leftovers = [];
-  tokens = [];
-  abandoned = [];
-  source = Some (source_for (codes "top") 1 first);
-  going = Some (source_for (codes "top") 1 first);
-  outputs = [];
-  sets = [];
-  events = ((codes "event 2 - CREATE_IN_PROGRESS") ∷ (codes "event 3 Src CREATE_IN_PROGRESS") ∷ (codes "event 4 Src CREATE_COMPLETE") ∷ (codes "event 5 Child/Rec CREATE_IN_PROGRESS") ∷ (codes "event 6 Child/Rec CREATE_COMPLETE") ∷ (codes "event 7 - CREATE_COMPLETE") ∷ []);
-  entries = (begun ∷ intended_file ∷ made_file ∷ intended_record ∷ made_record ∷ created ∷ []);
-}
+stack_7_top = record stack_6_top { status = status.CreateComplete; held = (src_1 ∷ child_rec_1 ∷ []); made = []; source = Some (source_for (codes "top") 1 first); events = stack_6_top.events ++ (codes "event 7 - CREATE_COMPLETE") ∷ []; entries = stack_6_top.entries ++ created ∷ [] }
 
 abbrev world_7 : World
-world_7 = record { stacks = (((codes "top"), stack_7_top) ∷ []); exports = []; pins = []; claims = []; lanes = (lane_pair (codes "f1") file ∷ lane_pair (codes "r1") note ∷ []); epoch = 1; operation = 1; set = 0; token = 2; place = 7 }
+world_7 = record world_6 { stacks = (((codes "top"), stack_7_top) ∷ []); place = 7 }
 
 leads_7 : world_after world_6 created ≡ world_7
 unfolding computing

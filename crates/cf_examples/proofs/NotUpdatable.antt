@@ -1,9 +1,10 @@
 -- An update that is answered NotUpdatable where a conditional property differs becomes a replacement.
-use Rattle.std.proofs.Common.{◌≡◌, refl, List, [], ◌∷◌, Some, None, true, false, inl, inr, ap, lit≤}
+use Rattle.std.proofs.Common.{◌≡◌, refl, List, [], ◌∷◌, ◌++◌, Some, true, false, inl, inr, ap, lit≤}
 use Rattle.std.specs.Prelude.{codes}
 use Rattle.cf_tree.specs.Datum.{text}
 use Rattle.cf_tree.specs.declared.request.Request.TheVariants as request
 use Rattle.cf_entry.specs.declared.entry.Entry.{Entry}
+use Rattle.cf_stacks.specs.declared.held.Held.{Held}
 use Rattle.cf_stacks.specs.declared.state.World.{World}
 use Rattle.cf_stacks.specs.declared.state.StackState.{StackState}
 use Rattle.cf_stacks.specs.Fold.{empty_world, world_after, source_for}
@@ -20,7 +21,7 @@ use Rattle.cf_tree.specs.declared.template.Deletion.TheVariants as deletion
 use Rattle.cf_tree.specs.declared.template.Replace.TheVariants as replace
 use Rattle.cf_entry.specs.declared.status.Status.TheVariants as status
 use Rattle.cf_stacks.specs.declared.held.HeldStatus.TheVariants as held
-use Rattle.cf_stacks.specs.Fold.{fold_of}
+use Rattle.cf_stacks.specs.Fold.{fold_of, no_stack}
 use Rattle.cf_examples.specs.Given.{lane_pair, report_of}
 use Rattle.cf_examples.proofs.Refusing.{legal_step, fold_step}
 use Rattle.cf_examples.proofs.Beginning.{no_imports}
@@ -34,7 +35,7 @@ unfolding computing
 may_opened = (refl, refl, λ name s e. absurd (cc))
 
 abbrev world_1 : World
-world_1 = record { stacks = []; exports = []; pins = []; claims = []; lanes = (lane_pair (codes "r1") note ∷ []); epoch = 1; operation = 0; set = 0; token = 0; place = 1 }
+world_1 = record world_0 { lanes = (lane_pair (codes "r1") note ∷ []); epoch = 1; place = 1 }
 
 leads_1 : world_after world_0 opened ≡ world_1
 unfolding computing
@@ -45,26 +46,10 @@ unfolding computing
 may_begun = (refl, refl, record { no_flaw = refl; known_types = refl; same_types = refl; imports = no_imports _ _ _ _ refl refl; free = refl; not_in_use = refl; changing = inl refl })
 
 abbrev stack_2_s : StackState
-stack_2_s = record {
-  status = status.CreateInProgress;
-  number = 1;
-  operation = 1;
-  held = [];
-  before = [];
-  made = [];
-  leftovers = [];
-  tokens = [];
-  abandoned = [];
-  source = None;
-  going = Some (source_for (codes "s") 1 first);
-  outputs = [];
-  sets = [];
-  events = ((codes "event 2 - CREATE_IN_PROGRESS") ∷ []);
-  entries = (begun ∷ []);
-}
+stack_2_s = record no_stack { status = status.CreateInProgress; number = 1; operation = 1; going = Some (source_for (codes "s") 1 first); events = ((codes "event 2 - CREATE_IN_PROGRESS") ∷ []); entries = (begun ∷ []) }
 
 abbrev world_2 : World
-world_2 = record { stacks = (((codes "s"), stack_2_s) ∷ []); exports = []; pins = []; claims = []; lanes = (lane_pair (codes "r1") note ∷ []); epoch = 1; operation = 1; set = 0; token = 0; place = 2 }
+world_2 = record world_1 { stacks = (((codes "s"), stack_2_s) ∷ []); operation = 1; place = 2 }
 
 leads_2 : world_after world_1 begun ≡ world_2
 unfolding computing
@@ -83,26 +68,10 @@ unfolding computing
 may_intended = ((codes "s"), stack_2_s, Forward, refl, refl, record { next = refl; free = refl; home = refl; fits = refl; no_repeat = refl; chosen = (sound_2, ready_2_K, not_done_new (codes "K") stack_2_s refl refl refl, (refl, tt)) })
 
 abbrev stack_3_s : StackState
-stack_3_s = record {
-  status = status.CreateInProgress;
-  number = 1;
-  operation = 1;
-  held = [];
-  before = [];
-  made = [];
-  leftovers = [];
-  tokens = (record { token = 1; path = (codes "K"); lane = (codes "r1"); request = (request.Create note ((codes "Class", text (codes "sealed")) ∷ (note_props (codes "k") (codes "v")))) } ∷ []);
-  abandoned = [];
-  source = None;
-  going = Some (source_for (codes "s") 1 first);
-  outputs = [];
-  sets = [];
-  events = ((codes "event 2 - CREATE_IN_PROGRESS") ∷ (codes "event 3 K CREATE_IN_PROGRESS") ∷ []);
-  entries = (begun ∷ intended ∷ []);
-}
+stack_3_s = record stack_2_s { tokens = (record { token = 1; path = (codes "K"); lane = (codes "r1"); request = (request.Create note ((codes "Class", text (codes "sealed")) ∷ (note_props (codes "k") (codes "v")))) } ∷ []); events = stack_2_s.events ++ (codes "event 3 K CREATE_IN_PROGRESS") ∷ []; entries = stack_2_s.entries ++ intended ∷ [] }
 
 abbrev world_3 : World
-world_3 = record { stacks = (((codes "s"), stack_3_s) ∷ []); exports = []; pins = []; claims = []; lanes = (lane_pair (codes "r1") note ∷ []); epoch = 1; operation = 1; set = 0; token = 1; place = 3 }
+world_3 = record world_2 { stacks = (((codes "s"), stack_3_s) ∷ []); token = 1; place = 3 }
 
 leads_3 : world_after world_2 intended ≡ world_3
 unfolding computing
@@ -112,27 +81,14 @@ may_made : MayFollow schemas world_3 (1 ∷ []) made
 unfolding computing
 may_made = ((codes "s"), stack_3_s, Forward, refl, refl, (refl, refl, lit≤ tt))
 
+abbrev k_1 : Held
+k_1 = record { path = (codes "K"); kind = note; physical = (codes "r1:1"); props = ((codes "Class", text (codes "sealed")) ∷ (note_props (codes "k") (codes "v"))); attrs = ((codes "Class", text (codes "sealed")) ∷ (note_attrs (codes "r1:1") 1 (codes "k") (codes "v"))); needs = []; deletion = deletion.Delete; replace = replace.Delete; status = held.CreateComplete; unsure = false; superseded = false }
+
 abbrev stack_4_s : StackState
-stack_4_s = record {
-  status = status.CreateInProgress;
-  number = 1;
-  operation = 1;
-  held = [];
-  before = [];
-  made = (record { path = (codes "K"); kind = note; physical = (codes "r1:1"); props = ((codes "Class", text (codes "sealed")) ∷ (note_props (codes "k") (codes "v"))); attrs = ((codes "Class", text (codes "sealed")) ∷ (note_attrs (codes "r1:1") 1 (codes "k") (codes "v"))); needs = []; deletion = deletion.Delete; replace = replace.Delete; status = held.CreateComplete; unsure = false; superseded = false } ∷ []);
-  leftovers = [];
-  tokens = [];
-  abandoned = [];
-  source = None;
-  going = Some (source_for (codes "s") 1 first);
-  outputs = [];
-  sets = [];
-  events = ((codes "event 2 - CREATE_IN_PROGRESS") ∷ (codes "event 3 K CREATE_IN_PROGRESS") ∷ (codes "event 4 K CREATE_COMPLETE") ∷ []);
-  entries = (begun ∷ intended ∷ made ∷ []);
-}
+stack_4_s = record stack_3_s { made = (k_1 ∷ []); tokens = []; events = stack_3_s.events ++ (codes "event 4 K CREATE_COMPLETE") ∷ []; entries = stack_3_s.entries ++ made ∷ [] }
 
 abbrev world_4 : World
-world_4 = record { stacks = (((codes "s"), stack_4_s) ∷ []); exports = []; pins = []; claims = []; lanes = (lane_pair (codes "r1") note ∷ []); epoch = 1; operation = 1; set = 0; token = 1; place = 4 }
+world_4 = record world_3 { stacks = (((codes "s"), stack_4_s) ∷ []); place = 4 }
 
 leads_4 : world_after world_3 made ≡ world_4
 unfolding computing
@@ -151,26 +107,10 @@ unfolding computing
 may_created = ((codes "s"), stack_4_s, Forward, refl, refl, (refl, end_of_create schemas (codes "s") world_4 stack_4_s refl all_done_4 sound_4 refl, (sound_4, all_done_4), refl))
 
 abbrev stack_5_s : StackState
-stack_5_s = record {
-  status = status.CreateComplete;
-  number = 1;
-  operation = 1;
-  held = (record { path = (codes "K"); kind = note; physical = (codes "r1:1"); props = ((codes "Class", text (codes "sealed")) ∷ (note_props (codes "k") (codes "v"))); attrs = ((codes "Class", text (codes "sealed")) ∷ (note_attrs (codes "r1:1") 1 (codes "k") (codes "v"))); needs = []; deletion = deletion.Delete; replace = replace.Delete; status = held.CreateComplete; unsure = false; superseded = false } ∷ []);
-  before = [];
-  made = [];
-  leftovers = [];
-  tokens = [];
-  abandoned = [];
-  source = Some (source_for (codes "s") 1 first);
-  going = Some (source_for (codes "s") 1 first);
-  outputs = [];
-  sets = [];
-  events = ((codes "event 2 - CREATE_IN_PROGRESS") ∷ (codes "event 3 K CREATE_IN_PROGRESS") ∷ (codes "event 4 K CREATE_COMPLETE") ∷ (codes "event 5 - CREATE_COMPLETE") ∷ []);
-  entries = (begun ∷ intended ∷ made ∷ created ∷ []);
-}
+stack_5_s = record stack_4_s { status = status.CreateComplete; held = (k_1 ∷ []); made = []; source = Some (source_for (codes "s") 1 first); events = stack_4_s.events ++ (codes "event 5 - CREATE_COMPLETE") ∷ []; entries = stack_4_s.entries ++ created ∷ [] }
 
 abbrev world_5 : World
-world_5 = record { stacks = (((codes "s"), stack_5_s) ∷ []); exports = []; pins = []; claims = []; lanes = (lane_pair (codes "r1") note ∷ []); epoch = 1; operation = 1; set = 0; token = 1; place = 5 }
+world_5 = record world_4 { stacks = (((codes "s"), stack_5_s) ∷ []); place = 5 }
 
 leads_5 : world_after world_4 created ≡ world_5
 unfolding computing
@@ -181,26 +121,10 @@ unfolding computing
 may_updating = (refl, refl, record { no_flaw = refl; known_types = refl; same_types = refl; imports = no_imports _ _ _ _ refl refl; free = refl; not_in_use = refl; changing = inr (inl refl) })
 
 abbrev stack_6_s : StackState
-stack_6_s = record {
-  status = status.UpdateInProgress;
-  number = 1;
-  operation = 2;
-  held = (record { path = (codes "K"); kind = note; physical = (codes "r1:1"); props = ((codes "Class", text (codes "sealed")) ∷ (note_props (codes "k") (codes "v"))); attrs = ((codes "Class", text (codes "sealed")) ∷ (note_attrs (codes "r1:1") 1 (codes "k") (codes "v"))); needs = []; deletion = deletion.Delete; replace = replace.Delete; status = held.CreateComplete; unsure = false; superseded = false } ∷ []);
-  before = (record { path = (codes "K"); kind = note; physical = (codes "r1:1"); props = ((codes "Class", text (codes "sealed")) ∷ (note_props (codes "k") (codes "v"))); attrs = ((codes "Class", text (codes "sealed")) ∷ (note_attrs (codes "r1:1") 1 (codes "k") (codes "v"))); needs = []; deletion = deletion.Delete; replace = replace.Delete; status = held.CreateComplete; unsure = false; superseded = false } ∷ []);
-  made = [];
-  leftovers = [];
-  tokens = [];
-  abandoned = [];
-  source = Some (source_for (codes "s") 1 first);
-  going = Some (source_for (codes "s") 1 second);
-  outputs = [];
-  sets = [];
-  events = ((codes "event 2 - CREATE_IN_PROGRESS") ∷ (codes "event 3 K CREATE_IN_PROGRESS") ∷ (codes "event 4 K CREATE_COMPLETE") ∷ (codes "event 5 - CREATE_COMPLETE") ∷ (codes "event 6 - UPDATE_IN_PROGRESS") ∷ []);
-  entries = (updating ∷ []);
-}
+stack_6_s = record stack_5_s { status = status.UpdateInProgress; operation = 2; before = (k_1 ∷ []); going = Some (source_for (codes "s") 1 second); events = stack_5_s.events ++ (codes "event 6 - UPDATE_IN_PROGRESS") ∷ []; entries = (updating ∷ []) }
 
 abbrev world_6 : World
-world_6 = record { stacks = (((codes "s"), stack_6_s) ∷ []); exports = []; pins = []; claims = []; lanes = (lane_pair (codes "r1") note ∷ []); epoch = 1; operation = 2; set = 0; token = 1; place = 6 }
+world_6 = record world_5 { stacks = (((codes "s"), stack_6_s) ∷ []); operation = 2; place = 6 }
 
 leads_6 : world_after world_5 updating ≡ world_6
 unfolding computing
@@ -219,26 +143,10 @@ unfolding computing
 may_intended_change = ((codes "s"), stack_6_s, Forward, refl, refl, record { next = refl; free = refl; home = refl; fits = ((codes "1", refl), refl); no_repeat = refl; chosen = (sound_6, ready_6_K, not_done_other (codes "K") stack_6_s (same_at (codes "Class") (codes "sealed")) _ _ _ refl refl refl refl refl refl, (_, refl, refl, refl, ((λ e. let z : MayReplace ≡ Replace = e in cc), inr (λ e. let z : MayReplace ≡ Same = e in cc)), refl)) })
 
 abbrev stack_7_s : StackState
-stack_7_s = record {
-  status = status.UpdateInProgress;
-  number = 1;
-  operation = 2;
-  held = (record { path = (codes "K"); kind = note; physical = (codes "r1:1"); props = ((codes "Class", text (codes "sealed")) ∷ (note_props (codes "k") (codes "v"))); attrs = ((codes "Class", text (codes "sealed")) ∷ (note_attrs (codes "r1:1") 1 (codes "k") (codes "v"))); needs = []; deletion = deletion.Delete; replace = replace.Delete; status = held.CreateComplete; unsure = false; superseded = false } ∷ []);
-  before = (record { path = (codes "K"); kind = note; physical = (codes "r1:1"); props = ((codes "Class", text (codes "sealed")) ∷ (note_props (codes "k") (codes "v"))); attrs = ((codes "Class", text (codes "sealed")) ∷ (note_attrs (codes "r1:1") 1 (codes "k") (codes "v"))); needs = []; deletion = deletion.Delete; replace = replace.Delete; status = held.CreateComplete; unsure = false; superseded = false } ∷ []);
-  made = [];
-  leftovers = [];
-  tokens = (record { token = 2; path = (codes "K"); lane = (codes "r1"); request = (request.Update (codes "r1:1") ((codes "Class", text (codes "plain")) ∷ (note_props (codes "k") (codes "v")))) } ∷ []);
-  abandoned = [];
-  source = Some (source_for (codes "s") 1 first);
-  going = Some (source_for (codes "s") 1 second);
-  outputs = [];
-  sets = [];
-  events = ((codes "event 2 - CREATE_IN_PROGRESS") ∷ (codes "event 3 K CREATE_IN_PROGRESS") ∷ (codes "event 4 K CREATE_COMPLETE") ∷ (codes "event 5 - CREATE_COMPLETE") ∷ (codes "event 6 - UPDATE_IN_PROGRESS") ∷ (codes "event 7 K UPDATE_IN_PROGRESS") ∷ []);
-  entries = (updating ∷ intended_change ∷ []);
-}
+stack_7_s = record stack_6_s { tokens = (record { token = 2; path = (codes "K"); lane = (codes "r1"); request = (request.Update (codes "r1:1") ((codes "Class", text (codes "plain")) ∷ (note_props (codes "k") (codes "v")))) } ∷ []); events = stack_6_s.events ++ (codes "event 7 K UPDATE_IN_PROGRESS") ∷ []; entries = stack_6_s.entries ++ intended_change ∷ [] }
 
 abbrev world_7 : World
-world_7 = record { stacks = (((codes "s"), stack_7_s) ∷ []); exports = []; pins = []; claims = []; lanes = (lane_pair (codes "r1") note ∷ []); epoch = 1; operation = 2; set = 0; token = 2; place = 7 }
+world_7 = record world_6 { stacks = (((codes "s"), stack_7_s) ∷ []); token = 2; place = 7 }
 
 leads_7 : world_after world_6 intended_change ≡ world_7
 unfolding computing
@@ -249,26 +157,10 @@ unfolding computing
 may_not_updatable = ((codes "s"), stack_7_s, Forward, refl, refl, (refl, refl, (lit≤ tt, λ _. lit≤ tt)))
 
 abbrev stack_8_s : StackState
-stack_8_s = record {
-  status = status.UpdateInProgress;
-  number = 1;
-  operation = 2;
-  held = (record { path = (codes "K"); kind = note; physical = (codes "r1:1"); props = ((codes "Class", text (codes "sealed")) ∷ (note_props (codes "k") (codes "v"))); attrs = ((codes "Class", text (codes "sealed")) ∷ (note_attrs (codes "r1:1") 1 (codes "k") (codes "v"))); needs = []; deletion = deletion.Delete; replace = replace.Delete; status = held.CreateComplete; unsure = false; superseded = false } ∷ []);
-  before = (record { path = (codes "K"); kind = note; physical = (codes "r1:1"); props = ((codes "Class", text (codes "sealed")) ∷ (note_props (codes "k") (codes "v"))); attrs = ((codes "Class", text (codes "sealed")) ∷ (note_attrs (codes "r1:1") 1 (codes "k") (codes "v"))); needs = []; deletion = deletion.Delete; replace = replace.Delete; status = held.CreateComplete; unsure = false; superseded = false } ∷ []);
-  made = [];
-  leftovers = [];
-  tokens = [];
-  abandoned = [];
-  source = Some (source_for (codes "s") 1 first);
-  going = Some (source_for (codes "s") 1 second);
-  outputs = [];
-  sets = [];
-  events = ((codes "event 2 - CREATE_IN_PROGRESS") ∷ (codes "event 3 K CREATE_IN_PROGRESS") ∷ (codes "event 4 K CREATE_COMPLETE") ∷ (codes "event 5 - CREATE_COMPLETE") ∷ (codes "event 6 - UPDATE_IN_PROGRESS") ∷ (codes "event 7 K UPDATE_IN_PROGRESS") ∷ (codes "event 8 K UPDATE_FAILED NotUpdatable") ∷ []);
-  entries = (updating ∷ intended_change ∷ not_updatable ∷ []);
-}
+stack_8_s = record stack_7_s { tokens = []; events = stack_7_s.events ++ (codes "event 8 K UPDATE_FAILED NotUpdatable") ∷ []; entries = stack_7_s.entries ++ not_updatable ∷ [] }
 
 abbrev world_8 : World
-world_8 = record { stacks = (((codes "s"), stack_8_s) ∷ []); exports = []; pins = []; claims = []; lanes = (lane_pair (codes "r1") note ∷ []); epoch = 1; operation = 2; set = 0; token = 2; place = 8 }
+world_8 = record world_7 { stacks = (((codes "s"), stack_8_s) ∷ []); place = 8 }
 
 leads_8 : world_after world_7 not_updatable ≡ world_8
 unfolding computing
@@ -287,26 +179,10 @@ unfolding computing
 may_intended_new = ((codes "s"), stack_8_s, Forward, refl, refl, record { next = refl; free = refl; home = refl; fits = refl; no_repeat = refl; chosen = (sound_8, ready_8_K, not_done_other (codes "K") stack_8_s (same_at (codes "Class") (codes "sealed")) _ _ _ refl refl refl refl refl refl, (refl, inr (refl, refl))) })
 
 abbrev stack_9_s : StackState
-stack_9_s = record {
-  status = status.UpdateInProgress;
-  number = 1;
-  operation = 2;
-  held = (record { path = (codes "K"); kind = note; physical = (codes "r1:1"); props = ((codes "Class", text (codes "sealed")) ∷ (note_props (codes "k") (codes "v"))); attrs = ((codes "Class", text (codes "sealed")) ∷ (note_attrs (codes "r1:1") 1 (codes "k") (codes "v"))); needs = []; deletion = deletion.Delete; replace = replace.Delete; status = held.CreateComplete; unsure = false; superseded = false } ∷ []);
-  before = (record { path = (codes "K"); kind = note; physical = (codes "r1:1"); props = ((codes "Class", text (codes "sealed")) ∷ (note_props (codes "k") (codes "v"))); attrs = ((codes "Class", text (codes "sealed")) ∷ (note_attrs (codes "r1:1") 1 (codes "k") (codes "v"))); needs = []; deletion = deletion.Delete; replace = replace.Delete; status = held.CreateComplete; unsure = false; superseded = false } ∷ []);
-  made = [];
-  leftovers = [];
-  tokens = (record { token = 3; path = (codes "K"); lane = (codes "r1"); request = (request.Create note ((codes "Class", text (codes "plain")) ∷ (note_props (codes "k") (codes "v")))) } ∷ []);
-  abandoned = [];
-  source = Some (source_for (codes "s") 1 first);
-  going = Some (source_for (codes "s") 1 second);
-  outputs = [];
-  sets = [];
-  events = ((codes "event 2 - CREATE_IN_PROGRESS") ∷ (codes "event 3 K CREATE_IN_PROGRESS") ∷ (codes "event 4 K CREATE_COMPLETE") ∷ (codes "event 5 - CREATE_COMPLETE") ∷ (codes "event 6 - UPDATE_IN_PROGRESS") ∷ (codes "event 7 K UPDATE_IN_PROGRESS") ∷ (codes "event 8 K UPDATE_FAILED NotUpdatable") ∷ (codes "event 9 K CREATE_IN_PROGRESS") ∷ []);
-  entries = (updating ∷ intended_change ∷ not_updatable ∷ intended_new ∷ []);
-}
+stack_9_s = record stack_8_s { tokens = (record { token = 3; path = (codes "K"); lane = (codes "r1"); request = (request.Create note ((codes "Class", text (codes "plain")) ∷ (note_props (codes "k") (codes "v")))) } ∷ []); events = stack_8_s.events ++ (codes "event 9 K CREATE_IN_PROGRESS") ∷ []; entries = stack_8_s.entries ++ intended_new ∷ [] }
 
 abbrev world_9 : World
-world_9 = record { stacks = (((codes "s"), stack_9_s) ∷ []); exports = []; pins = []; claims = []; lanes = (lane_pair (codes "r1") note ∷ []); epoch = 1; operation = 2; set = 0; token = 3; place = 9 }
+world_9 = record world_8 { stacks = (((codes "s"), stack_9_s) ∷ []); token = 3; place = 9 }
 
 leads_9 : world_after world_8 intended_new ≡ world_9
 unfolding computing
@@ -316,27 +192,14 @@ may_made_new : MayFollow schemas world_9 (3 ∷ []) made_new
 unfolding computing
 may_made_new = ((codes "s"), stack_9_s, Forward, refl, refl, (refl, refl, lit≤ tt))
 
+abbrev k_2 : Held
+k_2 = record { path = (codes "K"); kind = note; physical = (codes "r1:3"); props = ((codes "Class", text (codes "plain")) ∷ (note_props (codes "k") (codes "v"))); attrs = ((codes "Class", text (codes "plain")) ∷ (note_attrs (codes "r1:3") 1 (codes "k") (codes "v"))); needs = []; deletion = deletion.Delete; replace = replace.Delete; status = held.UpdateComplete; unsure = false; superseded = false }
+
 abbrev stack_10_s : StackState
-stack_10_s = record {
-  status = status.UpdateInProgress;
-  number = 1;
-  operation = 2;
-  held = (record { path = (codes "K"); kind = note; physical = (codes "r1:1"); props = ((codes "Class", text (codes "sealed")) ∷ (note_props (codes "k") (codes "v"))); attrs = ((codes "Class", text (codes "sealed")) ∷ (note_attrs (codes "r1:1") 1 (codes "k") (codes "v"))); needs = []; deletion = deletion.Delete; replace = replace.Delete; status = held.CreateComplete; unsure = false; superseded = false } ∷ []);
-  before = (record { path = (codes "K"); kind = note; physical = (codes "r1:1"); props = ((codes "Class", text (codes "sealed")) ∷ (note_props (codes "k") (codes "v"))); attrs = ((codes "Class", text (codes "sealed")) ∷ (note_attrs (codes "r1:1") 1 (codes "k") (codes "v"))); needs = []; deletion = deletion.Delete; replace = replace.Delete; status = held.CreateComplete; unsure = false; superseded = false } ∷ []);
-  made = (record { path = (codes "K"); kind = note; physical = (codes "r1:3"); props = ((codes "Class", text (codes "plain")) ∷ (note_props (codes "k") (codes "v"))); attrs = ((codes "Class", text (codes "plain")) ∷ (note_attrs (codes "r1:3") 1 (codes "k") (codes "v"))); needs = []; deletion = deletion.Delete; replace = replace.Delete; status = held.UpdateComplete; unsure = false; superseded = false } ∷ []);
-  leftovers = [];
-  tokens = [];
-  abandoned = [];
-  source = Some (source_for (codes "s") 1 first);
-  going = Some (source_for (codes "s") 1 second);
-  outputs = [];
-  sets = [];
-  events = ((codes "event 2 - CREATE_IN_PROGRESS") ∷ (codes "event 3 K CREATE_IN_PROGRESS") ∷ (codes "event 4 K CREATE_COMPLETE") ∷ (codes "event 5 - CREATE_COMPLETE") ∷ (codes "event 6 - UPDATE_IN_PROGRESS") ∷ (codes "event 7 K UPDATE_IN_PROGRESS") ∷ (codes "event 8 K UPDATE_FAILED NotUpdatable") ∷ (codes "event 9 K CREATE_IN_PROGRESS") ∷ (codes "event 10 K CREATE_COMPLETE") ∷ []);
-  entries = (updating ∷ intended_change ∷ not_updatable ∷ intended_new ∷ made_new ∷ []);
-}
+stack_10_s = record stack_9_s { made = (k_2 ∷ []); tokens = []; events = stack_9_s.events ++ (codes "event 10 K CREATE_COMPLETE") ∷ []; entries = stack_9_s.entries ++ made_new ∷ [] }
 
 abbrev world_10 : World
-world_10 = record { stacks = (((codes "s"), stack_10_s) ∷ []); exports = []; pins = []; claims = []; lanes = (lane_pair (codes "r1") note ∷ []); epoch = 1; operation = 2; set = 0; token = 3; place = 10 }
+world_10 = record world_9 { stacks = (((codes "s"), stack_10_s) ∷ []); place = 10 }
 
 leads_10 : world_after world_9 made_new ≡ world_10
 unfolding computing
@@ -354,27 +217,14 @@ may_cleaning : MayFollow schemas world_10 [] cleaning
 unfolding computing
 may_cleaning = ((codes "s"), stack_10_s, Forward, refl, refl, (refl, (refl, sound_10, all_done_10)))
 
+abbrev k_3 : Held
+k_3 = record { path = (codes "K"); kind = note; physical = (codes "r1:1"); props = ((codes "Class", text (codes "sealed")) ∷ (note_props (codes "k") (codes "v"))); attrs = ((codes "Class", text (codes "sealed")) ∷ (note_attrs (codes "r1:1") 1 (codes "k") (codes "v"))); needs = []; deletion = deletion.Delete; replace = replace.Delete; status = held.CreateComplete; unsure = false; superseded = true }
+
 abbrev stack_11_s : StackState
-stack_11_s = record {
-  status = status.UpdateCompleteCleanupInProgress;
-  number = 1;
-  operation = 2;
-  held = (record { path = (codes "K"); kind = note; physical = (codes "r1:1"); props = ((codes "Class", text (codes "sealed")) ∷ (note_props (codes "k") (codes "v"))); attrs = ((codes "Class", text (codes "sealed")) ∷ (note_attrs (codes "r1:1") 1 (codes "k") (codes "v"))); needs = []; deletion = deletion.Delete; replace = replace.Delete; status = held.CreateComplete; unsure = false; superseded = true } ∷ record { path = (codes "K"); kind = note; physical = (codes "r1:3"); props = ((codes "Class", text (codes "plain")) ∷ (note_props (codes "k") (codes "v"))); attrs = ((codes "Class", text (codes "plain")) ∷ (note_attrs (codes "r1:3") 1 (codes "k") (codes "v"))); needs = []; deletion = deletion.Delete; replace = replace.Delete; status = held.UpdateComplete; unsure = false; superseded = false } ∷ []);
-  before = (record { path = (codes "K"); kind = note; physical = (codes "r1:1"); props = ((codes "Class", text (codes "sealed")) ∷ (note_props (codes "k") (codes "v"))); attrs = ((codes "Class", text (codes "sealed")) ∷ (note_attrs (codes "r1:1") 1 (codes "k") (codes "v"))); needs = []; deletion = deletion.Delete; replace = replace.Delete; status = held.CreateComplete; unsure = false; superseded = false } ∷ []);
-  made = [];
-  leftovers = [];
-  tokens = [];
-  abandoned = [];
-  source = Some (source_for (codes "s") 1 second);
-  going = Some (source_for (codes "s") 1 second);
-  outputs = [];
-  sets = [];
-  events = ((codes "event 2 - CREATE_IN_PROGRESS") ∷ (codes "event 3 K CREATE_IN_PROGRESS") ∷ (codes "event 4 K CREATE_COMPLETE") ∷ (codes "event 5 - CREATE_COMPLETE") ∷ (codes "event 6 - UPDATE_IN_PROGRESS") ∷ (codes "event 7 K UPDATE_IN_PROGRESS") ∷ (codes "event 8 K UPDATE_FAILED NotUpdatable") ∷ (codes "event 9 K CREATE_IN_PROGRESS") ∷ (codes "event 10 K CREATE_COMPLETE") ∷ (codes "event 11 - UPDATE_COMPLETE_CLEANUP_IN_PROGRESS") ∷ []);
-  entries = (updating ∷ intended_change ∷ not_updatable ∷ intended_new ∷ made_new ∷ cleaning ∷ []);
-}
+stack_11_s = record stack_10_s { status = status.UpdateCompleteCleanupInProgress; held = (k_3 ∷ k_2 ∷ []); made = []; source = Some (source_for (codes "s") 1 second); events = stack_10_s.events ++ (codes "event 11 - UPDATE_COMPLETE_CLEANUP_IN_PROGRESS") ∷ []; entries = stack_10_s.entries ++ cleaning ∷ [] }
 
 abbrev world_11 : World
-world_11 = record { stacks = (((codes "s"), stack_11_s) ∷ []); exports = []; pins = []; claims = []; lanes = (lane_pair (codes "r1") note ∷ []); epoch = 1; operation = 2; set = 0; token = 3; place = 11 }
+world_11 = record world_10 { stacks = (((codes "s"), stack_11_s) ∷ []); place = 11 }
 
 leads_11 : world_after world_10 cleaning ≡ world_11
 unfolding computing
@@ -385,26 +235,10 @@ unfolding computing
 may_intended_deletion = ((codes "s"), stack_11_s, Clean, refl, refl, record { next = refl; free = refl; home = refl; fits = ((codes "1", refl), refl); no_repeat = refl; chosen = (_, (here, refl, refl), refl, refl, refl) })
 
 abbrev stack_12_s : StackState
-stack_12_s = record {
-  status = status.UpdateCompleteCleanupInProgress;
-  number = 1;
-  operation = 2;
-  held = (record { path = (codes "K"); kind = note; physical = (codes "r1:1"); props = ((codes "Class", text (codes "sealed")) ∷ (note_props (codes "k") (codes "v"))); attrs = ((codes "Class", text (codes "sealed")) ∷ (note_attrs (codes "r1:1") 1 (codes "k") (codes "v"))); needs = []; deletion = deletion.Delete; replace = replace.Delete; status = held.CreateComplete; unsure = false; superseded = true } ∷ record { path = (codes "K"); kind = note; physical = (codes "r1:3"); props = ((codes "Class", text (codes "plain")) ∷ (note_props (codes "k") (codes "v"))); attrs = ((codes "Class", text (codes "plain")) ∷ (note_attrs (codes "r1:3") 1 (codes "k") (codes "v"))); needs = []; deletion = deletion.Delete; replace = replace.Delete; status = held.UpdateComplete; unsure = false; superseded = false } ∷ []);
-  before = (record { path = (codes "K"); kind = note; physical = (codes "r1:1"); props = ((codes "Class", text (codes "sealed")) ∷ (note_props (codes "k") (codes "v"))); attrs = ((codes "Class", text (codes "sealed")) ∷ (note_attrs (codes "r1:1") 1 (codes "k") (codes "v"))); needs = []; deletion = deletion.Delete; replace = replace.Delete; status = held.CreateComplete; unsure = false; superseded = false } ∷ []);
-  made = [];
-  leftovers = [];
-  tokens = (record { token = 4; path = (codes "K"); lane = (codes "r1"); request = (request.Delete (codes "r1:1")) } ∷ []);
-  abandoned = [];
-  source = Some (source_for (codes "s") 1 second);
-  going = Some (source_for (codes "s") 1 second);
-  outputs = [];
-  sets = [];
-  events = ((codes "event 2 - CREATE_IN_PROGRESS") ∷ (codes "event 3 K CREATE_IN_PROGRESS") ∷ (codes "event 4 K CREATE_COMPLETE") ∷ (codes "event 5 - CREATE_COMPLETE") ∷ (codes "event 6 - UPDATE_IN_PROGRESS") ∷ (codes "event 7 K UPDATE_IN_PROGRESS") ∷ (codes "event 8 K UPDATE_FAILED NotUpdatable") ∷ (codes "event 9 K CREATE_IN_PROGRESS") ∷ (codes "event 10 K CREATE_COMPLETE") ∷ (codes "event 11 - UPDATE_COMPLETE_CLEANUP_IN_PROGRESS") ∷ (codes "event 12 K DELETE_IN_PROGRESS") ∷ []);
-  entries = (updating ∷ intended_change ∷ not_updatable ∷ intended_new ∷ made_new ∷ cleaning ∷ intended_deletion ∷ []);
-}
+stack_12_s = record stack_11_s { tokens = (record { token = 4; path = (codes "K"); lane = (codes "r1"); request = (request.Delete (codes "r1:1")) } ∷ []); events = stack_11_s.events ++ (codes "event 12 K DELETE_IN_PROGRESS") ∷ []; entries = stack_11_s.entries ++ intended_deletion ∷ [] }
 
 abbrev world_12 : World
-world_12 = record { stacks = (((codes "s"), stack_12_s) ∷ []); exports = []; pins = []; claims = []; lanes = (lane_pair (codes "r1") note ∷ []); epoch = 1; operation = 2; set = 0; token = 4; place = 12 }
+world_12 = record world_11 { stacks = (((codes "s"), stack_12_s) ∷ []); token = 4; place = 12 }
 
 leads_12 : world_after world_11 intended_deletion ≡ world_12
 unfolding computing
@@ -415,26 +249,10 @@ unfolding computing
 may_deleted = ((codes "s"), stack_12_s, Clean, refl, refl, (refl, refl, lit≤ tt))
 
 abbrev stack_13_s : StackState
-stack_13_s = record {
-  status = status.UpdateCompleteCleanupInProgress;
-  number = 1;
-  operation = 2;
-  held = (record { path = (codes "K"); kind = note; physical = (codes "r1:3"); props = ((codes "Class", text (codes "plain")) ∷ (note_props (codes "k") (codes "v"))); attrs = ((codes "Class", text (codes "plain")) ∷ (note_attrs (codes "r1:3") 1 (codes "k") (codes "v"))); needs = []; deletion = deletion.Delete; replace = replace.Delete; status = held.UpdateComplete; unsure = false; superseded = false } ∷ []);
-  before = (record { path = (codes "K"); kind = note; physical = (codes "r1:1"); props = ((codes "Class", text (codes "sealed")) ∷ (note_props (codes "k") (codes "v"))); attrs = ((codes "Class", text (codes "sealed")) ∷ (note_attrs (codes "r1:1") 1 (codes "k") (codes "v"))); needs = []; deletion = deletion.Delete; replace = replace.Delete; status = held.CreateComplete; unsure = false; superseded = false } ∷ []);
-  made = [];
-  leftovers = [];
-  tokens = [];
-  abandoned = [];
-  source = Some (source_for (codes "s") 1 second);
-  going = Some (source_for (codes "s") 1 second);
-  outputs = [];
-  sets = [];
-  events = ((codes "event 2 - CREATE_IN_PROGRESS") ∷ (codes "event 3 K CREATE_IN_PROGRESS") ∷ (codes "event 4 K CREATE_COMPLETE") ∷ (codes "event 5 - CREATE_COMPLETE") ∷ (codes "event 6 - UPDATE_IN_PROGRESS") ∷ (codes "event 7 K UPDATE_IN_PROGRESS") ∷ (codes "event 8 K UPDATE_FAILED NotUpdatable") ∷ (codes "event 9 K CREATE_IN_PROGRESS") ∷ (codes "event 10 K CREATE_COMPLETE") ∷ (codes "event 11 - UPDATE_COMPLETE_CLEANUP_IN_PROGRESS") ∷ (codes "event 12 K DELETE_IN_PROGRESS") ∷ (codes "event 13 K DELETE_COMPLETE") ∷ []);
-  entries = (updating ∷ intended_change ∷ not_updatable ∷ intended_new ∷ made_new ∷ cleaning ∷ intended_deletion ∷ deleted ∷ []);
-}
+stack_13_s = record stack_12_s { held = (k_2 ∷ []); tokens = []; events = stack_12_s.events ++ (codes "event 13 K DELETE_COMPLETE") ∷ []; entries = stack_12_s.entries ++ deleted ∷ [] }
 
 abbrev world_13 : World
-world_13 = record { stacks = (((codes "s"), stack_13_s) ∷ []); exports = []; pins = []; claims = []; lanes = (lane_pair (codes "r1") note ∷ []); epoch = 1; operation = 2; set = 0; token = 4; place = 13 }
+world_13 = record world_12 { stacks = (((codes "s"), stack_13_s) ∷ []); place = 13 }
 
 leads_13 : world_after world_12 deleted ≡ world_13
 unfolding computing
@@ -445,26 +263,10 @@ unfolding computing
 may_updated = ((codes "s"), stack_13_s, Clean, refl, refl, (refl, end_of_clean schemas (codes "s") world_13 stack_13_s refl refl refl refl, tt, refl))
 
 abbrev stack_14_s : StackState
-stack_14_s = record {
-  status = status.UpdateComplete;
-  number = 1;
-  operation = 2;
-  held = (record { path = (codes "K"); kind = note; physical = (codes "r1:3"); props = ((codes "Class", text (codes "plain")) ∷ (note_props (codes "k") (codes "v"))); attrs = ((codes "Class", text (codes "plain")) ∷ (note_attrs (codes "r1:3") 1 (codes "k") (codes "v"))); needs = []; deletion = deletion.Delete; replace = replace.Delete; status = held.UpdateComplete; unsure = false; superseded = false } ∷ []);
-  before = (record { path = (codes "K"); kind = note; physical = (codes "r1:1"); props = ((codes "Class", text (codes "sealed")) ∷ (note_props (codes "k") (codes "v"))); attrs = ((codes "Class", text (codes "sealed")) ∷ (note_attrs (codes "r1:1") 1 (codes "k") (codes "v"))); needs = []; deletion = deletion.Delete; replace = replace.Delete; status = held.CreateComplete; unsure = false; superseded = false } ∷ []);
-  made = [];
-  leftovers = [];
-  tokens = [];
-  abandoned = [];
-  source = Some (source_for (codes "s") 1 second);
-  going = Some (source_for (codes "s") 1 second);
-  outputs = [];
-  sets = [];
-  events = ((codes "event 2 - CREATE_IN_PROGRESS") ∷ (codes "event 3 K CREATE_IN_PROGRESS") ∷ (codes "event 4 K CREATE_COMPLETE") ∷ (codes "event 5 - CREATE_COMPLETE") ∷ (codes "event 6 - UPDATE_IN_PROGRESS") ∷ (codes "event 7 K UPDATE_IN_PROGRESS") ∷ (codes "event 8 K UPDATE_FAILED NotUpdatable") ∷ (codes "event 9 K CREATE_IN_PROGRESS") ∷ (codes "event 10 K CREATE_COMPLETE") ∷ (codes "event 11 - UPDATE_COMPLETE_CLEANUP_IN_PROGRESS") ∷ (codes "event 12 K DELETE_IN_PROGRESS") ∷ (codes "event 13 K DELETE_COMPLETE") ∷ (codes "event 14 - UPDATE_COMPLETE") ∷ []);
-  entries = (updating ∷ intended_change ∷ not_updatable ∷ intended_new ∷ made_new ∷ cleaning ∷ intended_deletion ∷ deleted ∷ updated ∷ []);
-}
+stack_14_s = record stack_13_s { status = status.UpdateComplete; events = stack_13_s.events ++ (codes "event 14 - UPDATE_COMPLETE") ∷ []; entries = stack_13_s.entries ++ updated ∷ [] }
 
 abbrev world_14 : World
-world_14 = record { stacks = (((codes "s"), stack_14_s) ∷ []); exports = []; pins = []; claims = []; lanes = (lane_pair (codes "r1") note ∷ []); epoch = 1; operation = 2; set = 0; token = 4; place = 14 }
+world_14 = record world_13 { stacks = (((codes "s"), stack_14_s) ∷ []); place = 14 }
 
 leads_14 : world_after world_13 updated ≡ world_14
 unfolding computing

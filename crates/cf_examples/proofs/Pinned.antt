@@ -1,9 +1,10 @@
 -- A stack exports the length of a file, and another one imports it: an update that would change the length is taken back.
-use Rattle.std.proofs.Common.{◌≡◌, refl, List, [], ◌∷◌, Some, None, false, ℕ, inl, inr, ap, lit≤, true≢false}
+use Rattle.std.proofs.Common.{◌≡◌, refl, List, [], ◌∷◌, ◌++◌, Some, None, false, ℕ, inl, inr, ap, lit≤, true≢false}
 use Rattle.std.specs.Prelude.{codes, length}
 use Rattle.cf_desired.specs.Plan.{Plan}
 use Rattle.cf_tree.specs.declared.request.Request.TheVariants as request
 use Rattle.cf_entry.specs.declared.entry.Entry.{Entry}
+use Rattle.cf_stacks.specs.declared.held.Held.{Held}
 use Rattle.cf_stacks.specs.declared.state.World.{World}
 use Rattle.cf_stacks.specs.declared.state.StackState.{StackState}
 use Rattle.cf_stacks.specs.Fold.{empty_world, world_after, source_for}
@@ -23,7 +24,7 @@ use Rattle.cf_entry.specs.declared.entry.Begun.TheVariants as begin
 use Rattle.cf_entry.specs.declared.status.Status.TheVariants as status
 use Rattle.cf_entry.specs.declared.turn.Phase.TheVariants as phase
 use Rattle.cf_stacks.specs.declared.held.HeldStatus.TheVariants as held
-use Rattle.cf_stacks.specs.Fold.{fold_of}
+use Rattle.cf_stacks.specs.Fold.{fold_of, no_stack}
 use Rattle.cf_examples.specs.Given.{lane_pair, report_of}
 use Rattle.cf_examples.proofs.Refusing.{follows_on, legal_step, fold_step, refused_at}
 use Rattle.cf_examples.proofs.Beginning.{no_imports, one_import}
@@ -37,7 +38,7 @@ unfolding computing
 may_opened = (refl, refl, λ name s e. absurd (cc))
 
 abbrev world_1 : World
-world_1 = record { stacks = []; exports = []; pins = []; claims = []; lanes = (lane_pair (codes "f1") file ∷ lane_pair (codes "r1") note ∷ []); epoch = 1; operation = 0; set = 0; token = 0; place = 1 }
+world_1 = record world_0 { lanes = (lane_pair (codes "f1") file ∷ lane_pair (codes "r1") note ∷ []); epoch = 1; place = 1 }
 
 leads_1 : world_after world_0 opened ≡ world_1
 unfolding computing
@@ -48,26 +49,10 @@ unfolding computing
 may_begun = (refl, refl, record { no_flaw = refl; known_types = refl; same_types = refl; imports = no_imports _ _ _ _ refl refl; free = refl; not_in_use = refl; changing = inl refl })
 
 abbrev stack_2_site : StackState
-stack_2_site = record {
-  status = status.CreateInProgress;
-  number = 1;
-  operation = 1;
-  held = [];
-  before = [];
-  made = [];
-  leftovers = [];
-  tokens = [];
-  abandoned = [];
-  source = None;
-  going = Some (source_for (codes "site") 1 first);
-  outputs = [];
-  sets = [];
-  events = ((codes "event 2 - CREATE_IN_PROGRESS") ∷ []);
-  entries = (begun ∷ []);
-}
+stack_2_site = record no_stack { status = status.CreateInProgress; number = 1; operation = 1; going = Some (source_for (codes "site") 1 first); events = ((codes "event 2 - CREATE_IN_PROGRESS") ∷ []); entries = (begun ∷ []) }
 
 abbrev world_2 : World
-world_2 = record { stacks = (((codes "site"), stack_2_site) ∷ []); exports = []; pins = []; claims = (record { stack = (codes "site"); name = (codes "site-total") } ∷ []); lanes = (lane_pair (codes "f1") file ∷ lane_pair (codes "r1") note ∷ []); epoch = 1; operation = 1; set = 0; token = 0; place = 2 }
+world_2 = record world_1 { stacks = (((codes "site"), stack_2_site) ∷ []); claims = (record { stack = (codes "site"); name = (codes "site-total") } ∷ []); operation = 1; place = 2 }
 
 leads_2 : world_after world_1 begun ≡ world_2
 unfolding computing
@@ -86,26 +71,10 @@ unfolding computing
 may_intended_file = ((codes "site"), stack_2_site, Forward, refl, refl, record { next = refl; free = refl; home = refl; fits = refl; no_repeat = refl; chosen = (sound_2, ready_2_A, not_done_new (codes "A") stack_2_site refl refl refl, (refl, tt)) })
 
 abbrev stack_3_site : StackState
-stack_3_site = record {
-  status = status.CreateInProgress;
-  number = 1;
-  operation = 1;
-  held = [];
-  before = [];
-  made = [];
-  leftovers = [];
-  tokens = (record { token = 1; path = (codes "A"); lane = (codes "f1"); request = (request.Create file (file_props (codes "a") (codes "xx"))) } ∷ []);
-  abandoned = [];
-  source = None;
-  going = Some (source_for (codes "site") 1 first);
-  outputs = [];
-  sets = [];
-  events = ((codes "event 2 - CREATE_IN_PROGRESS") ∷ (codes "event 3 A CREATE_IN_PROGRESS") ∷ []);
-  entries = (begun ∷ intended_file ∷ []);
-}
+stack_3_site = record stack_2_site { tokens = (record { token = 1; path = (codes "A"); lane = (codes "f1"); request = (request.Create file (file_props (codes "a") (codes "xx"))) } ∷ []); events = stack_2_site.events ++ (codes "event 3 A CREATE_IN_PROGRESS") ∷ []; entries = stack_2_site.entries ++ intended_file ∷ [] }
 
 abbrev world_3 : World
-world_3 = record { stacks = (((codes "site"), stack_3_site) ∷ []); exports = []; pins = []; claims = (record { stack = (codes "site"); name = (codes "site-total") } ∷ []); lanes = (lane_pair (codes "f1") file ∷ lane_pair (codes "r1") note ∷ []); epoch = 1; operation = 1; set = 0; token = 1; place = 3 }
+world_3 = record world_2 { stacks = (((codes "site"), stack_3_site) ∷ []); token = 1; place = 3 }
 
 leads_3 : world_after world_2 intended_file ≡ world_3
 unfolding computing
@@ -115,27 +84,14 @@ may_made_file : MayFollow schemas world_3 (1 ∷ []) made_file
 unfolding computing
 may_made_file = ((codes "site"), stack_3_site, Forward, refl, refl, (refl, refl, lit≤ tt))
 
+abbrev a_1 : Held
+a_1 = record { path = (codes "A"); kind = file; physical = (codes "f1:1"); props = (file_props (codes "a") (codes "xx")); attrs = (file_attrs (codes "f1:1") 2 (codes "a") (codes "xx")); needs = []; deletion = deletion.Delete; replace = replace.Delete; status = held.CreateComplete; unsure = false; superseded = false }
+
 abbrev stack_4_site : StackState
-stack_4_site = record {
-  status = status.CreateInProgress;
-  number = 1;
-  operation = 1;
-  held = [];
-  before = [];
-  made = (record { path = (codes "A"); kind = file; physical = (codes "f1:1"); props = (file_props (codes "a") (codes "xx")); attrs = (file_attrs (codes "f1:1") 2 (codes "a") (codes "xx")); needs = []; deletion = deletion.Delete; replace = replace.Delete; status = held.CreateComplete; unsure = false; superseded = false } ∷ []);
-  leftovers = [];
-  tokens = [];
-  abandoned = [];
-  source = None;
-  going = Some (source_for (codes "site") 1 first);
-  outputs = [];
-  sets = [];
-  events = ((codes "event 2 - CREATE_IN_PROGRESS") ∷ (codes "event 3 A CREATE_IN_PROGRESS") ∷ (codes "event 4 A CREATE_COMPLETE") ∷ []);
-  entries = (begun ∷ intended_file ∷ made_file ∷ []);
-}
+stack_4_site = record stack_3_site { made = (a_1 ∷ []); tokens = []; events = stack_3_site.events ++ (codes "event 4 A CREATE_COMPLETE") ∷ []; entries = stack_3_site.entries ++ made_file ∷ [] }
 
 abbrev world_4 : World
-world_4 = record { stacks = (((codes "site"), stack_4_site) ∷ []); exports = []; pins = []; claims = (record { stack = (codes "site"); name = (codes "site-total") } ∷ []); lanes = (lane_pair (codes "f1") file ∷ lane_pair (codes "r1") note ∷ []); epoch = 1; operation = 1; set = 0; token = 1; place = 4 }
+world_4 = record world_3 { stacks = (((codes "site"), stack_4_site) ∷ []); place = 4 }
 
 leads_4 : world_after world_3 made_file ≡ world_4
 unfolding computing
@@ -154,26 +110,10 @@ unfolding computing
 may_created = ((codes "site"), stack_4_site, Forward, refl, refl, (refl, end_of_create schemas (codes "site") world_4 stack_4_site refl all_done_4 sound_4 refl, (sound_4, all_done_4), refl))
 
 abbrev stack_5_site : StackState
-stack_5_site = record {
-  status = status.CreateComplete;
-  number = 1;
-  operation = 1;
-  held = (record { path = (codes "A"); kind = file; physical = (codes "f1:1"); props = (file_props (codes "a") (codes "xx")); attrs = (file_attrs (codes "f1:1") 2 (codes "a") (codes "xx")); needs = []; deletion = deletion.Delete; replace = replace.Delete; status = held.CreateComplete; unsure = false; superseded = false } ∷ []);
-  before = [];
-  made = [];
-  leftovers = [];
-  tokens = [];
-  abandoned = [];
-  source = Some (source_for (codes "site") 1 first);
-  going = Some (source_for (codes "site") 1 first);
-  outputs = (record { name = (codes "Total"); value = (codes "2"); export = Some (codes "site-total") } ∷ []);
-  sets = [];
-  events = ((codes "event 2 - CREATE_IN_PROGRESS") ∷ (codes "event 3 A CREATE_IN_PROGRESS") ∷ (codes "event 4 A CREATE_COMPLETE") ∷ (codes "event 5 - CREATE_COMPLETE") ∷ []);
-  entries = (begun ∷ intended_file ∷ made_file ∷ created ∷ []);
-}
+stack_5_site = record stack_4_site { status = status.CreateComplete; held = (a_1 ∷ []); made = []; source = Some (source_for (codes "site") 1 first); outputs = (record { name = (codes "Total"); value = (codes "2"); export = Some (codes "site-total") } ∷ []); events = stack_4_site.events ++ (codes "event 5 - CREATE_COMPLETE") ∷ []; entries = stack_4_site.entries ++ created ∷ [] }
 
 abbrev world_5 : World
-world_5 = record { stacks = (((codes "site"), stack_5_site) ∷ []); exports = (record { name = (codes "site-total"); value = (codes "2"); stack = (codes "site") } ∷ []); pins = []; claims = []; lanes = (lane_pair (codes "f1") file ∷ lane_pair (codes "r1") note ∷ []); epoch = 1; operation = 1; set = 0; token = 1; place = 5 }
+world_5 = record world_4 { stacks = (((codes "site"), stack_5_site) ∷ []); exports = (record { name = (codes "site-total"); value = (codes "2"); stack = (codes "site") } ∷ []); claims = []; place = 5 }
 
 leads_5 : world_after world_4 created ≡ world_5
 unfolding computing
@@ -184,45 +124,13 @@ unfolding computing
 may_begun_user = (refl, refl, record { no_flaw = refl; known_types = refl; same_types = refl; imports = one_import _ _ _ _ (codes "site-total") (codes "2") refl refl refl (λ e. let z : 1 ≡ 0 = ap (λ (p : Plan). length p.flaws) e in cc); free = refl; not_in_use = refl; changing = inl refl })
 
 abbrev stack_6_site : StackState
-stack_6_site = record {
-  status = status.CreateComplete;
-  number = 1;
-  operation = 1;
-  held = (record { path = (codes "A"); kind = file; physical = (codes "f1:1"); props = (file_props (codes "a") (codes "xx")); attrs = (file_attrs (codes "f1:1") 2 (codes "a") (codes "xx")); needs = []; deletion = deletion.Delete; replace = replace.Delete; status = held.CreateComplete; unsure = false; superseded = false } ∷ []);
-  before = [];
-  made = [];
-  leftovers = [];
-  tokens = [];
-  abandoned = [];
-  source = Some (source_for (codes "site") 1 first);
-  going = Some (source_for (codes "site") 1 first);
-  outputs = (record { name = (codes "Total"); value = (codes "2"); export = Some (codes "site-total") } ∷ []);
-  sets = [];
-  events = ((codes "event 2 - CREATE_IN_PROGRESS") ∷ (codes "event 3 A CREATE_IN_PROGRESS") ∷ (codes "event 4 A CREATE_COMPLETE") ∷ (codes "event 5 - CREATE_COMPLETE") ∷ []);
-  entries = (begun ∷ intended_file ∷ made_file ∷ created ∷ []);
-}
+stack_6_site = stack_5_site
 
 abbrev stack_6_user : StackState
-stack_6_user = record {
-  status = status.CreateInProgress;
-  number = 2;
-  operation = 2;
-  held = [];
-  before = [];
-  made = [];
-  leftovers = [];
-  tokens = [];
-  abandoned = [];
-  source = None;
-  going = Some (source_for (codes "user") 2 importing);
-  outputs = [];
-  sets = [];
-  events = ((codes "event 6 - CREATE_IN_PROGRESS") ∷ []);
-  entries = (begun_user ∷ []);
-}
+stack_6_user = record no_stack { status = status.CreateInProgress; number = 2; operation = 2; going = Some (source_for (codes "user") 2 importing); events = ((codes "event 6 - CREATE_IN_PROGRESS") ∷ []); entries = (begun_user ∷ []) }
 
 abbrev world_6 : World
-world_6 = record { stacks = (((codes "site"), stack_6_site) ∷ ((codes "user"), stack_6_user) ∷ []); exports = (record { name = (codes "site-total"); value = (codes "2"); stack = (codes "site") } ∷ []); pins = (record { stack = (codes "user"); name = (codes "site-total") } ∷ []); claims = []; lanes = (lane_pair (codes "f1") file ∷ lane_pair (codes "r1") note ∷ []); epoch = 1; operation = 2; set = 0; token = 1; place = 6 }
+world_6 = record world_5 { stacks = (((codes "site"), stack_6_site) ∷ ((codes "user"), stack_6_user) ∷ []); pins = (record { stack = (codes "user"); name = (codes "site-total") } ∷ []); operation = 2; place = 6 }
 
 leads_6 : world_after world_5 begun_user ≡ world_6
 unfolding computing
@@ -241,45 +149,13 @@ unfolding computing
 may_intended_record = ((codes "user"), stack_6_user, Forward, refl, refl, record { next = refl; free = refl; home = refl; fits = refl; no_repeat = refl; chosen = (sound_6, ready_6_U, not_done_new (codes "U") stack_6_user refl refl refl, (refl, tt)) })
 
 abbrev stack_7_site : StackState
-stack_7_site = record {
-  status = status.CreateComplete;
-  number = 1;
-  operation = 1;
-  held = (record { path = (codes "A"); kind = file; physical = (codes "f1:1"); props = (file_props (codes "a") (codes "xx")); attrs = (file_attrs (codes "f1:1") 2 (codes "a") (codes "xx")); needs = []; deletion = deletion.Delete; replace = replace.Delete; status = held.CreateComplete; unsure = false; superseded = false } ∷ []);
-  before = [];
-  made = [];
-  leftovers = [];
-  tokens = [];
-  abandoned = [];
-  source = Some (source_for (codes "site") 1 first);
-  going = Some (source_for (codes "site") 1 first);
-  outputs = (record { name = (codes "Total"); value = (codes "2"); export = Some (codes "site-total") } ∷ []);
-  sets = [];
-  events = ((codes "event 2 - CREATE_IN_PROGRESS") ∷ (codes "event 3 A CREATE_IN_PROGRESS") ∷ (codes "event 4 A CREATE_COMPLETE") ∷ (codes "event 5 - CREATE_COMPLETE") ∷ []);
-  entries = (begun ∷ intended_file ∷ made_file ∷ created ∷ []);
-}
+stack_7_site = stack_6_site
 
 abbrev stack_7_user : StackState
-stack_7_user = record {
-  status = status.CreateInProgress;
-  number = 2;
-  operation = 2;
-  held = [];
-  before = [];
-  made = [];
-  leftovers = [];
-  tokens = (record { token = 2; path = (codes "U"); lane = (codes "r1"); request = (request.Create note (note_props (codes "u") (codes "2"))) } ∷ []);
-  abandoned = [];
-  source = None;
-  going = Some (source_for (codes "user") 2 importing);
-  outputs = [];
-  sets = [];
-  events = ((codes "event 6 - CREATE_IN_PROGRESS") ∷ (codes "event 7 U CREATE_IN_PROGRESS") ∷ []);
-  entries = (begun_user ∷ intended_record ∷ []);
-}
+stack_7_user = record stack_6_user { tokens = (record { token = 2; path = (codes "U"); lane = (codes "r1"); request = (request.Create note (note_props (codes "u") (codes "2"))) } ∷ []); events = stack_6_user.events ++ (codes "event 7 U CREATE_IN_PROGRESS") ∷ []; entries = stack_6_user.entries ++ intended_record ∷ [] }
 
 abbrev world_7 : World
-world_7 = record { stacks = (((codes "site"), stack_7_site) ∷ ((codes "user"), stack_7_user) ∷ []); exports = (record { name = (codes "site-total"); value = (codes "2"); stack = (codes "site") } ∷ []); pins = (record { stack = (codes "user"); name = (codes "site-total") } ∷ []); claims = []; lanes = (lane_pair (codes "f1") file ∷ lane_pair (codes "r1") note ∷ []); epoch = 1; operation = 2; set = 0; token = 2; place = 7 }
+world_7 = record world_6 { stacks = (((codes "site"), stack_7_site) ∷ ((codes "user"), stack_7_user) ∷ []); token = 2; place = 7 }
 
 leads_7 : world_after world_6 intended_record ≡ world_7
 unfolding computing
@@ -290,45 +166,16 @@ unfolding computing
 may_made_record = ((codes "user"), stack_7_user, Forward, refl, refl, (refl, refl, lit≤ tt))
 
 abbrev stack_8_site : StackState
-stack_8_site = record {
-  status = status.CreateComplete;
-  number = 1;
-  operation = 1;
-  held = (record { path = (codes "A"); kind = file; physical = (codes "f1:1"); props = (file_props (codes "a") (codes "xx")); attrs = (file_attrs (codes "f1:1") 2 (codes "a") (codes "xx")); needs = []; deletion = deletion.Delete; replace = replace.Delete; status = held.CreateComplete; unsure = false; superseded = false } ∷ []);
-  before = [];
-  made = [];
-  leftovers = [];
-  tokens = [];
-  abandoned = [];
-  source = Some (source_for (codes "site") 1 first);
-  going = Some (source_for (codes "site") 1 first);
-  outputs = (record { name = (codes "Total"); value = (codes "2"); export = Some (codes "site-total") } ∷ []);
-  sets = [];
-  events = ((codes "event 2 - CREATE_IN_PROGRESS") ∷ (codes "event 3 A CREATE_IN_PROGRESS") ∷ (codes "event 4 A CREATE_COMPLETE") ∷ (codes "event 5 - CREATE_COMPLETE") ∷ []);
-  entries = (begun ∷ intended_file ∷ made_file ∷ created ∷ []);
-}
+stack_8_site = stack_7_site
+
+abbrev u_1 : Held
+u_1 = record { path = (codes "U"); kind = note; physical = (codes "r1:2"); props = (note_props (codes "u") (codes "2")); attrs = (note_attrs (codes "r1:2") 1 (codes "u") (codes "2")); needs = []; deletion = deletion.Delete; replace = replace.Delete; status = held.CreateComplete; unsure = false; superseded = false }
 
 abbrev stack_8_user : StackState
-stack_8_user = record {
-  status = status.CreateInProgress;
-  number = 2;
-  operation = 2;
-  held = [];
-  before = [];
-  made = (record { path = (codes "U"); kind = note; physical = (codes "r1:2"); props = (note_props (codes "u") (codes "2")); attrs = (note_attrs (codes "r1:2") 1 (codes "u") (codes "2")); needs = []; deletion = deletion.Delete; replace = replace.Delete; status = held.CreateComplete; unsure = false; superseded = false } ∷ []);
-  leftovers = [];
-  tokens = [];
-  abandoned = [];
-  source = None;
-  going = Some (source_for (codes "user") 2 importing);
-  outputs = [];
-  sets = [];
-  events = ((codes "event 6 - CREATE_IN_PROGRESS") ∷ (codes "event 7 U CREATE_IN_PROGRESS") ∷ (codes "event 8 U CREATE_COMPLETE") ∷ []);
-  entries = (begun_user ∷ intended_record ∷ made_record ∷ []);
-}
+stack_8_user = record stack_7_user { made = (u_1 ∷ []); tokens = []; events = stack_7_user.events ++ (codes "event 8 U CREATE_COMPLETE") ∷ []; entries = stack_7_user.entries ++ made_record ∷ [] }
 
 abbrev world_8 : World
-world_8 = record { stacks = (((codes "site"), stack_8_site) ∷ ((codes "user"), stack_8_user) ∷ []); exports = (record { name = (codes "site-total"); value = (codes "2"); stack = (codes "site") } ∷ []); pins = (record { stack = (codes "user"); name = (codes "site-total") } ∷ []); claims = []; lanes = (lane_pair (codes "f1") file ∷ lane_pair (codes "r1") note ∷ []); epoch = 1; operation = 2; set = 0; token = 2; place = 8 }
+world_8 = record world_7 { stacks = (((codes "site"), stack_8_site) ∷ ((codes "user"), stack_8_user) ∷ []); place = 8 }
 
 leads_8 : world_after world_7 made_record ≡ world_8
 unfolding computing
@@ -347,45 +194,13 @@ unfolding computing
 may_created_user = ((codes "user"), stack_8_user, Forward, refl, refl, (refl, end_of_create schemas (codes "user") world_8 stack_8_user refl all_done_8 sound_8 refl, (sound_8, all_done_8), refl))
 
 abbrev stack_9_site : StackState
-stack_9_site = record {
-  status = status.CreateComplete;
-  number = 1;
-  operation = 1;
-  held = (record { path = (codes "A"); kind = file; physical = (codes "f1:1"); props = (file_props (codes "a") (codes "xx")); attrs = (file_attrs (codes "f1:1") 2 (codes "a") (codes "xx")); needs = []; deletion = deletion.Delete; replace = replace.Delete; status = held.CreateComplete; unsure = false; superseded = false } ∷ []);
-  before = [];
-  made = [];
-  leftovers = [];
-  tokens = [];
-  abandoned = [];
-  source = Some (source_for (codes "site") 1 first);
-  going = Some (source_for (codes "site") 1 first);
-  outputs = (record { name = (codes "Total"); value = (codes "2"); export = Some (codes "site-total") } ∷ []);
-  sets = [];
-  events = ((codes "event 2 - CREATE_IN_PROGRESS") ∷ (codes "event 3 A CREATE_IN_PROGRESS") ∷ (codes "event 4 A CREATE_COMPLETE") ∷ (codes "event 5 - CREATE_COMPLETE") ∷ []);
-  entries = (begun ∷ intended_file ∷ made_file ∷ created ∷ []);
-}
+stack_9_site = stack_8_site
 
 abbrev stack_9_user : StackState
-stack_9_user = record {
-  status = status.CreateComplete;
-  number = 2;
-  operation = 2;
-  held = (record { path = (codes "U"); kind = note; physical = (codes "r1:2"); props = (note_props (codes "u") (codes "2")); attrs = (note_attrs (codes "r1:2") 1 (codes "u") (codes "2")); needs = []; deletion = deletion.Delete; replace = replace.Delete; status = held.CreateComplete; unsure = false; superseded = false } ∷ []);
-  before = [];
-  made = [];
-  leftovers = [];
-  tokens = [];
-  abandoned = [];
-  source = Some (source_for (codes "user") 2 importing);
-  going = Some (source_for (codes "user") 2 importing);
-  outputs = [];
-  sets = [];
-  events = ((codes "event 6 - CREATE_IN_PROGRESS") ∷ (codes "event 7 U CREATE_IN_PROGRESS") ∷ (codes "event 8 U CREATE_COMPLETE") ∷ (codes "event 9 - CREATE_COMPLETE") ∷ []);
-  entries = (begun_user ∷ intended_record ∷ made_record ∷ created_user ∷ []);
-}
+stack_9_user = record stack_8_user { status = status.CreateComplete; held = (u_1 ∷ []); made = []; source = Some (source_for (codes "user") 2 importing); events = stack_8_user.events ++ (codes "event 9 - CREATE_COMPLETE") ∷ []; entries = stack_8_user.entries ++ created_user ∷ [] }
 
 abbrev world_9 : World
-world_9 = record { stacks = (((codes "site"), stack_9_site) ∷ ((codes "user"), stack_9_user) ∷ []); exports = (record { name = (codes "site-total"); value = (codes "2"); stack = (codes "site") } ∷ []); pins = (record { stack = (codes "user"); name = (codes "site-total") } ∷ []); claims = []; lanes = (lane_pair (codes "f1") file ∷ lane_pair (codes "r1") note ∷ []); epoch = 1; operation = 2; set = 0; token = 2; place = 9 }
+world_9 = record world_8 { stacks = (((codes "site"), stack_9_site) ∷ ((codes "user"), stack_9_user) ∷ []); place = 9 }
 
 leads_9 : world_after world_8 created_user ≡ world_9
 unfolding computing
@@ -396,45 +211,13 @@ unfolding computing
 may_updating = (refl, refl, record { no_flaw = refl; known_types = refl; same_types = refl; imports = no_imports _ _ _ _ refl refl; free = refl; not_in_use = refl; changing = inr (inl refl) })
 
 abbrev stack_10_site : StackState
-stack_10_site = record {
-  status = status.UpdateInProgress;
-  number = 1;
-  operation = 3;
-  held = (record { path = (codes "A"); kind = file; physical = (codes "f1:1"); props = (file_props (codes "a") (codes "xx")); attrs = (file_attrs (codes "f1:1") 2 (codes "a") (codes "xx")); needs = []; deletion = deletion.Delete; replace = replace.Delete; status = held.CreateComplete; unsure = false; superseded = false } ∷ []);
-  before = (record { path = (codes "A"); kind = file; physical = (codes "f1:1"); props = (file_props (codes "a") (codes "xx")); attrs = (file_attrs (codes "f1:1") 2 (codes "a") (codes "xx")); needs = []; deletion = deletion.Delete; replace = replace.Delete; status = held.CreateComplete; unsure = false; superseded = false } ∷ []);
-  made = [];
-  leftovers = [];
-  tokens = [];
-  abandoned = [];
-  source = Some (source_for (codes "site") 1 first);
-  going = Some (source_for (codes "site") 1 second);
-  outputs = (record { name = (codes "Total"); value = (codes "2"); export = Some (codes "site-total") } ∷ []);
-  sets = [];
-  events = ((codes "event 2 - CREATE_IN_PROGRESS") ∷ (codes "event 3 A CREATE_IN_PROGRESS") ∷ (codes "event 4 A CREATE_COMPLETE") ∷ (codes "event 5 - CREATE_COMPLETE") ∷ (codes "event 10 - UPDATE_IN_PROGRESS") ∷ []);
-  entries = (updating ∷ []);
-}
+stack_10_site = record stack_9_site { status = status.UpdateInProgress; operation = 3; before = (a_1 ∷ []); going = Some (source_for (codes "site") 1 second); events = stack_9_site.events ++ (codes "event 10 - UPDATE_IN_PROGRESS") ∷ []; entries = (updating ∷ []) }
 
 abbrev stack_10_user : StackState
-stack_10_user = record {
-  status = status.CreateComplete;
-  number = 2;
-  operation = 2;
-  held = (record { path = (codes "U"); kind = note; physical = (codes "r1:2"); props = (note_props (codes "u") (codes "2")); attrs = (note_attrs (codes "r1:2") 1 (codes "u") (codes "2")); needs = []; deletion = deletion.Delete; replace = replace.Delete; status = held.CreateComplete; unsure = false; superseded = false } ∷ []);
-  before = [];
-  made = [];
-  leftovers = [];
-  tokens = [];
-  abandoned = [];
-  source = Some (source_for (codes "user") 2 importing);
-  going = Some (source_for (codes "user") 2 importing);
-  outputs = [];
-  sets = [];
-  events = ((codes "event 6 - CREATE_IN_PROGRESS") ∷ (codes "event 7 U CREATE_IN_PROGRESS") ∷ (codes "event 8 U CREATE_COMPLETE") ∷ (codes "event 9 - CREATE_COMPLETE") ∷ []);
-  entries = (begun_user ∷ intended_record ∷ made_record ∷ created_user ∷ []);
-}
+stack_10_user = stack_9_user
 
 abbrev world_10 : World
-world_10 = record { stacks = (((codes "site"), stack_10_site) ∷ ((codes "user"), stack_10_user) ∷ []); exports = (record { name = (codes "site-total"); value = (codes "2"); stack = (codes "site") } ∷ []); pins = (record { stack = (codes "user"); name = (codes "site-total") } ∷ []); claims = (record { stack = (codes "site"); name = (codes "site-total") } ∷ []); lanes = (lane_pair (codes "f1") file ∷ lane_pair (codes "r1") note ∷ []); epoch = 1; operation = 3; set = 0; token = 2; place = 10 }
+world_10 = record world_9 { stacks = (((codes "site"), stack_10_site) ∷ ((codes "user"), stack_10_user) ∷ []); claims = (record { stack = (codes "site"); name = (codes "site-total") } ∷ []); operation = 3; place = 10 }
 
 leads_10 : world_after world_9 updating ≡ world_10
 unfolding computing
@@ -453,45 +236,13 @@ unfolding computing
 may_intended_change = ((codes "site"), stack_10_site, Forward, refl, refl, record { next = refl; free = refl; home = refl; fits = ((codes "1", refl), refl); no_repeat = refl; chosen = (sound_10, ready_10_A, not_done_other (codes "A") stack_10_site (same_at (codes "Content") (codes "xx")) _ _ _ refl refl refl refl refl refl, (_, refl, refl, refl, ((λ e. let z : Update ≡ Replace = e in cc), inr (λ e. let z : Update ≡ Same = e in cc)), refl)) })
 
 abbrev stack_11_site : StackState
-stack_11_site = record {
-  status = status.UpdateInProgress;
-  number = 1;
-  operation = 3;
-  held = (record { path = (codes "A"); kind = file; physical = (codes "f1:1"); props = (file_props (codes "a") (codes "xx")); attrs = (file_attrs (codes "f1:1") 2 (codes "a") (codes "xx")); needs = []; deletion = deletion.Delete; replace = replace.Delete; status = held.CreateComplete; unsure = false; superseded = false } ∷ []);
-  before = (record { path = (codes "A"); kind = file; physical = (codes "f1:1"); props = (file_props (codes "a") (codes "xx")); attrs = (file_attrs (codes "f1:1") 2 (codes "a") (codes "xx")); needs = []; deletion = deletion.Delete; replace = replace.Delete; status = held.CreateComplete; unsure = false; superseded = false } ∷ []);
-  made = [];
-  leftovers = [];
-  tokens = (record { token = 3; path = (codes "A"); lane = (codes "f1"); request = (request.Update (codes "f1:1") (file_props (codes "a") (codes "xxx"))) } ∷ []);
-  abandoned = [];
-  source = Some (source_for (codes "site") 1 first);
-  going = Some (source_for (codes "site") 1 second);
-  outputs = (record { name = (codes "Total"); value = (codes "2"); export = Some (codes "site-total") } ∷ []);
-  sets = [];
-  events = ((codes "event 2 - CREATE_IN_PROGRESS") ∷ (codes "event 3 A CREATE_IN_PROGRESS") ∷ (codes "event 4 A CREATE_COMPLETE") ∷ (codes "event 5 - CREATE_COMPLETE") ∷ (codes "event 10 - UPDATE_IN_PROGRESS") ∷ (codes "event 11 A UPDATE_IN_PROGRESS") ∷ []);
-  entries = (updating ∷ intended_change ∷ []);
-}
+stack_11_site = record stack_10_site { tokens = (record { token = 3; path = (codes "A"); lane = (codes "f1"); request = (request.Update (codes "f1:1") (file_props (codes "a") (codes "xxx"))) } ∷ []); events = stack_10_site.events ++ (codes "event 11 A UPDATE_IN_PROGRESS") ∷ []; entries = stack_10_site.entries ++ intended_change ∷ [] }
 
 abbrev stack_11_user : StackState
-stack_11_user = record {
-  status = status.CreateComplete;
-  number = 2;
-  operation = 2;
-  held = (record { path = (codes "U"); kind = note; physical = (codes "r1:2"); props = (note_props (codes "u") (codes "2")); attrs = (note_attrs (codes "r1:2") 1 (codes "u") (codes "2")); needs = []; deletion = deletion.Delete; replace = replace.Delete; status = held.CreateComplete; unsure = false; superseded = false } ∷ []);
-  before = [];
-  made = [];
-  leftovers = [];
-  tokens = [];
-  abandoned = [];
-  source = Some (source_for (codes "user") 2 importing);
-  going = Some (source_for (codes "user") 2 importing);
-  outputs = [];
-  sets = [];
-  events = ((codes "event 6 - CREATE_IN_PROGRESS") ∷ (codes "event 7 U CREATE_IN_PROGRESS") ∷ (codes "event 8 U CREATE_COMPLETE") ∷ (codes "event 9 - CREATE_COMPLETE") ∷ []);
-  entries = (begun_user ∷ intended_record ∷ made_record ∷ created_user ∷ []);
-}
+stack_11_user = stack_10_user
 
 abbrev world_11 : World
-world_11 = record { stacks = (((codes "site"), stack_11_site) ∷ ((codes "user"), stack_11_user) ∷ []); exports = (record { name = (codes "site-total"); value = (codes "2"); stack = (codes "site") } ∷ []); pins = (record { stack = (codes "user"); name = (codes "site-total") } ∷ []); claims = (record { stack = (codes "site"); name = (codes "site-total") } ∷ []); lanes = (lane_pair (codes "f1") file ∷ lane_pair (codes "r1") note ∷ []); epoch = 1; operation = 3; set = 0; token = 3; place = 11 }
+world_11 = record world_10 { stacks = (((codes "site"), stack_11_site) ∷ ((codes "user"), stack_11_user) ∷ []); token = 3; place = 11 }
 
 leads_11 : world_after world_10 intended_change ≡ world_11
 unfolding computing
@@ -501,46 +252,17 @@ may_changed : MayFollow schemas world_11 (3 ∷ []) changed
 unfolding computing
 may_changed = ((codes "site"), stack_11_site, Forward, refl, refl, (refl, refl, lit≤ tt))
 
+abbrev a_2 : Held
+a_2 = record { path = (codes "A"); kind = file; physical = (codes "f1:1"); props = (file_props (codes "a") (codes "xxx")); attrs = (file_attrs (codes "f1:1") 3 (codes "a") (codes "xxx")); needs = []; deletion = deletion.Delete; replace = replace.Delete; status = held.UpdateComplete; unsure = false; superseded = false }
+
 abbrev stack_12_site : StackState
-stack_12_site = record {
-  status = status.UpdateInProgress;
-  number = 1;
-  operation = 3;
-  held = (record { path = (codes "A"); kind = file; physical = (codes "f1:1"); props = (file_props (codes "a") (codes "xxx")); attrs = (file_attrs (codes "f1:1") 3 (codes "a") (codes "xxx")); needs = []; deletion = deletion.Delete; replace = replace.Delete; status = held.UpdateComplete; unsure = false; superseded = false } ∷ []);
-  before = (record { path = (codes "A"); kind = file; physical = (codes "f1:1"); props = (file_props (codes "a") (codes "xx")); attrs = (file_attrs (codes "f1:1") 2 (codes "a") (codes "xx")); needs = []; deletion = deletion.Delete; replace = replace.Delete; status = held.CreateComplete; unsure = false; superseded = false } ∷ []);
-  made = [];
-  leftovers = [];
-  tokens = [];
-  abandoned = [];
-  source = Some (source_for (codes "site") 1 first);
-  going = Some (source_for (codes "site") 1 second);
-  outputs = (record { name = (codes "Total"); value = (codes "2"); export = Some (codes "site-total") } ∷ []);
-  sets = [];
-  events = ((codes "event 2 - CREATE_IN_PROGRESS") ∷ (codes "event 3 A CREATE_IN_PROGRESS") ∷ (codes "event 4 A CREATE_COMPLETE") ∷ (codes "event 5 - CREATE_COMPLETE") ∷ (codes "event 10 - UPDATE_IN_PROGRESS") ∷ (codes "event 11 A UPDATE_IN_PROGRESS") ∷ (codes "event 12 A UPDATE_COMPLETE") ∷ []);
-  entries = (updating ∷ intended_change ∷ changed ∷ []);
-}
+stack_12_site = record stack_11_site { held = (a_2 ∷ []); tokens = []; events = stack_11_site.events ++ (codes "event 12 A UPDATE_COMPLETE") ∷ []; entries = stack_11_site.entries ++ changed ∷ [] }
 
 abbrev stack_12_user : StackState
-stack_12_user = record {
-  status = status.CreateComplete;
-  number = 2;
-  operation = 2;
-  held = (record { path = (codes "U"); kind = note; physical = (codes "r1:2"); props = (note_props (codes "u") (codes "2")); attrs = (note_attrs (codes "r1:2") 1 (codes "u") (codes "2")); needs = []; deletion = deletion.Delete; replace = replace.Delete; status = held.CreateComplete; unsure = false; superseded = false } ∷ []);
-  before = [];
-  made = [];
-  leftovers = [];
-  tokens = [];
-  abandoned = [];
-  source = Some (source_for (codes "user") 2 importing);
-  going = Some (source_for (codes "user") 2 importing);
-  outputs = [];
-  sets = [];
-  events = ((codes "event 6 - CREATE_IN_PROGRESS") ∷ (codes "event 7 U CREATE_IN_PROGRESS") ∷ (codes "event 8 U CREATE_COMPLETE") ∷ (codes "event 9 - CREATE_COMPLETE") ∷ []);
-  entries = (begun_user ∷ intended_record ∷ made_record ∷ created_user ∷ []);
-}
+stack_12_user = stack_11_user
 
 abbrev world_12 : World
-world_12 = record { stacks = (((codes "site"), stack_12_site) ∷ ((codes "user"), stack_12_user) ∷ []); exports = (record { name = (codes "site-total"); value = (codes "2"); stack = (codes "site") } ∷ []); pins = (record { stack = (codes "user"); name = (codes "site-total") } ∷ []); claims = (record { stack = (codes "site"); name = (codes "site-total") } ∷ []); lanes = (lane_pair (codes "f1") file ∷ lane_pair (codes "r1") note ∷ []); epoch = 1; operation = 3; set = 0; token = 3; place = 12 }
+world_12 = record world_11 { stacks = (((codes "site"), stack_12_site) ∷ ((codes "user"), stack_12_user) ∷ []); place = 12 }
 
 leads_12 : world_after world_11 changed ≡ world_12
 unfolding computing
@@ -555,45 +277,13 @@ unfolding computing
 may_turned = ((codes "site"), stack_12_site, Forward, refl, refl, (refl, (refl, inr (inr (inr (codes "site-total", (all_done_12, refl)))), (refl, no_bad stack_12_site refl refl, no_bad_output stack_12_site refl, (all_done_12, refl)))))
 
 abbrev stack_13_site : StackState
-stack_13_site = record {
-  status = status.UpdateRollbackInProgress;
-  number = 1;
-  operation = 3;
-  held = (record { path = (codes "A"); kind = file; physical = (codes "f1:1"); props = (file_props (codes "a") (codes "xxx")); attrs = (file_attrs (codes "f1:1") 3 (codes "a") (codes "xxx")); needs = []; deletion = deletion.Delete; replace = replace.Delete; status = held.UpdateComplete; unsure = false; superseded = false } ∷ []);
-  before = (record { path = (codes "A"); kind = file; physical = (codes "f1:1"); props = (file_props (codes "a") (codes "xx")); attrs = (file_attrs (codes "f1:1") 2 (codes "a") (codes "xx")); needs = []; deletion = deletion.Delete; replace = replace.Delete; status = held.CreateComplete; unsure = false; superseded = false } ∷ []);
-  made = [];
-  leftovers = [];
-  tokens = [];
-  abandoned = [];
-  source = Some (source_for (codes "site") 1 first);
-  going = Some (source_for (codes "site") 1 second);
-  outputs = (record { name = (codes "Total"); value = (codes "2"); export = Some (codes "site-total") } ∷ []);
-  sets = [];
-  events = ((codes "event 2 - CREATE_IN_PROGRESS") ∷ (codes "event 3 A CREATE_IN_PROGRESS") ∷ (codes "event 4 A CREATE_COMPLETE") ∷ (codes "event 5 - CREATE_COMPLETE") ∷ (codes "event 10 - UPDATE_IN_PROGRESS") ∷ (codes "event 11 A UPDATE_IN_PROGRESS") ∷ (codes "event 12 A UPDATE_COMPLETE") ∷ (codes "event 13 - UPDATE_ROLLBACK_IN_PROGRESS") ∷ []);
-  entries = (updating ∷ intended_change ∷ changed ∷ turned ∷ []);
-}
+stack_13_site = record stack_12_site { status = status.UpdateRollbackInProgress; events = stack_12_site.events ++ (codes "event 13 - UPDATE_ROLLBACK_IN_PROGRESS") ∷ []; entries = stack_12_site.entries ++ turned ∷ [] }
 
 abbrev stack_13_user : StackState
-stack_13_user = record {
-  status = status.CreateComplete;
-  number = 2;
-  operation = 2;
-  held = (record { path = (codes "U"); kind = note; physical = (codes "r1:2"); props = (note_props (codes "u") (codes "2")); attrs = (note_attrs (codes "r1:2") 1 (codes "u") (codes "2")); needs = []; deletion = deletion.Delete; replace = replace.Delete; status = held.CreateComplete; unsure = false; superseded = false } ∷ []);
-  before = [];
-  made = [];
-  leftovers = [];
-  tokens = [];
-  abandoned = [];
-  source = Some (source_for (codes "user") 2 importing);
-  going = Some (source_for (codes "user") 2 importing);
-  outputs = [];
-  sets = [];
-  events = ((codes "event 6 - CREATE_IN_PROGRESS") ∷ (codes "event 7 U CREATE_IN_PROGRESS") ∷ (codes "event 8 U CREATE_COMPLETE") ∷ (codes "event 9 - CREATE_COMPLETE") ∷ []);
-  entries = (begun_user ∷ intended_record ∷ made_record ∷ created_user ∷ []);
-}
+stack_13_user = stack_12_user
 
 abbrev world_13 : World
-world_13 = record { stacks = (((codes "site"), stack_13_site) ∷ ((codes "user"), stack_13_user) ∷ []); exports = (record { name = (codes "site-total"); value = (codes "2"); stack = (codes "site") } ∷ []); pins = (record { stack = (codes "user"); name = (codes "site-total") } ∷ []); claims = (record { stack = (codes "site"); name = (codes "site-total") } ∷ []); lanes = (lane_pair (codes "f1") file ∷ lane_pair (codes "r1") note ∷ []); epoch = 1; operation = 3; set = 0; token = 3; place = 13 }
+world_13 = record world_12 { stacks = (((codes "site"), stack_13_site) ∷ ((codes "user"), stack_13_user) ∷ []); place = 13 }
 
 leads_13 : world_after world_12 turned ≡ world_13
 unfolding computing
@@ -604,45 +294,13 @@ unfolding computing
 may_intended_restore = ((codes "site"), stack_13_site, Back, refl, refl, record { next = refl; free = refl; home = refl; fits = ((codes "1", refl), refl); no_repeat = refl; chosen = inr (refl, _, (here, refl, refl, refl), refl, refl, refl, refl) })
 
 abbrev stack_14_site : StackState
-stack_14_site = record {
-  status = status.UpdateRollbackInProgress;
-  number = 1;
-  operation = 3;
-  held = (record { path = (codes "A"); kind = file; physical = (codes "f1:1"); props = (file_props (codes "a") (codes "xxx")); attrs = (file_attrs (codes "f1:1") 3 (codes "a") (codes "xxx")); needs = []; deletion = deletion.Delete; replace = replace.Delete; status = held.UpdateComplete; unsure = false; superseded = false } ∷ []);
-  before = (record { path = (codes "A"); kind = file; physical = (codes "f1:1"); props = (file_props (codes "a") (codes "xx")); attrs = (file_attrs (codes "f1:1") 2 (codes "a") (codes "xx")); needs = []; deletion = deletion.Delete; replace = replace.Delete; status = held.CreateComplete; unsure = false; superseded = false } ∷ []);
-  made = [];
-  leftovers = [];
-  tokens = (record { token = 4; path = (codes "A"); lane = (codes "f1"); request = (request.Update (codes "f1:1") (file_props (codes "a") (codes "xx"))) } ∷ []);
-  abandoned = [];
-  source = Some (source_for (codes "site") 1 first);
-  going = Some (source_for (codes "site") 1 second);
-  outputs = (record { name = (codes "Total"); value = (codes "2"); export = Some (codes "site-total") } ∷ []);
-  sets = [];
-  events = ((codes "event 2 - CREATE_IN_PROGRESS") ∷ (codes "event 3 A CREATE_IN_PROGRESS") ∷ (codes "event 4 A CREATE_COMPLETE") ∷ (codes "event 5 - CREATE_COMPLETE") ∷ (codes "event 10 - UPDATE_IN_PROGRESS") ∷ (codes "event 11 A UPDATE_IN_PROGRESS") ∷ (codes "event 12 A UPDATE_COMPLETE") ∷ (codes "event 13 - UPDATE_ROLLBACK_IN_PROGRESS") ∷ (codes "event 14 A UPDATE_IN_PROGRESS") ∷ []);
-  entries = (updating ∷ intended_change ∷ changed ∷ turned ∷ intended_restore ∷ []);
-}
+stack_14_site = record stack_13_site { tokens = (record { token = 4; path = (codes "A"); lane = (codes "f1"); request = (request.Update (codes "f1:1") (file_props (codes "a") (codes "xx"))) } ∷ []); events = stack_13_site.events ++ (codes "event 14 A UPDATE_IN_PROGRESS") ∷ []; entries = stack_13_site.entries ++ intended_restore ∷ [] }
 
 abbrev stack_14_user : StackState
-stack_14_user = record {
-  status = status.CreateComplete;
-  number = 2;
-  operation = 2;
-  held = (record { path = (codes "U"); kind = note; physical = (codes "r1:2"); props = (note_props (codes "u") (codes "2")); attrs = (note_attrs (codes "r1:2") 1 (codes "u") (codes "2")); needs = []; deletion = deletion.Delete; replace = replace.Delete; status = held.CreateComplete; unsure = false; superseded = false } ∷ []);
-  before = [];
-  made = [];
-  leftovers = [];
-  tokens = [];
-  abandoned = [];
-  source = Some (source_for (codes "user") 2 importing);
-  going = Some (source_for (codes "user") 2 importing);
-  outputs = [];
-  sets = [];
-  events = ((codes "event 6 - CREATE_IN_PROGRESS") ∷ (codes "event 7 U CREATE_IN_PROGRESS") ∷ (codes "event 8 U CREATE_COMPLETE") ∷ (codes "event 9 - CREATE_COMPLETE") ∷ []);
-  entries = (begun_user ∷ intended_record ∷ made_record ∷ created_user ∷ []);
-}
+stack_14_user = stack_13_user
 
 abbrev world_14 : World
-world_14 = record { stacks = (((codes "site"), stack_14_site) ∷ ((codes "user"), stack_14_user) ∷ []); exports = (record { name = (codes "site-total"); value = (codes "2"); stack = (codes "site") } ∷ []); pins = (record { stack = (codes "user"); name = (codes "site-total") } ∷ []); claims = (record { stack = (codes "site"); name = (codes "site-total") } ∷ []); lanes = (lane_pair (codes "f1") file ∷ lane_pair (codes "r1") note ∷ []); epoch = 1; operation = 3; set = 0; token = 4; place = 14 }
+world_14 = record world_13 { stacks = (((codes "site"), stack_14_site) ∷ ((codes "user"), stack_14_user) ∷ []); token = 4; place = 14 }
 
 leads_14 : world_after world_13 intended_restore ≡ world_14
 unfolding computing
@@ -652,46 +310,17 @@ may_restored : MayFollow schemas world_14 (4 ∷ []) restored
 unfolding computing
 may_restored = ((codes "site"), stack_14_site, Back, refl, refl, (refl, refl, lit≤ tt))
 
+abbrev a_3 : Held
+a_3 = record { path = (codes "A"); kind = file; physical = (codes "f1:1"); props = (file_props (codes "a") (codes "xx")); attrs = (file_attrs (codes "f1:1") 2 (codes "a") (codes "xx")); needs = []; deletion = deletion.Delete; replace = replace.Delete; status = held.UpdateComplete; unsure = false; superseded = false }
+
 abbrev stack_15_site : StackState
-stack_15_site = record {
-  status = status.UpdateRollbackInProgress;
-  number = 1;
-  operation = 3;
-  held = (record { path = (codes "A"); kind = file; physical = (codes "f1:1"); props = (file_props (codes "a") (codes "xx")); attrs = (file_attrs (codes "f1:1") 2 (codes "a") (codes "xx")); needs = []; deletion = deletion.Delete; replace = replace.Delete; status = held.UpdateComplete; unsure = false; superseded = false } ∷ []);
-  before = (record { path = (codes "A"); kind = file; physical = (codes "f1:1"); props = (file_props (codes "a") (codes "xx")); attrs = (file_attrs (codes "f1:1") 2 (codes "a") (codes "xx")); needs = []; deletion = deletion.Delete; replace = replace.Delete; status = held.CreateComplete; unsure = false; superseded = false } ∷ []);
-  made = [];
-  leftovers = [];
-  tokens = [];
-  abandoned = [];
-  source = Some (source_for (codes "site") 1 first);
-  going = Some (source_for (codes "site") 1 second);
-  outputs = (record { name = (codes "Total"); value = (codes "2"); export = Some (codes "site-total") } ∷ []);
-  sets = [];
-  events = ((codes "event 2 - CREATE_IN_PROGRESS") ∷ (codes "event 3 A CREATE_IN_PROGRESS") ∷ (codes "event 4 A CREATE_COMPLETE") ∷ (codes "event 5 - CREATE_COMPLETE") ∷ (codes "event 10 - UPDATE_IN_PROGRESS") ∷ (codes "event 11 A UPDATE_IN_PROGRESS") ∷ (codes "event 12 A UPDATE_COMPLETE") ∷ (codes "event 13 - UPDATE_ROLLBACK_IN_PROGRESS") ∷ (codes "event 14 A UPDATE_IN_PROGRESS") ∷ (codes "event 15 A UPDATE_COMPLETE") ∷ []);
-  entries = (updating ∷ intended_change ∷ changed ∷ turned ∷ intended_restore ∷ restored ∷ []);
-}
+stack_15_site = record stack_14_site { held = (a_3 ∷ []); tokens = []; events = stack_14_site.events ++ (codes "event 15 A UPDATE_COMPLETE") ∷ []; entries = stack_14_site.entries ++ restored ∷ [] }
 
 abbrev stack_15_user : StackState
-stack_15_user = record {
-  status = status.CreateComplete;
-  number = 2;
-  operation = 2;
-  held = (record { path = (codes "U"); kind = note; physical = (codes "r1:2"); props = (note_props (codes "u") (codes "2")); attrs = (note_attrs (codes "r1:2") 1 (codes "u") (codes "2")); needs = []; deletion = deletion.Delete; replace = replace.Delete; status = held.CreateComplete; unsure = false; superseded = false } ∷ []);
-  before = [];
-  made = [];
-  leftovers = [];
-  tokens = [];
-  abandoned = [];
-  source = Some (source_for (codes "user") 2 importing);
-  going = Some (source_for (codes "user") 2 importing);
-  outputs = [];
-  sets = [];
-  events = ((codes "event 6 - CREATE_IN_PROGRESS") ∷ (codes "event 7 U CREATE_IN_PROGRESS") ∷ (codes "event 8 U CREATE_COMPLETE") ∷ (codes "event 9 - CREATE_COMPLETE") ∷ []);
-  entries = (begun_user ∷ intended_record ∷ made_record ∷ created_user ∷ []);
-}
+stack_15_user = stack_14_user
 
 abbrev world_15 : World
-world_15 = record { stacks = (((codes "site"), stack_15_site) ∷ ((codes "user"), stack_15_user) ∷ []); exports = (record { name = (codes "site-total"); value = (codes "2"); stack = (codes "site") } ∷ []); pins = (record { stack = (codes "user"); name = (codes "site-total") } ∷ []); claims = (record { stack = (codes "site"); name = (codes "site-total") } ∷ []); lanes = (lane_pair (codes "f1") file ∷ lane_pair (codes "r1") note ∷ []); epoch = 1; operation = 3; set = 0; token = 4; place = 15 }
+world_15 = record world_14 { stacks = (((codes "site"), stack_15_site) ∷ ((codes "user"), stack_15_user) ∷ []); place = 15 }
 
 leads_15 : world_after world_14 restored ≡ world_15
 unfolding computing
@@ -702,45 +331,13 @@ unfolding computing
 may_cleaning = ((codes "site"), stack_15_site, Back, refl, refl, (refl, (refl, refl, nothing_to_restore stack_15_site refl, refl)))
 
 abbrev stack_16_site : StackState
-stack_16_site = record {
-  status = status.UpdateRollbackCompleteCleanupInProgress;
-  number = 1;
-  operation = 3;
-  held = (record { path = (codes "A"); kind = file; physical = (codes "f1:1"); props = (file_props (codes "a") (codes "xx")); attrs = (file_attrs (codes "f1:1") 2 (codes "a") (codes "xx")); needs = []; deletion = deletion.Delete; replace = replace.Delete; status = held.UpdateComplete; unsure = false; superseded = false } ∷ []);
-  before = (record { path = (codes "A"); kind = file; physical = (codes "f1:1"); props = (file_props (codes "a") (codes "xx")); attrs = (file_attrs (codes "f1:1") 2 (codes "a") (codes "xx")); needs = []; deletion = deletion.Delete; replace = replace.Delete; status = held.CreateComplete; unsure = false; superseded = false } ∷ []);
-  made = [];
-  leftovers = [];
-  tokens = [];
-  abandoned = [];
-  source = Some (source_for (codes "site") 1 first);
-  going = Some (source_for (codes "site") 1 second);
-  outputs = (record { name = (codes "Total"); value = (codes "2"); export = Some (codes "site-total") } ∷ []);
-  sets = [];
-  events = ((codes "event 2 - CREATE_IN_PROGRESS") ∷ (codes "event 3 A CREATE_IN_PROGRESS") ∷ (codes "event 4 A CREATE_COMPLETE") ∷ (codes "event 5 - CREATE_COMPLETE") ∷ (codes "event 10 - UPDATE_IN_PROGRESS") ∷ (codes "event 11 A UPDATE_IN_PROGRESS") ∷ (codes "event 12 A UPDATE_COMPLETE") ∷ (codes "event 13 - UPDATE_ROLLBACK_IN_PROGRESS") ∷ (codes "event 14 A UPDATE_IN_PROGRESS") ∷ (codes "event 15 A UPDATE_COMPLETE") ∷ (codes "event 16 - UPDATE_ROLLBACK_COMPLETE_CLEANUP_IN_PROGRESS") ∷ []);
-  entries = (updating ∷ intended_change ∷ changed ∷ turned ∷ intended_restore ∷ restored ∷ cleaning ∷ []);
-}
+stack_16_site = record stack_15_site { status = status.UpdateRollbackCompleteCleanupInProgress; events = stack_15_site.events ++ (codes "event 16 - UPDATE_ROLLBACK_COMPLETE_CLEANUP_IN_PROGRESS") ∷ []; entries = stack_15_site.entries ++ cleaning ∷ [] }
 
 abbrev stack_16_user : StackState
-stack_16_user = record {
-  status = status.CreateComplete;
-  number = 2;
-  operation = 2;
-  held = (record { path = (codes "U"); kind = note; physical = (codes "r1:2"); props = (note_props (codes "u") (codes "2")); attrs = (note_attrs (codes "r1:2") 1 (codes "u") (codes "2")); needs = []; deletion = deletion.Delete; replace = replace.Delete; status = held.CreateComplete; unsure = false; superseded = false } ∷ []);
-  before = [];
-  made = [];
-  leftovers = [];
-  tokens = [];
-  abandoned = [];
-  source = Some (source_for (codes "user") 2 importing);
-  going = Some (source_for (codes "user") 2 importing);
-  outputs = [];
-  sets = [];
-  events = ((codes "event 6 - CREATE_IN_PROGRESS") ∷ (codes "event 7 U CREATE_IN_PROGRESS") ∷ (codes "event 8 U CREATE_COMPLETE") ∷ (codes "event 9 - CREATE_COMPLETE") ∷ []);
-  entries = (begun_user ∷ intended_record ∷ made_record ∷ created_user ∷ []);
-}
+stack_16_user = stack_15_user
 
 abbrev world_16 : World
-world_16 = record { stacks = (((codes "site"), stack_16_site) ∷ ((codes "user"), stack_16_user) ∷ []); exports = (record { name = (codes "site-total"); value = (codes "2"); stack = (codes "site") } ∷ []); pins = (record { stack = (codes "user"); name = (codes "site-total") } ∷ []); claims = (record { stack = (codes "site"); name = (codes "site-total") } ∷ []); lanes = (lane_pair (codes "f1") file ∷ lane_pair (codes "r1") note ∷ []); epoch = 1; operation = 3; set = 0; token = 4; place = 16 }
+world_16 = record world_15 { stacks = (((codes "site"), stack_16_site) ∷ ((codes "user"), stack_16_user) ∷ []); place = 16 }
 
 leads_16 : world_after world_15 cleaning ≡ world_16
 unfolding computing
@@ -751,45 +348,13 @@ unfolding computing
 may_rolled_back = ((codes "site"), stack_16_site, BackClean, refl, refl, (refl, end_of_back_clean schemas (codes "site") world_16 stack_16_site refl refl refl, tt, refl))
 
 abbrev stack_17_site : StackState
-stack_17_site = record {
-  status = status.UpdateRollbackComplete;
-  number = 1;
-  operation = 3;
-  held = (record { path = (codes "A"); kind = file; physical = (codes "f1:1"); props = (file_props (codes "a") (codes "xx")); attrs = (file_attrs (codes "f1:1") 2 (codes "a") (codes "xx")); needs = []; deletion = deletion.Delete; replace = replace.Delete; status = held.UpdateComplete; unsure = false; superseded = false } ∷ []);
-  before = (record { path = (codes "A"); kind = file; physical = (codes "f1:1"); props = (file_props (codes "a") (codes "xx")); attrs = (file_attrs (codes "f1:1") 2 (codes "a") (codes "xx")); needs = []; deletion = deletion.Delete; replace = replace.Delete; status = held.CreateComplete; unsure = false; superseded = false } ∷ []);
-  made = [];
-  leftovers = [];
-  tokens = [];
-  abandoned = [];
-  source = Some (source_for (codes "site") 1 first);
-  going = Some (source_for (codes "site") 1 second);
-  outputs = (record { name = (codes "Total"); value = (codes "2"); export = Some (codes "site-total") } ∷ []);
-  sets = [];
-  events = ((codes "event 2 - CREATE_IN_PROGRESS") ∷ (codes "event 3 A CREATE_IN_PROGRESS") ∷ (codes "event 4 A CREATE_COMPLETE") ∷ (codes "event 5 - CREATE_COMPLETE") ∷ (codes "event 10 - UPDATE_IN_PROGRESS") ∷ (codes "event 11 A UPDATE_IN_PROGRESS") ∷ (codes "event 12 A UPDATE_COMPLETE") ∷ (codes "event 13 - UPDATE_ROLLBACK_IN_PROGRESS") ∷ (codes "event 14 A UPDATE_IN_PROGRESS") ∷ (codes "event 15 A UPDATE_COMPLETE") ∷ (codes "event 16 - UPDATE_ROLLBACK_COMPLETE_CLEANUP_IN_PROGRESS") ∷ (codes "event 17 - UPDATE_ROLLBACK_COMPLETE") ∷ []);
-  entries = (updating ∷ intended_change ∷ changed ∷ turned ∷ intended_restore ∷ restored ∷ cleaning ∷ rolled_back ∷ []);
-}
+stack_17_site = record stack_16_site { status = status.UpdateRollbackComplete; events = stack_16_site.events ++ (codes "event 17 - UPDATE_ROLLBACK_COMPLETE") ∷ []; entries = stack_16_site.entries ++ rolled_back ∷ [] }
 
 abbrev stack_17_user : StackState
-stack_17_user = record {
-  status = status.CreateComplete;
-  number = 2;
-  operation = 2;
-  held = (record { path = (codes "U"); kind = note; physical = (codes "r1:2"); props = (note_props (codes "u") (codes "2")); attrs = (note_attrs (codes "r1:2") 1 (codes "u") (codes "2")); needs = []; deletion = deletion.Delete; replace = replace.Delete; status = held.CreateComplete; unsure = false; superseded = false } ∷ []);
-  before = [];
-  made = [];
-  leftovers = [];
-  tokens = [];
-  abandoned = [];
-  source = Some (source_for (codes "user") 2 importing);
-  going = Some (source_for (codes "user") 2 importing);
-  outputs = [];
-  sets = [];
-  events = ((codes "event 6 - CREATE_IN_PROGRESS") ∷ (codes "event 7 U CREATE_IN_PROGRESS") ∷ (codes "event 8 U CREATE_COMPLETE") ∷ (codes "event 9 - CREATE_COMPLETE") ∷ []);
-  entries = (begun_user ∷ intended_record ∷ made_record ∷ created_user ∷ []);
-}
+stack_17_user = stack_16_user
 
 abbrev world_17 : World
-world_17 = record { stacks = (((codes "site"), stack_17_site) ∷ ((codes "user"), stack_17_user) ∷ []); exports = (record { name = (codes "site-total"); value = (codes "2"); stack = (codes "site") } ∷ []); pins = (record { stack = (codes "user"); name = (codes "site-total") } ∷ []); claims = []; lanes = (lane_pair (codes "f1") file ∷ lane_pair (codes "r1") note ∷ []); epoch = 1; operation = 3; set = 0; token = 4; place = 17 }
+world_17 = record world_16 { stacks = (((codes "site"), stack_17_site) ∷ ((codes "user"), stack_17_user) ∷ []); claims = []; place = 17 }
 
 leads_17 : world_after world_16 rolled_back ≡ world_17
 unfolding computing

@@ -1,8 +1,9 @@
 -- A file is replaced: the record that refers to it is updated to the new id, and the old file is deleted in the cleanup (worked in the order of the calls).
-use Rattle.std.proofs.Common.{◌≡◌, refl, List, [], ◌∷◌, Some, None, true, false, ℕ, inl, inr, ap, lit≤, true≢false}
+use Rattle.std.proofs.Common.{◌≡◌, refl, List, [], ◌∷◌, ◌++◌, Some, None, true, false, ℕ, inl, inr, ap, lit≤, true≢false}
 use Rattle.std.specs.Prelude.{codes}
 use Rattle.cf_tree.specs.declared.request.Request.TheVariants as request
 use Rattle.cf_entry.specs.declared.entry.Entry.{Entry}
+use Rattle.cf_stacks.specs.declared.held.Held.{Held}
 use Rattle.cf_stacks.specs.declared.state.World.{World}
 use Rattle.cf_stacks.specs.declared.state.StackState.{StackState}
 use Rattle.cf_stacks.specs.Fold.{empty_world, world_after, source_for}
@@ -22,7 +23,7 @@ use Rattle.cf_entry.specs.declared.entry.Reply.TheVariants as reply
 use Rattle.cf_entry.specs.declared.status.Status.TheVariants as status
 use Rattle.cf_entry.specs.declared.turn.Phase.TheVariants as phase
 use Rattle.cf_stacks.specs.declared.held.HeldStatus.TheVariants as held
-use Rattle.cf_stacks.specs.Fold.{fold_of}
+use Rattle.cf_stacks.specs.Fold.{fold_of, no_stack}
 use Rattle.cf_examples.specs.Given.{lane_pair, report_of}
 use Rattle.cf_examples.proofs.Refusing.{follows_on, follows_none, legal_step, fold_step, refused_at}
 use Rattle.cf_examples.proofs.Beginning.{no_imports}
@@ -36,7 +37,7 @@ unfolding computing
 may_opened = (refl, refl, λ name s e. absurd (cc))
 
 abbrev world_1 : World
-world_1 = record { stacks = []; exports = []; pins = []; claims = []; lanes = (lane_pair (codes "f1") file ∷ lane_pair (codes "r1") note ∷ []); epoch = 1; operation = 0; set = 0; token = 0; place = 1 }
+world_1 = record world_0 { lanes = (lane_pair (codes "f1") file ∷ lane_pair (codes "r1") note ∷ []); epoch = 1; place = 1 }
 
 leads_1 : world_after world_0 opened ≡ world_1
 unfolding computing
@@ -47,26 +48,10 @@ unfolding computing
 may_begun = (refl, refl, record { no_flaw = refl; known_types = refl; same_types = refl; imports = no_imports _ _ _ _ refl refl; free = refl; not_in_use = refl; changing = inl refl })
 
 abbrev stack_2_app : StackState
-stack_2_app = record {
-  status = status.CreateInProgress;
-  number = 1;
-  operation = 1;
-  held = [];
-  before = [];
-  made = [];
-  leftovers = [];
-  tokens = [];
-  abandoned = [];
-  source = None;
-  going = Some (source_for (codes "app") 1 first);
-  outputs = [];
-  sets = [];
-  events = ((codes "event 2 - CREATE_IN_PROGRESS") ∷ []);
-  entries = (begun ∷ []);
-}
+stack_2_app = record no_stack { status = status.CreateInProgress; number = 1; operation = 1; going = Some (source_for (codes "app") 1 first); events = ((codes "event 2 - CREATE_IN_PROGRESS") ∷ []); entries = (begun ∷ []) }
 
 abbrev world_2 : World
-world_2 = record { stacks = (((codes "app"), stack_2_app) ∷ []); exports = []; pins = []; claims = []; lanes = (lane_pair (codes "f1") file ∷ lane_pair (codes "r1") note ∷ []); epoch = 1; operation = 1; set = 0; token = 0; place = 2 }
+world_2 = record world_1 { stacks = (((codes "app"), stack_2_app) ∷ []); operation = 1; place = 2 }
 
 leads_2 : world_after world_1 begun ≡ world_2
 unfolding computing
@@ -85,26 +70,10 @@ unfolding computing
 may_intended_web = ((codes "app"), stack_2_app, Forward, refl, refl, record { next = refl; free = refl; home = refl; fits = refl; no_repeat = refl; chosen = (sound_2, ready_2_Web, not_done_new (codes "Web") stack_2_app refl refl refl, (refl, tt)) })
 
 abbrev stack_3_app : StackState
-stack_3_app = record {
-  status = status.CreateInProgress;
-  number = 1;
-  operation = 1;
-  held = [];
-  before = [];
-  made = [];
-  leftovers = [];
-  tokens = (record { token = 1; path = (codes "Web"); lane = (codes "f1"); request = (request.Create file (file_props (codes "web.txt") (codes "x"))) } ∷ []);
-  abandoned = [];
-  source = None;
-  going = Some (source_for (codes "app") 1 first);
-  outputs = [];
-  sets = [];
-  events = ((codes "event 2 - CREATE_IN_PROGRESS") ∷ (codes "event 3 Web CREATE_IN_PROGRESS") ∷ []);
-  entries = (begun ∷ intended_web ∷ []);
-}
+stack_3_app = record stack_2_app { tokens = (record { token = 1; path = (codes "Web"); lane = (codes "f1"); request = (request.Create file (file_props (codes "web.txt") (codes "x"))) } ∷ []); events = stack_2_app.events ++ (codes "event 3 Web CREATE_IN_PROGRESS") ∷ []; entries = stack_2_app.entries ++ intended_web ∷ [] }
 
 abbrev world_3 : World
-world_3 = record { stacks = (((codes "app"), stack_3_app) ∷ []); exports = []; pins = []; claims = []; lanes = (lane_pair (codes "f1") file ∷ lane_pair (codes "r1") note ∷ []); epoch = 1; operation = 1; set = 0; token = 1; place = 3 }
+world_3 = record world_2 { stacks = (((codes "app"), stack_3_app) ∷ []); token = 1; place = 3 }
 
 leads_3 : world_after world_2 intended_web ≡ world_3
 unfolding computing
@@ -114,27 +83,14 @@ may_made_web : MayFollow schemas world_3 (1 ∷ []) made_web
 unfolding computing
 may_made_web = ((codes "app"), stack_3_app, Forward, refl, refl, (refl, refl, lit≤ tt))
 
+abbrev web_1 : Held
+web_1 = record { path = (codes "Web"); kind = file; physical = (codes "f1:1"); props = (file_props (codes "web.txt") (codes "x")); attrs = (file_attrs (codes "f1:1") 1 (codes "web.txt") (codes "x")); needs = []; deletion = deletion.Delete; replace = replace.Delete; status = held.CreateComplete; unsure = false; superseded = false }
+
 abbrev stack_4_app : StackState
-stack_4_app = record {
-  status = status.CreateInProgress;
-  number = 1;
-  operation = 1;
-  held = [];
-  before = [];
-  made = (record { path = (codes "Web"); kind = file; physical = (codes "f1:1"); props = (file_props (codes "web.txt") (codes "x")); attrs = (file_attrs (codes "f1:1") 1 (codes "web.txt") (codes "x")); needs = []; deletion = deletion.Delete; replace = replace.Delete; status = held.CreateComplete; unsure = false; superseded = false } ∷ []);
-  leftovers = [];
-  tokens = [];
-  abandoned = [];
-  source = None;
-  going = Some (source_for (codes "app") 1 first);
-  outputs = [];
-  sets = [];
-  events = ((codes "event 2 - CREATE_IN_PROGRESS") ∷ (codes "event 3 Web CREATE_IN_PROGRESS") ∷ (codes "event 4 Web CREATE_COMPLETE") ∷ []);
-  entries = (begun ∷ intended_web ∷ made_web ∷ []);
-}
+stack_4_app = record stack_3_app { made = (web_1 ∷ []); tokens = []; events = stack_3_app.events ++ (codes "event 4 Web CREATE_COMPLETE") ∷ []; entries = stack_3_app.entries ++ made_web ∷ [] }
 
 abbrev world_4 : World
-world_4 = record { stacks = (((codes "app"), stack_4_app) ∷ []); exports = []; pins = []; claims = []; lanes = (lane_pair (codes "f1") file ∷ lane_pair (codes "r1") note ∷ []); epoch = 1; operation = 1; set = 0; token = 1; place = 4 }
+world_4 = record world_3 { stacks = (((codes "app"), stack_4_app) ∷ []); place = 4 }
 
 leads_4 : world_after world_3 made_web ≡ world_4
 unfolding computing
@@ -153,26 +109,10 @@ unfolding computing
 may_intended_ptr = ((codes "app"), stack_4_app, Forward, refl, refl, record { next = refl; free = refl; home = refl; fits = refl; no_repeat = refl; chosen = (sound_4, ready_4_Ptr, not_done_new (codes "Ptr") stack_4_app refl refl refl, (refl, tt)) })
 
 abbrev stack_5_app : StackState
-stack_5_app = record {
-  status = status.CreateInProgress;
-  number = 1;
-  operation = 1;
-  held = [];
-  before = [];
-  made = (record { path = (codes "Web"); kind = file; physical = (codes "f1:1"); props = (file_props (codes "web.txt") (codes "x")); attrs = (file_attrs (codes "f1:1") 1 (codes "web.txt") (codes "x")); needs = []; deletion = deletion.Delete; replace = replace.Delete; status = held.CreateComplete; unsure = false; superseded = false } ∷ []);
-  leftovers = [];
-  tokens = (record { token = 2; path = (codes "Ptr"); lane = (codes "r1"); request = (request.Create note (note_props (codes "p") (codes "f1:1"))) } ∷ []);
-  abandoned = [];
-  source = None;
-  going = Some (source_for (codes "app") 1 first);
-  outputs = [];
-  sets = [];
-  events = ((codes "event 2 - CREATE_IN_PROGRESS") ∷ (codes "event 3 Web CREATE_IN_PROGRESS") ∷ (codes "event 4 Web CREATE_COMPLETE") ∷ (codes "event 5 Ptr CREATE_IN_PROGRESS") ∷ []);
-  entries = (begun ∷ intended_web ∷ made_web ∷ intended_ptr ∷ []);
-}
+stack_5_app = record stack_4_app { tokens = (record { token = 2; path = (codes "Ptr"); lane = (codes "r1"); request = (request.Create note (note_props (codes "p") (codes "f1:1"))) } ∷ []); events = stack_4_app.events ++ (codes "event 5 Ptr CREATE_IN_PROGRESS") ∷ []; entries = stack_4_app.entries ++ intended_ptr ∷ [] }
 
 abbrev world_5 : World
-world_5 = record { stacks = (((codes "app"), stack_5_app) ∷ []); exports = []; pins = []; claims = []; lanes = (lane_pair (codes "f1") file ∷ lane_pair (codes "r1") note ∷ []); epoch = 1; operation = 1; set = 0; token = 2; place = 5 }
+world_5 = record world_4 { stacks = (((codes "app"), stack_5_app) ∷ []); token = 2; place = 5 }
 
 leads_5 : world_after world_4 intended_ptr ≡ world_5
 unfolding computing
@@ -182,27 +122,14 @@ may_made_ptr : MayFollow schemas world_5 (2 ∷ []) made_ptr
 unfolding computing
 may_made_ptr = ((codes "app"), stack_5_app, Forward, refl, refl, (refl, refl, lit≤ tt))
 
+abbrev ptr_1 : Held
+ptr_1 = record { path = (codes "Ptr"); kind = note; physical = (codes "r1:2"); props = (note_props (codes "p") (codes "f1:1")); attrs = (note_attrs (codes "r1:2") 4 (codes "p") (codes "f1:1")); needs = ((codes "Web") ∷ []); deletion = deletion.Delete; replace = replace.Delete; status = held.CreateComplete; unsure = false; superseded = false }
+
 abbrev stack_6_app : StackState
-stack_6_app = record {
-  status = status.CreateInProgress;
-  number = 1;
-  operation = 1;
-  held = [];
-  before = [];
-  made = (record { path = (codes "Web"); kind = file; physical = (codes "f1:1"); props = (file_props (codes "web.txt") (codes "x")); attrs = (file_attrs (codes "f1:1") 1 (codes "web.txt") (codes "x")); needs = []; deletion = deletion.Delete; replace = replace.Delete; status = held.CreateComplete; unsure = false; superseded = false } ∷ record { path = (codes "Ptr"); kind = note; physical = (codes "r1:2"); props = (note_props (codes "p") (codes "f1:1")); attrs = (note_attrs (codes "r1:2") 4 (codes "p") (codes "f1:1")); needs = ((codes "Web") ∷ []); deletion = deletion.Delete; replace = replace.Delete; status = held.CreateComplete; unsure = false; superseded = false } ∷ []);
-  leftovers = [];
-  tokens = [];
-  abandoned = [];
-  source = None;
-  going = Some (source_for (codes "app") 1 first);
-  outputs = [];
-  sets = [];
-  events = ((codes "event 2 - CREATE_IN_PROGRESS") ∷ (codes "event 3 Web CREATE_IN_PROGRESS") ∷ (codes "event 4 Web CREATE_COMPLETE") ∷ (codes "event 5 Ptr CREATE_IN_PROGRESS") ∷ (codes "event 6 Ptr CREATE_COMPLETE") ∷ []);
-  entries = (begun ∷ intended_web ∷ made_web ∷ intended_ptr ∷ made_ptr ∷ []);
-}
+stack_6_app = record stack_5_app { made = (web_1 ∷ ptr_1 ∷ []); tokens = []; events = stack_5_app.events ++ (codes "event 6 Ptr CREATE_COMPLETE") ∷ []; entries = stack_5_app.entries ++ made_ptr ∷ [] }
 
 abbrev world_6 : World
-world_6 = record { stacks = (((codes "app"), stack_6_app) ∷ []); exports = []; pins = []; claims = []; lanes = (lane_pair (codes "f1") file ∷ lane_pair (codes "r1") note ∷ []); epoch = 1; operation = 1; set = 0; token = 2; place = 6 }
+world_6 = record world_5 { stacks = (((codes "app"), stack_6_app) ∷ []); place = 6 }
 
 leads_6 : world_after world_5 made_ptr ≡ world_6
 unfolding computing
@@ -221,26 +148,10 @@ unfolding computing
 may_created = ((codes "app"), stack_6_app, Forward, refl, refl, (refl, end_of_create schemas (codes "app") world_6 stack_6_app refl all_done_6 sound_6 refl, (sound_6, all_done_6), refl))
 
 abbrev stack_7_app : StackState
-stack_7_app = record {
-  status = status.CreateComplete;
-  number = 1;
-  operation = 1;
-  held = (record { path = (codes "Web"); kind = file; physical = (codes "f1:1"); props = (file_props (codes "web.txt") (codes "x")); attrs = (file_attrs (codes "f1:1") 1 (codes "web.txt") (codes "x")); needs = []; deletion = deletion.Delete; replace = replace.Delete; status = held.CreateComplete; unsure = false; superseded = false } ∷ record { path = (codes "Ptr"); kind = note; physical = (codes "r1:2"); props = (note_props (codes "p") (codes "f1:1")); attrs = (note_attrs (codes "r1:2") 4 (codes "p") (codes "f1:1")); needs = ((codes "Web") ∷ []); deletion = deletion.Delete; replace = replace.Delete; status = held.CreateComplete; unsure = false; superseded = false } ∷ []);
-  before = [];
-  made = [];
-  leftovers = [];
-  tokens = [];
-  abandoned = [];
-  source = Some (source_for (codes "app") 1 first);
-  going = Some (source_for (codes "app") 1 first);
-  outputs = [];
-  sets = [];
-  events = ((codes "event 2 - CREATE_IN_PROGRESS") ∷ (codes "event 3 Web CREATE_IN_PROGRESS") ∷ (codes "event 4 Web CREATE_COMPLETE") ∷ (codes "event 5 Ptr CREATE_IN_PROGRESS") ∷ (codes "event 6 Ptr CREATE_COMPLETE") ∷ (codes "event 7 - CREATE_COMPLETE") ∷ []);
-  entries = (begun ∷ intended_web ∷ made_web ∷ intended_ptr ∷ made_ptr ∷ created ∷ []);
-}
+stack_7_app = record stack_6_app { status = status.CreateComplete; held = (web_1 ∷ ptr_1 ∷ []); made = []; source = Some (source_for (codes "app") 1 first); events = stack_6_app.events ++ (codes "event 7 - CREATE_COMPLETE") ∷ []; entries = stack_6_app.entries ++ created ∷ [] }
 
 abbrev world_7 : World
-world_7 = record { stacks = (((codes "app"), stack_7_app) ∷ []); exports = []; pins = []; claims = []; lanes = (lane_pair (codes "f1") file ∷ lane_pair (codes "r1") note ∷ []); epoch = 1; operation = 1; set = 0; token = 2; place = 7 }
+world_7 = record world_6 { stacks = (((codes "app"), stack_7_app) ∷ []); place = 7 }
 
 leads_7 : world_after world_6 created ≡ world_7
 unfolding computing
@@ -251,26 +162,10 @@ unfolding computing
 may_updating = (refl, refl, record { no_flaw = refl; known_types = refl; same_types = refl; imports = no_imports _ _ _ _ refl refl; free = refl; not_in_use = refl; changing = inr (inl refl) })
 
 abbrev stack_8_app : StackState
-stack_8_app = record {
-  status = status.UpdateInProgress;
-  number = 1;
-  operation = 2;
-  held = (record { path = (codes "Web"); kind = file; physical = (codes "f1:1"); props = (file_props (codes "web.txt") (codes "x")); attrs = (file_attrs (codes "f1:1") 1 (codes "web.txt") (codes "x")); needs = []; deletion = deletion.Delete; replace = replace.Delete; status = held.CreateComplete; unsure = false; superseded = false } ∷ record { path = (codes "Ptr"); kind = note; physical = (codes "r1:2"); props = (note_props (codes "p") (codes "f1:1")); attrs = (note_attrs (codes "r1:2") 4 (codes "p") (codes "f1:1")); needs = ((codes "Web") ∷ []); deletion = deletion.Delete; replace = replace.Delete; status = held.CreateComplete; unsure = false; superseded = false } ∷ []);
-  before = (record { path = (codes "Web"); kind = file; physical = (codes "f1:1"); props = (file_props (codes "web.txt") (codes "x")); attrs = (file_attrs (codes "f1:1") 1 (codes "web.txt") (codes "x")); needs = []; deletion = deletion.Delete; replace = replace.Delete; status = held.CreateComplete; unsure = false; superseded = false } ∷ record { path = (codes "Ptr"); kind = note; physical = (codes "r1:2"); props = (note_props (codes "p") (codes "f1:1")); attrs = (note_attrs (codes "r1:2") 4 (codes "p") (codes "f1:1")); needs = ((codes "Web") ∷ []); deletion = deletion.Delete; replace = replace.Delete; status = held.CreateComplete; unsure = false; superseded = false } ∷ []);
-  made = [];
-  leftovers = [];
-  tokens = [];
-  abandoned = [];
-  source = Some (source_for (codes "app") 1 first);
-  going = Some (source_for (codes "app") 1 second);
-  outputs = [];
-  sets = [];
-  events = ((codes "event 2 - CREATE_IN_PROGRESS") ∷ (codes "event 3 Web CREATE_IN_PROGRESS") ∷ (codes "event 4 Web CREATE_COMPLETE") ∷ (codes "event 5 Ptr CREATE_IN_PROGRESS") ∷ (codes "event 6 Ptr CREATE_COMPLETE") ∷ (codes "event 7 - CREATE_COMPLETE") ∷ (codes "event 8 - UPDATE_IN_PROGRESS") ∷ []);
-  entries = (updating ∷ []);
-}
+stack_8_app = record stack_7_app { status = status.UpdateInProgress; operation = 2; before = (web_1 ∷ ptr_1 ∷ []); going = Some (source_for (codes "app") 1 second); events = stack_7_app.events ++ (codes "event 8 - UPDATE_IN_PROGRESS") ∷ []; entries = (updating ∷ []) }
 
 abbrev world_8 : World
-world_8 = record { stacks = (((codes "app"), stack_8_app) ∷ []); exports = []; pins = []; claims = []; lanes = (lane_pair (codes "f1") file ∷ lane_pair (codes "r1") note ∷ []); epoch = 1; operation = 2; set = 0; token = 2; place = 8 }
+world_8 = record world_7 { stacks = (((codes "app"), stack_8_app) ∷ []); operation = 2; place = 8 }
 
 leads_8 : world_after world_7 updating ≡ world_8
 unfolding computing
@@ -289,26 +184,10 @@ unfolding computing
 may_intended_new = ((codes "app"), stack_8_app, Forward, refl, refl, record { next = refl; free = refl; home = refl; fits = refl; no_repeat = refl; chosen = (sound_8, ready_8_Web, not_done_other (codes "Web") stack_8_app (same_at (codes "Path") (codes "web.txt")) _ _ _ refl refl refl refl refl refl, (refl, inl refl)) })
 
 abbrev stack_9_app : StackState
-stack_9_app = record {
-  status = status.UpdateInProgress;
-  number = 1;
-  operation = 2;
-  held = (record { path = (codes "Web"); kind = file; physical = (codes "f1:1"); props = (file_props (codes "web.txt") (codes "x")); attrs = (file_attrs (codes "f1:1") 1 (codes "web.txt") (codes "x")); needs = []; deletion = deletion.Delete; replace = replace.Delete; status = held.CreateComplete; unsure = false; superseded = false } ∷ record { path = (codes "Ptr"); kind = note; physical = (codes "r1:2"); props = (note_props (codes "p") (codes "f1:1")); attrs = (note_attrs (codes "r1:2") 4 (codes "p") (codes "f1:1")); needs = ((codes "Web") ∷ []); deletion = deletion.Delete; replace = replace.Delete; status = held.CreateComplete; unsure = false; superseded = false } ∷ []);
-  before = (record { path = (codes "Web"); kind = file; physical = (codes "f1:1"); props = (file_props (codes "web.txt") (codes "x")); attrs = (file_attrs (codes "f1:1") 1 (codes "web.txt") (codes "x")); needs = []; deletion = deletion.Delete; replace = replace.Delete; status = held.CreateComplete; unsure = false; superseded = false } ∷ record { path = (codes "Ptr"); kind = note; physical = (codes "r1:2"); props = (note_props (codes "p") (codes "f1:1")); attrs = (note_attrs (codes "r1:2") 4 (codes "p") (codes "f1:1")); needs = ((codes "Web") ∷ []); deletion = deletion.Delete; replace = replace.Delete; status = held.CreateComplete; unsure = false; superseded = false } ∷ []);
-  made = [];
-  leftovers = [];
-  tokens = (record { token = 3; path = (codes "Web"); lane = (codes "f1"); request = (request.Create file (file_props (codes "new.txt") (codes "x"))) } ∷ []);
-  abandoned = [];
-  source = Some (source_for (codes "app") 1 first);
-  going = Some (source_for (codes "app") 1 second);
-  outputs = [];
-  sets = [];
-  events = ((codes "event 2 - CREATE_IN_PROGRESS") ∷ (codes "event 3 Web CREATE_IN_PROGRESS") ∷ (codes "event 4 Web CREATE_COMPLETE") ∷ (codes "event 5 Ptr CREATE_IN_PROGRESS") ∷ (codes "event 6 Ptr CREATE_COMPLETE") ∷ (codes "event 7 - CREATE_COMPLETE") ∷ (codes "event 8 - UPDATE_IN_PROGRESS") ∷ (codes "event 9 Web CREATE_IN_PROGRESS") ∷ []);
-  entries = (updating ∷ intended_new ∷ []);
-}
+stack_9_app = record stack_8_app { tokens = (record { token = 3; path = (codes "Web"); lane = (codes "f1"); request = (request.Create file (file_props (codes "new.txt") (codes "x"))) } ∷ []); events = stack_8_app.events ++ (codes "event 9 Web CREATE_IN_PROGRESS") ∷ []; entries = stack_8_app.entries ++ intended_new ∷ [] }
 
 abbrev world_9 : World
-world_9 = record { stacks = (((codes "app"), stack_9_app) ∷ []); exports = []; pins = []; claims = []; lanes = (lane_pair (codes "f1") file ∷ lane_pair (codes "r1") note ∷ []); epoch = 1; operation = 2; set = 0; token = 3; place = 9 }
+world_9 = record world_8 { stacks = (((codes "app"), stack_9_app) ∷ []); token = 3; place = 9 }
 
 leads_9 : world_after world_8 intended_new ≡ world_9
 unfolding computing
@@ -318,27 +197,14 @@ may_made_new : MayFollow schemas world_9 (3 ∷ []) made_new
 unfolding computing
 may_made_new = ((codes "app"), stack_9_app, Forward, refl, refl, (refl, refl, lit≤ tt))
 
+abbrev web_2 : Held
+web_2 = record { path = (codes "Web"); kind = file; physical = (codes "f1:3"); props = (file_props (codes "new.txt") (codes "x")); attrs = (file_attrs (codes "f1:3") 1 (codes "new.txt") (codes "x")); needs = []; deletion = deletion.Delete; replace = replace.Delete; status = held.UpdateComplete; unsure = false; superseded = false }
+
 abbrev stack_10_app : StackState
-stack_10_app = record {
-  status = status.UpdateInProgress;
-  number = 1;
-  operation = 2;
-  held = (record { path = (codes "Web"); kind = file; physical = (codes "f1:1"); props = (file_props (codes "web.txt") (codes "x")); attrs = (file_attrs (codes "f1:1") 1 (codes "web.txt") (codes "x")); needs = []; deletion = deletion.Delete; replace = replace.Delete; status = held.CreateComplete; unsure = false; superseded = false } ∷ record { path = (codes "Ptr"); kind = note; physical = (codes "r1:2"); props = (note_props (codes "p") (codes "f1:1")); attrs = (note_attrs (codes "r1:2") 4 (codes "p") (codes "f1:1")); needs = ((codes "Web") ∷ []); deletion = deletion.Delete; replace = replace.Delete; status = held.CreateComplete; unsure = false; superseded = false } ∷ []);
-  before = (record { path = (codes "Web"); kind = file; physical = (codes "f1:1"); props = (file_props (codes "web.txt") (codes "x")); attrs = (file_attrs (codes "f1:1") 1 (codes "web.txt") (codes "x")); needs = []; deletion = deletion.Delete; replace = replace.Delete; status = held.CreateComplete; unsure = false; superseded = false } ∷ record { path = (codes "Ptr"); kind = note; physical = (codes "r1:2"); props = (note_props (codes "p") (codes "f1:1")); attrs = (note_attrs (codes "r1:2") 4 (codes "p") (codes "f1:1")); needs = ((codes "Web") ∷ []); deletion = deletion.Delete; replace = replace.Delete; status = held.CreateComplete; unsure = false; superseded = false } ∷ []);
-  made = (record { path = (codes "Web"); kind = file; physical = (codes "f1:3"); props = (file_props (codes "new.txt") (codes "x")); attrs = (file_attrs (codes "f1:3") 1 (codes "new.txt") (codes "x")); needs = []; deletion = deletion.Delete; replace = replace.Delete; status = held.UpdateComplete; unsure = false; superseded = false } ∷ []);
-  leftovers = [];
-  tokens = [];
-  abandoned = [];
-  source = Some (source_for (codes "app") 1 first);
-  going = Some (source_for (codes "app") 1 second);
-  outputs = [];
-  sets = [];
-  events = ((codes "event 2 - CREATE_IN_PROGRESS") ∷ (codes "event 3 Web CREATE_IN_PROGRESS") ∷ (codes "event 4 Web CREATE_COMPLETE") ∷ (codes "event 5 Ptr CREATE_IN_PROGRESS") ∷ (codes "event 6 Ptr CREATE_COMPLETE") ∷ (codes "event 7 - CREATE_COMPLETE") ∷ (codes "event 8 - UPDATE_IN_PROGRESS") ∷ (codes "event 9 Web CREATE_IN_PROGRESS") ∷ (codes "event 10 Web CREATE_COMPLETE") ∷ []);
-  entries = (updating ∷ intended_new ∷ made_new ∷ []);
-}
+stack_10_app = record stack_9_app { made = (web_2 ∷ []); tokens = []; events = stack_9_app.events ++ (codes "event 10 Web CREATE_COMPLETE") ∷ []; entries = stack_9_app.entries ++ made_new ∷ [] }
 
 abbrev world_10 : World
-world_10 = record { stacks = (((codes "app"), stack_10_app) ∷ []); exports = []; pins = []; claims = []; lanes = (lane_pair (codes "f1") file ∷ lane_pair (codes "r1") note ∷ []); epoch = 1; operation = 2; set = 0; token = 3; place = 10 }
+world_10 = record world_9 { stacks = (((codes "app"), stack_10_app) ∷ []); place = 10 }
 
 leads_10 : world_after world_9 made_new ≡ world_10
 unfolding computing
@@ -357,26 +223,10 @@ unfolding computing
 may_intended_change = ((codes "app"), stack_10_app, Forward, refl, refl, record { next = refl; free = refl; home = refl; fits = ((codes "2", refl), refl); no_repeat = refl; chosen = (sound_10, ready_10_Ptr, not_done_other (codes "Ptr") stack_10_app (same_at (codes "Value") (codes "f1:1")) _ _ _ refl refl refl refl refl refl, (_, refl, refl, refl, ((λ e. let z : Update ≡ Replace = e in cc), inr (λ e. let z : Update ≡ Same = e in cc)), refl)) })
 
 abbrev stack_11_app : StackState
-stack_11_app = record {
-  status = status.UpdateInProgress;
-  number = 1;
-  operation = 2;
-  held = (record { path = (codes "Web"); kind = file; physical = (codes "f1:1"); props = (file_props (codes "web.txt") (codes "x")); attrs = (file_attrs (codes "f1:1") 1 (codes "web.txt") (codes "x")); needs = []; deletion = deletion.Delete; replace = replace.Delete; status = held.CreateComplete; unsure = false; superseded = false } ∷ record { path = (codes "Ptr"); kind = note; physical = (codes "r1:2"); props = (note_props (codes "p") (codes "f1:1")); attrs = (note_attrs (codes "r1:2") 4 (codes "p") (codes "f1:1")); needs = ((codes "Web") ∷ []); deletion = deletion.Delete; replace = replace.Delete; status = held.CreateComplete; unsure = false; superseded = false } ∷ []);
-  before = (record { path = (codes "Web"); kind = file; physical = (codes "f1:1"); props = (file_props (codes "web.txt") (codes "x")); attrs = (file_attrs (codes "f1:1") 1 (codes "web.txt") (codes "x")); needs = []; deletion = deletion.Delete; replace = replace.Delete; status = held.CreateComplete; unsure = false; superseded = false } ∷ record { path = (codes "Ptr"); kind = note; physical = (codes "r1:2"); props = (note_props (codes "p") (codes "f1:1")); attrs = (note_attrs (codes "r1:2") 4 (codes "p") (codes "f1:1")); needs = ((codes "Web") ∷ []); deletion = deletion.Delete; replace = replace.Delete; status = held.CreateComplete; unsure = false; superseded = false } ∷ []);
-  made = (record { path = (codes "Web"); kind = file; physical = (codes "f1:3"); props = (file_props (codes "new.txt") (codes "x")); attrs = (file_attrs (codes "f1:3") 1 (codes "new.txt") (codes "x")); needs = []; deletion = deletion.Delete; replace = replace.Delete; status = held.UpdateComplete; unsure = false; superseded = false } ∷ []);
-  leftovers = [];
-  tokens = (record { token = 4; path = (codes "Ptr"); lane = (codes "r1"); request = (request.Update (codes "r1:2") (note_props (codes "p") (codes "f1:3"))) } ∷ []);
-  abandoned = [];
-  source = Some (source_for (codes "app") 1 first);
-  going = Some (source_for (codes "app") 1 second);
-  outputs = [];
-  sets = [];
-  events = ((codes "event 2 - CREATE_IN_PROGRESS") ∷ (codes "event 3 Web CREATE_IN_PROGRESS") ∷ (codes "event 4 Web CREATE_COMPLETE") ∷ (codes "event 5 Ptr CREATE_IN_PROGRESS") ∷ (codes "event 6 Ptr CREATE_COMPLETE") ∷ (codes "event 7 - CREATE_COMPLETE") ∷ (codes "event 8 - UPDATE_IN_PROGRESS") ∷ (codes "event 9 Web CREATE_IN_PROGRESS") ∷ (codes "event 10 Web CREATE_COMPLETE") ∷ (codes "event 11 Ptr UPDATE_IN_PROGRESS") ∷ []);
-  entries = (updating ∷ intended_new ∷ made_new ∷ intended_change ∷ []);
-}
+stack_11_app = record stack_10_app { tokens = (record { token = 4; path = (codes "Ptr"); lane = (codes "r1"); request = (request.Update (codes "r1:2") (note_props (codes "p") (codes "f1:3"))) } ∷ []); events = stack_10_app.events ++ (codes "event 11 Ptr UPDATE_IN_PROGRESS") ∷ []; entries = stack_10_app.entries ++ intended_change ∷ [] }
 
 abbrev world_11 : World
-world_11 = record { stacks = (((codes "app"), stack_11_app) ∷ []); exports = []; pins = []; claims = []; lanes = (lane_pair (codes "f1") file ∷ lane_pair (codes "r1") note ∷ []); epoch = 1; operation = 2; set = 0; token = 4; place = 11 }
+world_11 = record world_10 { stacks = (((codes "app"), stack_11_app) ∷ []); token = 4; place = 11 }
 
 leads_11 : world_after world_10 intended_change ≡ world_11
 unfolding computing
@@ -386,27 +236,14 @@ may_changed_ptr : MayFollow schemas world_11 (4 ∷ []) changed_ptr
 unfolding computing
 may_changed_ptr = ((codes "app"), stack_11_app, Forward, refl, refl, (refl, refl, lit≤ tt))
 
+abbrev ptr_2 : Held
+ptr_2 = record { path = (codes "Ptr"); kind = note; physical = (codes "r1:2"); props = (note_props (codes "p") (codes "f1:3")); attrs = (note_attrs (codes "r1:2") 4 (codes "p") (codes "f1:3")); needs = ((codes "Web") ∷ []); deletion = deletion.Delete; replace = replace.Delete; status = held.UpdateComplete; unsure = false; superseded = false }
+
 abbrev stack_12_app : StackState
-stack_12_app = record {
-  status = status.UpdateInProgress;
-  number = 1;
-  operation = 2;
-  held = (record { path = (codes "Web"); kind = file; physical = (codes "f1:1"); props = (file_props (codes "web.txt") (codes "x")); attrs = (file_attrs (codes "f1:1") 1 (codes "web.txt") (codes "x")); needs = []; deletion = deletion.Delete; replace = replace.Delete; status = held.CreateComplete; unsure = false; superseded = false } ∷ record { path = (codes "Ptr"); kind = note; physical = (codes "r1:2"); props = (note_props (codes "p") (codes "f1:3")); attrs = (note_attrs (codes "r1:2") 4 (codes "p") (codes "f1:3")); needs = ((codes "Web") ∷ []); deletion = deletion.Delete; replace = replace.Delete; status = held.UpdateComplete; unsure = false; superseded = false } ∷ []);
-  before = (record { path = (codes "Web"); kind = file; physical = (codes "f1:1"); props = (file_props (codes "web.txt") (codes "x")); attrs = (file_attrs (codes "f1:1") 1 (codes "web.txt") (codes "x")); needs = []; deletion = deletion.Delete; replace = replace.Delete; status = held.CreateComplete; unsure = false; superseded = false } ∷ record { path = (codes "Ptr"); kind = note; physical = (codes "r1:2"); props = (note_props (codes "p") (codes "f1:1")); attrs = (note_attrs (codes "r1:2") 4 (codes "p") (codes "f1:1")); needs = ((codes "Web") ∷ []); deletion = deletion.Delete; replace = replace.Delete; status = held.CreateComplete; unsure = false; superseded = false } ∷ []);
-  made = (record { path = (codes "Web"); kind = file; physical = (codes "f1:3"); props = (file_props (codes "new.txt") (codes "x")); attrs = (file_attrs (codes "f1:3") 1 (codes "new.txt") (codes "x")); needs = []; deletion = deletion.Delete; replace = replace.Delete; status = held.UpdateComplete; unsure = false; superseded = false } ∷ []);
-  leftovers = [];
-  tokens = [];
-  abandoned = [];
-  source = Some (source_for (codes "app") 1 first);
-  going = Some (source_for (codes "app") 1 second);
-  outputs = [];
-  sets = [];
-  events = ((codes "event 2 - CREATE_IN_PROGRESS") ∷ (codes "event 3 Web CREATE_IN_PROGRESS") ∷ (codes "event 4 Web CREATE_COMPLETE") ∷ (codes "event 5 Ptr CREATE_IN_PROGRESS") ∷ (codes "event 6 Ptr CREATE_COMPLETE") ∷ (codes "event 7 - CREATE_COMPLETE") ∷ (codes "event 8 - UPDATE_IN_PROGRESS") ∷ (codes "event 9 Web CREATE_IN_PROGRESS") ∷ (codes "event 10 Web CREATE_COMPLETE") ∷ (codes "event 11 Ptr UPDATE_IN_PROGRESS") ∷ (codes "event 12 Ptr UPDATE_COMPLETE") ∷ []);
-  entries = (updating ∷ intended_new ∷ made_new ∷ intended_change ∷ changed_ptr ∷ []);
-}
+stack_12_app = record stack_11_app { held = (web_1 ∷ ptr_2 ∷ []); tokens = []; events = stack_11_app.events ++ (codes "event 12 Ptr UPDATE_COMPLETE") ∷ []; entries = stack_11_app.entries ++ changed_ptr ∷ [] }
 
 abbrev world_12 : World
-world_12 = record { stacks = (((codes "app"), stack_12_app) ∷ []); exports = []; pins = []; claims = []; lanes = (lane_pair (codes "f1") file ∷ lane_pair (codes "r1") note ∷ []); epoch = 1; operation = 2; set = 0; token = 4; place = 12 }
+world_12 = record world_11 { stacks = (((codes "app"), stack_12_app) ∷ []); place = 12 }
 
 leads_12 : world_after world_11 changed_ptr ≡ world_12
 unfolding computing
@@ -424,27 +261,14 @@ may_cleaning : MayFollow schemas world_12 [] cleaning
 unfolding computing
 may_cleaning = ((codes "app"), stack_12_app, Forward, refl, refl, (refl, (refl, sound_12, all_done_12)))
 
+abbrev web_3 : Held
+web_3 = record { path = (codes "Web"); kind = file; physical = (codes "f1:1"); props = (file_props (codes "web.txt") (codes "x")); attrs = (file_attrs (codes "f1:1") 1 (codes "web.txt") (codes "x")); needs = []; deletion = deletion.Delete; replace = replace.Delete; status = held.CreateComplete; unsure = false; superseded = true }
+
 abbrev stack_13_app : StackState
-stack_13_app = record {
-  status = status.UpdateCompleteCleanupInProgress;
-  number = 1;
-  operation = 2;
-  held = (record { path = (codes "Web"); kind = file; physical = (codes "f1:1"); props = (file_props (codes "web.txt") (codes "x")); attrs = (file_attrs (codes "f1:1") 1 (codes "web.txt") (codes "x")); needs = []; deletion = deletion.Delete; replace = replace.Delete; status = held.CreateComplete; unsure = false; superseded = true } ∷ record { path = (codes "Ptr"); kind = note; physical = (codes "r1:2"); props = (note_props (codes "p") (codes "f1:3")); attrs = (note_attrs (codes "r1:2") 4 (codes "p") (codes "f1:3")); needs = ((codes "Web") ∷ []); deletion = deletion.Delete; replace = replace.Delete; status = held.UpdateComplete; unsure = false; superseded = false } ∷ record { path = (codes "Web"); kind = file; physical = (codes "f1:3"); props = (file_props (codes "new.txt") (codes "x")); attrs = (file_attrs (codes "f1:3") 1 (codes "new.txt") (codes "x")); needs = []; deletion = deletion.Delete; replace = replace.Delete; status = held.UpdateComplete; unsure = false; superseded = false } ∷ []);
-  before = (record { path = (codes "Web"); kind = file; physical = (codes "f1:1"); props = (file_props (codes "web.txt") (codes "x")); attrs = (file_attrs (codes "f1:1") 1 (codes "web.txt") (codes "x")); needs = []; deletion = deletion.Delete; replace = replace.Delete; status = held.CreateComplete; unsure = false; superseded = false } ∷ record { path = (codes "Ptr"); kind = note; physical = (codes "r1:2"); props = (note_props (codes "p") (codes "f1:1")); attrs = (note_attrs (codes "r1:2") 4 (codes "p") (codes "f1:1")); needs = ((codes "Web") ∷ []); deletion = deletion.Delete; replace = replace.Delete; status = held.CreateComplete; unsure = false; superseded = false } ∷ []);
-  made = [];
-  leftovers = [];
-  tokens = [];
-  abandoned = [];
-  source = Some (source_for (codes "app") 1 second);
-  going = Some (source_for (codes "app") 1 second);
-  outputs = [];
-  sets = [];
-  events = ((codes "event 2 - CREATE_IN_PROGRESS") ∷ (codes "event 3 Web CREATE_IN_PROGRESS") ∷ (codes "event 4 Web CREATE_COMPLETE") ∷ (codes "event 5 Ptr CREATE_IN_PROGRESS") ∷ (codes "event 6 Ptr CREATE_COMPLETE") ∷ (codes "event 7 - CREATE_COMPLETE") ∷ (codes "event 8 - UPDATE_IN_PROGRESS") ∷ (codes "event 9 Web CREATE_IN_PROGRESS") ∷ (codes "event 10 Web CREATE_COMPLETE") ∷ (codes "event 11 Ptr UPDATE_IN_PROGRESS") ∷ (codes "event 12 Ptr UPDATE_COMPLETE") ∷ (codes "event 13 - UPDATE_COMPLETE_CLEANUP_IN_PROGRESS") ∷ []);
-  entries = (updating ∷ intended_new ∷ made_new ∷ intended_change ∷ changed_ptr ∷ cleaning ∷ []);
-}
+stack_13_app = record stack_12_app { status = status.UpdateCompleteCleanupInProgress; held = (web_3 ∷ ptr_2 ∷ web_2 ∷ []); made = []; source = Some (source_for (codes "app") 1 second); events = stack_12_app.events ++ (codes "event 13 - UPDATE_COMPLETE_CLEANUP_IN_PROGRESS") ∷ []; entries = stack_12_app.entries ++ cleaning ∷ [] }
 
 abbrev world_13 : World
-world_13 = record { stacks = (((codes "app"), stack_13_app) ∷ []); exports = []; pins = []; claims = []; lanes = (lane_pair (codes "f1") file ∷ lane_pair (codes "r1") note ∷ []); epoch = 1; operation = 2; set = 0; token = 4; place = 13 }
+world_13 = record world_12 { stacks = (((codes "app"), stack_13_app) ∷ []); place = 13 }
 
 leads_13 : world_after world_12 cleaning ≡ world_13
 unfolding computing
@@ -455,26 +279,10 @@ unfolding computing
 may_intended_deletion = ((codes "app"), stack_13_app, Clean, refl, refl, record { next = refl; free = refl; home = refl; fits = ((codes "1", refl), refl); no_repeat = refl; chosen = (_, (here, refl, refl), refl, refl, refl) })
 
 abbrev stack_14_app : StackState
-stack_14_app = record {
-  status = status.UpdateCompleteCleanupInProgress;
-  number = 1;
-  operation = 2;
-  held = (record { path = (codes "Web"); kind = file; physical = (codes "f1:1"); props = (file_props (codes "web.txt") (codes "x")); attrs = (file_attrs (codes "f1:1") 1 (codes "web.txt") (codes "x")); needs = []; deletion = deletion.Delete; replace = replace.Delete; status = held.CreateComplete; unsure = false; superseded = true } ∷ record { path = (codes "Ptr"); kind = note; physical = (codes "r1:2"); props = (note_props (codes "p") (codes "f1:3")); attrs = (note_attrs (codes "r1:2") 4 (codes "p") (codes "f1:3")); needs = ((codes "Web") ∷ []); deletion = deletion.Delete; replace = replace.Delete; status = held.UpdateComplete; unsure = false; superseded = false } ∷ record { path = (codes "Web"); kind = file; physical = (codes "f1:3"); props = (file_props (codes "new.txt") (codes "x")); attrs = (file_attrs (codes "f1:3") 1 (codes "new.txt") (codes "x")); needs = []; deletion = deletion.Delete; replace = replace.Delete; status = held.UpdateComplete; unsure = false; superseded = false } ∷ []);
-  before = (record { path = (codes "Web"); kind = file; physical = (codes "f1:1"); props = (file_props (codes "web.txt") (codes "x")); attrs = (file_attrs (codes "f1:1") 1 (codes "web.txt") (codes "x")); needs = []; deletion = deletion.Delete; replace = replace.Delete; status = held.CreateComplete; unsure = false; superseded = false } ∷ record { path = (codes "Ptr"); kind = note; physical = (codes "r1:2"); props = (note_props (codes "p") (codes "f1:1")); attrs = (note_attrs (codes "r1:2") 4 (codes "p") (codes "f1:1")); needs = ((codes "Web") ∷ []); deletion = deletion.Delete; replace = replace.Delete; status = held.CreateComplete; unsure = false; superseded = false } ∷ []);
-  made = [];
-  leftovers = [];
-  tokens = (record { token = 5; path = (codes "Web"); lane = (codes "f1"); request = (request.Delete (codes "f1:1")) } ∷ []);
-  abandoned = [];
-  source = Some (source_for (codes "app") 1 second);
-  going = Some (source_for (codes "app") 1 second);
-  outputs = [];
-  sets = [];
-  events = ((codes "event 2 - CREATE_IN_PROGRESS") ∷ (codes "event 3 Web CREATE_IN_PROGRESS") ∷ (codes "event 4 Web CREATE_COMPLETE") ∷ (codes "event 5 Ptr CREATE_IN_PROGRESS") ∷ (codes "event 6 Ptr CREATE_COMPLETE") ∷ (codes "event 7 - CREATE_COMPLETE") ∷ (codes "event 8 - UPDATE_IN_PROGRESS") ∷ (codes "event 9 Web CREATE_IN_PROGRESS") ∷ (codes "event 10 Web CREATE_COMPLETE") ∷ (codes "event 11 Ptr UPDATE_IN_PROGRESS") ∷ (codes "event 12 Ptr UPDATE_COMPLETE") ∷ (codes "event 13 - UPDATE_COMPLETE_CLEANUP_IN_PROGRESS") ∷ (codes "event 14 Web DELETE_IN_PROGRESS") ∷ []);
-  entries = (updating ∷ intended_new ∷ made_new ∷ intended_change ∷ changed_ptr ∷ cleaning ∷ intended_deletion ∷ []);
-}
+stack_14_app = record stack_13_app { tokens = (record { token = 5; path = (codes "Web"); lane = (codes "f1"); request = (request.Delete (codes "f1:1")) } ∷ []); events = stack_13_app.events ++ (codes "event 14 Web DELETE_IN_PROGRESS") ∷ []; entries = stack_13_app.entries ++ intended_deletion ∷ [] }
 
 abbrev world_14 : World
-world_14 = record { stacks = (((codes "app"), stack_14_app) ∷ []); exports = []; pins = []; claims = []; lanes = (lane_pair (codes "f1") file ∷ lane_pair (codes "r1") note ∷ []); epoch = 1; operation = 2; set = 0; token = 5; place = 14 }
+world_14 = record world_13 { stacks = (((codes "app"), stack_14_app) ∷ []); token = 5; place = 14 }
 
 leads_14 : world_after world_13 intended_deletion ≡ world_14
 unfolding computing
@@ -485,26 +293,10 @@ unfolding computing
 may_deleted = ((codes "app"), stack_14_app, Clean, refl, refl, (refl, refl, lit≤ tt))
 
 abbrev stack_15_app : StackState
-stack_15_app = record {
-  status = status.UpdateCompleteCleanupInProgress;
-  number = 1;
-  operation = 2;
-  held = (record { path = (codes "Ptr"); kind = note; physical = (codes "r1:2"); props = (note_props (codes "p") (codes "f1:3")); attrs = (note_attrs (codes "r1:2") 4 (codes "p") (codes "f1:3")); needs = ((codes "Web") ∷ []); deletion = deletion.Delete; replace = replace.Delete; status = held.UpdateComplete; unsure = false; superseded = false } ∷ record { path = (codes "Web"); kind = file; physical = (codes "f1:3"); props = (file_props (codes "new.txt") (codes "x")); attrs = (file_attrs (codes "f1:3") 1 (codes "new.txt") (codes "x")); needs = []; deletion = deletion.Delete; replace = replace.Delete; status = held.UpdateComplete; unsure = false; superseded = false } ∷ []);
-  before = (record { path = (codes "Web"); kind = file; physical = (codes "f1:1"); props = (file_props (codes "web.txt") (codes "x")); attrs = (file_attrs (codes "f1:1") 1 (codes "web.txt") (codes "x")); needs = []; deletion = deletion.Delete; replace = replace.Delete; status = held.CreateComplete; unsure = false; superseded = false } ∷ record { path = (codes "Ptr"); kind = note; physical = (codes "r1:2"); props = (note_props (codes "p") (codes "f1:1")); attrs = (note_attrs (codes "r1:2") 4 (codes "p") (codes "f1:1")); needs = ((codes "Web") ∷ []); deletion = deletion.Delete; replace = replace.Delete; status = held.CreateComplete; unsure = false; superseded = false } ∷ []);
-  made = [];
-  leftovers = [];
-  tokens = [];
-  abandoned = [];
-  source = Some (source_for (codes "app") 1 second);
-  going = Some (source_for (codes "app") 1 second);
-  outputs = [];
-  sets = [];
-  events = ((codes "event 2 - CREATE_IN_PROGRESS") ∷ (codes "event 3 Web CREATE_IN_PROGRESS") ∷ (codes "event 4 Web CREATE_COMPLETE") ∷ (codes "event 5 Ptr CREATE_IN_PROGRESS") ∷ (codes "event 6 Ptr CREATE_COMPLETE") ∷ (codes "event 7 - CREATE_COMPLETE") ∷ (codes "event 8 - UPDATE_IN_PROGRESS") ∷ (codes "event 9 Web CREATE_IN_PROGRESS") ∷ (codes "event 10 Web CREATE_COMPLETE") ∷ (codes "event 11 Ptr UPDATE_IN_PROGRESS") ∷ (codes "event 12 Ptr UPDATE_COMPLETE") ∷ (codes "event 13 - UPDATE_COMPLETE_CLEANUP_IN_PROGRESS") ∷ (codes "event 14 Web DELETE_IN_PROGRESS") ∷ (codes "event 15 Web DELETE_COMPLETE") ∷ []);
-  entries = (updating ∷ intended_new ∷ made_new ∷ intended_change ∷ changed_ptr ∷ cleaning ∷ intended_deletion ∷ deleted ∷ []);
-}
+stack_15_app = record stack_14_app { held = (ptr_2 ∷ web_2 ∷ []); tokens = []; events = stack_14_app.events ++ (codes "event 15 Web DELETE_COMPLETE") ∷ []; entries = stack_14_app.entries ++ deleted ∷ [] }
 
 abbrev world_15 : World
-world_15 = record { stacks = (((codes "app"), stack_15_app) ∷ []); exports = []; pins = []; claims = []; lanes = (lane_pair (codes "f1") file ∷ lane_pair (codes "r1") note ∷ []); epoch = 1; operation = 2; set = 0; token = 5; place = 15 }
+world_15 = record world_14 { stacks = (((codes "app"), stack_15_app) ∷ []); place = 15 }
 
 leads_15 : world_after world_14 deleted ≡ world_15
 unfolding computing
@@ -515,26 +307,10 @@ unfolding computing
 may_updated = ((codes "app"), stack_15_app, Clean, refl, refl, (refl, end_of_clean schemas (codes "app") world_15 stack_15_app refl refl refl refl, tt, refl))
 
 abbrev pub stack_16_app : StackState
-stack_16_app = record {
-  status = status.UpdateComplete;
-  number = 1;
-  operation = 2;
-  held = (record { path = (codes "Ptr"); kind = note; physical = (codes "r1:2"); props = (note_props (codes "p") (codes "f1:3")); attrs = (note_attrs (codes "r1:2") 4 (codes "p") (codes "f1:3")); needs = ((codes "Web") ∷ []); deletion = deletion.Delete; replace = replace.Delete; status = held.UpdateComplete; unsure = false; superseded = false } ∷ record { path = (codes "Web"); kind = file; physical = (codes "f1:3"); props = (file_props (codes "new.txt") (codes "x")); attrs = (file_attrs (codes "f1:3") 1 (codes "new.txt") (codes "x")); needs = []; deletion = deletion.Delete; replace = replace.Delete; status = held.UpdateComplete; unsure = false; superseded = false } ∷ []);
-  before = (record { path = (codes "Web"); kind = file; physical = (codes "f1:1"); props = (file_props (codes "web.txt") (codes "x")); attrs = (file_attrs (codes "f1:1") 1 (codes "web.txt") (codes "x")); needs = []; deletion = deletion.Delete; replace = replace.Delete; status = held.CreateComplete; unsure = false; superseded = false } ∷ record { path = (codes "Ptr"); kind = note; physical = (codes "r1:2"); props = (note_props (codes "p") (codes "f1:1")); attrs = (note_attrs (codes "r1:2") 4 (codes "p") (codes "f1:1")); needs = ((codes "Web") ∷ []); deletion = deletion.Delete; replace = replace.Delete; status = held.CreateComplete; unsure = false; superseded = false } ∷ []);
-  made = [];
-  leftovers = [];
-  tokens = [];
-  abandoned = [];
-  source = Some (source_for (codes "app") 1 second);
-  going = Some (source_for (codes "app") 1 second);
-  outputs = [];
-  sets = [];
-  events = ((codes "event 2 - CREATE_IN_PROGRESS") ∷ (codes "event 3 Web CREATE_IN_PROGRESS") ∷ (codes "event 4 Web CREATE_COMPLETE") ∷ (codes "event 5 Ptr CREATE_IN_PROGRESS") ∷ (codes "event 6 Ptr CREATE_COMPLETE") ∷ (codes "event 7 - CREATE_COMPLETE") ∷ (codes "event 8 - UPDATE_IN_PROGRESS") ∷ (codes "event 9 Web CREATE_IN_PROGRESS") ∷ (codes "event 10 Web CREATE_COMPLETE") ∷ (codes "event 11 Ptr UPDATE_IN_PROGRESS") ∷ (codes "event 12 Ptr UPDATE_COMPLETE") ∷ (codes "event 13 - UPDATE_COMPLETE_CLEANUP_IN_PROGRESS") ∷ (codes "event 14 Web DELETE_IN_PROGRESS") ∷ (codes "event 15 Web DELETE_COMPLETE") ∷ (codes "event 16 - UPDATE_COMPLETE") ∷ []);
-  entries = (updating ∷ intended_new ∷ made_new ∷ intended_change ∷ changed_ptr ∷ cleaning ∷ intended_deletion ∷ deleted ∷ updated ∷ []);
-}
+stack_16_app = record stack_15_app { status = status.UpdateComplete; events = stack_15_app.events ++ (codes "event 16 - UPDATE_COMPLETE") ∷ []; entries = stack_15_app.entries ++ updated ∷ [] }
 
 abbrev pub world_16 : World
-world_16 = record { stacks = (((codes "app"), stack_16_app) ∷ []); exports = []; pins = []; claims = []; lanes = (lane_pair (codes "f1") file ∷ lane_pair (codes "r1") note ∷ []); epoch = 1; operation = 2; set = 0; token = 5; place = 16 }
+world_16 = record world_15 { stacks = (((codes "app"), stack_16_app) ∷ []); place = 16 }
 
 leads_16 : world_after world_15 updated ≡ world_16
 unfolding computing

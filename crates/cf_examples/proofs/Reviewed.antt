@@ -1,8 +1,9 @@
 -- A change set: another path replaces the file, and what refers to it may be replaced.
-use Rattle.std.proofs.Common.{◌≡◌, refl, List, [], ◌∷◌, Some, None, false, ℕ, inl, inr, sym, ap, lit≤}
+use Rattle.std.proofs.Common.{◌≡◌, refl, List, [], ◌∷◌, ◌++◌, Some, false, ℕ, inl, inr, sym, ap, lit≤}
 use Rattle.std.specs.Prelude.{codes}
 use Rattle.cf_tree.specs.declared.request.Request.TheVariants as request
 use Rattle.cf_entry.specs.declared.entry.Entry.{Entry}
+use Rattle.cf_stacks.specs.declared.held.Held.{Held}
 use Rattle.cf_stacks.specs.declared.state.World.{World}
 use Rattle.cf_stacks.specs.declared.state.StackState.{StackState}
 use Rattle.cf_stacks.specs.Fold.{empty_world, world_after, source_for}
@@ -19,7 +20,7 @@ use Rattle.cf_tree.specs.declared.template.Replace.TheVariants as replace
 use Rattle.cf_entry.specs.declared.entry.Entry.TheVariants as entry
 use Rattle.cf_entry.specs.declared.status.Status.TheVariants as status
 use Rattle.cf_stacks.specs.declared.held.HeldStatus.TheVariants as held
-use Rattle.cf_stacks.specs.Fold.{fold_of}
+use Rattle.cf_stacks.specs.Fold.{fold_of, no_stack}
 use Rattle.cf_examples.specs.Given.{lane_pair, report_of}
 use Rattle.cf_examples.proofs.Refusing.{legal_step, fold_step, refused_at}
 use Rattle.cf_examples.proofs.Beginning.{no_imports}
@@ -33,7 +34,7 @@ unfolding computing
 may_opened = (refl, refl, λ name s e. absurd (cc))
 
 abbrev world_1 : World
-world_1 = record { stacks = []; exports = []; pins = []; claims = []; lanes = (lane_pair (codes "f1") file ∷ lane_pair (codes "r1") note ∷ []); epoch = 1; operation = 0; set = 0; token = 0; place = 1 }
+world_1 = record world_0 { lanes = (lane_pair (codes "f1") file ∷ lane_pair (codes "r1") note ∷ []); epoch = 1; place = 1 }
 
 leads_1 : world_after world_0 opened ≡ world_1
 unfolding computing
@@ -44,26 +45,10 @@ unfolding computing
 may_begun = (refl, refl, record { no_flaw = refl; known_types = refl; same_types = refl; imports = no_imports _ _ _ _ refl refl; free = refl; not_in_use = refl; changing = inl refl })
 
 abbrev stack_2_app : StackState
-stack_2_app = record {
-  status = status.CreateInProgress;
-  number = 1;
-  operation = 1;
-  held = [];
-  before = [];
-  made = [];
-  leftovers = [];
-  tokens = [];
-  abandoned = [];
-  source = None;
-  going = Some (source_for (codes "app") 1 first);
-  outputs = [];
-  sets = [];
-  events = ((codes "event 2 - CREATE_IN_PROGRESS") ∷ []);
-  entries = (begun ∷ []);
-}
+stack_2_app = record no_stack { status = status.CreateInProgress; number = 1; operation = 1; going = Some (source_for (codes "app") 1 first); events = ((codes "event 2 - CREATE_IN_PROGRESS") ∷ []); entries = (begun ∷ []) }
 
 abbrev world_2 : World
-world_2 = record { stacks = (((codes "app"), stack_2_app) ∷ []); exports = []; pins = []; claims = []; lanes = (lane_pair (codes "f1") file ∷ lane_pair (codes "r1") note ∷ []); epoch = 1; operation = 1; set = 0; token = 0; place = 2 }
+world_2 = record world_1 { stacks = (((codes "app"), stack_2_app) ∷ []); operation = 1; place = 2 }
 
 leads_2 : world_after world_1 begun ≡ world_2
 unfolding computing
@@ -82,26 +67,10 @@ unfolding computing
 may_intended_web = ((codes "app"), stack_2_app, Forward, refl, refl, record { next = refl; free = refl; home = refl; fits = refl; no_repeat = refl; chosen = (sound_2, ready_2_Web, not_done_new (codes "Web") stack_2_app refl refl refl, (refl, tt)) })
 
 abbrev stack_3_app : StackState
-stack_3_app = record {
-  status = status.CreateInProgress;
-  number = 1;
-  operation = 1;
-  held = [];
-  before = [];
-  made = [];
-  leftovers = [];
-  tokens = (record { token = 1; path = (codes "Web"); lane = (codes "f1"); request = (request.Create file (file_props (codes "a") (codes "x"))) } ∷ []);
-  abandoned = [];
-  source = None;
-  going = Some (source_for (codes "app") 1 first);
-  outputs = [];
-  sets = [];
-  events = ((codes "event 2 - CREATE_IN_PROGRESS") ∷ (codes "event 3 Web CREATE_IN_PROGRESS") ∷ []);
-  entries = (begun ∷ intended_web ∷ []);
-}
+stack_3_app = record stack_2_app { tokens = (record { token = 1; path = (codes "Web"); lane = (codes "f1"); request = (request.Create file (file_props (codes "a") (codes "x"))) } ∷ []); events = stack_2_app.events ++ (codes "event 3 Web CREATE_IN_PROGRESS") ∷ []; entries = stack_2_app.entries ++ intended_web ∷ [] }
 
 abbrev world_3 : World
-world_3 = record { stacks = (((codes "app"), stack_3_app) ∷ []); exports = []; pins = []; claims = []; lanes = (lane_pair (codes "f1") file ∷ lane_pair (codes "r1") note ∷ []); epoch = 1; operation = 1; set = 0; token = 1; place = 3 }
+world_3 = record world_2 { stacks = (((codes "app"), stack_3_app) ∷ []); token = 1; place = 3 }
 
 leads_3 : world_after world_2 intended_web ≡ world_3
 unfolding computing
@@ -111,27 +80,14 @@ may_made_web : MayFollow schemas world_3 (1 ∷ []) made_web
 unfolding computing
 may_made_web = ((codes "app"), stack_3_app, Forward, refl, refl, (refl, refl, lit≤ tt))
 
+abbrev web_1 : Held
+web_1 = record { path = (codes "Web"); kind = file; physical = (codes "f1:1"); props = (file_props (codes "a") (codes "x")); attrs = (file_attrs (codes "f1:1") 1 (codes "a") (codes "x")); needs = []; deletion = deletion.Delete; replace = replace.Delete; status = held.CreateComplete; unsure = false; superseded = false }
+
 abbrev stack_4_app : StackState
-stack_4_app = record {
-  status = status.CreateInProgress;
-  number = 1;
-  operation = 1;
-  held = [];
-  before = [];
-  made = (record { path = (codes "Web"); kind = file; physical = (codes "f1:1"); props = (file_props (codes "a") (codes "x")); attrs = (file_attrs (codes "f1:1") 1 (codes "a") (codes "x")); needs = []; deletion = deletion.Delete; replace = replace.Delete; status = held.CreateComplete; unsure = false; superseded = false } ∷ []);
-  leftovers = [];
-  tokens = [];
-  abandoned = [];
-  source = None;
-  going = Some (source_for (codes "app") 1 first);
-  outputs = [];
-  sets = [];
-  events = ((codes "event 2 - CREATE_IN_PROGRESS") ∷ (codes "event 3 Web CREATE_IN_PROGRESS") ∷ (codes "event 4 Web CREATE_COMPLETE") ∷ []);
-  entries = (begun ∷ intended_web ∷ made_web ∷ []);
-}
+stack_4_app = record stack_3_app { made = (web_1 ∷ []); tokens = []; events = stack_3_app.events ++ (codes "event 4 Web CREATE_COMPLETE") ∷ []; entries = stack_3_app.entries ++ made_web ∷ [] }
 
 abbrev world_4 : World
-world_4 = record { stacks = (((codes "app"), stack_4_app) ∷ []); exports = []; pins = []; claims = []; lanes = (lane_pair (codes "f1") file ∷ lane_pair (codes "r1") note ∷ []); epoch = 1; operation = 1; set = 0; token = 1; place = 4 }
+world_4 = record world_3 { stacks = (((codes "app"), stack_4_app) ∷ []); place = 4 }
 
 leads_4 : world_after world_3 made_web ≡ world_4
 unfolding computing
@@ -150,26 +106,10 @@ unfolding computing
 may_intended_rec = ((codes "app"), stack_4_app, Forward, refl, refl, record { next = refl; free = refl; home = refl; fits = refl; no_repeat = refl; chosen = (sound_4, ready_4_Rec, not_done_new (codes "Rec") stack_4_app refl refl refl, (refl, tt)) })
 
 abbrev stack_5_app : StackState
-stack_5_app = record {
-  status = status.CreateInProgress;
-  number = 1;
-  operation = 1;
-  held = [];
-  before = [];
-  made = (record { path = (codes "Web"); kind = file; physical = (codes "f1:1"); props = (file_props (codes "a") (codes "x")); attrs = (file_attrs (codes "f1:1") 1 (codes "a") (codes "x")); needs = []; deletion = deletion.Delete; replace = replace.Delete; status = held.CreateComplete; unsure = false; superseded = false } ∷ []);
-  leftovers = [];
-  tokens = (record { token = 2; path = (codes "Rec"); lane = (codes "r1"); request = (request.Create note (note_props (codes "f1:1") (codes "v"))) } ∷ []);
-  abandoned = [];
-  source = None;
-  going = Some (source_for (codes "app") 1 first);
-  outputs = [];
-  sets = [];
-  events = ((codes "event 2 - CREATE_IN_PROGRESS") ∷ (codes "event 3 Web CREATE_IN_PROGRESS") ∷ (codes "event 4 Web CREATE_COMPLETE") ∷ (codes "event 5 Rec CREATE_IN_PROGRESS") ∷ []);
-  entries = (begun ∷ intended_web ∷ made_web ∷ intended_rec ∷ []);
-}
+stack_5_app = record stack_4_app { tokens = (record { token = 2; path = (codes "Rec"); lane = (codes "r1"); request = (request.Create note (note_props (codes "f1:1") (codes "v"))) } ∷ []); events = stack_4_app.events ++ (codes "event 5 Rec CREATE_IN_PROGRESS") ∷ []; entries = stack_4_app.entries ++ intended_rec ∷ [] }
 
 abbrev world_5 : World
-world_5 = record { stacks = (((codes "app"), stack_5_app) ∷ []); exports = []; pins = []; claims = []; lanes = (lane_pair (codes "f1") file ∷ lane_pair (codes "r1") note ∷ []); epoch = 1; operation = 1; set = 0; token = 2; place = 5 }
+world_5 = record world_4 { stacks = (((codes "app"), stack_5_app) ∷ []); token = 2; place = 5 }
 
 leads_5 : world_after world_4 intended_rec ≡ world_5
 unfolding computing
@@ -179,27 +119,14 @@ may_made_rec : MayFollow schemas world_5 (2 ∷ []) made_rec
 unfolding computing
 may_made_rec = ((codes "app"), stack_5_app, Forward, refl, refl, (refl, refl, lit≤ tt))
 
+abbrev rec_1 : Held
+rec_1 = record { path = (codes "Rec"); kind = note; physical = (codes "r1:2"); props = (note_props (codes "f1:1") (codes "v")); attrs = (note_attrs (codes "r1:2") 1 (codes "f1:1") (codes "v")); needs = ((codes "Web") ∷ []); deletion = deletion.Delete; replace = replace.Delete; status = held.CreateComplete; unsure = false; superseded = false }
+
 abbrev stack_6_app : StackState
-stack_6_app = record {
-  status = status.CreateInProgress;
-  number = 1;
-  operation = 1;
-  held = [];
-  before = [];
-  made = (record { path = (codes "Web"); kind = file; physical = (codes "f1:1"); props = (file_props (codes "a") (codes "x")); attrs = (file_attrs (codes "f1:1") 1 (codes "a") (codes "x")); needs = []; deletion = deletion.Delete; replace = replace.Delete; status = held.CreateComplete; unsure = false; superseded = false } ∷ record { path = (codes "Rec"); kind = note; physical = (codes "r1:2"); props = (note_props (codes "f1:1") (codes "v")); attrs = (note_attrs (codes "r1:2") 1 (codes "f1:1") (codes "v")); needs = ((codes "Web") ∷ []); deletion = deletion.Delete; replace = replace.Delete; status = held.CreateComplete; unsure = false; superseded = false } ∷ []);
-  leftovers = [];
-  tokens = [];
-  abandoned = [];
-  source = None;
-  going = Some (source_for (codes "app") 1 first);
-  outputs = [];
-  sets = [];
-  events = ((codes "event 2 - CREATE_IN_PROGRESS") ∷ (codes "event 3 Web CREATE_IN_PROGRESS") ∷ (codes "event 4 Web CREATE_COMPLETE") ∷ (codes "event 5 Rec CREATE_IN_PROGRESS") ∷ (codes "event 6 Rec CREATE_COMPLETE") ∷ []);
-  entries = (begun ∷ intended_web ∷ made_web ∷ intended_rec ∷ made_rec ∷ []);
-}
+stack_6_app = record stack_5_app { made = (web_1 ∷ rec_1 ∷ []); tokens = []; events = stack_5_app.events ++ (codes "event 6 Rec CREATE_COMPLETE") ∷ []; entries = stack_5_app.entries ++ made_rec ∷ [] }
 
 abbrev world_6 : World
-world_6 = record { stacks = (((codes "app"), stack_6_app) ∷ []); exports = []; pins = []; claims = []; lanes = (lane_pair (codes "f1") file ∷ lane_pair (codes "r1") note ∷ []); epoch = 1; operation = 1; set = 0; token = 2; place = 6 }
+world_6 = record world_5 { stacks = (((codes "app"), stack_6_app) ∷ []); place = 6 }
 
 leads_6 : world_after world_5 made_rec ≡ world_6
 unfolding computing
@@ -218,26 +145,10 @@ unfolding computing
 may_created = ((codes "app"), stack_6_app, Forward, refl, refl, (refl, end_of_create schemas (codes "app") world_6 stack_6_app refl all_done_6 sound_6 refl, (sound_6, all_done_6), refl))
 
 abbrev stack_7_app : StackState
-stack_7_app = record {
-  status = status.CreateComplete;
-  number = 1;
-  operation = 1;
-  held = (record { path = (codes "Web"); kind = file; physical = (codes "f1:1"); props = (file_props (codes "a") (codes "x")); attrs = (file_attrs (codes "f1:1") 1 (codes "a") (codes "x")); needs = []; deletion = deletion.Delete; replace = replace.Delete; status = held.CreateComplete; unsure = false; superseded = false } ∷ record { path = (codes "Rec"); kind = note; physical = (codes "r1:2"); props = (note_props (codes "f1:1") (codes "v")); attrs = (note_attrs (codes "r1:2") 1 (codes "f1:1") (codes "v")); needs = ((codes "Web") ∷ []); deletion = deletion.Delete; replace = replace.Delete; status = held.CreateComplete; unsure = false; superseded = false } ∷ []);
-  before = [];
-  made = [];
-  leftovers = [];
-  tokens = [];
-  abandoned = [];
-  source = Some (source_for (codes "app") 1 first);
-  going = Some (source_for (codes "app") 1 first);
-  outputs = [];
-  sets = [];
-  events = ((codes "event 2 - CREATE_IN_PROGRESS") ∷ (codes "event 3 Web CREATE_IN_PROGRESS") ∷ (codes "event 4 Web CREATE_COMPLETE") ∷ (codes "event 5 Rec CREATE_IN_PROGRESS") ∷ (codes "event 6 Rec CREATE_COMPLETE") ∷ (codes "event 7 - CREATE_COMPLETE") ∷ []);
-  entries = (begun ∷ intended_web ∷ made_web ∷ intended_rec ∷ made_rec ∷ created ∷ []);
-}
+stack_7_app = record stack_6_app { status = status.CreateComplete; held = (web_1 ∷ rec_1 ∷ []); made = []; source = Some (source_for (codes "app") 1 first); events = stack_6_app.events ++ (codes "event 7 - CREATE_COMPLETE") ∷ []; entries = stack_6_app.entries ++ created ∷ [] }
 
 abbrev world_7 : World
-world_7 = record { stacks = (((codes "app"), stack_7_app) ∷ []); exports = []; pins = []; claims = []; lanes = (lane_pair (codes "f1") file ∷ lane_pair (codes "r1") note ∷ []); epoch = 1; operation = 1; set = 0; token = 2; place = 7 }
+world_7 = record world_6 { stacks = (((codes "app"), stack_7_app) ∷ []); place = 7 }
 
 leads_7 : world_after world_6 created ≡ world_7
 unfolding computing
@@ -247,29 +158,11 @@ may_reviewed : MayFollow schemas world_7 [] reviewed
 unfolding computing
 may_reviewed = (refl, refl, record { accepted = record { no_flaw = refl; known_types = refl; same_types = refl; imports = no_imports _ _ _ _ refl refl; free = refl; not_in_use = refl; changing = inr (inl refl) }; changing = inl refl; rows_are = refl; outputs_are = refl })
 
--- the set is kept
-
 abbrev stack_8_app : StackState
-stack_8_app = record {
-  status = status.CreateComplete;
-  number = 1;
-  operation = 1;
-  held = (record { path = (codes "Web"); kind = file; physical = (codes "f1:1"); props = (file_props (codes "a") (codes "x")); attrs = (file_attrs (codes "f1:1") 1 (codes "a") (codes "x")); needs = []; deletion = deletion.Delete; replace = replace.Delete; status = held.CreateComplete; unsure = false; superseded = false } ∷ record { path = (codes "Rec"); kind = note; physical = (codes "r1:2"); props = (note_props (codes "f1:1") (codes "v")); attrs = (note_attrs (codes "r1:2") 1 (codes "f1:1") (codes "v")); needs = ((codes "Web") ∷ []); deletion = deletion.Delete; replace = replace.Delete; status = held.CreateComplete; unsure = false; superseded = false } ∷ []);
-  before = [];
-  made = [];
-  leftovers = [];
-  tokens = [];
-  abandoned = [];
-  source = Some (source_for (codes "app") 1 first);
-  going = Some (source_for (codes "app") 1 first);
-  outputs = [];
-  sets = record { number = 1; source = source_for (codes "app") 0 second; rows = rows; outputs = false } ∷ [];
-  events = ((codes "event 2 - CREATE_IN_PROGRESS") ∷ (codes "event 3 Web CREATE_IN_PROGRESS") ∷ (codes "event 4 Web CREATE_COMPLETE") ∷ (codes "event 5 Rec CREATE_IN_PROGRESS") ∷ (codes "event 6 Rec CREATE_COMPLETE") ∷ (codes "event 7 - CREATE_COMPLETE") ∷ []);
-  entries = (begun ∷ intended_web ∷ made_web ∷ intended_rec ∷ made_rec ∷ created ∷ []);
-}
+stack_8_app = record stack_7_app { sets = (record { number = 1; source = source_for (codes "app") 0 second; rows = rows; outputs = false } ∷ []) }
 
 abbrev world_8 : World
-world_8 = record { stacks = (((codes "app"), stack_8_app) ∷ []); exports = []; pins = []; claims = []; lanes = (lane_pair (codes "f1") file ∷ lane_pair (codes "r1") note ∷ []); epoch = 1; operation = 1; set = 1; token = 2; place = 8 }
+world_8 = record world_7 { stacks = (((codes "app"), stack_8_app) ∷ []); set = 1; place = 8 }
 
 leads_8 : world_after world_7 reviewed ≡ world_8
 unfolding computing

@@ -1,5 +1,5 @@
 -- An update breaks off each time that it is called: the rollback fails, and a continued one skips it.
-use Rattle.std.proofs.Common.{◌≡◌, refl, List, [], ◌∷◌, Some, None, true, false, ℕ, inl, inr, sym, ap, lit≤, true≢false}
+use Rattle.std.proofs.Common.{◌≡◌, refl, List, [], ◌∷◌, ◌++◌, Some, true, false, ℕ, inl, inr, sym, ap, lit≤, true≢false}
 use Rattle.std.specs.Prelude.{codes}
 use Rattle.cf_tree.specs.declared.request.Request.TheVariants as request
 use Rattle.cf_entry.specs.declared.turn.Reason.TheVariants as reason
@@ -24,7 +24,7 @@ use Rattle.cf_entry.specs.declared.entry.Entry.TheVariants as entry
 use Rattle.cf_entry.specs.declared.entry.Begun.TheVariants as begin
 use Rattle.cf_entry.specs.declared.status.Status.TheVariants as status
 use Rattle.cf_stacks.specs.declared.held.HeldStatus.TheVariants as held
-use Rattle.cf_stacks.specs.Fold.{fold_of}
+use Rattle.cf_stacks.specs.Fold.{fold_of, no_stack}
 use Rattle.cf_examples.specs.Given.{lane_pair, report_of}
 use Rattle.cf_examples.proofs.Refusing.{are_failed, legal_step, fold_step, refused_at}
 use Rattle.cf_examples.proofs.Beginning.{no_imports, opens_one}
@@ -38,7 +38,7 @@ unfolding computing
 may_opened = (refl, refl, λ name s e. absurd (cc))
 
 abbrev world_1 : World
-world_1 = record { stacks = []; exports = []; pins = []; claims = []; lanes = (lane_pair (codes "f1") file ∷ []); epoch = 1; operation = 0; set = 0; token = 0; place = 1 }
+world_1 = record world_0 { lanes = (lane_pair (codes "f1") file ∷ []); epoch = 1; place = 1 }
 
 leads_1 : world_after world_0 opened ≡ world_1
 unfolding computing
@@ -49,26 +49,10 @@ unfolding computing
 may_begun = (refl, refl, record { no_flaw = refl; known_types = refl; same_types = refl; imports = no_imports _ _ _ _ refl refl; free = refl; not_in_use = refl; changing = inl refl })
 
 abbrev stack_2_s : StackState
-stack_2_s = record {
-  status = status.CreateInProgress;
-  number = 1;
-  operation = 1;
-  held = [];
-  before = [];
-  made = [];
-  leftovers = [];
-  tokens = [];
-  abandoned = [];
-  source = None;
-  going = Some (source_for (codes "s") 1 first);
-  outputs = [];
-  sets = [];
-  events = ((codes "event 2 - CREATE_IN_PROGRESS") ∷ []);
-  entries = (begun ∷ []);
-}
+stack_2_s = record no_stack { status = status.CreateInProgress; number = 1; operation = 1; going = Some (source_for (codes "s") 1 first); events = ((codes "event 2 - CREATE_IN_PROGRESS") ∷ []); entries = (begun ∷ []) }
 
 abbrev world_2 : World
-world_2 = record { stacks = (((codes "s"), stack_2_s) ∷ []); exports = []; pins = []; claims = []; lanes = (lane_pair (codes "f1") file ∷ []); epoch = 1; operation = 1; set = 0; token = 0; place = 2 }
+world_2 = record world_1 { stacks = (((codes "s"), stack_2_s) ∷ []); operation = 1; place = 2 }
 
 leads_2 : world_after world_1 begun ≡ world_2
 unfolding computing
@@ -87,26 +71,10 @@ unfolding computing
 may_intended = ((codes "s"), stack_2_s, Forward, refl, refl, record { next = refl; free = refl; home = refl; fits = refl; no_repeat = refl; chosen = (sound_2, ready_2_A, not_done_new (codes "A") stack_2_s refl refl refl, (refl, tt)) })
 
 abbrev stack_3_s : StackState
-stack_3_s = record {
-  status = status.CreateInProgress;
-  number = 1;
-  operation = 1;
-  held = [];
-  before = [];
-  made = [];
-  leftovers = [];
-  tokens = (record { token = 1; path = (codes "A"); lane = (codes "f1"); request = (request.Create file (file_props (codes "a") (codes "x"))) } ∷ []);
-  abandoned = [];
-  source = None;
-  going = Some (source_for (codes "s") 1 first);
-  outputs = [];
-  sets = [];
-  events = ((codes "event 2 - CREATE_IN_PROGRESS") ∷ (codes "event 3 A CREATE_IN_PROGRESS") ∷ []);
-  entries = (begun ∷ intended ∷ []);
-}
+stack_3_s = record stack_2_s { tokens = (record { token = 1; path = (codes "A"); lane = (codes "f1"); request = (request.Create file (file_props (codes "a") (codes "x"))) } ∷ []); events = stack_2_s.events ++ (codes "event 3 A CREATE_IN_PROGRESS") ∷ []; entries = stack_2_s.entries ++ intended ∷ [] }
 
 abbrev world_3 : World
-world_3 = record { stacks = (((codes "s"), stack_3_s) ∷ []); exports = []; pins = []; claims = []; lanes = (lane_pair (codes "f1") file ∷ []); epoch = 1; operation = 1; set = 0; token = 1; place = 3 }
+world_3 = record world_2 { stacks = (((codes "s"), stack_3_s) ∷ []); token = 1; place = 3 }
 
 leads_3 : world_after world_2 intended ≡ world_3
 unfolding computing
@@ -116,27 +84,14 @@ may_made : MayFollow schemas world_3 (1 ∷ []) made
 unfolding computing
 may_made = ((codes "s"), stack_3_s, Forward, refl, refl, (refl, refl, lit≤ tt))
 
+abbrev a_1 : Held
+a_1 = record { path = (codes "A"); kind = file; physical = (codes "f1:1"); props = (file_props (codes "a") (codes "x")); attrs = (file_attrs (codes "f1:1") 1 (codes "a") (codes "x")); needs = []; deletion = deletion.Delete; replace = replace.Delete; status = held.CreateComplete; unsure = false; superseded = false }
+
 abbrev stack_4_s : StackState
-stack_4_s = record {
-  status = status.CreateInProgress;
-  number = 1;
-  operation = 1;
-  held = [];
-  before = [];
-  made = (record { path = (codes "A"); kind = file; physical = (codes "f1:1"); props = (file_props (codes "a") (codes "x")); attrs = (file_attrs (codes "f1:1") 1 (codes "a") (codes "x")); needs = []; deletion = deletion.Delete; replace = replace.Delete; status = held.CreateComplete; unsure = false; superseded = false } ∷ []);
-  leftovers = [];
-  tokens = [];
-  abandoned = [];
-  source = None;
-  going = Some (source_for (codes "s") 1 first);
-  outputs = [];
-  sets = [];
-  events = ((codes "event 2 - CREATE_IN_PROGRESS") ∷ (codes "event 3 A CREATE_IN_PROGRESS") ∷ (codes "event 4 A CREATE_COMPLETE") ∷ []);
-  entries = (begun ∷ intended ∷ made ∷ []);
-}
+stack_4_s = record stack_3_s { made = (a_1 ∷ []); tokens = []; events = stack_3_s.events ++ (codes "event 4 A CREATE_COMPLETE") ∷ []; entries = stack_3_s.entries ++ made ∷ [] }
 
 abbrev world_4 : World
-world_4 = record { stacks = (((codes "s"), stack_4_s) ∷ []); exports = []; pins = []; claims = []; lanes = (lane_pair (codes "f1") file ∷ []); epoch = 1; operation = 1; set = 0; token = 1; place = 4 }
+world_4 = record world_3 { stacks = (((codes "s"), stack_4_s) ∷ []); place = 4 }
 
 leads_4 : world_after world_3 made ≡ world_4
 unfolding computing
@@ -155,26 +110,10 @@ unfolding computing
 may_created = ((codes "s"), stack_4_s, Forward, refl, refl, (refl, end_of_create schemas (codes "s") world_4 stack_4_s refl all_done_4 sound_4 refl, (sound_4, all_done_4), refl))
 
 abbrev stack_5_s : StackState
-stack_5_s = record {
-  status = status.CreateComplete;
-  number = 1;
-  operation = 1;
-  held = (record { path = (codes "A"); kind = file; physical = (codes "f1:1"); props = (file_props (codes "a") (codes "x")); attrs = (file_attrs (codes "f1:1") 1 (codes "a") (codes "x")); needs = []; deletion = deletion.Delete; replace = replace.Delete; status = held.CreateComplete; unsure = false; superseded = false } ∷ []);
-  before = [];
-  made = [];
-  leftovers = [];
-  tokens = [];
-  abandoned = [];
-  source = Some (source_for (codes "s") 1 first);
-  going = Some (source_for (codes "s") 1 first);
-  outputs = [];
-  sets = [];
-  events = ((codes "event 2 - CREATE_IN_PROGRESS") ∷ (codes "event 3 A CREATE_IN_PROGRESS") ∷ (codes "event 4 A CREATE_COMPLETE") ∷ (codes "event 5 - CREATE_COMPLETE") ∷ []);
-  entries = (begun ∷ intended ∷ made ∷ created ∷ []);
-}
+stack_5_s = record stack_4_s { status = status.CreateComplete; held = (a_1 ∷ []); made = []; source = Some (source_for (codes "s") 1 first); events = stack_4_s.events ++ (codes "event 5 - CREATE_COMPLETE") ∷ []; entries = stack_4_s.entries ++ created ∷ [] }
 
 abbrev world_5 : World
-world_5 = record { stacks = (((codes "s"), stack_5_s) ∷ []); exports = []; pins = []; claims = []; lanes = (lane_pair (codes "f1") file ∷ []); epoch = 1; operation = 1; set = 0; token = 1; place = 5 }
+world_5 = record world_4 { stacks = (((codes "s"), stack_5_s) ∷ []); place = 5 }
 
 leads_5 : world_after world_4 created ≡ world_5
 unfolding computing
@@ -185,26 +124,10 @@ unfolding computing
 may_updating = (refl, refl, record { no_flaw = refl; known_types = refl; same_types = refl; imports = no_imports _ _ _ _ refl refl; free = refl; not_in_use = refl; changing = inr (inl refl) })
 
 abbrev stack_6_s : StackState
-stack_6_s = record {
-  status = status.UpdateInProgress;
-  number = 1;
-  operation = 2;
-  held = (record { path = (codes "A"); kind = file; physical = (codes "f1:1"); props = (file_props (codes "a") (codes "x")); attrs = (file_attrs (codes "f1:1") 1 (codes "a") (codes "x")); needs = []; deletion = deletion.Delete; replace = replace.Delete; status = held.CreateComplete; unsure = false; superseded = false } ∷ []);
-  before = (record { path = (codes "A"); kind = file; physical = (codes "f1:1"); props = (file_props (codes "a") (codes "x")); attrs = (file_attrs (codes "f1:1") 1 (codes "a") (codes "x")); needs = []; deletion = deletion.Delete; replace = replace.Delete; status = held.CreateComplete; unsure = false; superseded = false } ∷ []);
-  made = [];
-  leftovers = [];
-  tokens = [];
-  abandoned = [];
-  source = Some (source_for (codes "s") 1 first);
-  going = Some (source_for (codes "s") 1 second);
-  outputs = [];
-  sets = [];
-  events = ((codes "event 2 - CREATE_IN_PROGRESS") ∷ (codes "event 3 A CREATE_IN_PROGRESS") ∷ (codes "event 4 A CREATE_COMPLETE") ∷ (codes "event 5 - CREATE_COMPLETE") ∷ (codes "event 6 - UPDATE_IN_PROGRESS") ∷ []);
-  entries = (updating ∷ []);
-}
+stack_6_s = record stack_5_s { status = status.UpdateInProgress; operation = 2; before = (a_1 ∷ []); going = Some (source_for (codes "s") 1 second); events = stack_5_s.events ++ (codes "event 6 - UPDATE_IN_PROGRESS") ∷ []; entries = (updating ∷ []) }
 
 abbrev world_6 : World
-world_6 = record { stacks = (((codes "s"), stack_6_s) ∷ []); exports = []; pins = []; claims = []; lanes = (lane_pair (codes "f1") file ∷ []); epoch = 1; operation = 2; set = 0; token = 1; place = 6 }
+world_6 = record world_5 { stacks = (((codes "s"), stack_6_s) ∷ []); operation = 2; place = 6 }
 
 leads_6 : world_after world_5 updating ≡ world_6
 unfolding computing
@@ -223,26 +146,10 @@ unfolding computing
 may_intended_change = ((codes "s"), stack_6_s, Forward, refl, refl, record { next = refl; free = refl; home = refl; fits = ((codes "1", refl), refl); no_repeat = refl; chosen = (sound_6, ready_6_A, not_done_other (codes "A") stack_6_s (same_at (codes "Content") (codes "x")) _ _ _ refl refl refl refl refl refl, (_, refl, refl, refl, ((λ e. let z : Update ≡ Replace = e in cc), inr (λ e. let z : Update ≡ Same = e in cc)), refl)) })
 
 abbrev stack_7_s : StackState
-stack_7_s = record {
-  status = status.UpdateInProgress;
-  number = 1;
-  operation = 2;
-  held = (record { path = (codes "A"); kind = file; physical = (codes "f1:1"); props = (file_props (codes "a") (codes "x")); attrs = (file_attrs (codes "f1:1") 1 (codes "a") (codes "x")); needs = []; deletion = deletion.Delete; replace = replace.Delete; status = held.CreateComplete; unsure = false; superseded = false } ∷ []);
-  before = (record { path = (codes "A"); kind = file; physical = (codes "f1:1"); props = (file_props (codes "a") (codes "x")); attrs = (file_attrs (codes "f1:1") 1 (codes "a") (codes "x")); needs = []; deletion = deletion.Delete; replace = replace.Delete; status = held.CreateComplete; unsure = false; superseded = false } ∷ []);
-  made = [];
-  leftovers = [];
-  tokens = (record { token = 2; path = (codes "A"); lane = (codes "f1"); request = (request.Update (codes "f1:1") (file_props (codes "a") (codes "y"))) } ∷ []);
-  abandoned = [];
-  source = Some (source_for (codes "s") 1 first);
-  going = Some (source_for (codes "s") 1 second);
-  outputs = [];
-  sets = [];
-  events = ((codes "event 2 - CREATE_IN_PROGRESS") ∷ (codes "event 3 A CREATE_IN_PROGRESS") ∷ (codes "event 4 A CREATE_COMPLETE") ∷ (codes "event 5 - CREATE_COMPLETE") ∷ (codes "event 6 - UPDATE_IN_PROGRESS") ∷ (codes "event 7 A UPDATE_IN_PROGRESS") ∷ []);
-  entries = (updating ∷ intended_change ∷ []);
-}
+stack_7_s = record stack_6_s { tokens = (record { token = 2; path = (codes "A"); lane = (codes "f1"); request = (request.Update (codes "f1:1") (file_props (codes "a") (codes "y"))) } ∷ []); events = stack_6_s.events ++ (codes "event 7 A UPDATE_IN_PROGRESS") ∷ []; entries = stack_6_s.entries ++ intended_change ∷ [] }
 
 abbrev world_7 : World
-world_7 = record { stacks = (((codes "s"), stack_7_s) ∷ []); exports = []; pins = []; claims = []; lanes = (lane_pair (codes "f1") file ∷ []); epoch = 1; operation = 2; set = 0; token = 2; place = 7 }
+world_7 = record world_6 { stacks = (((codes "s"), stack_7_s) ∷ []); token = 2; place = 7 }
 
 leads_7 : world_after world_6 intended_change ≡ world_7
 unfolding computing
@@ -253,26 +160,10 @@ unfolding computing
 may_broken_once = ((codes "s"), stack_7_s, Forward, refl, refl, (refl, refl, (lit≤ tt, λ _. lit≤ tt)))
 
 abbrev stack_8_s : StackState
-stack_8_s = record {
-  status = status.UpdateInProgress;
-  number = 1;
-  operation = 2;
-  held = (record { path = (codes "A"); kind = file; physical = (codes "f1:1"); props = (file_props (codes "a") (codes "x")); attrs = (file_attrs (codes "f1:1") 1 (codes "a") (codes "x")); needs = []; deletion = deletion.Delete; replace = replace.Delete; status = held.CreateComplete; unsure = false; superseded = false } ∷ []);
-  before = (record { path = (codes "A"); kind = file; physical = (codes "f1:1"); props = (file_props (codes "a") (codes "x")); attrs = (file_attrs (codes "f1:1") 1 (codes "a") (codes "x")); needs = []; deletion = deletion.Delete; replace = replace.Delete; status = held.CreateComplete; unsure = false; superseded = false } ∷ []);
-  made = [];
-  leftovers = [];
-  tokens = (record { token = 2; path = (codes "A"); lane = (codes "f1"); request = (request.Update (codes "f1:1") (file_props (codes "a") (codes "y"))) } ∷ []);
-  abandoned = [];
-  source = Some (source_for (codes "s") 1 first);
-  going = Some (source_for (codes "s") 1 second);
-  outputs = [];
-  sets = [];
-  events = ((codes "event 2 - CREATE_IN_PROGRESS") ∷ (codes "event 3 A CREATE_IN_PROGRESS") ∷ (codes "event 4 A CREATE_COMPLETE") ∷ (codes "event 5 - CREATE_COMPLETE") ∷ (codes "event 6 - UPDATE_IN_PROGRESS") ∷ (codes "event 7 A UPDATE_IN_PROGRESS") ∷ (codes "event 8 A UPDATE_FAILED Fault") ∷ []);
-  entries = (updating ∷ intended_change ∷ broken_once ∷ []);
-}
+stack_8_s = record stack_7_s { events = stack_7_s.events ++ (codes "event 8 A UPDATE_FAILED Fault") ∷ []; entries = stack_7_s.entries ++ broken_once ∷ [] }
 
 abbrev world_8 : World
-world_8 = record { stacks = (((codes "s"), stack_8_s) ∷ []); exports = []; pins = []; claims = []; lanes = (lane_pair (codes "f1") file ∷ []); epoch = 1; operation = 2; set = 0; token = 2; place = 8 }
+world_8 = record world_7 { stacks = (((codes "s"), stack_8_s) ∷ []); place = 8 }
 
 leads_8 : world_after world_7 broken_once ≡ world_8
 unfolding computing
@@ -283,26 +174,10 @@ unfolding computing
 may_broken_twice = ((codes "s"), stack_8_s, Forward, refl, refl, (refl, refl, (lit≤ tt, λ _. lit≤ tt)))
 
 abbrev stack_9_s : StackState
-stack_9_s = record {
-  status = status.UpdateInProgress;
-  number = 1;
-  operation = 2;
-  held = (record { path = (codes "A"); kind = file; physical = (codes "f1:1"); props = (file_props (codes "a") (codes "x")); attrs = (file_attrs (codes "f1:1") 1 (codes "a") (codes "x")); needs = []; deletion = deletion.Delete; replace = replace.Delete; status = held.CreateComplete; unsure = false; superseded = false } ∷ []);
-  before = (record { path = (codes "A"); kind = file; physical = (codes "f1:1"); props = (file_props (codes "a") (codes "x")); attrs = (file_attrs (codes "f1:1") 1 (codes "a") (codes "x")); needs = []; deletion = deletion.Delete; replace = replace.Delete; status = held.CreateComplete; unsure = false; superseded = false } ∷ []);
-  made = [];
-  leftovers = [];
-  tokens = (record { token = 2; path = (codes "A"); lane = (codes "f1"); request = (request.Update (codes "f1:1") (file_props (codes "a") (codes "y"))) } ∷ []);
-  abandoned = [];
-  source = Some (source_for (codes "s") 1 first);
-  going = Some (source_for (codes "s") 1 second);
-  outputs = [];
-  sets = [];
-  events = ((codes "event 2 - CREATE_IN_PROGRESS") ∷ (codes "event 3 A CREATE_IN_PROGRESS") ∷ (codes "event 4 A CREATE_COMPLETE") ∷ (codes "event 5 - CREATE_COMPLETE") ∷ (codes "event 6 - UPDATE_IN_PROGRESS") ∷ (codes "event 7 A UPDATE_IN_PROGRESS") ∷ (codes "event 8 A UPDATE_FAILED Fault") ∷ (codes "event 9 A UPDATE_FAILED Fault") ∷ []);
-  entries = (updating ∷ intended_change ∷ broken_once ∷ broken_twice ∷ []);
-}
+stack_9_s = record stack_8_s { events = stack_8_s.events ++ (codes "event 9 A UPDATE_FAILED Fault") ∷ []; entries = stack_8_s.entries ++ broken_twice ∷ [] }
 
 abbrev world_9 : World
-world_9 = record { stacks = (((codes "s"), stack_9_s) ∷ []); exports = []; pins = []; claims = []; lanes = (lane_pair (codes "f1") file ∷ []); epoch = 1; operation = 2; set = 0; token = 2; place = 9 }
+world_9 = record world_8 { stacks = (((codes "s"), stack_9_s) ∷ []); place = 9 }
 
 leads_9 : world_after world_8 broken_twice ≡ world_9
 unfolding computing
@@ -313,26 +188,10 @@ unfolding computing
 may_broken_thrice = ((codes "s"), stack_9_s, Forward, refl, refl, (refl, refl, (lit≤ tt, λ _. lit≤ tt)))
 
 abbrev stack_10_s : StackState
-stack_10_s = record {
-  status = status.UpdateInProgress;
-  number = 1;
-  operation = 2;
-  held = (record { path = (codes "A"); kind = file; physical = (codes "f1:1"); props = (file_props (codes "a") (codes "x")); attrs = (file_attrs (codes "f1:1") 1 (codes "a") (codes "x")); needs = []; deletion = deletion.Delete; replace = replace.Delete; status = held.CreateComplete; unsure = false; superseded = false } ∷ []);
-  before = (record { path = (codes "A"); kind = file; physical = (codes "f1:1"); props = (file_props (codes "a") (codes "x")); attrs = (file_attrs (codes "f1:1") 1 (codes "a") (codes "x")); needs = []; deletion = deletion.Delete; replace = replace.Delete; status = held.CreateComplete; unsure = false; superseded = false } ∷ []);
-  made = [];
-  leftovers = [];
-  tokens = (record { token = 2; path = (codes "A"); lane = (codes "f1"); request = (request.Update (codes "f1:1") (file_props (codes "a") (codes "y"))) } ∷ []);
-  abandoned = [];
-  source = Some (source_for (codes "s") 1 first);
-  going = Some (source_for (codes "s") 1 second);
-  outputs = [];
-  sets = [];
-  events = ((codes "event 2 - CREATE_IN_PROGRESS") ∷ (codes "event 3 A CREATE_IN_PROGRESS") ∷ (codes "event 4 A CREATE_COMPLETE") ∷ (codes "event 5 - CREATE_COMPLETE") ∷ (codes "event 6 - UPDATE_IN_PROGRESS") ∷ (codes "event 7 A UPDATE_IN_PROGRESS") ∷ (codes "event 8 A UPDATE_FAILED Fault") ∷ (codes "event 9 A UPDATE_FAILED Fault") ∷ (codes "event 10 A UPDATE_FAILED Fault") ∷ []);
-  entries = (updating ∷ intended_change ∷ broken_once ∷ broken_twice ∷ broken_thrice ∷ []);
-}
+stack_10_s = record stack_9_s { events = stack_9_s.events ++ (codes "event 10 A UPDATE_FAILED Fault") ∷ []; entries = stack_9_s.entries ++ broken_thrice ∷ [] }
 
 abbrev world_10 : World
-world_10 = record { stacks = (((codes "s"), stack_10_s) ∷ []); exports = []; pins = []; claims = []; lanes = (lane_pair (codes "f1") file ∷ []); epoch = 1; operation = 2; set = 0; token = 2; place = 10 }
+world_10 = record world_9 { stacks = (((codes "s"), stack_10_s) ∷ []); place = 10 }
 
 leads_10 : world_after world_9 broken_thrice ≡ world_10
 unfolding computing
@@ -343,26 +202,10 @@ unfolding computing
 may_turned = ((codes "s"), stack_10_s, Forward, refl, refl, (refl, (refl, (inl ((2, reason.Fault), refl)), (2, refl, refl))))
 
 abbrev stack_11_s : StackState
-stack_11_s = record {
-  status = status.UpdateRollbackInProgress;
-  number = 1;
-  operation = 2;
-  held = (record { path = (codes "A"); kind = file; physical = (codes "f1:1"); props = (file_props (codes "a") (codes "x")); attrs = (file_attrs (codes "f1:1") 1 (codes "a") (codes "x")); needs = []; deletion = deletion.Delete; replace = replace.Delete; status = held.CreateComplete; unsure = false; superseded = false } ∷ []);
-  before = (record { path = (codes "A"); kind = file; physical = (codes "f1:1"); props = (file_props (codes "a") (codes "x")); attrs = (file_attrs (codes "f1:1") 1 (codes "a") (codes "x")); needs = []; deletion = deletion.Delete; replace = replace.Delete; status = held.CreateComplete; unsure = false; superseded = false } ∷ []);
-  made = [];
-  leftovers = [];
-  tokens = (record { token = 2; path = (codes "A"); lane = (codes "f1"); request = (request.Update (codes "f1:1") (file_props (codes "a") (codes "y"))) } ∷ []);
-  abandoned = [];
-  source = Some (source_for (codes "s") 1 first);
-  going = Some (source_for (codes "s") 1 second);
-  outputs = [];
-  sets = [];
-  events = ((codes "event 2 - CREATE_IN_PROGRESS") ∷ (codes "event 3 A CREATE_IN_PROGRESS") ∷ (codes "event 4 A CREATE_COMPLETE") ∷ (codes "event 5 - CREATE_COMPLETE") ∷ (codes "event 6 - UPDATE_IN_PROGRESS") ∷ (codes "event 7 A UPDATE_IN_PROGRESS") ∷ (codes "event 8 A UPDATE_FAILED Fault") ∷ (codes "event 9 A UPDATE_FAILED Fault") ∷ (codes "event 10 A UPDATE_FAILED Fault") ∷ (codes "event 11 - UPDATE_ROLLBACK_IN_PROGRESS") ∷ []);
-  entries = (updating ∷ intended_change ∷ broken_once ∷ broken_twice ∷ broken_thrice ∷ turned ∷ []);
-}
+stack_11_s = record stack_10_s { status = status.UpdateRollbackInProgress; events = stack_10_s.events ++ (codes "event 11 - UPDATE_ROLLBACK_IN_PROGRESS") ∷ []; entries = stack_10_s.entries ++ turned ∷ [] }
 
 abbrev world_11 : World
-world_11 = record { stacks = (((codes "s"), stack_11_s) ∷ []); exports = []; pins = []; claims = []; lanes = (lane_pair (codes "f1") file ∷ []); epoch = 1; operation = 2; set = 0; token = 2; place = 11 }
+world_11 = record world_10 { stacks = (((codes "s"), stack_11_s) ∷ []); place = 11 }
 
 leads_11 : world_after world_10 turned ≡ world_11
 unfolding computing
@@ -373,26 +216,10 @@ unfolding computing
 may_broken_back_once = ((codes "s"), stack_11_s, Back, refl, refl, (refl, refl, (lit≤ tt, λ _. lit≤ tt)))
 
 abbrev stack_12_s : StackState
-stack_12_s = record {
-  status = status.UpdateRollbackInProgress;
-  number = 1;
-  operation = 2;
-  held = (record { path = (codes "A"); kind = file; physical = (codes "f1:1"); props = (file_props (codes "a") (codes "x")); attrs = (file_attrs (codes "f1:1") 1 (codes "a") (codes "x")); needs = []; deletion = deletion.Delete; replace = replace.Delete; status = held.CreateComplete; unsure = false; superseded = false } ∷ []);
-  before = (record { path = (codes "A"); kind = file; physical = (codes "f1:1"); props = (file_props (codes "a") (codes "x")); attrs = (file_attrs (codes "f1:1") 1 (codes "a") (codes "x")); needs = []; deletion = deletion.Delete; replace = replace.Delete; status = held.CreateComplete; unsure = false; superseded = false } ∷ []);
-  made = [];
-  leftovers = [];
-  tokens = (record { token = 2; path = (codes "A"); lane = (codes "f1"); request = (request.Update (codes "f1:1") (file_props (codes "a") (codes "y"))) } ∷ []);
-  abandoned = [];
-  source = Some (source_for (codes "s") 1 first);
-  going = Some (source_for (codes "s") 1 second);
-  outputs = [];
-  sets = [];
-  events = ((codes "event 2 - CREATE_IN_PROGRESS") ∷ (codes "event 3 A CREATE_IN_PROGRESS") ∷ (codes "event 4 A CREATE_COMPLETE") ∷ (codes "event 5 - CREATE_COMPLETE") ∷ (codes "event 6 - UPDATE_IN_PROGRESS") ∷ (codes "event 7 A UPDATE_IN_PROGRESS") ∷ (codes "event 8 A UPDATE_FAILED Fault") ∷ (codes "event 9 A UPDATE_FAILED Fault") ∷ (codes "event 10 A UPDATE_FAILED Fault") ∷ (codes "event 11 - UPDATE_ROLLBACK_IN_PROGRESS") ∷ (codes "event 12 A UPDATE_FAILED Fault") ∷ []);
-  entries = (updating ∷ intended_change ∷ broken_once ∷ broken_twice ∷ broken_thrice ∷ turned ∷ broken_back_once ∷ []);
-}
+stack_12_s = record stack_11_s { events = stack_11_s.events ++ (codes "event 12 A UPDATE_FAILED Fault") ∷ []; entries = stack_11_s.entries ++ broken_back_once ∷ [] }
 
 abbrev world_12 : World
-world_12 = record { stacks = (((codes "s"), stack_12_s) ∷ []); exports = []; pins = []; claims = []; lanes = (lane_pair (codes "f1") file ∷ []); epoch = 1; operation = 2; set = 0; token = 2; place = 12 }
+world_12 = record world_11 { stacks = (((codes "s"), stack_12_s) ∷ []); place = 12 }
 
 leads_12 : world_after world_11 broken_back_once ≡ world_12
 unfolding computing
@@ -403,26 +230,10 @@ unfolding computing
 may_broken_back_twice = ((codes "s"), stack_12_s, Back, refl, refl, (refl, refl, (lit≤ tt, λ _. lit≤ tt)))
 
 abbrev stack_13_s : StackState
-stack_13_s = record {
-  status = status.UpdateRollbackInProgress;
-  number = 1;
-  operation = 2;
-  held = (record { path = (codes "A"); kind = file; physical = (codes "f1:1"); props = (file_props (codes "a") (codes "x")); attrs = (file_attrs (codes "f1:1") 1 (codes "a") (codes "x")); needs = []; deletion = deletion.Delete; replace = replace.Delete; status = held.CreateComplete; unsure = false; superseded = false } ∷ []);
-  before = (record { path = (codes "A"); kind = file; physical = (codes "f1:1"); props = (file_props (codes "a") (codes "x")); attrs = (file_attrs (codes "f1:1") 1 (codes "a") (codes "x")); needs = []; deletion = deletion.Delete; replace = replace.Delete; status = held.CreateComplete; unsure = false; superseded = false } ∷ []);
-  made = [];
-  leftovers = [];
-  tokens = (record { token = 2; path = (codes "A"); lane = (codes "f1"); request = (request.Update (codes "f1:1") (file_props (codes "a") (codes "y"))) } ∷ []);
-  abandoned = [];
-  source = Some (source_for (codes "s") 1 first);
-  going = Some (source_for (codes "s") 1 second);
-  outputs = [];
-  sets = [];
-  events = ((codes "event 2 - CREATE_IN_PROGRESS") ∷ (codes "event 3 A CREATE_IN_PROGRESS") ∷ (codes "event 4 A CREATE_COMPLETE") ∷ (codes "event 5 - CREATE_COMPLETE") ∷ (codes "event 6 - UPDATE_IN_PROGRESS") ∷ (codes "event 7 A UPDATE_IN_PROGRESS") ∷ (codes "event 8 A UPDATE_FAILED Fault") ∷ (codes "event 9 A UPDATE_FAILED Fault") ∷ (codes "event 10 A UPDATE_FAILED Fault") ∷ (codes "event 11 - UPDATE_ROLLBACK_IN_PROGRESS") ∷ (codes "event 12 A UPDATE_FAILED Fault") ∷ (codes "event 13 A UPDATE_FAILED Fault") ∷ []);
-  entries = (updating ∷ intended_change ∷ broken_once ∷ broken_twice ∷ broken_thrice ∷ turned ∷ broken_back_once ∷ broken_back_twice ∷ []);
-}
+stack_13_s = record stack_12_s { events = stack_12_s.events ++ (codes "event 13 A UPDATE_FAILED Fault") ∷ []; entries = stack_12_s.entries ++ broken_back_twice ∷ [] }
 
 abbrev world_13 : World
-world_13 = record { stacks = (((codes "s"), stack_13_s) ∷ []); exports = []; pins = []; claims = []; lanes = (lane_pair (codes "f1") file ∷ []); epoch = 1; operation = 2; set = 0; token = 2; place = 13 }
+world_13 = record world_12 { stacks = (((codes "s"), stack_13_s) ∷ []); place = 13 }
 
 leads_13 : world_after world_12 broken_back_twice ≡ world_13
 unfolding computing
@@ -433,26 +244,10 @@ unfolding computing
 may_broken_back_thrice = ((codes "s"), stack_13_s, Back, refl, refl, (refl, refl, (lit≤ tt, λ _. lit≤ tt)))
 
 abbrev stack_14_s : StackState
-stack_14_s = record {
-  status = status.UpdateRollbackInProgress;
-  number = 1;
-  operation = 2;
-  held = (record { path = (codes "A"); kind = file; physical = (codes "f1:1"); props = (file_props (codes "a") (codes "x")); attrs = (file_attrs (codes "f1:1") 1 (codes "a") (codes "x")); needs = []; deletion = deletion.Delete; replace = replace.Delete; status = held.CreateComplete; unsure = false; superseded = false } ∷ []);
-  before = (record { path = (codes "A"); kind = file; physical = (codes "f1:1"); props = (file_props (codes "a") (codes "x")); attrs = (file_attrs (codes "f1:1") 1 (codes "a") (codes "x")); needs = []; deletion = deletion.Delete; replace = replace.Delete; status = held.CreateComplete; unsure = false; superseded = false } ∷ []);
-  made = [];
-  leftovers = [];
-  tokens = (record { token = 2; path = (codes "A"); lane = (codes "f1"); request = (request.Update (codes "f1:1") (file_props (codes "a") (codes "y"))) } ∷ []);
-  abandoned = [];
-  source = Some (source_for (codes "s") 1 first);
-  going = Some (source_for (codes "s") 1 second);
-  outputs = [];
-  sets = [];
-  events = ((codes "event 2 - CREATE_IN_PROGRESS") ∷ (codes "event 3 A CREATE_IN_PROGRESS") ∷ (codes "event 4 A CREATE_COMPLETE") ∷ (codes "event 5 - CREATE_COMPLETE") ∷ (codes "event 6 - UPDATE_IN_PROGRESS") ∷ (codes "event 7 A UPDATE_IN_PROGRESS") ∷ (codes "event 8 A UPDATE_FAILED Fault") ∷ (codes "event 9 A UPDATE_FAILED Fault") ∷ (codes "event 10 A UPDATE_FAILED Fault") ∷ (codes "event 11 - UPDATE_ROLLBACK_IN_PROGRESS") ∷ (codes "event 12 A UPDATE_FAILED Fault") ∷ (codes "event 13 A UPDATE_FAILED Fault") ∷ (codes "event 14 A UPDATE_FAILED Fault") ∷ []);
-  entries = (updating ∷ intended_change ∷ broken_once ∷ broken_twice ∷ broken_thrice ∷ turned ∷ broken_back_once ∷ broken_back_twice ∷ broken_back_thrice ∷ []);
-}
+stack_14_s = record stack_13_s { events = stack_13_s.events ++ (codes "event 14 A UPDATE_FAILED Fault") ∷ []; entries = stack_13_s.entries ++ broken_back_thrice ∷ [] }
 
 abbrev world_14 : World
-world_14 = record { stacks = (((codes "s"), stack_14_s) ∷ []); exports = []; pins = []; claims = []; lanes = (lane_pair (codes "f1") file ∷ []); epoch = 1; operation = 2; set = 0; token = 2; place = 14 }
+world_14 = record world_13 { stacks = (((codes "s"), stack_14_s) ∷ []); place = 14 }
 
 leads_14 : world_after world_13 broken_back_thrice ≡ world_14
 unfolding computing
@@ -462,27 +257,14 @@ may_failed : MayFollow schemas world_14 [] failed
 unfolding computing
 may_failed = ((codes "s"), stack_14_s, Back, refl, refl, (refl, end_of_undoing schemas (codes "s") world_14 stack_14_s refl refl (λ e f. not_empty stack_14_s.tokens refl e) refl, tt, (refl, are_failed stack_14_s ((codes "A") ∷ []) refl refl)))
 
+abbrev a_2 : Held
+a_2 = record { path = (codes "A"); kind = file; physical = (codes "f1:1"); props = (file_props (codes "a") (codes "x")); attrs = (file_attrs (codes "f1:1") 1 (codes "a") (codes "x")); needs = []; deletion = deletion.Delete; replace = replace.Delete; status = held.UpdateFailed; unsure = false; superseded = false }
+
 abbrev stack_15_s : StackState
-stack_15_s = record {
-  status = status.UpdateRollbackFailed;
-  number = 1;
-  operation = 2;
-  held = (record { path = (codes "A"); kind = file; physical = (codes "f1:1"); props = (file_props (codes "a") (codes "x")); attrs = (file_attrs (codes "f1:1") 1 (codes "a") (codes "x")); needs = []; deletion = deletion.Delete; replace = replace.Delete; status = held.UpdateFailed; unsure = false; superseded = false } ∷ []);
-  before = (record { path = (codes "A"); kind = file; physical = (codes "f1:1"); props = (file_props (codes "a") (codes "x")); attrs = (file_attrs (codes "f1:1") 1 (codes "a") (codes "x")); needs = []; deletion = deletion.Delete; replace = replace.Delete; status = held.CreateComplete; unsure = false; superseded = false } ∷ []);
-  made = [];
-  leftovers = [];
-  tokens = (record { token = 2; path = (codes "A"); lane = (codes "f1"); request = (request.Update (codes "f1:1") (file_props (codes "a") (codes "y"))) } ∷ []);
-  abandoned = [];
-  source = Some (source_for (codes "s") 1 first);
-  going = Some (source_for (codes "s") 1 second);
-  outputs = [];
-  sets = [];
-  events = ((codes "event 2 - CREATE_IN_PROGRESS") ∷ (codes "event 3 A CREATE_IN_PROGRESS") ∷ (codes "event 4 A CREATE_COMPLETE") ∷ (codes "event 5 - CREATE_COMPLETE") ∷ (codes "event 6 - UPDATE_IN_PROGRESS") ∷ (codes "event 7 A UPDATE_IN_PROGRESS") ∷ (codes "event 8 A UPDATE_FAILED Fault") ∷ (codes "event 9 A UPDATE_FAILED Fault") ∷ (codes "event 10 A UPDATE_FAILED Fault") ∷ (codes "event 11 - UPDATE_ROLLBACK_IN_PROGRESS") ∷ (codes "event 12 A UPDATE_FAILED Fault") ∷ (codes "event 13 A UPDATE_FAILED Fault") ∷ (codes "event 14 A UPDATE_FAILED Fault") ∷ (codes "event 15 - UPDATE_ROLLBACK_FAILED") ∷ []);
-  entries = (updating ∷ intended_change ∷ broken_once ∷ broken_twice ∷ broken_thrice ∷ turned ∷ broken_back_once ∷ broken_back_twice ∷ broken_back_thrice ∷ failed ∷ []);
-}
+stack_15_s = record stack_14_s { status = status.UpdateRollbackFailed; held = (a_2 ∷ []); events = stack_14_s.events ++ (codes "event 15 - UPDATE_ROLLBACK_FAILED") ∷ []; entries = stack_14_s.entries ++ failed ∷ [] }
 
 abbrev world_15 : World
-world_15 = record { stacks = (((codes "s"), stack_15_s) ∷ []); exports = []; pins = []; claims = []; lanes = (lane_pair (codes "f1") file ∷ []); epoch = 1; operation = 2; set = 0; token = 2; place = 15 }
+world_15 = record world_14 { stacks = (((codes "s"), stack_15_s) ∷ []); place = 15 }
 
 leads_15 : world_after world_14 failed ≡ world_15
 unfolding computing
@@ -493,26 +275,10 @@ unfolding computing
 may_opened_again = (refl, refl, opens_one _ world_15 (codes "s") stack_15_s refl ((λ h i. only (λ (g : Held). IsNamedLane (lane_pair (codes "f1") file ∷ []) g.physical g.kind) (lane_pair (codes "f1") file, here, (codes "1", refl), refl) h i), (λ p i. only (λ (q : Pending). (l : List ℕ × List ℕ) × In l (lane_pair (codes "f1") file ∷ []) × IsLaneFor q l) (lane_pair (codes "f1") file, here, (refl, tt)) p i)))
 
 abbrev stack_16_s : StackState
-stack_16_s = record {
-  status = status.UpdateRollbackFailed;
-  number = 1;
-  operation = 2;
-  held = (record { path = (codes "A"); kind = file; physical = (codes "f1:1"); props = (file_props (codes "a") (codes "x")); attrs = (file_attrs (codes "f1:1") 1 (codes "a") (codes "x")); needs = []; deletion = deletion.Delete; replace = replace.Delete; status = held.UpdateFailed; unsure = false; superseded = false } ∷ []);
-  before = (record { path = (codes "A"); kind = file; physical = (codes "f1:1"); props = (file_props (codes "a") (codes "x")); attrs = (file_attrs (codes "f1:1") 1 (codes "a") (codes "x")); needs = []; deletion = deletion.Delete; replace = replace.Delete; status = held.CreateComplete; unsure = false; superseded = false } ∷ []);
-  made = [];
-  leftovers = [];
-  tokens = (record { token = 2; path = (codes "A"); lane = (codes "f1"); request = (request.Update (codes "f1:1") (file_props (codes "a") (codes "y"))) } ∷ []);
-  abandoned = [];
-  source = Some (source_for (codes "s") 1 first);
-  going = Some (source_for (codes "s") 1 second);
-  outputs = [];
-  sets = [];
-  events = ((codes "event 2 - CREATE_IN_PROGRESS") ∷ (codes "event 3 A CREATE_IN_PROGRESS") ∷ (codes "event 4 A CREATE_COMPLETE") ∷ (codes "event 5 - CREATE_COMPLETE") ∷ (codes "event 6 - UPDATE_IN_PROGRESS") ∷ (codes "event 7 A UPDATE_IN_PROGRESS") ∷ (codes "event 8 A UPDATE_FAILED Fault") ∷ (codes "event 9 A UPDATE_FAILED Fault") ∷ (codes "event 10 A UPDATE_FAILED Fault") ∷ (codes "event 11 - UPDATE_ROLLBACK_IN_PROGRESS") ∷ (codes "event 12 A UPDATE_FAILED Fault") ∷ (codes "event 13 A UPDATE_FAILED Fault") ∷ (codes "event 14 A UPDATE_FAILED Fault") ∷ (codes "event 15 - UPDATE_ROLLBACK_FAILED") ∷ []);
-  entries = (updating ∷ intended_change ∷ broken_once ∷ broken_twice ∷ broken_thrice ∷ turned ∷ broken_back_once ∷ broken_back_twice ∷ broken_back_thrice ∷ failed ∷ opened_again ∷ []);
-}
+stack_16_s = record stack_15_s { entries = stack_15_s.entries ++ opened_again ∷ [] }
 
 abbrev world_16 : World
-world_16 = record { stacks = (((codes "s"), stack_16_s) ∷ []); exports = []; pins = []; claims = []; lanes = (lane_pair (codes "f1") file ∷ []); epoch = 2; operation = 2; set = 0; token = 2; place = 16 }
+world_16 = record world_15 { stacks = (((codes "s"), stack_16_s) ∷ []); epoch = 2; place = 16 }
 
 leads_16 : world_after world_15 opened_again ≡ world_16
 unfolding computing
@@ -522,27 +288,14 @@ may_continued : MayFollow schemas world_16 [] continued
 unfolding computing
 may_continued = (refl, refl, (refl, refl, refl))
 
+abbrev a_3 : Held
+a_3 = record { path = (codes "A"); kind = file; physical = (codes "f1:1"); props = (file_props (codes "a") (codes "x")); attrs = (file_attrs (codes "f1:1") 1 (codes "a") (codes "x")); needs = []; deletion = deletion.Delete; replace = replace.Delete; status = held.UpdateComplete; unsure = true; superseded = false }
+
 abbrev stack_17_s : StackState
-stack_17_s = record {
-  status = status.UpdateRollbackInProgress;
-  number = 1;
-  operation = 3;
-  held = (record { path = (codes "A"); kind = file; physical = (codes "f1:1"); props = (file_props (codes "a") (codes "x")); attrs = (file_attrs (codes "f1:1") 1 (codes "a") (codes "x")); needs = []; deletion = deletion.Delete; replace = replace.Delete; status = held.UpdateComplete; unsure = true; superseded = false } ∷ []);
-  before = (record { path = (codes "A"); kind = file; physical = (codes "f1:1"); props = (file_props (codes "a") (codes "x")); attrs = (file_attrs (codes "f1:1") 1 (codes "a") (codes "x")); needs = []; deletion = deletion.Delete; replace = replace.Delete; status = held.CreateComplete; unsure = false; superseded = false } ∷ []);
-  made = [];
-  leftovers = [];
-  tokens = [];
-  abandoned = [];
-  source = Some (source_for (codes "s") 1 first);
-  going = Some (source_for (codes "s") 1 second);
-  outputs = [];
-  sets = [];
-  events = ((codes "event 2 - CREATE_IN_PROGRESS") ∷ (codes "event 3 A CREATE_IN_PROGRESS") ∷ (codes "event 4 A CREATE_COMPLETE") ∷ (codes "event 5 - CREATE_COMPLETE") ∷ (codes "event 6 - UPDATE_IN_PROGRESS") ∷ (codes "event 7 A UPDATE_IN_PROGRESS") ∷ (codes "event 8 A UPDATE_FAILED Fault") ∷ (codes "event 9 A UPDATE_FAILED Fault") ∷ (codes "event 10 A UPDATE_FAILED Fault") ∷ (codes "event 11 - UPDATE_ROLLBACK_IN_PROGRESS") ∷ (codes "event 12 A UPDATE_FAILED Fault") ∷ (codes "event 13 A UPDATE_FAILED Fault") ∷ (codes "event 14 A UPDATE_FAILED Fault") ∷ (codes "event 15 - UPDATE_ROLLBACK_FAILED") ∷ (codes "event 17 - UPDATE_ROLLBACK_IN_PROGRESS") ∷ []);
-  entries = (updating ∷ intended_change ∷ broken_once ∷ broken_twice ∷ broken_thrice ∷ turned ∷ broken_back_once ∷ broken_back_twice ∷ broken_back_thrice ∷ failed ∷ opened_again ∷ continued ∷ []);
-}
+stack_17_s = record stack_16_s { status = status.UpdateRollbackInProgress; operation = 3; held = (a_3 ∷ []); tokens = []; events = stack_16_s.events ++ (codes "event 17 - UPDATE_ROLLBACK_IN_PROGRESS") ∷ []; entries = stack_16_s.entries ++ continued ∷ [] }
 
 abbrev world_17 : World
-world_17 = record { stacks = (((codes "s"), stack_17_s) ∷ []); exports = []; pins = []; claims = []; lanes = (lane_pair (codes "f1") file ∷ []); epoch = 2; operation = 3; set = 0; token = 2; place = 17 }
+world_17 = record world_16 { stacks = (((codes "s"), stack_17_s) ∷ []); operation = 3; place = 17 }
 
 leads_17 : world_after world_16 continued ≡ world_17
 unfolding computing
@@ -553,26 +306,10 @@ unfolding computing
 may_cleaning = ((codes "s"), stack_17_s, Back, refl, refl, (refl, (refl, refl, nothing_to_restore stack_17_s refl, refl)))
 
 abbrev stack_18_s : StackState
-stack_18_s = record {
-  status = status.UpdateRollbackCompleteCleanupInProgress;
-  number = 1;
-  operation = 3;
-  held = (record { path = (codes "A"); kind = file; physical = (codes "f1:1"); props = (file_props (codes "a") (codes "x")); attrs = (file_attrs (codes "f1:1") 1 (codes "a") (codes "x")); needs = []; deletion = deletion.Delete; replace = replace.Delete; status = held.UpdateComplete; unsure = true; superseded = false } ∷ []);
-  before = (record { path = (codes "A"); kind = file; physical = (codes "f1:1"); props = (file_props (codes "a") (codes "x")); attrs = (file_attrs (codes "f1:1") 1 (codes "a") (codes "x")); needs = []; deletion = deletion.Delete; replace = replace.Delete; status = held.CreateComplete; unsure = false; superseded = false } ∷ []);
-  made = [];
-  leftovers = [];
-  tokens = [];
-  abandoned = [];
-  source = Some (source_for (codes "s") 1 first);
-  going = Some (source_for (codes "s") 1 second);
-  outputs = [];
-  sets = [];
-  events = ((codes "event 2 - CREATE_IN_PROGRESS") ∷ (codes "event 3 A CREATE_IN_PROGRESS") ∷ (codes "event 4 A CREATE_COMPLETE") ∷ (codes "event 5 - CREATE_COMPLETE") ∷ (codes "event 6 - UPDATE_IN_PROGRESS") ∷ (codes "event 7 A UPDATE_IN_PROGRESS") ∷ (codes "event 8 A UPDATE_FAILED Fault") ∷ (codes "event 9 A UPDATE_FAILED Fault") ∷ (codes "event 10 A UPDATE_FAILED Fault") ∷ (codes "event 11 - UPDATE_ROLLBACK_IN_PROGRESS") ∷ (codes "event 12 A UPDATE_FAILED Fault") ∷ (codes "event 13 A UPDATE_FAILED Fault") ∷ (codes "event 14 A UPDATE_FAILED Fault") ∷ (codes "event 15 - UPDATE_ROLLBACK_FAILED") ∷ (codes "event 17 - UPDATE_ROLLBACK_IN_PROGRESS") ∷ (codes "event 18 - UPDATE_ROLLBACK_COMPLETE_CLEANUP_IN_PROGRESS") ∷ []);
-  entries = (updating ∷ intended_change ∷ broken_once ∷ broken_twice ∷ broken_thrice ∷ turned ∷ broken_back_once ∷ broken_back_twice ∷ broken_back_thrice ∷ failed ∷ opened_again ∷ continued ∷ cleaning ∷ []);
-}
+stack_18_s = record stack_17_s { status = status.UpdateRollbackCompleteCleanupInProgress; events = stack_17_s.events ++ (codes "event 18 - UPDATE_ROLLBACK_COMPLETE_CLEANUP_IN_PROGRESS") ∷ []; entries = stack_17_s.entries ++ cleaning ∷ [] }
 
 abbrev world_18 : World
-world_18 = record { stacks = (((codes "s"), stack_18_s) ∷ []); exports = []; pins = []; claims = []; lanes = (lane_pair (codes "f1") file ∷ []); epoch = 2; operation = 3; set = 0; token = 2; place = 18 }
+world_18 = record world_17 { stacks = (((codes "s"), stack_18_s) ∷ []); place = 18 }
 
 leads_18 : world_after world_17 cleaning ≡ world_18
 unfolding computing
@@ -583,26 +320,10 @@ unfolding computing
 may_rolled_back = ((codes "s"), stack_18_s, BackClean, refl, refl, (refl, end_of_back_clean schemas (codes "s") world_18 stack_18_s refl refl refl, tt, refl))
 
 abbrev stack_19_s : StackState
-stack_19_s = record {
-  status = status.UpdateRollbackComplete;
-  number = 1;
-  operation = 3;
-  held = (record { path = (codes "A"); kind = file; physical = (codes "f1:1"); props = (file_props (codes "a") (codes "x")); attrs = (file_attrs (codes "f1:1") 1 (codes "a") (codes "x")); needs = []; deletion = deletion.Delete; replace = replace.Delete; status = held.UpdateComplete; unsure = true; superseded = false } ∷ []);
-  before = (record { path = (codes "A"); kind = file; physical = (codes "f1:1"); props = (file_props (codes "a") (codes "x")); attrs = (file_attrs (codes "f1:1") 1 (codes "a") (codes "x")); needs = []; deletion = deletion.Delete; replace = replace.Delete; status = held.CreateComplete; unsure = false; superseded = false } ∷ []);
-  made = [];
-  leftovers = [];
-  tokens = [];
-  abandoned = [];
-  source = Some (source_for (codes "s") 1 first);
-  going = Some (source_for (codes "s") 1 second);
-  outputs = [];
-  sets = [];
-  events = ((codes "event 2 - CREATE_IN_PROGRESS") ∷ (codes "event 3 A CREATE_IN_PROGRESS") ∷ (codes "event 4 A CREATE_COMPLETE") ∷ (codes "event 5 - CREATE_COMPLETE") ∷ (codes "event 6 - UPDATE_IN_PROGRESS") ∷ (codes "event 7 A UPDATE_IN_PROGRESS") ∷ (codes "event 8 A UPDATE_FAILED Fault") ∷ (codes "event 9 A UPDATE_FAILED Fault") ∷ (codes "event 10 A UPDATE_FAILED Fault") ∷ (codes "event 11 - UPDATE_ROLLBACK_IN_PROGRESS") ∷ (codes "event 12 A UPDATE_FAILED Fault") ∷ (codes "event 13 A UPDATE_FAILED Fault") ∷ (codes "event 14 A UPDATE_FAILED Fault") ∷ (codes "event 15 - UPDATE_ROLLBACK_FAILED") ∷ (codes "event 17 - UPDATE_ROLLBACK_IN_PROGRESS") ∷ (codes "event 18 - UPDATE_ROLLBACK_COMPLETE_CLEANUP_IN_PROGRESS") ∷ (codes "event 19 - UPDATE_ROLLBACK_COMPLETE") ∷ []);
-  entries = (updating ∷ intended_change ∷ broken_once ∷ broken_twice ∷ broken_thrice ∷ turned ∷ broken_back_once ∷ broken_back_twice ∷ broken_back_thrice ∷ failed ∷ opened_again ∷ continued ∷ cleaning ∷ rolled_back ∷ []);
-}
+stack_19_s = record stack_18_s { status = status.UpdateRollbackComplete; events = stack_18_s.events ++ (codes "event 19 - UPDATE_ROLLBACK_COMPLETE") ∷ []; entries = stack_18_s.entries ++ rolled_back ∷ [] }
 
 abbrev world_19 : World
-world_19 = record { stacks = (((codes "s"), stack_19_s) ∷ []); exports = []; pins = []; claims = []; lanes = (lane_pair (codes "f1") file ∷ []); epoch = 2; operation = 3; set = 0; token = 2; place = 19 }
+world_19 = record world_18 { stacks = (((codes "s"), stack_19_s) ∷ []); place = 19 }
 
 leads_19 : world_after world_18 rolled_back ≡ world_19
 unfolding computing

@@ -1,10 +1,11 @@
 -- A file is moved onto the name of another one: the handler refuses, and the update is taken back.
-use Rattle.std.proofs.Common.{◌≡◌, refl, List, [], ◌∷◌, Some, None, false, ℕ, inl, inr, ap, lit≤}
+use Rattle.std.proofs.Common.{◌≡◌, refl, List, [], ◌∷◌, ◌++◌, Some, false, ℕ, inl, inr, ap, lit≤}
 use Rattle.std.specs.Prelude.{codes}
 use Rattle.cf_tree.specs.declared.request.Request.TheVariants as request
 use Rattle.cf_tree.specs.declared.code.Code.TheVariants as code
 use Rattle.cf_entry.specs.declared.turn.Reason.TheVariants as reason
 use Rattle.cf_entry.specs.declared.entry.Entry.{Entry}
+use Rattle.cf_stacks.specs.declared.held.Held.{Held}
 use Rattle.cf_stacks.specs.declared.state.World.{World}
 use Rattle.cf_stacks.specs.declared.state.StackState.{StackState}
 use Rattle.cf_stacks.specs.Fold.{empty_world, world_after, source_for}
@@ -21,7 +22,7 @@ use Rattle.cf_tree.specs.declared.template.Replace.TheVariants as replace
 use Rattle.cf_entry.specs.declared.entry.Entry.TheVariants as entry
 use Rattle.cf_entry.specs.declared.status.Status.TheVariants as status
 use Rattle.cf_stacks.specs.declared.held.HeldStatus.TheVariants as held
-use Rattle.cf_stacks.specs.Fold.{fold_of}
+use Rattle.cf_stacks.specs.Fold.{fold_of, no_stack}
 use Rattle.cf_examples.specs.Given.{lane_pair, report_of}
 use Rattle.cf_examples.proofs.Refusing.{follows_on, legal_step, fold_step, refused_at}
 use Rattle.cf_examples.proofs.Beginning.{no_imports}
@@ -35,7 +36,7 @@ unfolding computing
 may_opened = (refl, refl, λ name s e. absurd (cc))
 
 abbrev world_1 : World
-world_1 = record { stacks = []; exports = []; pins = []; claims = []; lanes = (lane_pair (codes "f1") file ∷ []); epoch = 1; operation = 0; set = 0; token = 0; place = 1 }
+world_1 = record world_0 { lanes = (lane_pair (codes "f1") file ∷ []); epoch = 1; place = 1 }
 
 leads_1 : world_after world_0 opened ≡ world_1
 unfolding computing
@@ -46,26 +47,10 @@ unfolding computing
 may_begun = (refl, refl, record { no_flaw = refl; known_types = refl; same_types = refl; imports = no_imports _ _ _ _ refl refl; free = refl; not_in_use = refl; changing = inl refl })
 
 abbrev stack_2_two : StackState
-stack_2_two = record {
-  status = status.CreateInProgress;
-  number = 1;
-  operation = 1;
-  held = [];
-  before = [];
-  made = [];
-  leftovers = [];
-  tokens = [];
-  abandoned = [];
-  source = None;
-  going = Some (source_for (codes "two") 1 first);
-  outputs = [];
-  sets = [];
-  events = ((codes "event 2 - CREATE_IN_PROGRESS") ∷ []);
-  entries = (begun ∷ []);
-}
+stack_2_two = record no_stack { status = status.CreateInProgress; number = 1; operation = 1; going = Some (source_for (codes "two") 1 first); events = ((codes "event 2 - CREATE_IN_PROGRESS") ∷ []); entries = (begun ∷ []) }
 
 abbrev world_2 : World
-world_2 = record { stacks = (((codes "two"), stack_2_two) ∷ []); exports = []; pins = []; claims = []; lanes = (lane_pair (codes "f1") file ∷ []); epoch = 1; operation = 1; set = 0; token = 0; place = 2 }
+world_2 = record world_1 { stacks = (((codes "two"), stack_2_two) ∷ []); operation = 1; place = 2 }
 
 leads_2 : world_after world_1 begun ≡ world_2
 unfolding computing
@@ -84,26 +69,10 @@ unfolding computing
 may_intended_a = ((codes "two"), stack_2_two, Forward, refl, refl, record { next = refl; free = refl; home = refl; fits = refl; no_repeat = refl; chosen = (sound_2, ready_2_A, not_done_new (codes "A") stack_2_two refl refl refl, (refl, tt)) })
 
 abbrev stack_3_two : StackState
-stack_3_two = record {
-  status = status.CreateInProgress;
-  number = 1;
-  operation = 1;
-  held = [];
-  before = [];
-  made = [];
-  leftovers = [];
-  tokens = (record { token = 1; path = (codes "A"); lane = (codes "f1"); request = (request.Create file (file_props (codes "a") (codes "x"))) } ∷ []);
-  abandoned = [];
-  source = None;
-  going = Some (source_for (codes "two") 1 first);
-  outputs = [];
-  sets = [];
-  events = ((codes "event 2 - CREATE_IN_PROGRESS") ∷ (codes "event 3 A CREATE_IN_PROGRESS") ∷ []);
-  entries = (begun ∷ intended_a ∷ []);
-}
+stack_3_two = record stack_2_two { tokens = (record { token = 1; path = (codes "A"); lane = (codes "f1"); request = (request.Create file (file_props (codes "a") (codes "x"))) } ∷ []); events = stack_2_two.events ++ (codes "event 3 A CREATE_IN_PROGRESS") ∷ []; entries = stack_2_two.entries ++ intended_a ∷ [] }
 
 abbrev world_3 : World
-world_3 = record { stacks = (((codes "two"), stack_3_two) ∷ []); exports = []; pins = []; claims = []; lanes = (lane_pair (codes "f1") file ∷ []); epoch = 1; operation = 1; set = 0; token = 1; place = 3 }
+world_3 = record world_2 { stacks = (((codes "two"), stack_3_two) ∷ []); token = 1; place = 3 }
 
 leads_3 : world_after world_2 intended_a ≡ world_3
 unfolding computing
@@ -113,27 +82,14 @@ may_made_a : MayFollow schemas world_3 (1 ∷ []) made_a
 unfolding computing
 may_made_a = ((codes "two"), stack_3_two, Forward, refl, refl, (refl, refl, lit≤ tt))
 
+abbrev a_1 : Held
+a_1 = record { path = (codes "A"); kind = file; physical = (codes "f1:1"); props = (file_props (codes "a") (codes "x")); attrs = (file_attrs (codes "f1:1") 1 (codes "a") (codes "x")); needs = []; deletion = deletion.Delete; replace = replace.Delete; status = held.CreateComplete; unsure = false; superseded = false }
+
 abbrev stack_4_two : StackState
-stack_4_two = record {
-  status = status.CreateInProgress;
-  number = 1;
-  operation = 1;
-  held = [];
-  before = [];
-  made = (record { path = (codes "A"); kind = file; physical = (codes "f1:1"); props = (file_props (codes "a") (codes "x")); attrs = (file_attrs (codes "f1:1") 1 (codes "a") (codes "x")); needs = []; deletion = deletion.Delete; replace = replace.Delete; status = held.CreateComplete; unsure = false; superseded = false } ∷ []);
-  leftovers = [];
-  tokens = [];
-  abandoned = [];
-  source = None;
-  going = Some (source_for (codes "two") 1 first);
-  outputs = [];
-  sets = [];
-  events = ((codes "event 2 - CREATE_IN_PROGRESS") ∷ (codes "event 3 A CREATE_IN_PROGRESS") ∷ (codes "event 4 A CREATE_COMPLETE") ∷ []);
-  entries = (begun ∷ intended_a ∷ made_a ∷ []);
-}
+stack_4_two = record stack_3_two { made = (a_1 ∷ []); tokens = []; events = stack_3_two.events ++ (codes "event 4 A CREATE_COMPLETE") ∷ []; entries = stack_3_two.entries ++ made_a ∷ [] }
 
 abbrev world_4 : World
-world_4 = record { stacks = (((codes "two"), stack_4_two) ∷ []); exports = []; pins = []; claims = []; lanes = (lane_pair (codes "f1") file ∷ []); epoch = 1; operation = 1; set = 0; token = 1; place = 4 }
+world_4 = record world_3 { stacks = (((codes "two"), stack_4_two) ∷ []); place = 4 }
 
 leads_4 : world_after world_3 made_a ≡ world_4
 unfolding computing
@@ -152,26 +108,10 @@ unfolding computing
 may_intended_b = ((codes "two"), stack_4_two, Forward, refl, refl, record { next = refl; free = refl; home = refl; fits = refl; no_repeat = refl; chosen = (sound_4, ready_4_B, not_done_new (codes "B") stack_4_two refl refl refl, (refl, tt)) })
 
 abbrev stack_5_two : StackState
-stack_5_two = record {
-  status = status.CreateInProgress;
-  number = 1;
-  operation = 1;
-  held = [];
-  before = [];
-  made = (record { path = (codes "A"); kind = file; physical = (codes "f1:1"); props = (file_props (codes "a") (codes "x")); attrs = (file_attrs (codes "f1:1") 1 (codes "a") (codes "x")); needs = []; deletion = deletion.Delete; replace = replace.Delete; status = held.CreateComplete; unsure = false; superseded = false } ∷ []);
-  leftovers = [];
-  tokens = (record { token = 2; path = (codes "B"); lane = (codes "f1"); request = (request.Create file (file_props (codes "b") (codes "y"))) } ∷ []);
-  abandoned = [];
-  source = None;
-  going = Some (source_for (codes "two") 1 first);
-  outputs = [];
-  sets = [];
-  events = ((codes "event 2 - CREATE_IN_PROGRESS") ∷ (codes "event 3 A CREATE_IN_PROGRESS") ∷ (codes "event 4 A CREATE_COMPLETE") ∷ (codes "event 5 B CREATE_IN_PROGRESS") ∷ []);
-  entries = (begun ∷ intended_a ∷ made_a ∷ intended_b ∷ []);
-}
+stack_5_two = record stack_4_two { tokens = (record { token = 2; path = (codes "B"); lane = (codes "f1"); request = (request.Create file (file_props (codes "b") (codes "y"))) } ∷ []); events = stack_4_two.events ++ (codes "event 5 B CREATE_IN_PROGRESS") ∷ []; entries = stack_4_two.entries ++ intended_b ∷ [] }
 
 abbrev world_5 : World
-world_5 = record { stacks = (((codes "two"), stack_5_two) ∷ []); exports = []; pins = []; claims = []; lanes = (lane_pair (codes "f1") file ∷ []); epoch = 1; operation = 1; set = 0; token = 2; place = 5 }
+world_5 = record world_4 { stacks = (((codes "two"), stack_5_two) ∷ []); token = 2; place = 5 }
 
 leads_5 : world_after world_4 intended_b ≡ world_5
 unfolding computing
@@ -181,27 +121,14 @@ may_made_b : MayFollow schemas world_5 (2 ∷ []) made_b
 unfolding computing
 may_made_b = ((codes "two"), stack_5_two, Forward, refl, refl, (refl, refl, lit≤ tt))
 
+abbrev b_1 : Held
+b_1 = record { path = (codes "B"); kind = file; physical = (codes "f1:2"); props = (file_props (codes "b") (codes "y")); attrs = (file_attrs (codes "f1:2") 1 (codes "b") (codes "y")); needs = []; deletion = deletion.Delete; replace = replace.Delete; status = held.CreateComplete; unsure = false; superseded = false }
+
 abbrev stack_6_two : StackState
-stack_6_two = record {
-  status = status.CreateInProgress;
-  number = 1;
-  operation = 1;
-  held = [];
-  before = [];
-  made = (record { path = (codes "A"); kind = file; physical = (codes "f1:1"); props = (file_props (codes "a") (codes "x")); attrs = (file_attrs (codes "f1:1") 1 (codes "a") (codes "x")); needs = []; deletion = deletion.Delete; replace = replace.Delete; status = held.CreateComplete; unsure = false; superseded = false } ∷ record { path = (codes "B"); kind = file; physical = (codes "f1:2"); props = (file_props (codes "b") (codes "y")); attrs = (file_attrs (codes "f1:2") 1 (codes "b") (codes "y")); needs = []; deletion = deletion.Delete; replace = replace.Delete; status = held.CreateComplete; unsure = false; superseded = false } ∷ []);
-  leftovers = [];
-  tokens = [];
-  abandoned = [];
-  source = None;
-  going = Some (source_for (codes "two") 1 first);
-  outputs = [];
-  sets = [];
-  events = ((codes "event 2 - CREATE_IN_PROGRESS") ∷ (codes "event 3 A CREATE_IN_PROGRESS") ∷ (codes "event 4 A CREATE_COMPLETE") ∷ (codes "event 5 B CREATE_IN_PROGRESS") ∷ (codes "event 6 B CREATE_COMPLETE") ∷ []);
-  entries = (begun ∷ intended_a ∷ made_a ∷ intended_b ∷ made_b ∷ []);
-}
+stack_6_two = record stack_5_two { made = (a_1 ∷ b_1 ∷ []); tokens = []; events = stack_5_two.events ++ (codes "event 6 B CREATE_COMPLETE") ∷ []; entries = stack_5_two.entries ++ made_b ∷ [] }
 
 abbrev world_6 : World
-world_6 = record { stacks = (((codes "two"), stack_6_two) ∷ []); exports = []; pins = []; claims = []; lanes = (lane_pair (codes "f1") file ∷ []); epoch = 1; operation = 1; set = 0; token = 2; place = 6 }
+world_6 = record world_5 { stacks = (((codes "two"), stack_6_two) ∷ []); place = 6 }
 
 leads_6 : world_after world_5 made_b ≡ world_6
 unfolding computing
@@ -220,26 +147,10 @@ unfolding computing
 may_created = ((codes "two"), stack_6_two, Forward, refl, refl, (refl, end_of_create schemas (codes "two") world_6 stack_6_two refl all_done_6 sound_6 refl, (sound_6, all_done_6), refl))
 
 abbrev stack_7_two : StackState
-stack_7_two = record {
-  status = status.CreateComplete;
-  number = 1;
-  operation = 1;
-  held = (record { path = (codes "A"); kind = file; physical = (codes "f1:1"); props = (file_props (codes "a") (codes "x")); attrs = (file_attrs (codes "f1:1") 1 (codes "a") (codes "x")); needs = []; deletion = deletion.Delete; replace = replace.Delete; status = held.CreateComplete; unsure = false; superseded = false } ∷ record { path = (codes "B"); kind = file; physical = (codes "f1:2"); props = (file_props (codes "b") (codes "y")); attrs = (file_attrs (codes "f1:2") 1 (codes "b") (codes "y")); needs = []; deletion = deletion.Delete; replace = replace.Delete; status = held.CreateComplete; unsure = false; superseded = false } ∷ []);
-  before = [];
-  made = [];
-  leftovers = [];
-  tokens = [];
-  abandoned = [];
-  source = Some (source_for (codes "two") 1 first);
-  going = Some (source_for (codes "two") 1 first);
-  outputs = [];
-  sets = [];
-  events = ((codes "event 2 - CREATE_IN_PROGRESS") ∷ (codes "event 3 A CREATE_IN_PROGRESS") ∷ (codes "event 4 A CREATE_COMPLETE") ∷ (codes "event 5 B CREATE_IN_PROGRESS") ∷ (codes "event 6 B CREATE_COMPLETE") ∷ (codes "event 7 - CREATE_COMPLETE") ∷ []);
-  entries = (begun ∷ intended_a ∷ made_a ∷ intended_b ∷ made_b ∷ created ∷ []);
-}
+stack_7_two = record stack_6_two { status = status.CreateComplete; held = (a_1 ∷ b_1 ∷ []); made = []; source = Some (source_for (codes "two") 1 first); events = stack_6_two.events ++ (codes "event 7 - CREATE_COMPLETE") ∷ []; entries = stack_6_two.entries ++ created ∷ [] }
 
 abbrev world_7 : World
-world_7 = record { stacks = (((codes "two"), stack_7_two) ∷ []); exports = []; pins = []; claims = []; lanes = (lane_pair (codes "f1") file ∷ []); epoch = 1; operation = 1; set = 0; token = 2; place = 7 }
+world_7 = record world_6 { stacks = (((codes "two"), stack_7_two) ∷ []); place = 7 }
 
 leads_7 : world_after world_6 created ≡ world_7
 unfolding computing
@@ -250,26 +161,10 @@ unfolding computing
 may_updating = (refl, refl, record { no_flaw = refl; known_types = refl; same_types = refl; imports = no_imports _ _ _ _ refl refl; free = refl; not_in_use = refl; changing = inr (inl refl) })
 
 abbrev stack_8_two : StackState
-stack_8_two = record {
-  status = status.UpdateInProgress;
-  number = 1;
-  operation = 2;
-  held = (record { path = (codes "A"); kind = file; physical = (codes "f1:1"); props = (file_props (codes "a") (codes "x")); attrs = (file_attrs (codes "f1:1") 1 (codes "a") (codes "x")); needs = []; deletion = deletion.Delete; replace = replace.Delete; status = held.CreateComplete; unsure = false; superseded = false } ∷ record { path = (codes "B"); kind = file; physical = (codes "f1:2"); props = (file_props (codes "b") (codes "y")); attrs = (file_attrs (codes "f1:2") 1 (codes "b") (codes "y")); needs = []; deletion = deletion.Delete; replace = replace.Delete; status = held.CreateComplete; unsure = false; superseded = false } ∷ []);
-  before = (record { path = (codes "A"); kind = file; physical = (codes "f1:1"); props = (file_props (codes "a") (codes "x")); attrs = (file_attrs (codes "f1:1") 1 (codes "a") (codes "x")); needs = []; deletion = deletion.Delete; replace = replace.Delete; status = held.CreateComplete; unsure = false; superseded = false } ∷ record { path = (codes "B"); kind = file; physical = (codes "f1:2"); props = (file_props (codes "b") (codes "y")); attrs = (file_attrs (codes "f1:2") 1 (codes "b") (codes "y")); needs = []; deletion = deletion.Delete; replace = replace.Delete; status = held.CreateComplete; unsure = false; superseded = false } ∷ []);
-  made = [];
-  leftovers = [];
-  tokens = [];
-  abandoned = [];
-  source = Some (source_for (codes "two") 1 first);
-  going = Some (source_for (codes "two") 1 second);
-  outputs = [];
-  sets = [];
-  events = ((codes "event 2 - CREATE_IN_PROGRESS") ∷ (codes "event 3 A CREATE_IN_PROGRESS") ∷ (codes "event 4 A CREATE_COMPLETE") ∷ (codes "event 5 B CREATE_IN_PROGRESS") ∷ (codes "event 6 B CREATE_COMPLETE") ∷ (codes "event 7 - CREATE_COMPLETE") ∷ (codes "event 8 - UPDATE_IN_PROGRESS") ∷ []);
-  entries = (updating ∷ []);
-}
+stack_8_two = record stack_7_two { status = status.UpdateInProgress; operation = 2; before = (a_1 ∷ b_1 ∷ []); going = Some (source_for (codes "two") 1 second); events = stack_7_two.events ++ (codes "event 8 - UPDATE_IN_PROGRESS") ∷ []; entries = (updating ∷ []) }
 
 abbrev world_8 : World
-world_8 = record { stacks = (((codes "two"), stack_8_two) ∷ []); exports = []; pins = []; claims = []; lanes = (lane_pair (codes "f1") file ∷ []); epoch = 1; operation = 2; set = 0; token = 2; place = 8 }
+world_8 = record world_7 { stacks = (((codes "two"), stack_8_two) ∷ []); operation = 2; place = 8 }
 
 leads_8 : world_after world_7 updating ≡ world_8
 unfolding computing
@@ -288,26 +183,10 @@ unfolding computing
 may_intended_move = ((codes "two"), stack_8_two, Forward, refl, refl, record { next = refl; free = refl; home = refl; fits = refl; no_repeat = refl; chosen = (sound_8, ready_8_A, not_done_other (codes "A") stack_8_two (same_at (codes "Path") (codes "a")) _ _ _ refl refl refl refl refl refl, (refl, inl refl)) })
 
 abbrev stack_9_two : StackState
-stack_9_two = record {
-  status = status.UpdateInProgress;
-  number = 1;
-  operation = 2;
-  held = (record { path = (codes "A"); kind = file; physical = (codes "f1:1"); props = (file_props (codes "a") (codes "x")); attrs = (file_attrs (codes "f1:1") 1 (codes "a") (codes "x")); needs = []; deletion = deletion.Delete; replace = replace.Delete; status = held.CreateComplete; unsure = false; superseded = false } ∷ record { path = (codes "B"); kind = file; physical = (codes "f1:2"); props = (file_props (codes "b") (codes "y")); attrs = (file_attrs (codes "f1:2") 1 (codes "b") (codes "y")); needs = []; deletion = deletion.Delete; replace = replace.Delete; status = held.CreateComplete; unsure = false; superseded = false } ∷ []);
-  before = (record { path = (codes "A"); kind = file; physical = (codes "f1:1"); props = (file_props (codes "a") (codes "x")); attrs = (file_attrs (codes "f1:1") 1 (codes "a") (codes "x")); needs = []; deletion = deletion.Delete; replace = replace.Delete; status = held.CreateComplete; unsure = false; superseded = false } ∷ record { path = (codes "B"); kind = file; physical = (codes "f1:2"); props = (file_props (codes "b") (codes "y")); attrs = (file_attrs (codes "f1:2") 1 (codes "b") (codes "y")); needs = []; deletion = deletion.Delete; replace = replace.Delete; status = held.CreateComplete; unsure = false; superseded = false } ∷ []);
-  made = [];
-  leftovers = [];
-  tokens = (record { token = 3; path = (codes "A"); lane = (codes "f1"); request = (request.Create file (file_props (codes "b") (codes "x"))) } ∷ []);
-  abandoned = [];
-  source = Some (source_for (codes "two") 1 first);
-  going = Some (source_for (codes "two") 1 second);
-  outputs = [];
-  sets = [];
-  events = ((codes "event 2 - CREATE_IN_PROGRESS") ∷ (codes "event 3 A CREATE_IN_PROGRESS") ∷ (codes "event 4 A CREATE_COMPLETE") ∷ (codes "event 5 B CREATE_IN_PROGRESS") ∷ (codes "event 6 B CREATE_COMPLETE") ∷ (codes "event 7 - CREATE_COMPLETE") ∷ (codes "event 8 - UPDATE_IN_PROGRESS") ∷ (codes "event 9 A CREATE_IN_PROGRESS") ∷ []);
-  entries = (updating ∷ intended_move ∷ []);
-}
+stack_9_two = record stack_8_two { tokens = (record { token = 3; path = (codes "A"); lane = (codes "f1"); request = (request.Create file (file_props (codes "b") (codes "x"))) } ∷ []); events = stack_8_two.events ++ (codes "event 9 A CREATE_IN_PROGRESS") ∷ []; entries = stack_8_two.entries ++ intended_move ∷ [] }
 
 abbrev world_9 : World
-world_9 = record { stacks = (((codes "two"), stack_9_two) ∷ []); exports = []; pins = []; claims = []; lanes = (lane_pair (codes "f1") file ∷ []); epoch = 1; operation = 2; set = 0; token = 3; place = 9 }
+world_9 = record world_8 { stacks = (((codes "two"), stack_9_two) ∷ []); token = 3; place = 9 }
 
 leads_9 : world_after world_8 intended_move ≡ world_9
 unfolding computing
@@ -318,26 +197,10 @@ unfolding computing
 may_refused = ((codes "two"), stack_9_two, Forward, refl, refl, (refl, refl, (lit≤ tt, λ _. lit≤ tt)))
 
 abbrev stack_10_two : StackState
-stack_10_two = record {
-  status = status.UpdateInProgress;
-  number = 1;
-  operation = 2;
-  held = (record { path = (codes "A"); kind = file; physical = (codes "f1:1"); props = (file_props (codes "a") (codes "x")); attrs = (file_attrs (codes "f1:1") 1 (codes "a") (codes "x")); needs = []; deletion = deletion.Delete; replace = replace.Delete; status = held.CreateComplete; unsure = false; superseded = false } ∷ record { path = (codes "B"); kind = file; physical = (codes "f1:2"); props = (file_props (codes "b") (codes "y")); attrs = (file_attrs (codes "f1:2") 1 (codes "b") (codes "y")); needs = []; deletion = deletion.Delete; replace = replace.Delete; status = held.CreateComplete; unsure = false; superseded = false } ∷ []);
-  before = (record { path = (codes "A"); kind = file; physical = (codes "f1:1"); props = (file_props (codes "a") (codes "x")); attrs = (file_attrs (codes "f1:1") 1 (codes "a") (codes "x")); needs = []; deletion = deletion.Delete; replace = replace.Delete; status = held.CreateComplete; unsure = false; superseded = false } ∷ record { path = (codes "B"); kind = file; physical = (codes "f1:2"); props = (file_props (codes "b") (codes "y")); attrs = (file_attrs (codes "f1:2") 1 (codes "b") (codes "y")); needs = []; deletion = deletion.Delete; replace = replace.Delete; status = held.CreateComplete; unsure = false; superseded = false } ∷ []);
-  made = [];
-  leftovers = [];
-  tokens = [];
-  abandoned = [];
-  source = Some (source_for (codes "two") 1 first);
-  going = Some (source_for (codes "two") 1 second);
-  outputs = [];
-  sets = [];
-  events = ((codes "event 2 - CREATE_IN_PROGRESS") ∷ (codes "event 3 A CREATE_IN_PROGRESS") ∷ (codes "event 4 A CREATE_COMPLETE") ∷ (codes "event 5 B CREATE_IN_PROGRESS") ∷ (codes "event 6 B CREATE_COMPLETE") ∷ (codes "event 7 - CREATE_COMPLETE") ∷ (codes "event 8 - UPDATE_IN_PROGRESS") ∷ (codes "event 9 A CREATE_IN_PROGRESS") ∷ (codes "event 10 A CREATE_FAILED AlreadyExists") ∷ []);
-  entries = (updating ∷ intended_move ∷ refused ∷ []);
-}
+stack_10_two = record stack_9_two { tokens = []; events = stack_9_two.events ++ (codes "event 10 A CREATE_FAILED AlreadyExists") ∷ []; entries = stack_9_two.entries ++ refused ∷ [] }
 
 abbrev world_10 : World
-world_10 = record { stacks = (((codes "two"), stack_10_two) ∷ []); exports = []; pins = []; claims = []; lanes = (lane_pair (codes "f1") file ∷ []); epoch = 1; operation = 2; set = 0; token = 3; place = 10 }
+world_10 = record world_9 { stacks = (((codes "two"), stack_10_two) ∷ []); place = 10 }
 
 leads_10 : world_after world_9 refused ≡ world_10
 unfolding computing
@@ -348,26 +211,10 @@ unfolding computing
 may_turned = ((codes "two"), stack_10_two, Forward, refl, refl, (refl, (refl, (inl ((3, (reason.Code code.AlreadyExists)), refl)), (3, refl, refl))))
 
 abbrev stack_11_two : StackState
-stack_11_two = record {
-  status = status.UpdateRollbackInProgress;
-  number = 1;
-  operation = 2;
-  held = (record { path = (codes "A"); kind = file; physical = (codes "f1:1"); props = (file_props (codes "a") (codes "x")); attrs = (file_attrs (codes "f1:1") 1 (codes "a") (codes "x")); needs = []; deletion = deletion.Delete; replace = replace.Delete; status = held.CreateComplete; unsure = false; superseded = false } ∷ record { path = (codes "B"); kind = file; physical = (codes "f1:2"); props = (file_props (codes "b") (codes "y")); attrs = (file_attrs (codes "f1:2") 1 (codes "b") (codes "y")); needs = []; deletion = deletion.Delete; replace = replace.Delete; status = held.CreateComplete; unsure = false; superseded = false } ∷ []);
-  before = (record { path = (codes "A"); kind = file; physical = (codes "f1:1"); props = (file_props (codes "a") (codes "x")); attrs = (file_attrs (codes "f1:1") 1 (codes "a") (codes "x")); needs = []; deletion = deletion.Delete; replace = replace.Delete; status = held.CreateComplete; unsure = false; superseded = false } ∷ record { path = (codes "B"); kind = file; physical = (codes "f1:2"); props = (file_props (codes "b") (codes "y")); attrs = (file_attrs (codes "f1:2") 1 (codes "b") (codes "y")); needs = []; deletion = deletion.Delete; replace = replace.Delete; status = held.CreateComplete; unsure = false; superseded = false } ∷ []);
-  made = [];
-  leftovers = [];
-  tokens = [];
-  abandoned = [];
-  source = Some (source_for (codes "two") 1 first);
-  going = Some (source_for (codes "two") 1 second);
-  outputs = [];
-  sets = [];
-  events = ((codes "event 2 - CREATE_IN_PROGRESS") ∷ (codes "event 3 A CREATE_IN_PROGRESS") ∷ (codes "event 4 A CREATE_COMPLETE") ∷ (codes "event 5 B CREATE_IN_PROGRESS") ∷ (codes "event 6 B CREATE_COMPLETE") ∷ (codes "event 7 - CREATE_COMPLETE") ∷ (codes "event 8 - UPDATE_IN_PROGRESS") ∷ (codes "event 9 A CREATE_IN_PROGRESS") ∷ (codes "event 10 A CREATE_FAILED AlreadyExists") ∷ (codes "event 11 - UPDATE_ROLLBACK_IN_PROGRESS") ∷ []);
-  entries = (updating ∷ intended_move ∷ refused ∷ turned ∷ []);
-}
+stack_11_two = record stack_10_two { status = status.UpdateRollbackInProgress; events = stack_10_two.events ++ (codes "event 11 - UPDATE_ROLLBACK_IN_PROGRESS") ∷ []; entries = stack_10_two.entries ++ turned ∷ [] }
 
 abbrev world_11 : World
-world_11 = record { stacks = (((codes "two"), stack_11_two) ∷ []); exports = []; pins = []; claims = []; lanes = (lane_pair (codes "f1") file ∷ []); epoch = 1; operation = 2; set = 0; token = 3; place = 11 }
+world_11 = record world_10 { stacks = (((codes "two"), stack_11_two) ∷ []); place = 11 }
 
 leads_11 : world_after world_10 turned ≡ world_11
 unfolding computing
@@ -378,26 +225,10 @@ unfolding computing
 may_cleaning = ((codes "two"), stack_11_two, Back, refl, refl, (refl, (refl, refl, nothing_to_restore stack_11_two refl, refl)))
 
 abbrev stack_12_two : StackState
-stack_12_two = record {
-  status = status.UpdateRollbackCompleteCleanupInProgress;
-  number = 1;
-  operation = 2;
-  held = (record { path = (codes "A"); kind = file; physical = (codes "f1:1"); props = (file_props (codes "a") (codes "x")); attrs = (file_attrs (codes "f1:1") 1 (codes "a") (codes "x")); needs = []; deletion = deletion.Delete; replace = replace.Delete; status = held.CreateComplete; unsure = false; superseded = false } ∷ record { path = (codes "B"); kind = file; physical = (codes "f1:2"); props = (file_props (codes "b") (codes "y")); attrs = (file_attrs (codes "f1:2") 1 (codes "b") (codes "y")); needs = []; deletion = deletion.Delete; replace = replace.Delete; status = held.CreateComplete; unsure = false; superseded = false } ∷ []);
-  before = (record { path = (codes "A"); kind = file; physical = (codes "f1:1"); props = (file_props (codes "a") (codes "x")); attrs = (file_attrs (codes "f1:1") 1 (codes "a") (codes "x")); needs = []; deletion = deletion.Delete; replace = replace.Delete; status = held.CreateComplete; unsure = false; superseded = false } ∷ record { path = (codes "B"); kind = file; physical = (codes "f1:2"); props = (file_props (codes "b") (codes "y")); attrs = (file_attrs (codes "f1:2") 1 (codes "b") (codes "y")); needs = []; deletion = deletion.Delete; replace = replace.Delete; status = held.CreateComplete; unsure = false; superseded = false } ∷ []);
-  made = [];
-  leftovers = [];
-  tokens = [];
-  abandoned = [];
-  source = Some (source_for (codes "two") 1 first);
-  going = Some (source_for (codes "two") 1 second);
-  outputs = [];
-  sets = [];
-  events = ((codes "event 2 - CREATE_IN_PROGRESS") ∷ (codes "event 3 A CREATE_IN_PROGRESS") ∷ (codes "event 4 A CREATE_COMPLETE") ∷ (codes "event 5 B CREATE_IN_PROGRESS") ∷ (codes "event 6 B CREATE_COMPLETE") ∷ (codes "event 7 - CREATE_COMPLETE") ∷ (codes "event 8 - UPDATE_IN_PROGRESS") ∷ (codes "event 9 A CREATE_IN_PROGRESS") ∷ (codes "event 10 A CREATE_FAILED AlreadyExists") ∷ (codes "event 11 - UPDATE_ROLLBACK_IN_PROGRESS") ∷ (codes "event 12 - UPDATE_ROLLBACK_COMPLETE_CLEANUP_IN_PROGRESS") ∷ []);
-  entries = (updating ∷ intended_move ∷ refused ∷ turned ∷ cleaning ∷ []);
-}
+stack_12_two = record stack_11_two { status = status.UpdateRollbackCompleteCleanupInProgress; events = stack_11_two.events ++ (codes "event 12 - UPDATE_ROLLBACK_COMPLETE_CLEANUP_IN_PROGRESS") ∷ []; entries = stack_11_two.entries ++ cleaning ∷ [] }
 
 abbrev world_12 : World
-world_12 = record { stacks = (((codes "two"), stack_12_two) ∷ []); exports = []; pins = []; claims = []; lanes = (lane_pair (codes "f1") file ∷ []); epoch = 1; operation = 2; set = 0; token = 3; place = 12 }
+world_12 = record world_11 { stacks = (((codes "two"), stack_12_two) ∷ []); place = 12 }
 
 leads_12 : world_after world_11 cleaning ≡ world_12
 unfolding computing
@@ -408,26 +239,10 @@ unfolding computing
 may_rolled_back = ((codes "two"), stack_12_two, BackClean, refl, refl, (refl, end_of_back_clean schemas (codes "two") world_12 stack_12_two refl refl refl, tt, refl))
 
 abbrev stack_13_two : StackState
-stack_13_two = record {
-  status = status.UpdateRollbackComplete;
-  number = 1;
-  operation = 2;
-  held = (record { path = (codes "A"); kind = file; physical = (codes "f1:1"); props = (file_props (codes "a") (codes "x")); attrs = (file_attrs (codes "f1:1") 1 (codes "a") (codes "x")); needs = []; deletion = deletion.Delete; replace = replace.Delete; status = held.CreateComplete; unsure = false; superseded = false } ∷ record { path = (codes "B"); kind = file; physical = (codes "f1:2"); props = (file_props (codes "b") (codes "y")); attrs = (file_attrs (codes "f1:2") 1 (codes "b") (codes "y")); needs = []; deletion = deletion.Delete; replace = replace.Delete; status = held.CreateComplete; unsure = false; superseded = false } ∷ []);
-  before = (record { path = (codes "A"); kind = file; physical = (codes "f1:1"); props = (file_props (codes "a") (codes "x")); attrs = (file_attrs (codes "f1:1") 1 (codes "a") (codes "x")); needs = []; deletion = deletion.Delete; replace = replace.Delete; status = held.CreateComplete; unsure = false; superseded = false } ∷ record { path = (codes "B"); kind = file; physical = (codes "f1:2"); props = (file_props (codes "b") (codes "y")); attrs = (file_attrs (codes "f1:2") 1 (codes "b") (codes "y")); needs = []; deletion = deletion.Delete; replace = replace.Delete; status = held.CreateComplete; unsure = false; superseded = false } ∷ []);
-  made = [];
-  leftovers = [];
-  tokens = [];
-  abandoned = [];
-  source = Some (source_for (codes "two") 1 first);
-  going = Some (source_for (codes "two") 1 second);
-  outputs = [];
-  sets = [];
-  events = ((codes "event 2 - CREATE_IN_PROGRESS") ∷ (codes "event 3 A CREATE_IN_PROGRESS") ∷ (codes "event 4 A CREATE_COMPLETE") ∷ (codes "event 5 B CREATE_IN_PROGRESS") ∷ (codes "event 6 B CREATE_COMPLETE") ∷ (codes "event 7 - CREATE_COMPLETE") ∷ (codes "event 8 - UPDATE_IN_PROGRESS") ∷ (codes "event 9 A CREATE_IN_PROGRESS") ∷ (codes "event 10 A CREATE_FAILED AlreadyExists") ∷ (codes "event 11 - UPDATE_ROLLBACK_IN_PROGRESS") ∷ (codes "event 12 - UPDATE_ROLLBACK_COMPLETE_CLEANUP_IN_PROGRESS") ∷ (codes "event 13 - UPDATE_ROLLBACK_COMPLETE") ∷ []);
-  entries = (updating ∷ intended_move ∷ refused ∷ turned ∷ cleaning ∷ rolled_back ∷ []);
-}
+stack_13_two = record stack_12_two { status = status.UpdateRollbackComplete; events = stack_12_two.events ++ (codes "event 13 - UPDATE_ROLLBACK_COMPLETE") ∷ []; entries = stack_12_two.entries ++ rolled_back ∷ [] }
 
 abbrev world_13 : World
-world_13 = record { stacks = (((codes "two"), stack_13_two) ∷ []); exports = []; pins = []; claims = []; lanes = (lane_pair (codes "f1") file ∷ []); epoch = 1; operation = 2; set = 0; token = 3; place = 13 }
+world_13 = record world_12 { stacks = (((codes "two"), stack_13_two) ∷ []); place = 13 }
 
 leads_13 : world_after world_12 rolled_back ≡ world_13
 unfolding computing

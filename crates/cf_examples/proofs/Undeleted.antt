@@ -1,8 +1,9 @@
 -- An update leaves a file out, and its deletion is refused three times: it is left over, and the update is complete.
-use Rattle.std.proofs.Common.{◌≡◌, refl, List, [], ◌∷◌, Some, None, true, false, ℕ, inl, inr, ap, lit≤, arith}
+use Rattle.std.proofs.Common.{◌≡◌, refl, List, [], ◌∷◌, ◌++◌, Some, true, false, ℕ, inl, inr, ap, lit≤, arith}
 use Rattle.std.specs.Prelude.{codes, ◌≤◌}
 use Rattle.cf_tree.specs.declared.request.Request.TheVariants as request
 use Rattle.cf_entry.specs.declared.entry.Entry.{Entry}
+use Rattle.cf_stacks.specs.declared.held.Held.{Held}
 use Rattle.cf_stacks.specs.declared.state.World.{World}
 use Rattle.cf_stacks.specs.declared.state.StackState.{StackState}
 use Rattle.cf_stacks.specs.Fold.{empty_world, world_after, source_for}
@@ -20,7 +21,7 @@ use Rattle.cf_entry.specs.declared.entry.Entry.TheVariants as entry
 use Rattle.cf_entry.specs.declared.status.Status.TheVariants as status
 use Rattle.cf_entry.specs.declared.turn.Why.TheVariants as why
 use Rattle.cf_stacks.specs.declared.held.HeldStatus.TheVariants as held
-use Rattle.cf_stacks.specs.Fold.{fold_of}
+use Rattle.cf_stacks.specs.Fold.{fold_of, no_stack}
 use Rattle.cf_examples.specs.Given.{lane_pair, report_of}
 use Rattle.cf_examples.proofs.Refusing.{follows_on, legal_step, fold_step, refused_at}
 use Rattle.cf_examples.proofs.Beginning.{no_imports}
@@ -34,7 +35,7 @@ unfolding computing
 may_opened = (refl, refl, λ name s e. absurd (cc))
 
 abbrev world_1 : World
-world_1 = record { stacks = []; exports = []; pins = []; claims = []; lanes = (lane_pair (codes "f1") file ∷ []); epoch = 1; operation = 0; set = 0; token = 0; place = 1 }
+world_1 = record world_0 { lanes = (lane_pair (codes "f1") file ∷ []); epoch = 1; place = 1 }
 
 leads_1 : world_after world_0 opened ≡ world_1
 unfolding computing
@@ -45,26 +46,10 @@ unfolding computing
 may_begun = (refl, refl, record { no_flaw = refl; known_types = refl; same_types = refl; imports = no_imports _ _ _ _ refl refl; free = refl; not_in_use = refl; changing = inl refl })
 
 abbrev stack_2_s : StackState
-stack_2_s = record {
-  status = status.CreateInProgress;
-  number = 1;
-  operation = 1;
-  held = [];
-  before = [];
-  made = [];
-  leftovers = [];
-  tokens = [];
-  abandoned = [];
-  source = None;
-  going = Some (source_for (codes "s") 1 first);
-  outputs = [];
-  sets = [];
-  events = ((codes "event 2 - CREATE_IN_PROGRESS") ∷ []);
-  entries = (begun ∷ []);
-}
+stack_2_s = record no_stack { status = status.CreateInProgress; number = 1; operation = 1; going = Some (source_for (codes "s") 1 first); events = ((codes "event 2 - CREATE_IN_PROGRESS") ∷ []); entries = (begun ∷ []) }
 
 abbrev world_2 : World
-world_2 = record { stacks = (((codes "s"), stack_2_s) ∷ []); exports = []; pins = []; claims = []; lanes = (lane_pair (codes "f1") file ∷ []); epoch = 1; operation = 1; set = 0; token = 0; place = 2 }
+world_2 = record world_1 { stacks = (((codes "s"), stack_2_s) ∷ []); operation = 1; place = 2 }
 
 leads_2 : world_after world_1 begun ≡ world_2
 unfolding computing
@@ -83,26 +68,10 @@ unfolding computing
 may_intended_a = ((codes "s"), stack_2_s, Forward, refl, refl, record { next = refl; free = refl; home = refl; fits = refl; no_repeat = refl; chosen = (sound_2, ready_2_A, not_done_new (codes "A") stack_2_s refl refl refl, (refl, tt)) })
 
 abbrev stack_3_s : StackState
-stack_3_s = record {
-  status = status.CreateInProgress;
-  number = 1;
-  operation = 1;
-  held = [];
-  before = [];
-  made = [];
-  leftovers = [];
-  tokens = (record { token = 1; path = (codes "A"); lane = (codes "f1"); request = (request.Create file (file_props (codes "a") (codes "x"))) } ∷ []);
-  abandoned = [];
-  source = None;
-  going = Some (source_for (codes "s") 1 first);
-  outputs = [];
-  sets = [];
-  events = ((codes "event 2 - CREATE_IN_PROGRESS") ∷ (codes "event 3 A CREATE_IN_PROGRESS") ∷ []);
-  entries = (begun ∷ intended_a ∷ []);
-}
+stack_3_s = record stack_2_s { tokens = (record { token = 1; path = (codes "A"); lane = (codes "f1"); request = (request.Create file (file_props (codes "a") (codes "x"))) } ∷ []); events = stack_2_s.events ++ (codes "event 3 A CREATE_IN_PROGRESS") ∷ []; entries = stack_2_s.entries ++ intended_a ∷ [] }
 
 abbrev world_3 : World
-world_3 = record { stacks = (((codes "s"), stack_3_s) ∷ []); exports = []; pins = []; claims = []; lanes = (lane_pair (codes "f1") file ∷ []); epoch = 1; operation = 1; set = 0; token = 1; place = 3 }
+world_3 = record world_2 { stacks = (((codes "s"), stack_3_s) ∷ []); token = 1; place = 3 }
 
 leads_3 : world_after world_2 intended_a ≡ world_3
 unfolding computing
@@ -112,27 +81,14 @@ may_made_a : MayFollow schemas world_3 (1 ∷ []) made_a
 unfolding computing
 may_made_a = ((codes "s"), stack_3_s, Forward, refl, refl, (refl, refl, lit≤ tt))
 
+abbrev a_1 : Held
+a_1 = record { path = (codes "A"); kind = file; physical = (codes "f1:1"); props = (file_props (codes "a") (codes "x")); attrs = (file_attrs (codes "f1:1") 1 (codes "a") (codes "x")); needs = []; deletion = deletion.Delete; replace = replace.Delete; status = held.CreateComplete; unsure = false; superseded = false }
+
 abbrev stack_4_s : StackState
-stack_4_s = record {
-  status = status.CreateInProgress;
-  number = 1;
-  operation = 1;
-  held = [];
-  before = [];
-  made = (record { path = (codes "A"); kind = file; physical = (codes "f1:1"); props = (file_props (codes "a") (codes "x")); attrs = (file_attrs (codes "f1:1") 1 (codes "a") (codes "x")); needs = []; deletion = deletion.Delete; replace = replace.Delete; status = held.CreateComplete; unsure = false; superseded = false } ∷ []);
-  leftovers = [];
-  tokens = [];
-  abandoned = [];
-  source = None;
-  going = Some (source_for (codes "s") 1 first);
-  outputs = [];
-  sets = [];
-  events = ((codes "event 2 - CREATE_IN_PROGRESS") ∷ (codes "event 3 A CREATE_IN_PROGRESS") ∷ (codes "event 4 A CREATE_COMPLETE") ∷ []);
-  entries = (begun ∷ intended_a ∷ made_a ∷ []);
-}
+stack_4_s = record stack_3_s { made = (a_1 ∷ []); tokens = []; events = stack_3_s.events ++ (codes "event 4 A CREATE_COMPLETE") ∷ []; entries = stack_3_s.entries ++ made_a ∷ [] }
 
 abbrev world_4 : World
-world_4 = record { stacks = (((codes "s"), stack_4_s) ∷ []); exports = []; pins = []; claims = []; lanes = (lane_pair (codes "f1") file ∷ []); epoch = 1; operation = 1; set = 0; token = 1; place = 4 }
+world_4 = record world_3 { stacks = (((codes "s"), stack_4_s) ∷ []); place = 4 }
 
 leads_4 : world_after world_3 made_a ≡ world_4
 unfolding computing
@@ -151,26 +107,10 @@ unfolding computing
 may_intended_b = ((codes "s"), stack_4_s, Forward, refl, refl, record { next = refl; free = refl; home = refl; fits = refl; no_repeat = refl; chosen = (sound_4, ready_4_B, not_done_new (codes "B") stack_4_s refl refl refl, (refl, tt)) })
 
 abbrev stack_5_s : StackState
-stack_5_s = record {
-  status = status.CreateInProgress;
-  number = 1;
-  operation = 1;
-  held = [];
-  before = [];
-  made = (record { path = (codes "A"); kind = file; physical = (codes "f1:1"); props = (file_props (codes "a") (codes "x")); attrs = (file_attrs (codes "f1:1") 1 (codes "a") (codes "x")); needs = []; deletion = deletion.Delete; replace = replace.Delete; status = held.CreateComplete; unsure = false; superseded = false } ∷ []);
-  leftovers = [];
-  tokens = (record { token = 2; path = (codes "B"); lane = (codes "f1"); request = (request.Create file (file_props (codes "b") (codes "y"))) } ∷ []);
-  abandoned = [];
-  source = None;
-  going = Some (source_for (codes "s") 1 first);
-  outputs = [];
-  sets = [];
-  events = ((codes "event 2 - CREATE_IN_PROGRESS") ∷ (codes "event 3 A CREATE_IN_PROGRESS") ∷ (codes "event 4 A CREATE_COMPLETE") ∷ (codes "event 5 B CREATE_IN_PROGRESS") ∷ []);
-  entries = (begun ∷ intended_a ∷ made_a ∷ intended_b ∷ []);
-}
+stack_5_s = record stack_4_s { tokens = (record { token = 2; path = (codes "B"); lane = (codes "f1"); request = (request.Create file (file_props (codes "b") (codes "y"))) } ∷ []); events = stack_4_s.events ++ (codes "event 5 B CREATE_IN_PROGRESS") ∷ []; entries = stack_4_s.entries ++ intended_b ∷ [] }
 
 abbrev world_5 : World
-world_5 = record { stacks = (((codes "s"), stack_5_s) ∷ []); exports = []; pins = []; claims = []; lanes = (lane_pair (codes "f1") file ∷ []); epoch = 1; operation = 1; set = 0; token = 2; place = 5 }
+world_5 = record world_4 { stacks = (((codes "s"), stack_5_s) ∷ []); token = 2; place = 5 }
 
 leads_5 : world_after world_4 intended_b ≡ world_5
 unfolding computing
@@ -180,27 +120,14 @@ may_made_b : MayFollow schemas world_5 (2 ∷ []) made_b
 unfolding computing
 may_made_b = ((codes "s"), stack_5_s, Forward, refl, refl, (refl, refl, lit≤ tt))
 
+abbrev b_1 : Held
+b_1 = record { path = (codes "B"); kind = file; physical = (codes "f1:2"); props = (file_props (codes "b") (codes "y")); attrs = (file_attrs (codes "f1:2") 1 (codes "b") (codes "y")); needs = []; deletion = deletion.Delete; replace = replace.Delete; status = held.CreateComplete; unsure = false; superseded = false }
+
 abbrev stack_6_s : StackState
-stack_6_s = record {
-  status = status.CreateInProgress;
-  number = 1;
-  operation = 1;
-  held = [];
-  before = [];
-  made = (record { path = (codes "A"); kind = file; physical = (codes "f1:1"); props = (file_props (codes "a") (codes "x")); attrs = (file_attrs (codes "f1:1") 1 (codes "a") (codes "x")); needs = []; deletion = deletion.Delete; replace = replace.Delete; status = held.CreateComplete; unsure = false; superseded = false } ∷ record { path = (codes "B"); kind = file; physical = (codes "f1:2"); props = (file_props (codes "b") (codes "y")); attrs = (file_attrs (codes "f1:2") 1 (codes "b") (codes "y")); needs = []; deletion = deletion.Delete; replace = replace.Delete; status = held.CreateComplete; unsure = false; superseded = false } ∷ []);
-  leftovers = [];
-  tokens = [];
-  abandoned = [];
-  source = None;
-  going = Some (source_for (codes "s") 1 first);
-  outputs = [];
-  sets = [];
-  events = ((codes "event 2 - CREATE_IN_PROGRESS") ∷ (codes "event 3 A CREATE_IN_PROGRESS") ∷ (codes "event 4 A CREATE_COMPLETE") ∷ (codes "event 5 B CREATE_IN_PROGRESS") ∷ (codes "event 6 B CREATE_COMPLETE") ∷ []);
-  entries = (begun ∷ intended_a ∷ made_a ∷ intended_b ∷ made_b ∷ []);
-}
+stack_6_s = record stack_5_s { made = (a_1 ∷ b_1 ∷ []); tokens = []; events = stack_5_s.events ++ (codes "event 6 B CREATE_COMPLETE") ∷ []; entries = stack_5_s.entries ++ made_b ∷ [] }
 
 abbrev world_6 : World
-world_6 = record { stacks = (((codes "s"), stack_6_s) ∷ []); exports = []; pins = []; claims = []; lanes = (lane_pair (codes "f1") file ∷ []); epoch = 1; operation = 1; set = 0; token = 2; place = 6 }
+world_6 = record world_5 { stacks = (((codes "s"), stack_6_s) ∷ []); place = 6 }
 
 leads_6 : world_after world_5 made_b ≡ world_6
 unfolding computing
@@ -219,26 +146,10 @@ unfolding computing
 may_created = ((codes "s"), stack_6_s, Forward, refl, refl, (refl, end_of_create schemas (codes "s") world_6 stack_6_s refl all_done_6 sound_6 refl, (sound_6, all_done_6), refl))
 
 abbrev stack_7_s : StackState
-stack_7_s = record {
-  status = status.CreateComplete;
-  number = 1;
-  operation = 1;
-  held = (record { path = (codes "A"); kind = file; physical = (codes "f1:1"); props = (file_props (codes "a") (codes "x")); attrs = (file_attrs (codes "f1:1") 1 (codes "a") (codes "x")); needs = []; deletion = deletion.Delete; replace = replace.Delete; status = held.CreateComplete; unsure = false; superseded = false } ∷ record { path = (codes "B"); kind = file; physical = (codes "f1:2"); props = (file_props (codes "b") (codes "y")); attrs = (file_attrs (codes "f1:2") 1 (codes "b") (codes "y")); needs = []; deletion = deletion.Delete; replace = replace.Delete; status = held.CreateComplete; unsure = false; superseded = false } ∷ []);
-  before = [];
-  made = [];
-  leftovers = [];
-  tokens = [];
-  abandoned = [];
-  source = Some (source_for (codes "s") 1 first);
-  going = Some (source_for (codes "s") 1 first);
-  outputs = [];
-  sets = [];
-  events = ((codes "event 2 - CREATE_IN_PROGRESS") ∷ (codes "event 3 A CREATE_IN_PROGRESS") ∷ (codes "event 4 A CREATE_COMPLETE") ∷ (codes "event 5 B CREATE_IN_PROGRESS") ∷ (codes "event 6 B CREATE_COMPLETE") ∷ (codes "event 7 - CREATE_COMPLETE") ∷ []);
-  entries = (begun ∷ intended_a ∷ made_a ∷ intended_b ∷ made_b ∷ created ∷ []);
-}
+stack_7_s = record stack_6_s { status = status.CreateComplete; held = (a_1 ∷ b_1 ∷ []); made = []; source = Some (source_for (codes "s") 1 first); events = stack_6_s.events ++ (codes "event 7 - CREATE_COMPLETE") ∷ []; entries = stack_6_s.entries ++ created ∷ [] }
 
 abbrev world_7 : World
-world_7 = record { stacks = (((codes "s"), stack_7_s) ∷ []); exports = []; pins = []; claims = []; lanes = (lane_pair (codes "f1") file ∷ []); epoch = 1; operation = 1; set = 0; token = 2; place = 7 }
+world_7 = record world_6 { stacks = (((codes "s"), stack_7_s) ∷ []); place = 7 }
 
 leads_7 : world_after world_6 created ≡ world_7
 unfolding computing
@@ -249,26 +160,10 @@ unfolding computing
 may_updating = (refl, refl, record { no_flaw = refl; known_types = refl; same_types = refl; imports = no_imports _ _ _ _ refl refl; free = refl; not_in_use = refl; changing = inr (inl refl) })
 
 abbrev stack_8_s : StackState
-stack_8_s = record {
-  status = status.UpdateInProgress;
-  number = 1;
-  operation = 2;
-  held = (record { path = (codes "A"); kind = file; physical = (codes "f1:1"); props = (file_props (codes "a") (codes "x")); attrs = (file_attrs (codes "f1:1") 1 (codes "a") (codes "x")); needs = []; deletion = deletion.Delete; replace = replace.Delete; status = held.CreateComplete; unsure = false; superseded = false } ∷ record { path = (codes "B"); kind = file; physical = (codes "f1:2"); props = (file_props (codes "b") (codes "y")); attrs = (file_attrs (codes "f1:2") 1 (codes "b") (codes "y")); needs = []; deletion = deletion.Delete; replace = replace.Delete; status = held.CreateComplete; unsure = false; superseded = false } ∷ []);
-  before = (record { path = (codes "A"); kind = file; physical = (codes "f1:1"); props = (file_props (codes "a") (codes "x")); attrs = (file_attrs (codes "f1:1") 1 (codes "a") (codes "x")); needs = []; deletion = deletion.Delete; replace = replace.Delete; status = held.CreateComplete; unsure = false; superseded = false } ∷ record { path = (codes "B"); kind = file; physical = (codes "f1:2"); props = (file_props (codes "b") (codes "y")); attrs = (file_attrs (codes "f1:2") 1 (codes "b") (codes "y")); needs = []; deletion = deletion.Delete; replace = replace.Delete; status = held.CreateComplete; unsure = false; superseded = false } ∷ []);
-  made = [];
-  leftovers = [];
-  tokens = [];
-  abandoned = [];
-  source = Some (source_for (codes "s") 1 first);
-  going = Some (source_for (codes "s") 1 second);
-  outputs = [];
-  sets = [];
-  events = ((codes "event 2 - CREATE_IN_PROGRESS") ∷ (codes "event 3 A CREATE_IN_PROGRESS") ∷ (codes "event 4 A CREATE_COMPLETE") ∷ (codes "event 5 B CREATE_IN_PROGRESS") ∷ (codes "event 6 B CREATE_COMPLETE") ∷ (codes "event 7 - CREATE_COMPLETE") ∷ (codes "event 8 - UPDATE_IN_PROGRESS") ∷ []);
-  entries = (updating ∷ []);
-}
+stack_8_s = record stack_7_s { status = status.UpdateInProgress; operation = 2; before = (a_1 ∷ b_1 ∷ []); going = Some (source_for (codes "s") 1 second); events = stack_7_s.events ++ (codes "event 8 - UPDATE_IN_PROGRESS") ∷ []; entries = (updating ∷ []) }
 
 abbrev world_8 : World
-world_8 = record { stacks = (((codes "s"), stack_8_s) ∷ []); exports = []; pins = []; claims = []; lanes = (lane_pair (codes "f1") file ∷ []); epoch = 1; operation = 2; set = 0; token = 2; place = 8 }
+world_8 = record world_7 { stacks = (((codes "s"), stack_8_s) ∷ []); operation = 2; place = 8 }
 
 leads_8 : world_after world_7 updating ≡ world_8
 unfolding computing
@@ -286,27 +181,14 @@ may_cleaning : MayFollow schemas world_8 [] cleaning
 unfolding computing
 may_cleaning = ((codes "s"), stack_8_s, Forward, refl, refl, (refl, (refl, sound_8, all_done_8)))
 
+abbrev b_2 : Held
+b_2 = record { path = (codes "B"); kind = file; physical = (codes "f1:2"); props = (file_props (codes "b") (codes "y")); attrs = (file_attrs (codes "f1:2") 1 (codes "b") (codes "y")); needs = []; deletion = deletion.Delete; replace = replace.Delete; status = held.CreateComplete; unsure = false; superseded = true }
+
 abbrev stack_9_s : StackState
-stack_9_s = record {
-  status = status.UpdateCompleteCleanupInProgress;
-  number = 1;
-  operation = 2;
-  held = (record { path = (codes "A"); kind = file; physical = (codes "f1:1"); props = (file_props (codes "a") (codes "x")); attrs = (file_attrs (codes "f1:1") 1 (codes "a") (codes "x")); needs = []; deletion = deletion.Delete; replace = replace.Delete; status = held.CreateComplete; unsure = false; superseded = false } ∷ record { path = (codes "B"); kind = file; physical = (codes "f1:2"); props = (file_props (codes "b") (codes "y")); attrs = (file_attrs (codes "f1:2") 1 (codes "b") (codes "y")); needs = []; deletion = deletion.Delete; replace = replace.Delete; status = held.CreateComplete; unsure = false; superseded = true } ∷ []);
-  before = (record { path = (codes "A"); kind = file; physical = (codes "f1:1"); props = (file_props (codes "a") (codes "x")); attrs = (file_attrs (codes "f1:1") 1 (codes "a") (codes "x")); needs = []; deletion = deletion.Delete; replace = replace.Delete; status = held.CreateComplete; unsure = false; superseded = false } ∷ record { path = (codes "B"); kind = file; physical = (codes "f1:2"); props = (file_props (codes "b") (codes "y")); attrs = (file_attrs (codes "f1:2") 1 (codes "b") (codes "y")); needs = []; deletion = deletion.Delete; replace = replace.Delete; status = held.CreateComplete; unsure = false; superseded = false } ∷ []);
-  made = [];
-  leftovers = [];
-  tokens = [];
-  abandoned = [];
-  source = Some (source_for (codes "s") 1 second);
-  going = Some (source_for (codes "s") 1 second);
-  outputs = [];
-  sets = [];
-  events = ((codes "event 2 - CREATE_IN_PROGRESS") ∷ (codes "event 3 A CREATE_IN_PROGRESS") ∷ (codes "event 4 A CREATE_COMPLETE") ∷ (codes "event 5 B CREATE_IN_PROGRESS") ∷ (codes "event 6 B CREATE_COMPLETE") ∷ (codes "event 7 - CREATE_COMPLETE") ∷ (codes "event 8 - UPDATE_IN_PROGRESS") ∷ (codes "event 9 - UPDATE_COMPLETE_CLEANUP_IN_PROGRESS") ∷ []);
-  entries = (updating ∷ cleaning ∷ []);
-}
+stack_9_s = record stack_8_s { status = status.UpdateCompleteCleanupInProgress; held = (a_1 ∷ b_2 ∷ []); source = Some (source_for (codes "s") 1 second); events = stack_8_s.events ++ (codes "event 9 - UPDATE_COMPLETE_CLEANUP_IN_PROGRESS") ∷ []; entries = stack_8_s.entries ++ cleaning ∷ [] }
 
 abbrev world_9 : World
-world_9 = record { stacks = (((codes "s"), stack_9_s) ∷ []); exports = []; pins = []; claims = []; lanes = (lane_pair (codes "f1") file ∷ []); epoch = 1; operation = 2; set = 0; token = 2; place = 9 }
+world_9 = record world_8 { stacks = (((codes "s"), stack_9_s) ∷ []); place = 9 }
 
 leads_9 : world_after world_8 cleaning ≡ world_9
 unfolding computing
@@ -317,26 +199,10 @@ unfolding computing
 may_intended_once = ((codes "s"), stack_9_s, Clean, refl, refl, record { next = refl; free = refl; home = refl; fits = ((codes "2", refl), refl); no_repeat = refl; chosen = (_, (there here, refl, refl), refl, refl, refl) })
 
 abbrev stack_10_s : StackState
-stack_10_s = record {
-  status = status.UpdateCompleteCleanupInProgress;
-  number = 1;
-  operation = 2;
-  held = (record { path = (codes "A"); kind = file; physical = (codes "f1:1"); props = (file_props (codes "a") (codes "x")); attrs = (file_attrs (codes "f1:1") 1 (codes "a") (codes "x")); needs = []; deletion = deletion.Delete; replace = replace.Delete; status = held.CreateComplete; unsure = false; superseded = false } ∷ record { path = (codes "B"); kind = file; physical = (codes "f1:2"); props = (file_props (codes "b") (codes "y")); attrs = (file_attrs (codes "f1:2") 1 (codes "b") (codes "y")); needs = []; deletion = deletion.Delete; replace = replace.Delete; status = held.CreateComplete; unsure = false; superseded = true } ∷ []);
-  before = (record { path = (codes "A"); kind = file; physical = (codes "f1:1"); props = (file_props (codes "a") (codes "x")); attrs = (file_attrs (codes "f1:1") 1 (codes "a") (codes "x")); needs = []; deletion = deletion.Delete; replace = replace.Delete; status = held.CreateComplete; unsure = false; superseded = false } ∷ record { path = (codes "B"); kind = file; physical = (codes "f1:2"); props = (file_props (codes "b") (codes "y")); attrs = (file_attrs (codes "f1:2") 1 (codes "b") (codes "y")); needs = []; deletion = deletion.Delete; replace = replace.Delete; status = held.CreateComplete; unsure = false; superseded = false } ∷ []);
-  made = [];
-  leftovers = [];
-  tokens = (record { token = 3; path = (codes "B"); lane = (codes "f1"); request = (request.Delete (codes "f1:2")) } ∷ []);
-  abandoned = [];
-  source = Some (source_for (codes "s") 1 second);
-  going = Some (source_for (codes "s") 1 second);
-  outputs = [];
-  sets = [];
-  events = ((codes "event 2 - CREATE_IN_PROGRESS") ∷ (codes "event 3 A CREATE_IN_PROGRESS") ∷ (codes "event 4 A CREATE_COMPLETE") ∷ (codes "event 5 B CREATE_IN_PROGRESS") ∷ (codes "event 6 B CREATE_COMPLETE") ∷ (codes "event 7 - CREATE_COMPLETE") ∷ (codes "event 8 - UPDATE_IN_PROGRESS") ∷ (codes "event 9 - UPDATE_COMPLETE_CLEANUP_IN_PROGRESS") ∷ (codes "event 10 B DELETE_IN_PROGRESS") ∷ []);
-  entries = (updating ∷ cleaning ∷ intended_once ∷ []);
-}
+stack_10_s = record stack_9_s { tokens = (record { token = 3; path = (codes "B"); lane = (codes "f1"); request = (request.Delete (codes "f1:2")) } ∷ []); events = stack_9_s.events ++ (codes "event 10 B DELETE_IN_PROGRESS") ∷ []; entries = stack_9_s.entries ++ intended_once ∷ [] }
 
 abbrev world_10 : World
-world_10 = record { stacks = (((codes "s"), stack_10_s) ∷ []); exports = []; pins = []; claims = []; lanes = (lane_pair (codes "f1") file ∷ []); epoch = 1; operation = 2; set = 0; token = 3; place = 10 }
+world_10 = record world_9 { stacks = (((codes "s"), stack_10_s) ∷ []); token = 3; place = 10 }
 
 leads_10 : world_after world_9 intended_once ≡ world_10
 unfolding computing
@@ -346,27 +212,14 @@ may_refused_once : MayFollow schemas world_10 (3 ∷ []) refused_once
 unfolding computing
 may_refused_once = ((codes "s"), stack_10_s, Clean, refl, refl, (refl, refl, (lit≤ tt, λ _. lit≤ tt)))
 
+abbrev b_3 : Held
+b_3 = record { path = (codes "B"); kind = file; physical = (codes "f1:2"); props = (file_props (codes "b") (codes "y")); attrs = (file_attrs (codes "f1:2") 1 (codes "b") (codes "y")); needs = []; deletion = deletion.Delete; replace = replace.Delete; status = held.DeleteFailed; unsure = false; superseded = true }
+
 abbrev stack_11_s : StackState
-stack_11_s = record {
-  status = status.UpdateCompleteCleanupInProgress;
-  number = 1;
-  operation = 2;
-  held = (record { path = (codes "A"); kind = file; physical = (codes "f1:1"); props = (file_props (codes "a") (codes "x")); attrs = (file_attrs (codes "f1:1") 1 (codes "a") (codes "x")); needs = []; deletion = deletion.Delete; replace = replace.Delete; status = held.CreateComplete; unsure = false; superseded = false } ∷ record { path = (codes "B"); kind = file; physical = (codes "f1:2"); props = (file_props (codes "b") (codes "y")); attrs = (file_attrs (codes "f1:2") 1 (codes "b") (codes "y")); needs = []; deletion = deletion.Delete; replace = replace.Delete; status = held.DeleteFailed; unsure = false; superseded = true } ∷ []);
-  before = (record { path = (codes "A"); kind = file; physical = (codes "f1:1"); props = (file_props (codes "a") (codes "x")); attrs = (file_attrs (codes "f1:1") 1 (codes "a") (codes "x")); needs = []; deletion = deletion.Delete; replace = replace.Delete; status = held.CreateComplete; unsure = false; superseded = false } ∷ record { path = (codes "B"); kind = file; physical = (codes "f1:2"); props = (file_props (codes "b") (codes "y")); attrs = (file_attrs (codes "f1:2") 1 (codes "b") (codes "y")); needs = []; deletion = deletion.Delete; replace = replace.Delete; status = held.CreateComplete; unsure = false; superseded = false } ∷ []);
-  made = [];
-  leftovers = [];
-  tokens = [];
-  abandoned = [];
-  source = Some (source_for (codes "s") 1 second);
-  going = Some (source_for (codes "s") 1 second);
-  outputs = [];
-  sets = [];
-  events = ((codes "event 2 - CREATE_IN_PROGRESS") ∷ (codes "event 3 A CREATE_IN_PROGRESS") ∷ (codes "event 4 A CREATE_COMPLETE") ∷ (codes "event 5 B CREATE_IN_PROGRESS") ∷ (codes "event 6 B CREATE_COMPLETE") ∷ (codes "event 7 - CREATE_COMPLETE") ∷ (codes "event 8 - UPDATE_IN_PROGRESS") ∷ (codes "event 9 - UPDATE_COMPLETE_CLEANUP_IN_PROGRESS") ∷ (codes "event 10 B DELETE_IN_PROGRESS") ∷ (codes "event 11 B DELETE_FAILED AccessDenied") ∷ []);
-  entries = (updating ∷ cleaning ∷ intended_once ∷ refused_once ∷ []);
-}
+stack_11_s = record stack_10_s { held = (a_1 ∷ b_3 ∷ []); tokens = []; events = stack_10_s.events ++ (codes "event 11 B DELETE_FAILED AccessDenied") ∷ []; entries = stack_10_s.entries ++ refused_once ∷ [] }
 
 abbrev world_11 : World
-world_11 = record { stacks = (((codes "s"), stack_11_s) ∷ []); exports = []; pins = []; claims = []; lanes = (lane_pair (codes "f1") file ∷ []); epoch = 1; operation = 2; set = 0; token = 3; place = 11 }
+world_11 = record world_10 { stacks = (((codes "s"), stack_11_s) ∷ []); place = 11 }
 
 leads_11 : world_after world_10 refused_once ≡ world_11
 unfolding computing
@@ -377,26 +230,10 @@ unfolding computing
 may_intended_twice = ((codes "s"), stack_11_s, Clean, refl, refl, record { next = refl; free = refl; home = refl; fits = ((codes "2", refl), refl); no_repeat = refl; chosen = (_, (there here, refl, refl), refl, refl, refl) })
 
 abbrev stack_12_s : StackState
-stack_12_s = record {
-  status = status.UpdateCompleteCleanupInProgress;
-  number = 1;
-  operation = 2;
-  held = (record { path = (codes "A"); kind = file; physical = (codes "f1:1"); props = (file_props (codes "a") (codes "x")); attrs = (file_attrs (codes "f1:1") 1 (codes "a") (codes "x")); needs = []; deletion = deletion.Delete; replace = replace.Delete; status = held.CreateComplete; unsure = false; superseded = false } ∷ record { path = (codes "B"); kind = file; physical = (codes "f1:2"); props = (file_props (codes "b") (codes "y")); attrs = (file_attrs (codes "f1:2") 1 (codes "b") (codes "y")); needs = []; deletion = deletion.Delete; replace = replace.Delete; status = held.DeleteFailed; unsure = false; superseded = true } ∷ []);
-  before = (record { path = (codes "A"); kind = file; physical = (codes "f1:1"); props = (file_props (codes "a") (codes "x")); attrs = (file_attrs (codes "f1:1") 1 (codes "a") (codes "x")); needs = []; deletion = deletion.Delete; replace = replace.Delete; status = held.CreateComplete; unsure = false; superseded = false } ∷ record { path = (codes "B"); kind = file; physical = (codes "f1:2"); props = (file_props (codes "b") (codes "y")); attrs = (file_attrs (codes "f1:2") 1 (codes "b") (codes "y")); needs = []; deletion = deletion.Delete; replace = replace.Delete; status = held.CreateComplete; unsure = false; superseded = false } ∷ []);
-  made = [];
-  leftovers = [];
-  tokens = (record { token = 4; path = (codes "B"); lane = (codes "f1"); request = (request.Delete (codes "f1:2")) } ∷ []);
-  abandoned = [];
-  source = Some (source_for (codes "s") 1 second);
-  going = Some (source_for (codes "s") 1 second);
-  outputs = [];
-  sets = [];
-  events = ((codes "event 2 - CREATE_IN_PROGRESS") ∷ (codes "event 3 A CREATE_IN_PROGRESS") ∷ (codes "event 4 A CREATE_COMPLETE") ∷ (codes "event 5 B CREATE_IN_PROGRESS") ∷ (codes "event 6 B CREATE_COMPLETE") ∷ (codes "event 7 - CREATE_COMPLETE") ∷ (codes "event 8 - UPDATE_IN_PROGRESS") ∷ (codes "event 9 - UPDATE_COMPLETE_CLEANUP_IN_PROGRESS") ∷ (codes "event 10 B DELETE_IN_PROGRESS") ∷ (codes "event 11 B DELETE_FAILED AccessDenied") ∷ (codes "event 12 B DELETE_IN_PROGRESS") ∷ []);
-  entries = (updating ∷ cleaning ∷ intended_once ∷ refused_once ∷ intended_twice ∷ []);
-}
+stack_12_s = record stack_11_s { tokens = (record { token = 4; path = (codes "B"); lane = (codes "f1"); request = (request.Delete (codes "f1:2")) } ∷ []); events = stack_11_s.events ++ (codes "event 12 B DELETE_IN_PROGRESS") ∷ []; entries = stack_11_s.entries ++ intended_twice ∷ [] }
 
 abbrev world_12 : World
-world_12 = record { stacks = (((codes "s"), stack_12_s) ∷ []); exports = []; pins = []; claims = []; lanes = (lane_pair (codes "f1") file ∷ []); epoch = 1; operation = 2; set = 0; token = 4; place = 12 }
+world_12 = record world_11 { stacks = (((codes "s"), stack_12_s) ∷ []); token = 4; place = 12 }
 
 leads_12 : world_after world_11 intended_twice ≡ world_12
 unfolding computing
@@ -407,26 +244,10 @@ unfolding computing
 may_refused_twice = ((codes "s"), stack_12_s, Clean, refl, refl, (refl, refl, (lit≤ tt, λ _. lit≤ tt)))
 
 abbrev stack_13_s : StackState
-stack_13_s = record {
-  status = status.UpdateCompleteCleanupInProgress;
-  number = 1;
-  operation = 2;
-  held = (record { path = (codes "A"); kind = file; physical = (codes "f1:1"); props = (file_props (codes "a") (codes "x")); attrs = (file_attrs (codes "f1:1") 1 (codes "a") (codes "x")); needs = []; deletion = deletion.Delete; replace = replace.Delete; status = held.CreateComplete; unsure = false; superseded = false } ∷ record { path = (codes "B"); kind = file; physical = (codes "f1:2"); props = (file_props (codes "b") (codes "y")); attrs = (file_attrs (codes "f1:2") 1 (codes "b") (codes "y")); needs = []; deletion = deletion.Delete; replace = replace.Delete; status = held.DeleteFailed; unsure = false; superseded = true } ∷ []);
-  before = (record { path = (codes "A"); kind = file; physical = (codes "f1:1"); props = (file_props (codes "a") (codes "x")); attrs = (file_attrs (codes "f1:1") 1 (codes "a") (codes "x")); needs = []; deletion = deletion.Delete; replace = replace.Delete; status = held.CreateComplete; unsure = false; superseded = false } ∷ record { path = (codes "B"); kind = file; physical = (codes "f1:2"); props = (file_props (codes "b") (codes "y")); attrs = (file_attrs (codes "f1:2") 1 (codes "b") (codes "y")); needs = []; deletion = deletion.Delete; replace = replace.Delete; status = held.CreateComplete; unsure = false; superseded = false } ∷ []);
-  made = [];
-  leftovers = [];
-  tokens = [];
-  abandoned = [];
-  source = Some (source_for (codes "s") 1 second);
-  going = Some (source_for (codes "s") 1 second);
-  outputs = [];
-  sets = [];
-  events = ((codes "event 2 - CREATE_IN_PROGRESS") ∷ (codes "event 3 A CREATE_IN_PROGRESS") ∷ (codes "event 4 A CREATE_COMPLETE") ∷ (codes "event 5 B CREATE_IN_PROGRESS") ∷ (codes "event 6 B CREATE_COMPLETE") ∷ (codes "event 7 - CREATE_COMPLETE") ∷ (codes "event 8 - UPDATE_IN_PROGRESS") ∷ (codes "event 9 - UPDATE_COMPLETE_CLEANUP_IN_PROGRESS") ∷ (codes "event 10 B DELETE_IN_PROGRESS") ∷ (codes "event 11 B DELETE_FAILED AccessDenied") ∷ (codes "event 12 B DELETE_IN_PROGRESS") ∷ (codes "event 13 B DELETE_FAILED AccessDenied") ∷ []);
-  entries = (updating ∷ cleaning ∷ intended_once ∷ refused_once ∷ intended_twice ∷ refused_twice ∷ []);
-}
+stack_13_s = record stack_12_s { tokens = []; events = stack_12_s.events ++ (codes "event 13 B DELETE_FAILED AccessDenied") ∷ []; entries = stack_12_s.entries ++ refused_twice ∷ [] }
 
 abbrev world_13 : World
-world_13 = record { stacks = (((codes "s"), stack_13_s) ∷ []); exports = []; pins = []; claims = []; lanes = (lane_pair (codes "f1") file ∷ []); epoch = 1; operation = 2; set = 0; token = 4; place = 13 }
+world_13 = record world_12 { stacks = (((codes "s"), stack_13_s) ∷ []); place = 13 }
 
 leads_13 : world_after world_12 refused_twice ≡ world_13
 unfolding computing
@@ -437,26 +258,10 @@ unfolding computing
 may_intended_thrice = ((codes "s"), stack_13_s, Clean, refl, refl, record { next = refl; free = refl; home = refl; fits = ((codes "2", refl), refl); no_repeat = refl; chosen = (_, (there here, refl, refl), refl, refl, refl) })
 
 abbrev stack_14_s : StackState
-stack_14_s = record {
-  status = status.UpdateCompleteCleanupInProgress;
-  number = 1;
-  operation = 2;
-  held = (record { path = (codes "A"); kind = file; physical = (codes "f1:1"); props = (file_props (codes "a") (codes "x")); attrs = (file_attrs (codes "f1:1") 1 (codes "a") (codes "x")); needs = []; deletion = deletion.Delete; replace = replace.Delete; status = held.CreateComplete; unsure = false; superseded = false } ∷ record { path = (codes "B"); kind = file; physical = (codes "f1:2"); props = (file_props (codes "b") (codes "y")); attrs = (file_attrs (codes "f1:2") 1 (codes "b") (codes "y")); needs = []; deletion = deletion.Delete; replace = replace.Delete; status = held.DeleteFailed; unsure = false; superseded = true } ∷ []);
-  before = (record { path = (codes "A"); kind = file; physical = (codes "f1:1"); props = (file_props (codes "a") (codes "x")); attrs = (file_attrs (codes "f1:1") 1 (codes "a") (codes "x")); needs = []; deletion = deletion.Delete; replace = replace.Delete; status = held.CreateComplete; unsure = false; superseded = false } ∷ record { path = (codes "B"); kind = file; physical = (codes "f1:2"); props = (file_props (codes "b") (codes "y")); attrs = (file_attrs (codes "f1:2") 1 (codes "b") (codes "y")); needs = []; deletion = deletion.Delete; replace = replace.Delete; status = held.CreateComplete; unsure = false; superseded = false } ∷ []);
-  made = [];
-  leftovers = [];
-  tokens = (record { token = 5; path = (codes "B"); lane = (codes "f1"); request = (request.Delete (codes "f1:2")) } ∷ []);
-  abandoned = [];
-  source = Some (source_for (codes "s") 1 second);
-  going = Some (source_for (codes "s") 1 second);
-  outputs = [];
-  sets = [];
-  events = ((codes "event 2 - CREATE_IN_PROGRESS") ∷ (codes "event 3 A CREATE_IN_PROGRESS") ∷ (codes "event 4 A CREATE_COMPLETE") ∷ (codes "event 5 B CREATE_IN_PROGRESS") ∷ (codes "event 6 B CREATE_COMPLETE") ∷ (codes "event 7 - CREATE_COMPLETE") ∷ (codes "event 8 - UPDATE_IN_PROGRESS") ∷ (codes "event 9 - UPDATE_COMPLETE_CLEANUP_IN_PROGRESS") ∷ (codes "event 10 B DELETE_IN_PROGRESS") ∷ (codes "event 11 B DELETE_FAILED AccessDenied") ∷ (codes "event 12 B DELETE_IN_PROGRESS") ∷ (codes "event 13 B DELETE_FAILED AccessDenied") ∷ (codes "event 14 B DELETE_IN_PROGRESS") ∷ []);
-  entries = (updating ∷ cleaning ∷ intended_once ∷ refused_once ∷ intended_twice ∷ refused_twice ∷ intended_thrice ∷ []);
-}
+stack_14_s = record stack_13_s { tokens = (record { token = 5; path = (codes "B"); lane = (codes "f1"); request = (request.Delete (codes "f1:2")) } ∷ []); events = stack_13_s.events ++ (codes "event 14 B DELETE_IN_PROGRESS") ∷ []; entries = stack_13_s.entries ++ intended_thrice ∷ [] }
 
 abbrev world_14 : World
-world_14 = record { stacks = (((codes "s"), stack_14_s) ∷ []); exports = []; pins = []; claims = []; lanes = (lane_pair (codes "f1") file ∷ []); epoch = 1; operation = 2; set = 0; token = 5; place = 14 }
+world_14 = record world_13 { stacks = (((codes "s"), stack_14_s) ∷ []); token = 5; place = 14 }
 
 leads_14 : world_after world_13 intended_thrice ≡ world_14
 unfolding computing
@@ -467,26 +272,10 @@ unfolding computing
 may_refused_thrice = ((codes "s"), stack_14_s, Clean, refl, refl, (refl, refl, (lit≤ tt, λ _. lit≤ tt)))
 
 abbrev stack_15_s : StackState
-stack_15_s = record {
-  status = status.UpdateCompleteCleanupInProgress;
-  number = 1;
-  operation = 2;
-  held = (record { path = (codes "A"); kind = file; physical = (codes "f1:1"); props = (file_props (codes "a") (codes "x")); attrs = (file_attrs (codes "f1:1") 1 (codes "a") (codes "x")); needs = []; deletion = deletion.Delete; replace = replace.Delete; status = held.CreateComplete; unsure = false; superseded = false } ∷ record { path = (codes "B"); kind = file; physical = (codes "f1:2"); props = (file_props (codes "b") (codes "y")); attrs = (file_attrs (codes "f1:2") 1 (codes "b") (codes "y")); needs = []; deletion = deletion.Delete; replace = replace.Delete; status = held.DeleteFailed; unsure = false; superseded = true } ∷ []);
-  before = (record { path = (codes "A"); kind = file; physical = (codes "f1:1"); props = (file_props (codes "a") (codes "x")); attrs = (file_attrs (codes "f1:1") 1 (codes "a") (codes "x")); needs = []; deletion = deletion.Delete; replace = replace.Delete; status = held.CreateComplete; unsure = false; superseded = false } ∷ record { path = (codes "B"); kind = file; physical = (codes "f1:2"); props = (file_props (codes "b") (codes "y")); attrs = (file_attrs (codes "f1:2") 1 (codes "b") (codes "y")); needs = []; deletion = deletion.Delete; replace = replace.Delete; status = held.CreateComplete; unsure = false; superseded = false } ∷ []);
-  made = [];
-  leftovers = [];
-  tokens = [];
-  abandoned = [];
-  source = Some (source_for (codes "s") 1 second);
-  going = Some (source_for (codes "s") 1 second);
-  outputs = [];
-  sets = [];
-  events = ((codes "event 2 - CREATE_IN_PROGRESS") ∷ (codes "event 3 A CREATE_IN_PROGRESS") ∷ (codes "event 4 A CREATE_COMPLETE") ∷ (codes "event 5 B CREATE_IN_PROGRESS") ∷ (codes "event 6 B CREATE_COMPLETE") ∷ (codes "event 7 - CREATE_COMPLETE") ∷ (codes "event 8 - UPDATE_IN_PROGRESS") ∷ (codes "event 9 - UPDATE_COMPLETE_CLEANUP_IN_PROGRESS") ∷ (codes "event 10 B DELETE_IN_PROGRESS") ∷ (codes "event 11 B DELETE_FAILED AccessDenied") ∷ (codes "event 12 B DELETE_IN_PROGRESS") ∷ (codes "event 13 B DELETE_FAILED AccessDenied") ∷ (codes "event 14 B DELETE_IN_PROGRESS") ∷ (codes "event 15 B DELETE_FAILED AccessDenied") ∷ []);
-  entries = (updating ∷ cleaning ∷ intended_once ∷ refused_once ∷ intended_twice ∷ refused_twice ∷ intended_thrice ∷ refused_thrice ∷ []);
-}
+stack_15_s = record stack_14_s { tokens = []; events = stack_14_s.events ++ (codes "event 15 B DELETE_FAILED AccessDenied") ∷ []; entries = stack_14_s.entries ++ refused_thrice ∷ [] }
 
 abbrev world_15 : World
-world_15 = record { stacks = (((codes "s"), stack_15_s) ∷ []); exports = []; pins = []; claims = []; lanes = (lane_pair (codes "f1") file ∷ []); epoch = 1; operation = 2; set = 0; token = 5; place = 15 }
+world_15 = record world_14 { stacks = (((codes "s"), stack_15_s) ∷ []); place = 15 }
 
 leads_15 : world_after world_14 refused_thrice ≡ world_15
 unfolding computing
@@ -497,26 +286,10 @@ unfolding computing
 may_kept = ((codes "s"), stack_15_s, Clean, refl, refl, ((_, refl, here, refl, refl), lit≤ tt))
 
 abbrev stack_16_s : StackState
-stack_16_s = record {
-  status = status.UpdateCompleteCleanupInProgress;
-  number = 1;
-  operation = 2;
-  held = (record { path = (codes "A"); kind = file; physical = (codes "f1:1"); props = (file_props (codes "a") (codes "x")); attrs = (file_attrs (codes "f1:1") 1 (codes "a") (codes "x")); needs = []; deletion = deletion.Delete; replace = replace.Delete; status = held.CreateComplete; unsure = false; superseded = false } ∷ []);
-  before = (record { path = (codes "A"); kind = file; physical = (codes "f1:1"); props = (file_props (codes "a") (codes "x")); attrs = (file_attrs (codes "f1:1") 1 (codes "a") (codes "x")); needs = []; deletion = deletion.Delete; replace = replace.Delete; status = held.CreateComplete; unsure = false; superseded = false } ∷ record { path = (codes "B"); kind = file; physical = (codes "f1:2"); props = (file_props (codes "b") (codes "y")); attrs = (file_attrs (codes "f1:2") 1 (codes "b") (codes "y")); needs = []; deletion = deletion.Delete; replace = replace.Delete; status = held.CreateComplete; unsure = false; superseded = false } ∷ []);
-  made = [];
-  leftovers = (record { path = (codes "B"); physical = (codes "f1:2"); why = why.Failed } ∷ []);
-  tokens = [];
-  abandoned = [];
-  source = Some (source_for (codes "s") 1 second);
-  going = Some (source_for (codes "s") 1 second);
-  outputs = [];
-  sets = [];
-  events = ((codes "event 2 - CREATE_IN_PROGRESS") ∷ (codes "event 3 A CREATE_IN_PROGRESS") ∷ (codes "event 4 A CREATE_COMPLETE") ∷ (codes "event 5 B CREATE_IN_PROGRESS") ∷ (codes "event 6 B CREATE_COMPLETE") ∷ (codes "event 7 - CREATE_COMPLETE") ∷ (codes "event 8 - UPDATE_IN_PROGRESS") ∷ (codes "event 9 - UPDATE_COMPLETE_CLEANUP_IN_PROGRESS") ∷ (codes "event 10 B DELETE_IN_PROGRESS") ∷ (codes "event 11 B DELETE_FAILED AccessDenied") ∷ (codes "event 12 B DELETE_IN_PROGRESS") ∷ (codes "event 13 B DELETE_FAILED AccessDenied") ∷ (codes "event 14 B DELETE_IN_PROGRESS") ∷ (codes "event 15 B DELETE_FAILED AccessDenied") ∷ (codes "event 16 B DELETE_FAILED") ∷ []);
-  entries = (updating ∷ cleaning ∷ intended_once ∷ refused_once ∷ intended_twice ∷ refused_twice ∷ intended_thrice ∷ refused_thrice ∷ kept ∷ []);
-}
+stack_16_s = record stack_15_s { held = (a_1 ∷ []); leftovers = (record { path = (codes "B"); physical = (codes "f1:2"); why = why.Failed } ∷ []); events = stack_15_s.events ++ (codes "event 16 B DELETE_FAILED") ∷ []; entries = stack_15_s.entries ++ kept ∷ [] }
 
 abbrev world_16 : World
-world_16 = record { stacks = (((codes "s"), stack_16_s) ∷ []); exports = []; pins = []; claims = []; lanes = (lane_pair (codes "f1") file ∷ []); epoch = 1; operation = 2; set = 0; token = 5; place = 16 }
+world_16 = record world_15 { stacks = (((codes "s"), stack_16_s) ∷ []); place = 16 }
 
 leads_16 : world_after world_15 kept ≡ world_16
 unfolding computing
@@ -527,26 +300,10 @@ unfolding computing
 may_updated = ((codes "s"), stack_16_s, Clean, refl, refl, (refl, end_of_clean schemas (codes "s") world_16 stack_16_s refl refl refl refl, tt, refl))
 
 abbrev stack_17_s : StackState
-stack_17_s = record {
-  status = status.UpdateComplete;
-  number = 1;
-  operation = 2;
-  held = (record { path = (codes "A"); kind = file; physical = (codes "f1:1"); props = (file_props (codes "a") (codes "x")); attrs = (file_attrs (codes "f1:1") 1 (codes "a") (codes "x")); needs = []; deletion = deletion.Delete; replace = replace.Delete; status = held.CreateComplete; unsure = false; superseded = false } ∷ []);
-  before = (record { path = (codes "A"); kind = file; physical = (codes "f1:1"); props = (file_props (codes "a") (codes "x")); attrs = (file_attrs (codes "f1:1") 1 (codes "a") (codes "x")); needs = []; deletion = deletion.Delete; replace = replace.Delete; status = held.CreateComplete; unsure = false; superseded = false } ∷ record { path = (codes "B"); kind = file; physical = (codes "f1:2"); props = (file_props (codes "b") (codes "y")); attrs = (file_attrs (codes "f1:2") 1 (codes "b") (codes "y")); needs = []; deletion = deletion.Delete; replace = replace.Delete; status = held.CreateComplete; unsure = false; superseded = false } ∷ []);
-  made = [];
-  leftovers = (record { path = (codes "B"); physical = (codes "f1:2"); why = why.Failed } ∷ []);
-  tokens = [];
-  abandoned = [];
-  source = Some (source_for (codes "s") 1 second);
-  going = Some (source_for (codes "s") 1 second);
-  outputs = [];
-  sets = [];
-  events = ((codes "event 2 - CREATE_IN_PROGRESS") ∷ (codes "event 3 A CREATE_IN_PROGRESS") ∷ (codes "event 4 A CREATE_COMPLETE") ∷ (codes "event 5 B CREATE_IN_PROGRESS") ∷ (codes "event 6 B CREATE_COMPLETE") ∷ (codes "event 7 - CREATE_COMPLETE") ∷ (codes "event 8 - UPDATE_IN_PROGRESS") ∷ (codes "event 9 - UPDATE_COMPLETE_CLEANUP_IN_PROGRESS") ∷ (codes "event 10 B DELETE_IN_PROGRESS") ∷ (codes "event 11 B DELETE_FAILED AccessDenied") ∷ (codes "event 12 B DELETE_IN_PROGRESS") ∷ (codes "event 13 B DELETE_FAILED AccessDenied") ∷ (codes "event 14 B DELETE_IN_PROGRESS") ∷ (codes "event 15 B DELETE_FAILED AccessDenied") ∷ (codes "event 16 B DELETE_FAILED") ∷ (codes "event 17 - UPDATE_COMPLETE") ∷ []);
-  entries = (updating ∷ cleaning ∷ intended_once ∷ refused_once ∷ intended_twice ∷ refused_twice ∷ intended_thrice ∷ refused_thrice ∷ kept ∷ updated ∷ []);
-}
+stack_17_s = record stack_16_s { status = status.UpdateComplete; events = stack_16_s.events ++ (codes "event 17 - UPDATE_COMPLETE") ∷ []; entries = stack_16_s.entries ++ updated ∷ [] }
 
 abbrev world_17 : World
-world_17 = record { stacks = (((codes "s"), stack_17_s) ∷ []); exports = []; pins = []; claims = []; lanes = (lane_pair (codes "f1") file ∷ []); epoch = 1; operation = 2; set = 0; token = 5; place = 17 }
+world_17 = record world_16 { stacks = (((codes "s"), stack_17_s) ∷ []); place = 17 }
 
 leads_17 : world_after world_16 updated ≡ world_17
 unfolding computing
