@@ -1,24 +1,26 @@
 -- The life that makes the first resource.
-use Rattle.std.proofs.Common.{◌≡◌, refl, List, [], ◌∷◌, Some, None, true, false, ℕ, inl, sym, subst, lit≤}
+use Rattle.std.proofs.Common.{inr, ◌∙◌, ap, ◌≡◌, refl, List, [], ◌∷◌, Some, None, true, false, ℕ, inl, sym, subst, lit≤}
 use Rattle.std.specs.Prelude.{codes}
 use Rattle.cf_tree.specs.declared.request.Answer.TheVariants as answer
 use Rattle.std.specs.Prelude.{map, ◌==◌, ◌≤◌}
 use Rattle.std.specs.Str.{bytes_eq}
 use Rattle.cf_handler.specs.declared.settled.Settled.{Settled}
-use Rattle.cf_handler.specs.Lane.{Live, live_of, is_used}
+use Rattle.cf_handler.specs.Lane.{Live, live_of, is_used, settlement_of}
 use Rattle.cf_handler.specs.Fence.{Raised, live_at, settled_at}
 use Rattle.cf_stacks.specs.declared.held.Held.{Held}
 use Rattle.cf_stacks.specs.declared.held.Pending.{Pending}
 use Rattle.cf_stacks.specs.Operation.{Call, Answered, call_at}
 use Rattle.cf_stacks.specs.Words.{all_differ}
+use Rattle.cf_stacks.specs.declared.state.World.{World}
+use Rattle.cf_stacks.specs.Fold.{empty_world, fold_of}
 use Rattle.cf_plan.specs.Forward.{In, here}
-use Rattle.cf_plan.specs.Lanes.{Lane, lane_at, open_at, IsAnswered, told_of}
-use Rattle.cf_plan.specs.Agrees.{Ties, FitsCall, IsHome, IsListed}
+use Rattle.cf_plan.specs.Lanes.{Lane, lane_at, open_at, IsAnswered, told_of, Effect, Nothing, Made, Set, effect_of, ids_of}
+use Rattle.cf_plan.specs.Agrees.{Ties, FitsCall, IsHome, IsListed, IsAccounted}
 use Rattle.cf_plan.specs.Life.{Life, Lease, Happens, IsLife, AreLeased, Holds}
 use Rattle.cf_plan.specs.Life as life
 use Rattle.cf_examples.specs.Given.{file, file_props, file_attrs, schemas}
 use Rattle.cf_examples.specs.FirstResource.{opened, begun, intended, answered, done, run, app, web, world}
-use Rattle.cf_examples.specs.FirstLife.{files_with, start, made, end, Lives, HoldsInTheEnd}
+use Rattle.cf_examples.specs.FirstLife.{files_with, start, made, end, Lives, HoldsInTheEnd, unwritten, lease_answered, HoldsBeforeItIsWritten}
 use Rattle.cf_examples.proofs.Computing.{computing}
 use Rattle.cf_examples.proofs.Lists.{some_is, in_none, only, found_passes}
 use Rattle.cf_examples.proofs.FirstResource.{leaves, legal, opens, begins, intends, answers, ends}
@@ -150,3 +152,84 @@ leased = record {
 pub holds : HoldsInTheEnd
 unfolding computing
 holds = record { agrees = record { legal = legal; ties = subst (λ x. Ties run x end.lanes) (sym leaves) ties }; leased = leased }
+
+-- Before the answer is written down: the create is open and answered, and its resource is live.
+abbrev world_3 : World
+world_3 = fold_of empty_world unwritten.entries
+
+abbrev pending : Pending
+pending = record { token = 1; path = codes "Web"; lane = codes "f1"; request = made.request }
+
+is_pending : (p : Pending) → open_at p.token world_3 ≡ Some p → p ≡ pending
+unfolding computing
+is_pending p e = only (λ (q : Pending). q ≡ pending) {a = pending} refl p (found_passes (λ (q : Pending). p.token == q.token) (pending ∷ []) p e).1
+
+is_f1 : (name : List ℕ) (l : Lane) → lane_at name unwritten.lanes ≡ Some l → l ≡ f1
+is_f1 name l e = only (λ (q : Lane). q ≡ f1) {a = f1} refl l (found_passes (λ (q : Lane). bytes_eq name q.name) unwritten.lanes l e).1
+
+is_made : (token : ℕ) (l : Lane) (s : Settled) → l ≡ f1 → settled_at token l.state ≡ Some s → s ≡ made
+is_made token l s here_is e = only (λ (q : Settled). q ≡ made) {a = made} refl s (found_passes (λ (q : Settled). token == q.token) (made ∷ []) s (subst (λ (q : Lane). settled_at token q.state ≡ Some s) here_is e)).1
+
+open_fits : FitsCall unwritten.entries world_3 (codes "f1") 1 made.request
+unfolding computing
+open_fits = record {
+  number = lit≤ tt;
+  written = λ c e. subst (λ q. (q.lane ≡ codes "f1") × (q.request ≡ made.request)) (some_is {a = made_call} e) (refl, refl);
+  is_open = λ p e. subst (λ q. (q.lane ≡ codes "f1") × (q.request ≡ made.request)) (some_is {a = pending} e) (refl, refl);
+}
+
+-- what the answer did
+abbrev IsDoneBy : Lane → Effect → Type 0
+IsDoneBy l Nothing = Unit {0}
+IsDoneBy l (Made id k props attrs) = (live_at id l.state ≡ Some (record { id = id; kind = k; props = props; attrs = attrs })) × ¬ In id (ids_of world_3)
+IsDoneBy l (Set id props attrs) = ⊥
+
+done_by : IsDoneBy f1 (effect_of made.request made.settlement)
+unfolding computing
+done_by = (refl, λ i. in_none i)
+
+made_done : {p : Pending} {l : Lane} {s : Settled} → IsAnswered world_3 unwritten.lanes p l s → IsDoneBy l (effect_of s.request s.settlement)
+made_done {p} {l} {s} a =
+    let there_is = is_f1 p.lane l a.at_home in
+    subst (λ q. IsDoneBy q (effect_of s.request s.settlement)) (sym there_is) (subst (λ q. IsDoneBy f1 (effect_of q.request q.settlement)) (sym (is_made p.token l s there_is a.settled)) done_by)
+
+born_of : IsAnswered world_3 unwritten.lanes pending f1 made
+unfolding computing
+born_of = record { is_open = refl; at_home = refl; settled = refl }
+
+open_ties : Ties unwritten.entries world_3 unwritten.lanes
+unfolding computing
+open_ties = record {
+  settled_once = λ l i. only (λ (q : Lane). all_differ ◌==◌ (map (λ s. s.token) q.state.state.settled) ≡ true) {a = f1} refl l i;
+  base_once = λ l i. only (λ (q : Lane). all_differ bytes_eq (map (λ v. v.id) q.state.state.base) ≡ true) {a = f1} refl l i;
+  base_named = λ l v i j. absurd (in_none (only (λ (q : Lane). In v q.state.state.base → In v []) {a = f1} (λ k. k) l i j));
+  settled_calls = λ l s i j. only (λ (q : Lane). In s q.state.state.settled → FitsCall unwritten.entries world_3 q.name s.token s.request) {a = f1} (λ k. only (λ (r : Settled). FitsCall unwritten.entries world_3 (codes "f1") r.token r.request) {a = made} open_fits s k) l i j;
+  flying_calls = λ l f i j. absurd (in_none (only (λ (q : Lane). In f q.state.flying → In f []) {a = f1} (λ k. k) l i j));
+  answers = λ c r l i. absurd (in_none i);
+  flying_open = λ l f i j. absurd (in_none (only (λ (q : Lane). In f q.state.flying → In f []) {a = f1} (λ k. k) l i j));
+  flying_epochs = λ l f i j. absurd (in_none (only (λ (q : Lane). In f q.state.flying → In f []) {a = f1} (λ k. k) l i j));
+  flying_at_rest = λ l f name s p i j. absurd (in_none (only (λ (q : Lane). In f q.state.flying → In f []) {a = f1} (λ k. k) l i j));
+  fences = λ l i. only (λ (q : Lane). q.state.fence ≤ 1) {a = f1} (lit≤ tt) l i;
+  ids_differ = refl;
+  ids_known = λ id l i. absurd (in_none i);
+  gone = λ r l i. absurd (in_none i);
+  alive = λ r l i. absurd (in_none i);
+  same = λ r l v i. absurd (in_none i);
+  changed = λ p l s id props attrs a e. absurd (subst (IsDoneBy l) e (made_done a));
+  born = λ p l s id k props attrs a e. subst (IsDoneBy l) e (made_done a);
+  born_once = λ p q l m s t id k k' props attrs props' attrs' a b e f. ap (λ (o : Pending). o.token) (is_pending p a.is_open ∙ sym (is_pending q b.is_open));
+  listed = λ l v i j. only (λ (q : Lane). In v (live_of q.state.state) → IsListed world_3 unwritten.lanes q v.id) {a = f1} (λ k. only (λ (w : Live). IsListed world_3 unwritten.lanes f1 w.id) {a = web_live} (inr (inr (inl (pending, f1, made, file, web_live.props, web_live.attrs, born_of, refl)))) v k) l i j;
+}
+
+open_leased : AreLeased unwritten
+unfolding computing
+open_leased = record {
+  once = refl;
+  own_call = λ l i. only (λ (q : Lease). FitsCall unwritten.entries world_3 q.lane q.token q.request) {a = lease_answered} open_fits l i;
+  accounted = λ l i. only (λ (q : Lease). IsAccounted world_3 q.token q.request) {a = lease_answered} (inl (pending, refl)) l i;
+  settled = λ l reply s lane i replied told at_lane. only (λ (q : Lease). q.reply ≡ Some reply → lane_at q.lane unwritten.lanes ≡ Some lane → settlement_of q.token lane.state.state.settled ≡ Some s) {a = lease_answered} (λ e f. subst (λ (m : Lane). settlement_of 1 m.state.state.settled ≡ Some s) (sym (is_f1 (codes "f1") lane f)) (subst (λ r. life.settled_reply r ≡ Some s) (sym (some_is {a = answer_1} e)) told)) l i replied at_lane;
+}
+
+pub holds_before : HoldsBeforeItIsWritten
+unfolding computing
+holds_before = record { agrees = record { legal = (([], opens), (([], begins), (([], intends), tt))); ties = open_ties }; leased = open_leased }

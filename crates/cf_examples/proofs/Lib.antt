@@ -18,6 +18,8 @@ pub mod Skipped
 pub mod Retained
 pub mod Nested
 pub mod Pinned
+pub mod MadeAndTakenBack
+pub mod KeptInRollback
 pub mod RestoreRefused
 pub mod LostCreation
 pub mod Undeleted

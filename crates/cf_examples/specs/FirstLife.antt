@@ -1,14 +1,14 @@
 -- The first resource as the life of an engine: a new journal is opened over one lane, its fence is raised, a stack is begun, a call is granted, made and written down, and the book is closed.
-use Rattle.std.specs.Prelude.{ℕ, List, [], ◌∷◌, codes, true, false}
+use Rattle.std.specs.Prelude.{ℕ, List, [], ◌∷◌, codes, true, false, Some}
 use Rattle.cf_tree.specs.declared.request.Answer.TheVariants as answer
 use Rattle.cf_tree.specs.declared.request.Request.TheVariants as request
 use Rattle.cf_handler.specs.declared.settled.Settled.{Settled}
 use Rattle.cf_handler.specs.declared.settled.Settlement.TheVariants as settlement
 use Rattle.cf_handler.specs.Fence.{Flying, Raised}
 use Rattle.cf_plan.specs.Lanes.{Lane}
-use Rattle.cf_plan.specs.Life.{Life, Event, Opened, Begin, Grant, Settle, Raise, Act, Close, Whole, Answered, IsLife, Holds}
+use Rattle.cf_plan.specs.Life.{Life, Event, Opened, Begin, Grant, Settle, Raise, Act, Close, Whole, Answered, IsLife, Holds, Lease}
 use Rattle.cf_examples.specs.Given.{file, file_props, file_attrs, schemas, lane_with}
-use Rattle.cf_examples.specs.FirstResource.{begun, intended, answered, done, run}
+use Rattle.cf_examples.specs.FirstResource.{begun, intended, answered, done, run, opened}
 
 -- the one lane
 abbrev pub files_with : List Settled → List Flying → ℕ → Lane
@@ -33,3 +33,13 @@ Lives = IsLife schemas start events end
 
 abbrev pub HoldsInTheEnd : Type 0
 HoldsInTheEnd = Holds schemas end
+
+-- the call has acted, and its answer is not yet written down
+abbrev pub lease_answered : Lease
+lease_answered = record { number = 1; token = 1; lane = codes "f1"; request = made.request; reply = Some (Answered (answer.Success (codes "f1:1") (file_attrs (codes "f1:1") 5 (codes "web.txt") (codes "hello"))) 0 0) }
+
+abbrev pub unwritten : Life
+unwritten = record { entries = opened ∷ begun ∷ intended ∷ []; lanes = files_with (made ∷ []) [] 1 ∷ []; leases = lease_answered ∷ []; is_open = true; has_granted = true; is_stopped = false }
+
+abbrev pub HoldsBeforeItIsWritten : Type 0
+HoldsBeforeItIsWritten = Holds schemas unwritten

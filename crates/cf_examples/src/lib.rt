@@ -17,11 +17,13 @@ ghost use Rattle.cf_examples.specs.Reviewed as a_change_set_run;
 ghost use Rattle.cf_examples.specs.Undeleted as an_undeleted_resource_run;
 ghost use Rattle.cf_examples.specs.LostCreation as a_lost_creation_run;
 ghost use Rattle.cf_examples.specs.RestoreRefused as a_refused_restore_run;
+ghost use Rattle.cf_examples.specs.KeptInRollback as a_rollback_that_keeps_run;
+ghost use Rattle.cf_examples.specs.MadeAndTakenBack as an_update_taken_back_run;
 ghost use Rattle.cf_examples.specs.Retained as a_retained_resource_run;
 ghost use Rattle.cf_examples.specs.Nested as a_nested_stack_run;
 ghost use Rattle.cf_examples.specs.Ends.{ReplacementIsComplete, LateEffectIsRestored, RollbackIsCleared, FailuresAreBlamed};
 ghost use Rattle.cf_examples.specs.CrashedLife.{Crashes, HoldsWhileItFlies, GoesOn};
-ghost use Rattle.cf_examples.specs.FirstLife.{Lives, HoldsInTheEnd};
+ghost use Rattle.cf_examples.specs.FirstLife.{Lives, HoldsBeforeItIsWritten, HoldsInTheEnd};
 ghost use Rattle.cf_examples.specs.Pinned as a_pinned_export_run;
 
 /// A stack of one file: the whole world that is left is told. A creation in doubt may not be tried again under another token.
@@ -152,6 +154,20 @@ pub fn a_refused_restore()
     ensures shows { a_refused_restore_run.Shows }
 {}
 
+/// The rollback of a creation keeps what is retained, and is complete.
+pub fn a_rollback_that_keeps()
+    ensures legal { a_rollback_that_keeps_run.Legal }
+    ensures shows { a_rollback_that_keeps_run.Shows }
+    ensures deleted_though_retained { a_rollback_that_keeps_run.DeletedThoughRetained }
+{}
+
+/// What a failed update made is deleted in the cleanup of its rollback, and not before.
+pub fn an_update_taken_back()
+    ensures legal { an_update_taken_back_run.Legal }
+    ensures shows { an_update_taken_back_run.Shows }
+    ensures deleted_in_the_rollback { an_update_taken_back_run.DeletedInTheRollback }
+{}
+
 /// The ends: the new template is live, the earlier resources are back, nothing is left, and the failed paths are blamed.
 pub fn the_ends()
     ensures complete { ReplacementIsComplete }
@@ -160,9 +176,11 @@ pub fn the_ends()
     ensures blamed { FailuresAreBlamed }
 {}
 
-/// The first resource as the life of an engine, from a new journal on: in the end journal and lanes agree.
+/// The first resource as the life of an engine, from a new journal on: journal and lanes agree in the
+/// end, and before the answer of the call is written down.
 pub fn the_first_life()
     ensures lives { Lives }
+    ensures holds_before { HoldsBeforeItIsWritten }
     ensures holds { HoldsInTheEnd }
 {}
 

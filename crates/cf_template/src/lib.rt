@@ -28,4 +28,8 @@ pub use subs::{SubFault, sub_parts};
 pub use whole::read_whole;
 
 #[cfg(test)]
+mod refusal_tests;
+#[cfg(test)]
+mod section_tests;
+#[cfg(test)]
 mod tests;

@@ -1,4 +1,4 @@
-use Rattle.cf_examples.proofs.FirstLife.{lives, holds}
+use Rattle.cf_examples.proofs.FirstLife.{lives, holds, holds_before}
 use Rattle.cf_examples.proofs.the_first_life.Goals as goal
 
 pub returns-clause-lives : goal.returns-clause-lives
@@ -6,3 +6,6 @@ returns-clause-lives c = lives
 
 pub returns-clause-holds : goal.returns-clause-holds
 returns-clause-holds c = holds
+
+pub returns-clause-holds_before : goal.returns-clause-holds_before
+returns-clause-holds_before c = holds_before
