@@ -58,6 +58,7 @@ opening_written m name template old q w h =
 
 not_entered : (m : Meeting) (name template : List ℕ) (e : Exit) → WasNotEntered m e → HasJournal m name template
 not_entered m name template (exit.LaneTwice lane) w = nothing_written m name template w.old w.quiet w.was w.why.1
+not_entered m name template (exit.LaneMissing lane) w = nothing_written m name template w.old w.quiet w.was w.why.2
 not_entered m name template (exit.Full long need room) w = nothing_written m name template w.old w.quiet w.was w.why.1.0
 not_entered m name template exit.NoMemory w = nothing_written m name template w.old w.quiet w.was w.why
 not_entered m name template exit.DiskFault w =

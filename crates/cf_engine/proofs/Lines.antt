@@ -51,6 +51,7 @@ made_says m p words name template st s w a = record {
   faults = w.faults;
   was = w.was;
   differ = w.differ;
+  present = w.present;
   bytes = w.came.0;
   resources = w.came.1;
   stack = st;
@@ -75,6 +76,7 @@ failed_says m p words name template why s (inr (inr w)) a =
         faults = w.faults;
         was = w.was;
         differ = w.differ;
+        present = w.present;
         bytes = x.0;
         resources = x.1;
         found = x.2;
@@ -105,17 +107,12 @@ no_Failed m name template blamed (inl x) = x.0
 no_Failed m name template blamed (inr (inl w)) = w.why
 no_Failed m name template blamed (inr (inr w)) = elim w.came [ inl x ↦ x.0 | inr x ↦ x.3 ]
 
-no_LaneMissing : (m : Meeting) (name template lane : List ℕ) → RunsAs m name template (Err (exit.LaneMissing lane)) → ⊥
-no_LaneMissing m name template lane (inl x) = x.0
-no_LaneMissing m name template lane (inr (inl w)) = w.why
-no_LaneMissing m name template lane (inr (inr w)) = elim w.came [ inl x ↦ x.0 | inr x ↦ x.3 ]
-
 ended_says : (m : Meeting) (p : Printing) (words : List (List ℕ)) (name template : List ℕ) (e : Exit) → deploy_words words ≡ Some (name, template) → RunsAs m name template (Err e) → Appends p.held p.held' (text_of name (Err e)) → Says m p words e
 ended_says m p words name template exit.Done s r a = absurd (no_Done m name template r)
 ended_says m p words name template exit.BadWords s r a = absurd (no_BadWords m name template r)
 ended_says m p words name template exit.SinkFault s r a = absurd (no_SinkFault m name template r)
 ended_says m p words name template (exit.Failed blamed) s r a = absurd (no_Failed m name template blamed r)
-ended_says m p words name template (exit.LaneMissing lane) s r a = absurd (no_LaneMissing m name template lane r)
+ended_says m p words name template (exit.LaneMissing lane) s r a = record { name = name; template = template; said = s; ran = r; printed = a }
 ended_says m p words name template (exit.Unrolled why) s r a = failed_says m p words name template why s r a
 ended_says m p words name template exit.NoMemory s r a = cut_whole m p words name (Err exit.NoMemory) (inr (inr (template, s, r))) a
 ended_says m p words name template (exit.TemplateRefused fault) s r a = record { name = name; template = template; said = s; ran = r; printed = a }
@@ -164,7 +161,7 @@ no_deploy m p words (exit.NotAJournal offset) s n = absurd (no_words words (s.na
 no_deploy m p words (exit.LaneTwice lane) s n = absurd (no_words words (s.name, s.template) s.said n)
 no_deploy m p words (exit.Full long need room) s n = absurd (no_words words (s.name, s.template) s.said n)
 no_deploy m p words (exit.Failed blamed) s n = absurd s
-no_deploy m p words (exit.LaneMissing lane) s n = absurd s
+no_deploy m p words (exit.LaneMissing lane) s n = absurd (no_words words (s.name, s.template) s.said n)
 
 no_lane_rose : (lane : Option ℕ) (before after : List ℕ) → ((k : ℕ) → RoseAt (Some k) before after → ⊥) → RoseAt lane before after → ⊥
 no_lane_rose None before after n r = r
@@ -194,7 +191,7 @@ otherwise m p words exit.LibraryFault said s w c = absurd (library_rose m p s.na
 otherwise m p words exit.DiskFault said s w c = absurd (disk_rose m p s.name s.template s.ran c)
 otherwise m p words exit.SinkFault said s w c = absurd (c.sink s.0)
 otherwise m p words (exit.Failed blamed) said s w c = absurd s
-otherwise m p words (exit.LaneMissing lane) said s w c = absurd s
+otherwise m p words (exit.LaneMissing lane) said s w c = inr (inr tt)
 
 some_inside : {A : Type 0} (x y : A) → Some x ≡ Some y → x ≡ y
 some_inside x y e = cc
@@ -241,7 +238,7 @@ refuses m p words (exit.NotAJournal offset) name template texts fault s w t r = 
 refuses m p words (exit.LaneTwice lane) name template texts fault s w t r = inr tt
 refuses m p words (exit.Full long need room) name template texts fault s w t r = inr tt
 refuses m p words (exit.Failed blamed) name template texts fault s w t r = absurd s
-refuses m p words (exit.LaneMissing lane) name template texts fault s w t r = absurd s
+refuses m p words (exit.LaneMissing lane) name template texts fault s w t r = inr tt
 
 -- all of it
 pub answers_of : (m : Meeting) (p : Printing) (words : List (List ℕ)) (result : Exit) → AloneTells m p words result → IsAnswered m p words result

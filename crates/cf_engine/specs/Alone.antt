@@ -22,7 +22,7 @@ use Rattle.cf_engine.specs.Book.{Holds}
 use Rattle.cf_engine.specs.Written.{Call, opening, run_written, next_of, IsNearlyAll}
 use Rattle.cf_engine.specs.Calls.{AreCalled}
 use Rattle.cf_engine.specs.Deployment.{IsFound, IsDeployed, HasStopped, beginning_in}
-use Rattle.cf_engine.specs.Opening.{twice, HasOpenCause}
+use Rattle.cf_engine.specs.Opening.{twice, missing, HasOpenCause}
 use Rattle.cf_engine.specs.Meeting.{Meeting, AreQuiet, opened, RunsAs}
 use Rattle.cf_engine.specs.Telling.{stack_report, text_of, exit_of}
 use Rattle.cf_engine.specs.Print.{PrintTells}
@@ -71,6 +71,7 @@ pub record IsMade (m : Meeting) (p : Printing) (words : List (List ℕ)) : Type 
   pub faults : ℕ
   pub was : Holds m.tells m.bytes old
   pub differ : twice m.names ≡ None
+  pub present : missing m.names m.kinds old ≡ None
   pub bytes : List ℕ
   pub resources : List Planned
   pub stack : Stack
@@ -89,6 +90,7 @@ pub record HasFailed (m : Meeting) (p : Printing) (words : List (List ℕ)) (why
   pub faults : ℕ
   pub was : Holds m.tells m.bytes old
   pub differ : twice m.names ≡ None
+  pub present : missing m.names m.kinds old ≡ None
   pub bytes : List ℕ
   pub resources : List Planned
   pub found : IsFound m.shelf (opened m old faults now) name template bytes resources
@@ -122,6 +124,7 @@ Says m p words (exit.StackRefused fault) = HasEnded m p words (exit.StackRefused
 Says m p words exit.LibraryFault = HasEnded m p words exit.LibraryFault
 Says m p words exit.DiskFault = HasEnded m p words exit.DiskFault
 Says m p words (exit.NotAJournal offset) = HasEnded m p words (exit.NotAJournal offset)
+Says m p words (exit.LaneMissing name) = HasEnded m p words (exit.LaneMissing name)
 Says m p words (exit.LaneTwice name) = HasEnded m p words (exit.LaneTwice name)
 Says m p words (exit.Full long need room) = HasEnded m p words (exit.Full long need room)
 Says m p words exit.SinkFault = HasRisen p.faults p.faults' × IsCutShort m p words
@@ -145,6 +148,7 @@ abbrev pub IsRefusal : Exit → Type 0
 IsRefusal (exit.TemplateRefused fault) = ⊤
 IsRefusal (exit.StackRefused fault) = ⊤
 IsRefusal (exit.NotAJournal offset) = ⊤
+IsRefusal (exit.LaneMissing name) = ⊤
 IsRefusal (exit.LaneTwice name) = ⊤
 IsRefusal (exit.Full length need room) = ⊤
 IsRefusal _ = ⊥
@@ -180,6 +184,7 @@ ComesBefore exit.DiskFault = ⊤
 ComesBefore exit.SinkFault = ⊤
 ComesBefore exit.NoMemory = ⊤
 ComesBefore (exit.NotAJournal offset) = ⊤
+ComesBefore (exit.LaneMissing name) = ⊤
 ComesBefore (exit.LaneTwice name) = ⊤
 ComesBefore (exit.Full length need room) = ⊤
 ComesBefore _ = ⊥

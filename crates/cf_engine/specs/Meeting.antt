@@ -9,7 +9,7 @@ use Rattle.cf_engine.specs.Lanes.{Told}
 use Rattle.cf_engine.specs.Book.{Holds}
 use Rattle.cf_engine.specs.Written.{opening}
 use Rattle.cf_engine.specs.Run.{Scene}
-use Rattle.cf_engine.specs.Opening.{twice, HasOpenCause, EnterTells}
+use Rattle.cf_engine.specs.Opening.{twice, missing, HasOpenCause, EnterTells}
 use Rattle.cf_engine.specs.Stack.{stack_of}
 use Rattle.cf_engine.specs.Deployment.{Shelf, DeploysAs}
 
@@ -69,6 +69,7 @@ pub record WasEntered (m : Meeting) (name template : List ℕ) (outcome : Result
   pub later : m.faults ≤ faults
   pub was : Holds m.tells m.bytes old
   pub differ : twice m.names ≡ None
+  pub present : missing m.names m.kinds old ≡ None
   pub came : DeploysAs m.shelf (opened m old faults now) name template outcome
 
 -- a deployment comes to a stack, or ends before: the journal was not opened, or the opening not written, or later

@@ -73,6 +73,7 @@ exits:\n\
    8 SinkFault        the report can't be printed\n\
    9 NoMemory         memory was not there\n\
   10 NotAJournal      the disk holds something else than a journal\n\
+  11 LaneMissing      a lane that the journal needs is not there\n\
   11 LaneTwice        two lanes have one name\n\
   14 Full             the journal has no room for its next entry\n\
   15 Unrolled         a resource was refused or is in doubt; those before it are live\n";

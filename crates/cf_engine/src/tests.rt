@@ -170,6 +170,25 @@ fn disks_and_lanes_that_are_refused(rt: HostRuntime) -> Result<(), Fail> {
     Ok(())
 }
 
+// A lane is missing where none of its name and type is handed in.
+#[test]
+fn a_lane_that_the_journal_needs_is_missing(rt: HostRuntime) -> Result<(), Fail> {
+    let alloc = rt.alloc();
+    let wanted = "stack app CREATE_COMPLETE 1\n\
+        resource Web Local::Files::File f1:1 CREATE_COMPLETE\n\
+        exit 0 Done\n";
+    let disk = disk_of(alloc, &[], 65_536)?;
+    let lanes = one_lane(alloc, Listing::new(alloc))?;
+    let first = run_line(alloc, "deploy app x", ONE, disk, lanes, wanted)?;
+    assert!(rt; first.is_wanted);
+    let mut lanes = Vec::new(alloc);
+    lanes.push(MemoryHandler::records(alloc, "f1", Listing::new(alloc))?)?;
+    let missing = "exit 11 LaneMissing \"f1\"\n";
+    let second = run_line(alloc, "deploy other x", ONE, first.disk, lanes, missing)?;
+    assert!(rt; second.is_wanted);
+    Ok(())
+}
+
 // Whether a deployment of two resources, of which the call of this number is broken, prints this; and then leaves the
 // stack in progress.
 fn stops(alloc: Global, call: u64, break_: Break, wanted: &str) -> Result<bool, NoMemory>

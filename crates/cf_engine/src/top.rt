@@ -106,7 +106,8 @@ fn run_words<L: Library, K: Sink, D: Disk, H: Handler>(
 /// leaves, with the physical ids, and the exit; every other end prints the line of its exit alone.
 ///
 /// The order is: `BadWords` where the words are no such command; the disk is read, `DiskFault` and `NotAJournal`;
-/// `LaneTwice` where two lanes have one name; the opening is written, `Full` and `DiskFault`; `WrongStatus` where there
+/// `LaneTwice` where two lanes have one name; `LaneMissing` where a resource or an open token is of a lane that is not
+/// handed in; the opening is written, `Full` and `DiskFault`; `WrongStatus` where there
 /// is a stack of the name; `LibraryFault`; `TemplateRefused`; then the beginning, the calls and the end. `Unrolled` names
 /// the resource that was refused or is in doubt: those before it are live, and the operation is in progress. `SinkFault`
 /// comes where the report could not be printed, whatever was done. After `Full`, `DiskFault`, `NoMemory` and `SinkFault`

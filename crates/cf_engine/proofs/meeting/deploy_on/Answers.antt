@@ -1,13 +1,13 @@
 use Rattle.std.proofs.Common.{◌≡◌, map, [], ◌∷◌, ◌++◌, None, Err, refl, ◌∙◌, subst, arith}
 use Rattle.cf_engine.specs.Written.{opening}
-use Rattle.cf_engine.specs.Opening.{twice, EnterTells}
+use Rattle.cf_engine.specs.Opening.{twice, missing, EnterTells}
 use Rattle.cf_engine.proofs.Entered.{entered, not_entered}
 use Rattle.cf_engine.proofs.meeting.deploy_on.Goals as goal
 
 pub returns-in-Ok-enter-clause-tells : goal.returns-in-Ok-enter-clause-tells
 returns-in-Ok-enter-clause-tells g c =
     let old = c.in-Ok.book.entries.items in
-    let t = subst (λ xs. (twice (map g.H.Handler.label xs) ≡ None) × (c.enter.new.book.entries.items ≡ old ++ opening (map g.H.Handler.label xs) (map g.H.Handler.of_kind xs) old ∷ [])) c.as_slice.ensures.value c.in-Ok-enter.ensures.tells in
+    let t = subst (λ xs. (twice (map g.H.Handler.label xs) ≡ None) × (missing (map g.H.Handler.label xs) (map g.H.Handler.of_kind xs) old ≡ None) × (c.enter.new.book.entries.items ≡ old ++ opening (map g.H.Handler.label xs) (map g.H.Handler.of_kind xs) old ∷ [])) c.as_slice.ensures.value c.in-Ok-enter.ensures.tells in
     entered (record {
       shelf = record {
         texts = g.L.Library.texts c.args.library.now;
@@ -30,7 +30,7 @@ returns-in-Ok-enter-clause-tells g c =
       faults' = g.D.Disk.count c.deploy_in.new.disk;
     })
     c.args.stack.now c.args.template.now c.deploy_in.result old c.enter.new.book.entries.items c.deploy_in.new.book.entries.items (g.D.Disk.room_of c.enter.new.disk) (g.D.Disk.count c.enter.new.disk)
-    (omega (arith, c.in-Ok.ensures.count, c.in-Ok-enter.ensures.count)) c.in-Ok.ensures.found t.0 t.1 (c.in-Ok-enter.ensures.room ∙ c.in-Ok.ensures.room) c.deploy_in.ensures.tells
+    (omega (arith, c.in-Ok.ensures.count, c.in-Ok-enter.ensures.count)) c.in-Ok.ensures.found t.0 t.1 t.2 (c.in-Ok-enter.ensures.room ∙ c.in-Ok.ensures.room) c.deploy_in.ensures.tells
 
 pub returns-clause-tells : goal.returns-clause-tells
 returns-clause-tells g c =
