@@ -218,6 +218,7 @@ leased = record {
   own_call = λ l i. absurd (in_none i);
   accounted = λ l i. absurd (in_none i);
   settled = λ l reply s lane i. absurd (in_none i);
+  going = λ l name s p i. absurd (in_none i);
 }
 
 pub holds : HoldsWhileItFlies

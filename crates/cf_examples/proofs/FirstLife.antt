@@ -12,7 +12,10 @@ use Rattle.cf_stacks.specs.declared.held.Pending.{Pending}
 use Rattle.cf_stacks.specs.Operation.{Call, Answered, call_at}
 use Rattle.cf_stacks.specs.Words.{all_differ}
 use Rattle.cf_stacks.specs.declared.state.World.{World}
-use Rattle.cf_stacks.specs.Fold.{empty_world, fold_of}
+use Rattle.cf_stacks.specs.Fold.{empty_world, fold_of, known_stack}
+use Rattle.cf_stacks.specs.declared.state.StackState.{StackState}
+use Rattle.cf_stacks.specs.Status.{is_in_progress}
+use Rattle.cf_examples.proofs.Beginning.{one_stack}
 use Rattle.cf_plan.specs.Forward.{In, here}
 use Rattle.cf_plan.specs.Lanes.{Lane, lane_at, open_at, IsAnswered, told_of, Effect, Nothing, Made, Set, effect_of, ids_of}
 use Rattle.cf_plan.specs.Agrees.{Ties, FitsCall, IsHome, IsListed, IsAccounted}
@@ -147,6 +150,7 @@ leased = record {
   own_call = λ l i. absurd (in_none i);
   accounted = λ l i. absurd (in_none i);
   settled = λ l reply s lane i. absurd (in_none i);
+  going = λ l name s p i. absurd (in_none i);
 }
 
 pub holds : HoldsInTheEnd
@@ -228,6 +232,7 @@ open_leased = record {
   own_call = λ l i. only (λ (q : Lease). FitsCall unwritten.entries world_3 q.lane q.token q.request) {a = lease_answered} open_fits l i;
   accounted = λ l i. only (λ (q : Lease). IsAccounted world_3 q.token q.request) {a = lease_answered} (inl (pending, refl)) l i;
   settled = λ l reply s lane i replied told at_lane. only (λ (q : Lease). q.reply ≡ Some reply → lane_at q.lane unwritten.lanes ≡ Some lane → settlement_of q.token lane.state.state.settled ≡ Some s) {a = lease_answered} (λ e f. subst (λ (m : Lane). settlement_of 1 m.state.state.settled ≡ Some s) (sym (is_f1 (codes "f1") lane f)) (subst (λ r. life.settled_reply r ≡ Some s) (sym (some_is {a = answer_1} e)) told)) l i replied at_lane;
+  going = λ l name s p i there_is j same. one_stack (λ (q : StackState). is_in_progress q.status ≡ true) name (codes "app") (known_stack (codes "app") world_3) s refl there_is;
 }
 
 pub holds_before : HoldsBeforeItIsWritten

@@ -15,7 +15,7 @@ use Rattle.cf_entry.specs.declared.entry.Reply.TheVariants as reply
 use Rattle.cf_stacks.specs.declared.held.Pending.{Pending}
 use Rattle.cf_stacks.specs.declared.state.StackState.{StackState}
 use Rattle.cf_stacks.specs.declared.state.World.{World}
-use Rattle.cf_stacks.specs.Status.{Stage, stage_of}
+use Rattle.cf_stacks.specs.Status.{Stage, stage_of, is_in_progress}
 use Rattle.cf_stacks.specs.Words.{stack_at, all_differ}
 use Rattle.cf_stacks.specs.Fold.{empty_world, fold_of}
 use Rattle.cf_plan.specs.Forward.{In}
@@ -189,6 +189,8 @@ pub record AreLeased (life : Life) : Type 0 where
   pub accounted : (lease : Lease) → In lease life.leases → IsAccounted (world_of life) lease.token lease.request
   pub settled :
       (lease : Lease) (reply : CallEnd) (s : Settlement) (lane : Lane) → In lease life.leases → lease.reply ≡ Some reply → settled_reply reply ≡ Some s → lane_at lease.lane life.lanes ≡ Some lane → settlement_of lease.token lane.state.state.settled ≡ Some s
+  -- the stack of an open call that is out has an operation in progress
+  pub going : (lease : Lease) (name : List ℕ) (s : StackState) (p : Pending) → In lease life.leases → stack_at name (world_of life) ≡ Some s → In p s.tokens → p.token ≡ lease.token → is_in_progress s.status ≡ true
 
 -- what holds at each moment of a life: journal and lanes agree, and the leases are sound
 pub record Holds (schemas : List Schema) (life : Life) : Type 0 where
