@@ -28,6 +28,7 @@ use Rattle.cf_examples.proofs.Lists.{some_is, in_none, only, found_passes}
 use Rattle.cf_examples.proofs.Failing.{not_failed}
 use Rattle.cf_examples.proofs.Ending.{end_of_create}
 use Rattle.cf_examples.proofs.Beginning.{opens_one, one_stack}
+use Rattle.cf_examples.proofs.FirstLife.{handed_in}
 use Rattle.cf_examples.proofs.FirstResource.{opens, begins, intends}
 
 -- The worlds behind the crash.
@@ -97,13 +98,13 @@ abbrev life_5 : Life
 life_5 = record life_4 { leases = record lease { reply = Some fault } ∷ []; lanes = files_with [] (late ∷ []) 1 ∷ [] }
 
 opening : Happens schemas start (life.Opened 1 ((codes "f1", file) ∷ []) life.Whole) life_1
-opening = (refl, opens, refl, refl)
+opening = (refl, opens, handed_in (files_with [] [] 0) start refl, refl)
 
 raising : Happens schemas life_1 (life.Raise (codes "f1") Raised 0 0) life_2
-raising = (refl, refl, files_with [] [] 0, (files_with [] [] 1).state, refl, lit≤ tt, (lit≤ tt, refl), refl)
+raising = (refl, refl, files_with [] [] 0, (files_with [] [] 1).state, refl, here, lit≤ tt, (lit≤ tt, refl), refl)
 
 beginning : Happens schemas life_2 (life.Begin begun life.Whole) life_3
-beginning = (refl, (λ l i. only (λ (q : Lane). q.state.fence ≡ 1) {a = files_with [] [] 1} refl l i), tt, begins, refl)
+beginning = (refl, (λ l i named. only (λ (q : Lane). q.state.fence ≡ 1) {a = files_with [] [] 1} refl l i), tt, begins, refl)
 
 granting : Happens schemas life_3 (life.Grant intended life.Whole) life_4
 granting = (refl, tt, intends, refl)
@@ -140,10 +141,10 @@ abbrev life_12 : Life
 life_12 = record life_11 { entries = end.entries }
 
 opening_again : Happens schemas crashed (life.Opened 2 ((codes "f1", file) ∷ []) life.Whole) life_7
-opening_again = (refl, opens_again, refl, refl)
+opening_again = (refl, opens_again, handed_in (files_with [] (late ∷ []) 1) crashed refl, refl)
 
 raising_again : Happens schemas life_7 (life.Raise (codes "f1") Raised 0 0) life_8
-raising_again = (refl, refl, files_with [] (late ∷ []) 1, (files_with [] (late ∷ []) 2).state, refl, lit≤ tt, (lit≤ tt, refl), refl)
+raising_again = (refl, refl, files_with [] (late ∷ []) 1, (files_with [] (late ∷ []) 2).state, refl, here, lit≤ tt, (lit≤ tt, refl), refl)
 
 repeating : Happens schemas life_8 (life.Repeat 1) life_9
 repeating = (refl, codes "app", app_in world_4, Forward, pending, refl, refl, refl, refl, repeats, refl)

@@ -1,6 +1,6 @@
 -- The life that makes the first resource.
-use Rattle.std.proofs.Common.{inr, ◌∙◌, ap, ◌≡◌, refl, List, [], ◌∷◌, Some, None, true, false, ℕ, inl, sym, subst, lit≤}
-use Rattle.std.specs.Prelude.{codes}
+use Rattle.std.proofs.Common.{inr, ◌∙◌, ap, ◌≡◌, refl, List, [], ◌∷◌, Some, None, true, false, ℕ, inl, sym, subst, lit≤, Bool, true≢false}
+use Rattle.std.specs.Prelude.{codes, if◌then◌else◌}
 use Rattle.cf_tree.specs.declared.request.Answer.TheVariants as answer
 use Rattle.std.specs.Prelude.{map, ◌==◌, ◌≤◌}
 use Rattle.std.specs.Str.{bytes_eq}
@@ -16,10 +16,11 @@ use Rattle.cf_stacks.specs.Fold.{empty_world, fold_of, known_stack}
 use Rattle.cf_stacks.specs.declared.state.StackState.{StackState}
 use Rattle.cf_stacks.specs.Status.{is_in_progress}
 use Rattle.cf_examples.proofs.Beginning.{one_stack}
+use Rattle.std.proofs.lemmas.Slice.Eq.{bytes_eq-Decides}
 use Rattle.cf_plan.specs.Forward.{In, here}
 use Rattle.cf_plan.specs.Lanes.{Lane, lane_at, open_at, IsAnswered, told_of, Effect, Nothing, Made, Set, effect_of, ids_of}
 use Rattle.cf_plan.specs.Agrees.{Ties, FitsCall, IsHome, IsListed, IsAccounted}
-use Rattle.cf_plan.specs.Life.{Life, Lease, Happens, IsLife, AreLeased, Holds}
+use Rattle.cf_plan.specs.Life.{Life, Lease, Happens, IsLife, AreLeased, Holds, AreHandedIn, named_lane}
 use Rattle.cf_plan.specs.Life as life
 use Rattle.cf_examples.specs.Given.{file, file_props, file_attrs, schemas}
 use Rattle.cf_examples.specs.FirstResource.{opened, begun, intended, answered, done, run, app, web, world}
@@ -55,14 +56,25 @@ life_6 = record life_5 { entries = opened ∷ begun ∷ intended ∷ answered �
 abbrev life_7 : Life
 life_7 = record life_6 { entries = run }
 
+-- the one lane is handed in
+pub handed_in : (l : Lane) (before : Life) → before.lanes ≡ l ∷ [] → AreHandedIn before (named_lane l ∷ [])
+handed_in l before e = record {
+  there_are = λ n i. only (λ q. (m : Lane) × (lane_at q.0 before.lanes ≡ Some m) × (q ≡ named_lane m)) {a = named_lane l} (l, ap (lane_at l.name) e ∙ itself (bytes_eq l.name l.name) ((bytes_eq-Decides l.name l.name).1 refl), refl) n i;
+  once = refl;
+}
+  where
+    itself : (t : Bool) → t ≡ true → (if t then Some l else None) ≡ Some l
+    itself true k = refl
+    itself false k = absurd (true≢false (sym k))
+
 opening : Happens schemas start (life.Opened 1 ((codes "f1", file) ∷ []) life.Whole) life_1
-opening = (refl, opens, refl, refl)
+opening = (refl, opens, handed_in (files_with [] [] 0) start refl, refl)
 
 raising : Happens schemas life_1 (life.Raise (codes "f1") Raised 0 0) life_2
-raising = (refl, refl, files_with [] [] 0, (files_with [] [] 1).state, refl, lit≤ tt, (lit≤ tt, refl), refl)
+raising = (refl, refl, files_with [] [] 0, (files_with [] [] 1).state, refl, here, lit≤ tt, (lit≤ tt, refl), refl)
 
 beginning : Happens schemas life_2 (life.Begin begun life.Whole) life_3
-beginning = (refl, (λ l i. only (λ (q : Lane). q.state.fence ≡ 1) {a = files_with [] [] 1} refl l i), tt, begins, refl)
+beginning = (refl, (λ l i named. only (λ (q : Lane). q.state.fence ≡ 1) {a = files_with [] [] 1} refl l i), tt, begins, refl)
 
 granting : Happens schemas life_3 (life.Grant intended life.Whole) life_4
 granting = (refl, tt, intends, refl)

@@ -136,9 +136,14 @@ IsOutcomeOf lease (Stale fence) e = ⊥
 abbrev pub named_lane : Lane → List ℕ × List ℕ
 named_lane l = (l.name, l.kind)
 
--- every lane was raised in this opening
+-- the lanes that an opening hands in are some of those that there are, no two the same
+pub record AreHandedIn (life : Life) (lanes : List (List ℕ × List ℕ)) : Type 0 where
+  pub there_are : (n : List ℕ × List ℕ) → In n lanes → (l : Lane) × (lane_at n.0 life.lanes ≡ Some l) × (n ≡ named_lane l)
+  pub once : all_differ bytes_eq (map (λ n. n.0) lanes) ≡ true
+
+-- every lane that was handed in was raised in this opening
 abbrev pub AreRaised : Life → Type 0
-AreRaised life = (l : Lane) → In l life.lanes → l.state.fence ≡ (world_of life).epoch
+AreRaised life = (l : Lane) → In l life.lanes → In (named_lane l) (world_of life).lanes → l.state.fence ≡ (world_of life).epoch
 
 -- What a call does to its lane.
 abbrev pub ActMoves : Lane → FencedLane → ℕ → Lease → CallEnd → Type 0
@@ -148,7 +153,7 @@ ActMoves lane after epoch lease (Stale fence) = IsStale lane.state after epoch f
 -- An event may come where it does, and leaves the life after it.
 abbrev pub Happens : List Schema → Life → Event → Life → Type 0
 Happens schemas life (Opened epoch lanes end) after =
-    (life.is_open ≡ false) × MayFollow schemas (world_of life) [] (entry.Opened epoch lanes) × (lanes ≡ map named_lane life.lanes) × (after ≡ appended end (entry.Opened epoch lanes) (record life { leases = []; is_open = true; has_granted = false; is_stopped = false }))
+    (life.is_open ≡ false) × MayFollow schemas (world_of life) [] (entry.Opened epoch lanes) × AreHandedIn life lanes × (after ≡ appended end (entry.Opened epoch lanes) (record life { leases = []; is_open = true; has_granted = false; is_stopped = false }))
 Happens schemas life (ChangeSet e end) after =
     (life.is_open ≡ false) × IsChangeSet e × MayFollow schemas (world_of life) [] e × (after ≡ record (appended end e life) { is_stopped = false })
 Happens schemas life (Begin e end) after = IsTrue (is_running life) × AreRaised life × IsBegin e × MayFollow schemas (world_of life) (tokens_out life) e × (after ≡ appended end e life)
@@ -160,7 +165,7 @@ Happens schemas life (Settle token e end) after =
     IsTrue (is_running life) × (lease : Lease) × (reply : CallEnd) × (lease_at token life ≡ Some lease) × (lease.reply ≡ Some reply) × IsOutcomeOf lease reply e × MayFollow schemas (world_of life) (tokens_out life) e × (after ≡ without_lease token (appended end e life))
 Happens schemas life (Park token) after = IsTrue life.is_open × (lease : Lease) × (lease_at token life ≡ Some lease) × (after ≡ without_lease token life)
 Happens schemas life (Raise name a before counted) after =
-    IsTrue (is_running life) × (life.has_granted ≡ false) × (lane : Lane) × (state : FencedLane) × (lane_at name life.lanes ≡ Some lane) × (before ≤ counted) × FenceMove lane.state state (world_of life).epoch a before counted × (after ≡ with_lane name state life)
+    IsTrue (is_running life) × (life.has_granted ≡ false) × (lane : Lane) × (state : FencedLane) × (lane_at name life.lanes ≡ Some lane) × In (named_lane lane) (world_of life).lanes × (before ≤ counted) × FenceMove lane.state state (world_of life).epoch a before counted × (after ≡ with_lane name state life)
 Happens schemas life (Act token reply) after =
     (lease : Lease) × (lane : Lane) × (state : FencedLane) × (lease_at token life ≡ Some lease) × (lease.reply ≡ None) × (lane_at lease.lane life.lanes ≡ Some lane) × ActMoves lane state (world_of life).epoch lease reply × (after ≡ replied_to token reply (with_lane lease.lane state life))
 Happens schemas life (Late name place settlement) after =
