@@ -5,7 +5,7 @@ use Rattle.std.specs.Str.{bytes_eq}
 use Rattle.cf_tree.specs.declared.request.Answer.TheVariants as answer
 use Rattle.cf_handler.specs.declared.settled.Settled.{Settled}
 use Rattle.cf_handler.specs.Lane.{live_of}
-use Rattle.cf_handler.specs.Fence.{Flying, Raised, settled_at}
+use Rattle.cf_handler.specs.Fence.{Flying, Raised, SettledBy, FlyingOn, settled_at}
 use Rattle.cf_stacks.specs.declared.held.Pending.{Pending}
 use Rattle.cf_stacks.specs.declared.state.StackState.{StackState}
 use Rattle.cf_stacks.specs.declared.state.World.{World}
@@ -17,7 +17,7 @@ use Rattle.cf_plan.specs.Forward.{In, here, HasFailed, AllDone, IsDone, is_made}
 use Rattle.cf_plan.specs.Follow.{MayFollow, MayRepeat, IsLaneFor}
 use Rattle.cf_plan.specs.Lanes.{Lane, IsAnswered}
 use Rattle.cf_plan.specs.Agrees.{Ties, FitsCall, IsAccounted}
-use Rattle.cf_plan.specs.Life.{Life, Lease, Happens, IsLife, AreLeased, Holds}
+use Rattle.cf_plan.specs.Life.{Life, Lease, MayHappen, IsLife, AreLeased, Holds}
 use Rattle.cf_plan.specs.Life as life
 use Rattle.cf_examples.specs.Given.{file, file_attrs, schemas}
 use Rattle.cf_examples.specs.FirstResource.{opened, begun, intended, done, web}
@@ -28,6 +28,7 @@ use Rattle.cf_examples.proofs.Lists.{some_is, in_none, only, found_passes}
 use Rattle.cf_examples.proofs.Failing.{not_failed}
 use Rattle.cf_examples.proofs.Ending.{end_of_create}
 use Rattle.cf_examples.proofs.Beginning.{opens_one, one_stack}
+use Rattle.cf_examples.proofs.FirstLife.{handed_in, named_lanes, described_lanes}
 use Rattle.cf_examples.proofs.FirstResource.{opens, begins, intends}
 
 -- The worlds behind the crash.
@@ -96,26 +97,26 @@ fault = life.Answered answer.Fault 0 1
 abbrev life_5 : Life
 life_5 = record life_4 { leases = record lease { reply = Some fault } ∷ []; lanes = files_with [] (late ∷ []) 1 ∷ [] }
 
-opening : Happens schemas start (life.Opened 1 ((codes "f1", file) ∷ []) life.Whole) life_1
-opening = (refl, opens, refl, refl)
+opening : MayHappen schemas start (life.Opened 1 ((codes "f1", file) ∷ []) life.Whole)
+opening = (refl, opens, handed_in (files_with [] [] 0) start refl)
 
-raising : Happens schemas life_1 (life.Raise (codes "f1") Raised 0 0) life_2
-raising = (refl, refl, files_with [] [] 0, (files_with [] [] 1).state, refl, lit≤ tt, (lit≤ tt, refl), refl)
+raising : MayHappen schemas life_1 (life.Raise (codes "f1") Raised true 0 0)
+raising = (refl, refl, files_with [] [] 0, refl, here, lit≤ tt, (lit≤ tt, refl))
 
-beginning : Happens schemas life_2 (life.Begin begun life.Whole) life_3
-beginning = (refl, (λ l i. only (λ (q : Lane). q.state.fence ≡ 1) {a = files_with [] [] 1} refl l i), tt, begins, refl)
+beginning : MayHappen schemas life_2 (life.Begin begun life.Whole)
+beginning = (refl, (λ l i named. only (λ (q : Lane). q.state.fence ≡ 1) {a = files_with [] [] 1} refl l i), tt, begins)
 
-granting : Happens schemas life_3 (life.Grant intended life.Whole) life_4
-granting = (refl, tt, intends, refl)
+granting : MayHappen schemas life_3 (life.Grant intended life.Whole)
+granting = (refl, tt, intends)
 
-flying_off : Happens schemas life_4 (life.Act 1 fault) life_5
-flying_off = (lease, files_with [] [] 1, (files_with [] (late ∷ []) 1).state, refl, refl, refl, ((lit≤ tt, λ _. lit≤ tt), (lit≤ tt, inr (refl, refl))), refl)
+flying_off : MayHappen schemas life_4 (life.Act 1 fault FlyingOn)
+flying_off = (lease, files_with [] [] 1, refl, refl, refl, ((lit≤ tt, λ _. lit≤ tt), (lit≤ tt, inr (refl, refl))))
 
-crashing : Happens schemas life_5 life.Crash crashed
-crashing = refl
+crashing : MayHappen schemas life_5 life.Crash
+crashing = tt
 
 pub crashes : Crashes
-crashes = (life_1, opening, (life_2, raising, (life_3, beginning, (life_4, granting, (life_5, flying_off, (crashed, crashing, refl))))))
+crashes = (opening, (raising, (beginning, (granting, (flying_off, (crashing, refl))))))
 
 -- Behind it.
 abbrev life_7 : Life
@@ -139,29 +140,29 @@ life_11 = record life_10 { entries = opened ∷ begun ∷ intended ∷ opened_ag
 abbrev life_12 : Life
 life_12 = record life_11 { entries = end.entries }
 
-opening_again : Happens schemas crashed (life.Opened 2 ((codes "f1", file) ∷ []) life.Whole) life_7
-opening_again = (refl, opens_again, refl, refl)
+opening_again : MayHappen schemas crashed (life.Opened 2 ((codes "f1", file) ∷ []) life.Whole)
+opening_again = (refl, opens_again, handed_in (files_with [] (late ∷ []) 1) crashed refl)
 
-raising_again : Happens schemas life_7 (life.Raise (codes "f1") Raised 0 0) life_8
-raising_again = (refl, refl, files_with [] (late ∷ []) 1, (files_with [] (late ∷ []) 2).state, refl, lit≤ tt, (lit≤ tt, refl), refl)
+raising_again : MayHappen schemas life_7 (life.Raise (codes "f1") Raised true 0 0)
+raising_again = (refl, refl, files_with [] (late ∷ []) 1, refl, here, lit≤ tt, (lit≤ tt, refl))
 
-repeating : Happens schemas life_8 (life.Repeat 1) life_9
-repeating = (refl, codes "app", app_in world_4, Forward, pending, refl, refl, refl, refl, repeats, refl)
+repeating : MayHappen schemas life_8 (life.Repeat 1)
+repeating = (refl, codes "app", app_in world_4, Forward, pending, record { stands = refl; at_stage = refl; of_token = refl; at_home = refl; may = repeats })
 
-acting : Happens schemas life_9 (life.Act 1 success) life_10
-acting = (lease, files_with [] (late ∷ []) 2, (files_with (made ∷ []) (late ∷ []) 2).state, refl, refl, refl, ((lit≤ tt, tt), (lit≤ tt, (_, (((codes "1", refl), lit≤ tt, refl, lit≤ tt), refl), refl))), refl)
+acting : MayHappen schemas life_9 (life.Act 1 success (SettledBy made.settlement))
+acting = (lease, files_with [] (late ∷ []) 2, refl, refl, refl, ((lit≤ tt, tt), (lit≤ tt, (_, (((codes "1", refl), lit≤ tt, refl, lit≤ tt), refl), refl))))
 
-settling : Happens schemas life_10 (life.Settle 1 answered_later life.Whole) life_11
-settling = (refl, record lease { reply = Some success }, success, refl, refl, refl, answers_later, refl)
+settling : MayHappen schemas life_10 (life.Settle 1 answered_later life.Whole)
+settling = (refl, record lease { reply = Some success }, success, refl, refl, refl, answers_later)
 
-ending : Happens schemas life_11 (life.Grant done life.Whole) life_12
-ending = (refl, tt, ends_later, refl)
+ending : MayHappen schemas life_11 (life.Grant done life.Whole)
+ending = (refl, tt, ends_later)
 
-closing : Happens schemas life_12 life.Close end
-closing = (refl, refl, refl)
+closing : MayHappen schemas life_12 life.Close
+closing = (refl, refl)
 
 pub goes_on : GoesOn
-goes_on = (life_7, opening_again, (life_8, raising_again, (life_9, repeating, (life_10, acting, (life_11, settling, (life_12, ending, (end, closing, refl)))))))
+goes_on = (opening_again, (raising_again, (repeating, (acting, (settling, (ending, (closing, refl)))))))
 
 -- While it flies: nothing is held, made or settled, and the call is open.
 abbrev f1 : Lane
@@ -218,7 +219,8 @@ leased = record {
   own_call = λ l i. absurd (in_none i);
   accounted = λ l i. absurd (in_none i);
   settled = λ l reply s lane i. absurd (in_none i);
+  going = λ l name s p i. absurd (in_none i);
 }
 
 pub holds : HoldsWhileItFlies
-holds = record { agrees = record { legal = (([], opens), (([], begins), (([], intends), tt))); ties = ties }; leased = leased }
+holds = record { agrees = record { named = named_lanes; described = described_lanes; legal = (([], opens), (([], begins), (([], intends), tt))); ties = ties }; leased = leased }

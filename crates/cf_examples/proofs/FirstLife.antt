@@ -1,22 +1,26 @@
 -- The life that makes the first resource.
-use Rattle.std.proofs.Common.{inr, ◌∙◌, ap, ◌≡◌, refl, List, [], ◌∷◌, Some, None, true, false, ℕ, inl, sym, subst, lit≤}
-use Rattle.std.specs.Prelude.{codes}
+use Rattle.std.proofs.Common.{inr, ◌∙◌, ap, ◌≡◌, refl, List, [], ◌∷◌, Some, None, true, false, ℕ, inl, sym, subst, lit≤, Bool, true≢false}
+use Rattle.std.specs.Prelude.{codes, if◌then◌else◌}
 use Rattle.cf_tree.specs.declared.request.Answer.TheVariants as answer
 use Rattle.std.specs.Prelude.{map, ◌==◌, ◌≤◌}
 use Rattle.std.specs.Str.{bytes_eq}
 use Rattle.cf_handler.specs.declared.settled.Settled.{Settled}
 use Rattle.cf_handler.specs.Lane.{Live, live_of, is_used, settlement_of}
-use Rattle.cf_handler.specs.Fence.{Raised, live_at, settled_at}
+use Rattle.cf_handler.specs.Fence.{Flying, Raised, SettledBy, live_at, settled_at}
 use Rattle.cf_stacks.specs.declared.held.Held.{Held}
 use Rattle.cf_stacks.specs.declared.held.Pending.{Pending}
 use Rattle.cf_stacks.specs.Operation.{Call, Answered, call_at}
 use Rattle.cf_stacks.specs.Words.{all_differ}
 use Rattle.cf_stacks.specs.declared.state.World.{World}
-use Rattle.cf_stacks.specs.Fold.{empty_world, fold_of}
+use Rattle.cf_stacks.specs.Fold.{empty_world, fold_of, known_stack}
+use Rattle.cf_stacks.specs.declared.state.StackState.{StackState}
+use Rattle.cf_stacks.specs.Status.{is_in_progress}
+use Rattle.cf_examples.proofs.Beginning.{one_stack}
+use Rattle.std.proofs.lemmas.Slice.Eq.{bytes_eq-Decides}
 use Rattle.cf_plan.specs.Forward.{In, here}
-use Rattle.cf_plan.specs.Lanes.{Lane, lane_at, open_at, IsAnswered, told_of, Effect, Nothing, Made, Set, effect_of, ids_of}
+use Rattle.cf_plan.specs.Lanes.{Lane, AreLanes, AreSchemas, lane_at, open_at, IsAnswered, told_of, Effect, Nothing, Made, Set, effect_of, ids_of}
 use Rattle.cf_plan.specs.Agrees.{Ties, FitsCall, IsHome, IsListed, IsAccounted}
-use Rattle.cf_plan.specs.Life.{Life, Lease, Happens, IsLife, AreLeased, Holds}
+use Rattle.cf_plan.specs.Life.{Life, Lease, MayHappen, IsLife, AreLeased, Holds, AreHandedIn, named_lane}
 use Rattle.cf_plan.specs.Life as life
 use Rattle.cf_examples.specs.Given.{file, file_props, file_attrs, schemas}
 use Rattle.cf_examples.specs.FirstResource.{opened, begun, intended, answered, done, run, app, web, world}
@@ -52,32 +56,50 @@ life_6 = record life_5 { entries = opened ∷ begun ∷ intended ∷ answered �
 abbrev life_7 : Life
 life_7 = record life_6 { entries = run }
 
-opening : Happens schemas start (life.Opened 1 ((codes "f1", file) ∷ []) life.Whole) life_1
-opening = (refl, opens, refl, refl)
+-- its name is one, and its type has a schema
+pub named_lanes : {settled : List Settled} {flying : List Flying} {fence : ℕ} → AreLanes (files_with settled flying fence ∷ [])
+named_lanes = record { named = refl; names_differ = refl }
 
-raising : Happens schemas life_1 (life.Raise (codes "f1") Raised 0 0) life_2
-raising = (refl, refl, files_with [] [] 0, (files_with [] [] 1).state, refl, lit≤ tt, (lit≤ tt, refl), refl)
+pub described_lanes : {settled : List Settled} {flying : List Flying} {fence : ℕ} → AreSchemas schemas (files_with settled flying fence ∷ [])
+described_lanes = record { kinds_differ = refl; described = refl }
 
-beginning : Happens schemas life_2 (life.Begin begun life.Whole) life_3
-beginning = (refl, (λ l i. only (λ (q : Lane). q.state.fence ≡ 1) {a = files_with [] [] 1} refl l i), tt, begins, refl)
+-- the one lane is handed in
+pub handed_in : (l : Lane) (before : Life) → before.lanes ≡ l ∷ [] → AreHandedIn before (named_lane l ∷ [])
+handed_in l before e = record {
+  there_are = λ n i. only (λ q. (m : Lane) × (lane_at q.0 before.lanes ≡ Some m) × (q ≡ named_lane m)) {a = named_lane l} (l, ap (lane_at l.name) e ∙ itself (bytes_eq l.name l.name) ((bytes_eq-Decides l.name l.name).1 refl), refl) n i;
+  once = refl;
+}
+  where
+    itself : (t : Bool) → t ≡ true → (if t then Some l else None) ≡ Some l
+    itself true k = refl
+    itself false k = absurd (true≢false (sym k))
 
-granting : Happens schemas life_3 (life.Grant intended life.Whole) life_4
-granting = (refl, tt, intends, refl)
+opening : MayHappen schemas start (life.Opened 1 ((codes "f1", file) ∷ []) life.Whole)
+opening = (refl, opens, handed_in (files_with [] [] 0) start refl)
 
-acting : Happens schemas life_4 (life.Act 1 answer_1) life_5
-acting = (lease, files_with [] [] 1, (files_with (made ∷ []) [] 1).state, refl, refl, refl, ((lit≤ tt, tt), (lit≤ tt, (_, (((codes "1", refl), lit≤ tt, refl, lit≤ tt), refl), refl))), refl)
+raising : MayHappen schemas life_1 (life.Raise (codes "f1") Raised true 0 0)
+raising = (refl, refl, files_with [] [] 0, refl, here, lit≤ tt, (lit≤ tt, refl))
 
-settling : Happens schemas life_5 (life.Settle 1 answered life.Whole) life_6
-settling = (refl, record lease { reply = Some answer_1 }, answer_1, refl, refl, refl, answers, refl)
+beginning : MayHappen schemas life_2 (life.Begin begun life.Whole)
+beginning = (refl, (λ l i named. only (λ (q : Lane). q.state.fence ≡ 1) {a = files_with [] [] 1} refl l i), tt, begins)
 
-ending : Happens schemas life_6 (life.Grant done life.Whole) life_7
-ending = (refl, tt, ends, refl)
+granting : MayHappen schemas life_3 (life.Grant intended life.Whole)
+granting = (refl, tt, intends)
 
-closing : Happens schemas life_7 life.Close end
-closing = (refl, refl, refl)
+acting : MayHappen schemas life_4 (life.Act 1 answer_1 (SettledBy made.settlement))
+acting = (lease, files_with [] [] 1, refl, refl, refl, ((lit≤ tt, tt), (lit≤ tt, (_, (((codes "1", refl), lit≤ tt, refl, lit≤ tt), refl), refl))))
+
+settling : MayHappen schemas life_5 (life.Settle 1 answered life.Whole)
+settling = (refl, record lease { reply = Some answer_1 }, answer_1, refl, refl, refl, answers)
+
+ending : MayHappen schemas life_6 (life.Grant done life.Whole)
+ending = (refl, tt, ends)
+
+closing : MayHappen schemas life_7 life.Close
+closing = (refl, refl)
 
 pub lives : Lives
-lives = (life_1, opening, (life_2, raising, (life_3, beginning, (life_4, granting, (life_5, acting, (life_6, settling, (life_7, ending, (end, closing, refl))))))))
+lives = (opening, (raising, (beginning, (granting, (acting, (settling, (ending, (closing, refl))))))))
 
 -- In the end: no call is open, one lane is there, and one resource is live on it.
 abbrev f1 : Lane
@@ -147,11 +169,12 @@ leased = record {
   own_call = λ l i. absurd (in_none i);
   accounted = λ l i. absurd (in_none i);
   settled = λ l reply s lane i. absurd (in_none i);
+  going = λ l name s p i. absurd (in_none i);
 }
 
 pub holds : HoldsInTheEnd
 unfolding computing
-holds = record { agrees = record { legal = legal; ties = subst (λ x. Ties run x end.lanes) (sym leaves) ties }; leased = leased }
+holds = record { agrees = record { named = named_lanes; described = described_lanes; legal = legal; ties = subst (λ x. Ties run x end.lanes) (sym leaves) ties }; leased = leased }
 
 -- Before the answer is written down: the create is open and answered, and its resource is live.
 abbrev world_3 : World
@@ -228,8 +251,9 @@ open_leased = record {
   own_call = λ l i. only (λ (q : Lease). FitsCall unwritten.entries world_3 q.lane q.token q.request) {a = lease_answered} open_fits l i;
   accounted = λ l i. only (λ (q : Lease). IsAccounted world_3 q.token q.request) {a = lease_answered} (inl (pending, refl)) l i;
   settled = λ l reply s lane i replied told at_lane. only (λ (q : Lease). q.reply ≡ Some reply → lane_at q.lane unwritten.lanes ≡ Some lane → settlement_of q.token lane.state.state.settled ≡ Some s) {a = lease_answered} (λ e f. subst (λ (m : Lane). settlement_of 1 m.state.state.settled ≡ Some s) (sym (is_f1 (codes "f1") lane f)) (subst (λ r. life.settled_reply r ≡ Some s) (sym (some_is {a = answer_1} e)) told)) l i replied at_lane;
+  going = λ l name s p i there_is j same. one_stack (λ (q : StackState). is_in_progress q.status ≡ true) name (codes "app") (known_stack (codes "app") world_3) s refl there_is;
 }
 
 pub holds_before : HoldsBeforeItIsWritten
 unfolding computing
-holds_before = record { agrees = record { legal = (([], opens), (([], begins), (([], intends), tt))); ties = open_ties }; leased = open_leased }
+holds_before = record { agrees = record { named = named_lanes; described = described_lanes; legal = (([], opens), (([], begins), (([], intends), tt))); ties = open_ties }; leased = open_leased }

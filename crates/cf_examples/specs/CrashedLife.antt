@@ -2,7 +2,7 @@
 use Rattle.std.specs.Prelude.{List, [], ◌∷◌, codes, true, false}
 use Rattle.cf_tree.specs.declared.request.Answer.TheVariants as answer
 use Rattle.cf_tree.specs.declared.request.Request.TheVariants as request
-use Rattle.cf_handler.specs.Fence.{Flying, Raised}
+use Rattle.cf_handler.specs.Fence.{Flying, Raised, SettledBy, FlyingOn}
 use Rattle.cf_entry.specs.declared.entry.Entry.{Entry}
 use Rattle.cf_entry.specs.declared.entry.Entry.TheVariants as entry
 use Rattle.cf_entry.specs.declared.entry.Reply.TheVariants as reply
@@ -22,11 +22,11 @@ abbrev pub answered_later : Entry
 answered_later = entry.Outcome 1 1 (reply.Success (codes "f1:1") (file_attrs (codes "f1:1") 5 (codes "web.txt") (codes "hello"))) 1 1
 
 abbrev pub until_the_crash : List Event
-until_the_crash = Opened 1 ((codes "f1", file) ∷ []) Whole ∷ Raise (codes "f1") Raised 0 0 ∷ Begin begun Whole ∷ Grant intended Whole ∷ Act 1 (Answered answer.Fault 0 1) ∷ Crash ∷ []
+until_the_crash = Opened 1 ((codes "f1", file) ∷ []) Whole ∷ Raise (codes "f1") Raised true 0 0 ∷ Begin begun Whole ∷ Grant intended Whole ∷ Act 1 (Answered answer.Fault 0 1) FlyingOn ∷ Crash ∷ []
 
 abbrev pub after_the_crash : List Event
 after_the_crash =
-    Opened 2 ((codes "f1", file) ∷ []) Whole ∷ Raise (codes "f1") Raised 0 0 ∷ Repeat 1 ∷ Act 1 (Answered (answer.Success (codes "f1:1") (file_attrs (codes "f1:1") 5 (codes "web.txt") (codes "hello"))) 1 1) ∷ Settle 1 answered_later Whole ∷ Grant done Whole ∷ Close ∷ []
+    Opened 2 ((codes "f1", file) ∷ []) Whole ∷ Raise (codes "f1") Raised true 0 0 ∷ Repeat 1 ∷ Act 1 (Answered (answer.Success (codes "f1:1") (file_attrs (codes "f1:1") 5 (codes "web.txt") (codes "hello"))) 1 1) (SettledBy made.settlement) ∷ Settle 1 answered_later Whole ∷ Grant done Whole ∷ Close ∷ []
 
 -- behind the crash the call still flies
 abbrev pub crashed : Life

@@ -4,7 +4,7 @@ use Rattle.cf_tree.specs.declared.request.Answer.TheVariants as answer
 use Rattle.cf_tree.specs.declared.request.Request.TheVariants as request
 use Rattle.cf_handler.specs.declared.settled.Settled.{Settled}
 use Rattle.cf_handler.specs.declared.settled.Settlement.TheVariants as settlement
-use Rattle.cf_handler.specs.Fence.{Flying, Raised}
+use Rattle.cf_handler.specs.Fence.{Flying, Raised, SettledBy}
 use Rattle.cf_plan.specs.Lanes.{Lane}
 use Rattle.cf_plan.specs.Life.{Life, Event, Opened, Begin, Grant, Settle, Raise, Act, Close, Whole, Answered, IsLife, Holds, Lease}
 use Rattle.cf_examples.specs.Given.{file, file_props, file_attrs, schemas, lane_with}
@@ -17,13 +17,13 @@ files_with = lane_with (codes "f1") file
 abbrev pub start : Life
 start = record { entries = []; lanes = files_with [] [] 0 ∷ []; leases = []; is_open = false; has_granted = false; is_stopped = false }
 
-abbrev pub events : List Event
-events =
-    Opened 1 ((codes "f1", file) ∷ []) Whole ∷ Raise (codes "f1") Raised 0 0 ∷ Begin begun Whole ∷ Grant intended Whole ∷ Act 1 (Answered (answer.Success (codes "f1:1") (file_attrs (codes "f1:1") 5 (codes "web.txt") (codes "hello"))) 0 0) ∷ Settle 1 answered Whole ∷ Grant done Whole ∷ Close ∷ []
-
 -- what is settled in the end
 abbrev pub made : Settled
 made = record { token = 1; request = request.Create file (file_props (codes "web.txt") (codes "hello")); settlement = settlement.Success (codes "f1:1") (file_attrs (codes "f1:1") 5 (codes "web.txt") (codes "hello")) }
+
+abbrev pub events : List Event
+events =
+    Opened 1 ((codes "f1", file) ∷ []) Whole ∷ Raise (codes "f1") Raised true 0 0 ∷ Begin begun Whole ∷ Grant intended Whole ∷ Act 1 (Answered (answer.Success (codes "f1:1") (file_attrs (codes "f1:1") 5 (codes "web.txt") (codes "hello"))) 0 0) (SettledBy made.settlement) ∷ Settle 1 answered Whole ∷ Grant done Whole ∷ Close ∷ []
 
 abbrev pub end : Life
 end = record { entries = run; lanes = files_with (made ∷ []) [] 1 ∷ []; leases = []; is_open = false; has_granted = true; is_stopped = false }

@@ -16,7 +16,7 @@ use Rattle.cf_entry.specs.declared.entry.Reply.TheVariants as reply
 use Rattle.cf_stacks.specs.declared.held.Pending.{Pending}
 use Rattle.cf_stacks.specs.declared.state.StackState.{StackState}
 use Rattle.cf_stacks.specs.declared.state.World.{World}
-use Rattle.cf_stacks.specs.Status.{Stage, stage_of}
+use Rattle.cf_stacks.specs.Status.{Stage, stage_of, is_in_progress}
 use Rattle.cf_stacks.specs.Words.{stack_at, has_token, all_differ}
 use Rattle.cf_stacks.specs.Fold.{empty_world, fold_of}
 use Rattle.cf_plan.specs.Forward.{In}
@@ -150,9 +150,14 @@ pub record MayBeRepeated (schemas : List Schema) (life : Life) (token : ℕ) (na
 abbrev pub named_lane : Lane → List ℕ × List ℕ
 named_lane l = (l.name, l.kind)
 
--- every lane was raised in this opening
+-- the lanes that an opening hands in are some of those that there are, no two the same
+pub record AreHandedIn (life : Life) (lanes : List (List ℕ × List ℕ)) : Type 0 where
+  pub there_are : (n : List ℕ × List ℕ) → In n lanes → (l : Lane) × (lane_at n.0 life.lanes ≡ Some l) × (n ≡ named_lane l)
+  pub once : all_differ bytes_eq (map (λ n. n.0) lanes) ≡ true
+
+-- every lane that was handed in was raised in this opening
 abbrev pub AreRaised : Life → Type 0
-AreRaised life = (l : Lane) → In l life.lanes → l.state.fence ≡ (world_of life).epoch
+AreRaised life = (l : Lane) → In l life.lanes → In (named_lane l) (world_of life).lanes → l.state.fence ≡ (world_of life).epoch
 
 -- the open call of a token, as its lease has it
 abbrev pub lease_for : ℕ → Pending → Lease
@@ -196,7 +201,7 @@ fenced moved epoch lane = if moved then raised_to lane epoch else lane
 
 -- An event may come where it does.
 abbrev pub MayHappen : List Schema → Life → Event → Type 0
-MayHappen schemas life (Opened epoch lanes end) = (life.is_open ≡ false) × MayFollow schemas (world_of life) [] (entry.Opened epoch lanes) × (lanes ≡ map named_lane life.lanes)
+MayHappen schemas life (Opened epoch lanes end) = (life.is_open ≡ false) × MayFollow schemas (world_of life) [] (entry.Opened epoch lanes) × AreHandedIn life lanes
 MayHappen schemas life (ChangeSet e end) = (life.is_open ≡ false) × IsChangeSet e × MayFollow schemas (world_of life) [] e
 MayHappen schemas life (Begin e end) = IsTrue (is_running life) × AreRaised life × IsBegin e × MayFollow schemas (world_of life) (tokens_out life) e
 MayHappen schemas life (Grant e end) = IsTrue (is_running life) × IsGranted e × MayFollow schemas (world_of life) (tokens_out life) e
@@ -206,21 +211,17 @@ MayHappen schemas life (Settle token e end) =
     IsTrue (is_running life) × (lease : Lease) × (reply : CallEnd) × (lease_at token life ≡ Some lease) × (lease.reply ≡ Some reply) × IsOutcomeOf lease reply e × MayFollow schemas (world_of life) (tokens_out life) e
 MayHappen schemas life (Park token) = IsTrue life.is_open × (lease : Lease) × (lease_at token life ≡ Some lease)
 MayHappen schemas life (Raise name a moved before counted) =
-    IsTrue (is_running life) × (life.has_granted ≡ false) × (lane : Lane) × (lane_at name life.lanes ≡ Some lane) × (before ≤ counted) × FenceMove lane.state (fenced moved (world_of life).epoch lane.state) (world_of life).epoch a before counted
+    IsTrue (is_running life) × (life.has_granted ≡ false) × (lane : Lane) × (lane_at name life.lanes ≡ Some lane) × In (named_lane lane) (world_of life).lanes × (before ≤ counted) × FenceMove lane.state (fenced moved (world_of life).epoch lane.state) (world_of life).epoch a before counted
 MayHappen schemas life (Act token reply left) =
     (lease : Lease) × (lane : Lane) × (lease_at token life ≡ Some lease) × (lease.reply ≡ None) × (lane_at lease.lane life.lanes ≡ Some lane) × MayLeave lane (left_by left (world_of life).epoch lease.token lease.request lane.state) (world_of life).epoch lease reply
 MayHappen schemas life (Late name place s) = (lane : Lane) × (lane_at name life.lanes ≡ Some lane) × LateMove name lane.state (late_by place s lane.state) place s
 MayHappen schemas life Close = IsTrue life.is_open × (life.leases ≡ [])
 MayHappen schemas life Crash = Unit {0}
 
--- each event comes in its turn, and these lives are passed through
-abbrev pub IsLife : List Schema → Life → List Event → Type 0
-IsLife schemas life [] = Unit {0}
-IsLife schemas life (e ∷ es) = MayHappen schemas life e × IsLife schemas (life_after life e) es
-
-abbrev pub life_of : Life → List Event → Life
-life_of life [] = life
-life_of life (e ∷ es) = life_of (life_after life e) es
+-- each event comes in its turn, and this is the end
+abbrev pub IsLife : List Schema → Life → List Event → Life → Type 0
+IsLife schemas life [] end = end ≡ life
+IsLife schemas life (e ∷ es) end = MayHappen schemas life e × IsLife schemas (life_after life e) es end
 
 -- A lease is a promise of one call: no two are of one token, each has its own call, which is open or accounted for, and an answer that it has for good is the settled one of its token.
 abbrev pub settlement_in : Answer → Option Settlement
@@ -238,6 +239,8 @@ pub record AreLeased (life : Life) : Type 0 where
   pub accounted : (lease : Lease) → In lease life.leases → IsAccounted (world_of life) lease.token lease.request
   pub settled :
       (lease : Lease) (reply : CallEnd) (s : Settlement) (lane : Lane) → In lease life.leases → lease.reply ≡ Some reply → settled_reply reply ≡ Some s → lane_at lease.lane life.lanes ≡ Some lane → settlement_of lease.token lane.state.state.settled ≡ Some s
+  -- the stack of an open call that is out has an operation in progress
+  pub going : (lease : Lease) (name : List ℕ) (s : StackState) (p : Pending) → In lease life.leases → stack_at name (world_of life) ≡ Some s → In p s.tokens → p.token ≡ lease.token → is_in_progress s.status ≡ true
 
 -- what holds at each moment of a life: journal and lanes agree, and the leases are sound
 pub record Holds (schemas : List Schema) (life : Life) : Type 0 where
