@@ -1,5 +1,5 @@
 -- What became live in each lane, from how its state was told.
-use Rattle.std.proofs.Common.{◌≡◌, ◌≢◌, ℕ, zero, suc, ◌+◌, ◌≤◌, ◌==◌, Bool, true, false, cond, List, [], ◌∷◌, ◌++◌, length, Option, Some, None, option_map, ◌⊎◌, inl, inr, get_or, slice_set, refl, sym, ap, ◌∙◌, subst, true≢false, arith, append_assoc, append-nil}
+use Rattle.std.proofs.Common.{◌≡◌, ℕ, zero, suc, ◌+◌, ◌≤◌, ◌==◌, Bool, true, false, cond, List, [], ◌∷◌, ◌++◌, length, Option, Some, None, option_map, inl, inr, get_or, slice_set, refl, sym, ap, ◌∙◌, subst, true≢false, arith, append_assoc, append-nil}
 use Rattle.std.proofs.lemmas.Bool.{eqb-true, eq-eqb}
 use Rattle.std.proofs.lemmas.List.{get_or-set_other}
 use Rattle.cf_tree.specs.declared.planned.Planned.{Planned}
@@ -14,7 +14,7 @@ use Rattle.cf_engine.specs.declared.cause.Reason.{Reason}
 use Rattle.cf_engine.specs.Lanes.{Told, lane_for, settled_by, settled_at, AreFresh}
 use Rattle.cf_engine.specs.Written.{Call}
 use Rattle.cf_engine.specs.Calls.{reason_of, IsMade, AreMade, FailsLast, AreCalled}
-use Rattle.cf_engine.specs.Alive.{lives_by, is_lane, lives_at, Grows, AreLive, AreLiveAtLeast}
+use Rattle.cf_engine.specs.Alive.{lives_by, is_lane, lives_at, Grows}
 use Rattle.cf_engine.proofs.Settles.{SettlesAs, called_settles, fresh_next}
 
 -- one more settled call changes what is live last

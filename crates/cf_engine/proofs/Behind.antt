@@ -1,16 +1,15 @@
 -- A run behind an entry that stands before it.
-use Rattle.std.proofs.Common.{◌≡◌, ◌⊎◌, inl, inr, ℕ, ◌+◌, ◌<◌, ◌≤◌, List, [], ◌∷◌, ◌++◌, length, refl, sym, ap, ◌∙◌, subst, arith, append_assoc, append-nil}
+use Rattle.std.proofs.Common.{◌≡◌, ℕ, ◌≤◌, List, [], ◌∷◌, ◌++◌, refl, sym, ap, ◌∙◌, subst, arith, append_assoc, append-nil}
 use Rattle.cf_tree.specs.declared.planned.Planned.{Planned}
 use Rattle.cf_entry.specs.declared.entry.Entry.{Entry}
 use Rattle.cf_engine.specs.declared.book.Halt.{Halt}
 use Rattle.cf_engine.specs.declared.book.Halt.TheVariants as halt
-use Rattle.cf_engine.specs.declared.cause.Reason.{Reason}
 use Rattle.cf_engine.specs.declared.course.RunEnd.TheVariants as run
 use Rattle.cf_engine.specs.Book.{Holds, HaltsAt}
 use Rattle.cf_engine.specs.Calls.{AreCalled}
 use Rattle.cf_engine.specs.Lanes.{Told}
 use Rattle.cf_engine.specs.declared.course.RunEnd.{RunEnd}
-use Rattle.cf_engine.specs.Written.{Call, calls_written, due_after, run_written, ending}
+use Rattle.cf_engine.specs.Written.{calls_written, due_after, run_written, ending}
 use Rattle.cf_engine.specs.Run.{Scene, HasNoRoom, HasHaltCause, RunTells, IsCut}
 use Rattle.cf_engine.specs.Make.{CompleteTells, MakeTells}
 use Rattle.cf_engine.proofs.Moved.{same_later}

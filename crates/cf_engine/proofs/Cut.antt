@@ -1,5 +1,5 @@
 -- Runs that stop at a resource, or are cut short.
-use Rattle.std.proofs.Common.{◌≡◌, ◌⊎◌, Bool, inl, inr, ℕ, zero, suc, ◌+◌, ◌<◌, ◌≤◌, List, [], ◌∷◌, ◌++◌, length, get_or, Option, refl, sym, ap, ◌∙◌, subst, arith, append_assoc, append-nil, length-append}
+use Rattle.std.proofs.Common.{◌≡◌, Bool, inl, inr, ℕ, ◌+◌, ◌<◌, ◌≤◌, List, [], ◌∷◌, ◌++◌, length, get_or, refl, sym, ap, ◌∙◌, subst, arith, append_assoc, append-nil, length-append}
 use Rattle.cf_tree.specs.declared.planned.Planned.{Planned}
 use Rattle.cf_entry.specs.declared.entry.Entry.{Entry}
 use Rattle.cf_engine.specs.declared.book.Halt.{Halt}
@@ -8,11 +8,11 @@ use Rattle.cf_engine.specs.declared.cause.Reason.{Reason}
 use Rattle.cf_engine.specs.declared.course.Step.TheVariants as step
 use Rattle.cf_engine.specs.declared.course.RunEnd.TheVariants as run
 use Rattle.cf_engine.specs.Book.{Holds, HaltsAt}
-use Rattle.cf_engine.specs.Lanes.{Told, lane_for, AreLater, RoseAt}
+use Rattle.cf_engine.specs.Lanes.{Told, lane_for, AreLater}
 use Rattle.cf_engine.specs.Written.{Call, intent_of, outcome_of, name_for, calls_written, due_after, run_written, IsNearlyAll}
 use Rattle.cf_engine.specs.Calls.{AreCalled}
-use Rattle.cf_engine.specs.Run.{Scene, StepTells, StandsAt, RunTells, IsCut}
-use Rattle.cf_engine.proofs.Runs.{later_both, rose_both}
+use Rattle.cf_engine.specs.Run.{Scene, StepTells, RunTells, IsCut}
+use Rattle.cf_engine.proofs.Runs.{rose_both}
 use Rattle.cf_engine.proofs.Moved.{rose_of, later_of, called_later, same_later, last_fails}
 use Rattle.cf_engine.proofs.Written.{IsSoFar, step_from, written_more, due_here, called_more}
 

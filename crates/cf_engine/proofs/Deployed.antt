@@ -1,9 +1,7 @@
 -- What a deployment comes to, from what its parts came to.
-use Rattle.std.proofs.Common.{◌≡◌, ◌⊎◌, inl, inr, ℕ, ◌+◌, ◌<◌, ◌≤◌, List, [], ◌∷◌, ◌++◌, length, find, Option, Some, None, option_and_then, Result, Ok, Err, IfOk, IfErr, get_or, slice_get, refl, sym, ap, ◌∙◌, subst, arith, append-nil}
-use Rattle.std.specs.Global.{Vec}
+use Rattle.std.proofs.Common.{◌≡◌, inl, inr, ℕ, List, [], ◌∷◌, find, Option, Some, None, option_and_then, Result, Ok, Err, IfOk, IfErr, refl, sym, ap, ◌∙◌, subst, append-nil}
 use Rattle.cf_tree.specs.declared.planned.Planned.{Planned}
 use Rattle.cf_entry.specs.declared.entry.Entry.{Entry}
-use Rattle.cf_io.specs.Library.{Texts, StandsUnder}
 use Rattle.cf_engine.specs.declared.book.Halt.{Halt}
 use Rattle.cf_engine.specs.declared.book.Halt.TheVariants as halt
 use Rattle.cf_engine.specs.declared.cause.Cause.TheVariants as cause
@@ -16,16 +14,16 @@ use Rattle.cf_engine.specs.declared.exit.Refusal.{Refusal}
 use Rattle.cf_engine.specs.declared.exit.Refusal.TheVariants.{UnknownType}
 use Rattle.cf_engine.specs.declared.numbers.Numbered.TheVariants.{Operations, Tokens}
 use Rattle.cf_engine.specs.declared.stack.Stack.{Stack}
-use Rattle.cf_engine.specs.Lanes.{lane_for, is_unknown}
-use Rattle.cf_engine.specs.Refusals.{template_of, template_in, refusal_of, unread_of, type_refusal, or_else, RefusesAs, ReadsAs}
+use Rattle.cf_engine.specs.Lanes.{is_unknown}
+use Rattle.cf_engine.specs.Refusals.{template_in, refusal_of, unread_of, type_refusal, or_else, RefusesAs, ReadsAs}
 use Rattle.cf_engine.specs.Book.{Holds}
-use Rattle.cf_engine.specs.Written.{Call, next_of, calls_written, due_after, run_written}
+use Rattle.cf_engine.specs.Written.{next_of, calls_written, due_after, run_written}
 use Rattle.cf_engine.specs.Calls.{FailsLast}
-use Rattle.cf_engine.specs.Run.{Scene, StandsAt, IsCut}
+use Rattle.cf_engine.specs.Run.{Scene}
 use Rattle.cf_engine.specs.Make.{MakeTells}
 use Rattle.cf_engine.specs.Opening.{exit_of}
 use Rattle.cf_engine.specs.Stack.{stack_of}
-use Rattle.cf_engine.specs.Deployment.{Shelf, FetchesAs, held_of, completed, IsQuiet, beginning_in, IsDeployed, HasStopped, WasCut, StopsAs, ReadFails, ReadAs, IsFound, RefusesEarly, DeploysAs}
+use Rattle.cf_engine.specs.Deployment.{Shelf, held_of, completed, IsQuiet, beginning_in, IsDeployed, StopsAs, ReadFails, ReadAs, IsFound, DeploysAs}
 use Rattle.cf_engine.proofs.Rows.{got}
 use Rattle.cf_engine.proofs.Moved.{same_later}
 use Rattle.cf_engine.proofs.Cut.{nearly_none, nearly_one}

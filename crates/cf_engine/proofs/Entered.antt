@@ -1,11 +1,10 @@
 -- A deployment behind the opening of the journal.
-use Rattle.std.proofs.Common.{◌≡◌, ◌⊎◌, inl, inr, ℕ, ◌≤◌, List, [], ◌∷◌, ◌++◌, Option, None, Result, Ok, Err, subst}
+use Rattle.std.proofs.Common.{◌≡◌, inl, inr, ℕ, ◌≤◌, List, [], ◌∷◌, ◌++◌, None, Result, Ok, Err, subst}
 use Rattle.cf_entry.specs.declared.entry.Entry.{Entry}
 use Rattle.cf_engine.specs.declared.exit.Exit.{Exit}
 use Rattle.cf_engine.specs.declared.stack.Stack.{Stack}
 use Rattle.cf_engine.specs.Book.{Holds}
 use Rattle.cf_engine.specs.Written.{opening}
-use Rattle.cf_engine.specs.Run.{Scene}
 use Rattle.cf_engine.specs.Opening.{twice, missing, EnterTells}
 use Rattle.cf_engine.specs.Deployment.{DeploysAs}
 use Rattle.cf_engine.specs.Meeting.{Meeting, AreQuiet, opened, WasEntered, RunsAs}

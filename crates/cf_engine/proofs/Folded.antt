@@ -1,5 +1,5 @@
 -- What the entries of a creation leave of its stack.
-use Rattle.std.proofs.Common.{◌≡◌, ℕ, ◌+◌, ◌==◌, ◌&&◌, ◌≤◌, Bool, true, false, cond, List, [], ◌∷◌, ◌++◌, length, Option, Some, None, refl, sym, ap, ◌∙◌, arith, append_assoc, append-nil}
+use Rattle.std.proofs.Common.{◌≡◌, ℕ, ◌+◌, ◌&&◌, Bool, true, cond, List, [], ◌∷◌, ◌++◌, length, Option, Some, None, refl, sym, ap, ◌∙◌, arith, append_assoc, append-nil}
 use Rattle.std.specs.Str.{bytes_eq}
 use Rattle.std.proofs.lemmas.Bool.{eq-eqb}
 use Rattle.cf_tree.specs.declared.planned.Planned.{Planned}
@@ -10,9 +10,9 @@ use Rattle.cf_entry.specs.declared.status.Status.TheVariants as status
 use Rattle.cf_engine.specs.declared.stack.Held.{Held}
 use Rattle.cf_engine.specs.declared.stack.Pending.{Pending}
 use Rattle.cf_engine.specs.declared.stack.Stack.{Stack}
-use Rattle.cf_engine.specs.Written.{Call, intent_of, outcome_of, name_for, beginning, ending, calls_written, due_after, run_written}
+use Rattle.cf_engine.specs.Written.{Call, intent_of, outcome_of, name_for, beginning, ending, calls_written, run_written}
 use Rattle.cf_engine.specs.Calls.{reason_of, IsMade, AreMade}
-use Rattle.cf_engine.specs.Stack.{where_going, asking, replying_to, completing, stack_after, stack_behind, stack_of}
+use Rattle.cf_engine.specs.Stack.{where_going, replying_to, completing, stack_after, stack_behind, stack_of}
 use Rattle.cf_engine.specs.Deployment.{held_by, held_of, completed}
 use Rattle.cf_engine.proofs.Written.{due_end}
 

@@ -1,5 +1,5 @@
 -- What the journal has after a command, from what its run came to.
-use Rattle.std.proofs.Common.{◌≡◌, ◌⊎◌, inl, inr, ℕ, ◌+◌, ◌≤◌, List, [], ◌∷◌, ◌++◌, length, Option, Some, None, Result, Ok, Err, refl, sym, ap, ◌∙◌, subst, arith, append_assoc, append-nil}
+use Rattle.std.proofs.Common.{◌≡◌, inl, inr, ℕ, List, [], ◌∷◌, ◌++◌, Result, Ok, Err, refl, sym, ap, ◌∙◌, subst, append_assoc, append-nil}
 use Rattle.cf_tree.specs.declared.planned.Planned.{Planned}
 use Rattle.cf_entry.specs.declared.entry.Entry.{Entry}
 use Rattle.cf_engine.specs.declared.book.Halt.{Halt}
@@ -9,13 +9,13 @@ use Rattle.cf_engine.specs.declared.exit.Exit.{Exit}
 use Rattle.cf_engine.specs.declared.exit.Exit.TheVariants as exit
 use Rattle.cf_engine.specs.declared.numbers.Numbered.TheVariants.{Operations, Tokens}
 use Rattle.cf_engine.specs.declared.stack.Stack.{Stack}
-use Rattle.cf_engine.specs.Lanes.{Told, AreLater}
+use Rattle.cf_engine.specs.Lanes.{Told}
 use Rattle.cf_engine.specs.Book.{Holds}
-use Rattle.cf_engine.specs.Written.{Call, opening, next_of, calls_written, due_after, run_written}
+use Rattle.cf_engine.specs.Written.{opening, next_of, calls_written, due_after, run_written}
 use Rattle.cf_engine.specs.Calls.{AreCalled}
-use Rattle.cf_engine.specs.Run.{Scene, IsCut}
-use Rattle.cf_engine.specs.Deployment.{beginning_in, IsQuiet, IsDeployed, HasStopped, ReadFails}
-use Rattle.cf_engine.specs.Meeting.{Meeting, AreQuiet, opened, WasNotEntered, WasEntered, RunsAs}
+use Rattle.cf_engine.specs.Run.{IsCut}
+use Rattle.cf_engine.specs.Deployment.{beginning_in, HasStopped, ReadFails}
+use Rattle.cf_engine.specs.Meeting.{Meeting, AreQuiet, opened, WasNotEntered, WasEntered}
 use Rattle.cf_engine.specs.Alone.{Comes, HasJournal, Journals}
 use Rattle.cf_engine.proofs.Moved.{same_later}
 use Rattle.cf_engine.proofs.Written.{none_called}

@@ -1,5 +1,5 @@
 -- What each answer of the top call says, from what its run came to.
-use Rattle.std.proofs.Common.{◌≡◌, ◌⊎◌, inl, inr, ℕ, ◌+◌, ◌<◌, ◌≤◌, Bool, true, false, cond, List, [], ◌∷◌, ◌++◌, length, take, Option, Some, None, option_map, option_and_then, find, Result, Ok, Err, get_or, refl, sym, ap, ◌∙◌, subst, arith}
+use Rattle.std.proofs.Common.{◌≡◌, ◌⊎◌, inl, inr, ℕ, ◌+◌, cond, List, [], ◌∷◌, ◌++◌, length, Option, Some, None, option_map, option_and_then, find, Result, Ok, Err, refl, sym, ap, ◌∙◌, subst, arith}
 use Rattle.std.proofs.Math.Seq.{take-length}
 use Rattle.std.specs.Io.KnownBytes.{Appends}
 use Rattle.cf_entry.specs.declared.entry.Entry.{Entry}
@@ -16,10 +16,10 @@ use Rattle.cf_engine.specs.declared.numbers.Numbered.TheVariants.{Openings, Toke
 use Rattle.cf_engine.specs.declared.stack.Stack.{Stack}
 use Rattle.cf_engine.specs.Lanes.{AreFresh, lane_for, is_unknown, RoseAt}
 use Rattle.cf_engine.specs.Written.{opening, lane_pairs, is_of, how_many, next_of}
-use Rattle.cf_engine.specs.Meeting.{Meeting, opened, WasEntered, RunsAs}
+use Rattle.cf_engine.specs.Meeting.{Meeting, WasEntered, RunsAs}
 use Rattle.cf_engine.specs.Telling.{text_of, exit_of}
 use Rattle.cf_engine.specs.Print.{PrintTells}
-use Rattle.cf_engine.specs.Alone.{Printing, deploy_words, Comes, AloneTells, IsMade, HasFailed, HasEnded, IsCutShort, Says, IsOneOf, NoCountRose, IsRefusal, ComesBefore, IsAnswered}
+use Rattle.cf_engine.specs.Alone.{Printing, deploy_words, Comes, AloneTells, IsMade, HasFailed, IsCutShort, Says, IsOneOf, NoCountRose, IsRefusal, ComesBefore, IsAnswered}
 use Rattle.cf_engine.proofs.Alive.{calls_live, failed_live}
 use Rattle.cf_engine.proofs.Journaled.{journals}
 

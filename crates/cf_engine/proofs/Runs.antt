@@ -1,17 +1,13 @@
 -- Counts that rise and tokens that are new, from one call to the next.
-use Rattle.std.proofs.Common.{◌≡◌, ◌≢◌, ℕ, zero, suc, ◌+◌, ◌-◌, ◌^◌, ◌<◌, ◌≤◌, ◌==◌, Bool, true, false, cond, List, [], ◌∷◌, ◌++◌, length, Option, Some, None, is_none, option_map, ◌⊎◌, inl, inr, find, get_or, slice_set, slice_index_or, refl, sym, ap, ◌∙◌, subst, true≢false, arith, rules, add-zero, add-one, length-append}
-use Rattle.std.proofs.lemmas.Bool.{eqb-true}
+use Rattle.std.proofs.Common.{◌≡◌, ℕ, zero, suc, ◌+◌, ◌-◌, ◌^◌, ◌<◌, ◌≤◌, ◌==◌, Bool, true, false, cond, List, [], ◌∷◌, ◌++◌, length, Option, Some, None, option_map, ◌⊎◌, inl, inr, find, get_or, slice_set, refl, sym, subst, arith}
 use Rattle.std.proofs.lemmas.Bool.Decides.{eqb_tells, leb_tells}
 use Rattle.std.proofs.lemmas.List.{get_or-set_other}
 use Rattle.cf_tree.specs.declared.planned.Planned.{Planned}
-use Rattle.cf_tree.specs.declared.code.Code.{Code}
 use Rattle.cf_tree.specs.declared.request.Request.TheVariants.{Create}
 use Rattle.cf_handler.specs.declared.settled.Settled.{Settled}
 use Rattle.cf_handler.specs.declared.settled.Settlement.{Settlement}
-use Rattle.cf_handler.specs.declared.settled.Settlement.TheVariants.{Success, Failed}
 use Rattle.cf_handler.specs.Lane.{LaneState, settlement_of}
-use Rattle.cf_handler.specs.Move.{HasRisen}
-use Rattle.cf_engine.specs.Lanes.{Told, lane_for, is_unknown, settled_by, settled_at, IsFresh, AreFresh, AreLater, RoseAt}
+use Rattle.cf_engine.specs.Lanes.{Told, is_unknown, settled_by, settled_at, IsFresh, AreFresh, AreLater, RoseAt}
 
 none≢some : {A : Type 0} (x : A) → Some x ≡ None → ⊥
 none≢some x e = cc

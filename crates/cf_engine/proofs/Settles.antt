@@ -1,9 +1,7 @@
 -- What calls settle in lanes where their tokens are new.
-use Rattle.std.proofs.Common.{◌≡◌, ◌⊎◌, inl, inr, ℕ, zero, suc, ◌+◌, ◌≤◌, List, [], ◌∷◌, ◌++◌, Option, Some, None, option_map, get_or, slice_set, slice_index_or, refl, sym, ap, ◌∙◌, subst, arith}
+use Rattle.std.proofs.Common.{◌≡◌, ◌⊎◌, inl, inr, ℕ, zero, suc, ◌+◌, List, [], ◌∷◌, Option, Some, None, option_map, get_or, slice_set, refl, sym, ap, ◌∙◌, subst, arith}
 use Rattle.cf_tree.specs.declared.planned.Planned.{Planned}
-use Rattle.cf_tree.specs.declared.request.Request.{Request}
 use Rattle.cf_tree.specs.declared.request.Request.TheVariants.{Create}
-use Rattle.cf_tree.specs.declared.request.Answer.TheVariants as answer
 use Rattle.cf_entry.specs.declared.entry.Reply.{Reply}
 use Rattle.cf_entry.specs.declared.entry.Reply.TheVariants as reply
 use Rattle.cf_handler.specs.declared.settled.Settlement.{Settlement}

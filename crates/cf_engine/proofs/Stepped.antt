@@ -1,5 +1,5 @@
 -- One creation, from its intent, its call and its outcome.
-use Rattle.std.proofs.Common.{◌≡◌, ◌⊎◌, inl, inr, Bool, ℕ, zero, suc, ◌+◌, ◌<◌, ◌≤◌, List, [], ◌∷◌, ◌++◌, length, Option, Some, None, get_or, slice_set, slice_index_or, refl, sym, ap, ◌∙◌, subst, arith, append_assoc}
+use Rattle.std.proofs.Common.{◌≡◌, inl, inr, Bool, ℕ, zero, suc, ◌≤◌, List, [], ◌∷◌, ◌++◌, Option, Some, None, get_or, slice_set, slice_index_or, refl, sym, ap, ◌∙◌, subst, append_assoc}
 use Rattle.cf_tree.specs.declared.planned.Planned.{Planned}
 use Rattle.cf_tree.specs.declared.request.Request.{Request}
 use Rattle.cf_tree.specs.declared.request.Request.TheVariants.{Create}
@@ -8,7 +8,6 @@ use Rattle.cf_tree.specs.declared.request.Answer.TheVariants as answer
 use Rattle.cf_entry.specs.declared.entry.Entry.{Entry}
 use Rattle.cf_handler.specs.Lane.{LaneState}
 use Rattle.cf_handler.specs.Move.{CallTells}
-use Rattle.cf_engine.specs.declared.book.Halt.{Halt}
 use Rattle.cf_engine.specs.declared.course.Step.{Step}
 use Rattle.cf_engine.specs.declared.course.Step.TheVariants as step
 use Rattle.cf_engine.specs.Book.{Holds, HaltsAt}

@@ -1,10 +1,10 @@
 -- What a run of creations has written, one call after another.
-use Rattle.std.proofs.Common.{◌≡◌, ℕ, zero, suc, ◌+◌, ◌<◌, ◌≤◌, List, [], ◌∷◌, ◌++◌, length, get_or, Option, refl, sym, ap, ◌∙◌, subst, arith, add-zero, append_assoc, append-nil, length-append}
+use Rattle.std.proofs.Common.{◌≡◌, ℕ, ◌+◌, ◌<◌, ◌≤◌, List, [], ◌∷◌, ◌++◌, length, get_or, refl, sym, ap, ◌∙◌, subst, arith, add-zero, append_assoc, append-nil, length-append}
 use Rattle.cf_tree.specs.declared.planned.Planned.{Planned}
 use Rattle.cf_entry.specs.declared.entry.Entry.{Entry}
 use Rattle.cf_engine.specs.Lanes.{Told, lane_for}
 use Rattle.cf_engine.specs.Written.{Call, intent_of, outcome_of, name_for, calls_written, due_after, ending}
-use Rattle.cf_engine.specs.Calls.{IsCalled, AreCalled, reason_of, IsMade, AreMade}
+use Rattle.cf_engine.specs.Calls.{IsCalled, AreCalled, AreMade}
 use Rattle.cf_engine.specs.declared.course.Step.{Step}
 use Rattle.cf_engine.specs.declared.course.Step.TheVariants as step
 use Rattle.cf_engine.specs.Run.{Scene, StepTells}

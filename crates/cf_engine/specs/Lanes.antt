@@ -1,8 +1,7 @@
 -- The lanes of a run, as lists: the type, the count and the told state of each (this project's own).
-use Rattle.std.specs.Prelude.{◌≡◌, ℕ, suc, ◌+◌, ◌≤◌, Bool, List, [], ◌∷◌, ◌++◌, Option, Some, None, is_none, option_map, slice_set, slice_index_or}
+use Rattle.std.specs.Prelude.{◌≡◌, ℕ, ◌≤◌, Bool, List, [], Option, Some, None, is_none, option_map, slice_set, slice_index_or}
 use Rattle.std.specs.Str.{bytes_eq}
-use Rattle.std.specs.List.{position_from, list_any}
-use Rattle.cf_tree.specs.Datum.{Data}
+use Rattle.std.specs.List.{position_from}
 use Rattle.cf_tree.specs.declared.planned.Planned.{Planned}
 use Rattle.cf_tree.specs.declared.request.Request.TheVariants.{Create}
 use Rattle.cf_handler.specs.declared.settled.Settlement.{Settlement}

@@ -1,5 +1,5 @@
 -- What a command that opens the journal of a disk comes to.
-use Rattle.std.specs.Prelude.{◌≡◌, ◌⊎◌, ℕ, ◌≤◌, Bool, List, [], ◌∷◌, ◌++◌, Option, Some, None, Result, Ok, Err}
+use Rattle.std.specs.Prelude.{◌≡◌, ◌⊎◌, ℕ, ◌≤◌, Bool, List, [], ◌∷◌, ◌++◌, Some, None, Result, Ok, Err}
 use Rattle.cf_entry.specs.declared.entry.Entry.{Entry}
 use Rattle.cf_engine.specs.declared.exit.Exit.{Exit}
 use Rattle.cf_engine.specs.declared.exit.Exit.TheVariants as exit

@@ -1,5 +1,5 @@
 -- What stands in the library under a name, and why it may be refused before anything is made.
-use Rattle.std.specs.Prelude.{◌≡◌, ℕ, ◌≤◌, List, Option, Some, None, Result, Ok, Err, find, option_and_then, option_map, ⊤}
+use Rattle.std.specs.Prelude.{◌≡◌, ℕ, List, Option, Some, None, Result, Ok, Err, find, option_and_then, option_map, ⊤}
 use Rattle.serde_json.specs.Data.{Data}
 use Rattle.cf_tree.specs.declared.planned.Planned.{Planned}
 use Rattle.cf_template.specs.declared.fault.TemplateFault.{TemplateFault}

@@ -1,5 +1,5 @@
 -- Which end each status promises, from the end of an operation until the next one begins on its stack (User Guide: stack status codes).
-use Rattle.std.specs.Prelude.{◌≡◌, ℕ, List, Option, Some}
+use Rattle.std.specs.Prelude.{◌≡◌, ℕ, List, Some}
 use Rattle.cf_entry.specs.declared.status.Status.{Status}
 use Rattle.cf_entry.specs.declared.status.Status.TheVariants as status
 use Rattle.cf_stacks.specs.declared.state.StackState.{StackState}

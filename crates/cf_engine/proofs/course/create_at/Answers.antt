@@ -1,4 +1,4 @@
-use Rattle.std.proofs.Common.{map, [], ◌∷◌, ◌++◌, slice_index_or, ap, ◌∙◌, subst, List}
+use Rattle.std.proofs.Common.{map, [], ◌∷◌, ◌++◌, slice_index_or, ap, ◌∙◌, subst}
 use Rattle.cf_tree.specs.declared.request.Request.{Request}
 use Rattle.cf_engine.specs.Written.{intent_of}
 use Rattle.cf_engine.specs.Calls.{MovesAt}

@@ -3,7 +3,6 @@ use Rattle.cf_tree.specs.declared.planned.Planned.{Planned}
 use Rattle.cf_entry.specs.declared.entry.Entry.{Entry}
 use Rattle.cf_engine.specs.declared.course.RunEnd.TheVariants as run
 use Rattle.cf_engine.specs.declared.stack.Stack.{Stack}
-use Rattle.cf_engine.specs.Run.{Scene}
 use Rattle.cf_engine.specs.Stack.{stack_of}
 use Rattle.cf_engine.specs.Deployment.{StopsAs}
 use Rattle.cf_engine.proofs.Deployed.{Makes, is_there, ended, stopped}
