@@ -82,14 +82,15 @@ impl Journal {
 
     /// Appends an entry, by two writes and two syncs. It takes no memory, and `reserve` has made what it needs.
     ///
-    /// After `Ok` every crash leaves a disk that has it. `Full` comes exactly where its size and 5 bytes more do not fit
-    /// behind the journal, and changes nothing. After `DiskFault` the journal is broken and must be recovered again: a
-    /// crash at any moment of the call leaves the entries with the new one or without it.
+    /// After `Ok` every crash leaves a disk that has it, and the journal is longer by its size and 5. `Full` comes exactly
+    /// where these bytes do not fit behind the journal, and changes nothing. After `DiskFault` the journal is broken and
+    /// must be recovered again: a crash at any moment of the call leaves the entries with the new one or without it.
     pub fn append<D: Disk>(&mut self, disk: &mut D, entry: &Entry) -> Result<(), AppendFault>
         requires stands { Stands D.tells D.seen D.may_leave D.room_of self.old disk.old }
         requires spare { capped (length (spelling_of entry.now)) ≤ spare_of self.old }
         requires proper { IsProper entry.now }
         ensures acknowledged { OnOk result (Stands D.tells D.seen D.may_leave D.room_of self.new disk.new) }
+        ensures grown { OnOk result (journal_length self.new ≡ journal_length self.old + (capped (length (spelling_of entry.now)) + 5)) }
         ensures added { OnOk result (IsTrue D.tells → record_of (D.seen disk.new) ≡ one_more (record_of (D.seen disk.old)) entry.now) }
         ensures any_moment { IsTrue D.tells → LeavesOnly D.moment D.left_since disk.old disk.new (IsBeforeOrAfter (record_of (D.seen disk.old)) entry.now) }
         ensures cause { HasAppendCause (journal_length self.old) (capped (length (spelling_of entry.now)) + 5) (D.room_of disk.old) (D.count disk.old) (D.count disk.new) result }
