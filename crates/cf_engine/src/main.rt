@@ -56,27 +56,27 @@ const MOST_WRITTEN: u64 = 33_554_432;
 
 const VERSION: &str = "cfstack 0.1.0\n";
 
-const USAGE: &str = "usage: cfstack HOME WORKERS WORD ..\n\
+const USAGE: &str = "usage: cfstack HOME WORKERS WORD ..\
 \n\
-HOME is a folder with templates/ in it, WORKERS a number from 1 to 64.\n\
+\nHOME is a folder with templates/ in it, WORKERS a number from 1 to 64.\
 \n\
-  deploy STACK TEMPLATE  make the resources of the template HOME/templates/TEMPLATE\n\
-  describe STACK         tell the stack that the journal leaves\n\
+\n  deploy STACK TEMPLATE  make the resources of the template HOME/templates/TEMPLATE\
+\n  describe STACK         tell the stack that the journal leaves\
 \n\
-exits:\n\
-   0 Done             the stack is made, or told\n\
-   1 BadWords         the command line says nothing that is known\n\
-   2 TemplateRefused  no template, or one that can't be made; nothing was made\n\
-   3 StackRefused     no such stack, or one that is there already; nothing was made\n\
-   6 LibraryFault     the templates can't be read\n\
-   7 DiskFault        the journal can't be read or written\n\
-   8 SinkFault        the report can't be printed\n\
-   9 NoMemory         memory was not there\n\
-  10 NotAJournal      the disk holds something else than a journal\n\
-  11 LaneMissing      a lane that the journal needs is not there\n\
-  11 LaneTwice        two lanes have one name\n\
-  14 Full             the journal has no room for its next entry\n\
-  15 Unrolled         a resource was refused or is in doubt; those before it are live\n";
+\nexits:\
+\n   0 Done             the stack is made, or told\
+\n   1 BadWords         the command line says nothing that is known\
+\n   2 TemplateRefused  no template, or one that can't be made; nothing was made\
+\n   3 StackRefused     no such stack, or one that is there already; nothing was made\
+\n   6 LibraryFault     the templates can't be read\
+\n   7 DiskFault        the journal can't be read or written\
+\n   8 SinkFault        the report can't be printed\
+\n   9 NoMemory         memory was not there\
+\n  10 NotAJournal      the disk holds something else than a journal\
+\n  11 LaneMissing      a lane that the journal needs is not there\
+\n  11 LaneTwice        two lanes have one name\
+\n  14 Full             the journal has no room for its next entry\
+\n  15 Unrolled         a resource was refused or is in doubt; those before it are live\n";
 
 fn main(rt: HostRuntime) -> ExitCode {
     let mut out = StdoutSink::new(io::writer(&rt));
