@@ -132,6 +132,53 @@ fn a_stack_is_made_and_described(rt: HostRuntime) -> Result<(), Fail> {
     Ok(())
 }
 
+#[test]
+fn the_first_lane_of_a_type_makes_its_resources(rt: HostRuntime) -> Result<(), Fail> {
+    let alloc = rt.alloc();
+    let wanted = "stack app CREATE_COMPLETE 1\n\
+        resource Web Local::Files::File f2:1 CREATE_COMPLETE\n\
+        exit 0 Done\n";
+    let mut lanes = Vec::new(alloc);
+    lanes.push(MemoryHandler::files(alloc, "f2", Listing::new(alloc))?)?;
+    lanes.push(MemoryHandler::files(alloc, "f1", Listing::new(alloc))?)?;
+    assert!(rt; refuses(alloc, &[], 65_536, lanes, wanted)?);
+    Ok(())
+}
+
+// Whether the words of a line print this over a library whose first fetch fails.
+fn prints_without_library(alloc: Global, line: &str, wanted: &str) -> Result<bool, NoMemory> {
+    let words = words_of(alloc, line)?;
+    let texts = Vec::new(alloc);
+    let mut library = MemoryLibrary::new(alloc, texts.as_slice(), [1].as_slice())?;
+    let mut out = MemorySink::new(alloc, [].as_slice())?;
+    let disk = disk_of(alloc, &[], 65_536)?;
+    let lanes = one_lane(alloc, Listing::new(alloc))?;
+    let Ended {
+        exit: _,
+        disk: _,
+        lanes: _,
+    } = cfstack(
+        alloc,
+        words.as_slice(),
+        1,
+        &mut library,
+        &mut out,
+        disk,
+        lanes,
+    );
+    Ok(out.bytes() == wanted.as_bytes())
+}
+
+#[test]
+fn a_library_that_fails_comes_behind_bad_words_and_before_refusals(
+    rt: HostRuntime,
+) -> Result<(), Fail> {
+    let alloc = rt.alloc();
+    assert!(rt; prints_without_library(alloc, "deploy app x", "exit 6 LibraryFault\n")?);
+    assert!(rt; prints_without_library(alloc, "deploy", "exit 1 BadWords\n")?);
+    Ok(())
+}
+
 // Whether a deployment of one resource over a new disk prints this.
 fn refuses(
     alloc: Global,
@@ -230,9 +277,20 @@ fn words_and_templates_that_are_refused(rt: HostRuntime) -> Result<(), Fail> {
         ),
         (
             "deploy app x",
+            "{\"Resources\":",
+            "exit 2 TemplateRefused Read \"x\" NotJson\n",
+        ),
+        (
+            "deploy app x",
             "[]",
             "exit 2 TemplateRefused Read \"x\" NotYet\n",
         ),
+        (
+            "deploy app x",
+            "{\"Resources\":{\"A\":{\"Type\":\"T\",\"Properties\":{\"Path\":{\"Ref\":\"B\"}}}}}",
+            "exit 2 TemplateRefused Read \"x\" NotYet\n",
+        ),
+        ("deploy app x K=V", ONE, "exit 1 BadWords\n"),
         (
             "deploy app x",
             "{\"Resources\":{\"A\":{\"Type\":\"No::Such\",\"Properties\":{}}}}",
