@@ -1,5 +1,5 @@
 -- Which end each status promises, from the end of an operation until the next one begins on its stack (User Guide: stack status codes).
-use Rattle.std.specs.Prelude.{◌≡◌, ℕ, List, Some}
+use Rattle.std.specs.Prelude.{◌≡◌, ℕ, List, [], Some}
 use Rattle.cf_entry.specs.declared.status.Status.{Status}
 use Rattle.cf_entry.specs.declared.status.Status.TheVariants as status
 use Rattle.cf_stacks.specs.declared.state.StackState.{StackState}
@@ -13,9 +13,10 @@ use Rattle.cf_plan.specs.Life.{Life, world_of}
 abbrev pub Promised : Status → List ℕ → World → StackState → List Lane → Type 0
 Promised status.CreateComplete name x s lanes = IsComplete name x s lanes
 Promised status.UpdateComplete name x s lanes = IsComplete name x s lanes
-Promised status.RollbackComplete name x s lanes = IsRestored s lanes
+Promised status.RollbackComplete name x s lanes = IsRestored s lanes × (s.before ≡ [])
 Promised status.UpdateRollbackComplete name x s lanes = IsRestored s lanes
 Promised status.DeleteComplete name x s lanes = IsCleared s
+Promised status.ReviewInProgress name x s lanes = IsCleared s
 Promised status.RollbackFailed name x s lanes = IsBlamed s.entries s.operation (failed_of s)
 Promised status.UpdateRollbackFailed name x s lanes = IsBlamed s.entries s.operation (failed_of s)
 Promised status.DeleteFailed name x s lanes = IsBlamed s.entries s.operation (failed_of s)
