@@ -1,5 +1,5 @@
 -- What a command that drives no handlers comes to, and the program's choice between the two top calls.
-use Rattle.std.specs.Prelude.{◌≡◌, ◌⊎◌, ℕ, Bool, List, [], ◌∷◌, Option, Some, None, Result, Err, codes}
+use Rattle.std.specs.Prelude.{◌≡◌, ◌⊎◌, ℕ, Bool, true, List, [], ◌∷◌, Option, Some, None, Result, Err, codes}
 use Rattle.cf_engine.specs.declared.words.Command.{Command}
 use Rattle.cf_engine.specs.declared.words.Command.TheVariants.{Deploy, Describe}
 use Rattle.cf_engine.specs.declared.exit.Exit.{Exit}
@@ -34,14 +34,17 @@ AnswerTells tells bytes bytes' faults faults' p words result =
     (stack : List ℕ) × (outcome : Result Stack Exit) × AnswerComes tells bytes bytes' faults faults' words stack outcome
     × PrintTells p.held p.held' p.faults p.faults' (text_of stack outcome) (exit_of outcome) result
 
--- a description is answered and no lane is called, or it is what one thread does alone
+-- the words say to describe a stack, which is answered and calls no lane; they don't, and are for one thread alone; or there was no memory to read them, and nothing was done
 abbrev pub RanAs : Meeting → Printing → List (List ℕ) → Exit → Type 0
-RanAs m p words result = (AreQuiet m × AnswerTells m.tells m.bytes m.bytes' m.faults m.faults' p words result) ⊎ IsAnswered m p words result
+RanAs m p words result =
+    ((stack : List ℕ) × (describe_words words ≡ Some stack) × AreQuiet m × AnswerTells m.tells m.bytes m.bytes' m.faults m.faults' p words result)
+    ⊎ (((describe_words words ≡ None) × IsAnswered m p words result)
+    ⊎ (AreQuiet m × (m.bytes' ≡ m.bytes) × PrintTells p.held p.held' p.faults p.faults' (exit_line exit.NoMemory) exit.NoMemory result))
 
 -- the program's run over its words: what they come to over an outside with one lane of files, on which nothing was called yet, and a disk on which nothing stands; or there was no memory to make it
 abbrev pub IsRun : Printing → List (List ℕ) → Exit → Type 0
 IsRun p words result =
-    ((m : Meeting) × (m.names ≡ codes "files1" ∷ []) × (m.kinds ≡ codes "Local::Files::File" ∷ []) × (m.told ≡ Some (record { base = []; settled = [] }) ∷ []) × (m.bytes ≡ []) × RanAs m p words result)
+    ((m : Meeting) × (m.names ≡ codes "files1" ∷ []) × (m.kinds ≡ codes "Local::Files::File" ∷ []) × (m.told ≡ Some (record { base = []; settled = [] }) ∷ []) × (m.tells ≡ true) × (m.bytes ≡ []) × (m.room ≡ 16777216) × RanAs m p words result)
     ⊎ PrintTells p.held p.held' p.faults p.faults' (exit_line exit.NoMemory) exit.NoMemory result
 
 -- why no words came of a command line: one of them is no text, or there was no memory

@@ -235,6 +235,10 @@ pub fn cfstack<L: Library, K: Sink, D: Disk + Send, H: Handler + Send>(
             let exit = answer(alloc, words, library, out, &mut disk);
             Ended { exit, disk, lanes }
         }
-        _ => alone(alloc, words, library, out, disk, lanes),
+        Ok(None) => alone(alloc, words, library, out, disk, lanes),
+        Err(NoMemory) => {
+            let exit = print_exit(alloc, out, Exit::NoMemory);
+            Ended { exit, disk, lanes }
+        }
     }
 }
