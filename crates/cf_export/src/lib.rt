@@ -1,4 +1,4 @@
-//! The exports of all stacks, and which stack pins which export.
+//! The outputs of a stack, the exports of all stacks, and which stack pins which export.
 #![tactic(auto)]
 
 ghost use Rattle.std.specs.Prelude.{◌≡◌, ◌&&◌, not, find, option_copied};
@@ -28,6 +28,17 @@ pub struct Pin {
 
 /// Which stack pins, or claims, which export.
 pub type Pins = Listing<Pin>;
+
+/// An output of a stack (User Guide, Outputs), and the name that it is exported by, where it is.
+#[derive(Drop, PartialEq, Eq)]
+pub struct Output {
+    pub name: Txt,
+    pub value: Txt,
+    pub export: Option<Txt>,
+}
+
+/// Outputs by name.
+pub type Outputs = Listing<Output>;
 
 /// The export of a name: the first in the list that has it, and None exactly where none has. It takes no memory.
 pub fn holder<'a>(all: &'a Exports, name: &Txt) -> Option<&'a Export>

@@ -3,5 +3,5 @@ pub mod Live
 pub mod Sound
 pub mod Refusable
 pub mod Plan
-pub mod Types
+pub mod Call
 pub mod Codes

@@ -7,7 +7,6 @@ mod memory;
 mod plan;
 mod planned;
 mod table;
-mod types;
 
 pub use memory::MemoryHandler;
 pub use plan::Plan;

@@ -1,8 +1,7 @@
 //! The handler in memory.
-ghost use Rattle.std.specs.Prelude.{◌≡◌, [], ◌∷◌, ◌++◌, IsTrue, IfOk, IfSome, OnErr, Some, None, is_some, codes};
+ghost use Rattle.std.specs.Prelude.{◌≡◌, [], ◌∷◌, ◌++◌, IsTrue, IfOk, IfSome, OnErr, Some, None};
 ghost use Rattle.std.specs.Coded.{Coded-set, coded_list};
 ghost use Rattle.cf_fake.specs.Codes.{live_code};
-ghost use Rattle.cf_fake.specs.Types.{file_schema, record_schema};
 ghost use Rattle.cf_handler.specs.Lane.{settlement_of, changed_by, live_of};
 ghost use Rattle.cf_handler.specs.Name.{is_lane_name};
 ghost use Rattle.cf_handler.specs.Move.{HasCause, IsShort, LaneMove};
@@ -10,16 +9,16 @@ ghost use Rattle.cf_fake.specs.Live.{lives, differ};
 ghost use Rattle.cf_fake.specs.Sound.{lane_of, IsKept};
 ghost use Rattle.cf_fake.specs.Table.{answer_to};
 ghost use Rattle.cf_fake.specs.Refusable.{may_break};
-ghost use Rattle.cf_fake.specs.Plan.{break_at, settled_by, told_by, IsWorked, new_entry, AnswersByTable, next, counted, IsSameBut};
+ghost use Rattle.cf_fake.specs.Plan.{settled_by, told_by, IsWorked, new_entry, AnswersByTable, counted, IsSameBut};
+ghost use Rattle.cf_fake.specs.Call.{CallAnswers};
 
 use crate::answer::{answer_to, told_by};
 use crate::live::{LiveResource, apply};
 use crate::plan::{Plan, break_at};
 use crate::planned::Break;
-use crate::types::{file_schema, record_schema};
 use cf_handler::{Handler, Settled, Settlement, settlement_of};
 use cf_schema::Schema;
-use cf_tree::{Answer, Request, Txt};
+use cf_tree::{Answer, NoMemory, Request, Txt};
 use std::alloc::{AllocError, Global};
 
 /// A handler of one type that keeps its resources in memory.
@@ -95,7 +94,7 @@ fn keep(
 }
 
 impl MemoryHandler {
-    /// A handler of that name and type in which nothing is live, whose plan breaks calls.
+    /// A handler of that name for the type of the schema, in which nothing is live, and whose plan breaks calls.
     ///
     /// The name is a lane's: 1 to 64 letters, digits and hyphens. Where memory is wanting there is no handler.
     pub fn new(
@@ -103,10 +102,10 @@ impl MemoryHandler {
         name: &str,
         schema: Schema,
         plan: Plan,
-    ) -> Result<MemoryHandler, AllocError>
+    ) -> Result<MemoryHandler, NoMemory>
         requires { IsTrue (is_lane_name name.now) }
-        ensures tells { IfOk result (λ h. (⟦<MemoryHandler as Handler>⟧.label h ≡ name.now) × (⟦<MemoryHandler as Handler>⟧.of_kind h ≡ schema.kind) × (⟦<MemoryHandler as Handler>⟧.told h ≡ Some (record { base = []; settled = [] })) × (⟦<MemoryHandler as Handler>⟧.count h ≡ 0)) }
-        ensures plan { IfOk result (λ h. (h.schema ≡ schema) × (h.plan ≡ plan) × (h.calls ≡ 0)) }
+        ensures tells { IfOk result (λ h. (⟦<MemoryHandler as Handler>⟧.label h ≡ name.now) × (⟦<MemoryHandler as Handler>⟧.schema_of h ≡ schema) × (⟦<MemoryHandler as Handler>⟧.told h ≡ Some (record { base = []; settled = [] })) × (⟦<MemoryHandler as Handler>⟧.count h ≡ 0)) }
+        ensures plan { IfOk result (λ h. (h.plan ≡ plan) × (h.calls ≡ 0)) }
     {
         Ok(MemoryHandler {
             alloc,
@@ -118,24 +117,6 @@ impl MemoryHandler {
             settled: Vec::new(alloc),
             live: Vec::new(alloc),
         })
-    }
-
-    /// A handler of files.
-    pub fn files(alloc: Global, name: &str, plan: Plan) -> Result<MemoryHandler, AllocError>
-        requires { IsTrue (is_lane_name name.now) }
-        ensures tells { IfOk result (λ h. (⟦<MemoryHandler as Handler>⟧.label h ≡ name.now) × (⟦<MemoryHandler as Handler>⟧.of_kind h ≡ codes "Local::Files::File") × (⟦<MemoryHandler as Handler>⟧.told h ≡ Some (record { base = []; settled = [] })) × (⟦<MemoryHandler as Handler>⟧.count h ≡ 0)) }
-        ensures plan { IfOk result (λ h. (h.schema ≡ file_schema) × (h.plan ≡ plan) × (h.calls ≡ 0)) }
-    {
-        MemoryHandler::new(alloc, name, file_schema(alloc)?, plan)
-    }
-
-    /// A handler of records.
-    pub fn records(alloc: Global, name: &str, plan: Plan) -> Result<MemoryHandler, AllocError>
-        requires { IsTrue (is_lane_name name.now) }
-        ensures tells { IfOk result (λ h. (⟦<MemoryHandler as Handler>⟧.label h ≡ name.now) × (⟦<MemoryHandler as Handler>⟧.of_kind h ≡ codes "Local::Records::Record") × (⟦<MemoryHandler as Handler>⟧.told h ≡ Some (record { base = []; settled = [] })) × (⟦<MemoryHandler as Handler>⟧.count h ≡ 0)) }
-        ensures plan { IfOk result (λ h. (h.schema ≡ record_schema) × (h.plan ≡ plan) × (h.calls ≡ 0)) }
-    {
-        MemoryHandler::new(alloc, name, record_schema(alloc)?, plan)
     }
 
     /// The answer of the table to a new token.
@@ -226,17 +207,13 @@ impl MemoryHandler {
         }
     }
 
-    /// Answers a call, as `Handler::call` does.
-    ///
-    /// The call's number, counted from 1, says whether the plan breaks it. A settled token answers as it was settled
-    /// and changes nothing; a new one is settled by the table's answer, or by the code of a refusal. Each refusal and
-    /// fault raises the count of faults, and so does each broken call. `NoMemory` changes no resource, settles
-    /// nothing and raises no count.
-    pub fn answer_call(&mut self, token: u64, request: &Request) -> Answer
-        ensures table { AnswersByTable (break_at self.new.calls self.old.plan) self.old.schema self.old.name token request.now self.old.settled.items self.new.settled.items result }
-        ensures number { self.new.calls ≡ next self.old.calls }
-        ensures count { self.new.faults ≡ counted (is_some (break_at self.new.calls self.old.plan)) result self.old.faults }
-        ensures stays { (self.new.name ≡ self.old.name) × (self.new.schema ≡ self.old.schema) × (self.new.plan ≡ self.old.plan) }
+    /// Answers a call.
+    fn answer_call(&mut self, token: u64, request: &Request) -> Answer
+        ensures answers { CallAnswers
+            (record { name = self.old.name; schema = self.old.schema; plan = self.old.plan; calls = self.old.calls; faults = self.old.faults; settled = self.old.settled.items })
+            token request.now
+            (record { name = self.new.name; schema = self.new.schema; plan = self.new.plan; calls = self.new.calls; faults = self.new.faults; settled = self.new.settled.items })
+            result }
         ensures cause { HasCause self.old.faults self.new.faults result }
         ensures moves { IsShort result × LaneMove self.old.name (lane_of self.old.settled.items) (lane_of self.new.settled.items) token request.now result }
     {
@@ -251,27 +228,39 @@ impl MemoryHandler {
 impl Handler for MemoryHandler {
     ghost use Rattle.std.specs.Prelude.{Some};
     ghost use Rattle.cf_fake.specs.Sound.{lane_of};
+    ghost use Rattle.cf_fake.specs.Call.{CallAnswers};
 
     ghost label = { λ h. h.name };
 
-    ghost of_kind = { λ h. h.schema.kind };
+    ghost schema_of = { λ h. h.schema };
 
     ghost count = { λ h. h.faults };
 
     ghost told = { λ h. Some (lane_of h.settled.items) };
 
+    ghost answers = { λ h token request new result. CallAnswers
+        (record { name = h.name; schema = h.schema; plan = h.plan; calls = h.calls; faults = h.faults; settled = h.settled.items })
+        token request
+        (record { name = new.name; schema = new.schema; plan = new.plan; calls = new.calls; faults = new.faults; settled = new.settled.items })
+        result };
+
     fn name(&self) -> &str {
         self.name.as_str()
     }
 
-    fn kind(&self) -> &str {
-        self.schema.kind.as_str()
+    fn schema(&self) -> &Schema {
+        &self.schema
     }
 
     fn faults(&self) -> u64 {
         self.faults
     }
 
+    /// Answers by the table and the plan, which breaks calls by their numbers, counted from 1.
+    ///
+    /// A settled token answers as it was settled and changes nothing; a new one is settled by the table's answer, or
+    /// by the code of a refusal. Each refusal and fault raises the count of faults, and so does each broken call.
+    /// `NoMemory` changes no resource, settles nothing and raises no count.
     fn call(&mut self, token: u64, request: &Request) -> Answer {
         self.answer_call(token, request)
     }

@@ -3,8 +3,8 @@ ghost use Rattle.std.specs.Prelude.{IsTrue};
 ghost use Rattle.cf_fake.specs.Refusable.{may_break};
 
 use crate::{Break, MemoryHandler, Plan, Planned};
-use cf_handler::Handler;
-use cf_tree::{Answer, Code, Dict, Listing, Request, Txt, Val};
+use cf_handler::{Handler, file_schema, record_schema};
+use cf_tree::{Answer, Code, Dict, Listing, NoMemory, Request, Txt, Val};
 use std::alloc::{AllocError, Global};
 
 fn with(alloc: Global, props: Dict, name: &str, value: &str) -> Result<Dict, AllocError> {
@@ -62,12 +62,12 @@ fn a_file(alloc: Global) -> Result<Request, AllocError> {
     )
 }
 
-fn files(alloc: Global, plan: Plan) -> Result<MemoryHandler, AllocError> {
-    MemoryHandler::files(alloc, "files1", plan)
+fn files(alloc: Global, plan: Plan) -> Result<MemoryHandler, NoMemory> {
+    MemoryHandler::new(alloc, "files1", file_schema(alloc)?, plan)
 }
 
 /// A lane of which the first call is broken.
-fn broken(alloc: Global, break_: Break) -> Result<MemoryHandler, AllocError>
+fn broken(alloc: Global, break_: Break) -> Result<MemoryHandler, NoMemory>
     requires { IsTrue (may_break break_) }
 {
     let mut plan: Plan = Listing::new(alloc);
@@ -76,15 +76,15 @@ fn broken(alloc: Global, break_: Break) -> Result<MemoryHandler, AllocError>
 }
 
 /// A lane in which a file is live.
-fn with_file(alloc: Global) -> Result<MemoryHandler, AllocError> {
+fn with_file(alloc: Global) -> Result<MemoryHandler, NoMemory> {
     let mut lane = files(alloc, Listing::new(alloc))?;
     let _ = lane.call(1, &a_file(alloc)?);
     Ok(lane)
 }
 
 /// A lane in which a sealed record is live.
-fn with_record(alloc: Global) -> Result<MemoryHandler, AllocError> {
-    let mut lane = MemoryHandler::records(alloc, "r1", Listing::new(alloc))?;
+fn with_record(alloc: Global) -> Result<MemoryHandler, NoMemory> {
+    let mut lane = MemoryHandler::new(alloc, "r1", record_schema(alloc)?, Listing::new(alloc))?;
     let props = record(alloc, "v", "sealed")?;
     let _ = lane.call(1, &create(alloc, "Local::Records::Record", props)?);
     Ok(lane)
@@ -95,7 +95,7 @@ fn hello(alloc: Global) -> Result<Answer, AllocError> {
 }
 
 #[test]
-fn a_file_is_made_once(rt: HostRuntime) -> Result<(), AllocError> {
+fn a_file_is_made_once(rt: HostRuntime) -> Result<(), NoMemory> {
     let alloc = rt.alloc();
     let mut lane = files(alloc, Listing::new(alloc))?;
     assert!(rt; lane.call(1, &a_file(alloc)?) == hello(alloc)?);
@@ -105,7 +105,7 @@ fn a_file_is_made_once(rt: HostRuntime) -> Result<(), AllocError> {
 }
 
 #[test]
-fn a_path_is_taken_once(rt: HostRuntime) -> Result<(), AllocError> {
+fn a_path_is_taken_once(rt: HostRuntime) -> Result<(), NoMemory> {
     let alloc = rt.alloc();
     let mut lane = with_file(alloc)?;
     let other = create(alloc, "Local::Files::File", file(alloc, "web.txt", "bye")?)?;
@@ -115,7 +115,7 @@ fn a_path_is_taken_once(rt: HostRuntime) -> Result<(), AllocError> {
 }
 
 #[test]
-fn a_path_stays(rt: HostRuntime) -> Result<(), AllocError> {
+fn a_path_stays(rt: HostRuntime) -> Result<(), NoMemory> {
     let alloc = rt.alloc();
     let mut lane = with_file(alloc)?;
     let moved = update(alloc, "files1:1", file(alloc, "a", "hello")?)?;
@@ -127,7 +127,7 @@ fn a_path_stays(rt: HostRuntime) -> Result<(), AllocError> {
 }
 
 #[test]
-fn what_is_deleted_is_not_found(rt: HostRuntime) -> Result<(), AllocError> {
+fn what_is_deleted_is_not_found(rt: HostRuntime) -> Result<(), NoMemory> {
     let alloc = rt.alloc();
     let mut lane = with_file(alloc)?;
     let gone = Answer::Success {
@@ -140,7 +140,7 @@ fn what_is_deleted_is_not_found(rt: HostRuntime) -> Result<(), AllocError> {
 }
 
 #[test]
-fn a_seal_stays(rt: HostRuntime) -> Result<(), AllocError> {
+fn a_seal_stays(rt: HostRuntime) -> Result<(), NoMemory> {
     let alloc = rt.alloc();
     let mut lane = with_record(alloc)?;
     let opened = update(alloc, "r1:1", record(alloc, "v", "open")?)?;
@@ -152,7 +152,7 @@ fn a_seal_stays(rt: HostRuntime) -> Result<(), AllocError> {
 }
 
 #[test]
-fn a_fault_before_does_nothing(rt: HostRuntime) -> Result<(), AllocError> {
+fn a_fault_before_does_nothing(rt: HostRuntime) -> Result<(), NoMemory> {
     let alloc = rt.alloc();
     let mut lane = broken(alloc, Break::FaultBefore)?;
     assert!(rt; lane.call(2, &a_file(alloc)?) == Answer::Fault);
@@ -162,7 +162,7 @@ fn a_fault_before_does_nothing(rt: HostRuntime) -> Result<(), AllocError> {
 }
 
 #[test]
-fn a_fault_after_settles(rt: HostRuntime) -> Result<(), AllocError> {
+fn a_fault_after_settles(rt: HostRuntime) -> Result<(), NoMemory> {
     let alloc = rt.alloc();
     let mut lane = broken(alloc, Break::FaultAfter)?;
     assert!(rt; lane.call(1, &a_file(alloc)?) == Answer::Fault);
@@ -172,7 +172,7 @@ fn a_fault_after_settles(rt: HostRuntime) -> Result<(), AllocError> {
 }
 
 #[test]
-fn a_call_is_refused(rt: HostRuntime) -> Result<(), AllocError> {
+fn a_call_is_refused(rt: HostRuntime) -> Result<(), NoMemory> {
     let alloc = rt.alloc();
     let mut lane = broken(alloc, Break::Refuse(Code::Throttling))?;
     assert!(rt; lane.call(1, &a_file(alloc)?) == failed(Code::Throttling));

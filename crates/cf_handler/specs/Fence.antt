@@ -21,12 +21,9 @@ pub record FencedLane : Type 0 where
   pub flying : List Flying
   pub fence : ℕ
 
--- the live resource of an id, and the call by which a token was settled
+-- the live resource of an id
 abbrev pub live_at : List ℕ → FencedLane → Option Live
 live_at id lane = find (λ r. bytes_eq id r.id) (live_of lane.state)
-
-abbrev pub settled_at : ℕ → FencedLane → Option Settled
-settled_at token lane = find (λ s. token == s.token) lane.state.settled
 
 -- the lane with one more call that may act later
 abbrev pub with_flying : FencedLane → Flying → FencedLane

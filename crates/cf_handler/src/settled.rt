@@ -48,3 +48,42 @@ pub fn settlement_of(entries: &[Settled], token: u64) -> Option<&Settlement>
     }
     None
 }
+
+#[cfg(test)]
+mod tests {
+    use super::*;
+
+    #[test]
+    fn a_settled_call_answers_again(rt: HostRuntime) -> Result<(), AllocError> {
+        let alloc = rt.alloc();
+        let settlement = Settlement::Success {
+            physical: Txt::from_str(alloc, "f1:2")?,
+            attrs: Dict::new(alloc),
+        };
+        let mut entries = Vec::new(alloc);
+        entries.push(Settled {
+            token: 2,
+            request: Request::Delete {
+                physical: Txt::from_str(alloc, "f1:2")?,
+            },
+            settlement,
+        })?;
+        assert!(rt; settlement_of(entries.as_slice(), 1).is_none());
+        let Some(found) = settlement_of(entries.as_slice(), 2) else {
+            return Err(AllocError);
+        };
+        let again = Answer::Success {
+            physical: Txt::from_str(alloc, "f1:2")?,
+            attrs: Dict::new(alloc),
+        };
+        assert!(rt; found.answer(alloc)? == again);
+        let refused = Settlement::Failed {
+            code: Code::Throttling,
+        };
+        let told = Answer::Failed {
+            code: Code::Throttling,
+        };
+        assert!(rt; refused.answer(alloc)? == told);
+        Ok(())
+    }
+}

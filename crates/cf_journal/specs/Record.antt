@@ -28,9 +28,14 @@ one_more (Err offset) e = Err offset
 abbrev pub IsBeforeOrAfter : Result (List Entry) ℕ → Entry → List ℕ → Type 0
 IsBeforeOrAfter before e bytes = (record_of bytes ≡ before) ⊎ (record_of bytes ≡ one_more before e)
 
--- what a crash might have left before, or bytes with this record
-abbrev pub IsOldOrHas : (List ℕ → Type 0) → Result (List Entry) ℕ → List ℕ → Type 0
-IsOldOrHas may_leave read bytes = may_leave bytes ⊎ (record_of bytes ≡ read)
+-- The record is the same; and so are the bytes, unless a journal without entries was there.
+pub record Keeps (old new : List ℕ) : Type 0 where
+  pub same : record_of new ≡ record_of old
+  pub bytes : (record_of old ≡ Ok []) ⊎ (new ≡ old)
+
+-- what a crash might have left before, or bytes that keep the record
+abbrev pub IsOldOrKept : (List ℕ → Type 0) → List ℕ → List ℕ → Type 0
+IsOldOrKept may_leave old bytes = may_leave bytes ⊎ Keeps old bytes
 
 abbrev pub journal_length : Journal → ℕ
 journal_length j = j.length

@@ -98,6 +98,8 @@ mod tests {
         assert_eq!(rt; schemas.len(), 2);
         assert_eq!(rt; schemas.find("X").ok_or("X has a schema")?.props.len(), 1);
         assert!(rt; schemas.find("Z").is_none());
+        let copy = schemas.find("X").ok_or("X has a schema")?.try_clone(alloc)?;
+        assert!(rt; copy.kind.is("X"));
         Ok(())
     }
 }

@@ -4,21 +4,21 @@ use Rattle.serde_json.specs.declared.value.Value.{Value}
 use Rattle.serde_json.specs.View.{view, items_view}
 use Rattle.cf_tree.specs.Tests.{Test}
 use Rattle.cf_tree.specs.declared.template.Param.{Param}
-use Rattle.cf_template.specs.declared.refusal.ReadFault.{ReadFault}
-use Rattle.cf_template.specs.declared.refusal.ReadFault.TheVariants.{NoMemory}
+use Rattle.cf_template.specs.declared.refusal.TemplateFault.{TemplateFault}
+use Rattle.cf_template.specs.declared.refusal.TemplateFault.TheVariants.{NoMemory}
 use Rattle.cf_template.specs.Refusals.{Reading, after, mapped, Gives, GivesBy}
 use Rattle.cf_template.specs.Places.{item_at}
 use Rattle.cf_template.specs.Conds.{test_of, tests_in}
 
-pub first_fails : {A C : Type 0} (r : Reading A) (k : A → Reading C) (e : ReadFault) → (e ≡ NoMemory) ⊎ (r ≡ Err e) → (e ≡ NoMemory) ⊎ (after r k ≡ Err e)
+pub first_fails : {A C : Type 0} (r : Reading A) (k : A → Reading C) (e : TemplateFault) → (e ≡ NoMemory) ⊎ (r ≡ Err e) → (e ≡ NoMemory) ⊎ (after r k ≡ Err e)
 first_fails r k e (inl m) = inl m
 first_fails r k e (inr q) = inr (ap (λ x. after x k) q)
 
-pub then_fails : {A C : Type 0} (r : Reading A) (k : A → Reading C) (a : A) (e : ReadFault) → r ≡ Ok a → (e ≡ NoMemory) ⊎ (k a ≡ Err e) → (e ≡ NoMemory) ⊎ (after r k ≡ Err e)
+pub then_fails : {A C : Type 0} (r : Reading A) (k : A → Reading C) (a : A) (e : TemplateFault) → r ≡ Ok a → (e ≡ NoMemory) ⊎ (k a ≡ Err e) → (e ≡ NoMemory) ⊎ (after r k ≡ Err e)
 then_fails r k a e o (inl m) = inl m
 then_fails r k a e o (inr q) = inr (ap (λ x. after x k) o ∙ q)
 
-pub mapped_fails : {A C : Type 0} (f : A → C) (r : Reading A) (e : ReadFault) → (e ≡ NoMemory) ⊎ (r ≡ Err e) → (e ≡ NoMemory) ⊎ (mapped f r ≡ Err e)
+pub mapped_fails : {A C : Type 0} (f : A → C) (r : Reading A) (e : TemplateFault) → (e ≡ NoMemory) ⊎ (r ≡ Err e) → (e ≡ NoMemory) ⊎ (mapped f r ≡ Err e)
 mapped_fails f r e (inl m) = inl m
 mapped_fails f r e (inr q) = inr (ap (mapped f) q)
 
@@ -29,12 +29,12 @@ pub mapped_gives : {A C : Type 0} (f : A → C) (r : Reading A) (a : A) → r �
 mapped_gives f r a o = ap (mapped f) o
 
 -- a refusal that is passed on
-pub refused : {A : Type 0} (rules r : Reading A) (e : ReadFault) → IsErrAnd r (λ x. x ≡ e) → (e ≡ NoMemory) ⊎ (rules ≡ Err e) → Gives rules r
+pub refused : {A : Type 0} (rules r : Reading A) (e : TemplateFault) → IsErrAnd r (λ x. x ≡ e) → (e ≡ NoMemory) ⊎ (rules ≡ Err e) → Gives rules r
 refused rules (Ok a) e h g = absurd h
 refused rules (Err x) e h (inl m) = inl (h ∙ m)
 refused rules (Err x) e h (inr q) = inr (cc)
 
-pub refused_by : {A B : Type 0} (f : A → B) (rules : Reading B) (r : Reading A) (e : ReadFault) → IsErrAnd r (λ x. x ≡ e) → (e ≡ NoMemory) ⊎ (rules ≡ Err e) → GivesBy f rules r
+pub refused_by : {A B : Type 0} (f : A → B) (rules : Reading B) (r : Reading A) (e : TemplateFault) → IsErrAnd r (λ x. x ≡ e) → (e ≡ NoMemory) ⊎ (rules ≡ Err e) → GivesBy f rules r
 refused_by f rules (Ok a) e h g = absurd h
 refused_by f rules (Err x) e h (inl m) = inl (h ∙ m)
 refused_by f rules (Err x) e h (inr q) = inr (cc)

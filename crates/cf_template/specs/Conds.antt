@@ -5,7 +5,7 @@ use Rattle.serde_json.specs.Data.{Data, array, object, Items, no_items, item, Me
 use Rattle.cf_tree.specs.Keys.{put}
 use Rattle.cf_tree.specs.Tests.{Test, TestNode, cond, equals, negation, all_of, any_of, named, tests_of}
 use Rattle.cf_tree.specs.declared.template.Param.{Param}
-use Rattle.cf_template.specs.declared.refusal.ReadFault.TheVariants.{WrongShape, BadName}
+use Rattle.cf_template.specs.declared.refusal.TemplateFault.TheVariants.{WrongShape, BadName}
 use Rattle.cf_template.specs.declared.function.Function.{Function}
 use Rattle.cf_template.specs.declared.function.Function.TheVariants.{Equals, Not, And, Or}
 use Rattle.cf_template.specs.Refusals.{Reading, after, mapped, provided}

@@ -9,7 +9,7 @@ use Rattle.cf_tree.specs.Forms.{Form, Node, Fields, expr, lit, ref, get_att, sub
 use Rattle.cf_tree.specs.Forms as forms
 use Rattle.cf_tree.specs.declared.parts.Part.{Part}
 use Rattle.cf_tree.specs.declared.template.Param.{Param}
-use Rattle.cf_template.specs.declared.refusal.ReadFault.TheVariants.{WrongShape, Unsupported}
+use Rattle.cf_template.specs.declared.refusal.TemplateFault.TheVariants.{WrongShape, Unsupported}
 use Rattle.cf_template.specs.declared.function.Function.{Function}
 use Rattle.cf_template.specs.declared.function.Function.TheVariants.{Ref, GetAtt, Sub, Join, Split, Select, FindInMap, If, ImportValue, Base64}
 use Rattle.cf_template.specs.declared.subs.SubFault.{SubFault}

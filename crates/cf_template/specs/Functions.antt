@@ -4,9 +4,9 @@ use Rattle.std.specs.Str.{bytes_eq}
 use Rattle.std.specs.List.{starts_with, list_any}
 use Rattle.serde_json.specs.Data.{Members, no_members, member}
 use Rattle.cf_tree.specs.declared.template.Param.{Param}
-use Rattle.cf_template.specs.declared.refusal.ReadFault.{ReadFault}
-use Rattle.cf_template.specs.declared.refusal.ReadFault.TheVariants.{WrongShape, UnknownFunction}
-use Rattle.cf_template.specs.declared.refusal.ReadFault.TheVariants as fault
+use Rattle.cf_template.specs.declared.refusal.TemplateFault.{TemplateFault}
+use Rattle.cf_template.specs.declared.refusal.TemplateFault.TheVariants.{WrongShape, UnknownFunction}
+use Rattle.cf_template.specs.declared.refusal.TemplateFault.TheVariants as fault
 use Rattle.cf_template.specs.declared.function.Function.{Function}
 use Rattle.cf_template.specs.declared.function.Function.TheVariants.{Ref, GetAtt, Sub, Join, Split, Select, FindInMap, If, ImportValue, Base64, Equals, Not, And, Or, Unsupported, Unknown}
 use Rattle.cf_template.specs.Words.{is_function}
@@ -51,13 +51,13 @@ function_in (member k d no_members) = function_named k
 function_in ms = Unknown
 
 -- why the function of a name may not stand somewhere: its own name first
-abbrev pub stray : Function → List ℕ → List ℕ → ReadFault
+abbrev pub stray : Function → List ℕ → List ℕ → TemplateFault
 stray Unsupported k at = fault.Unsupported at k
 stray Unknown k at = UnknownFunction at
 stray f k at = WrongShape at
 
 -- why a function object may not stand somewhere: that it has more than one member comes first
-abbrev pub stray_object : Members → List ℕ → ReadFault
+abbrev pub stray_object : Members → List ℕ → TemplateFault
 stray_object (member k d no_members) at = stray (function_named k) k at
 stray_object ms at = WrongShape at
 

@@ -3,19 +3,19 @@ use Rattle.std.specs.Prelude.{◌≡◌, ℕ, suc, List, Option, Some, None, Res
 use Rattle.std.specs.Str.{is_utf8}
 use Rattle.serde_json.specs.declared.value.Value.{Value}
 use Rattle.serde_json.specs.View.{view}
-use Rattle.cf_template.specs.declared.refusal.ReadFault.{ReadFault}
-use Rattle.cf_template.specs.declared.refusal.ReadFault.TheVariants as refusal
+use Rattle.cf_template.specs.declared.refusal.TemplateFault.{TemplateFault}
+use Rattle.cf_template.specs.declared.refusal.TemplateFault.TheVariants as refusal
 use Rattle.serde_json.specs.Data.{Data, Members, no_members, member}
 use Rattle.serde_json.specs.Read.{read}
-use Rattle.cf_template.specs.declared.fault.TemplateFault.{TemplateFault}
-use Rattle.cf_template.specs.declared.fault.TemplateFault.TheVariants.{NotJson, NoMemory, NotYet}
+use Rattle.cf_template.specs.declared.fault.PlainFault.{PlainFault}
+use Rattle.cf_template.specs.declared.fault.PlainFault.TheVariants.{NotJson, NoMemory, NotYet}
 
 -- the value, where the bytes are the UTF-8 text of one that nests no deeper than 127
 abbrev pub json_of : List ℕ → Option Data
 json_of bytes = if is_utf8 bytes then read bytes else None
 
 -- why bytes are read as no value
-abbrev pub IsJsonFault : List ℕ → TemplateFault → Type 0
+abbrev pub IsJsonFault : List ℕ → PlainFault → Type 0
 IsJsonFault bytes NotJson = json_of bytes ≡ None
 IsJsonFault bytes NoMemory = ⊤
 IsJsonFault bytes NotYet = ⊥
@@ -26,6 +26,6 @@ count no_members = 0
 count (member k d ms) = suc (count ms)
 
 -- what the reading of a value answers: the value, or that there is none, or that memory was not there
-abbrev pub IsValueOf : List ℕ → Result Value ReadFault → Type 0
+abbrev pub IsValueOf : List ℕ → Result Value TemplateFault → Type 0
 IsValueOf bytes (Ok v) = json_of bytes ≡ Some (view v)
 IsValueOf bytes (Err e) = (e ≡ refusal.NoMemory) ⊎ ((e ≡ refusal.NotJson) × (json_of bytes ≡ None))

@@ -4,7 +4,7 @@ use Rattle.serde_json.specs.Data.{Data, boolean, number, string, array, object, 
 use Rattle.serde_json.specs.Find.{as_i64}
 use Rattle.cf_tree.specs.Datum as tree
 use Rattle.cf_tree.specs.Keys.{put}
-use Rattle.cf_template.specs.declared.refusal.ReadFault.TheVariants.{WrongShape, BadName}
+use Rattle.cf_template.specs.declared.refusal.TemplateFault.TheVariants.{WrongShape, BadName}
 use Rattle.cf_template.specs.Refusals.{Reading, after, mapped, provided}
 use Rattle.cf_template.specs.Places.{member_at}
 use Rattle.cf_template.specs.Words.{is_name}

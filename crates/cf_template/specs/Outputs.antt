@@ -5,7 +5,7 @@ use Rattle.serde_json.specs.Data.{Data, object, Members, no_members, member}
 use Rattle.cf_tree.specs.Forms.{Form}
 use Rattle.cf_tree.specs.declared.template.Param.{Param}
 use Rattle.cf_tree.specs.declared.template.Out.{Out}
-use Rattle.cf_template.specs.declared.refusal.ReadFault.TheVariants.{WrongShape, BadName}
+use Rattle.cf_template.specs.declared.refusal.TemplateFault.TheVariants.{WrongShape, BadName}
 use Rattle.cf_template.specs.Refusals.{Reading, after, mapped, provided}
 use Rattle.cf_template.specs.Places.{member_at}
 use Rattle.cf_template.specs.Words.{is_name}

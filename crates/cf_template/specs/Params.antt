@@ -8,7 +8,7 @@ use Rattle.cf_funcs.specs.Number.{digits_of, number_of}
 use Rattle.cf_tree.specs.declared.template.Param.{Param}
 use Rattle.cf_tree.specs.declared.template.Kind.{Kind}
 use Rattle.cf_tree.specs.declared.template.Kind.TheVariants as kind
-use Rattle.cf_template.specs.declared.refusal.ReadFault.TheVariants.{WrongShape, BadName, Unsupported}
+use Rattle.cf_template.specs.declared.refusal.TemplateFault.TheVariants.{WrongShape, BadName, Unsupported}
 use Rattle.cf_template.specs.declared.param.Words.{Words}
 use Rattle.cf_template.specs.declared.param.Limits.{Limits}
 use Rattle.cf_template.specs.Refusals.{Reading, after, mapped, provided}

@@ -6,8 +6,8 @@ use Rattle.serde_json.specs.Data.{Data, string, object, Members, no_members, mem
 use Rattle.cf_tree.specs.Datum as tree
 use Rattle.cf_tree.specs.Keys.{put}
 use Rattle.cf_tree.specs.declared.planned.Planned.{Planned}
-use Rattle.cf_template.specs.declared.fault.TemplateFault.{TemplateFault}
-use Rattle.cf_template.specs.declared.fault.TemplateFault.TheVariants.{NotJson, NoMemory, NotYet}
+use Rattle.cf_template.specs.declared.fault.PlainFault.{PlainFault}
+use Rattle.cf_template.specs.declared.fault.PlainFault.TheVariants.{NotJson, NoMemory, NotYet}
 use Rattle.cf_template.specs.Json.{json_of, count}
 use Rattle.cf_template.specs.Words.{is_name, is_function, has_reference}
 
@@ -64,7 +64,7 @@ abbrev pub plain_of : List ℕ → Data → Option (List Planned)
 plain_of bytes d = if nat_le (length bytes) 1048576 then plain_template d else None
 
 -- what the reading of a part gives: what the part is, exactly where it is plain
-abbrev pub Reads : {A : Type 0} → Option A → Result A TemplateFault → Type 0
+abbrev pub Reads : {A : Type 0} → Option A → Result A PlainFault → Type 0
 Reads part (Ok a) = part ≡ Some a
 Reads part (Err NotYet) = part ≡ None
 Reads part (Err NotJson) = ⊥
@@ -72,7 +72,7 @@ Reads part (Err NoMemory) = ⊤
 
 -- what the reading of bytes gives: the resources exactly where they are a plain template, `NotJson` exactly where they
 -- are no JSON, `NotYet` exactly where they are JSON and not plain
-abbrev pub IsPlainReading : List ℕ → Result (List Planned) TemplateFault → Type 0
+abbrev pub IsPlainReading : List ℕ → Result (List Planned) PlainFault → Type 0
 IsPlainReading bytes (Ok rs) = option_and_then (plain_of bytes) (json_of bytes) ≡ Some rs
 IsPlainReading bytes (Err NotYet) = (d : Data) × (json_of bytes ≡ Some d) × (plain_of bytes d ≡ None)
 IsPlainReading bytes (Err NotJson) = json_of bytes ≡ None

@@ -3,11 +3,11 @@ use Rattle.std.specs.Prelude.{◌≡◌, ℕ, Bool, Option, Some, None, Result, 
 use Rattle.std.proofs.Common.{◌⊎◌}
 use Rattle.std.specs.Global.{Box}
 use Rattle.cf_tree.specs.Forms.{Form}
-use Rattle.cf_template.specs.declared.refusal.ReadFault.{ReadFault}
-use Rattle.cf_template.specs.declared.refusal.ReadFault.TheVariants.{NotJson, TooLong, WrongShape, UnknownSection, BadVersion, NullValue, BadNumber, BadName, TooMany, UnknownFunction, Unsupported, NoMemory}
+use Rattle.cf_template.specs.declared.refusal.TemplateFault.{TemplateFault}
+use Rattle.cf_template.specs.declared.refusal.TemplateFault.TheVariants.{NotJson, TooLong, WrongShape, UnknownSection, BadVersion, NullValue, BadNumber, BadName, TooMany, UnknownFunction, Unsupported, NoMemory}
 
 -- the numbers of the faults (this project's own)
-abbrev pub fault_number : ReadFault → ℕ
+abbrev pub fault_number : TemplateFault → ℕ
 fault_number NotJson = 1
 fault_number (TooLong n) = 2
 fault_number (WrongShape p) = 3
@@ -21,12 +21,12 @@ fault_number (UnknownFunction p) = 10
 fault_number (Unsupported p k) = 11
 fault_number NoMemory = 12
 
-abbrev pub no_memory : ReadFault
+abbrev pub no_memory : TemplateFault
 no_memory = NoMemory
 
 -- what reading gives: a value, or why there is none
 abbrev pub Reading : Type 0 → Type 0
-Reading A = Result A ReadFault
+Reading A = Result A TemplateFault
 
 -- what follows on a value that was read, or the refusal that came before
 abbrev pub after : {A B : Type 0} → Reading A → (A → Reading B) → Reading B
@@ -39,16 +39,16 @@ mapped f (Ok a) = Ok (f a)
 mapped f (Err e) = Err e
 
 -- the first refusal, where one comes before another
-abbrev pub first_of : Option ReadFault → Option ReadFault → Option ReadFault
+abbrev pub first_of : Option TemplateFault → Option TemplateFault → Option TemplateFault
 first_of (Some e) later = Some e
 first_of None later = later
 
 -- what is read where a test holds, else the refusal
-abbrev pub provided : {A : Type 0} → Bool → ReadFault → Reading A → Reading A
+abbrev pub provided : {A : Type 0} → Bool → TemplateFault → Reading A → Reading A
 provided b e r = if b then r else Err e
 
 -- what is read where nothing is refused
-abbrev pub unless : {A : Type 0} → Option ReadFault → Reading A → Reading A
+abbrev pub unless : {A : Type 0} → Option TemplateFault → Reading A → Reading A
 unless None r = r
 unless (Some e) r = Err e
 
@@ -66,6 +66,6 @@ Gives r (Ok a) = r ≡ Ok a
 Gives r (Err e) = (e ≡ NoMemory) ⊎ (r ≡ Err e)
 
 -- what a test answers: nothing exactly where nothing is refused, else the refusal, or that memory was not there
-abbrev pub Finds : Option ReadFault → Result ⊤ ReadFault → Type 0
+abbrev pub Finds : Option TemplateFault → Result ⊤ TemplateFault → Type 0
 Finds fault (Ok _) = fault ≡ None
 Finds fault (Err e) = (e ≡ NoMemory) ⊎ (fault ≡ Some e)

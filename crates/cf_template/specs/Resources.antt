@@ -8,8 +8,8 @@ use Rattle.cf_tree.specs.declared.template.Deletion.{Deletion}
 use Rattle.cf_tree.specs.declared.template.Deletion.TheVariants as deletion
 use Rattle.cf_tree.specs.declared.template.Replace.{Replace}
 use Rattle.cf_tree.specs.declared.template.Replace.TheVariants as replace
-use Rattle.cf_template.specs.declared.refusal.ReadFault.{ReadFault}
-use Rattle.cf_template.specs.declared.refusal.ReadFault.TheVariants.{WrongShape, BadName, Unsupported}
+use Rattle.cf_template.specs.declared.refusal.TemplateFault.{TemplateFault}
+use Rattle.cf_template.specs.declared.refusal.TemplateFault.TheVariants.{WrongShape, BadName, Unsupported}
 use Rattle.cf_template.specs.Refusals.{Reading, after, mapped, provided, unless, first_of}
 use Rattle.cf_template.specs.Places.{member_at}
 use Rattle.cf_template.specs.Words.{is_name}
@@ -25,13 +25,13 @@ abbrev pub is_untaken_member : List ℕ → Bool
 is_untaken_member = is_among (codes "CreationPolicy" ∷ codes "UpdatePolicy" ∷ [])
 
 -- why a resource may not have the member of a name
-abbrev pub resource_member_fault : List ℕ → List ℕ → Option ReadFault
+abbrev pub resource_member_fault : List ℕ → List ℕ → Option TemplateFault
 resource_member_fault k at =
     if is_resource_member k then None
     else if is_untaken_member k then Some (Unsupported (member_at at k) k)
     else Some (WrongShape at)
 
-abbrev pub resource_members_fault : Members → List ℕ → Option ReadFault
+abbrev pub resource_members_fault : Members → List ℕ → Option TemplateFault
 resource_members_fault no_members at = None
 resource_members_fault (member k d ms) at = first_of (resource_member_fault k at) (resource_members_fault ms at)
 

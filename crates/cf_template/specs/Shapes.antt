@@ -2,7 +2,7 @@
 use Rattle.std.specs.Prelude.{ℕ, suc, List, [], ◌∷◌, ◌++◌, ◌&&◌, Bool, true, false, is_some, Option, Some, None, Ok, Err}
 use Rattle.serde_json.specs.Data.{Data, string, object, Items, no_items, item, Members, no_members, member}
 use Rattle.serde_json.specs.Find.{get}
-use Rattle.cf_template.specs.declared.refusal.ReadFault.TheVariants.{WrongShape}
+use Rattle.cf_template.specs.declared.refusal.TemplateFault.TheVariants.{WrongShape}
 use Rattle.cf_template.specs.Refusals.{Reading, after, mapped}
 use Rattle.cf_template.specs.Places.{member_at, item_at}
 

@@ -3,8 +3,8 @@ use Rattle.std.specs.Prelude.{◌≡◌, ◌⊎◌, ℕ, suc, List, codes, Bool,
 use Rattle.std.specs.Str.{bytes_eq}
 use Rattle.serde_json.specs.Data.{Num, Data, null, boolean, number, string, array, object, Items, no_items, item, Members, no_members, member}
 use Rattle.serde_json.specs.Find.{as_i64}
-use Rattle.cf_template.specs.declared.refusal.ReadFault.{ReadFault}
-use Rattle.cf_template.specs.declared.refusal.ReadFault.TheVariants.{NullValue, BadNumber, NoMemory}
+use Rattle.cf_template.specs.declared.refusal.TemplateFault.{TemplateFault}
+use Rattle.cf_template.specs.declared.refusal.TemplateFault.TheVariants.{NullValue, BadNumber, NoMemory}
 use Rattle.cf_template.specs.declared.walk.Region.{Region}
 use Rattle.cf_template.specs.declared.walk.Region.TheVariants.{Root, Resources, Resource, Metadata, Other}
 use Rattle.cf_template.specs.Refusals.{first_of}
@@ -28,12 +28,12 @@ abbrev pub is_allowed : Region → Num → Bool
 is_allowed Metadata n = true
 is_allowed r n = is_some (as_i64 n)
 
-abbrev pub number_fault : Num → Region → List ℕ → Option ReadFault
+abbrev pub number_fault : Num → Region → List ℕ → Option TemplateFault
 number_fault n r at = if is_allowed r n then None else Some (BadNumber at)
 
 -- the first null, or number that may not stand where it does
 abbrev mutual
-  pub walk_fault : Data → Region → List ℕ → Option ReadFault
+  pub walk_fault : Data → Region → List ℕ → Option TemplateFault
   walk_fault null r at = Some (NullValue at)
   walk_fault (boolean b) r at = None
   walk_fault (number n) r at = number_fault n r at
@@ -41,15 +41,15 @@ abbrev mutual
   walk_fault (array ds) r at = items_fault ds (item_region r) at 0
   walk_fault (object ms) r at = members_fault ms r at
 
-  pub items_fault : Items → Region → List ℕ → ℕ → Option ReadFault
+  pub items_fault : Items → Region → List ℕ → ℕ → Option TemplateFault
   items_fault no_items r at i = None
   items_fault (item d ds) r at i = first_of (walk_fault d r (item_at at i)) (items_fault ds r at (suc i))
 
-  pub members_fault : Members → Region → List ℕ → Option ReadFault
+  pub members_fault : Members → Region → List ℕ → Option TemplateFault
   members_fault no_members r at = None
   members_fault (member k d ms) r at = first_of (walk_fault d (member_region r k) (member_at at k)) (members_fault ms r at)
 
 -- what a walk from a place answers: nothing where nothing is refused, and the place is as it was; else the first refusal, or that memory was not there
-abbrev pub Walks : Option ReadFault → List ℕ → List ℕ → Result ⊤ ReadFault → Type 0
+abbrev pub Walks : Option TemplateFault → List ℕ → List ℕ → Result ⊤ TemplateFault → Type 0
 Walks fault before later (Ok _) = (fault ≡ None) × (later ≡ before)
 Walks fault before later (Err e) = (e ≡ NoMemory) ⊎ (fault ≡ Some e)

@@ -4,8 +4,8 @@ use Rattle.std.specs.Str.{bytes_eq}
 use Rattle.serde_json.specs.Data.{Data, string, object, Members, no_members, member}
 use Rattle.serde_json.specs.Find.{get}
 use Rattle.cf_tree.specs.declared.template.Template.{Template}
-use Rattle.cf_template.specs.declared.refusal.ReadFault.{ReadFault}
-use Rattle.cf_template.specs.declared.refusal.ReadFault.TheVariants.{NotJson, TooLong, WrongShape, UnknownSection, BadVersion, TooMany, Unsupported}
+use Rattle.cf_template.specs.declared.refusal.TemplateFault.{TemplateFault}
+use Rattle.cf_template.specs.declared.refusal.TemplateFault.TheVariants.{NotJson, TooLong, WrongShape, UnknownSection, BadVersion, TooMany, Unsupported}
 use Rattle.cf_template.specs.declared.walk.Region.TheVariants.{Root}
 use Rattle.cf_template.specs.Refusals.{Reading, after, mapped, provided, unless, first_of}
 use Rattle.cf_template.specs.Places.{member_at}
@@ -27,13 +27,13 @@ abbrev pub is_untaken_section : List ℕ → Bool
 is_untaken_section = is_among (codes "Hooks" ∷ codes "Rules" ∷ codes "Transform" ∷ [])
 
 -- why a template may not have the section of a name
-abbrev pub section_fault : List ℕ → Option ReadFault
+abbrev pub section_fault : List ℕ → Option TemplateFault
 section_fault k =
     if is_section k then None
     else if is_untaken_section k then Some (Unsupported (member_at [] k) k)
     else Some (UnknownSection k)
 
-abbrev pub sections_fault : Members → Option ReadFault
+abbrev pub sections_fault : Members → Option TemplateFault
 sections_fault no_members = None
 sections_fault (member k d ms) = first_of (section_fault k) (sections_fault ms)
 
@@ -44,7 +44,7 @@ is_version (Some (string t)) = bytes_eq t (codes "2010-09-09")
 is_version (Some d) = false
 
 -- why a section may not have so many members
-abbrev pub count_fault : List ℕ → ℕ → ℕ → Option ReadFault
+abbrev pub count_fault : List ℕ → ℕ → ℕ → Option TemplateFault
 count_fault name most n = if nat_le n most then None else Some (TooMany name n)
 
 -- a section of a name, with so many members at most
@@ -60,7 +60,7 @@ free_section read name (Some (object ms)) = read ms (member_at [] name) []
 free_section read name (Some d) = Err (WrongShape (member_at [] name))
 
 -- why the section that must be there may not have so few members
-abbrev pub empty_fault : List ℕ → ℕ → Option ReadFault
+abbrev pub empty_fault : List ℕ → ℕ → Option TemplateFault
 empty_fault name n = if nat_lt 0 n then None else Some (WrongShape (member_at [] name))
 
 -- the section that must be there, with one member at least

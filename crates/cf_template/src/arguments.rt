@@ -7,24 +7,24 @@ ghost use Rattle.cf_tree.specs.Form.{node_of};
 ghost use Rattle.cf_template.specs.Exprs.{attribute_of, delimiter, dotted, get_att_of, literal, reference, text_form, text_of};
 ghost use Rattle.cf_template.specs.Functions.{function_in, function_named, is_declared, stray, stray_object};
 ghost use Rattle.cf_funcs.specs.Pieces.{cut_at};
-ghost use Rattle.cf_template.specs.declared.refusal.ReadFault.TheVariants.{WrongShape};
+ghost use Rattle.cf_template.specs.declared.refusal.TemplateFault.TheVariants.{WrongShape};
 ghost use Rattle.cf_template.specs.Refusals.{Gives, GivesBy, after, mapped};
 ghost use Rattle.cf_template.specs.Places.{item_at};
 
 use crate::function::{Function, function_named, has_function, is_declared};
 use crate::path::{cut, item_at, member_at};
-use crate::refusal::ReadFault;
+use crate::refusal::TemplateFault;
 use crate::words::has_reference;
 use cf_tree::{Expr, ExprNode, Params, Txt, Val};
 use serde_json::{Map, Value};
 use std::alloc::{AllocError, Global};
 
 /// A literal text; none may hold a dynamic reference.
-pub(crate) fn literal(alloc: Global, text: &str, at: &Txt) -> Result<Txt, ReadFault>
+pub(crate) fn literal(alloc: Global, text: &str, at: &Txt) -> Result<Txt, TemplateFault>
     ensures { Gives (literal text.now at.now) result }
 {
     if has_reference(text) {
-        Err(ReadFault::Unsupported {
+        Err(TemplateFault::Unsupported {
             path: at.try_clone(alloc)?,
             name: Txt::from_str(alloc, "{{resolve:")?,
         })
@@ -34,13 +34,13 @@ pub(crate) fn literal(alloc: Global, text: &str, at: &Txt) -> Result<Txt, ReadFa
 }
 
 /// A literal text where only a text may stand.
-pub(crate) fn text(alloc: Global, value: &Value, at: Txt) -> Result<Txt, ReadFault>
+pub(crate) fn text(alloc: Global, value: &Value, at: Txt) -> Result<Txt, TemplateFault>
     ensures { Gives (text_of (view value.now) at) result }
 {
     match value {
         Value::String(text) => literal(alloc, text.as_str(), &at),
         Value::Null | Value::Bool(_) | Value::Number(_) | Value::Array(_) | Value::Object(_) => {
-            Err(ReadFault::WrongShape { path: at })
+            Err(TemplateFault::WrongShape { path: at })
         }
     }
 }
@@ -51,7 +51,7 @@ pub(crate) fn text_item(
     value: &Value,
     at: &Txt,
     index: usize,
-) -> Result<Txt, ReadFault>
+) -> Result<Txt, TemplateFault>
     ensures { Gives (text_of (view value.now) (item_at at.now index)) result }
 {
     let place = item_at(alloc, at.as_str(), index)?;
@@ -59,7 +59,7 @@ pub(crate) fn text_item(
 }
 
 /// A literal text as an expression.
-pub(crate) fn text_form(alloc: Global, text: &str, at: Txt) -> Result<Expr, ReadFault>
+pub(crate) fn text_form(alloc: Global, text: &str, at: Txt) -> Result<Expr, TemplateFault>
     ensures { Gives (mapped (text_form at) (literal text.now at)) result }
 {
     let text = literal(alloc, text, &at)?;
@@ -67,26 +67,26 @@ pub(crate) fn text_form(alloc: Global, text: &str, at: Txt) -> Result<Expr, Read
 }
 
 /// That what stands at a place has not the shape that it must have there.
-pub(crate) fn wrong_shape(alloc: Global, at: &Txt) -> Result<ReadFault, AllocError>
+pub(crate) fn wrong_shape(alloc: Global, at: &Txt) -> Result<TemplateFault, AllocError>
     ensures { IfOk result (λ e. e ≡ WrongShape at.now) }
 {
-    Ok(ReadFault::WrongShape {
+    Ok(TemplateFault::WrongShape {
         path: at.try_clone(alloc)?,
     })
 }
 
 /// Why the function of a name may not stand at a place.
-pub(crate) fn stray(alloc: Global, name: &str, at: &Txt) -> Result<ReadFault, AllocError>
+pub(crate) fn stray(alloc: Global, name: &str, at: &Txt) -> Result<TemplateFault, AllocError>
     ensures { IfOk result (λ e. e ≡ stray (function_named name.now) name.now at.now) }
 {
     let path = at.try_clone(alloc)?;
     match function_named(name) {
-        Function::Unsupported => Ok(ReadFault::Unsupported {
+        Function::Unsupported => Ok(TemplateFault::Unsupported {
             path,
             name: Txt::from_str(alloc, name)?,
         }),
-        Function::Unknown => Ok(ReadFault::UnknownFunction { path }),
-        _ => Ok(ReadFault::WrongShape { path }),
+        Function::Unknown => Ok(TemplateFault::UnknownFunction { path }),
+        _ => Ok(TemplateFault::WrongShape { path }),
     }
 }
 
@@ -95,13 +95,13 @@ pub(crate) fn stray_object(
     alloc: Global,
     members: &Map<String, Value>,
     at: Txt,
-) -> Result<ReadFault, AllocError>
+) -> Result<TemplateFault, AllocError>
     ensures { IfOk result (λ e. e ≡ stray_object (members_view members.now.entries) at) }
 {
     let mut left = members.iter();
     match (left.next(), left.next()) {
         (Some((name, _)), None) => stray(alloc, name.as_str(), &at),
-        _ => Ok(ReadFault::WrongShape { path: at }),
+        _ => Ok(TemplateFault::WrongShape { path: at }),
     }
 }
 
@@ -111,7 +111,7 @@ pub(crate) fn get_att(
     params: &Params,
     argument: &Value,
     at: Txt,
-) -> Result<ExprNode, ReadFault>
+) -> Result<ExprNode, TemplateFault>
     ensures { GivesBy node_of (get_att_of params.now (view argument.now) at) result }
 {
     match argument {
@@ -119,12 +119,12 @@ pub(crate) fn get_att(
         Value::Array(items) => {
             let mut left = items.iter();
             let (Some(id), Some(attribute), None) = (left.next(), left.next(), left.next()) else {
-                return Err(ReadFault::WrongShape { path: at });
+                return Err(TemplateFault::WrongShape { path: at });
             };
             get_att_parts(alloc, params, id, attribute, &at)
         }
         Value::Null | Value::Bool(_) | Value::Number(_) | Value::Object(_) => {
-            Err(ReadFault::WrongShape { path: at })
+            Err(TemplateFault::WrongShape { path: at })
         }
     }
 }
@@ -135,7 +135,7 @@ fn get_att_parts(
     id: &Value,
     attribute: &Value,
     at: &Txt,
-) -> Result<ExprNode, ReadFault>
+) -> Result<ExprNode, TemplateFault>
     ensures { GivesBy node_of (get_att_of params.now (array (item (view id.now) (item (view attribute.now) no_items))) at.now) result }
 {
     let id = text(alloc, id, item_at(alloc, at.as_str(), 0)?)?;
@@ -147,7 +147,7 @@ fn get_att_parts(
 }
 
 /// A logical id and an attribute in one text, cut at its first dot.
-fn dotted(alloc: Global, text: &str, at: Txt) -> Result<ExprNode, ReadFault>
+fn dotted(alloc: Global, text: &str, at: Txt) -> Result<ExprNode, TemplateFault>
     ensures { GivesBy node_of (after (literal text.now at) (λ t. dotted at (cut_at (codes ".") t))) result }
 {
     let text = literal(alloc, text, &at)?;
@@ -161,12 +161,17 @@ fn dotted(alloc: Global, text: &str, at: Txt) -> Result<ExprNode, ReadFault>
                 attribute: Box::new(alloc, attribute)?,
             })
         }
-        None => Err(ReadFault::WrongShape { path: at }),
+        None => Err(TemplateFault::WrongShape { path: at }),
     }
 }
 
 /// The attribute of `Fn::GetAtt`: a text, or a `Ref` of a declared parameter.
-fn attribute_of(alloc: Global, params: &Params, value: &Value, at: Txt) -> Result<Expr, ReadFault>
+fn attribute_of(
+    alloc: Global,
+    params: &Params,
+    value: &Value,
+    at: Txt,
+) -> Result<Expr, TemplateFault>
     ensures { Gives (attribute_of params.now (view value.now) at) result }
 {
     match value {
@@ -175,11 +180,11 @@ fn attribute_of(alloc: Global, params: &Params, value: &Value, at: Txt) -> Resul
             if has_function(members) {
                 parameter(alloc, params, members, at)
             } else {
-                Err(ReadFault::WrongShape { path: at })
+                Err(TemplateFault::WrongShape { path: at })
             }
         }
         Value::Null | Value::Bool(_) | Value::Number(_) | Value::Array(_) => {
-            Err(ReadFault::WrongShape { path: at })
+            Err(TemplateFault::WrongShape { path: at })
         }
     }
 }
@@ -190,12 +195,12 @@ fn parameter(
     params: &Params,
     members: &Map<String, Value>,
     at: Txt,
-) -> Result<Expr, ReadFault>
+) -> Result<Expr, TemplateFault>
     ensures { Gives (reference (is_declared params.now) (function_in (members_view members.now.entries)) (members_view members.now.entries) at) result }
 {
     let mut left = members.iter();
     let (Some((name, argument)), None) = (left.next(), left.next()) else {
-        return Err(ReadFault::WrongShape { path: at });
+        return Err(TemplateFault::WrongShape { path: at });
     };
     match function_named(name.as_str()) {
         Function::Ref => {
@@ -204,7 +209,7 @@ fn parameter(
             if is_declared(params, name.as_str()) {
                 Ok(Expr::new(at, ExprNode::Ref(name)))
             } else {
-                Err(ReadFault::WrongShape { path: at })
+                Err(TemplateFault::WrongShape { path: at })
             }
         }
         _ => Err(stray(alloc, name.as_str(), &at)?),
@@ -212,13 +217,13 @@ fn parameter(
 }
 
 /// A delimiter at which texts are cut: a literal text that isn't empty.
-fn cut_at(alloc: Global, value: &Value, at: Txt) -> Result<Txt, ReadFault>
+fn cut_at(alloc: Global, value: &Value, at: Txt) -> Result<Txt, TemplateFault>
     ensures { Gives (delimiter (view value.now) at) result }
 {
     let place = at.try_clone(alloc)?;
     let text = text(alloc, value, at)?;
     if text.as_str().is_empty() {
-        Err(ReadFault::WrongShape { path: place })
+        Err(TemplateFault::WrongShape { path: place })
     } else {
         Ok(text)
     }
@@ -230,7 +235,7 @@ pub(crate) fn cut_at_item(
     value: &Value,
     at: &Txt,
     index: usize,
-) -> Result<Txt, ReadFault>
+) -> Result<Txt, TemplateFault>
     ensures { Gives (delimiter (view value.now) (item_at at.now index)) result }
 {
     let place = item_at(alloc, at.as_str(), index)?;

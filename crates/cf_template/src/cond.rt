@@ -11,7 +11,7 @@ use crate::arguments::{stray, text, wrong_shape};
 use crate::expr::value;
 use crate::function::{Function, function_named, has_function};
 use crate::path::{item_at, member_at};
-use crate::refusal::ReadFault;
+use crate::refusal::TemplateFault;
 use crate::words::is_name;
 use cf_tree::{Cond, CondNode, Conds, NamedConds, Params, Txt};
 use serde_json::{Map, Value};
@@ -23,14 +23,14 @@ pub(crate) fn conditions(
     params: &Params,
     members: &Map<String, Value>,
     at: &Txt,
-) -> Result<NamedConds, ReadFault>
+) -> Result<NamedConds, TemplateFault>
     ensures { Gives (conds_in params.now (members_view members.now.entries) at.now []) result }
 {
     let mut found = NamedConds::new(alloc);
     for (name, member) in members.iter() {
         let place = member_at(alloc, at.as_str(), name.as_str())?;
         if !is_name(name.as_str()) {
-            return Err(ReadFault::BadName { path: place });
+            return Err(TemplateFault::BadName { path: place });
         }
         let condition = condition(alloc, params, member, place)?;
         found.insert(Txt::from_str(alloc, name.as_str())?, condition)?;
@@ -39,11 +39,11 @@ pub(crate) fn conditions(
 }
 
 #[cycle(condition)]
-fn condition(alloc: Global, params: &Params, value: &Value, at: Txt) -> Result<Cond, ReadFault>
+fn condition(alloc: Global, params: &Params, value: &Value, at: Txt) -> Result<Cond, TemplateFault>
     ensures { Gives (test_of params.now (view value.now) at) result }
 {
     let Value::Object(members) = value else {
-        return Err(ReadFault::WrongShape { path: at });
+        return Err(TemplateFault::WrongShape { path: at });
     };
     if has_function(members) {
         let node = call(alloc, params, members, &at)?;
@@ -55,12 +55,12 @@ fn condition(alloc: Global, params: &Params, value: &Value, at: Txt) -> Result<C
 }
 
 /// The object that names a condition.
-fn named(alloc: Global, members: &Map<String, Value>, at: &Txt) -> Result<CondNode, ReadFault>
+fn named(alloc: Global, members: &Map<String, Value>, at: &Txt) -> Result<CondNode, TemplateFault>
     ensures { GivesBy test_node_of (name_of (members_view members.now.entries) at.now) result }
 {
     let mut left = members.iter();
     let (Some((key, argument)), None) = (left.next(), left.next()) else {
-        return Err(ReadFault::WrongShape {
+        return Err(TemplateFault::WrongShape {
             path: at.try_clone(alloc)?,
         });
     };
@@ -68,7 +68,7 @@ fn named(alloc: Global, members: &Map<String, Value>, at: &Txt) -> Result<CondNo
         let place = member_at(alloc, at.as_str(), key.as_str())?;
         Ok(CondNode::Name(text(alloc, argument, place)?))
     } else {
-        Err(ReadFault::WrongShape {
+        Err(TemplateFault::WrongShape {
             path: at.try_clone(alloc)?,
         })
     }
@@ -80,12 +80,12 @@ fn call(
     params: &Params,
     members: &Map<String, Value>,
     at: &Txt,
-) -> Result<CondNode, ReadFault>
+) -> Result<CondNode, TemplateFault>
     ensures { GivesBy test_node_of (test_call params.now (function_in (members_view members.now.entries)) (members_view members.now.entries) at.now) result }
 {
     let mut left = members.iter();
     let (Some((name, argument)), None) = (left.next(), left.next()) else {
-        return Err(ReadFault::WrongShape {
+        return Err(TemplateFault::WrongShape {
             path: at.try_clone(alloc)?,
         });
     };
@@ -100,15 +100,20 @@ fn call(
 }
 
 /// The two values that are compared.
-fn equals(alloc: Global, params: &Params, argument: &Value, at: Txt) -> Result<CondNode, ReadFault>
+fn equals(
+    alloc: Global,
+    params: &Params,
+    argument: &Value,
+    at: Txt,
+) -> Result<CondNode, TemplateFault>
     ensures { GivesBy test_node_of (equals_of params.now (view argument.now) at) result }
 {
     let Value::Array(items) = argument else {
-        return Err(ReadFault::WrongShape { path: at });
+        return Err(TemplateFault::WrongShape { path: at });
     };
     let mut left = items.iter();
     let (Some(one), Some(other), None) = (left.next(), left.next(), left.next()) else {
-        return Err(ReadFault::WrongShape { path: at });
+        return Err(TemplateFault::WrongShape { path: at });
     };
     equals_parts(alloc, params, one, other, &at)
 }
@@ -119,7 +124,7 @@ fn equals_parts(
     left: &Value,
     right: &Value,
     at: &Txt,
-) -> Result<CondNode, ReadFault>
+) -> Result<CondNode, TemplateFault>
     ensures { GivesBy test_node_of (equals_of params.now (array (item (view left.now) (item (view right.now) no_items))) at.now) result }
 {
     let left = value(alloc, params, left, item_at(alloc, at.as_str(), 0)?)?;
@@ -133,13 +138,13 @@ fn negation(
     params: &Params,
     argument: &Value,
     at: Txt,
-) -> Result<CondNode, ReadFault>
+) -> Result<CondNode, TemplateFault>
     ensures { GivesBy test_node_of (negation_of params.now (view argument.now) at) result }
 {
     match argument {
         Value::Array(items) => negation_items(alloc, params, items, &at),
         Value::Null | Value::Bool(_) | Value::Number(_) | Value::String(_) | Value::Object(_) => {
-            Err(ReadFault::WrongShape { path: at })
+            Err(TemplateFault::WrongShape { path: at })
         }
     }
 }
@@ -150,7 +155,7 @@ fn negation_items(
     params: &Params,
     items: &Vec<Value>,
     at: &Txt,
-) -> Result<CondNode, ReadFault>
+) -> Result<CondNode, TemplateFault>
     ensures { GivesBy test_node_of (negation_of params.now (array (items_view items.now.items)) at.now) result }
 {
     let mut left = items.iter();
@@ -164,7 +169,12 @@ fn negation_items(
 }
 
 #[cycle(condition)]
-fn negated(alloc: Global, params: &Params, value: &Value, at: &Txt) -> Result<CondNode, ReadFault>
+fn negated(
+    alloc: Global,
+    params: &Params,
+    value: &Value,
+    at: &Txt,
+) -> Result<CondNode, TemplateFault>
     ensures { GivesBy test_node_of (negation_of params.now (array (item (view value.now) no_items)) at.now) result }
 {
     let place = item_at(alloc, at.as_str(), 0)?;
@@ -174,16 +184,21 @@ fn negated(alloc: Global, params: &Params, value: &Value, at: &Txt) -> Result<Co
 
 /// Two to ten conditions.
 #[cycle(condition)]
-fn several(alloc: Global, params: &Params, argument: &Value, at: Txt) -> Result<Conds, ReadFault>
+fn several(
+    alloc: Global,
+    params: &Params,
+    argument: &Value,
+    at: Txt,
+) -> Result<Conds, TemplateFault>
     ensures { Gives (several_of params.now (view argument.now) at) result }
 {
     let Value::Array(items) = argument else {
-        return Err(ReadFault::WrongShape { path: at });
+        return Err(TemplateFault::WrongShape { path: at });
     };
     if is_two_to_ten(items_count(items)) {
         each(alloc, params, items, &at)
     } else {
-        Err(ReadFault::WrongShape { path: at })
+        Err(TemplateFault::WrongShape { path: at })
     }
 }
 
@@ -201,7 +216,12 @@ fn items_count(items: &Vec<Value>) -> usize
 }
 
 #[cycle(condition)]
-fn each(alloc: Global, params: &Params, items: &Vec<Value>, at: &Txt) -> Result<Conds, ReadFault>
+fn each(
+    alloc: Global,
+    params: &Params,
+    items: &Vec<Value>,
+    at: &Txt,
+) -> Result<Conds, TemplateFault>
     ensures { Gives (tests_in params.now (items_view items.now.items) at.now 0 []) result }
 {
     let mut found = Conds::new(alloc);

@@ -14,7 +14,7 @@ use crate::arguments::{
 use crate::find::find;
 use crate::function::{Function, function_named, has_function};
 use crate::path::{item_at, member_at};
-use crate::refusal::ReadFault;
+use crate::refusal::TemplateFault;
 use crate::subs::{SubFault, sub_parts};
 use cf_tree::{Expr, ExprDict, ExprNode, Exprs, Params, Parts, Txt, Val};
 use serde_json::{Map, Value};
@@ -27,15 +27,15 @@ pub(crate) fn value(
     params: &Params,
     value: &Value,
     at: Txt,
-) -> Result<Expr, ReadFault>
+) -> Result<Expr, TemplateFault>
     ensures { Gives (form_of params.now (view value.now) at) result }
 {
     match value {
-        Value::Null => Err(ReadFault::WrongShape { path: at }),
+        Value::Null => Err(TemplateFault::WrongShape { path: at }),
         Value::Bool(truth) => Ok(Expr::new(at, ExprNode::Lit(Val::Truth(*truth)))),
         Value::Number(number) => match number.as_i64() {
             Some(whole) => Ok(Expr::new(at, ExprNode::Lit(Val::Whole(whole)))),
-            None => Err(ReadFault::WrongShape { path: at }),
+            None => Err(TemplateFault::WrongShape { path: at }),
         },
         Value::String(text) => text_form(alloc, text.as_str(), at),
         Value::Array(items) => {
@@ -52,7 +52,7 @@ fn object(
     params: &Params,
     members: &Map<String, Value>,
     at: Txt,
-) -> Result<Expr, ReadFault>
+) -> Result<Expr, TemplateFault>
     ensures { Gives (form_of params.now (object (members_view members.now.entries)) at) result }
 {
     if has_function(members) {
@@ -65,7 +65,12 @@ fn object(
 }
 
 #[cycle(form)]
-fn values(alloc: Global, params: &Params, items: &Vec<Value>, at: &Txt) -> Result<Exprs, ReadFault>
+fn values(
+    alloc: Global,
+    params: &Params,
+    items: &Vec<Value>,
+    at: &Txt,
+) -> Result<Exprs, TemplateFault>
     ensures { Gives (forms_in params.now (items_view items.now.items) at.now 0 []) result }
 {
     let mut found = Exprs::new(alloc);
@@ -84,7 +89,7 @@ fn fields(
     params: &Params,
     members: &Map<String, Value>,
     at: &Txt,
-) -> Result<ExprDict, ReadFault>
+) -> Result<ExprDict, TemplateFault>
     ensures { Gives (fields_in params.now (members_view members.now.entries) at.now []) result }
 {
     let mut found = ExprDict::new(alloc);
@@ -102,12 +107,12 @@ fn call(
     params: &Params,
     members: &Map<String, Value>,
     at: &Txt,
-) -> Result<ExprNode, ReadFault>
+) -> Result<ExprNode, TemplateFault>
     ensures { GivesBy node_of (call_of params.now (function_in (members_view members.now.entries)) (members_view members.now.entries) at.now) result }
 {
     let mut left = members.iter();
     let (Some((name, argument)), None) = (left.next(), left.next()) else {
-        return Err(ReadFault::WrongShape {
+        return Err(TemplateFault::WrongShape {
             path: at.try_clone(alloc)?,
         });
     };
@@ -138,7 +143,7 @@ fn value_box(
     params: &Params,
     argument: &Value,
     at: Txt,
-) -> Result<Box<Expr>, ReadFault>
+) -> Result<Box<Expr>, TemplateFault>
     ensures { GivesBy inside (form_of params.now (view argument.now) at) result }
 {
     let value = value(alloc, params, argument, at)?;
@@ -152,7 +157,7 @@ fn value_item(
     argument: &Value,
     at: &Txt,
     index: usize,
-) -> Result<Box<Expr>, ReadFault>
+) -> Result<Box<Expr>, TemplateFault>
     ensures { GivesBy inside (form_of params.now (view argument.now) (item_at at.now index)) result }
 {
     let place = item_at(alloc, at.as_str(), index)?;
@@ -162,7 +167,7 @@ fn value_item(
 
 /// A text with holes, or such a text and a map of values for its names.
 #[cycle(form)]
-fn sub(alloc: Global, params: &Params, argument: &Value, at: Txt) -> Result<ExprNode, ReadFault>
+fn sub(alloc: Global, params: &Params, argument: &Value, at: Txt) -> Result<ExprNode, TemplateFault>
     ensures { GivesBy node_of (sub_of params.now (view argument.now) at) result }
 {
     match argument {
@@ -173,7 +178,7 @@ fn sub(alloc: Global, params: &Params, argument: &Value, at: Txt) -> Result<Expr
         }
         Value::Array(items) => sub_items(alloc, params, items, &at),
         Value::Null | Value::Bool(_) | Value::Number(_) | Value::Object(_) => {
-            Err(ReadFault::WrongShape { path: at })
+            Err(TemplateFault::WrongShape { path: at })
         }
     }
 }
@@ -184,7 +189,7 @@ fn sub_items(
     params: &Params,
     items: &Vec<Value>,
     at: &Txt,
-) -> Result<ExprNode, ReadFault>
+) -> Result<ExprNode, TemplateFault>
     ensures { GivesBy node_of (sub_of params.now (array (items_view items.now.items)) at.now) result }
 {
     let mut left = items.iter();
@@ -209,7 +214,7 @@ fn map_item(
     value: &Value,
     at: &Txt,
     index: usize,
-) -> Result<ExprDict, ReadFault>
+) -> Result<ExprDict, TemplateFault>
     ensures { Gives (map_of params.now (view value.now) (item_at at.now index)) result }
 {
     let place = item_at(alloc, at.as_str(), index)?;
@@ -223,7 +228,7 @@ pub(crate) fn map_of(
     params: &Params,
     value: &Value,
     at: Txt,
-) -> Result<ExprDict, ReadFault>
+) -> Result<ExprDict, TemplateFault>
     ensures { Gives (map_of params.now (view value.now) at) result }
 {
     match value {
@@ -235,19 +240,24 @@ pub(crate) fn map_of(
             }
         }
         Value::Null | Value::Bool(_) | Value::Number(_) | Value::String(_) | Value::Array(_) => {
-            Err(ReadFault::WrongShape { path: at })
+            Err(TemplateFault::WrongShape { path: at })
         }
     }
 }
 
 #[cycle(form)]
-fn join(alloc: Global, params: &Params, argument: &Value, at: Txt) -> Result<ExprNode, ReadFault>
+fn join(
+    alloc: Global,
+    params: &Params,
+    argument: &Value,
+    at: Txt,
+) -> Result<ExprNode, TemplateFault>
     ensures { GivesBy node_of (join_of params.now (view argument.now) at) result }
 {
     match argument {
         Value::Array(items) => join_items(alloc, params, items, &at),
         Value::Null | Value::Bool(_) | Value::Number(_) | Value::String(_) | Value::Object(_) => {
-            Err(ReadFault::WrongShape { path: at })
+            Err(TemplateFault::WrongShape { path: at })
         }
     }
 }
@@ -258,7 +268,7 @@ fn join_items(
     params: &Params,
     items: &Vec<Value>,
     at: &Txt,
-) -> Result<ExprNode, ReadFault>
+) -> Result<ExprNode, TemplateFault>
     ensures { GivesBy node_of (join_of params.now (array (items_view items.now.items)) at.now) result }
 {
     let mut left = items.iter();
@@ -277,13 +287,18 @@ fn join_items(
 }
 
 #[cycle(form)]
-fn split(alloc: Global, params: &Params, argument: &Value, at: Txt) -> Result<ExprNode, ReadFault>
+fn split(
+    alloc: Global,
+    params: &Params,
+    argument: &Value,
+    at: Txt,
+) -> Result<ExprNode, TemplateFault>
     ensures { GivesBy node_of (split_of params.now (view argument.now) at) result }
 {
     match argument {
         Value::Array(items) => split_items(alloc, params, items, &at),
         Value::Null | Value::Bool(_) | Value::Number(_) | Value::String(_) | Value::Object(_) => {
-            Err(ReadFault::WrongShape { path: at })
+            Err(TemplateFault::WrongShape { path: at })
         }
     }
 }
@@ -294,7 +309,7 @@ fn split_items(
     params: &Params,
     items: &Vec<Value>,
     at: &Txt,
-) -> Result<ExprNode, ReadFault>
+) -> Result<ExprNode, TemplateFault>
     ensures { GivesBy node_of (split_of params.now (array (items_view items.now.items)) at.now) result }
 {
     let mut left = items.iter();
@@ -313,13 +328,18 @@ fn split_items(
 }
 
 #[cycle(form)]
-fn select(alloc: Global, params: &Params, argument: &Value, at: Txt) -> Result<ExprNode, ReadFault>
+fn select(
+    alloc: Global,
+    params: &Params,
+    argument: &Value,
+    at: Txt,
+) -> Result<ExprNode, TemplateFault>
     ensures { GivesBy node_of (select_of params.now (view argument.now) at) result }
 {
     match argument {
         Value::Array(items) => select_items(alloc, params, items, &at),
         Value::Null | Value::Bool(_) | Value::Number(_) | Value::String(_) | Value::Object(_) => {
-            Err(ReadFault::WrongShape { path: at })
+            Err(TemplateFault::WrongShape { path: at })
         }
     }
 }
@@ -330,7 +350,7 @@ fn select_items(
     params: &Params,
     items: &Vec<Value>,
     at: &Txt,
-) -> Result<ExprNode, ReadFault>
+) -> Result<ExprNode, TemplateFault>
     ensures { GivesBy node_of (select_of params.now (array (items_view items.now.items)) at.now) result }
 {
     let mut left = items.iter();
@@ -350,13 +370,18 @@ fn select_items(
 
 /// The name of a condition, and a value for each outcome.
 #[cycle(form)]
-fn choice(alloc: Global, params: &Params, argument: &Value, at: Txt) -> Result<ExprNode, ReadFault>
+fn choice(
+    alloc: Global,
+    params: &Params,
+    argument: &Value,
+    at: Txt,
+) -> Result<ExprNode, TemplateFault>
     ensures { GivesBy node_of (choice_of params.now (view argument.now) at) result }
 {
     match argument {
         Value::Array(items) => choice_items(alloc, params, items, &at),
         Value::Null | Value::Bool(_) | Value::Number(_) | Value::String(_) | Value::Object(_) => {
-            Err(ReadFault::WrongShape { path: at })
+            Err(TemplateFault::WrongShape { path: at })
         }
     }
 }
@@ -367,7 +392,7 @@ fn choice_items(
     params: &Params,
     items: &Vec<Value>,
     at: &Txt,
-) -> Result<ExprNode, ReadFault>
+) -> Result<ExprNode, TemplateFault>
     ensures { GivesBy node_of (choice_of params.now (array (items_view items.now.items)) at.now) result }
 {
     let mut left = items.iter();
@@ -390,21 +415,21 @@ fn choice_items(
 }
 
 /// A text with holes.
-fn holed_text(alloc: Global, value: &Value, at: Txt) -> Result<Parts, ReadFault>
+fn holed_text(alloc: Global, value: &Value, at: Txt) -> Result<Parts, TemplateFault>
     ensures { Gives (holed_text (view value.now) at) result }
 {
     let place = at.try_clone(alloc)?;
     let text = text(alloc, value, at)?;
     match sub_parts(alloc, text.as_str()) {
         Ok(parts) => Ok(parts),
-        Err(SubFault::NoMemory) => Err(ReadFault::NoMemory),
-        Err(SubFault::Unclosed { at: _ } | SubFault::Empty { at: _ }) => Err(ReadFault::WrongShape {
-            path: place,
-        }),
+        Err(SubFault::NoMemory) => Err(TemplateFault::NoMemory),
+        Err(SubFault::Unclosed { at: _ } | SubFault::Empty { at: _ }) => Err(
+            TemplateFault::WrongShape { path: place },
+        ),
     }
 }
 
-fn holed_item(alloc: Global, value: &Value, at: &Txt, index: usize) -> Result<Parts, ReadFault>
+fn holed_item(alloc: Global, value: &Value, at: &Txt, index: usize) -> Result<Parts, TemplateFault>
     ensures { Gives (holed_text (view value.now) (item_at at.now index)) result }
 {
     let place = item_at(alloc, at.as_str(), index)?;

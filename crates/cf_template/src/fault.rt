@@ -1,9 +1,9 @@
 ghost use Rattle.std.specs.Prelude.{◌≡◌};
 ghost use Rattle.cf_template.specs.Fault.{number_of};
 
-/// Why a template isn't read.
+/// Why bytes are not read as a plain template.
 #[derive(Clone, Copy, Debug, Drop, PartialEq, Eq)]
-pub enum TemplateFault {
+pub enum PlainFault {
     /// `serde_json` doesn't read the bytes, for another cause than memory.
     NotJson,
     /// Memory was not there; nothing is said of the bytes.
@@ -12,15 +12,15 @@ pub enum TemplateFault {
     NotYet,
 }
 
-impl TemplateFault {
+impl PlainFault {
     /// The number that stands for the fault, the same in every version.
     pub fn number(&self) -> u32
         ensures { result ≡ number_of self.now }
     {
         match self {
-            TemplateFault::NotJson => 1,
-            TemplateFault::NoMemory => 12,
-            TemplateFault::NotYet => 13,
+            PlainFault::NotJson => 1,
+            PlainFault::NoMemory => 12,
+            PlainFault::NotYet => 13,
         }
     }
 }

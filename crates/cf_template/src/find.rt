@@ -11,7 +11,7 @@ ghost use Rattle.cf_template.specs.Places.{item_at};
 use crate::arguments::{stray, text, text_form, wrong_shape};
 use crate::function::{Function, function_named, has_function, is_declared, is_pseudo};
 use crate::path::{item_at, member_at};
-use crate::refusal::ReadFault;
+use crate::refusal::TemplateFault;
 use cf_tree::{Expr, ExprNode, Params, Txt};
 use serde_json::{Map, Value};
 use std::alloc::Global;
@@ -23,13 +23,13 @@ pub(crate) fn find(
     params: &Params,
     argument: &Value,
     at: Txt,
-) -> Result<ExprNode, ReadFault>
+) -> Result<ExprNode, TemplateFault>
     ensures { GivesBy node_of (find_of params.now (view argument.now) at) result }
 {
     match argument {
         Value::Array(items) => find_items(alloc, params, items, &at),
         Value::Null | Value::Bool(_) | Value::Number(_) | Value::String(_) | Value::Object(_) => {
-            Err(ReadFault::WrongShape { path: at })
+            Err(TemplateFault::WrongShape { path: at })
         }
     }
 }
@@ -40,7 +40,7 @@ fn find_items(
     params: &Params,
     items: &Vec<Value>,
     at: &Txt,
-) -> Result<ExprNode, ReadFault>
+) -> Result<ExprNode, TemplateFault>
     ensures { GivesBy node_of (find_of params.now (array (items_view items.now.items)) at.now) result }
 {
     let mut left = items.iter();
@@ -69,7 +69,7 @@ fn key_item(
     value: &Value,
     at: &Txt,
     index: usize,
-) -> Result<Box<Expr>, ReadFault>
+) -> Result<Box<Expr>, TemplateFault>
     ensures { GivesBy inside (key_of params.now (view value.now) (item_at at.now index)) result }
 {
     let place = item_at(alloc, at.as_str(), index)?;
@@ -79,7 +79,7 @@ fn key_item(
 
 /// A text, a `Ref` of what is known when the template is read, or a `Fn::FindInMap`.
 #[cycle(find)]
-fn key(alloc: Global, params: &Params, value: &Value, at: Txt) -> Result<Expr, ReadFault>
+fn key(alloc: Global, params: &Params, value: &Value, at: Txt) -> Result<Expr, TemplateFault>
     ensures { Gives (key_of params.now (view value.now) at) result }
 {
     match value {
@@ -88,11 +88,11 @@ fn key(alloc: Global, params: &Params, value: &Value, at: Txt) -> Result<Expr, R
             if has_function(members) {
                 key_function(alloc, params, members, at)
             } else {
-                Err(ReadFault::WrongShape { path: at })
+                Err(TemplateFault::WrongShape { path: at })
             }
         }
         Value::Null | Value::Bool(_) | Value::Number(_) | Value::Array(_) => {
-            Err(ReadFault::WrongShape { path: at })
+            Err(TemplateFault::WrongShape { path: at })
         }
     }
 }
@@ -103,12 +103,12 @@ fn key_function(
     params: &Params,
     members: &Map<String, Value>,
     at: Txt,
-) -> Result<Expr, ReadFault>
+) -> Result<Expr, TemplateFault>
     ensures { Gives (key_call params.now (function_in (members_view members.now.entries)) (members_view members.now.entries) at) result }
 {
     let mut left = members.iter();
     let (Some((name, argument)), None) = (left.next(), left.next()) else {
-        return Err(ReadFault::WrongShape { path: at });
+        return Err(TemplateFault::WrongShape { path: at });
     };
     match function_named(name.as_str()) {
         Function::Ref => {
@@ -117,7 +117,7 @@ fn key_function(
             if may_find(params, name.as_str()) {
                 Ok(Expr::new(at, ExprNode::Ref(name)))
             } else {
-                Err(ReadFault::WrongShape { path: at })
+                Err(TemplateFault::WrongShape { path: at })
             }
         }
         Function::FindInMap => {

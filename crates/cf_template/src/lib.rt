@@ -21,11 +21,11 @@ mod walk;
 mod whole;
 mod words;
 
-pub use fault::TemplateFault;
-pub use plain::read_template;
-pub use refusal::ReadFault;
+pub use fault::PlainFault;
+pub use plain::read_plain;
+pub use refusal::TemplateFault;
 pub use subs::{SubFault, sub_parts};
-pub use whole::read_whole;
+pub use whole::read_template;
 
 #[cfg(test)]
 mod refusal_tests;

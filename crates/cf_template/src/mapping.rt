@@ -7,7 +7,7 @@ ghost use Rattle.cf_template.specs.Shapes.{items_from};
 ghost use Rattle.cf_template.specs.Refusals.{Gives, GivesBy};
 
 use crate::path::{item_at, member_at};
-use crate::refusal::ReadFault;
+use crate::refusal::TemplateFault;
 use crate::shape::plain_text;
 use crate::words::is_name;
 use cf_tree::{ByName, Dict, Mappings, Txt, Val, Vals};
@@ -19,14 +19,14 @@ pub(crate) fn mappings(
     alloc: Global,
     members: &Map<String, Value>,
     at: &Txt,
-) -> Result<Mappings, ReadFault>
+) -> Result<Mappings, TemplateFault>
     ensures { Gives (mappings_in (members_view members.now.entries) at.now []) result }
 {
     let mut found = Mappings::new(alloc);
     for (name, member) in members.iter() {
         let place = member_at(alloc, at.as_str(), name.as_str())?;
         if !is_name(name.as_str()) {
-            return Err(ReadFault::BadName { path: place });
+            return Err(TemplateFault::BadName { path: place });
         }
         let mapping = mapping(alloc, member, place)?;
         found.insert(Txt::from_str(alloc, name.as_str())?, mapping)?;
@@ -34,18 +34,22 @@ pub(crate) fn mappings(
     Ok(found)
 }
 
-fn mapping(alloc: Global, value: &Value, at: Txt) -> Result<ByName<Dict>, ReadFault>
+fn mapping(alloc: Global, value: &Value, at: Txt) -> Result<ByName<Dict>, TemplateFault>
     ensures { Gives (mapping_of (view value.now) at) result }
 {
     match value {
         Value::Object(members) => rows(alloc, members, &at),
         Value::Null | Value::Bool(_) | Value::Number(_) | Value::String(_) | Value::Array(_) => {
-            Err(ReadFault::WrongShape { path: at })
+            Err(TemplateFault::WrongShape { path: at })
         }
     }
 }
 
-fn rows(alloc: Global, members: &Map<String, Value>, at: &Txt) -> Result<ByName<Dict>, ReadFault>
+fn rows(
+    alloc: Global,
+    members: &Map<String, Value>,
+    at: &Txt,
+) -> Result<ByName<Dict>, TemplateFault>
     ensures { Gives (rows_in (members_view members.now.entries) at.now []) result }
 {
     let mut found = ByName::new(alloc);
@@ -57,18 +61,18 @@ fn rows(alloc: Global, members: &Map<String, Value>, at: &Txt) -> Result<ByName<
     Ok(found)
 }
 
-fn row(alloc: Global, value: &Value, at: Txt) -> Result<Dict, ReadFault>
+fn row(alloc: Global, value: &Value, at: Txt) -> Result<Dict, TemplateFault>
     ensures { Gives (row_of (view value.now) at) result }
 {
     match value {
         Value::Object(members) => cells(alloc, members, &at),
         Value::Null | Value::Bool(_) | Value::Number(_) | Value::String(_) | Value::Array(_) => {
-            Err(ReadFault::WrongShape { path: at })
+            Err(TemplateFault::WrongShape { path: at })
         }
     }
 }
 
-fn cells(alloc: Global, members: &Map<String, Value>, at: &Txt) -> Result<Dict, ReadFault>
+fn cells(alloc: Global, members: &Map<String, Value>, at: &Txt) -> Result<Dict, TemplateFault>
     ensures { Gives (values_in (members_view members.now.entries) at.now []) result }
 {
     let mut found = Dict::new(alloc);
@@ -81,7 +85,7 @@ fn cells(alloc: Global, members: &Map<String, Value>, at: &Txt) -> Result<Dict, 
 }
 
 /// A text, a whole number, a truth value, or a list of texts.
-fn cell(alloc: Global, value: &Value, at: Txt) -> Result<Val, ReadFault>
+fn cell(alloc: Global, value: &Value, at: Txt) -> Result<Val, TemplateFault>
     ensures { GivesBy datum_of (mapped_value (view value.now) at) result }
 {
     match value {
@@ -89,14 +93,14 @@ fn cell(alloc: Global, value: &Value, at: Txt) -> Result<Val, ReadFault>
         Value::Bool(truth) => Ok(Val::Truth(*truth)),
         Value::Number(number) => match number.as_i64() {
             Some(whole) => Ok(Val::Whole(whole)),
-            None => Err(ReadFault::WrongShape { path: at }),
+            None => Err(TemplateFault::WrongShape { path: at }),
         },
         Value::Array(items) => Ok(Val::List(texts(alloc, items, &at)?)),
-        Value::Null | Value::Object(_) => Err(ReadFault::WrongShape { path: at }),
+        Value::Null | Value::Object(_) => Err(TemplateFault::WrongShape { path: at }),
     }
 }
 
-fn texts(alloc: Global, items: &Vec<Value>, at: &Txt) -> Result<Vals, ReadFault>
+fn texts(alloc: Global, items: &Vec<Value>, at: &Txt) -> Result<Vals, TemplateFault>
     ensures { Gives (items_from mapped_text (items_view items.now.items) at.now 0 []) result }
 {
     let mut found = Vals::new(alloc);

@@ -8,7 +8,7 @@ ghost use Rattle.cf_template.specs.Refusals.{Gives};
 
 use crate::expr::value;
 use crate::path::member_at;
-use crate::refusal::ReadFault;
+use crate::refusal::TemplateFault;
 use crate::shape::{has, optional_text};
 use crate::words::is_name;
 use cf_tree::{Expr, Out, Outs, Params, Txt};
@@ -21,14 +21,14 @@ pub(crate) fn outputs(
     params: &Params,
     members: &Map<String, Value>,
     at: &Txt,
-) -> Result<Outs, ReadFault>
+) -> Result<Outs, TemplateFault>
     ensures { Gives (outputs_in params.now (members_view members.now.entries) at.now []) result }
 {
     let mut found = Outs::new(alloc);
     for (name, member) in members.iter() {
         let place = member_at(alloc, at.as_str(), name.as_str())?;
         if !is_name(name.as_str()) {
-            return Err(ReadFault::BadName { path: place });
+            return Err(TemplateFault::BadName { path: place });
         }
         let output = output(alloc, params, name.as_str(), member, &place)?;
         found.push(output)?;
@@ -42,13 +42,13 @@ fn output(
     name: &str,
     value: &Value,
     at: &Txt,
-) -> Result<Out, ReadFault>
+) -> Result<Out, TemplateFault>
     ensures { Gives (output_of params.now name.now (view value.now) at.now) result }
 {
     if has_only_known(value) && has(value, "Value") {
         fields(alloc, params, name, value, at)
     } else {
-        Err(ReadFault::WrongShape {
+        Err(TemplateFault::WrongShape {
             path: at.try_clone(alloc)?,
         })
     }
@@ -88,7 +88,7 @@ fn fields(
     name: &str,
     object: &Value,
     at: &Txt,
-) -> Result<Out, ReadFault>
+) -> Result<Out, TemplateFault>
     ensures { Gives (output_fields params.now name.now (view object.now) at.now) result }
 {
     let condition = optional_text(alloc, object, "Condition", at)?;
@@ -106,21 +106,21 @@ fn fields(
 }
 
 /// An object with the one member `Name`.
-fn export(alloc: Global, params: &Params, object: &Value, at: Txt) -> Result<Expr, ReadFault>
+fn export(alloc: Global, params: &Params, object: &Value, at: Txt) -> Result<Expr, TemplateFault>
     ensures { Gives (export_of params.now (view object.now) at) result }
 {
     let Value::Object(members) = object else {
-        return Err(ReadFault::WrongShape { path: at });
+        return Err(TemplateFault::WrongShape { path: at });
     };
     let mut left = members.iter();
     let (Some((key, name)), None) = (left.next(), left.next()) else {
-        return Err(ReadFault::WrongShape { path: at });
+        return Err(TemplateFault::WrongShape { path: at });
     };
     if key.as_str() == "Name" {
         let place = member_at(alloc, at.as_str(), key.as_str())?;
         value(alloc, params, name, place)
     } else {
-        Err(ReadFault::WrongShape { path: at })
+        Err(TemplateFault::WrongShape { path: at })
     }
 }
 
@@ -130,7 +130,7 @@ fn optional_export(
     object: &Value,
     name: &str,
     at: &Txt,
-) -> Result<Option<Expr>, ReadFault>
+) -> Result<Option<Expr>, TemplateFault>
     ensures { Gives (optional (export_of params.now) name.now (view object.now) at.now) result }
 {
     match object.get(name) {
@@ -148,7 +148,7 @@ fn required_value(
     object: &Value,
     name: &str,
     at: &Txt,
-) -> Result<Expr, ReadFault>
+) -> Result<Expr, TemplateFault>
     ensures { Gives (required (form_of params.now) name.now (view object.now) at.now) result }
 {
     match object.get(name) {
@@ -156,7 +156,7 @@ fn required_value(
             let place = member_at(alloc, at.as_str(), name)?;
             value(alloc, params, found, place)
         }
-        None => Err(ReadFault::WrongShape {
+        None => Err(TemplateFault::WrongShape {
             path: at.try_clone(alloc)?,
         }),
     }

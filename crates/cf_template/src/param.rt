@@ -9,7 +9,7 @@ ghost use Rattle.cf_template.specs.Shapes.{all_named, has_only, items_from, opti
 ghost use Rattle.cf_template.specs.Refusals.{Gives};
 
 use crate::path::{item_at, member_at};
-use crate::refusal::ReadFault;
+use crate::refusal::TemplateFault;
 use crate::shape::{has, optional_text};
 use crate::words::is_name;
 use cf_funcs::number;
@@ -25,14 +25,14 @@ pub(crate) fn parameters(
     alloc: Global,
     members: &Map<String, Value>,
     at: &Txt,
-) -> Result<Params, ReadFault>
+) -> Result<Params, TemplateFault>
     ensures { Gives (params_in (members_view members.now.entries) at.now []) result }
 {
     let mut found = Params::new(alloc);
     for (name, member) in members.iter() {
         let place = member_at(alloc, at.as_str(), name.as_str())?;
         if !is_name(name.as_str()) {
-            return Err(ReadFault::BadName { path: place });
+            return Err(TemplateFault::BadName { path: place });
         }
         let parameter = parameter(alloc, name.as_str(), member, &place)?;
         found.push(parameter)?;
@@ -40,13 +40,13 @@ pub(crate) fn parameters(
     Ok(found)
 }
 
-fn parameter(alloc: Global, name: &str, value: &Value, at: &Txt) -> Result<Param, ReadFault>
+fn parameter(alloc: Global, name: &str, value: &Value, at: &Txt) -> Result<Param, TemplateFault>
     ensures { Gives (param_of name.now (view value.now) at.now) result }
 {
     if has_only_known(value) && has(value, "Type") {
         fields(alloc, name, value, at)
     } else {
-        Err(ReadFault::WrongShape {
+        Err(TemplateFault::WrongShape {
             path: at.try_clone(alloc)?,
         })
     }
@@ -114,7 +114,7 @@ pub struct Limits {
     pub kind: Kind,
 }
 
-fn fields(alloc: Global, name: &str, object: &Value, at: &Txt) -> Result<Param, ReadFault>
+fn fields(alloc: Global, name: &str, object: &Value, at: &Txt) -> Result<Param, TemplateFault>
     ensures { Gives (param_fields name.now (view object.now) at.now) result }
 {
     let words = words_of(alloc, object, at)?;
@@ -136,7 +136,7 @@ fn fields(alloc: Global, name: &str, object: &Value, at: &Txt) -> Result<Param, 
     })
 }
 
-fn words_of(alloc: Global, object: &Value, at: &Txt) -> Result<Words, ReadFault>
+fn words_of(alloc: Global, object: &Value, at: &Txt) -> Result<Words, TemplateFault>
     ensures { Gives (words_of (view object.now) at.now) result }
 {
     let pattern = optional_text(alloc, object, "AllowedPattern", at)?;
@@ -153,7 +153,7 @@ fn words_of(alloc: Global, object: &Value, at: &Txt) -> Result<Words, ReadFault>
     })
 }
 
-fn limits_of(alloc: Global, object: &Value, at: &Txt) -> Result<Limits, ReadFault>
+fn limits_of(alloc: Global, object: &Value, at: &Txt) -> Result<Limits, TemplateFault>
     ensures { Gives (limits_of (view object.now) at.now) result }
 {
     let max_length = optional_length(alloc, object, "MaxLength", at)?;
@@ -173,7 +173,7 @@ fn limits_of(alloc: Global, object: &Value, at: &Txt) -> Result<Limits, ReadFaul
 }
 
 /// A text, a whole number or a truth value, as a text.
-fn scalar(alloc: Global, value: &Value, at: Txt) -> Result<Txt, ReadFault>
+fn scalar(alloc: Global, value: &Value, at: Txt) -> Result<Txt, TemplateFault>
     ensures { Gives (scalar_of (view value.now) at) result }
 {
     match value {
@@ -182,9 +182,11 @@ fn scalar(alloc: Global, value: &Value, at: Txt) -> Result<Txt, ReadFault>
         Value::Bool(false) => Ok(Txt::from_str(alloc, "false")?),
         Value::Number(number) => match number.as_i64() {
             Some(whole) => Ok(Txt::new(whole.to_string(alloc)?)),
-            None => Err(ReadFault::WrongShape { path: at }),
+            None => Err(TemplateFault::WrongShape { path: at }),
         },
-        Value::Null | Value::Array(_) | Value::Object(_) => Err(ReadFault::WrongShape { path: at }),
+        Value::Null | Value::Array(_) | Value::Object(_) => Err(TemplateFault::WrongShape {
+            path: at,
+        }),
     }
 }
 
@@ -193,7 +195,7 @@ fn optional_scalar(
     object: &Value,
     name: &str,
     at: &Txt,
-) -> Result<Option<Txt>, ReadFault>
+) -> Result<Option<Txt>, TemplateFault>
     ensures { Gives (optional scalar_of name.now (view object.now) at.now) result }
 {
     match object.get(name) {
@@ -205,18 +207,18 @@ fn optional_scalar(
     }
 }
 
-fn scalars(alloc: Global, value: &Value, at: Txt) -> Result<Names, ReadFault>
+fn scalars(alloc: Global, value: &Value, at: Txt) -> Result<Names, TemplateFault>
     ensures { Gives (scalars_of (view value.now) at) result }
 {
     match value {
         Value::Array(items) => each_scalar(alloc, items, &at),
         Value::Null | Value::Bool(_) | Value::Number(_) | Value::String(_) | Value::Object(_) => {
-            Err(ReadFault::WrongShape { path: at })
+            Err(TemplateFault::WrongShape { path: at })
         }
     }
 }
 
-fn each_scalar(alloc: Global, items: &Vec<Value>, at: &Txt) -> Result<Names, ReadFault>
+fn each_scalar(alloc: Global, items: &Vec<Value>, at: &Txt) -> Result<Names, TemplateFault>
     ensures { Gives (items_from scalar_of (items_view items.now.items) at.now 0 []) result }
 {
     let mut found = Names::new(alloc);
@@ -234,7 +236,7 @@ fn optional_scalars(
     object: &Value,
     name: &str,
     at: &Txt,
-) -> Result<Option<Names>, ReadFault>
+) -> Result<Option<Names>, TemplateFault>
     ensures { Gives (optional scalars_of name.now (view object.now) at.now) result }
 {
     match object.get(name) {
@@ -247,7 +249,7 @@ fn optional_scalars(
 }
 
 /// A bound on lengths: 0 to 999,999,999, as a number or in 1 to 18 digits.
-fn length(value: &Value, at: Txt) -> Result<u64, ReadFault>
+fn length(value: &Value, at: Txt) -> Result<u64, TemplateFault>
     ensures { Gives (length_of (view value.now) at) result }
 {
     match length_in(value) {
@@ -255,10 +257,10 @@ fn length(value: &Value, at: Txt) -> Result<u64, ReadFault>
             if length <= LONGEST {
                 Ok(length)
             } else {
-                Err(ReadFault::WrongShape { path: at })
+                Err(TemplateFault::WrongShape { path: at })
             }
         }
-        None => Err(ReadFault::WrongShape { path: at }),
+        None => Err(TemplateFault::WrongShape { path: at }),
     }
 }
 
@@ -301,7 +303,7 @@ fn optional_length(
     object: &Value,
     name: &str,
     at: &Txt,
-) -> Result<Option<u64>, ReadFault>
+) -> Result<Option<u64>, TemplateFault>
     ensures { Gives (optional length_of name.now (view object.now) at.now) result }
 {
     match object.get(name) {
@@ -314,7 +316,7 @@ fn optional_length(
 }
 
 /// A bound on values, in 10^-9: a number text, or a number whose decimal text is one.
-fn bound(alloc: Global, value: &Value, at: Txt) -> Result<i128, ReadFault>
+fn bound(alloc: Global, value: &Value, at: Txt) -> Result<i128, TemplateFault>
     ensures { Gives (bound_of (view value.now) at) result }
 {
     match value {
@@ -323,21 +325,21 @@ fn bound(alloc: Global, value: &Value, at: Txt) -> Result<i128, ReadFault>
                 let text = whole.to_string(alloc)?;
                 bound_text(text.as_str(), at)
             }
-            None => Err(ReadFault::WrongShape { path: at }),
+            None => Err(TemplateFault::WrongShape { path: at }),
         },
         Value::String(text) => bound_text(text.as_str(), at),
         Value::Null | Value::Bool(_) | Value::Array(_) | Value::Object(_) => Err(
-            ReadFault::WrongShape { path: at },
+            TemplateFault::WrongShape { path: at },
         ),
     }
 }
 
-fn bound_text(text: &str, at: Txt) -> Result<i128, ReadFault>
+fn bound_text(text: &str, at: Txt) -> Result<i128, TemplateFault>
     ensures { Gives (found_or at (number_of text.now)) result }
 {
     match number(text) {
         Some(value) => Ok(value),
-        None => Err(ReadFault::WrongShape { path: at }),
+        None => Err(TemplateFault::WrongShape { path: at }),
     }
 }
 
@@ -346,7 +348,7 @@ fn optional_bound(
     object: &Value,
     name: &str,
     at: &Txt,
-) -> Result<Option<i128>, ReadFault>
+) -> Result<Option<i128>, TemplateFault>
     ensures { Gives (optional bound_of name.now (view object.now) at.now) result }
 {
     match object.get(name) {
@@ -359,7 +361,7 @@ fn optional_bound(
 }
 
 /// A truth value, also as a text.
-fn truth(value: &Value, at: Txt) -> Result<bool, ReadFault>
+fn truth(value: &Value, at: Txt) -> Result<bool, TemplateFault>
     ensures { Gives (truth_of (view value.now) at) result }
 {
     match value {
@@ -370,11 +372,11 @@ fn truth(value: &Value, at: Txt) -> Result<bool, ReadFault>
             } else if text.as_str() == "false" {
                 Ok(false)
             } else {
-                Err(ReadFault::WrongShape { path: at })
+                Err(TemplateFault::WrongShape { path: at })
             }
         }
         Value::Null | Value::Number(_) | Value::Array(_) | Value::Object(_) => Err(
-            ReadFault::WrongShape { path: at },
+            TemplateFault::WrongShape { path: at },
         ),
     }
 }
@@ -384,7 +386,7 @@ fn optional_truth(
     object: &Value,
     name: &str,
     at: &Txt,
-) -> Result<Option<bool>, ReadFault>
+) -> Result<Option<bool>, TemplateFault>
     ensures { Gives (optional truth_of name.now (view object.now) at.now) result }
 {
     match object.get(name) {
@@ -396,18 +398,18 @@ fn optional_truth(
     }
 }
 
-fn kind(alloc: Global, value: &Value, at: Txt) -> Result<Kind, ReadFault>
+fn kind(alloc: Global, value: &Value, at: Txt) -> Result<Kind, TemplateFault>
     ensures { Gives (kind_of (view value.now) at) result }
 {
     match value {
         Value::String(text) => kind_named(alloc, text.as_str(), at),
         Value::Null | Value::Bool(_) | Value::Number(_) | Value::Array(_) | Value::Object(_) => {
-            Err(ReadFault::WrongShape { path: at })
+            Err(TemplateFault::WrongShape { path: at })
         }
     }
 }
 
-fn kind_named(alloc: Global, text: &str, at: Txt) -> Result<Kind, ReadFault>
+fn kind_named(alloc: Global, text: &str, at: Txt) -> Result<Kind, TemplateFault>
     ensures { Gives (kind_named text.now at) result }
 {
     match text {
@@ -415,14 +417,14 @@ fn kind_named(alloc: Global, text: &str, at: Txt) -> Result<Kind, ReadFault>
         "Number" => Ok(Kind::Number),
         "List<Number>" => Ok(Kind::Numbers),
         "CommaDelimitedList" => Ok(Kind::Commas),
-        _ => Err(ReadFault::Unsupported {
+        _ => Err(TemplateFault::Unsupported {
             path: at,
             name: Txt::from_str(alloc, text)?,
         }),
     }
 }
 
-fn required_kind(alloc: Global, object: &Value, name: &str, at: &Txt) -> Result<Kind, ReadFault>
+fn required_kind(alloc: Global, object: &Value, name: &str, at: &Txt) -> Result<Kind, TemplateFault>
     ensures { Gives (required kind_of name.now (view object.now) at.now) result }
 {
     match object.get(name) {
@@ -430,7 +432,7 @@ fn required_kind(alloc: Global, object: &Value, name: &str, at: &Txt) -> Result<
             let place = member_at(alloc, at.as_str(), name)?;
             kind(alloc, value, place)
         }
-        None => Err(ReadFault::WrongShape {
+        None => Err(TemplateFault::WrongShape {
             path: at.try_clone(alloc)?,
         }),
     }

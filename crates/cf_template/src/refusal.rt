@@ -6,7 +6,7 @@ use std::alloc::{AllocError, AllocFailed};
 
 /// Why a template isn't read. A place is a JSON pointer (RFC 6901) into the template.
 #[derive(Debug, Drop, PartialEq, Eq)]
-pub enum ReadFault {
+pub enum TemplateFault {
     /// `serde_json` doesn't read the bytes, for another cause than memory.
     NotJson,
     /// The template has more than 1,048,576 bytes.
@@ -33,46 +33,46 @@ pub enum ReadFault {
     NoMemory,
 }
 
-impl ReadFault {
+impl TemplateFault {
     /// The number that stands for the fault, the same in every version.
     pub fn number(&self) -> u32
         ensures { result ≡ fault_number self.now }
     {
         match self {
-            ReadFault::NotJson => 1,
-            ReadFault::TooLong { .. } => 2,
-            ReadFault::WrongShape { .. } => 3,
-            ReadFault::UnknownSection { .. } => 4,
-            ReadFault::BadVersion => 5,
-            ReadFault::NullValue { .. } => 6,
-            ReadFault::BadNumber { .. } => 7,
-            ReadFault::BadName { .. } => 8,
-            ReadFault::TooMany { .. } => 9,
-            ReadFault::UnknownFunction { .. } => 10,
-            ReadFault::Unsupported { .. } => 11,
-            ReadFault::NoMemory => 12,
+            TemplateFault::NotJson => 1,
+            TemplateFault::TooLong { .. } => 2,
+            TemplateFault::WrongShape { .. } => 3,
+            TemplateFault::UnknownSection { .. } => 4,
+            TemplateFault::BadVersion => 5,
+            TemplateFault::NullValue { .. } => 6,
+            TemplateFault::BadNumber { .. } => 7,
+            TemplateFault::BadName { .. } => 8,
+            TemplateFault::TooMany { .. } => 9,
+            TemplateFault::UnknownFunction { .. } => 10,
+            TemplateFault::Unsupported { .. } => 11,
+            TemplateFault::NoMemory => 12,
         }
     }
 }
 
-impl From<AllocError> for ReadFault {
+impl From<AllocError> for TemplateFault {
     ghost use Rattle.std.specs.Prelude.{◌≡◌};
     ghost use Rattle.cf_template.specs.Refusals.{no_memory};
 
     ghost from_gives = { λ _ e. e ≡ no_memory };
 
-    fn from(_refused: AllocError) -> ReadFault {
-        ReadFault::NoMemory
+    fn from(_refused: AllocError) -> TemplateFault {
+        TemplateFault::NoMemory
     }
 }
 
-impl<T: Drop> From<AllocFailed<T>> for ReadFault {
+impl<T: Drop> From<AllocFailed<T>> for TemplateFault {
     ghost use Rattle.std.specs.Prelude.{◌≡◌};
     ghost use Rattle.cf_template.specs.Refusals.{no_memory};
 
     ghost from_gives = { λ _ e. e ≡ no_memory };
 
-    fn from(_refused: AllocFailed<T>) -> ReadFault {
-        ReadFault::NoMemory
+    fn from(_refused: AllocFailed<T>) -> TemplateFault {
+        TemplateFault::NoMemory
     }
 }

@@ -1,42 +1,42 @@
 //! Whole templates: what is read, and every refusal with its place.
-use crate::{ReadFault, read_whole};
+use crate::{TemplateFault, read_template};
 use std::alloc::Global;
 use std::process::Abort;
 use std::test::Fail;
 
 /// The fault in words: its name, then its place, its name or its count.
-fn spelled(alloc: Global, fault: &ReadFault) -> Result<String, Fail> {
+fn spelled(alloc: Global, fault: &TemplateFault) -> Result<String, Fail> {
     let text = match fault {
-        ReadFault::NotJson => String::from_str(alloc, "NotJson")?,
-        ReadFault::TooLong { length } => format!(in alloc; "TooLong {length}")?,
-        ReadFault::WrongShape { path } => format!(in alloc; "WrongShape {}", path.as_str())?,
-        ReadFault::UnknownSection { name } => format!(in alloc;
+        TemplateFault::NotJson => String::from_str(alloc, "NotJson")?,
+        TemplateFault::TooLong { length } => format!(in alloc; "TooLong {length}")?,
+        TemplateFault::WrongShape { path } => format!(in alloc; "WrongShape {}", path.as_str())?,
+        TemplateFault::UnknownSection { name } => format!(in alloc;
             "UnknownSection {}",
             name.as_str()
         )?,
-        ReadFault::BadVersion => String::from_str(alloc, "BadVersion")?,
-        ReadFault::NullValue { path } => format!(in alloc; "NullValue {}", path.as_str())?,
-        ReadFault::BadNumber { path } => format!(in alloc; "BadNumber {}", path.as_str())?,
-        ReadFault::BadName { path } => format!(in alloc; "BadName {}", path.as_str())?,
-        ReadFault::TooMany { what, count } => format!(in alloc;
+        TemplateFault::BadVersion => String::from_str(alloc, "BadVersion")?,
+        TemplateFault::NullValue { path } => format!(in alloc; "NullValue {}", path.as_str())?,
+        TemplateFault::BadNumber { path } => format!(in alloc; "BadNumber {}", path.as_str())?,
+        TemplateFault::BadName { path } => format!(in alloc; "BadName {}", path.as_str())?,
+        TemplateFault::TooMany { what, count } => format!(in alloc;
             "TooMany {} {count}",
             what.as_str()
         )?,
-        ReadFault::UnknownFunction { path } => format!(in alloc;
+        TemplateFault::UnknownFunction { path } => format!(in alloc;
             "UnknownFunction {}",
             path.as_str()
         )?,
-        ReadFault::Unsupported { path, name } => {
+        TemplateFault::Unsupported { path, name } => {
             format!(in alloc; "Unsupported {} {}", path.as_str(), name.as_str())?
         }
-        ReadFault::NoMemory => String::from_str(alloc, "NoMemory")?,
+        TemplateFault::NoMemory => String::from_str(alloc, "NoMemory")?,
     };
     Ok(text)
 }
 
 /// What reading answers, in words.
 fn told(alloc: Global, text: &str) -> Result<String, Fail> {
-    match read_whole(alloc, text.as_bytes()) {
+    match read_template(alloc, text.as_bytes()) {
         Ok(_) => Ok(String::from_str(alloc, "read")?),
         Err(fault) => spelled(alloc, &fault),
     }

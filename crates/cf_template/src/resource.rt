@@ -9,7 +9,7 @@ ghost use Rattle.cf_template.specs.Refusals.{Gives, Finds};
 
 use crate::expr::map_of;
 use crate::path::member_at;
-use crate::refusal::ReadFault;
+use crate::refusal::TemplateFault;
 use crate::shape::{has, optional_text, plain_texts, required_text, skip_object};
 use crate::words::is_name;
 use cf_tree::{Deletion, ExprDict, Names, Params, Replace, Res, Resources, Txt};
@@ -22,14 +22,14 @@ pub(crate) fn resources(
     params: &Params,
     members: &Map<String, Value>,
     at: &Txt,
-) -> Result<Resources, ReadFault>
+) -> Result<Resources, TemplateFault>
     ensures { Gives (resources_in params.now (members_view members.now.entries) at.now []) result }
 {
     let mut found = Resources::new(alloc);
     for (name, member) in members.iter() {
         let place = member_at(alloc, at.as_str(), name.as_str())?;
         if !is_name(name.as_str()) {
-            return Err(ReadFault::BadName { path: place });
+            return Err(TemplateFault::BadName { path: place });
         }
         let resource = resource(alloc, params, name.as_str(), member, &place)?;
         found.push(resource)?;
@@ -43,11 +43,11 @@ fn resource(
     name: &str,
     value: &Value,
     at: &Txt,
-) -> Result<Res, ReadFault>
+) -> Result<Res, TemplateFault>
     ensures { Gives (resource_of params.now name.now (view value.now) at.now) result }
 {
     let Value::Object(members) = value else {
-        return Err(ReadFault::WrongShape {
+        return Err(TemplateFault::WrongShape {
             path: at.try_clone(alloc)?,
         });
     };
@@ -55,14 +55,14 @@ fn resource(
     if has(value, "Type") {
         fields(alloc, params, name, value, at)
     } else {
-        Err(ReadFault::WrongShape {
+        Err(TemplateFault::WrongShape {
             path: at.try_clone(alloc)?,
         })
     }
 }
 
 /// Refuses the first member that a resource may not have.
-fn test_members(alloc: Global, members: &Map<String, Value>, at: &Txt) -> Result<(), ReadFault>
+fn test_members(alloc: Global, members: &Map<String, Value>, at: &Txt) -> Result<(), TemplateFault>
     ensures { Finds (resource_members_fault (members_view members.now.entries) at.now) result }
 {
     for (name, _) in members.iter() {
@@ -71,18 +71,18 @@ fn test_members(alloc: Global, members: &Map<String, Value>, at: &Txt) -> Result
     Ok(())
 }
 
-fn test_member(alloc: Global, name: &str, at: &Txt) -> Result<(), ReadFault>
+fn test_member(alloc: Global, name: &str, at: &Txt) -> Result<(), TemplateFault>
     ensures { Finds (resource_member_fault name.now at.now) result }
 {
     if is_resource_member(name) {
         Ok(())
     } else if is_untaken_member(name) {
-        Err(ReadFault::Unsupported {
+        Err(TemplateFault::Unsupported {
             path: member_at(alloc, at.as_str(), name)?,
             name: Txt::from_str(alloc, name)?,
         })
     } else {
-        Err(ReadFault::WrongShape {
+        Err(TemplateFault::WrongShape {
             path: at.try_clone(alloc)?,
         })
     }
@@ -115,7 +115,7 @@ fn fields(
     name: &str,
     object: &Value,
     at: &Txt,
-) -> Result<Res, ReadFault>
+) -> Result<Res, TemplateFault>
     ensures { Gives (resource_fields params.now name.now (view object.now) at.now) result }
 {
     let condition = optional_text(alloc, object, "Condition", at)?;
@@ -137,7 +137,7 @@ fn fields(
 }
 
 /// A text, or a list of texts.
-fn names(alloc: Global, value: &Value, at: Txt) -> Result<Names, ReadFault>
+fn names(alloc: Global, value: &Value, at: Txt) -> Result<Names, TemplateFault>
     ensures { Gives (names_of (view value.now) at) result }
 {
     match value {
@@ -148,7 +148,7 @@ fn names(alloc: Global, value: &Value, at: Txt) -> Result<Names, ReadFault>
         }
         Value::Array(items) => plain_texts(alloc, items, &at),
         Value::Null | Value::Bool(_) | Value::Number(_) | Value::Object(_) => {
-            Err(ReadFault::WrongShape { path: at })
+            Err(TemplateFault::WrongShape { path: at })
         }
     }
 }
@@ -158,7 +158,7 @@ fn optional_names(
     object: &Value,
     name: &str,
     at: &Txt,
-) -> Result<Option<Names>, ReadFault>
+) -> Result<Option<Names>, TemplateFault>
     ensures { Gives (optional names_of name.now (view object.now) at.now) result }
 {
     match object.get(name) {
@@ -176,7 +176,7 @@ fn optional_values(
     object: &Value,
     name: &str,
     at: &Txt,
-) -> Result<Option<ExprDict>, ReadFault>
+) -> Result<Option<ExprDict>, TemplateFault>
     ensures { Gives (optional (values_of params.now) name.now (view object.now) at.now) result }
 {
     match object.get(name) {
@@ -188,29 +188,29 @@ fn optional_values(
     }
 }
 
-fn deletion(alloc: Global, value: &Value, at: Txt) -> Result<Deletion, ReadFault>
+fn deletion(alloc: Global, value: &Value, at: Txt) -> Result<Deletion, TemplateFault>
     ensures { Gives (deletion_of (view value.now) at) result }
 {
     match value {
         Value::String(text) => deletion_named(alloc, text.as_str(), at),
         Value::Null | Value::Bool(_) | Value::Number(_) | Value::Array(_) | Value::Object(_) => {
-            Err(ReadFault::WrongShape { path: at })
+            Err(TemplateFault::WrongShape { path: at })
         }
     }
 }
 
-fn deletion_named(alloc: Global, text: &str, at: Txt) -> Result<Deletion, ReadFault>
+fn deletion_named(alloc: Global, text: &str, at: Txt) -> Result<Deletion, TemplateFault>
     ensures { Gives (deletion_named text.now at) result }
 {
     match text {
         "Delete" => Ok(Deletion::Delete),
         "Retain" => Ok(Deletion::Retain),
         "RetainExceptOnCreate" => Ok(Deletion::RetainExceptOnCreate),
-        "Snapshot" => Err(ReadFault::Unsupported {
+        "Snapshot" => Err(TemplateFault::Unsupported {
             path: at,
             name: Txt::from_str(alloc, text)?,
         }),
-        _ => Err(ReadFault::WrongShape { path: at }),
+        _ => Err(TemplateFault::WrongShape { path: at }),
     }
 }
 
@@ -219,7 +219,7 @@ fn optional_deletion(
     object: &Value,
     name: &str,
     at: &Txt,
-) -> Result<Option<Deletion>, ReadFault>
+) -> Result<Option<Deletion>, TemplateFault>
     ensures { Gives (optional deletion_of name.now (view object.now) at.now) result }
 {
     match object.get(name) {
@@ -231,28 +231,28 @@ fn optional_deletion(
     }
 }
 
-fn replace(alloc: Global, value: &Value, at: Txt) -> Result<Replace, ReadFault>
+fn replace(alloc: Global, value: &Value, at: Txt) -> Result<Replace, TemplateFault>
     ensures { Gives (replace_of (view value.now) at) result }
 {
     match value {
         Value::String(text) => replace_named(alloc, text.as_str(), at),
         Value::Null | Value::Bool(_) | Value::Number(_) | Value::Array(_) | Value::Object(_) => {
-            Err(ReadFault::WrongShape { path: at })
+            Err(TemplateFault::WrongShape { path: at })
         }
     }
 }
 
-fn replace_named(alloc: Global, text: &str, at: Txt) -> Result<Replace, ReadFault>
+fn replace_named(alloc: Global, text: &str, at: Txt) -> Result<Replace, TemplateFault>
     ensures { Gives (replace_named text.now at) result }
 {
     match text {
         "Delete" => Ok(Replace::Delete),
         "Retain" => Ok(Replace::Retain),
-        "Snapshot" => Err(ReadFault::Unsupported {
+        "Snapshot" => Err(TemplateFault::Unsupported {
             path: at,
             name: Txt::from_str(alloc, text)?,
         }),
-        _ => Err(ReadFault::WrongShape { path: at }),
+        _ => Err(TemplateFault::WrongShape { path: at }),
     }
 }
 
@@ -261,7 +261,7 @@ fn optional_replace(
     object: &Value,
     name: &str,
     at: &Txt,
-) -> Result<Option<Replace>, ReadFault>
+) -> Result<Option<Replace>, TemplateFault>
     ensures { Gives (optional replace_of name.now (view object.now) at.now) result }
 {
     match object.get(name) {

@@ -1,5 +1,5 @@
 //! What a template holds once it is read.
-use crate::read_whole;
+use crate::read_template;
 use cf_tree::{
     CondNode, Deletion, Expr, ExprNode, Kind, Out, Param, Replace, Res, Template, Txt, Val,
 };
@@ -142,7 +142,7 @@ fn conditions_are_kept(rt: &impl Abort, template: &Template) {
 
 #[test]
 fn each_section_is_read(rt: HostRuntime) -> Result<(), Fail> {
-    match read_whole(rt.alloc(), WHOLE.as_bytes()) {
+    match read_template(rt.alloc(), WHOLE.as_bytes()) {
         Ok(template) => {
             sections_are_kept(&rt, &template);
             mappings_are_kept(&rt, &template);
@@ -212,7 +212,7 @@ fn each_form_of_a_value_is_read(rt: HostRuntime) -> Result<(), Fail> {
         let text = format!(in rt.alloc();
             "{{\"Parameters\":{{\"P\":{{\"Type\":\"String\"}}}},\"Resources\":{{\"A\":{{\"Type\":\"T\",\"Properties\":{{\"x\":{value}}}}}}}}}"
         )?;
-        match read_whole(rt.alloc(), text.as_bytes()) {
+        match read_template(rt.alloc(), text.as_bytes()) {
             Ok(template) => property_is(&rt, &template, wanted),
             Err(_) => assert!(rt; false, "{text}"),
         }

@@ -7,19 +7,19 @@ ghost use Rattle.cf_template.specs.Shapes.{has, items_from, optional, plain_text
 ghost use Rattle.cf_template.specs.Refusals.{Gives};
 
 use crate::path::{item_at, member_at};
-use crate::refusal::ReadFault;
+use crate::refusal::TemplateFault;
 use cf_tree::{Names, Txt};
 use serde_json::{Map, Value};
 use std::alloc::Global;
 
 /// A text of any kind.
-pub(crate) fn plain_text(alloc: Global, value: &Value, at: Txt) -> Result<Txt, ReadFault>
+pub(crate) fn plain_text(alloc: Global, value: &Value, at: Txt) -> Result<Txt, TemplateFault>
     ensures { Gives (plain_text (view value.now) at) result }
 {
     match value {
         Value::String(text) => Ok(Txt::from_str(alloc, text.as_str())?),
         Value::Null | Value::Bool(_) | Value::Number(_) | Value::Array(_) | Value::Object(_) => {
-            Err(ReadFault::WrongShape { path: at })
+            Err(TemplateFault::WrongShape { path: at })
         }
     }
 }
@@ -30,7 +30,7 @@ pub(crate) fn optional_text(
     object: &Value,
     name: &str,
     at: &Txt,
-) -> Result<Option<Txt>, ReadFault>
+) -> Result<Option<Txt>, TemplateFault>
     ensures { Gives (optional plain_text name.now (view object.now) at.now) result }
 {
     match object.get(name) {
@@ -48,7 +48,7 @@ pub(crate) fn required_text(
     object: &Value,
     name: &str,
     at: &Txt,
-) -> Result<Txt, ReadFault>
+) -> Result<Txt, TemplateFault>
     ensures { Gives (required plain_text name.now (view object.now) at.now) result }
 {
     match object.get(name) {
@@ -56,7 +56,7 @@ pub(crate) fn required_text(
             let place = member_at(alloc, at.as_str(), name)?;
             plain_text(alloc, value, place)
         }
-        None => Err(ReadFault::WrongShape {
+        None => Err(TemplateFault::WrongShape {
             path: at.try_clone(alloc)?,
         }),
     }
@@ -68,12 +68,12 @@ pub(crate) fn skip_object(
     object: &Value,
     name: &str,
     at: &Txt,
-) -> Result<Option<bool>, ReadFault>
+) -> Result<Option<bool>, TemplateFault>
     ensures { Gives (optional unread name.now (view object.now) at.now) result }
 {
     match object.get(name) {
         Some(Value::Object(_)) => Ok(Some(true)),
-        Some(_) => Err(ReadFault::WrongShape {
+        Some(_) => Err(TemplateFault::WrongShape {
             path: member_at(alloc, at.as_str(), name)?,
         }),
         None => Ok(None),
@@ -88,7 +88,11 @@ pub(crate) fn has(object: &Value, name: &str) -> bool
 }
 
 /// A list of texts of any kind.
-pub(crate) fn plain_texts(alloc: Global, items: &Vec<Value>, at: &Txt) -> Result<Names, ReadFault>
+pub(crate) fn plain_texts(
+    alloc: Global,
+    items: &Vec<Value>,
+    at: &Txt,
+) -> Result<Names, TemplateFault>
     ensures { Gives (items_from plain_text (items_view items.now.items) at.now 0 []) result }
 {
     let mut found = Names::new(alloc);

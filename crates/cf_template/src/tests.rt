@@ -1,4 +1,4 @@
-use crate::{SubFault, TemplateFault, read_template, sub_parts};
+use crate::{PlainFault, SubFault, read_plain, sub_parts};
 use cf_tree::{Part, Val};
 use std::alloc::Global;
 use std::test::Fail;
@@ -7,7 +7,7 @@ use std::test::Fail;
 fn a_file_resource_is_read(rt: HostRuntime) -> Result<(), Fail> {
     let text =
         "{\"Resources\":{\"Web\":{\"Type\":\"Local::Files::File\",\"Properties\":{\"Path\":\"web.txt\",\"Content\":\"hello\"}}}}";
-    let resources = read_template(rt.alloc(), text.as_bytes())
+    let resources = read_plain(rt.alloc(), text.as_bytes())
         .ok()
         .ok_or("a plain template")?;
     assert_eq!(rt; resources.len(), 1);
@@ -29,7 +29,7 @@ fn a_file_resource_is_read(rt: HostRuntime) -> Result<(), Fail> {
 fn resources_come_in_byte_order(rt: HostRuntime) -> Result<(), Fail> {
     let text =
         "{\"Resources\":{\"b\":{\"Type\":\"T\",\"Properties\":{}},\"B\":{\"Type\":\"T\",\"Properties\":{}},\"A1\":{\"Type\":\"T\",\"Properties\":{}}}}";
-    let resources = read_template(rt.alloc(), text.as_bytes())
+    let resources = read_plain(rt.alloc(), text.as_bytes())
         .ok()
         .ok_or("a plain template")?;
     let mut names = String::new(rt.alloc());
@@ -63,10 +63,10 @@ fn what_is_not_plain_is_refused(rt: HostRuntime) -> Result<(), Fail> {
         "{\"Resources\":{\"A\":{\"Type\":\"T\",\"Properties\":{\"Fn::Sub\":\"B\"}}}}",
         "{\"Resources\":{\"A\":{\"Type\":\"T\",\"Properties\":{\"P\":\"a{{resolve:ssm:b}}\"}}}}",
     ] {
-        let fault = read_template(rt.alloc(), text.as_bytes())
+        let fault = read_plain(rt.alloc(), text.as_bytes())
             .err()
             .ok_or("a refusal")?;
-        assert_eq!(rt; fault, TemplateFault::NotYet, "{text}");
+        assert_eq!(rt; fault, PlainFault::NotYet, "{text}");
         assert_eq!(rt; fault.number(), 13);
     }
     Ok(())
@@ -81,8 +81,8 @@ fn what_is_no_json_is_refused(rt: HostRuntime) -> Result<(), Fail> {
         &b"\"\xff\""[..],
         &b"1e999"[..],
     ] {
-        let fault = read_template(rt.alloc(), bytes).err().ok_or("a refusal")?;
-        assert_eq!(rt; fault, TemplateFault::NotJson);
+        let fault = read_plain(rt.alloc(), bytes).err().ok_or("a refusal")?;
+        assert_eq!(rt; fault, PlainFault::NotJson);
         assert_eq!(rt; fault.number(), 1);
     }
     Ok(())
@@ -95,12 +95,12 @@ fn a_text_may_be_1048576_bytes_long(rt: HostRuntime) -> Result<(), Fail> {
     for _ in text.len()..1_048_576 {
         text.push(' ')?;
     }
-    assert!(rt; read_template(rt.alloc(), text.as_bytes()).is_ok());
+    assert!(rt; read_plain(rt.alloc(), text.as_bytes()).is_ok());
     text.push(' ')?;
-    let fault = read_template(rt.alloc(), text.as_bytes())
+    let fault = read_plain(rt.alloc(), text.as_bytes())
         .err()
         .ok_or("a refusal")?;
-    assert_eq!(rt; fault, TemplateFault::NotYet);
+    assert_eq!(rt; fault, PlainFault::NotYet);
     Ok(())
 }
 

@@ -4,7 +4,7 @@ ghost use Rattle.serde_json.specs.View.{view, number_view, items_view, members_v
 ghost use Rattle.cf_template.specs.Walk.{Walks, is_allowed, item_region, items_fault, member_region, members_fault, number_fault, walk_fault};
 
 use crate::path::Path;
-use crate::refusal::ReadFault;
+use crate::refusal::TemplateFault;
 use serde_json::{Map, Number, Value};
 use std::alloc::Global;
 
@@ -77,11 +77,11 @@ pub(crate) fn walk(
     value: &Value,
     region: Region,
     path: &mut Path,
-) -> Result<(), ReadFault>
+) -> Result<(), TemplateFault>
     ensures { Walks (walk_fault (view value.now) region path.old) path.old path.new result }
 {
     match value {
-        Value::Null => Err(ReadFault::NullValue {
+        Value::Null => Err(TemplateFault::NullValue {
             path: path.to_txt(alloc)?,
         }),
         Value::Number(number) => walk_number(alloc, number, region, path),
@@ -96,13 +96,13 @@ fn walk_number(
     number: &Number,
     region: Region,
     path: &mut Path,
-) -> Result<(), ReadFault>
+) -> Result<(), TemplateFault>
     ensures { Walks (number_fault (number_view number.now) region path.old) path.old path.new result }
 {
     if region.allows(number) {
         Ok(())
     } else {
-        Err(ReadFault::BadNumber {
+        Err(TemplateFault::BadNumber {
             path: path.to_txt(alloc)?,
         })
     }
@@ -114,7 +114,7 @@ fn walk_items(
     items: &Vec<Value>,
     region: Region,
     path: &mut Path,
-) -> Result<(), ReadFault>
+) -> Result<(), TemplateFault>
     ensures { Walks (items_fault (items_view items.now.items) region path.old 0) path.old path.new result }
 {
     let mut index = 0;
@@ -133,7 +133,7 @@ fn walk_members(
     members: &Map<String, Value>,
     region: Region,
     path: &mut Path,
-) -> Result<(), ReadFault>
+) -> Result<(), TemplateFault>
     ensures { Walks (members_fault (members_view members.now.entries) region path.old) path.old path.new result }
 {
     for (name, member) in members.iter() {

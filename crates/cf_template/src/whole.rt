@@ -16,7 +16,7 @@ use crate::mapping::mappings;
 use crate::output::outputs;
 use crate::param::parameters;
 use crate::path::{Path, member_at};
-use crate::refusal::ReadFault;
+use crate::refusal::TemplateFault;
 use crate::resource::resources;
 use crate::shape::{optional_text, skip_object};
 use crate::value::{count_of, value_of};
@@ -36,11 +36,11 @@ const MOST_BYTES: usize = 1_048_576;
 /// what may stand nowhere in a template; `WrongShape` where it is no object; `Unsupported` and `UnknownSection` for its
 /// sections; `BadVersion`; then what stands in the sections, in the order Description, Metadata, Parameters, Mappings,
 /// Conditions, Resources, Outputs. `NoMemory` says nothing of the template.
-pub fn read_whole(alloc: Global, bytes: &[u8]) -> Result<Template, ReadFault>
+pub fn read_template(alloc: Global, bytes: &[u8]) -> Result<Template, TemplateFault>
     ensures { Gives (template_of bytes.now) result }
 {
     if bytes.len() > MOST_BYTES {
-        return Err(ReadFault::TooLong {
+        return Err(TemplateFault::TooLong {
             length: bytes.len() as u64,
         });
     }
@@ -48,7 +48,7 @@ pub fn read_whole(alloc: Global, bytes: &[u8]) -> Result<Template, ReadFault>
     template(alloc, &value)
 }
 
-fn template(alloc: Global, value: &Value) -> Result<Template, ReadFault>
+fn template(alloc: Global, value: &Value) -> Result<Template, TemplateFault>
     ensures { Gives (value_template (Some (view value.now))) result }
 {
     let mut path = Path::root(alloc);
@@ -56,11 +56,11 @@ fn template(alloc: Global, value: &Value) -> Result<Template, ReadFault>
     root(alloc, value)
 }
 
-fn root(alloc: Global, value: &Value) -> Result<Template, ReadFault>
+fn root(alloc: Global, value: &Value) -> Result<Template, TemplateFault>
     ensures { Gives (template_from (view value.now)) result }
 {
     let Value::Object(members) = value else {
-        return Err(ReadFault::WrongShape {
+        return Err(TemplateFault::WrongShape {
             path: Txt::from_str(alloc, "")?,
         });
     };
@@ -68,12 +68,12 @@ fn root(alloc: Global, value: &Value) -> Result<Template, ReadFault>
     if has_version(value) {
         sections(alloc, value)
     } else {
-        Err(ReadFault::BadVersion)
+        Err(TemplateFault::BadVersion)
     }
 }
 
 /// Refuses the first section that a template may not have.
-fn test_sections(alloc: Global, members: &Map<String, Value>) -> Result<(), ReadFault>
+fn test_sections(alloc: Global, members: &Map<String, Value>) -> Result<(), TemplateFault>
     ensures { Finds (sections_fault (members_view members.now.entries)) result }
 {
     for (name, _) in members.iter() {
@@ -82,18 +82,18 @@ fn test_sections(alloc: Global, members: &Map<String, Value>) -> Result<(), Read
     Ok(())
 }
 
-fn test_section(alloc: Global, name: &str) -> Result<(), ReadFault>
+fn test_section(alloc: Global, name: &str) -> Result<(), TemplateFault>
     ensures { Finds (section_fault name.now) result }
 {
     if is_section(name) {
         Ok(())
     } else if is_untaken_section(name) {
-        Err(ReadFault::Unsupported {
+        Err(TemplateFault::Unsupported {
             path: member_at(alloc, "", name)?,
             name: Txt::from_str(alloc, name)?,
         })
     } else {
-        Err(ReadFault::UnknownSection {
+        Err(TemplateFault::UnknownSection {
             name: Txt::from_str(alloc, name)?,
         })
     }
@@ -133,7 +133,7 @@ fn has_version(root: &Value) -> bool
 }
 
 /// The description, which the template keeps in its bytes alone.
-fn description(alloc: Global, root: &Value) -> Result<Option<Txt>, ReadFault>
+fn description(alloc: Global, root: &Value) -> Result<Option<Txt>, TemplateFault>
     ensures { Gives (optional plain_text (codes "Description") (view root.now) []) result }
 {
     let at = Txt::from_str(alloc, "")?;
@@ -141,14 +141,14 @@ fn description(alloc: Global, root: &Value) -> Result<Option<Txt>, ReadFault>
 }
 
 /// The metadata, which the template keeps in its bytes alone.
-fn metadata(alloc: Global, root: &Value) -> Result<Option<bool>, ReadFault>
+fn metadata(alloc: Global, root: &Value) -> Result<Option<bool>, TemplateFault>
     ensures { Gives (optional unread (codes "Metadata") (view root.now) []) result }
 {
     let at = Txt::from_str(alloc, "")?;
     skip_object(alloc, root, "Metadata", &at)
 }
 
-fn sections(alloc: Global, root: &Value) -> Result<Template, ReadFault>
+fn sections(alloc: Global, root: &Value) -> Result<Template, TemplateFault>
     ensures { Gives (sections_of (view root.now)) result }
 {
     description(alloc, root)?;
@@ -168,13 +168,13 @@ fn sections(alloc: Global, root: &Value) -> Result<Template, ReadFault>
 }
 
 /// Refuses a section that has too many members.
-fn test_count(alloc: Global, name: &str, count: usize, most: usize) -> Result<(), ReadFault>
+fn test_count(alloc: Global, name: &str, count: usize, most: usize) -> Result<(), TemplateFault>
     ensures { Finds (count_fault name.now most count) result }
 {
     if count <= most {
         Ok(())
     } else {
-        Err(ReadFault::TooMany {
+        Err(TemplateFault::TooMany {
             what: Txt::from_str(alloc, name)?,
             count: count as u64,
         })
@@ -182,19 +182,19 @@ fn test_count(alloc: Global, name: &str, count: usize, most: usize) -> Result<()
 }
 
 /// Refuses a section that has no member.
-fn test_some(alloc: Global, name: &str, count: usize) -> Result<(), ReadFault>
+fn test_some(alloc: Global, name: &str, count: usize) -> Result<(), TemplateFault>
     ensures { Finds (empty_fault name.now count) result }
 {
     if count > 0 {
         Ok(())
     } else {
-        Err(ReadFault::WrongShape {
+        Err(TemplateFault::WrongShape {
             path: member_at(alloc, "", name)?,
         })
     }
 }
 
-fn parameter_section(alloc: Global, root: &Value) -> Result<Params, ReadFault>
+fn parameter_section(alloc: Global, root: &Value) -> Result<Params, TemplateFault>
     ensures { Gives (section params_in 200 (codes "Parameters") (get (codes "Parameters") (view root.now))) result }
 {
     match root.get("Parameters") {
@@ -203,18 +203,18 @@ fn parameter_section(alloc: Global, root: &Value) -> Result<Params, ReadFault>
     }
 }
 
-fn present_parameters(alloc: Global, value: &Value) -> Result<Params, ReadFault>
+fn present_parameters(alloc: Global, value: &Value) -> Result<Params, TemplateFault>
     ensures { Gives (section params_in 200 (codes "Parameters") (Some (view value.now))) result }
 {
     let place = member_at(alloc, "", "Parameters")?;
     let Value::Object(members) = value else {
-        return Err(ReadFault::WrongShape { path: place });
+        return Err(TemplateFault::WrongShape { path: place });
     };
     test_count(alloc, "Parameters", count_of(members), 200)?;
     parameters(alloc, members, &place)
 }
 
-fn mapping_section(alloc: Global, root: &Value) -> Result<Mappings, ReadFault>
+fn mapping_section(alloc: Global, root: &Value) -> Result<Mappings, TemplateFault>
     ensures { Gives (section mappings_in 200 (codes "Mappings") (get (codes "Mappings") (view root.now))) result }
 {
     match root.get("Mappings") {
@@ -223,18 +223,22 @@ fn mapping_section(alloc: Global, root: &Value) -> Result<Mappings, ReadFault>
     }
 }
 
-fn present_mappings(alloc: Global, value: &Value) -> Result<Mappings, ReadFault>
+fn present_mappings(alloc: Global, value: &Value) -> Result<Mappings, TemplateFault>
     ensures { Gives (section mappings_in 200 (codes "Mappings") (Some (view value.now))) result }
 {
     let place = member_at(alloc, "", "Mappings")?;
     let Value::Object(members) = value else {
-        return Err(ReadFault::WrongShape { path: place });
+        return Err(TemplateFault::WrongShape { path: place });
     };
     test_count(alloc, "Mappings", count_of(members), 200)?;
     mappings(alloc, members, &place)
 }
 
-fn condition_section(alloc: Global, params: &Params, root: &Value) -> Result<NamedConds, ReadFault>
+fn condition_section(
+    alloc: Global,
+    params: &Params,
+    root: &Value,
+) -> Result<NamedConds, TemplateFault>
     ensures { Gives (free_section (conds_in params.now) (codes "Conditions") (get (codes "Conditions") (view root.now))) result }
 {
     match root.get("Conditions") {
@@ -247,40 +251,48 @@ fn present_conditions(
     alloc: Global,
     params: &Params,
     value: &Value,
-) -> Result<NamedConds, ReadFault>
+) -> Result<NamedConds, TemplateFault>
     ensures { Gives (free_section (conds_in params.now) (codes "Conditions") (Some (view value.now))) result }
 {
     let place = member_at(alloc, "", "Conditions")?;
     let Value::Object(members) = value else {
-        return Err(ReadFault::WrongShape { path: place });
+        return Err(TemplateFault::WrongShape { path: place });
     };
     conditions(alloc, params, members, &place)
 }
 
-fn resource_section(alloc: Global, params: &Params, root: &Value) -> Result<Resources, ReadFault>
+fn resource_section(
+    alloc: Global,
+    params: &Params,
+    root: &Value,
+) -> Result<Resources, TemplateFault>
     ensures { Gives (required_section (resources_in params.now) 500 (codes "Resources") (get (codes "Resources") (view root.now))) result }
 {
     match root.get("Resources") {
         Some(value) => present_resources(alloc, params, value),
-        None => Err(ReadFault::WrongShape {
+        None => Err(TemplateFault::WrongShape {
             path: member_at(alloc, "", "Resources")?,
         }),
     }
 }
 
-fn present_resources(alloc: Global, params: &Params, value: &Value) -> Result<Resources, ReadFault>
+fn present_resources(
+    alloc: Global,
+    params: &Params,
+    value: &Value,
+) -> Result<Resources, TemplateFault>
     ensures { Gives (required_section (resources_in params.now) 500 (codes "Resources") (Some (view value.now))) result }
 {
     let place = member_at(alloc, "", "Resources")?;
     let Value::Object(members) = value else {
-        return Err(ReadFault::WrongShape { path: place });
+        return Err(TemplateFault::WrongShape { path: place });
     };
     test_some(alloc, "Resources", count_of(members))?;
     test_count(alloc, "Resources", count_of(members), 500)?;
     resources(alloc, params, members, &place)
 }
 
-fn output_section(alloc: Global, params: &Params, root: &Value) -> Result<Outs, ReadFault>
+fn output_section(alloc: Global, params: &Params, root: &Value) -> Result<Outs, TemplateFault>
     ensures { Gives (section (outputs_in params.now) 200 (codes "Outputs") (get (codes "Outputs") (view root.now))) result }
 {
     match root.get("Outputs") {
@@ -289,12 +301,12 @@ fn output_section(alloc: Global, params: &Params, root: &Value) -> Result<Outs, 
     }
 }
 
-fn present_outputs(alloc: Global, params: &Params, value: &Value) -> Result<Outs, ReadFault>
+fn present_outputs(alloc: Global, params: &Params, value: &Value) -> Result<Outs, TemplateFault>
     ensures { Gives (section (outputs_in params.now) 200 (codes "Outputs") (Some (view value.now))) result }
 {
     let place = member_at(alloc, "", "Outputs")?;
     let Value::Object(members) = value else {
-        return Err(ReadFault::WrongShape { path: place });
+        return Err(TemplateFault::WrongShape { path: place });
     };
     test_count(alloc, "Outputs", count_of(members), 200)?;
     outputs(alloc, params, members, &place)

@@ -1,4 +1,4 @@
--- The two types whose handlers are shipped (this project's own, in the form of the CloudFormation CLI's resource type schema).
+-- The schemas of the two types whose handlers are shipped (this project's own, in the form of the CloudFormation CLI's resource type schema). Properties stand in the order of bytes.
 use Rattle.std.specs.Prelude.{[], ◌∷◌, codes}
 use Rattle.cf_schema.specs.declared.described.Schema.{Schema}
 
@@ -6,7 +6,7 @@ use Rattle.cf_schema.specs.declared.described.Schema.{Schema}
 abbrev pub file_schema : Schema
 file_schema = record {
   kind = codes "Local::Files::File";
-  props = codes "Path" ∷ codes "Content" ∷ codes "Id" ∷ codes "Length" ∷ [];
+  props = codes "Content" ∷ codes "Id" ∷ codes "Length" ∷ codes "Path" ∷ [];
   required = codes "Path" ∷ codes "Content" ∷ [];
   create_only = codes "Path" ∷ [];
   conditional = [];
@@ -18,7 +18,7 @@ file_schema = record {
 abbrev pub record_schema : Schema
 record_schema = record {
   kind = codes "Local::Records::Record";
-  props = codes "Key" ∷ codes "Value" ∷ codes "Class" ∷ codes "Id" ∷ codes "Length" ∷ [];
+  props = codes "Class" ∷ codes "Id" ∷ codes "Key" ∷ codes "Length" ∷ codes "Value" ∷ [];
   required = codes "Key" ∷ codes "Value" ∷ [];
   create_only = codes "Key" ∷ [];
   conditional = codes "Class" ∷ [];
