@@ -9,32 +9,33 @@ use Rattle.cf_engine.specs.Book.{Holds, HaltsAt}
 use Rattle.cf_engine.specs.Calls.{AreCalled}
 use Rattle.cf_engine.specs.Lanes.{Told}
 use Rattle.cf_engine.specs.declared.course.RunEnd.{RunEnd}
-use Rattle.cf_engine.specs.Written.{calls_written, due_after, run_written, ending}
+use Rattle.cf_engine.specs.Written.{calls_written, due_after, run_written, ending, IsNearlyAll}
 use Rattle.cf_engine.specs.Run.{Scene, HasNoRoom, HasHaltCause, RunTells, IsCut}
 use Rattle.cf_engine.specs.Make.{CompleteTells, MakeTells}
-use Rattle.cf_engine.proofs.Moved.{same_later}
+use Rattle.cf_engine.proofs.Moved.{same_later, all_before}
 use Rattle.cf_engine.proofs.Written.{none_called, due_end}
-use Rattle.cf_engine.proofs.Cut.{nearly_one, cut_at, halts_since}
+use Rattle.cf_engine.proofs.Cut.{nearly_due, cut_at, halts_since}
 
 -- a run that made all, and its end
 pub ended_all : (s : Scene) (es : List Entry) (number token : ℕ) (rs : List Planned) → RunTells (record s { entries' = es }) number token rs run.Done → s.entries' ≡ es ++ ending number ∷ [] → CompleteTells s number token rs run.Done
 ended_all s es number token rs t e =
     let cw : List Entry = calls_written number token s.names s.kinds rs t.0 in
-    let last : ending number ≡ due_after number token s.names s.kinds rs t.0 = sym (due_end number token s.names s.kinds rs t.0 (omega (arith, t.1))) in (
+    let last : ending number ∷ [] ≡ due_after number token s.names s.kinds rs t.0 = sym (due_end number token s.names s.kinds rs t.0 t.2 t.1) in (
       t.0,
       t.1,
       t.2,
       t.3,
-      e ∙ ap (λ (l : List Entry). l ++ ending number ∷ []) t.4 ∙ append_assoc s.entries cw (ending number ∷ []) ∙ ap (λ (x : Entry). s.entries ++ (cw ++ x ∷ [])) last,
+      e ∙ ap (λ (l : List Entry). l ++ ending number ∷ []) t.4 ∙ append_assoc s.entries cw (ending number ∷ []) ∙ ap (λ (l : List Entry). s.entries ++ (cw ++ l)) last,
     )
 
 -- a run that made all, and halted at its end
 pub ended_cut : (s : Scene) (es : List Entry) (room_now faults_now number token : ℕ) (rs : List Planned) (h : Halt) → RunTells (record s { entries' = es }) number token rs run.Done → room_now ≡ s.room → s.faults ≤ faults_now → HaltsAt s.tells s.bytes' room_now faults_now s.faults' es (ending number) h → IsCut s [] number token rs h
 ended_cut s es room_now faults_now number token rs h t m k d =
     let cw : List Entry = calls_written number token s.names s.kinds rs t.0 in
-    cut_at s [] number token rs h t.0 s.counts' cw (ending number) [] es t.3 (same_later s.counts' s.counts' refl)
-    (ap (λ (x : Entry). cw ++ x ∷ []) (due_end number token s.names s.kinds rs t.0 (omega (arith, t.1))))
-    (nearly_one t.0 (ending number)) t.4
+    let due : due_after number token s.names s.kinds rs t.0 ≡ ending number ∷ [] = due_end number token s.names s.kinds rs t.0 t.2 t.1 in
+    cut_at s [] number token rs h t.0 s.counts' cw (ending number) [] es t.3 (all_before t.0 t.2) (same_later s.counts' s.counts' refl)
+    (ap (λ (l : List Entry). cw ++ l) due)
+    (subst (λ (l : List Entry). IsNearlyAll t.0 l (ending number ∷ [])) (sym due) (nearly_due t.0 (ending number ∷ []))) t.4
     (halts_since s.tells s.bytes' s.room s.faults faults_now s.faults' es (ending number) h k (subst (λ (x : ℕ). HaltsAt s.tells s.bytes' x faults_now s.faults' es (ending number) h) m d))
 
 -- a run that halted at the entry before it
@@ -42,7 +43,7 @@ pub cut_first : (s : Scene) (begin : Entry) (firsts : List Entry) (number token 
 cut_first s begin firsts number token rs h t n d =
     cut_at s (begin ∷ firsts) number token rs h [] s.counts [] begin (firsts ++ run_written number token s.names s.kinds rs []) s.entries
     (subst (λ (x : Told). AreCalled s.names s.kinds s.told x s.counts s.counts token rs []) (sym t) (none_called s.names s.kinds s.told s.counts token rs))
-    (same_later s.counts s.counts' n) refl tt (sym (append-nil s.entries)) d
+    tt (same_later s.counts s.counts' n) refl tt (sym (append-nil s.entries)) d
 
 room_same : (s : Scene) (es : List Entry) (room_now faults_now : ℕ) (missing : List Entry) (long need r : ℕ) → room_now ≡ s.room → HasNoRoom (record s { entries = es; room = room_now; faults = faults_now }) missing long need r → HasNoRoom s missing long need r
 room_same s es room_now faults_now [] long need r e t = t
@@ -61,6 +62,7 @@ cut_behind s x es firsts room_now faults_now number token rs h e m k t = record 
   missing = t.missing;
   counted = t.counted;
   called = t.called;
+  before = t.before;
   later = t.later;
   whole = ap (λ (l : List Entry). x ∷ l) t.whole;
   nearly = t.nearly;

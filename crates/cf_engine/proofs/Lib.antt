@@ -1,6 +1,14 @@
 pub mod Texts
+pub mod Given
+pub mod Standing
+pub mod Plans
+pub mod Sure
+pub mod Bindings
+pub mod Anys
+pub mod Fetched
 pub mod Spaced
 pub mod Lanes
+pub mod FirstOf
 pub mod Runs
 pub mod Moved
 pub mod Written

@@ -11,7 +11,7 @@ use Rattle.cf_handler.specs.Move.{CallTells, HasCause, HasRisen}
 use Rattle.cf_engine.specs.declared.cause.Reason.{Reason}
 use Rattle.cf_engine.specs.Lanes.{Told, lane_for, AreLater, RoseAt}
 use Rattle.cf_engine.specs.Written.{Call}
-use Rattle.cf_engine.specs.Calls.{answer_as, reason_of, MovesAt, IsCalled, AreCalled, IsMade, AreMade, FailsLast}
+use Rattle.cf_engine.specs.Calls.{answer_as, reason_of, MovesAt, IsCalled, AreCalled, IsMade, AreMade, AreMadeBefore, FailsLast}
 use Rattle.cf_engine.proofs.Lanes.{read_at, now_at, later_at}
 use Rattle.cf_engine.proofs.Runs.{later_both}
 
@@ -61,3 +61,19 @@ pub last_fails : (cs : List Call) (c : Call) (why : Reason) → AreMade cs → r
 last_fails [] c why f e = e
 last_fails (d ∷ []) c why f e = (f.0, e)
 last_fails (d ∷ x ∷ cs) c why f e = (f.0, last_fails (x ∷ cs) c why f.1 e)
+
+-- successes, and one call more
+pub made_before : (cs : List Call) (c : Call) → AreMade cs → AreMadeBefore (cs ++ c ∷ [])
+made_before [] c m = tt
+made_before (d ∷ []) c m = (m.0, tt)
+made_before (d ∷ x ∷ cs) c m = (m.0, made_before (x ∷ cs) c m.1)
+
+pub all_before : (cs : List Call) → AreMade cs → AreMadeBefore cs
+all_before [] m = tt
+all_before (c ∷ []) m = tt
+all_before (c ∷ d ∷ cs) m = (m.0, all_before (d ∷ cs) m.1)
+
+pub fails_before : (why : Reason) (cs : List Call) → FailsLast why cs → AreMadeBefore cs
+fails_before why [] m = tt
+fails_before why (c ∷ []) m = tt
+fails_before why (c ∷ d ∷ cs) m = (m.0, fails_before why (d ∷ cs) m.1)

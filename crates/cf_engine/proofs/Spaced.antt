@@ -19,3 +19,13 @@ pub three_words : (old first second third : List ℕ)
     → ((old ++ 32 ∷ first) ++ 32 ∷ second) ++ 32 ∷ third ≡ old ++ spaced (first ∷ second ∷ third ∷ [])
 three_words old first second third =
     two_words (old ++ 32 ∷ first) second third ∙ next_word old first (second ∷ third ∷ [])
+
+-- four words
+pub four_words : (old first second third fourth : List ℕ)
+    → (((old ++ 32 ∷ first) ++ 32 ∷ second) ++ 32 ∷ third) ++ 32 ∷ fourth ≡ old ++ spaced (first ∷ second ∷ third ∷ fourth ∷ [])
+four_words old first second third fourth =
+    three_words (old ++ 32 ∷ first) second third fourth ∙ next_word old first (second ∷ third ∷ fourth ∷ [])
+
+-- four texts, one after another
+pub four_parts : (a b c d : List ℕ) → ((a ++ b) ++ c) ++ d ≡ a ++ (b ++ (c ++ d))
+four_parts a b c d = append_assoc (a ++ b) c d ∙ append_assoc a b (c ++ d)

@@ -1,10 +1,12 @@
 -- What a run of creations has written, one call after another.
-use Rattle.std.proofs.Common.{◌≡◌, ℕ, ◌+◌, ◌<◌, ◌≤◌, List, [], ◌∷◌, ◌++◌, length, get_or, refl, sym, ap, ◌∙◌, subst, arith, add-zero, append_assoc, append-nil, length-append}
+use Rattle.std.proofs.Common.{◌≡◌, ℕ, ◌+◌, ◌<◌, List, [], ◌∷◌, ◌++◌, length, get_or, refl, sym, ap, ◌∙◌, subst, arith, add-zero, append_assoc, append-nil, length-append}
 use Rattle.cf_tree.specs.declared.planned.Planned.{Planned}
 use Rattle.cf_entry.specs.declared.entry.Entry.{Entry}
+use Rattle.cf_entry.specs.declared.entry.Reply.{Reply}
+use Rattle.cf_entry.specs.declared.entry.Reply.TheVariants as reply
 use Rattle.cf_engine.specs.Lanes.{Told, lane_for}
-use Rattle.cf_engine.specs.Written.{Call, intent_of, outcome_of, name_for, calls_written, due_after, ending}
-use Rattle.cf_engine.specs.Calls.{IsCalled, AreCalled, AreMade}
+use Rattle.cf_engine.specs.Written.{Call, intent_of, outcome_of, name_for, calls_written, if_made, due_after, ending}
+use Rattle.cf_engine.specs.Calls.{reason_of, IsCalled, AreCalled, IsMade, AreMade}
 use Rattle.cf_engine.specs.declared.course.Step.{Step}
 use Rattle.cf_engine.specs.declared.course.Step.TheVariants as step
 use Rattle.cf_engine.specs.Run.{Scene, StepTells}
@@ -27,20 +29,28 @@ written_more number token names kinds (q ∷ rs) (d ∷ cs) r c h e =
     (written_more number (token + 1) names kinds rs cs r c (omega (arith, h)) e
     ∙ ap (λ (t : ℕ). calls_written number (token + 1) names kinds rs cs ++ intent_of number t (name_for names kinds r.kind) r ∷ outcome_of number t c ∷ []) same)
 
--- the intent of the next resource is due, or the end
-pub due_here : (number token : ℕ) (names kinds : List (List ℕ)) (rs : List Planned) (cs : List Call) (r : Planned) → length cs < length rs → r ≡ get_or rs (length cs) r → due_after number token names kinds rs cs ≡ intent_of number (token + length cs) (name_for names kinds r.kind) r
-due_here number token names kinds [] cs r h e = absurd (omega (arith, h))
-due_here number token names kinds (q ∷ rs) [] r h e =
-    ap (λ (x : Planned). intent_of number token (name_for names kinds x.kind) x) (sym e)
-    ∙ ap (λ (t : ℕ). intent_of number t (name_for names kinds r.kind) r) (sym (add-zero token))
-due_here number token names kinds (q ∷ rs) (d ∷ cs) r h e =
-    let same : token + 1 + length cs ≡ token + length (d ∷ cs) = omega arith in
-    due_here number (token + 1) names kinds rs cs r (omega (arith, h)) e ∙ ap (λ (t : ℕ). intent_of number t (name_for names kinds r.kind) r) same
+-- behind a success the rest is due
+due_behind : (a : Reply) (es : List Entry) → IsMade (reason_of a) → if_made a es ≡ es
+due_behind (reply.Success physical attrs) es m = refl
+due_behind (reply.Failed code) es m = absurd m
+due_behind reply.Doubt es m = absurd m
 
-pub due_end : (number token : ℕ) (names kinds : List (List ℕ)) (rs : List Planned) (cs : List Call) → length rs ≤ length cs → due_after number token names kinds rs cs ≡ ending number
-due_end number token names kinds [] cs h = refl
-due_end number token names kinds (q ∷ rs) [] h = absurd (omega (arith, h))
-due_end number token names kinds (q ∷ rs) (d ∷ cs) h = due_end number (token + 1) names kinds rs cs (omega (arith, h))
+-- behind successes the intent of the next resource is due, or the end
+pub due_here : (number token : ℕ) (names kinds : List (List ℕ)) (rs : List Planned) (cs : List Call) (r : Planned) → AreMade cs → length cs < length rs → r ≡ get_or rs (length cs) r → due_after number token names kinds rs cs ≡ intent_of number (token + length cs) (name_for names kinds r.kind) r ∷ []
+due_here number token names kinds [] cs r m h e = absurd (omega (arith, h))
+due_here number token names kinds (q ∷ rs) [] r m h e =
+    ap (λ (x : Planned). intent_of number token (name_for names kinds x.kind) x ∷ []) (sym e)
+    ∙ ap (λ (t : ℕ). intent_of number t (name_for names kinds r.kind) r ∷ []) (sym (add-zero token))
+due_here number token names kinds (q ∷ rs) (d ∷ cs) r m h e =
+    let same : token + 1 + length cs ≡ token + length (d ∷ cs) = omega arith in
+    due_behind d.reply (due_after number (token + 1) names kinds rs cs) m.0
+    ∙ due_here number (token + 1) names kinds rs cs r m.1 (omega (arith, h)) e ∙ ap (λ (t : ℕ). intent_of number t (name_for names kinds r.kind) r ∷ []) same
+
+pub due_end : (number token : ℕ) (names kinds : List (List ℕ)) (rs : List Planned) (cs : List Call) → AreMade cs → length cs ≡ length rs → due_after number token names kinds rs cs ≡ ending number ∷ []
+due_end number token names kinds [] cs m h = refl
+due_end number token names kinds (q ∷ rs) [] m h = absurd (omega (arith, h))
+due_end number token names kinds (q ∷ rs) (d ∷ cs) m h =
+    due_behind d.reply (due_after number (token + 1) names kinds rs cs) m.0 ∙ due_end number (token + 1) names kinds rs cs m.1 (omega (arith, h))
 
 pub none_called : (names kinds : List (List ℕ)) (t : Told) (n : List ℕ) (token : ℕ) (rs : List Planned) → AreCalled names kinds t t n n token rs []
 none_called names kinds t n token [] = (refl, refl)

@@ -7,8 +7,9 @@ use Rattle.cf_io.specs.Counts.{HasRisen}
 use Rattle.cf_io.specs.Library.{Texts, text_at}
 use Rattle.cf_disk.specs.Disk.{HasRisen as IsRisen}
 use Rattle.cf_engine.specs.declared.cause.Cause.{Cause}
+use Rattle.cf_engine.specs.declared.words.Choice.{Choice}
 use Rattle.cf_engine.specs.declared.words.Command.{Command}
-use Rattle.cf_engine.specs.declared.words.Command.TheVariants.{Deploy, Describe}
+use Rattle.cf_engine.specs.declared.words.Command.TheVariants.{Deploy, Describe, Validate}
 use Rattle.cf_engine.specs.declared.exit.Exit.{Exit}
 use Rattle.cf_engine.specs.declared.exit.Exit.TheVariants as exit
 use Rattle.cf_engine.specs.declared.exit.Refusal.{Refusal}
@@ -19,11 +20,11 @@ use Rattle.cf_engine.specs.Exit.{exit_line}
 use Rattle.cf_engine.specs.Lanes.{AreFresh, AreLater, RoseAt}
 use Rattle.cf_engine.specs.Refusals.{refusal_of}
 use Rattle.cf_engine.specs.Book.{Holds}
-use Rattle.cf_engine.specs.Written.{Call, opening, run_written, next_of, IsNearlyAll}
-use Rattle.cf_engine.specs.Calls.{AreCalled}
+use Rattle.cf_engine.specs.Written.{Call, opening, due_after, run_written, next_of, IsNearlyAll}
+use Rattle.cf_engine.specs.Calls.{AreCalled, AreMadeBefore}
 use Rattle.cf_engine.specs.Deployment.{IsFound, IsDeployed, HasStopped, beginning_in}
-use Rattle.cf_engine.specs.Opening.{twice, missing, HasOpenCause}
-use Rattle.cf_engine.specs.Meeting.{Meeting, AreQuiet, opened, RunsAs}
+use Rattle.cf_engine.specs.Opening.{twice, missing}
+use Rattle.cf_engine.specs.Meeting.{Meeting, AreQuiet, IsKept, opened, RunsAs}
 use Rattle.cf_engine.specs.Telling.{stack_report, text_of, exit_of}
 use Rattle.cf_engine.specs.Print.{PrintTells}
 use Rattle.cf_engine.specs.Alive.{AreLive, AreLiveAtLeast}
@@ -35,13 +36,14 @@ pub record Printing : Type 0 where
   pub faults : ℕ
   pub faults' : ℕ
 
--- the stack and the template that the words say to deploy, if that is what they say
-abbrev pub deploy_in : Option Command → Option (List ℕ × List ℕ)
-deploy_in (Some (Deploy stack template)) = Some (stack, template)
+-- the stack that the words say to deploy and from what, if that is what they say
+abbrev pub deploy_in : Option Command → Option (List ℕ × Choice)
+deploy_in (Some (Deploy stack template given)) = Some (stack, record { template = template; given = given })
 deploy_in (Some (Describe stack)) = None
+deploy_in (Some (Validate template)) = None
 deploy_in None = None
 
-abbrev pub deploy_words : List (List ℕ) → Option (List ℕ × List ℕ)
+abbrev pub deploy_words : List (List ℕ) → Option (List ℕ × Choice)
 deploy_words words = deploy_in (command_of words)
 
 -- nothing was changed outside
@@ -53,7 +55,7 @@ abbrev pub Comes : Meeting → List (List ℕ) → List ℕ → Result Stack Exi
 Comes m words stack outcome =
     ((outcome ≡ Err exit.BadWords) × (deploy_words words ≡ None) × Untouched m)
     ⊎ (((outcome ≡ Err exit.NoMemory) × Untouched m)
-    ⊎ ((template : List ℕ) × (deploy_words words ≡ Some (stack, template)) × RunsAs m stack template outcome))
+    ⊎ ((choice : Choice) × (deploy_words words ≡ Some (stack, choice)) × RunsAs m stack choice outcome))
 
 -- all of it: the words come to something, and that is printed and answered
 abbrev pub AloneTells : Meeting → Printing → List (List ℕ) → Exit → Type 0
@@ -64,8 +66,8 @@ AloneTells m p words result =
 -- The resources of the template were made, one call each; the journal has the whole list of entries of that run behind those that it had, and what was printed is the stack that they leave, each resource under the id that was answered. Where no token from the next one on was settled in the lanes, each is live with just its type and properties, and nothing else became live.
 pub record IsMade (m : Meeting) (p : Printing) (words : List (List ℕ)) : Type 0 where
   pub name : List ℕ
-  pub template : List ℕ
-  pub said : deploy_words words ≡ Some (name, template)
+  pub choice : Choice
+  pub said : deploy_words words ≡ Some (name, choice)
   pub old : List Entry
   pub now : List Entry
   pub faults : ℕ
@@ -75,16 +77,16 @@ pub record IsMade (m : Meeting) (p : Printing) (words : List (List ℕ)) : Type 
   pub bytes : List ℕ
   pub resources : List Planned
   pub stack : Stack
-  pub found : IsFound m.shelf (opened m old faults now) name template bytes resources
-  pub deployed : IsDeployed (opened m old faults now) name template bytes resources stack
+  pub found : IsFound m.shelf (opened m old faults now) name choice bytes resources
+  pub deployed : IsDeployed (opened m old faults now) name choice bytes resources stack
   pub live : AreFresh (next_of Tokens old) m.told → AreLive m.kinds m.told m.told' resources deployed.calls
   pub printed : Appends p.held p.held' (stack_report name stack)
 
 -- The one resource named was refused or broke off by the last call, and its lane's count rose; those before it were made, and the operation is in progress.
 pub record HasFailed (m : Meeting) (p : Printing) (words : List (List ℕ)) (why : Cause) : Type 0 where
   pub name : List ℕ
-  pub template : List ℕ
-  pub said : deploy_words words ≡ Some (name, template)
+  pub choice : Choice
+  pub said : deploy_words words ≡ Some (name, choice)
   pub old : List Entry
   pub now : List Entry
   pub faults : ℕ
@@ -93,17 +95,17 @@ pub record HasFailed (m : Meeting) (p : Printing) (words : List (List ℕ)) (why
   pub present : missing m.names m.kinds old ≡ None
   pub bytes : List ℕ
   pub resources : List Planned
-  pub found : IsFound m.shelf (opened m old faults now) name template bytes resources
-  pub stopped : HasStopped (opened m old faults now) name template bytes resources why
+  pub found : IsFound m.shelf (opened m old faults now) name choice bytes resources
+  pub stopped : HasStopped (opened m old faults now) name choice bytes resources why
   pub live : AreFresh (next_of Tokens old) m.told → AreLiveAtLeast m.kinds m.told m.told' resources stopped.calls
   pub printed : Appends p.held p.held' (exit_line (exit.Unrolled why))
 
 -- a deployment ended so, and its exit was printed
 pub record HasEnded (m : Meeting) (p : Printing) (words : List (List ℕ)) (e : Exit) : Type 0 where
   pub name : List ℕ
-  pub template : List ℕ
-  pub said : deploy_words words ≡ Some (name, template)
-  pub ran : RunsAs m name template (Err e)
+  pub choice : Choice
+  pub said : deploy_words words ≡ Some (name, choice)
+  pub ran : RunsAs m name choice (Err e)
   pub printed : Appends p.held p.held' (exit_line e)
 
 -- the words come to something, of which a prefix was printed
@@ -129,7 +131,6 @@ Says m p words (exit.LaneTwice name) = HasEnded m p words (exit.LaneTwice name)
 Says m p words (exit.Full long need room) = HasEnded m p words (exit.Full long need room)
 Says m p words exit.SinkFault = HasRisen p.faults p.faults' × IsCutShort m p words
 Says m p words exit.NoMemory = IsCutShort m p words
-Says m p words _ = ⊥
 
 -- the answer is one of these
 abbrev pub IsOneOf : Exit → List Exit → Type 0
@@ -153,9 +154,22 @@ IsRefusal (exit.LaneTwice name) = ⊤
 IsRefusal (exit.Full length need room) = ⊤
 IsRefusal _ = ⊥
 
--- The entries after the run are the old ones and then the first of those that the run's calls make: the opening, the beginning, an intent and an outcome for each call, and what is due then, the next intent or the end. The intent of each call made is there, and the outcome of each but the last.
-pub record HasJournal (m : Meeting) (name template : List ℕ) : Type 0 where
+-- the lanes' names differ, and none that the entries need is missing
+abbrev pub MayOpen : Meeting → List Entry → Type 0
+MayOpen m old = (twice m.names ≡ None) × (missing m.names m.kinds old ≡ None)
+
+-- The journal has its old entries, or the opening over the lanes behind them; no lane was called.
+pub record HasOpened (m : Meeting) : Type 0 where
   pub old : List Entry
+  pub was : Holds m.tells m.bytes old
+  pub quiet : AreQuiet m
+  pub stays : Holds m.tells m.bytes' old ⊎ (MayOpen m old × Holds m.tells m.bytes' (old ++ opening m.names m.kinds old ∷ []))
+
+-- The entries after the run are the old ones and then the first of those that the run's calls make: the opening, the beginning with the template that stands in the library, an intent and an outcome for each call, and what is due then: the next intent, or the end; nothing behind a call that was no success. All calls but the last were successes. The intent of each call made is there, and the outcome of each but the last.
+pub record HasRun (m : Meeting) (name : List ℕ) (choice : Choice) : Type 0 where
+  pub old : List Entry
+  pub now : List Entry
+  pub faults : ℕ
   pub bytes : List ℕ
   pub resources : List Planned
   pub calls : List Call
@@ -163,18 +177,20 @@ pub record HasJournal (m : Meeting) (name template : List ℕ) : Type 0 where
   pub written : List Entry
   pub missing : List Entry
   pub was : Holds m.tells m.bytes old
+  pub may : MayOpen m old
+  pub found : IsFound m.shelf (opened m old faults now) name choice bytes resources
   pub stays : Holds m.tells m.bytes' (old ++ written)
-  pub whole : opening m.names m.kinds old ∷ beginning_in (old ++ opening m.names m.kinds old ∷ []) name template bytes ∷ run_written (next_of Operations (old ++ opening m.names m.kinds old ∷ [])) (next_of Tokens (old ++ opening m.names m.kinds old ∷ [])) m.names m.kinds resources calls ≡ written ++ missing
-  pub nearly : IsNearlyAll calls missing
+  pub whole : opening m.names m.kinds old ∷ beginning_in (old ++ opening m.names m.kinds old ∷ []) name choice bytes ∷ run_written (next_of Operations (old ++ opening m.names m.kinds old ∷ [])) (next_of Tokens (old ++ opening m.names m.kinds old ∷ [])) m.names m.kinds resources calls ≡ written ++ missing
+  pub nearly : IsNearlyAll calls (due_after (next_of Operations (old ++ opening m.names m.kinds old ∷ [])) (next_of Tokens (old ++ opening m.names m.kinds old ∷ [])) m.names m.kinds resources calls) missing
   pub called : AreCalled m.names m.kinds m.told m.told' m.counts counted (next_of Tokens (old ++ opening m.names m.kinds old ∷ [])) resources calls
+  pub before : AreMadeBefore calls
   pub later : AreLater counted m.counts'
 
--- nothing was done; or the journal was not opened, and no lane was called; or it has what the calls make
+-- What the journal has then, whatever the answer: a disk that tells its bytes keeps its record; or it has the old entries and an opening, or also what the calls make.
 abbrev pub Journals : Meeting → List (List ℕ) → Type 0
 Journals m words =
-    Untouched m
-    ⊎ (((e : Exit) × HasOpenCause m.tells m.bytes m.faults m.faults' e × AreQuiet m)
-    ⊎ ((name : List ℕ) × (template : List ℕ) × (deploy_words words ≡ Some (name, template)) × HasJournal m name template))
+    IsKept m
+    ⊎ ((name : List ℕ) × (choice : Choice) × (deploy_words words ≡ Some (name, choice)) × (HasOpened m ⊎ HasRun m name choice))
 
 -- an answer that may stand in the place of a template's refusal: what comes before it, and what may come at any time
 abbrev pub ComesBefore : Exit → Type 0
@@ -196,8 +212,8 @@ pub record IsAnswered (m : Meeting) (p : Printing) (words : List (List ℕ)) (re
   -- where the words are no deployment, BadWords comes, unless it can't be printed
   pub no_deploy : deploy_words words ≡ None → IsOneOf result (exit.BadWords ∷ exit.SinkFault ∷ exit.NoMemory ∷ [])
   -- a deployment that is not refused ends in Done where no count rose
-  pub otherwise : (said : List ℕ × List ℕ) → deploy_words words ≡ Some said → NoCountRose m p → (result ≡ exit.Done) ⊎ ((result ≡ exit.NoMemory) ⊎ IsRefusal result)
-  -- where what stands in the library is refused, that refusal comes, or what comes before it
-  pub refuses : (name template : List ℕ) (texts : Texts) (fault : Refusal) → deploy_words words ≡ Some (name, template) → m.shelf.texts ≡ Some texts → refusal_of m.kinds template (text_at template texts) ≡ Some fault → (result ≡ exit.TemplateRefused fault) ⊎ ComesBefore result
-  -- what the journal has then
+  pub otherwise : (said : List ℕ × Choice) → deploy_words words ≡ Some said → NoCountRose m p → (result ≡ exit.Done) ⊎ ((result ≡ exit.NoMemory) ⊎ IsRefusal result)
+  -- where what stands in the library is refused, whatever entries the disk may have, that refusal comes, or what comes before it
+  pub refuses : (name : List ℕ) (choice : Choice) (texts : Texts) (fault : Refusal) → deploy_words words ≡ Some (name, choice) → m.shelf.texts ≡ Some texts → ((es : List Entry) → Holds m.tells m.bytes es → refusal_of m.kinds choice name (next_of Operations es) (text_at choice.template texts) ≡ Some fault) → (result ≡ exit.TemplateRefused fault) ⊎ ComesBefore result
+  -- what the journal has then, whatever the answer
   pub journal : Journals m words

@@ -54,6 +54,12 @@ abbrev pub AreMade : List Call → Type 0
 AreMade [] = ⊤
 AreMade (c ∷ cs) = IsMade (reason_of c.reply) × AreMade cs
 
+-- all but the last one did
+abbrev pub AreMadeBefore : List Call → Type 0
+AreMadeBefore [] = ⊤
+AreMadeBefore (c ∷ []) = ⊤
+AreMadeBefore (c ∷ d ∷ cs) = IsMade (reason_of c.reply) × AreMadeBefore (d ∷ cs)
+
 -- the last one alone did not, for this reason
 abbrev pub FailsLast : Reason → List Call → Type 0
 FailsLast reason [] = ⊥

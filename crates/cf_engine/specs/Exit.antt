@@ -1,7 +1,13 @@
 -- How a command ended, and the line that says so (this project's own).
 use Rattle.std.specs.Prelude.{ℕ, List, [], ◌∷◌, decimal, codes}
-use Rattle.cf_template.specs.declared.fault.TemplateFault.{TemplateFault}
-use Rattle.cf_template.specs.declared.fault.TemplateFault.TheVariants as unread
+use Rattle.cf_template.specs.declared.refusal.TemplateFault.{TemplateFault}
+use Rattle.cf_template.specs.declared.refusal.TemplateFault.TheVariants as unread
+use Rattle.cf_param.specs.declared.fault.BindFault.{BindFault}
+use Rattle.cf_param.specs.declared.fault.BindFault.TheVariants as unbound
+use Rattle.cf_eval.specs.declared.fault.EvalFault.{EvalFault}
+use Rattle.cf_eval.specs.declared.fault.EvalFault.TheVariants as unvalued
+use Rattle.cf_eval.specs.declared.fault.EvalWhy.{EvalWhy}
+use Rattle.cf_eval.specs.declared.fault.EvalWhy.TheVariants as why
 use Rattle.cf_engine.specs.declared.exit.Exit.{Exit}
 use Rattle.cf_engine.specs.declared.exit.Exit.TheVariants as exit
 use Rattle.cf_engine.specs.declared.exit.Refusal.{Refusal}
@@ -16,7 +22,7 @@ use Rattle.cf_engine.specs.declared.cause.Reason.{Reason}
 use Rattle.cf_engine.specs.declared.cause.Reason.TheVariants as reason
 use Rattle.cf_tree.specs.Codes.{name_of as code_name}
 use Rattle.cf_engine.specs.StatusName.{status_name}
-use Rattle.cf_engine.specs.Line.{line_of, text_word, texts_word}
+use Rattle.cf_engine.specs.Line.{line_of, text_word}
 
 -- the number of an exit, which is the status of the process
 abbrev pub number_of : Exit → ℕ
@@ -24,7 +30,6 @@ number_of exit.Done = 0
 number_of exit.BadWords = 1
 number_of (exit.TemplateRefused fault) = 2
 number_of (exit.StackRefused fault) = 3
-number_of (exit.Failed blamed) = 5
 number_of exit.LibraryFault = 6
 number_of exit.DiskFault = 7
 number_of exit.SinkFault = 8
@@ -41,7 +46,6 @@ name_of exit.Done = codes "Done"
 name_of exit.BadWords = codes "BadWords"
 name_of (exit.TemplateRefused fault) = codes "TemplateRefused"
 name_of (exit.StackRefused fault) = codes "StackRefused"
-name_of (exit.Failed blamed) = codes "Failed"
 name_of exit.LibraryFault = codes "LibraryFault"
 name_of exit.DiskFault = codes "DiskFault"
 name_of exit.SinkFault = codes "SinkFault"
@@ -52,20 +56,62 @@ name_of (exit.LaneTwice name) = codes "LaneTwice"
 name_of (exit.Full length need room) = codes "Full"
 name_of (exit.Unrolled cause) = codes "Unrolled"
 
--- why a template was not read
+-- why a template was not read: the fault's name and then its fields
 abbrev pub unread_words : TemplateFault → List (List ℕ)
 unread_words unread.NotJson = codes "NotJson" ∷ []
+unread_words (unread.TooLong length) = codes "TooLong" ∷ decimal length ∷ []
+unread_words (unread.WrongShape path) = codes "WrongShape" ∷ text_word path ∷ []
+unread_words (unread.UnknownSection name) = codes "UnknownSection" ∷ text_word name ∷ []
+unread_words unread.BadVersion = codes "BadVersion" ∷ []
+unread_words (unread.NullValue path) = codes "NullValue" ∷ text_word path ∷ []
+unread_words (unread.BadNumber path) = codes "BadNumber" ∷ text_word path ∷ []
+unread_words (unread.BadName path) = codes "BadName" ∷ text_word path ∷ []
+unread_words (unread.TooMany what count) = codes "TooMany" ∷ text_word what ∷ decimal count ∷ []
+unread_words (unread.UnknownFunction path) = codes "UnknownFunction" ∷ text_word path ∷ []
+unread_words (unread.Unsupported path name) = codes "Unsupported" ∷ text_word path ∷ text_word name ∷ []
 unread_words unread.NoMemory = codes "NoMemory" ∷ []
-unread_words unread.NotYet = codes "NotYet" ∷ []
+
+-- why parameters were not bound
+abbrev pub unbound_words : BindFault → List (List ℕ)
+unbound_words (unbound.Undeclared name) = codes "Undeclared" ∷ text_word name ∷ []
+unbound_words (unbound.Missing name) = codes "Missing" ∷ text_word name ∷ []
+unbound_words (unbound.NotANumber name) = codes "NotANumber" ∷ text_word name ∷ []
+unbound_words (unbound.TooShort name) = codes "TooShort" ∷ text_word name ∷ []
+unbound_words (unbound.TooLong name) = codes "TooLong" ∷ text_word name ∷ []
+unbound_words (unbound.TooSmall name) = codes "TooSmall" ∷ text_word name ∷ []
+unbound_words (unbound.TooLarge name) = codes "TooLarge" ∷ text_word name ∷ []
+unbound_words (unbound.NotAllowed name) = codes "NotAllowed" ∷ text_word name ∷ []
+unbound_words (unbound.NoMatch name) = codes "NoMatch" ∷ text_word name ∷ []
+unbound_words (unbound.BadPattern name) = codes "BadPattern" ∷ text_word name ∷ []
+unbound_words unbound.NoMemory = codes "NoMemory" ∷ []
+
+-- why an expression has no value
+abbrev pub why_word : EvalWhy → List ℕ
+why_word why.UnknownName = codes "UnknownName"
+why_word why.UnknownAttribute = codes "UnknownAttribute"
+why_word why.UnknownMapKey = codes "UnknownMapKey"
+why_word why.IndexOutside = codes "IndexOutside"
+why_word why.WrongKind = codes "WrongKind"
+why_word why.UnknownImport = codes "UnknownImport"
+why_word why.CircularCondition = codes "CircularCondition"
+why_word why.NotMade = codes "NotMade"
+why_word why.TooBig = codes "TooBig"
+
+abbrev pub unvalued_words : EvalFault → List (List ℕ)
+unvalued_words (unvalued.Bad w stack at) = codes "Bad" ∷ why_word w ∷ text_word stack ∷ text_word at ∷ []
+unvalued_words unvalued.NoMemory = codes "NoMemory" ∷ []
 
 -- why no desired resources came of it
 abbrev pub desired_words : DesiredFault → List (List ℕ)
+desired_words (desired.Bind at fault) = codes "Bind" ∷ text_word at ∷ unbound_words fault
+desired_words (desired.Eval fault) = codes "Eval" ∷ unvalued_words fault
 desired_words (desired.TemplateMissing name) = codes "TemplateMissing" ∷ text_word name ∷ []
 desired_words desired.NoMemory = codes "NoMemory" ∷ []
 
 -- why a template was refused: the variant's name and then its fields
 abbrev pub refusal_words : Refusal → List (List ℕ)
 refusal_words (refusal.Read name fault) = codes "Read" ∷ text_word name ∷ unread_words fault
+refusal_words (refusal.NotYet name) = codes "NotYet" ∷ text_word name ∷ []
 refusal_words (refusal.Plan fault) = codes "Plan" ∷ desired_words fault
 refusal_words (refusal.UnknownType path name) = codes "UnknownType" ∷ text_word path ∷ text_word name ∷ []
 
@@ -91,7 +137,6 @@ field_words exit.Done = []
 field_words exit.BadWords = []
 field_words (exit.TemplateRefused fault) = refusal_words fault
 field_words (exit.StackRefused fault) = stack_words fault
-field_words (exit.Failed blamed) = texts_word blamed ∷ []
 field_words exit.LibraryFault = []
 field_words exit.DiskFault = []
 field_words exit.SinkFault = []

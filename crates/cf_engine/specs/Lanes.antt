@@ -1,16 +1,30 @@
 -- The lanes of a run, as lists: the type, the count and the told state of each (this project's own).
-use Rattle.std.specs.Prelude.{◌≡◌, ℕ, ◌≤◌, Bool, List, [], Option, Some, None, is_none, option_map, slice_set, slice_index_or}
+use Rattle.std.specs.Prelude.{◌≡◌, ℕ, ◌≤◌, Bool, List, [], map, Option, Some, None, is_none, option_map, slice_set, slice_index_or}
 use Rattle.std.specs.Str.{bytes_eq}
 use Rattle.std.specs.List.{position_from}
 use Rattle.cf_tree.specs.declared.planned.Planned.{Planned}
 use Rattle.cf_tree.specs.declared.request.Request.TheVariants.{Create}
+use Rattle.cf_schema.specs.declared.described.Schema.{Schema}
+use Rattle.cf_schema.specs.Kinds.{found}
 use Rattle.cf_handler.specs.declared.settled.Settlement.{Settlement}
 use Rattle.cf_handler.specs.Lane.{LaneState, settlement_of}
 use Rattle.cf_handler.specs.Move.{HasRisen, with_settled}
 
+-- the types of lanes, as their schemas say them
+abbrev pub kinds_of : List Schema → List (List ℕ)
+kinds_of schemas = map (λ g. g.kind) schemas
+
+-- of each type they have the schema of its first lane
+abbrev pub IsFirstOfEach : List Schema → List Schema → Type 0
+IsFirstOfEach lanes schemas = (kind : List ℕ) → found kind schemas ≡ found kind lanes
+
 -- what a run knows of its lanes
 abbrev pub Told : Type 0
 Told = List (Option LaneState)
+
+-- a lane that tells, and on which nothing was called yet
+abbrev pub unused : Option LaneState
+unused = Some (record { base = []; settled = [] })
 
 -- the first lane of a type, in the order handed in
 abbrev pub lane_for : List (List ℕ) → List ℕ → Option ℕ
@@ -44,7 +58,3 @@ AreLater before after = (k : ℕ) → slice_index_or before k 0 ≤ slice_index_
 abbrev pub RoseAt : Option ℕ → List ℕ → List ℕ → Type 0
 RoseAt None before after = ⊥
 RoseAt (Some k) before after = HasRisen (slice_index_or before k 0) (slice_index_or after k 0)
-
--- the lanes have settled nothing yet
-abbrev pub AreUnsettled : Told → Type 0
-AreUnsettled told = (k : ℕ) (lane : LaneState) → slice_index_or told k None ≡ Some lane → lane.settled ≡ []

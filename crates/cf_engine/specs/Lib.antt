@@ -11,6 +11,10 @@ pub mod Calls
 pub mod Run
 pub mod Make
 pub mod Opening
+pub mod NotYet
+pub mod Sure
+pub mod Planning
+pub mod Planned
 pub mod Deployment
 pub mod Meeting
 pub mod Telling

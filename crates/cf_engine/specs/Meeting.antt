@@ -1,10 +1,12 @@
 -- What a command that opens the journal of a disk comes to.
-use Rattle.std.specs.Prelude.{◌≡◌, ◌⊎◌, ℕ, ◌≤◌, Bool, List, [], ◌∷◌, ◌++◌, Some, None, Result, Ok, Err}
+use Rattle.std.specs.Prelude.{◌≡◌, ◌⊎◌, ℕ, ◌≤◌, Bool, List, [], ◌∷◌, ◌++◌, Some, None, Result, Ok, Err, IsTrue}
 use Rattle.cf_entry.specs.declared.entry.Entry.{Entry}
+use Rattle.cf_journal.specs.Record.{Keeps}
 use Rattle.cf_engine.specs.declared.exit.Exit.{Exit}
 use Rattle.cf_engine.specs.declared.exit.Exit.TheVariants as exit
 use Rattle.cf_engine.specs.declared.exit.StackFault.TheVariants as stack
 use Rattle.cf_engine.specs.declared.stack.Stack.{Stack}
+use Rattle.cf_engine.specs.declared.words.Choice.{Choice}
 use Rattle.cf_engine.specs.Lanes.{Told}
 use Rattle.cf_engine.specs.Book.{Holds}
 use Rattle.cf_engine.specs.Written.{opening}
@@ -51,6 +53,11 @@ opened m es faults es' = record {
   entries' = es';
 }
 
+-- the lanes are as they were, and a disk that tells its bytes keeps its record
+pub record IsKept (m : Meeting) : Type 0 where
+  pub quiet : AreQuiet m
+  pub kept : IsTrue m.tells → Keeps m.bytes m.bytes'
+
 -- the journal was opened, and the opening was not written
 pub record WasNotEntered (m : Meeting) (e : Exit) : Type 0 where
   pub old : List Entry
@@ -62,7 +69,7 @@ pub record WasNotEntered (m : Meeting) (e : Exit) : Type 0 where
   pub quiet : AreQuiet m
 
 -- the journal was opened, the opening was written, and a deployment came to this
-pub record WasEntered (m : Meeting) (name template : List ℕ) (outcome : Result Stack Exit) : Type 0 where
+pub record WasEntered (m : Meeting) (name : List ℕ) (choice : Choice) (outcome : Result Stack Exit) : Type 0 where
   pub old : List Entry
   pub now : List Entry
   pub faults : ℕ
@@ -70,13 +77,13 @@ pub record WasEntered (m : Meeting) (name template : List ℕ) (outcome : Result
   pub was : Holds m.tells m.bytes old
   pub differ : twice m.names ≡ None
   pub present : missing m.names m.kinds old ≡ None
-  pub came : DeploysAs m.shelf (opened m old faults now) name template outcome
+  pub came : DeploysAs m.shelf (opened m old faults now) name choice outcome
 
 -- a deployment comes to a stack, or ends before: the journal was not opened, or the opening not written, or later
-abbrev pub RunsAs : Meeting → List ℕ → List ℕ → Result Stack Exit → Type 0
-RunsAs m name template (Ok st) = WasEntered m name template (Ok st)
-RunsAs m name template (Err e) =
-    (HasOpenCause m.tells m.bytes m.faults m.faults' e × AreQuiet m) ⊎ (WasNotEntered m e ⊎ WasEntered m name template (Err e))
+abbrev pub RunsAs : Meeting → List ℕ → Choice → Result Stack Exit → Type 0
+RunsAs m name choice (Ok st) = WasEntered m name choice (Ok st)
+RunsAs m name choice (Err e) =
+    (HasOpenCause m.tells m.bytes m.faults m.faults' e × IsKept m) ⊎ (WasNotEntered m e ⊎ WasEntered m name choice (Err e))
 
 -- a description is of the stack that the entries leave, and writes none
 abbrev pub Describes : Bool → List ℕ → List ℕ → ℕ → ℕ → List ℕ → Result Stack Exit → Type 0

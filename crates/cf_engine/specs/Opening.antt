@@ -85,8 +85,8 @@ EnterTells tells bytes room faults faults' names kinds es es' (Ok done) = (twice
 EnterTells tells bytes room faults faults' names kinds es es' (Err (exit.LaneTwice name)) = (twice names ≡ Some name) × Holds tells bytes es
 EnterTells tells bytes room faults faults' names kinds es es' (Err (exit.LaneMissing name)) = (twice names ≡ None) × (missing names kinds es ≡ Some name) × Holds tells bytes es
 EnterTells tells bytes room faults faults' names kinds es es' (Err (exit.Full length need r)) =
-    (twice names ≡ None) × HaltsAt tells bytes room faults faults' es (opening names kinds es) (halt.Full length need r)
+    (twice names ≡ None) × (missing names kinds es ≡ None) × HaltsAt tells bytes room faults faults' es (opening names kinds es) (halt.Full length need r)
 EnterTells tells bytes room faults faults' names kinds es es' (Err exit.DiskFault) =
-    (twice names ≡ None) × HaltsAt tells bytes room faults faults' es (opening names kinds es) halt.DiskFault
+    (twice names ≡ None) × (missing names kinds es ≡ None) × HaltsAt tells bytes room faults faults' es (opening names kinds es) halt.DiskFault
 EnterTells tells bytes room faults faults' names kinds es es' (Err exit.NoMemory) = Holds tells bytes es
 EnterTells tells bytes room faults faults' names kinds es es' (Err _) = ⊥

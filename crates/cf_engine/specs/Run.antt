@@ -15,8 +15,8 @@ use Rattle.cf_engine.specs.declared.course.RunEnd.{RunEnd}
 use Rattle.cf_engine.specs.declared.course.RunEnd.TheVariants as run
 use Rattle.cf_engine.specs.Book.{Holds, need_of, HaltsAt}
 use Rattle.cf_engine.specs.Lanes.{Told, lane_for, AreLater, RoseAt}
-use Rattle.cf_engine.specs.Written.{Call, intent_of, outcome_of, name_at, calls_written, run_written, IsNearlyAll}
-use Rattle.cf_engine.specs.Calls.{answer_as, IsCalled, AreCalled, reason_of, IsMade, AreMade, FailsLast}
+use Rattle.cf_engine.specs.Written.{Call, intent_of, outcome_of, name_at, calls_written, due_after, run_written, IsNearlyAll}
+use Rattle.cf_engine.specs.Calls.{answer_as, IsCalled, AreCalled, reason_of, IsMade, AreMade, AreMadeBefore, FailsLast}
 
 -- What a run meets: of each lane its name, its type, its state and its count; whether the disk tells its bytes, those after the run, its room and its count of faults; and the journal's entries. What stands without a mark is from before it.
 pub record Scene : Type 0 where
@@ -89,16 +89,17 @@ HasHaltCause s missing (halt.Full length need room) = HasNoRoom s missing length
 HasHaltCause s missing halt.DiskFault = HasRisen s.faults s.faults'
 HasHaltCause s missing halt.NoMemory = ⊤
 
--- The run was cut short: of what it writes, behind what is given first, a part is on the disk and a part is missing.
+-- The run was cut short: of what it writes, behind what is given first, a part is on the disk and a part is missing. It went on behind a success alone.
 pub record IsCut (s : Scene) (first : List Entry) (number token : ℕ) (rs : List Planned) (h : Halt) : Type 0 where
   pub calls : List Call
   pub written : List Entry
   pub missing : List Entry
   pub counted : List ℕ
   pub called : AreCalled s.names s.kinds s.told s.told' s.counts counted token rs calls
+  pub before : AreMadeBefore calls
   pub later : AreLater counted s.counts'
   pub whole : first ++ run_written number token s.names s.kinds rs calls ≡ written ++ missing
-  pub nearly : IsNearlyAll calls missing
+  pub nearly : IsNearlyAll calls (due_after number token s.names s.kinds rs calls) missing
   pub holds : Holds s.tells s.bytes' (s.entries ++ written)
   pub cause : HasHaltCause s missing h
 

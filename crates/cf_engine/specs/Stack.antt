@@ -2,6 +2,7 @@
 use Rattle.std.specs.Prelude.{ℕ, ◌==◌, ◌&&◌, Bool, true, false, List, [], ◌∷◌, ◌++◌, Option, Some, None, option_map, if◌then◌else◌, codes}
 use Rattle.std.specs.Str.{bytes_eq}
 use Rattle.cf_tree.specs.declared.request.Request.{Request}
+use Rattle.cf_tree.specs.declared.source.Source.{Source}
 use Rattle.cf_tree.specs.declared.request.Request.TheVariants as request
 use Rattle.cf_entry.specs.declared.entry.Entry.{Entry}
 use Rattle.cf_entry.specs.declared.entry.Entry.TheVariants as entry
@@ -24,12 +25,12 @@ is_creating _ = false
 abbrev pub is_going : ℕ → Stack → Bool
 is_going number s = s.number == number && is_creating s.status
 
--- a creation begins: nothing is held, made or open
-abbrev pub creating : ℕ → Stack
-creating number = record { status = status.CreateInProgress; number = number; held = []; made = []; open_token = None }
+-- a creation from a source begins: nothing is held, made or open
+abbrev pub creating : ℕ → Source → Stack
+creating number source = record { status = status.CreateInProgress; number = number; source = None; going = Some source; held = []; made = []; open_token = None }
 
 abbrev pub begun_as : ℕ → Begun → Option Stack → Option Stack
-begun_as number (begun.Create source) s = Some (creating number)
+begun_as number (begun.Create source) s = Some (creating number source)
 begun_as number _ s = s
 
 -- the token of a call is open
@@ -47,9 +48,9 @@ abbrev pub replying_to : ℕ → Reply → Option Pending → Stack → Stack
 replying_to token r None s = s
 replying_to token r (Some p) s = if token == p.token then answered r p (record s { open_token = None }) else s
 
--- an end: where the creation is complete, what was made is held
+-- an end: where the creation is complete, its source is the stack's and what was made is held
 abbrev pub completing : Status → Stack → Stack
-completing status.CreateComplete s = record s { status = status.CreateComplete; held = s.made; made = [] }
+completing status.CreateComplete s = record s { status = status.CreateComplete; source = s.going; going = None; held = s.made; made = [] }
 completing other s = record s { status = other }
 
 -- a change of the stack, where that operation is in progress on it

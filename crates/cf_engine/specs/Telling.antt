@@ -7,16 +7,16 @@ use Rattle.cf_engine.specs.declared.stack.Held.{Held}
 use Rattle.cf_engine.specs.declared.stack.Stack.{Stack}
 use Rattle.cf_engine.specs.StatusName.{status_name}
 use Rattle.cf_engine.specs.Exit.{exit_line}
-use Rattle.cf_engine.specs.Report.{stack_line, resource_line}
+use Rattle.cf_engine.specs.Report.{stack_line, parameter_lines, resource_line}
 use Rattle.cf_engine.specs.Stack.{row_of}
 
 -- the line of a resource that is held
 abbrev pub held_line : Held → List ℕ
 held_line h = resource_line (row_of h)
 
--- the report on a stack: its status, the number of the operation that created it, what it holds, and the exit
+-- the report on a stack: its status, the number of the operation that created it, its parameters, what it holds, and the exit
 abbrev pub stack_report : List ℕ → Stack → List ℕ
-stack_report name st = stack_line name (status_name st.status) st.number ++ (flat_map held_line st.held ++ exit_line exit.Done)
+stack_report name st = stack_line name (status_name st.status) st.number ++ (parameter_lines st.source ++ (flat_map held_line st.held ++ exit_line exit.Done))
 
 -- a stack is reported, and of every other end the line of the exit alone is printed
 abbrev pub text_of : List ℕ → Result Stack Exit → List ℕ

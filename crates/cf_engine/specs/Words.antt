@@ -1,9 +1,12 @@
 -- What the words of a command line ask for: the table of commands.
-use Rattle.std.specs.Prelude.{ℕ, ◌==◌, ◌&&◌, ◌||◌, ◌+◌, ◌-◌, ◌*◌, Bool, true, false, if◌then◌else◌, List, [], ◌∷◌, length, sum_by, nat_le, nat_lt, Option, None, Some, is_some, codes}
+use Rattle.std.specs.Prelude.{ℕ, ◌==◌, ◌&&◌, ◌||◌, ◌+◌, ◌-◌, ◌*◌, Bool, true, false, if◌then◌else◌, List, [], ◌∷◌, length, sum_by, nat_le, nat_lt, Option, None, Some, is_some, option_map, option_and_then, codes}
 use Rattle.std.specs.List.{list_all}
 use Rattle.std.specs.Str.{bytes_eq}
 use Rattle.std.specs.Int.{is_in_range}
 use Rattle.std.specs.Char.{is_ascii_alphabetic, is_ascii_alphanumeric}
+use Rattle.cf_funcs.specs.Pieces.{cut_at}
+use Rattle.cf_tree.specs.Keys.{put, value_at}
+use Rattle.cf_template.specs.Words.{is_name}
 use Rattle.cf_engine.specs.declared.words.Command.{Command}
 use Rattle.cf_engine.specs.declared.words.Command.TheVariants as command
 
@@ -20,10 +23,27 @@ is_stack_name (b ∷ bytes) = is_ascii_alphabetic b && (list_all is_name_byte by
 abbrev pub is_template_name : List ℕ → Bool
 is_template_name name = nat_le 1 (length name) && nat_le (length name) 128
 
--- `deploy STACK TEMPLATE`
+-- what a word gives for a parameter: NAME=VALUE, cut at the first `=`; the name is 1 to 255 letters and digits (this project's own)
+abbrev pub named_setting : List ℕ × List ℕ → Option (List ℕ × List ℕ)
+named_setting cut = if is_name cut.0 then Some cut else None
+
+abbrev pub setting_of : List ℕ → Option (List ℕ × List ℕ)
+setting_of word = option_and_then named_setting (cut_at (codes "=") word)
+
+-- what words give, put among what others gave; a word that is no setting, or a name that is given twice, makes them none
+abbrev pub given_beside : List (List ℕ) → List (List ℕ × List ℕ) → Option (List (List ℕ × List ℕ))
+given_beside [] given = Some given
+given_beside (word ∷ words) given =
+    option_and_then (λ s. if is_some (value_at s.0 given) then None else given_beside words (put s.0 s.1 given)) (setting_of word)
+
+-- what words give for parameters, by name
+abbrev pub given_of : List (List ℕ) → Option (List (List ℕ × List ℕ))
+given_of words = given_beside words []
+
+-- `deploy STACK TEMPLATE NAME=VALUE ..`
 abbrev pub deploy_of : List (List ℕ) → Option Command
-deploy_of (stack ∷ template ∷ []) =
-    if is_stack_name stack && is_template_name template then Some (command.Deploy stack template) else None
+deploy_of (stack ∷ template ∷ settings) =
+    if is_stack_name stack && is_template_name template then option_map (command.Deploy stack template) (given_of settings) else None
 deploy_of _ = None
 
 -- `describe STACK`
@@ -31,17 +51,24 @@ abbrev pub describe_of : List (List ℕ) → Option Command
 describe_of (stack ∷ []) = if is_stack_name stack then Some (command.Describe stack) else None
 describe_of _ = None
 
+-- `validate TEMPLATE`
+abbrev pub validate_of : List (List ℕ) → Option Command
+validate_of (template ∷ []) = if is_template_name template then Some (command.Validate template) else None
+validate_of _ = None
+
 -- the command that the words ask for, by the first of them; None where no row of the table fits
 abbrev pub command_of : List (List ℕ) → Option Command
 command_of [] = None
 command_of (word ∷ words) =
     if bytes_eq (codes "deploy") word then deploy_of words
-    else (if bytes_eq (codes "describe") word then describe_of words else None)
+    else (if bytes_eq (codes "describe") word then describe_of words
+    else (if bytes_eq (codes "validate") word then validate_of words else None))
 
 -- whether a command changes a stack, and so drives handlers
 abbrev pub drives : Command → Bool
-drives (command.Deploy stack template) = true
+drives (command.Deploy stack template given) = true
 drives (command.Describe stack) = false
+drives (command.Validate template) = false
 
 -- the number of workers that a word names: a decimal number from 1 to 64 without a leading zero, of one digit
 -- or two (this project's own)

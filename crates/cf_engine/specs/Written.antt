@@ -7,8 +7,10 @@ use Rattle.cf_entry.specs.declared.entry.Entry.{Entry}
 use Rattle.cf_entry.specs.declared.entry.Entry.TheVariants as entry
 use Rattle.cf_entry.specs.declared.entry.Begun.TheVariants as begun
 use Rattle.cf_entry.specs.declared.entry.Reply.{Reply}
+use Rattle.cf_entry.specs.declared.entry.Reply.TheVariants as reply
 use Rattle.cf_entry.specs.declared.status.Status.TheVariants as status
 use Rattle.cf_engine.specs.declared.numbers.Numbered.{Numbered}
+use Rattle.cf_engine.specs.declared.words.Choice.{Choice}
 use Rattle.cf_engine.specs.declared.numbers.Numbered.TheVariants.{Openings, Operations, Tokens}
 use Rattle.cf_engine.specs.Lanes.{lane_for}
 
@@ -36,12 +38,12 @@ lane_pairs _ _ = []
 abbrev pub opening : List (List ℕ) → List (List ℕ) → List Entry → Entry
 opening names kinds es = entry.Opened (next_of Openings es) (lane_pairs names kinds)
 
--- what a creation rests on: one template, without parameters and imports
-abbrev pub source_of : List ℕ → List ℕ → List ℕ → Source
-source_of stack template bytes = record { root = template; texts = (template, bytes) ∷ []; given = []; imports = []; stack = stack; number = 0 }
+-- what a creation rests on: one template and what is given for its parameters, without imports
+abbrev pub source_of : List ℕ → Choice → List ℕ → Source
+source_of stack choice bytes = record { root = choice.template; texts = (choice.template, bytes) ∷ []; given = choice.given; imports = []; stack = stack; number = 0 }
 
-abbrev pub beginning : ℕ → List ℕ → List ℕ → List ℕ → Entry
-beginning number stack template bytes = entry.Begin number stack (begun.Create (source_of stack template bytes))
+abbrev pub beginning : ℕ → List ℕ → Choice → List ℕ → Entry
+beginning number stack choice bytes = entry.Begin number stack (begun.Create (source_of stack choice bytes))
 
 -- what a call came to, with the number of the lane's faults before and after it
 pub record Call : Type 0 where
@@ -74,17 +76,22 @@ calls_written number token names kinds (r ∷ rs) (c ∷ cs) =
     intent_of number token (name_for names kinds r.kind) r ∷ outcome_of number token c ∷ calls_written number (token + 1) names kinds rs cs
 calls_written number token names kinds _ _ = []
 
--- what is written next: the intent of the next resource, or the end
-abbrev pub due_after : ℕ → ℕ → List (List ℕ) → List (List ℕ) → List Planned → List Call → Entry
-due_after number token names kinds (r ∷ rs) (c ∷ cs) = due_after number (token + 1) names kinds rs cs
-due_after number token names kinds (r ∷ rs) [] = intent_of number token (name_for names kinds r.kind) r
-due_after number token names kinds [] cs = ending number
+-- what follows a call that succeeded; behind another one nothing is written
+abbrev pub if_made : Reply → List Entry → List Entry
+if_made (reply.Success physical attrs) es = es
+if_made _ es = []
+
+-- what is written next: the intent of the next resource, or the end; nothing behind a call that was no success
+abbrev pub due_after : ℕ → ℕ → List (List ℕ) → List (List ℕ) → List Planned → List Call → List Entry
+due_after number token names kinds (r ∷ rs) (c ∷ cs) = if_made c.reply (due_after number (token + 1) names kinds rs cs)
+due_after number token names kinds (r ∷ rs) [] = intent_of number token (name_for names kinds r.kind) r ∷ []
+due_after number token names kinds [] cs = ending number ∷ []
 
 -- all that is written where the calls come to this, and what is due then
 abbrev pub run_written : ℕ → ℕ → List (List ℕ) → List (List ℕ) → List Planned → List Call → List Entry
-run_written number token names kinds rs cs = calls_written number token names kinds rs cs ++ due_after number token names kinds rs cs ∷ []
+run_written number token names kinds rs cs = calls_written number token names kinds rs cs ++ due_after number token names kinds rs cs
 
--- of entries that have the intent of each call, and the outcome of each but the last, at most two are missing
-abbrev pub IsNearlyAll : List Call → List Entry → Type 0
-IsNearlyAll [] missing = ⊤
-IsNearlyAll (c ∷ cs) missing = length missing ≤ 2
+-- entries that have the intent of each call and the outcome of each but the last: only that outcome and what is due may be missing
+abbrev pub IsNearlyAll : List Call → List Entry → List Entry → Type 0
+IsNearlyAll [] due missing = ⊤
+IsNearlyAll (c ∷ cs) due missing = length missing ≤ length due + 1

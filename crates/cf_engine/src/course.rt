@@ -2,7 +2,7 @@
 ghost use Rattle.std.specs.Prelude.{◌≡◌, ◌<◌, ◌≤◌, ◌+◌, ◌^◌, [], find, map, IfOk, OnOk, None, Some, false, length, slice_index_or};
 ghost use Rattle.cf_tree.specs.declared.request.Request.TheVariants.{Create};
 ghost use Rattle.cf_handler.specs.Move.{CallTells, HasCause};
-ghost use Rattle.cf_engine.specs.Lanes.{lane_for, is_unknown, AreLater};
+ghost use Rattle.cf_engine.specs.Lanes.{kinds_of, lane_for, is_unknown, AreLater};
 ghost use Rattle.cf_engine.specs.Book.{IsOpen, AppendTells};
 ghost use Rattle.cf_engine.specs.Written.{intent_of};
 ghost use Rattle.cf_engine.specs.Calls.{MovesAt, reason_of};
@@ -114,7 +114,7 @@ fn announce<D: Disk, H: Handler>(
 /// Asks a lane.
 fn ask<H: Handler>(lane: &mut H, token: u64, request: &Request) -> Told
     ensures name { H.label lane.new ≡ H.label lane.old }
-    ensures kind { H.of_kind lane.new ≡ H.of_kind lane.old }
+    ensures schema { H.schema_of lane.new ≡ H.schema_of lane.old }
     ensures told { CallTells (H.label lane.old) (H.told lane.old) (H.told lane.new) token request.now result.answer }
     ensures before { result.before ≡ H.count lane.old }
     ensures after { result.after ≡ H.count lane.new }
@@ -134,7 +134,7 @@ fn ask<H: Handler>(lane: &mut H, token: u64, request: &Request) -> Told
 fn ask_at<H: Handler>(lanes: &mut Vec<H>, at: usize, token: u64, request: &Request) -> Told
     requires { at < length lanes.old.items }
     ensures names { map H.label lanes.new.items ≡ map H.label lanes.old.items }
-    ensures kinds { map H.of_kind lanes.new.items ≡ map H.of_kind lanes.old.items }
+    ensures schemas { map H.schema_of lanes.new.items ≡ map H.schema_of lanes.old.items }
     ensures moves { MovesAt at (map H.label lanes.old.items) (map H.told lanes.old.items) (map H.told lanes.new.items) (map H.count lanes.old.items) (map H.count lanes.new.items)
         token request.now result.answer result.before result.after }
 {
@@ -233,13 +233,13 @@ fn create_at<D: Disk, H: Handler>(
     requires open { IsOpen D.tells D.seen D.may_leave D.room_of book.old disk.old }
     requires inside { at < length lanes.old.items }
     ensures names { map H.label lanes.new.items ≡ map H.label lanes.old.items }
-    ensures kinds { map H.of_kind lanes.new.items ≡ map H.of_kind lanes.old.items }
+    ensures schemas { map H.schema_of lanes.new.items ≡ map H.schema_of lanes.old.items }
     ensures open { Stays result (IsOpen D.tells D.seen D.may_leave D.room_of book.new disk.new) }
     ensures room { D.room_of disk.new ≡ D.room_of disk.old }
     ensures count { D.count disk.old ≤ D.count disk.new }
     ensures tells { StepTells (record {
       names = map H.label lanes.old.items;
-      kinds = map H.of_kind lanes.old.items;
+      kinds = kinds_of (map H.schema_of lanes.old.items);
       told = map H.told lanes.old.items;
       told' = map H.told lanes.new.items;
       counts = map H.count lanes.old.items;
@@ -286,15 +286,15 @@ fn create_next<D: Disk, H: Handler>(
     resource: &Planned,
 ) -> Step
     requires open { IsOpen D.tells D.seen D.may_leave D.room_of book.old disk.old }
-    requires known { is_unknown (map H.of_kind lanes.old.items) resource.now ≡ false }
+    requires known { is_unknown (kinds_of (map H.schema_of lanes.old.items)) resource.now ≡ false }
     ensures names { map H.label lanes.new.items ≡ map H.label lanes.old.items }
-    ensures kinds { map H.of_kind lanes.new.items ≡ map H.of_kind lanes.old.items }
+    ensures schemas { map H.schema_of lanes.new.items ≡ map H.schema_of lanes.old.items }
     ensures open { Stays result (IsOpen D.tells D.seen D.may_leave D.room_of book.new disk.new) }
     ensures room { D.room_of disk.new ≡ D.room_of disk.old }
     ensures count { D.count disk.old ≤ D.count disk.new }
     ensures tells { StepTells (record {
       names = map H.label lanes.old.items;
-      kinds = map H.of_kind lanes.old.items;
+      kinds = kinds_of (map H.schema_of lanes.old.items);
       told = map H.told lanes.old.items;
       told' = map H.told lanes.new.items;
       counts = map H.count lanes.old.items;
@@ -307,7 +307,7 @@ fn create_next<D: Disk, H: Handler>(
       entries = book.old.entries.items;
       entries' = book.new.entries.items;
     })
-        (lane_for (map H.of_kind lanes.old.items) resource.now.kind) number token resource.now result }
+        (lane_for (kinds_of (map H.schema_of lanes.old.items)) resource.now.kind) number token resource.now result }
 {
     match lane_for(lanes.as_slice(), resource.kind.as_str()) {
         Some(at) => create_at(alloc, book, disk, lanes, at, number, token, resource),
@@ -327,16 +327,16 @@ pub fn create_all<D: Disk, H: Handler>(
     resources: &[Planned],
 ) -> RunEnd
     requires open { IsOpen D.tells D.seen D.may_leave D.room_of book.old disk.old }
-    requires known { find (is_unknown (map H.of_kind lanes.old.items)) resources.now ≡ None }
+    requires known { find (is_unknown (kinds_of (map H.schema_of lanes.old.items))) resources.now ≡ None }
     requires small { first ≤ 2 ^ 63 }
     ensures names { map H.label lanes.new.items ≡ map H.label lanes.old.items }
-    ensures kinds { map H.of_kind lanes.new.items ≡ map H.of_kind lanes.old.items }
+    ensures schemas { map H.schema_of lanes.new.items ≡ map H.schema_of lanes.old.items }
     ensures open { RunStays result (IsOpen D.tells D.seen D.may_leave D.room_of book.new disk.new) }
     ensures room { D.room_of disk.new ≡ D.room_of disk.old }
     ensures count { D.count disk.old ≤ D.count disk.new }
     ensures tells { RunTells (record {
       names = map H.label lanes.old.items;
-      kinds = map H.of_kind lanes.old.items;
+      kinds = kinds_of (map H.schema_of lanes.old.items);
       told = map H.told lanes.old.items;
       told' = map H.told lanes.new.items;
       counts = map H.count lanes.old.items;

@@ -1,6 +1,8 @@
 //! A deployment over an open journal: the stack is new, its template is read, and its resources are made.
 ghost use Rattle.std.specs.Prelude.{◌≡◌, ◌≤◌, ◌<◌, find, map, None, Some, length, IfOk, IfErr};
-ghost use Rattle.cf_engine.specs.Lanes.{is_unknown};
+ghost use Rattle.cf_engine.specs.declared.exit.Exit.TheVariants.{StackRefused};
+ghost use Rattle.cf_engine.specs.declared.exit.StackFault.TheVariants.{WrongStatus};
+ghost use Rattle.cf_engine.specs.Lanes.{kinds_of, is_unknown};
 ghost use Rattle.cf_engine.specs.Refusals.{RefusesAs};
 ghost use Rattle.cf_engine.specs.Book.{IsOpen};
 ghost use Rattle.cf_engine.specs.Stack.{stack_of};
@@ -12,30 +14,45 @@ use crate::course::RunEnd;
 use crate::create::first_unknown;
 use crate::exit::{Exit, StackFault};
 use crate::make::make;
+use crate::numbers::{Numbered, next_of};
 use crate::opening::exit_of;
-use crate::refusals::{missing, unknown, unread};
+use crate::planning::planned;
+use crate::refusals::{missing, unknown};
 use crate::stack::{Stack, stack_of};
+use crate::words::Choice;
 use cf_disk::Disk;
 use cf_entry::Entry;
 use cf_handler::Handler;
 use cf_io::{FetchFault, Library};
-use cf_template::read_template;
 use cf_tree::{NoMemory, Planned, Plans, Txt};
 use std::alloc::Global;
 
-/// The bytes of the template under a name, and its resources.
-fn fetch<L: Library>(alloc: Global, library: &mut L, name: &Txt) -> Result<(Vec<u8>, Plans), Exit>
+/// The bytes of the template, and what it wants of a new stack with this name and number.
+fn fetch<L: Library>(
+    alloc: Global,
+    library: &mut L,
+    choice: &Choice,
+    stack: &Txt,
+    number: u64,
+) -> Result<(Vec<u8>, Plans), Exit>
     ensures same { L.texts library.new ≡ L.texts library.old }
     ensures faults { L.count library.old ≤ L.count library.new }
     ensures misses { L.missed library.old ≤ L.missed library.new }
-    ensures fetches { FetchesAs (L.texts library.old) name.now (L.count library.old) (L.count library.new) (L.missed library.old) (L.missed library.new) result }
+    ensures fetches { FetchesAs (record {
+      texts = L.texts library.old;
+      faults = L.count library.old;
+      faults' = L.count library.new;
+      misses = L.missed library.old;
+      misses' = L.missed library.new;
+    })
+        choice.now stack.now number result }
 {
-    match library.fetch(name.as_str()) {
-        Ok(Some(bytes)) => match read_template(alloc, bytes.as_slice()) {
+    match library.fetch(choice.template.as_str()) {
+        Ok(Some(bytes)) => match planned(alloc, choice, stack, number, bytes.as_slice()) {
             Ok(resources) => Ok((bytes, resources)),
-            Err(fault) => Err(unread(alloc, name, fault)),
+            Err(exit) => Err(exit),
         },
-        Ok(None) => Err(missing(alloc, name)),
+        Ok(None) => Err(missing(alloc, &choice.template)),
         Err(FetchFault::Failed) => Err(Exit::LibraryFault),
         Err(FetchFault::NoMemory) => Err(Exit::NoMemory),
     }
@@ -74,18 +91,18 @@ fn deploy_read<D: Disk, H: Handler>(
     disk: &mut D,
     lanes: &mut Vec<H>,
     stack: &Txt,
-    template: &Txt,
+    choice: &Choice,
     bytes: Vec<u8>,
     resources: Plans,
 ) -> Result<Stack, Exit>
     requires open { IsOpen D.tells D.seen D.may_leave D.room_of book.old disk.old }
     ensures names { map H.label lanes.new.items ≡ map H.label lanes.old.items }
-    ensures kinds { map H.of_kind lanes.new.items ≡ map H.of_kind lanes.old.items }
+    ensures schemas { map H.schema_of lanes.new.items ≡ map H.schema_of lanes.old.items }
     ensures room { D.room_of disk.new ≡ D.room_of disk.old }
     ensures count { D.count disk.old ≤ D.count disk.new }
     ensures tells { ReadAs (record {
       names = map H.label lanes.old.items;
-      kinds = map H.of_kind lanes.old.items;
+      kinds = kinds_of (map H.schema_of lanes.old.items);
       told = map H.told lanes.old.items;
       told' = map H.told lanes.new.items;
       counts = map H.count lanes.old.items;
@@ -98,7 +115,7 @@ fn deploy_read<D: Disk, H: Handler>(
       entries = book.old.entries.items;
       entries' = book.new.entries.items;
     })
-        stack.now template.now bytes.items resources result }
+        stack.now choice.now bytes.items resources result }
 {
     if let Some(resource) = first_unknown(lanes.as_slice(), resources.as_slice()) {
         return Err(unknown(alloc, resource));
@@ -109,7 +126,7 @@ fn deploy_read<D: Disk, H: Handler>(
         disk,
         lanes,
         stack,
-        template,
+        choice,
         bytes,
         resources.as_slice(),
     ) {
@@ -127,14 +144,14 @@ fn deploy_new<L: Library, D: Disk, H: Handler>(
     library: &mut L,
     lanes: &mut Vec<H>,
     stack: &Txt,
-    template: &Txt,
+    choice: &Choice,
 ) -> Result<Stack, Exit>
     requires open { IsOpen D.tells D.seen D.may_leave D.room_of book.old disk.old }
     requires new { stack_of stack.now book.old.entries.items ≡ None }
     ensures same { L.texts library.new ≡ L.texts library.old }
     ensures faults { L.count library.old ≤ L.count library.new }
     ensures names { map H.label lanes.new.items ≡ map H.label lanes.old.items }
-    ensures kinds { map H.of_kind lanes.new.items ≡ map H.of_kind lanes.old.items }
+    ensures schemas { map H.schema_of lanes.new.items ≡ map H.schema_of lanes.old.items }
     ensures room { D.room_of disk.new ≡ D.room_of disk.old }
     ensures count { D.count disk.old ≤ D.count disk.new }
     ensures tells { DeploysAs (record {
@@ -146,7 +163,7 @@ fn deploy_new<L: Library, D: Disk, H: Handler>(
     })
         (record {
           names = map H.label lanes.old.items;
-          kinds = map H.of_kind lanes.old.items;
+          kinds = kinds_of (map H.schema_of lanes.old.items);
           told = map H.told lanes.old.items;
           told' = map H.told lanes.new.items;
           counts = map H.count lanes.old.items;
@@ -159,13 +176,25 @@ fn deploy_new<L: Library, D: Disk, H: Handler>(
           entries = book.old.entries.items;
           entries' = book.new.entries.items;
         })
-        stack.now template.now result }
+        stack.now choice.now result }
 {
-    match fetch(alloc, library, template) {
+    let number = next_of(Numbered::Operations, book.entries.as_slice());
+    match fetch(alloc, library, choice, stack, number) {
         Ok((bytes, resources)) => {
-            deploy_read(alloc, book, disk, lanes, stack, template, bytes, resources)
+            deploy_read(alloc, book, disk, lanes, stack, choice, bytes, resources)
         }
         Err(exit) => Err(exit),
+    }
+}
+
+/// The exit where there is a stack of the name.
+fn taken(found: Stack) -> Exit
+    ensures { result ≡ StackRefused (WrongStatus found.status) }
+{
+    Exit::StackRefused {
+        fault: StackFault::WrongStatus {
+            status: found.status,
+        },
     }
 }
 
@@ -182,13 +211,13 @@ pub fn deploy_in<L: Library, D: Disk, H: Handler>(
     library: &mut L,
     lanes: &mut Vec<H>,
     stack: &Txt,
-    template: &Txt,
+    choice: &Choice,
 ) -> Result<Stack, Exit>
     requires open { IsOpen D.tells D.seen D.may_leave D.room_of book.old disk.old }
     ensures same { L.texts library.new ≡ L.texts library.old }
     ensures faults { L.count library.old ≤ L.count library.new }
     ensures names { map H.label lanes.new.items ≡ map H.label lanes.old.items }
-    ensures kinds { map H.of_kind lanes.new.items ≡ map H.of_kind lanes.old.items }
+    ensures schemas { map H.schema_of lanes.new.items ≡ map H.schema_of lanes.old.items }
     ensures room { D.room_of disk.new ≡ D.room_of disk.old }
     ensures count { D.count disk.old ≤ D.count disk.new }
     ensures tells { DeploysAs (record {
@@ -200,7 +229,7 @@ pub fn deploy_in<L: Library, D: Disk, H: Handler>(
     })
         (record {
           names = map H.label lanes.old.items;
-          kinds = map H.of_kind lanes.old.items;
+          kinds = kinds_of (map H.schema_of lanes.old.items);
           told = map H.told lanes.old.items;
           told' = map H.told lanes.new.items;
           counts = map H.count lanes.old.items;
@@ -213,15 +242,11 @@ pub fn deploy_in<L: Library, D: Disk, H: Handler>(
           entries = book.old.entries.items;
           entries' = book.new.entries.items;
         })
-        stack.now template.now result }
+        stack.now choice.now result }
 {
     match stack_of(alloc, stack, book.entries.as_slice()) {
-        Ok(None) => deploy_new(alloc, book, disk, library, lanes, stack, template),
-        Ok(Some(found)) => Err(Exit::StackRefused {
-            fault: StackFault::WrongStatus {
-                status: found.status,
-            },
-        }),
+        Ok(None) => deploy_new(alloc, book, disk, library, lanes, stack, choice),
+        Ok(Some(found)) => Err(taken(found)),
         Err(NoMemory) => Err(Exit::NoMemory),
     }
 }

@@ -2,15 +2,18 @@
 
 ghost use Rattle.std.specs.Prelude.{◌≡◌, ◌++◌, [], ◌∷◌, decimal, IfOk, string_bytes};
 ghost use Rattle.cf_engine.specs.Line.{spaced};
-ghost use Rattle.cf_engine.specs.Exit.{number_of, name_of, unread_words, desired_words, refusal_words, stack_words, field_words, exit_line};
+ghost use Rattle.cf_engine.specs.Exit.{number_of, name_of, desired_words, refusal_words, stack_words, field_words, exit_line};
 
 use crate::cause::Cause;
-use crate::line::{push_number, push_text, push_texts, push_word};
+use crate::fault_words::{push_unbound, push_unread, push_unvalued};
+use crate::line::{push_named, push_number, push_text, push_texts, push_word};
 use crate::status_name::name_of_status;
 use cf_entry::Status;
+use cf_eval::EvalFault;
+use cf_param::BindFault;
 use cf_template::TemplateFault;
 use cf_tree::{Names, NoMemory, Txt};
-use std::alloc::Global;
+use std::alloc::{AllocError, Global};
 
 /// How a command ended.
 #[derive(Debug, Drop, PartialEq, Eq)]
@@ -23,8 +26,6 @@ pub enum Exit {
     TemplateRefused { fault: Refusal },
     /// The stack was refused before anything was done.
     StackRefused { fault: StackFault },
-    /// The operation failed at these paths.
-    Failed { blamed: Names },
     /// The library of templates failed.
     LibraryFault,
     /// The disk failed.
@@ -50,6 +51,8 @@ pub enum Exit {
 pub enum Refusal {
     /// The bytes under this name were not read as a template.
     Read { name: Txt, fault: TemplateFault },
+    /// The template under this name holds something that is not made yet.
+    NotYet { name: Txt },
     /// No desired resources came of it.
     Plan { fault: DesiredFault },
     /// No lane has the type of the resource at this path.
@@ -68,10 +71,25 @@ pub enum StackFault {
 /// Why no desired resources came of a template.
 #[derive(Debug, Drop, PartialEq, Eq)]
 pub enum DesiredFault {
+    /// The parameters of the stack at this path, which is empty for the root, were not bound.
+    Bind { at: Txt, fault: BindFault },
+    /// A condition or a property has no value.
+    Eval { fault: EvalFault },
     /// The library holds no template of this name.
     TemplateMissing { name: Txt },
     /// Memory was not there; no exit carries it.
     NoMemory,
+}
+
+impl From<AllocError> for DesiredFault {
+    ghost use Rattle.std.specs.Prelude.{◌≡◌};
+    ghost use Rattle.cf_engine.specs.declared.exit.DesiredFault.TheVariants.{NoMemory};
+
+    ghost from_gives = { λ _ e. e ≡ NoMemory };
+
+    fn from(_refused: AllocError) -> DesiredFault {
+        DesiredFault::NoMemory
+    }
 }
 
 impl Exit {
@@ -84,7 +102,6 @@ impl Exit {
             Exit::BadWords => 1,
             Exit::TemplateRefused { .. } => 2,
             Exit::StackRefused { .. } => 3,
-            Exit::Failed { .. } => 5,
             Exit::LibraryFault => 6,
             Exit::DiskFault => 7,
             Exit::SinkFault => 8,
@@ -105,7 +122,6 @@ impl Exit {
             Exit::BadWords => "BadWords",
             Exit::TemplateRefused { .. } => "TemplateRefused",
             Exit::StackRefused { .. } => "StackRefused",
-            Exit::Failed { .. } => "Failed",
             Exit::LibraryFault => "LibraryFault",
             Exit::DiskFault => "DiskFault",
             Exit::SinkFault => "SinkFault",
@@ -125,7 +141,6 @@ impl Exit {
         match self {
             Exit::TemplateRefused { fault } => fault.push_to(alloc, line),
             Exit::StackRefused { fault } => fault.push_to(line),
-            Exit::Failed { blamed } => push_texts(alloc, line, blamed.as_slice()),
             Exit::NotAJournal { offset } => push_number(alloc, line, *offset),
             Exit::LaneMissing { name } => push_text(alloc, line, name),
             Exit::LaneTwice { name } => push_text(alloc, line, name),
@@ -163,8 +178,9 @@ impl Refusal {
             Refusal::Read { name, fault } => {
                 push_word(line, "Read")?;
                 push_text(alloc, line, name)?;
-                push_unread(line, fault)
+                push_unread(alloc, line, fault)
             }
+            Refusal::NotYet { name } => push_named(alloc, line, "NotYet", name),
             Refusal::Plan { fault } => {
                 push_word(line, "Plan")?;
                 fault.push_to(alloc, line)
@@ -201,10 +217,17 @@ impl DesiredFault {
         ensures { IfOk result (λ _. string_bytes line.new ≡ string_bytes line.old ++ spaced (desired_words self.now)) }
     {
         match self {
+            DesiredFault::Bind { at, fault } => {
+                push_word(line, "Bind")?;
+                push_text(alloc, line, at)?;
+                push_unbound(alloc, line, fault)
+            }
+            DesiredFault::Eval { fault } => {
+                push_word(line, "Eval")?;
+                push_unvalued(alloc, line, fault)
+            }
             DesiredFault::TemplateMissing { name } => {
-                push_word(line, "TemplateMissing")?;
-                push_text(alloc, line, name)?;
-                Ok(())
+                push_named(alloc, line, "TemplateMissing", name)
             }
             DesiredFault::NoMemory => push_word(line, "NoMemory"),
         }
@@ -228,17 +251,6 @@ fn push_sizes(
     Ok(())
 }
 
-// Adds why a template was not read, after a space.
-fn push_unread(line: &mut String, fault: &TemplateFault) -> Result<(), NoMemory>
-    ensures { IfOk result (λ _. string_bytes line.new ≡ string_bytes line.old ++ spaced (unread_words fault.now)) }
-{
-    match fault {
-        TemplateFault::NotJson => push_word(line, "NotJson"),
-        TemplateFault::NoMemory => push_word(line, "NoMemory"),
-        TemplateFault::NotYet => push_word(line, "NotYet"),
-    }
-}
-
 #[cfg(test)]
 mod tests {
     use super::*;
@@ -258,9 +270,6 @@ mod tests {
         let alloc = rt.alloc();
         assert!(rt; prints(alloc, Exit::Done, "exit 0 Done\n")?);
         assert!(rt; prints(alloc, Exit::BadWords, "exit 1 BadWords\n")?);
-        let mut blamed = Names::new(alloc);
-        blamed.push(Txt::from_str(alloc, "B")?)?;
-        assert!(rt; prints(alloc, Exit::Failed { blamed }, "exit 5 Failed [\"B\"]\n")?);
         assert!(rt; prints(alloc, Exit::LibraryFault, "exit 6 LibraryFault\n")?);
         assert!(rt; prints(alloc, Exit::SinkFault, "exit 8 SinkFault\n")?);
         assert!(rt; prints(alloc, Exit::NoMemory, "exit 9 NoMemory\n")?);

@@ -1,9 +1,9 @@
 //! Lines of words.
 
-ghost use Rattle.std.specs.Prelude.{◌≡◌, ◌++◌, ◌∷◌, IfOk, decimal, map, string_bytes};
+ghost use Rattle.std.specs.Prelude.{◌≡◌, ◌++◌, [], ◌∷◌, IfOk, decimal, map, string_bytes};
 ghost use Rattle.serde_json.specs.Data.{string};
 ghost use Rattle.serde_json.specs.View.{view};
-ghost use Rattle.cf_engine.specs.Line.{text_word, texts_word};
+ghost use Rattle.cf_engine.specs.Line.{spaced, text_word, texts_word};
 
 use cf_tree::{NoMemory, Txt};
 use serde_json::Value;
@@ -41,6 +41,16 @@ pub fn push_texts(alloc: Global, line: &mut String, texts: &[Txt]) -> Result<(),
 {
     let json = texts_json(alloc, texts)?;
     push_word(line, json.as_str())
+}
+
+/// Adds a word and a text as compact JSON, each after a space.
+#[tactic(auto, using(crate::proofs::Spaced::two_words))]
+pub fn push_named(alloc: Global, line: &mut String, word: &str, text: &Txt) -> Result<(), NoMemory>
+    ensures { IfOk result (λ _. string_bytes line.new ≡ string_bytes line.old ++ spaced (word.now ∷ text_word text.now ∷ [])) }
+{
+    push_word(line, word)?;
+    push_text(alloc, line, text)?;
+    Ok(())
 }
 
 // The texts as JSON values.

@@ -7,27 +7,43 @@ mod course;
 mod create;
 mod deployment;
 mod exit;
+mod fault_words;
+#[cfg(test)]
+mod journal_tests;
+#[cfg(test)]
+mod lane_tests;
 mod line;
 mod make;
 mod meeting;
+mod not_yet;
 mod numbers;
 mod opening;
+mod planning;
 mod print;
+mod pseudo;
+#[cfg(test)]
+mod reading_tests;
 mod refusals;
 mod report;
+mod schemas;
 mod stack;
 mod status_name;
 mod telling;
 #[cfg(test)]
 mod tests;
 mod top;
+#[cfg(test)]
+mod top_tests;
+mod validation;
 mod words;
 
-ghost use Rattle.std.specs.Prelude.{◌≡◌, ◌++◌, ◌∷◌, [], ◌&&◌, ℕ, List, false, true, Some, IfOk, IfErr, codes, length, map, nat_lt, string_bytes};
+ghost use Rattle.std.specs.Prelude.{◌≡◌, ◌++◌, ◌∷◌, [], ◌&&◌, ℕ, List, IsTrue, false, true, IfOk, IfErr, codes, length, map, nat_lt, string_bytes};
+ghost use Rattle.cf_handler.specs.Name.{is_lane_name};
+ghost use Rattle.cf_engine.specs.Lanes.{unused};
 ghost use Rattle.cf_engine.specs.Exit.{exit_line};
 ghost use Rattle.cf_engine.specs.Print.{PrintTells};
 ghost use Rattle.cf_engine.specs.Words.{are_short, is_in_form, is_command_line};
-ghost use Rattle.cf_engine.specs.Answer.{IsRun, IsWordless};
+ghost use Rattle.cf_engine.specs.Answer.{IsRun, IsWordless, program_names, program_schemas};
 ghost use Rattle.cf_engine.specs.declared.exit.Exit.TheVariants.{BadWords};
 
 use crate::exit::Exit;
@@ -36,8 +52,9 @@ use crate::top::{Ended, cfstack};
 use crate::words::read_workers;
 use cf_disk::{Disk, MemoryDisk};
 use cf_fake::MemoryHandler;
-use cf_handler::Handler;
+use cf_handler::{Handler, file_schema, record_schema};
 use cf_io::{FolderLibrary, Sink, StdoutSink};
+use cf_schema::Schema;
 use cf_tree::{Listing, NoMemory, Txt};
 use std::alloc::Global;
 use std::io::ErrorKind;
@@ -60,11 +77,14 @@ const USAGE: &str = "usage: cfstack HOME WORKERS WORD ..\
 \n\
 \nHOME is a folder with templates/ in it, WORKERS a number from 1 to 64.\
 \n\
-\n  deploy STACK TEMPLATE  make the resources of the template HOME/templates/TEMPLATE\
-\n  describe STACK         tell the stack that the journal leaves\
+\n  deploy STACK TEMPLATE NAME=VALUE ..\
+\n                     make the resources of the template HOME/templates/TEMPLATE,\
+\n                     with these values for its parameters\
+\n  describe STACK     tell the stack that the journal leaves\
+\n  validate TEMPLATE  say whether the template HOME/templates/TEMPLATE can be read\
 \n\
 \nexits:\
-\n   0 Done             the stack is made, or told\
+\n   0 Done             the stack is made, or told; the template can be read\
 \n   1 BadWords         the command line says nothing that is known\
 \n   2 TemplateRefused  no template, or one that can't be made; nothing was made\
 \n   3 StackRefused     no such stack, or one that is there already; nothing was made\
@@ -146,7 +166,7 @@ fn are_short(words: &[Txt]) -> bool
     total < MOST_BYTES
 }
 
-/// Does what the words say over the templates of the folder, a new disk and one lane, both in memory.
+/// Does what the words say over the templates of the folder, a new disk and four lanes, these in memory.
 fn run_in<K: Sink>(rt: HostRuntime, home: &Txt, workers: u32, words: &[Txt], out: &mut K) -> Exit
     ensures { IsRun
         (record { held = K.held out.old; held' = K.held out.new; faults = K.count out.old; faults' = K.count out.new })
@@ -184,13 +204,24 @@ fn templates_of(alloc: Global, home: &Txt) -> Result<String, NoMemory>
     Ok(folder)
 }
 
-/// The lanes: one for files, in memory.
+/// The lanes, all in memory: two for files and two for records.
 fn lanes_of(alloc: Global) -> Result<Vec<MemoryHandler>, NoMemory>
-    ensures kinds { IfOk result (λ lanes. map ⟦<MemoryHandler as Handler>⟧.of_kind lanes.items ≡ codes "Local::Files::File" ∷ []) }
-    ensures told { IfOk result (λ lanes. map ⟦<MemoryHandler as Handler>⟧.told lanes.items ≡ Some (record { base = []; settled = [] }) ∷ []) }
-    ensures names { IfOk result (λ lanes. map ⟦<MemoryHandler as Handler>⟧.label lanes.items ≡ codes "files1" ∷ []) }
+    ensures schemas { IfOk result (λ lanes. map ⟦<MemoryHandler as Handler>⟧.schema_of lanes.items ≡ program_schemas) }
+    ensures told { IfOk result (λ lanes. map ⟦<MemoryHandler as Handler>⟧.told lanes.items ≡ unused ∷ unused ∷ unused ∷ unused ∷ []) }
+    ensures names { IfOk result (λ lanes. map ⟦<MemoryHandler as Handler>⟧.label lanes.items ≡ program_names) }
 {
     let mut lanes = Vec::new(alloc);
-    lanes.push(MemoryHandler::files(alloc, "files1", Listing::new(alloc))?)?;
+    lanes.push(lane_of(alloc, "files1", file_schema(alloc)?)?)?;
+    lanes.push(lane_of(alloc, "files2", file_schema(alloc)?)?)?;
+    lanes.push(lane_of(alloc, "records1", record_schema(alloc)?)?)?;
+    lanes.push(lane_of(alloc, "records2", record_schema(alloc)?)?)?;
     Ok(lanes)
+}
+
+/// A lane in memory, which holds nothing yet and of which no call is broken.
+fn lane_of(alloc: Global, name: &str, schema: Schema) -> Result<MemoryHandler, NoMemory>
+    requires { IsTrue (is_lane_name name.now) }
+    ensures { IfOk result (λ lane. (⟦<MemoryHandler as Handler>⟧.label lane ≡ name.now) × (⟦<MemoryHandler as Handler>⟧.schema_of lane ≡ schema) × (⟦<MemoryHandler as Handler>⟧.told lane ≡ unused)) }
+{
+    MemoryHandler::new(alloc, name, schema, Listing::new(alloc))
 }

@@ -1,11 +1,14 @@
 //! Commands over the journal of a disk.
-ghost use Rattle.std.specs.Prelude.{◌≡◌, ◌≤◌, ◌^◌, map};
+ghost use Rattle.std.specs.Prelude.{◌≡◌, ◌≤◌, ◌^◌, map, IsTrue};
+ghost use Rattle.cf_journal.specs.Record.{Keeps};
+ghost use Rattle.cf_engine.specs.Lanes.{kinds_of};
 ghost use Rattle.cf_engine.specs.Meeting.{RunsAs, Describes};
 
 use crate::deployment::deploy_in;
 use crate::exit::{Exit, StackFault};
 use crate::opening::{enter, open};
 use crate::stack::{Stack, stack_of};
+use crate::words::Choice;
 use cf_disk::Disk;
 use cf_handler::Handler;
 use cf_io::Library;
@@ -23,13 +26,13 @@ pub fn deploy_on<L: Library, D: Disk, H: Handler>(
     disk: &mut D,
     lanes: &mut Vec<H>,
     stack: &Txt,
-    template: &Txt,
+    choice: &Choice,
 ) -> Result<Stack, Exit>
     requires least { 16 ≤ D.room_of disk.old }
     requires most { D.room_of disk.old ≤ 2 ^ 32 }
     ensures same { L.texts library.new ≡ L.texts library.old }
     ensures names { map H.label lanes.new.items ≡ map H.label lanes.old.items }
-    ensures kinds { map H.of_kind lanes.new.items ≡ map H.of_kind lanes.old.items }
+    ensures schemas { map H.schema_of lanes.new.items ≡ map H.schema_of lanes.old.items }
     ensures room { D.room_of disk.new ≡ D.room_of disk.old }
     ensures tells { RunsAs (record {
       shelf = record {
@@ -40,7 +43,7 @@ pub fn deploy_on<L: Library, D: Disk, H: Handler>(
         misses' = L.missed library.new;
       };
       names = map H.label lanes.old.items;
-      kinds = map H.of_kind lanes.old.items;
+      kinds = kinds_of (map H.schema_of lanes.old.items);
       told = map H.told lanes.old.items;
       told' = map H.told lanes.new.items;
       counts = map H.count lanes.old.items;
@@ -52,14 +55,14 @@ pub fn deploy_on<L: Library, D: Disk, H: Handler>(
       faults = D.count disk.old;
       faults' = D.count disk.new;
     })
-        stack.now template.now result }
+        stack.now choice.now result }
 {
     let mut book = match open(alloc, disk) {
         Ok(book) => book,
         Err(exit) => return Err(exit),
     };
     match enter(alloc, &mut book, disk, lanes.as_slice()) {
-        Ok(()) => deploy_in(alloc, &mut book, disk, library, lanes, stack, template),
+        Ok(()) => deploy_in(alloc, &mut book, disk, library, lanes, stack, choice),
         Err(exit) => Err(exit),
     }
 }
@@ -67,11 +70,13 @@ pub fn deploy_on<L: Library, D: Disk, H: Handler>(
 /// The stack of a name that the journal of a disk leaves.
 ///
 /// `DiskFault` and `NotAJournal` come where the disk can't be read or holds no journal, `NoStack` exactly where no stack
-/// has the name. No entry is written.
+/// has the name. No entry is written: after each answer the disk has the entries that it had, and bytes that are no
+/// journal are as they were.
 pub fn describe_on<D: Disk>(alloc: Global, disk: &mut D, stack: &Txt) -> Result<Stack, Exit>
     requires least { 16 ≤ D.room_of disk.old }
     requires most { D.room_of disk.old ≤ 2 ^ 32 }
     ensures room { D.room_of disk.new ≡ D.room_of disk.old }
+    ensures kept { IsTrue D.tells → Keeps (D.seen disk.old) (D.seen disk.new) }
     ensures tells { Describes D.tells (D.seen disk.old) (D.seen disk.new) (D.count disk.old) (D.count disk.new) stack.now result }
 {
     let book = match open(alloc, disk) {

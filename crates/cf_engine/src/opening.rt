@@ -1,6 +1,8 @@
 //! The opening of a journal over lanes.
-ghost use Rattle.std.specs.Prelude.{◌≡◌, ◌≤◌, ◌^◌, map, Ok, IfOk, IfErr, OnOk};
+ghost use Rattle.std.specs.Prelude.{◌≡◌, ◌≤◌, ◌^◌, map, Ok, IfOk, IfErr, OnOk, IsTrue};
 ghost use Rattle.std.specs.List.{list_any};
+ghost use Rattle.cf_journal.specs.Record.{Keeps};
+ghost use Rattle.cf_engine.specs.Lanes.{kinds_of};
 ghost use Rattle.cf_engine.specs.Book.{IsOpen, Holds};
 ghost use Rattle.cf_engine.specs.Written.{lane_pairs, opening};
 ghost use Rattle.cf_engine.specs.Opening.{number_named, twice, refuses, has_lane, is_served, missing_for, missing_by, lower, missing, exit_of, HasOpenCause, EnterTells};
@@ -29,11 +31,13 @@ pub fn exit_of(halt: Halt) -> Exit
 /// The journal of a disk, with its entries; a disk that holds none gets a new one.
 ///
 /// `NotAJournal` comes exactly where the disk's bytes are no journal, `DiskFault` only where its count of faults rose.
+/// After each answer the disk has the entries that it had; bytes that are no journal are as they were.
 pub fn open<D: Disk>(alloc: Global, disk: &mut D) -> Result<Book, Exit>
     requires least { 16 ≤ D.room_of disk.old }
     requires most { D.room_of disk.old ≤ 2 ^ 32 }
     ensures open { IfOk result (λ book. IsOpen D.tells D.seen D.may_leave D.room_of book disk.new) }
     ensures found { IfOk result (λ book. Holds D.tells (D.seen disk.old) book.entries.items) }
+    ensures kept { IsTrue D.tells → Keeps (D.seen disk.old) (D.seen disk.new) }
     ensures cause { IfErr result (HasOpenCause D.tells (D.seen disk.old) (D.count disk.old) (D.count disk.new)) }
     ensures room { D.room_of disk.new ≡ D.room_of disk.old }
     ensures count { D.count disk.old ≤ D.count disk.new }
@@ -104,10 +108,10 @@ fn is_refused(entries: &[Entry], token: u64) -> bool
 
 /// Whether a lane of this name and type is handed in.
 fn has_lane<H: Handler>(lanes: &[H], name: &str, kind: &str) -> bool
-    ensures { result ≡ has_lane (map H.label lanes.now) (map H.of_kind lanes.now) name.now kind.now }
+    ensures { result ≡ has_lane (map H.label lanes.now) (kinds_of (map H.schema_of lanes.now)) name.now kind.now }
 {
     for lane in lanes.iter() {
-        if name == lane.name() && kind == lane.kind() {
+        if name == lane.name() && lane.schema().kind.is(kind) {
             return true;
         }
     }
@@ -116,7 +120,7 @@ fn has_lane<H: Handler>(lanes: &[H], name: &str, kind: &str) -> bool
 
 /// Whether nothing is there by the call of a token, or its lane is handed in.
 fn is_served<H: Handler>(lanes: &[H], all: &[Entry], token: u64, lane: &Txt, kind: &Txt) -> bool
-    ensures { result ≡ is_served (map H.label lanes.now) (map H.of_kind lanes.now) all.now token lane.now kind.now }
+    ensures { result ≡ is_served (map H.label lanes.now) (kinds_of (map H.schema_of lanes.now)) all.now token lane.now kind.now }
 {
     is_refused(all, token) || has_lane(lanes, lane.as_str(), kind.as_str())
 }
@@ -130,7 +134,7 @@ fn missing_for<H: Handler>(
     lane: &Txt,
     request: &Request,
 ) -> Result<Option<Txt>, AllocError>
-    ensures { IfOk result (λ name. name ≡ missing_for (map H.label lanes.now) (map H.of_kind lanes.now) all.now token lane.now request.now) }
+    ensures { IfOk result (λ name. name ≡ missing_for (map H.label lanes.now) (kinds_of (map H.schema_of lanes.now)) all.now token lane.now request.now) }
 {
     match request {
         Request::Create { kind, props: _ } => {
@@ -155,7 +159,7 @@ fn missing_by<H: Handler>(
     all: &[Entry],
     entry: &Entry,
 ) -> Result<Option<Txt>, AllocError>
-    ensures { IfOk result (λ name. name ≡ missing_by (map H.label lanes.now) (map H.of_kind lanes.now) all.now entry.now) }
+    ensures { IfOk result (λ name. name ≡ missing_by (map H.label lanes.now) (kinds_of (map H.schema_of lanes.now)) all.now entry.now) }
 {
     match entry {
         Entry::Intent {
@@ -186,7 +190,7 @@ fn first_missing<H: Handler>(
     lanes: &[H],
     entries: &[Entry],
 ) -> Result<Option<Txt>, AllocError>
-    ensures { IfOk result (λ name. name ≡ missing (map H.label lanes.now) (map H.of_kind lanes.now) entries.now) }
+    ensures { IfOk result (λ name. name ≡ missing (map H.label lanes.now) (kinds_of (map H.schema_of lanes.now)) entries.now) }
 {
     let mut best = None;
     for entry in entries.iter() {
@@ -198,12 +202,12 @@ fn first_missing<H: Handler>(
 
 /// The name and the type of each lane, in the order handed in.
 fn lane_names<H: Handler>(alloc: Global, lanes: &[H]) -> Result<LaneNames, AllocError>
-    ensures { IfOk result (λ names. names ≡ lane_pairs (map H.label lanes.now) (map H.of_kind lanes.now)) }
+    ensures { IfOk result (λ names. names ≡ lane_pairs (map H.label lanes.now) (kinds_of (map H.schema_of lanes.now))) }
 {
     let mut names = LaneNames::new(alloc);
     for lane in lanes.iter() {
         let name = Txt::from_str(alloc, lane.name())?;
-        let kind = Txt::from_str(alloc, lane.kind())?;
+        let kind = lane.schema().kind.try_clone(alloc)?;
         names.push((name, kind))?;
     }
     Ok(names)
@@ -211,7 +215,7 @@ fn lane_names<H: Handler>(alloc: Global, lanes: &[H]) -> Result<LaneNames, Alloc
 
 /// The entry of an opening over these lanes.
 fn opening<H: Handler>(alloc: Global, entries: &[Entry], lanes: &[H]) -> Result<Entry, AllocError>
-    ensures { IfOk result (λ e. e ≡ opening (map H.label lanes.now) (map H.of_kind lanes.now) entries.now) }
+    ensures { IfOk result (λ e. e ≡ opening (map H.label lanes.now) (kinds_of (map H.schema_of lanes.now)) entries.now) }
 {
     let epoch = next_of(Numbered::Openings, entries);
     let lanes = lane_names(alloc, lanes)?;
@@ -233,7 +237,7 @@ pub fn enter<D: Disk, H: Handler>(
     ensures open { OnOk result (IsOpen D.tells D.seen D.may_leave D.room_of book.new disk.new) }
     ensures room { D.room_of disk.new ≡ D.room_of disk.old }
     ensures count { D.count disk.old ≤ D.count disk.new }
-    ensures tells { EnterTells D.tells (D.seen disk.new) (D.room_of disk.old) (D.count disk.old) (D.count disk.new) (map H.label lanes.now) (map H.of_kind lanes.now)
+    ensures tells { EnterTells D.tells (D.seen disk.new) (D.room_of disk.old) (D.count disk.old) (D.count disk.new) (map H.label lanes.now) (kinds_of (map H.schema_of lanes.now))
         book.old.entries.items book.new.entries.items result }
 {
     match first_twice(alloc, lanes) {
@@ -255,7 +259,7 @@ fn enter_apart<D: Disk, H: Handler>(
     ensures open { OnOk result (IsOpen D.tells D.seen D.may_leave D.room_of book.new disk.new) }
     ensures room { D.room_of disk.new ≡ D.room_of disk.old }
     ensures count { D.count disk.old ≤ D.count disk.new }
-    ensures tells { EnterTells D.tells (D.seen disk.new) (D.room_of disk.old) (D.count disk.old) (D.count disk.new) (map H.label lanes.now) (map H.of_kind lanes.now)
+    ensures tells { EnterTells D.tells (D.seen disk.new) (D.room_of disk.old) (D.count disk.old) (D.count disk.new) (map H.label lanes.now) (kinds_of (map H.schema_of lanes.now))
         book.old.entries.items book.new.entries.items result }
 {
     match first_missing(alloc, lanes, book.entries.as_slice()) {
@@ -274,11 +278,11 @@ fn write_opening<D: Disk, H: Handler>(
 ) -> Result<(), Exit>
     requires open { IsOpen D.tells D.seen D.may_leave D.room_of book.old disk.old }
     requires differ { twice (map H.label lanes.now) ≡ None }
-    requires present { missing (map H.label lanes.now) (map H.of_kind lanes.now) book.old.entries.items ≡ None }
+    requires present { missing (map H.label lanes.now) (kinds_of (map H.schema_of lanes.now)) book.old.entries.items ≡ None }
     ensures open { OnOk result (IsOpen D.tells D.seen D.may_leave D.room_of book.new disk.new) }
     ensures room { D.room_of disk.new ≡ D.room_of disk.old }
     ensures count { D.count disk.old ≤ D.count disk.new }
-    ensures tells { EnterTells D.tells (D.seen disk.new) (D.room_of disk.old) (D.count disk.old) (D.count disk.new) (map H.label lanes.now) (map H.of_kind lanes.now)
+    ensures tells { EnterTells D.tells (D.seen disk.new) (D.room_of disk.old) (D.count disk.old) (D.count disk.new) (map H.label lanes.now) (kinds_of (map H.schema_of lanes.now))
         book.old.entries.items book.new.entries.items result }
 {
     match opening(alloc, book.entries.as_slice(), lanes) {

@@ -3,7 +3,7 @@ ghost use Rattle.std.specs.Prelude.{◌≡◌, ◌++◌, [], ◌∷◌, Some, No
 ghost use Rattle.cf_engine.specs.Stack.{creating, begun_as, asking, answered, replying_to, completing, is_going, after_going, stack_after, stack_of};
 
 use cf_entry::{Begun, Entry, Reply, Status};
-use cf_tree::{Listing, NoMemory, Request, Txt};
+use cf_tree::{Listing, NoMemory, Request, Source, Txt};
 use std::alloc::{AllocError, Global};
 
 /// A resource of a stack.
@@ -28,6 +28,10 @@ pub struct Stack {
     pub status: Status,
     /// The number of the operation that created it.
     pub number: u64,
+    /// What it was made from, once it is complete.
+    pub source: Option<Source>,
+    /// What the operation in progress makes it from.
+    pub going: Option<Source>,
     /// Its resources, in the order in which they were made.
     pub held: Listing<Held>,
     /// What the operation in progress has made.
@@ -35,25 +39,33 @@ pub struct Stack {
     pub open_token: Option<Pending>,
 }
 
-/// A stack whose creation begins.
-fn creating(alloc: Global, number: u64) -> Stack
-    ensures { result ≡ creating number }
+/// A stack whose creation from a source begins.
+fn creating(alloc: Global, number: u64, source: &Source) -> Result<Stack, AllocError>
+    ensures { IfOk result (λ s. s ≡ creating number source.now) }
 {
-    Stack {
+    let source = source.try_clone(alloc)?;
+    Ok(Stack {
         status: Status::CreateInProgress,
         number,
+        source: None,
+        going: Some(source),
         held: Listing::new(alloc),
         made: Listing::new(alloc),
         open_token: None,
-    }
+    })
 }
 
-fn begun_as(alloc: Global, number: u64, kind: &Begun, stack: Option<Stack>) -> Option<Stack>
-    ensures { result ≡ begun_as number kind.now stack }
+fn begun_as(
+    alloc: Global,
+    number: u64,
+    kind: &Begun,
+    stack: Option<Stack>,
+) -> Result<Option<Stack>, AllocError>
+    ensures { IfOk result (λ s. s ≡ begun_as number kind.now stack) }
 {
     match kind {
-        Begun::Create { source: _ } => Some(creating(alloc, number)),
-        _ => stack,
+        Begun::Create { source } => Ok(Some(creating(alloc, number, source)?)),
+        _ => Ok(stack),
     }
 }
 
@@ -146,6 +158,8 @@ fn completing(alloc: Global, stack: Stack, status: Status) -> Stack
 {
     let mut stack = stack;
     if status == Status::CreateComplete {
+        stack.source = stack.going;
+        stack.going = None;
         stack.held = stack.made;
         stack.made = Listing::new(alloc);
     }
@@ -200,7 +214,7 @@ fn stack_after(
             stack,
         ) => {
             if *name == *named {
-                Ok(begun_as(alloc, *number, kind, stack))
+                begun_as(alloc, *number, kind, stack)
             } else {
                 Ok(stack)
             }
@@ -212,8 +226,9 @@ fn stack_after(
 
 /// The stack of a name that the entries of a journal leave, if there is one.
 ///
-/// A beginning of a creation makes it, with nothing held. An intent of its operation opens a token; the outcome of the
-/// open token makes the resource, or closes the token. The end `CREATE_COMPLETE` makes what was made its resources.
+/// A beginning of a creation makes it, with its source in progress and nothing held. An intent of its operation opens a token; the outcome of the
+/// open token makes the resource, or closes the token. The end `CREATE_COMPLETE` makes what was made its resources,
+/// and the source its own.
 /// Entries of other kinds of operations, which nothing writes yet, leave it as it is.
 pub fn stack_of(alloc: Global, name: &Txt, entries: &[Entry]) -> Result<Option<Stack>, NoMemory>
     ensures { IfOk result (λ s. s ≡ stack_of name.now entries.now) }

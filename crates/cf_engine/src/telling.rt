@@ -6,7 +6,7 @@ ghost use Rattle.cf_engine.specs.Telling.{held_line, stack_report, text_of, exit
 
 use crate::exit::Exit;
 use crate::print::{print_exit, put};
-use crate::report::{push_resource, push_stack};
+use crate::report::{push_parameters, push_resource, push_stack};
 use crate::stack::{Held, Stack};
 use crate::status_name::name_of_status;
 use cf_io::Sink;
@@ -48,6 +48,7 @@ fn report(alloc: Global, name: &Txt, stack: &Stack) -> Result<String, NoMemory>
         name_of_status(stack.status),
         stack.number,
     )?;
+    push_parameters(alloc, &mut text, stack.source.as_ref())?;
     push_held(&mut text, stack.held.as_slice())?;
     Exit::Done.push_line(alloc, &mut text)?;
     Ok(text)

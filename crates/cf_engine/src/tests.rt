@@ -1,35 +1,37 @@
 //! The top calls over stores in memory: what they print and answer.
 ghost use Rattle.std.specs.Prelude.{◌≡◌, ◌≤◌, ◌^◌, length, IfOk, IsTrue};
+ghost use Rattle.cf_handler.specs.Name.{is_lane_name};
 ghost use Rattle.cf_fake.specs.Refusable.{may_break};
 
 use crate::exit::Exit;
 use crate::top::{Ended, cfstack};
 use cf_disk::{Disk, FuseDisk, MemoryDisk};
 use cf_fake::{Break, MemoryHandler, Plan, Planned};
+use cf_handler::{file_schema, record_schema};
 use cf_io::{MemoryLibrary, MemorySink};
 use cf_tree::{Code, Listing, NoMemory, Txt};
 use std::alloc::Global;
 use std::test::Fail;
 
 // One resource.
-const ONE: &str = "{\"Resources\":{\
+pub(crate) const ONE: &str = "{\"Resources\":{\
     \"Web\":{\"Type\":\"Local::Files::File\",\"Properties\":{\"Path\":\"web.txt\",\"Content\":\"hello\"}}}}";
 
 // Two resources, not in order.
-const TWO: &str = "{\"Resources\":{\
+pub(crate) const TWO: &str = "{\"Resources\":{\
     \"B\":{\"Type\":\"Local::Files::File\",\"Properties\":{\"Content\":\"y\",\"Path\":\"b\"}},\
     \"A\":{\"Type\":\"Local::Files::File\",\"Properties\":{\"Path\":\"a\",\"Content\":\"x\"}}}}";
 
 // What a command left, and whether it printed what was wanted.
 #[derive(Drop)]
-struct Ran<D> {
-    is_wanted: bool,
-    disk: D,
-    lanes: Vec<MemoryHandler>,
+pub(crate) struct Ran<D> {
+    pub(crate) is_wanted: bool,
+    pub(crate) disk: D,
+    pub(crate) lanes: Vec<MemoryHandler>,
 }
 
 // The words of a line.
-fn words_of(alloc: Global, line: &str) -> Result<Vec<Txt>, NoMemory> {
+pub(crate) fn words_of(alloc: Global, line: &str) -> Result<Vec<Txt>, NoMemory> {
     let mut words = Vec::new(alloc);
     for word in line.split_ascii_whitespace() {
         words.push(Txt::from_str(alloc, word)?)?;
@@ -38,7 +40,7 @@ fn words_of(alloc: Global, line: &str) -> Result<Vec<Txt>, NoMemory> {
 }
 
 // A library that holds a text under the name `x`.
-fn library_of(alloc: Global, text: &str) -> Result<MemoryLibrary, NoMemory> {
+pub(crate) fn library_of(alloc: Global, text: &str) -> Result<MemoryLibrary, NoMemory> {
     let mut texts = Vec::new(alloc);
     let name = Txt::from_str(alloc, "x")?;
     texts.push((name, Vec::from_slice(alloc, text.as_bytes())?))?;
@@ -46,22 +48,40 @@ fn library_of(alloc: Global, text: &str) -> Result<MemoryLibrary, NoMemory> {
 }
 
 // A disk that holds these bytes.
-fn disk_of(alloc: Global, bytes: &[u8], room: u64) -> Result<MemoryDisk, NoMemory>
+pub(crate) fn disk_of(alloc: Global, bytes: &[u8], room: u64) -> Result<MemoryDisk, NoMemory>
     requires { length bytes.now ≤ room }
     ensures { IfOk result (λ disk. ⟦<MemoryDisk as Disk>⟧.room_of disk ≡ room) }
 {
     MemoryDisk::new(alloc, bytes, room, &[], 1_000, 100_000)
 }
 
+// A lane of files.
+pub(crate) fn files(alloc: Global, name: &str, plan: Plan) -> Result<MemoryHandler, NoMemory>
+    requires { IsTrue (is_lane_name name.now) }
+{
+    MemoryHandler::new(alloc, name, file_schema(alloc)?, plan)
+}
+
+// A lane of records.
+pub(crate) fn records(alloc: Global, name: &str) -> Result<MemoryHandler, NoMemory>
+    requires { IsTrue (is_lane_name name.now) }
+{
+    MemoryHandler::new(alloc, name, record_schema(alloc)?, Listing::new(alloc))
+}
+
 // The one lane `f1`.
-fn one_lane(alloc: Global, plan: Plan) -> Result<Vec<MemoryHandler>, NoMemory> {
+pub(crate) fn one_lane(alloc: Global, plan: Plan) -> Result<Vec<MemoryHandler>, NoMemory> {
     let mut lanes = Vec::new(alloc);
-    lanes.push(MemoryHandler::files(alloc, "f1", plan)?)?;
+    lanes.push(files(alloc, "f1", plan)?)?;
     Ok(lanes)
 }
 
 // The one lane `f1`, of which the call of this number is broken.
-fn broken_lane(alloc: Global, call: u64, break_: Break) -> Result<Vec<MemoryHandler>, NoMemory>
+pub(crate) fn broken_lane(
+    alloc: Global,
+    call: u64,
+    break_: Break,
+) -> Result<Vec<MemoryHandler>, NoMemory>
     requires { IsTrue (may_break break_) }
 {
     let mut plan: Plan = Listing::new(alloc);
@@ -70,7 +90,7 @@ fn broken_lane(alloc: Global, call: u64, break_: Break) -> Result<Vec<MemoryHand
 }
 
 // Does what the line says over a library that holds a template under `x`.
-fn run_line<D: Disk + Drop + Send>(
+pub(crate) fn run_line<D: Disk + Drop + Send>(
     alloc: Global,
     line: &str,
     template: &str,
@@ -139,8 +159,8 @@ fn the_first_lane_of_a_type_makes_its_resources(rt: HostRuntime) -> Result<(), F
         resource Web Local::Files::File f2:1 CREATE_COMPLETE\n\
         exit 0 Done\n";
     let mut lanes = Vec::new(alloc);
-    lanes.push(MemoryHandler::files(alloc, "f2", Listing::new(alloc))?)?;
-    lanes.push(MemoryHandler::files(alloc, "f1", Listing::new(alloc))?)?;
+    lanes.push(files(alloc, "f2", Listing::new(alloc))?)?;
+    lanes.push(files(alloc, "f1", Listing::new(alloc))?)?;
     assert!(rt; refuses(alloc, &[], 65_536, lanes, wanted)?);
     Ok(())
 }
@@ -212,7 +232,7 @@ fn disks_and_lanes_that_are_refused(rt: HostRuntime) -> Result<(), Fail> {
         )?
     );
     let mut lanes = one_lane(alloc, Listing::new(alloc))?;
-    lanes.push(MemoryHandler::records(alloc, "f1", Listing::new(alloc))?)?;
+    lanes.push(records(alloc, "f1")?)?;
     assert!(rt; refuses(alloc, &[], 65_536, lanes, "exit 11 LaneTwice \"f1\"\n")?);
     Ok(())
 }
@@ -229,7 +249,7 @@ fn a_lane_that_the_journal_needs_is_missing(rt: HostRuntime) -> Result<(), Fail>
     let first = run_line(alloc, "deploy app x", ONE, disk, lanes, wanted)?;
     assert!(rt; first.is_wanted);
     let mut lanes = Vec::new(alloc);
-    lanes.push(MemoryHandler::records(alloc, "f1", Listing::new(alloc))?)?;
+    lanes.push(records(alloc, "f1")?)?;
     let missing = "exit 11 LaneMissing \"f1\"\n";
     let second = run_line(alloc, "deploy other x", ONE, first.disk, lanes, missing)?;
     assert!(rt; second.is_wanted);
@@ -257,6 +277,8 @@ fn a_broken_creation_stops_the_run(rt: HostRuntime) -> Result<(), Fail> {
     let refused = Break::Refuse(Code::ServiceLimitExceeded);
     let limit = "exit 15 Unrolled Handler \"B\" ServiceLimitExceeded\n";
     assert!(rt; stops(alloc, 2, refused, limit)?);
+    let limit = "exit 15 Unrolled Handler \"A\" ServiceLimitExceeded\n";
+    assert!(rt; stops(alloc, 1, refused, limit)?);
     for break_ in [Break::FaultBefore, Break::FaultAfter] {
         assert!(rt; stops(alloc, 1, break_, "exit 15 Unrolled Handler \"A\" Fault\n")?);
         assert!(rt; stops(alloc, 2, break_, "exit 15 Unrolled Handler \"B\" Fault\n")?);
@@ -280,17 +302,6 @@ fn words_and_templates_that_are_refused(rt: HostRuntime) -> Result<(), Fail> {
             "{\"Resources\":",
             "exit 2 TemplateRefused Read \"x\" NotJson\n",
         ),
-        (
-            "deploy app x",
-            "[]",
-            "exit 2 TemplateRefused Read \"x\" NotYet\n",
-        ),
-        (
-            "deploy app x",
-            "{\"Resources\":{\"A\":{\"Type\":\"T\",\"Properties\":{\"Path\":{\"Ref\":\"B\"}}}}}",
-            "exit 2 TemplateRefused Read \"x\" NotYet\n",
-        ),
-        ("deploy app x K=V", ONE, "exit 1 BadWords\n"),
         (
             "deploy app x",
             "{\"Resources\":{\"A\":{\"Type\":\"No::Such\",\"Properties\":{}}}}",

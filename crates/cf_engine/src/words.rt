@@ -1,19 +1,43 @@
 //! The words of a command line.
 
-ghost use Rattle.std.specs.Prelude.{◌≡◌, IfOk};
+ghost use Rattle.std.specs.Prelude.{◌≡◌, IfOk, codes, option_map};
+ghost use Rattle.std.specs.Char.{is_ascii_alphanumeric};
 ghost use Rattle.std.specs.List.{list_all};
-ghost use Rattle.cf_engine.specs.Words.{command_of, drives, workers_of, deploy_of, describe_of, is_stack_name, is_template_name, is_name_byte};
+ghost use Rattle.cf_funcs.specs.Pieces.{cut_at};
+ghost use Rattle.cf_template.specs.Words.{is_name};
+ghost use Rattle.cf_engine.specs.declared.words.Command.TheVariants.{Deploy};
+ghost use Rattle.cf_engine.specs.Words.{command_of, drives, workers_of, deploy_of, describe_of, validate_of, setting_of, given_of, is_stack_name, is_template_name, is_name_byte};
 
-use cf_tree::{NoMemory, Txt};
+use cf_tree::{NoMemory, Pairs, Txt};
 use std::alloc::Global;
 
+/// The longest name of a parameter, in bytes.
+const LONGEST_NAME: usize = 255;
+
+/// A template by its name in the library, and what is given for its parameters.
+#[derive(Drop)]
+pub struct Choice {
+    pub template: Txt,
+    pub given: Pairs,
+}
+
 /// What a command line asks for.
-#[derive(Debug, Drop, PartialEq, Eq)]
+#[derive(Drop)]
 pub enum Command {
-    /// `deploy STACK TEMPLATE`: bring the stack to what the template says.
-    Deploy { stack: Txt, template: Txt },
+    /// `deploy STACK TEMPLATE NAME=VALUE ..`: bring the stack to what the template says.
+    Deploy {
+        stack: Txt,
+        template: Txt,
+        given: Pairs,
+    },
     /// `describe STACK`: report on the stack.
-    Describe { stack: Txt },
+    Describe {
+        stack: Txt,
+    },
+    /// `validate TEMPLATE`: say whether the template can be read.
+    Validate {
+        template: Txt,
+    },
 }
 
 impl Command {
@@ -23,7 +47,7 @@ impl Command {
     {
         match self {
             Command::Deploy { .. } => true,
-            Command::Describe { .. } => false,
+            Command::Describe { .. } | Command::Validate { .. } => false,
         }
     }
 }
@@ -31,7 +55,8 @@ impl Command {
 /// The command that the words ask for, and None exactly where no row of the table of commands fits.
 ///
 /// A stack's name is a letter, then letters, digits and `-`, at most 128 of them. A template's name has
-/// 1 to 128 bytes.
+/// 1 to 128 bytes. What is given for a parameter is cut at the first `=`: the name before it has 1 to 255 letters and
+/// digits and stands once, the value behind it may be empty.
 pub fn read_words(alloc: Global, words: &[Txt]) -> Result<Option<Command>, NoMemory>
     ensures { IfOk result (λ command. command ≡ command_of words.now) }
 {
@@ -43,6 +68,9 @@ pub fn read_words(alloc: Global, words: &[Txt]) -> Result<Option<Command>, NoMem
     }
     if word.is("describe") {
         return read_describe(alloc, rest);
+    }
+    if word.is("validate") {
+        return read_validate(alloc, rest);
     }
     Ok(None)
 }
@@ -66,15 +94,84 @@ pub fn read_workers(word: &Txt) -> Option<u32>
 fn read_deploy(alloc: Global, words: &[Txt]) -> Result<Option<Command>, NoMemory>
     ensures { IfOk result (λ command. command ≡ deploy_of words.now) }
 {
-    match words {
-        [stack, template] if is_stack_name(stack.as_str()) && is_template_name(template.as_str()) =>
-            {
-                let stack = stack.try_clone(alloc)?;
-                let template = template.try_clone(alloc)?;
-                Ok(Some(Command::Deploy { stack, template }))
-            }
-        _ => Ok(None),
+    let Some((stack, rest)) = words.split_first() else {
+        return Ok(None);
+    };
+    let Some((template, settings)) = rest.split_first() else {
+        return Ok(None);
+    };
+    if is_stack_name(stack.as_str()) && is_template_name(template.as_str()) {
+        deployment(alloc, stack, template, settings)
+    } else {
+        Ok(None)
     }
+}
+
+// The deployment of a stack from a template, if the other words give parameters.
+fn deployment(
+    alloc: Global,
+    stack: &Txt,
+    template: &Txt,
+    settings: &[Txt],
+) -> Result<Option<Command>, NoMemory>
+    ensures { IfOk result (λ command. command ≡ option_map (Deploy stack.now template.now) (given_of settings.now)) }
+{
+    match read_given(alloc, settings)? {
+        Some(given) => Ok(Some(Command::Deploy {
+            stack: stack.try_clone(alloc)?,
+            template: template.try_clone(alloc)?,
+            given,
+        })),
+        None => Ok(None),
+    }
+}
+
+// What the words give for parameters, by name.
+fn read_given(alloc: Global, words: &[Txt]) -> Result<Option<Pairs>, NoMemory>
+    ensures { IfOk result (λ given. given ≡ given_of words.now) }
+{
+    let mut given = Pairs::new(alloc);
+    for word in words {
+        match setting(word.as_str()) {
+            Some((name, value)) => {
+                if given.get(name).is_some() {
+                    return Ok(None);
+                }
+                given.insert(Txt::from_str(alloc, name)?, Txt::from_str(alloc, value)?)?;
+            }
+            None => return Ok(None),
+        }
+    }
+    Ok(Some(given))
+}
+
+// The name and the value that a word gives for a parameter.
+fn setting(word: &str) -> Option<(&str, &str)>
+    ensures { option_map (λ s. (s.0.now, s.1.now)) result ≡ setting_of word.now }
+{
+    match cut(word) {
+        Some((name, value)) if is_parameter_name(name) => Some((name, value)),
+        _ => None,
+    }
+}
+
+// What stands before the first `=`, and what follows it.
+fn cut(word: &str) -> Option<(&str, &str)>
+    ensures { option_map (λ c. (c.0.now, c.1.now)) result ≡ cut_at (codes "=") word.now }
+{
+    word.split_once("=")
+}
+
+fn is_parameter_name(name: &str) -> bool
+    ensures { result ≡ is_name name.now }
+{
+    !name.is_empty() && name.len() <= LONGEST_NAME && are_alphanumeric(name.as_bytes())
+}
+
+fn are_alphanumeric(bytes: &[u8]) -> bool
+    ensures { result ≡ list_all is_ascii_alphanumeric bytes.now }
+{
+    bytes.iter().all(|b| b.is_ascii_alphanumeric())
 }
 
 // The words after `describe`.
@@ -85,6 +182,19 @@ fn read_describe(alloc: Global, words: &[Txt]) -> Result<Option<Command>, NoMemo
         [stack] if is_stack_name(stack.as_str()) => {
             let stack = stack.try_clone(alloc)?;
             Ok(Some(Command::Describe { stack }))
+        }
+        _ => Ok(None),
+    }
+}
+
+// The words after `validate`.
+fn read_validate(alloc: Global, words: &[Txt]) -> Result<Option<Command>, NoMemory>
+    ensures { IfOk result (λ command. command ≡ validate_of words.now) }
+{
+    match words {
+        [template] if is_template_name(template.as_str()) => {
+            let template = template.try_clone(alloc)?;
+            Ok(Some(Command::Validate { template }))
         }
         _ => Ok(None),
     }
@@ -136,28 +246,56 @@ mod tests {
         Ok(read_words(alloc, words.as_slice())?.is_none())
     }
 
+    // Whether the words of a line ask for the deployment of app-1 from one.json with N given as this value.
+    fn deploys(alloc: Global, line: &str, value: &str) -> Result<bool, NoMemory> {
+        let words = words_of(alloc, line)?;
+        match read_words(alloc, words.as_slice())? {
+            Some(
+                Command::Deploy {
+                    stack,
+                    template,
+                    given,
+                },
+            ) => Ok(stack.is("app-1") && template.is("one.json") && gives(&given, value)),
+            _ => Ok(false),
+        }
+    }
+
+    // Whether just N is given, as this value.
+    fn gives(given: &Pairs, value: &str) -> bool {
+        match given.get("N") {
+            Some(text) => text.is(value) && given.len() == 1,
+            None => false,
+        }
+    }
+
     #[test]
     fn the_table_of_commands(rt: HostRuntime) -> Result<(), Fail> {
         let alloc = rt.alloc();
-        let app = Txt::from_str(alloc, "app-1")?;
-        let one = Txt::from_str(alloc, "one.json")?;
-        let words = words_of(alloc, "deploy app-1 one.json")?;
-        let deploy = Command::Deploy {
-            stack: app,
-            template: one,
-        };
-        assert!(rt; read_words(alloc, words.as_slice())? == Some(deploy));
-        let app = Txt::from_str(alloc, "app-1")?;
-        let words = words_of(alloc, "describe app-1")?;
-        assert!(rt; read_words(alloc, words.as_slice())? == Some(Command::Describe { stack: app }));
+        assert!(rt; deploys(alloc, "deploy app-1 one.json N=", "")?);
+        assert!(rt; deploys(alloc, "deploy app-1 one.json N=1.5", "1.5")?);
+        assert!(rt; deploys(alloc, "deploy app-1 one.json N=a=b", "a=b")?);
+        for line in [
+            "deploy app-1 one",
+            "deploy a b B=1 A=2",
+            "describe app-1",
+            "validate one",
+        ] {
+            assert!(rt; !is_refused(alloc, line)?, "at {line}");
+        }
         for line in [
             "",
             "deploy app",
-            "deploy app one K=V",
+            "deploy app one K",
+            "deploy app one =V",
+            "deploy app one K-1=V",
+            "deploy app one K=V K=V",
             "deploy 1app one",
             "deploy a_b one",
             "list",
             "describe",
+            "validate",
+            "validate a b",
         ] {
             assert!(rt; is_refused(alloc, line)?, "at {line}");
         }

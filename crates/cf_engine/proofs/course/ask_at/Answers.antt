@@ -5,8 +5,8 @@ use Rattle.cf_engine.proofs.course.ask_at.Goals as goal
 pub returns-clause-names : goal.returns-clause-names
 returns-clause-names g c = same_at g.H.Handler.label c.args.lanes.now.items c.args.at c.index_mut.result.now c.ask.new.lane c.index_mut.ensures.value c.ask.ensures.name
 
-pub returns-clause-kinds : goal.returns-clause-kinds
-returns-clause-kinds g c = same_at g.H.Handler.of_kind c.args.lanes.now.items c.args.at c.index_mut.result.now c.ask.new.lane c.index_mut.ensures.value c.ask.ensures.kind
+pub returns-clause-schemas : goal.returns-clause-schemas
+returns-clause-schemas g c = same_at g.H.Handler.schema_of c.args.lanes.now.items c.args.at c.index_mut.result.now c.ask.new.lane c.index_mut.ensures.value c.ask.ensures.schema
 
 pub returns-clause-moves : goal.returns-clause-moves
 returns-clause-moves g c =

@@ -1,5 +1,6 @@
 use Rattle.std.proofs.Common.{map, [], ◌∷◌, ◌++◌, slice_index_or, ap, ◌∙◌, subst}
 use Rattle.cf_tree.specs.declared.request.Request.{Request}
+use Rattle.cf_engine.specs.Lanes.{kinds_of}
 use Rattle.cf_engine.specs.Written.{intent_of}
 use Rattle.cf_engine.specs.Calls.{MovesAt}
 use Rattle.cf_engine.proofs.Stepped.{stepped}
@@ -9,7 +10,7 @@ pub returns-in-Ok-announce-clause-tells : goal.returns-in-Ok-announce-clause-tel
 returns-in-Ok-announce-clause-tells g c =
     stepped (record {
       names = map g.H.Handler.label c.args.lanes.now.items;
-      kinds = map g.H.Handler.of_kind c.args.lanes.now.items;
+      kinds = kinds_of (map g.H.Handler.schema_of c.args.lanes.now.items);
       told = map g.H.Handler.told c.args.lanes.now.items;
       told' = map g.H.Handler.told c.ask_at-told.new.lanes.items;
       counts = map g.H.Handler.count c.args.lanes.now.items;

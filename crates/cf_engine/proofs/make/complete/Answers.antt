@@ -1,5 +1,6 @@
 use Rattle.std.proofs.Common.{map, [], ◌∷◌, ◌++◌, ap, ◌∙◌, subst}
 use Rattle.cf_entry.specs.declared.entry.Entry.{Entry}
+use Rattle.cf_engine.specs.Lanes.{kinds_of}
 use Rattle.cf_engine.specs.Book.{HaltsAt}
 use Rattle.cf_engine.proofs.Behind.{ended_all, ended_cut}
 use Rattle.cf_engine.proofs.make.complete.Goals as goal
@@ -8,7 +9,7 @@ pub returns-in-Ok-clause-tells : goal.returns-in-Ok-clause-tells
 returns-in-Ok-clause-tells g c =
     ended_all (record {
       names = map g.H.Handler.label c.args.lanes.now.items;
-      kinds = map g.H.Handler.of_kind c.args.lanes.now.items;
+      kinds = kinds_of (map g.H.Handler.schema_of c.args.lanes.now.items);
       told = map g.H.Handler.told c.args.lanes.now.items;
       told' = map g.H.Handler.told c.create_all.new.lanes.items;
       counts = map g.H.Handler.count c.args.lanes.now.items;
@@ -27,7 +28,7 @@ pub returns-in-Err-clause-tells : goal.returns-in-Err-clause-tells
 returns-in-Err-clause-tells g c =
     ended_cut (record {
       names = map g.H.Handler.label c.args.lanes.now.items;
-      kinds = map g.H.Handler.of_kind c.args.lanes.now.items;
+      kinds = kinds_of (map g.H.Handler.schema_of c.args.lanes.now.items);
       told = map g.H.Handler.told c.args.lanes.now.items;
       told' = map g.H.Handler.told c.create_all.new.lanes.items;
       counts = map g.H.Handler.count c.args.lanes.now.items;

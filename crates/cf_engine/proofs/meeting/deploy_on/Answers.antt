@@ -1,4 +1,5 @@
 use Rattle.std.proofs.Common.{◌≡◌, map, [], ◌∷◌, ◌++◌, None, Err, refl, ◌∙◌, subst, arith}
+use Rattle.cf_engine.specs.Lanes.{kinds_of}
 use Rattle.cf_engine.specs.Written.{opening}
 use Rattle.cf_engine.specs.Opening.{twice, missing, EnterTells}
 use Rattle.cf_engine.proofs.Entered.{entered, not_entered}
@@ -7,7 +8,7 @@ use Rattle.cf_engine.proofs.meeting.deploy_on.Goals as goal
 pub returns-in-Ok-enter-clause-tells : goal.returns-in-Ok-enter-clause-tells
 returns-in-Ok-enter-clause-tells g c =
     let old = c.in-Ok.book.entries.items in
-    let t = subst (λ xs. (twice (map g.H.Handler.label xs) ≡ None) × (missing (map g.H.Handler.label xs) (map g.H.Handler.of_kind xs) old ≡ None) × (c.enter.new.book.entries.items ≡ old ++ opening (map g.H.Handler.label xs) (map g.H.Handler.of_kind xs) old ∷ [])) c.as_slice.ensures.value c.in-Ok-enter.ensures.tells in
+    let t = subst (λ xs. (twice (map g.H.Handler.label xs) ≡ None) × (missing (map g.H.Handler.label xs) (kinds_of (map g.H.Handler.schema_of xs)) old ≡ None) × (c.enter.new.book.entries.items ≡ old ++ opening (map g.H.Handler.label xs) (kinds_of (map g.H.Handler.schema_of xs)) old ∷ [])) c.as_slice.ensures.value c.in-Ok-enter.ensures.tells in
     entered (record {
       shelf = record {
         texts = g.L.Library.texts c.args.library.now;
@@ -17,7 +18,7 @@ returns-in-Ok-enter-clause-tells g c =
         misses' = g.L.Library.missed c.deploy_in.new.library;
       };
       names = map g.H.Handler.label c.args.lanes.now.items;
-      kinds = map g.H.Handler.of_kind c.args.lanes.now.items;
+      kinds = kinds_of (map g.H.Handler.schema_of c.args.lanes.now.items);
       told = map g.H.Handler.told c.args.lanes.now.items;
       told' = map g.H.Handler.told c.deploy_in.new.lanes.items;
       counts = map g.H.Handler.count c.args.lanes.now.items;
@@ -29,7 +30,7 @@ returns-in-Ok-enter-clause-tells g c =
       faults = g.D.Disk.count c.args.disk.now;
       faults' = g.D.Disk.count c.deploy_in.new.disk;
     })
-    c.args.stack.now c.args.template.now c.deploy_in.result old c.enter.new.book.entries.items c.deploy_in.new.book.entries.items (g.D.Disk.room_of c.enter.new.disk) (g.D.Disk.count c.enter.new.disk)
+    c.args.stack.now c.args.choice.now c.deploy_in.result old c.enter.new.book.entries.items c.deploy_in.new.book.entries.items (g.D.Disk.room_of c.enter.new.disk) (g.D.Disk.count c.enter.new.disk)
     (omega (arith, c.in-Ok.ensures.count, c.in-Ok-enter.ensures.count)) c.in-Ok.ensures.found t.0 t.1 t.2 (c.in-Ok-enter.ensures.room ∙ c.in-Ok.ensures.room) c.deploy_in.ensures.tells
 
 pub returns-clause-tells : goal.returns-clause-tells
@@ -43,7 +44,7 @@ returns-clause-tells g c =
         misses' = g.L.Library.missed c.args.library.now;
       };
       names = map g.H.Handler.label c.args.lanes.now.items;
-      kinds = map g.H.Handler.of_kind c.args.lanes.now.items;
+      kinds = kinds_of (map g.H.Handler.schema_of c.args.lanes.now.items);
       told = map g.H.Handler.told c.args.lanes.now.items;
       told' = map g.H.Handler.told c.args.lanes.now.items;
       counts = map g.H.Handler.count c.args.lanes.now.items;
@@ -55,7 +56,7 @@ returns-clause-tells g c =
       faults = g.D.Disk.count c.args.disk.now;
       faults' = g.D.Disk.count c.enter.new.disk;
     })
-    c.args.stack.now c.args.template.now c.in-Err-enter.exit c.in-Ok.book.entries.items c.enter.new.book.entries.items (g.D.Disk.room_of c.open.new.disk) (g.D.Disk.count c.open.new.disk)
+    c.args.stack.now c.args.choice.now c.in-Err-enter.exit c.in-Ok.book.entries.items c.enter.new.book.entries.items (g.D.Disk.room_of c.open.new.disk) (g.D.Disk.count c.open.new.disk)
     c.in-Ok.ensures.count c.in-Ok.ensures.found c.in-Ok.ensures.room
-    (subst (λ xs. EnterTells g.D.Disk.tells (g.D.Disk.seen c.enter.new.disk) (g.D.Disk.room_of c.open.new.disk) (g.D.Disk.count c.open.new.disk) (g.D.Disk.count c.enter.new.disk) (map g.H.Handler.label xs) (map g.H.Handler.of_kind xs) c.in-Ok.book.entries.items c.enter.new.book.entries.items (Err c.in-Err-enter.exit)) c.as_slice.ensures.value c.in-Err-enter.ensures.tells)
+    (subst (λ xs. EnterTells g.D.Disk.tells (g.D.Disk.seen c.enter.new.disk) (g.D.Disk.room_of c.open.new.disk) (g.D.Disk.count c.open.new.disk) (g.D.Disk.count c.enter.new.disk) (map g.H.Handler.label xs) (kinds_of (map g.H.Handler.schema_of xs)) c.in-Ok.book.entries.items c.enter.new.book.entries.items (Err c.in-Err-enter.exit)) c.as_slice.ensures.value c.in-Err-enter.ensures.tells)
     (refl, refl)

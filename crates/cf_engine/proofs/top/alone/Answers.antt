@@ -1,4 +1,5 @@
 use Rattle.std.proofs.Common.{map}
+use Rattle.cf_engine.specs.Lanes.{kinds_of}
 use Rattle.cf_engine.proofs.Lines.{answers_of}
 use Rattle.cf_engine.proofs.top.alone.Goals as goal
 
@@ -14,7 +15,7 @@ returns-clause-answered g c =
         misses' = g.L.Library.missed c.run_words-exit.new.library;
       };
       names = map g.H.Handler.label c.args.lanes.items;
-      kinds = map g.H.Handler.of_kind c.args.lanes.items;
+      kinds = kinds_of (map g.H.Handler.schema_of c.args.lanes.items);
       told = map g.H.Handler.told c.args.lanes.items;
       told' = map g.H.Handler.told c.run_words-exit.new.lanes.items;
       counts = map g.H.Handler.count c.args.lanes.items;

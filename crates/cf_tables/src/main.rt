@@ -1,0 +1,80 @@
+//! Tables of the template language: rows of templates, parameters, schemas and expressions, each with the answer that the
+//! rules of the language give it.
+//!
+//! The program reads a table line by line from its input. It answers each row by the calls that the engine uses, prints the
+//! rows that are answered otherwise, and in the end how many rows there were. Its functions promise nothing: what they call
+//! is proved in its own crates, and here it is held against answers that were worked out by hand.
+//!
+//! A line is one of these:
+//!
+//! - `== KIND TEXT` is a heading: what the rows below it ask for, and the text in which each stands at the `@`. Behind
+//!   ` <- ` follows what is given to parameters, as `K=V & L=W`; `K?` is given and not known yet.
+//! - `+ TEXT` goes on with the text of the heading.
+//! - `PIECE => ANSWER` is a row; `PIECE <- GIVEN => ANSWER` gives other parameters than the heading. In a piece
+//!   `<<TEXT*NUMBER>>` stands for that many copies of the text, in which `#` is the number of the copy.
+//! - Everything else is a remark.
+#![tactic(auto)]
+
+mod answer;
+mod evaluating;
+mod fault;
+mod given;
+mod heading;
+mod json;
+mod stretch;
+
+use crate::answer::answer;
+use crate::heading::Heading;
+use std::io;
+use std::io::{BufRead, BufReader};
+use std::process::ExitCode;
+
+/// How many rows were answered, and how many otherwise than they say.
+#[derive(Drop)]
+struct Tally {
+    rows: u64,
+    wrong: u64,
+}
+
+fn main(rt: HostRuntime) -> ExitCode {
+    match table(&rt) {
+        Ok(tally) => {
+            if tally.wrong == 0 {
+                ExitCode::SUCCESS
+            } else {
+                ExitCode::FAILURE
+            }
+        }
+        Err(_) => ExitCode::FAILURE,
+    }
+}
+
+/// Works the table line by line.
+fn table(rt: &HostRuntime) -> io::Result<Tally> {
+    let mut tally = Tally { rows: 0, wrong: 0 };
+    let mut heading = Heading::new(rt.alloc());
+    let lines = BufReader::new(rt.alloc(), rt.reader())?.lines(rt.alloc());
+    for line in lines {
+        let line = line?;
+        work(rt, &mut heading, &mut tally, line.as_str())?;
+    }
+    println!(rt; "{} rows, {} answered otherwise", tally.rows, tally.wrong)?;
+    Ok(tally)
+}
+
+/// Works one line.
+fn work(rt: &HostRuntime, heading: &mut Heading, tally: &mut Tally, line: &str) -> io::Result<()> {
+    if let Some(text) = line.strip_prefix("== ") {
+        *heading = Heading::read(rt.alloc(), text)?;
+    } else if let Some(text) = line.strip_prefix("+ ") {
+        heading.go_on(text)?;
+    } else if let Some((piece, wanted)) = line.split_once(" => ") {
+        let given = answer(rt.alloc(), heading, piece)?;
+        tally.rows = tally.rows.saturating_add(1);
+        if given.as_str() != wanted {
+            tally.wrong = tally.wrong.saturating_add(1);
+            println!(rt; "{piece}\n    wanted {wanted}\n    given  {given}")?;
+        }
+    }
+    Ok(())
+}

@@ -1,0 +1,25 @@
+//! Long texts in short rows.
+use std::alloc::{AllocError, Global};
+
+/// The text with `<<PIECE*NUMBER>>`, where it has that, replaced by so many copies of the piece; a `#` in the piece is the
+/// number of the copy.
+pub fn stretched(alloc: Global, text: &str) -> Result<String, AllocError> {
+    let Some((before, rest)) = text.split_once("<<") else {
+        return String::from_str(alloc, text);
+    };
+    let (mark, after) = rest.split_once(">>").unwrap_or((rest, ""));
+    let (piece, times) = mark.split_once('*').unwrap_or((mark, "1"));
+    let mut whole = String::from_str(alloc, before)?;
+    for number in 0..times.parse::<u32>().unwrap_or(0) {
+        push_copy(&mut whole, piece, number)?;
+    }
+    whole.push_str(after)?;
+    Ok(whole)
+}
+
+fn push_copy(whole: &mut String, piece: &str, number: u32) -> Result<(), AllocError> {
+    match piece.split_once('#') {
+        Some((before, after)) => write!(whole, "{before}{number}{after}"),
+        None => whole.push_str(piece),
+    }
+}
