@@ -1,4 +1,5 @@
--- What a new template changes of what a stack holds (User Guide: change sets; DescribeChangeSet). What counts as unknown, and so which details are Dynamic and which replacements Conditional, is this project's own.
+-- What a new template changes of what a stack holds (User Guide: change sets; DescribeChangeSet). What counts as
+-- unknown, and so which details are Dynamic and which replacements Conditional, is this project's own.
 use Rattle.std.specs.Prelude.{ℕ, zero, suc, Bool, true, false, ◌&&◌, ◌||◌, not, List, [], ◌∷◌, ◌++◌, Option, Some, None, find, filter, flat_map, fold, map, option_map, is_some, if◌then◌else◌}
 use Rattle.std.specs.List.{list_any}
 use Rattle.std.specs.Option.{option_map_or}
@@ -23,7 +24,10 @@ use Rattle.cf_tree.specs.declared.template.Deletion.TheVariants as deletion
 use Rattle.cf_tree.specs.declared.template.Replace.{Replace}
 use Rattle.cf_tree.specs.declared.template.Replace.TheVariants as replace
 use Rattle.cf_graph.specs.Needs.{is_among}
+use Rattle.cf_graph.specs.Inserted.{insert_by}
+use Rattle.cf_export.specs.declared.Output.{Output}
 use Rattle.cf_schema.specs.declared.described.Schema.{Schema}
+use Rattle.cf_schema.specs.Kinds.{found}
 use Rattle.cf_eval.specs.Outcome.{Outcome, got}
 use Rattle.cf_desired.specs.Flaw.{Flaw}
 use Rattle.cf_desired.specs.Plan.{Seen, SeenAt, Evaluated, flawed, evaluated, Wanted, WantedOutput, plan_of}
@@ -40,20 +44,14 @@ pub record HeldAt : Type 0 where
   pub replace : Replace
   pub unsure : Bool
 
-pub record HeldOutput : Type 0 where
-  pub name : List ℕ
-  pub value : List ℕ
-  pub export : Option (List ℕ)
-
 abbrev pub held_at : List ℕ → List HeldAt → Option HeldAt
 held_at path hs = find (λ h. bytes_eq path h.path) hs
 
-abbrev pub schema_of : List ℕ → List Schema → Option Schema
-schema_of kind schemas = find (λ g. bytes_eq kind g.kind) schemas
-
 -- whether a change of the property replaces the resource
 abbrev pub recreation_by : Schema → List ℕ → Recreation
-recreation_by g name = if is_among name g.create_only then recreation.Always else if is_among name g.conditional then recreation.Conditionally else recreation.Never
+recreation_by g name =
+    if is_among name g.create_only then recreation.Always else if is_among name g.conditional then recreation.Conditionally
+    else recreation.Never
 
 abbrev pub recreation_of : Option Schema → List ℕ → Recreation
 recreation_of None name = recreation.Never
@@ -69,7 +67,8 @@ differs None None = None
 
 abbrev pub property_detail : Option Schema → List (List ℕ × Data) → List (List ℕ × Option Data) → List ℕ → List Detail
 property_detail g old new name =
-    option_map_or (λ e. record { attribute = attribute.Properties; name = name; recreation = recreation_of g name; evaluation = e } ∷ []) (differs (value_at name old) (value_at name new)) []
+    option_map_or (λ e. record { attribute = attribute.Properties; name = name; recreation = recreation_of g name; evaluation = e } ∷ [])
+    (differs (value_at name old) (value_at name new)) []
 
 -- the names on either side, each once, in byte order
 abbrev pub names_of : List (List ℕ × Data) → List (List ℕ × Option Data) → List (List ℕ)
@@ -92,8 +91,11 @@ same_replace _ _ = false
 
 abbrev pub policy_details : HeldAt → Wanted → List Detail
 policy_details h w =
-    (if same_deletion h.deletion w.deletion then [] else record { attribute = attribute.DeletionPolicy; name = []; recreation = recreation.Never; evaluation = evaluation.Static } ∷ [])
-    ++ (if same_replace h.replace w.replace then [] else record { attribute = attribute.UpdateReplacePolicy; name = []; recreation = recreation.Never; evaluation = evaluation.Static } ∷ [])
+    (if same_deletion h.deletion w.deletion then []
+    else record { attribute = attribute.DeletionPolicy; name = []; recreation = recreation.Never; evaluation = evaluation.Static } ∷ [])
+    ++ (if same_replace h.replace w.replace then []
+    else record { attribute = attribute.UpdateReplacePolicy; name = []; recreation = recreation.Never; evaluation = evaluation.Static }
+    ∷ [])
 
 -- Replacement: True where a create-only property has a Static detail; else Conditional where one has a Dynamic detail or a conditional one has any; else False.
 abbrev pub is_always_static : Recreation → Evaluation → Bool
@@ -126,9 +128,10 @@ modify_row h w ds =
 
 abbrev pub row_for : List Schema → Option HeldAt → Wanted → Option Row
 row_for schemas None w = Some (record { action = action.Add; path = w.path; kind = w.kind; replacement = None; unsure = false; details = [] })
-row_for schemas (Some h) w = modify_row h w (property_details (schema_of w.kind schemas) h.props (props_or_none w.props) ++ policy_details h w)
+row_for schemas (Some h) w = modify_row h w (property_details (found w.kind schemas) h.props (props_or_none w.props) ++ policy_details h w)
 
--- What of a resource is seen by those that need it: unknown are the id of one that is added or may be replaced, and the attributes of one that is added, has a property detail or is unsure.
+-- What of a resource is seen by those that need it: unknown are the id of one that is added or may be replaced, and the
+-- attributes of one that is added, has a property detail or is unsure.
 abbrev pub is_property_attribute : Attribute → Bool
 is_property_attribute attribute.Properties = true
 is_property_attribute _ = false
@@ -167,8 +170,13 @@ is_other_kind (Some h) w = not (bytes_eq h.kind w.kind)
 
 abbrev pub found_with : List Schema → List HeldAt → Found → Wanted → Found
 found_with schemas held f w =
-    if is_other_kind (held_at w.path held) w then record f { clash = f.clash ++ w.path ∷ []; seen = f.seen ++ (w.path, seen_after (held_at w.path held) None) ∷ [] }
-    else record f { rows = f.rows ++ row_list (row_for schemas (held_at w.path held) w); seen = f.seen ++ (w.path, seen_after (held_at w.path held) (row_for schemas (held_at w.path held) w)) ∷ [] }
+    if is_other_kind (held_at w.path held) w
+    then record f { clash = f.clash ++ w.path ∷ []; seen = f.seen ++ (w.path, seen_after (held_at w.path held) None) ∷ [] }
+    else record f {
+      rows = f.rows ++ row_list (row_for schemas (held_at w.path held) w);
+      seen = f.seen
+          ++ (w.path, seen_after (held_at w.path held) (row_for schemas (held_at w.path held) w)) ∷ [];
+    }
 
 abbrev pub found_at : List Schema → List HeldAt → Source → Found → List ℕ → Found
 found_at schemas held source f path = option_map_or (found_with schemas held f) (wanted_at path (plan_of source f.seen)) f
@@ -179,7 +187,8 @@ next_path source f = option_map (λ w. w.path) (find (λ w. not (is_some (value_
 
 abbrev pub found_by : ℕ → List Schema → List HeldAt → Source → Found → Found
 found_by zero schemas held source f = f
-found_by (suc left) schemas held source f = option_map_or (λ path. found_by left schemas held source (found_at schemas held source f path)) (next_path source f) f
+found_by (suc left) schemas held source f =
+    option_map_or (λ path. found_by left schemas held source (found_at schemas held source f path)) (next_path source f) f
 
 -- a stack has 2,000 resources at the most
 abbrev pub found_of : List Schema → List HeldAt → Source → Found
@@ -193,9 +202,8 @@ abbrev pub removed_rows : List HeldAt → Seen → List Row
 removed_rows held seen = map removed_row (filter (λ h. not (is_some (value_at h.path seen))) held)
 
 -- by path
-abbrev pub put_row : List Row → Row → List Row
-put_row [] r = r ∷ []
-put_row (q ∷ qs) r = if bytes_lt q.path r.path then q ∷ put_row qs r else r ∷ q ∷ qs
+abbrev pub is_row_before : Row → Row → Bool
+is_row_before a b = bytes_lt a.path b.path
 
 -- whether the evaluated outputs and exports differ from those that are held, or may
 abbrev pub is_same_text : List ℕ → Outcome (List ℕ) → Bool
@@ -207,9 +215,10 @@ is_same_export None None = true
 is_same_export (Some a) (Some b) = is_same_text a b
 is_same_export _ _ = false
 
-abbrev pub are_same_outputs : List HeldOutput → List WantedOutput → Bool
+abbrev pub are_same_outputs : List Output → List WantedOutput → Bool
 are_same_outputs [] [] = true
-are_same_outputs (h ∷ hs) (w ∷ ws) = bytes_eq h.name w.name && (is_same_text h.value w.value && (is_same_export h.export w.export && are_same_outputs hs ws))
+are_same_outputs (h ∷ hs) (w ∷ ws) =
+    bytes_eq h.name w.name && (is_same_text h.value w.value && (is_same_export h.export w.export && are_same_outputs hs ws))
 are_same_outputs _ _ = false
 
 abbrev pub is_kept_export : List (List ℕ × Outcome (List ℕ)) → List ℕ × List ℕ → Bool
@@ -228,12 +237,12 @@ pub record Changes : Type 0 where
   pub clash : List (List ℕ)
   pub flaws : List Flaw
 
-abbrev pub changes_of : List Schema → List HeldAt → List HeldOutput → List (List ℕ × List ℕ) → Source → Changes
+abbrev pub changes_of : List Schema → List HeldAt → List Output → List (List ℕ × List ℕ) → Source → Changes
 changes_of schemas held outputs exports source =
     let f = found_of schemas held source in
     let p = plan_of source f.seen in
     record {
-      rows = fold put_row [] (f.rows ++ removed_rows held f.seen);
+      rows = fold (insert_by is_row_before) [] (f.rows ++ removed_rows held f.seen);
       outputs_differ = not (are_same_outputs outputs p.outputs && are_same_exports exports p.exports);
       clash = f.clash;
       flaws = p.flaws;

@@ -1,9 +1,9 @@
 -- What is evaluated in one template: properties one by one, outputs, and the parameters of a nested stack.
 use Rattle.std.specs.Prelude.{ℕ, Bool, true, false, List, [], ◌∷◌, Option, Some, None, option_map, if◌then◌else◌, codes}
-use Rattle.std.specs.List.{join_by}
-use Rattle.cf_tree.specs.Datum.{Data, Items, text, list, no_items, item}
+use Rattle.cf_funcs.specs.Pieces.{joined}
+use Rattle.cf_tree.specs.Datum.{Data, Items, Members, text, list, dict, no_items, item, no_members, member}
 use Rattle.cf_tree.specs.Keys.{value_at}
-use Rattle.cf_tree.specs.Forms.{Form, Node, Fields, expr, choice, no_fields, field}
+use Rattle.cf_tree.specs.Forms.{Form, Node, Fields, expr, choice, no_fields, field, place_of}
 use Rattle.cf_tree.specs.Forms as node
 use Rattle.cf_tree.specs.declared.bound.Setting.{Setting}
 use Rattle.cf_tree.specs.declared.bound.Verdict.{Verdict}
@@ -11,9 +11,9 @@ use Rattle.cf_tree.specs.declared.template.Template.{Template}
 use Rattle.cf_eval.specs.declared.env.Sight.{Sight}
 use Rattle.cf_eval.specs.declared.fault.EvalWhy.TheVariants.{WrongKind, UnknownName}
 use Rattle.cf_eval.specs.Outcome.{Outcome, Stop, got, later, bad, fault, undecided, on_got, or_wrong}
-use Rattle.cf_eval.specs.Scope.{Scope, open_to, held_at}
-use Rattle.cf_eval.specs.ScopeOf.{setting_of, verdict_of}
-use Rattle.cf_eval.specs.Texts.{Found, text_of}
+use Rattle.cf_eval.specs.Scope.{Scope, open_to}
+use Rattle.cf_eval.specs.ScopeOf.{among, setting_of}
+use Rattle.cf_eval.specs.Texts.{Found, text_of, as_text}
 use Rattle.cf_eval.specs.Value.{form_found, blamed}
 use Rattle.cf_eval.specs.Env.{plain}
 use Rattle.cf_param.specs.declared.offered.Piece.{Piece}
@@ -21,12 +21,13 @@ use Rattle.cf_param.specs.declared.offered.Piece.TheVariants.{Text, Later}
 use Rattle.cf_desired.specs.Flaw.{Flaw, eval}
 
 -- the scope of a template's resources and outputs
-abbrev pub scope_over : Template → List (List ℕ × Setting) → List (List ℕ × Verdict) → List (List ℕ × Data) → List (List ℕ × Sight) → List (List ℕ × List ℕ) → Scope
+abbrev pub scope_over :
+    Template → List (List ℕ × Setting) → List (List ℕ × Verdict) → List (List ℕ × Data) → List (List ℕ × Sight) → List (List ℕ × List ℕ) → Scope
 scope_over t bound conds pseudo seen imports = record {
   params = λ name. option_map setting_of (value_at name bound);
   mapping = λ name. value_at name t.mappings;
   pseudo = pseudo;
-  decided = λ at name. held_at at name (option_map verdict_of (value_at name conds));
+  decided = among conds;
   beyond = open_to seen imports;
 }
 
@@ -55,15 +56,8 @@ props_in s [] = known_props []
 props_in s (p ∷ ps) = with_prop p.0 (value_in s p.1) (props_in s ps)
 
 -- A value that is wanted as a text where no function holds it: its own place is blamed.
-abbrev pub place_in : Form → List ℕ
-place_in (expr at n) = at
-
-abbrev pub text_wanted : List ℕ → Option Data → Outcome (List ℕ)
-text_wanted at None = bad (fault WrongKind at)
-text_wanted at (Some d) = or_wrong at (text_of d)
-
 abbrev pub text_in : Scope → Form → Outcome (List ℕ)
-text_in s e = on_got (value_in s e) (text_wanted (place_in e))
+text_in s e = as_text (place_of e) (value_in s e)
 
 -- The value of a nested parameter: a text, a whole number or a truth value, or a list of texts joined with commas.
 abbrev pub texts_of : Items → Option (List (List ℕ))
@@ -71,11 +65,8 @@ texts_of no_items = Some []
 texts_of (item (text t) ds) = option_map (λ ts. t ∷ ts) (texts_of ds)
 texts_of (item _ ds) = None
 
-abbrev pub joined : List (List ℕ) → List ℕ
-joined ts = join_by (λ t. t) (codes ",") ts
-
 abbrev pub piece_text : Data → Option (List ℕ)
-piece_text (list ds) = option_map joined (texts_of ds)
+piece_text (list ds) = option_map (joined (codes ",")) (texts_of ds)
 piece_text d = text_of d
 
 abbrev pub piece_wanted : List ℕ → Option Data → Outcome (Option Piece)
@@ -98,10 +89,16 @@ abbrev pub pieces_in : Scope → Option (List ℕ) → Fields → Outcome (List 
 pieces_in s around no_fields = got []
 pieces_in s around (field k e fs) = on_got (piece_found s around e) (λ p. on_got (pieces_in s around fs) (λ ps. got (with_piece k p ps)))
 
--- the members of `Parameters`: a map, or the taken branch of an Fn::If; without a value there are none
-abbrev pub no_map : List ℕ → Option Data → Outcome (List (List ℕ × Piece))
-no_map at None = got []
-no_map at (Some d) = bad (fault WrongKind at)
+-- the members of a map that is a value, an attribute say: for each of them the map is to blame
+abbrev pub member_pieces : List ℕ → Members → Outcome (List (List ℕ × Piece))
+member_pieces at no_members = got []
+member_pieces at (member k d ms) = on_got (piece_wanted at (Some d)) (λ p. on_got (member_pieces at ms) (λ ps. got (with_piece k p ps)))
+
+-- the members of `Parameters`: of a map, of the taken branch of an Fn::If, or of a value that is a map; without a value there are none
+abbrev pub map_wanted : List ℕ → Option Data → Outcome (List (List ℕ × Piece))
+map_wanted at None = got []
+map_wanted at (Some (dict ms)) = member_pieces at ms
+map_wanted at (Some d) = bad (fault WrongKind at)
 
 abbrev mutual
   pub parameters_in : Scope → Option (List ℕ) → Form → Outcome (List (List ℕ × Piece))
@@ -110,7 +107,7 @@ abbrev mutual
   pub node_parameters : Scope → Option (List ℕ) → List ℕ → Node → Outcome (List (List ℕ × Piece))
   node_parameters s around at (node.dict fs) = pieces_in s around fs
   node_parameters s around at (choice name y n) = on_got (s.decided at name) (λ b. if b then parameters_in s (Some at) y else parameters_in s (Some at) n)
-  node_parameters s around at n = on_got (plain (form_found s around (expr at n))) (no_map (blamed around at n))
+  node_parameters s around at n = on_got (plain (form_found s around (expr at n))) (map_wanted (blamed around at n))
 
 -- the same where faults are passed over: what is at fault counts as not known yet
 abbrev pub piece_despite : Outcome (Option Piece) → Option Piece

@@ -1,4 +1,5 @@
--- The names of stacks and of paths, and the pseudo parameters (template reference, pseudo parameters; their values and the names of nested stacks are this project's own).
+-- The names of stacks and of paths, and the pseudo parameters (template reference, pseudo parameters; their values and the
+-- names of nested stacks are this project's own).
 use Rattle.std.specs.Prelude.{ℕ, List, [], ◌∷◌, ◌++◌, codes, decimal}
 use Rattle.cf_tree.specs.Datum.{Data, text, list, no_items}
 
@@ -17,4 +18,7 @@ stack_id name number = codes "arn:aws:cloudformation:us-east-1:123456789012:stac
 
 abbrev pub pseudo_of : List ℕ → ℕ → List (List ℕ × Data)
 pseudo_of name number =
-    (codes "AWS::AccountId", text (codes "123456789012")) ∷ (codes "AWS::NotificationARNs", list no_items) ∷ (codes "AWS::Partition", text (codes "aws")) ∷ (codes "AWS::Region", text (codes "us-east-1")) ∷ (codes "AWS::StackId", text (stack_id name number)) ∷ (codes "AWS::StackName", text name) ∷ (codes "AWS::URLSuffix", text (codes "amazonaws.com")) ∷ []
+    (codes "AWS::AccountId", text (codes "123456789012")) ∷ (codes "AWS::NotificationARNs", list no_items)
+    ∷ (codes "AWS::Partition", text (codes "aws")) ∷ (codes "AWS::Region", text (codes "us-east-1"))
+    ∷ (codes "AWS::StackId", text (stack_id name number)) ∷ (codes "AWS::StackName", text name)
+    ∷ (codes "AWS::URLSuffix", text (codes "amazonaws.com")) ∷ []

@@ -1,11 +1,12 @@
--- What a template wants of each path (User Guide: working with nested stacks; limits, and how far a nested stack may rest on what is not known yet, are this project's own).
+-- What a template wants of each path (User Guide: working with nested stacks; limits, and how far a nested stack may rest
+-- on what is not known yet, are this project's own).
 use Rattle.std.specs.Prelude.{ℕ, zero, suc, ◌+◌, Bool, true, false, ◌&&◌, not, List, [], ◌∷◌, ◌++◌, Option, Some, None, Result, Ok, Err, find, filter, flat_map, map, option_map, option_and_then, unwrap_or, is_some, fold, length, nat_lt, codes, if◌then◌else◌}
 use Rattle.std.specs.List.{list_any, list_all}
 use Rattle.std.specs.Option.{option_or, option_map_or}
 use Rattle.std.specs.Str.{bytes_eq}
 use Rattle.cf_tree.specs.Datum.{Data}
 use Rattle.cf_tree.specs.Keys.{value_at, put}
-use Rattle.cf_tree.specs.Forms.{Form}
+use Rattle.cf_tree.specs.Forms.{Form, place_of}
 use Rattle.cf_tree.specs.Named.{found}
 use Rattle.cf_tree.specs.declared.bound.Setting.{Setting}
 use Rattle.cf_tree.specs.declared.bound.Verdict.{Verdict}
@@ -37,7 +38,7 @@ use Rattle.cf_tree.specs.declared.template.Param.{Param}
 use Rattle.cf_param.specs.Binding.{binding_of}
 use Rattle.cf_desired.specs.Names.{path_in, name_in, stack_id, pseudo_of}
 use Rattle.cf_desired.specs.Flaw.{Flaw, bind, eval, graph, shape, template_missing, too_deep, too_many, dynamic_condition, dynamic_template}
-use Rattle.cf_desired.specs.Evaluate.{scope_over, value_in, flaw_at, Props, known_props, bad_props, props_in, place_in, text_in, parameters_in, parameters_despite}
+use Rattle.cf_desired.specs.Evaluate.{scope_over, value_in, flaw_at, Props, known_props, bad_props, props_in, text_in, parameters_in, parameters_despite}
 
 -- what is known of a resource's physical id and of its attributes, by path
 pub record SeenAt : Type 0 where
@@ -96,7 +97,8 @@ pub record Entering : Type 0 where
   pub needs : List (List ℕ)
 
 abbrev pub no_plan : ℕ → ℕ → List Flaw → Plan
-no_plan templates members flaws = record { wanted = []; outputs = []; nested = []; unmade = []; exports = []; flaws = flaws; templates = templates; members = members }
+no_plan templates members flaws =
+    record { wanted = []; outputs = []; nested = []; unmade = []; exports = []; flaws = flaws; templates = templates; members = members }
 
 -- an output of a nested stack that is at fault: of which logical id, under which attribute, and why
 pub record Broken : Type 0 where
@@ -104,7 +106,8 @@ pub record Broken : Type 0 where
   pub attribute : List ℕ
   pub flaw : Flaw
 
--- What is settled of a template's resources so far: the plan, what is seen of each, which paths each stands for, and the outputs of nested stacks that are at fault; these are seen as not known yet.
+-- What is settled of a template's resources so far: the plan, what is seen of each, which paths each stands for, and the
+-- outputs of nested stacks that are at fault; these are seen as not known yet.
 pub record Course : Type 0 where
   pub plan : Plan
   pub sights : List (List ℕ × Sight)
@@ -140,7 +143,8 @@ abbrev pub seen_as : Option SeenAt → Sight
 seen_as None = sight.Made None None
 seen_as (Some s) = sight.Made s.physical s.attrs
 
--- Who refers to an output that is at fault has that output's flaw. Such an output is looked for by taking it for one that is not made: what then becomes a fault refers to it.
+-- Who refers to an output that is at fault has that output's flaw. Such an output is looked for by taking it for one that is
+-- not made: what then becomes a fault refers to it.
 abbrev pub is_broken_at : List ℕ → List ℕ → Broken → Bool
 is_broken_at id attribute b = bytes_eq id b.id && bytes_eq attribute b.attribute
 
@@ -231,7 +235,9 @@ with_resource e scope conds seen c r ids =
         deletion = unwrap_or (deletion_for e r) deletion.Delete;
         replace = unwrap_or (replace_for e r) replace.Delete;
         needs = needed_paths e c ids;
-        props = unless_flaw (condition_flaw e conds (resource_place r.name) r.condition) (evaluation_of (flaw_over (λ sights. stop_of_props (props_in (scope sights) r.props)) e.path c) (props_in (scope c.sights) r.props));
+        props =
+            unless_flaw (condition_flaw e conds (resource_place r.name) r.condition)
+            (evaluation_of (flaw_over (λ sights. stop_of_props (props_in (scope sights) r.props)) e.path c) (props_in (scope c.sights) r.props));
       });
       sights = c.sights ++ (r.name, seen_as (value_at path seen)) ∷ [];
       stands = c.stands ++ (r.name, path ∷ []) ∷ [];
@@ -239,7 +245,8 @@ with_resource e scope conds seen c r ids =
 
 -- A nested stack: the properties that it may have, its parameters, its template by name, and the limits, in this order.
 abbrev pub is_stack_property : List ℕ → Bool
-is_stack_property name = is_among name (codes "NotificationARNs" ∷ codes "Parameters" ∷ codes "Tags" ∷ codes "TemplateURL" ∷ codes "TimeoutInMinutes" ∷ [])
+is_stack_property name =
+    is_among name (codes "NotificationARNs" ∷ codes "Parameters" ∷ codes "Tags" ∷ codes "TemplateURL" ∷ codes "TimeoutInMinutes" ∷ [])
 
 abbrev pub has_stack_shape : Res → Bool
 has_stack_shape r = list_all (λ p. is_stack_property p.0) r.props && is_some (value_at (codes "TemplateURL") r.props)
@@ -279,7 +286,9 @@ Laying = Entering → ℕ → ℕ → Plan
 -- the limits, on entering a nested stack: depth, templates, the template itself, the members of all together
 abbrev pub entered : Option Laying → Plan → List ℕ → List ℕ → Option Template → (Template → Entering) → Plan
 entered None p path name t entering = no_plan p.templates p.members (too_deep path ∷ [])
-entered (Some lay) p path name None entering = if nat_lt 16 (p.templates + 1) then no_plan p.templates p.members (too_many (p.templates + 1) ∷ []) else no_plan p.templates p.members (template_missing name ∷ [])
+entered (Some lay) p path name None entering =
+    if nat_lt 16 (p.templates + 1) then no_plan p.templates p.members (too_many (p.templates + 1) ∷ [])
+    else no_plan p.templates p.members (template_missing name ∷ [])
 entered (Some lay) p path name (Some t) entering =
     if nat_lt 16 (p.templates + 1) then no_plan p.templates p.members (too_many (p.templates + 1) ∷ [])
     else if nat_lt 2000 (p.members + length t.resources) then no_plan p.templates p.members (too_many (p.members + length t.resources) ∷ [])
@@ -287,22 +296,24 @@ entered (Some lay) p path name (Some t) entering =
 
 abbrev pub nested_at_url : Option Laying → Source → Entering → Course → Res → List (List ℕ) → List (List ℕ × Piece) → Url → Plan
 nested_at_url lay source e c r ids given (no_url f) = no_plan c.plan.templates c.plan.members (f ∷ [])
-nested_at_url lay source e c r ids given (url name) = entered lay c.plan (path_in e.path r.name) name (template_named name source) (λ t. record {
-  path = path_in e.path r.name;
-  stack = name_in e.stack r.name;
-  template = t;
-  given = given;
-  deletion = deletion_for e r;
-  replace = replace_for e r;
-  needs = needed_paths e c ids;
-})
+nested_at_url lay source e c r ids given (url name) =
+    entered lay c.plan (path_in e.path r.name) name (template_named name source) (λ t. record {
+      path = path_in e.path r.name;
+      stack = name_in e.stack r.name;
+      template = t;
+      given = given;
+      deletion = deletion_for e r;
+      replace = replace_for e r;
+      needs = needed_paths e c ids;
+    })
 
 abbrev pub url_of : Entering → Scope → Res → Url
 url_of e s r =
     let form = value_at (codes "TemplateURL") r.props in
-    url_from e.path (path_in e.path r.name) (option_map_or (λ f. on_got (value_in s f) (maybe_text (place_in f))) form (got None))
+    url_from e.path (path_in e.path r.name) (option_map_or (λ f. on_got (value_in s f) (maybe_text (place_of f))) form (got None))
 
--- Parameters at fault are a flaw of the stack resource; the paths of the nested stack are planned with what is at fault as not known yet. Parameters that as a whole are not known yet are no map.
+-- Parameters at fault are a flaw of the stack resource; the paths of the nested stack are planned with what is at fault as
+-- not known yet. Parameters that as a whole are not known yet are no map.
 abbrev pub with_first : Flaw → Plan → Plan
 with_first f p = record p { flaws = f ∷ p.flaws }
 
@@ -325,7 +336,8 @@ parameters_flaw e scope c r = flaw_over (λ sights. parameters_stop r (parameter
 abbrev pub nested_plan : Option Laying → Source → Entering → Scoping → Course → Res → List (List ℕ) → Option Flaw → Plan
 nested_plan lay source e scope c r ids (Some f) = no_plan c.plan.templates c.plan.members (f ∷ [])
 nested_plan lay source e scope c r ids None =
-    if has_stack_shape r then despite (parameters_flaw e scope c r) (nested_at_url lay source e c r ids (given_or_despite (scope c.sights) r (parameters_of (scope c.sights) r)) (url_of e (scope c.sights) r))
+    if has_stack_shape r then despite (parameters_flaw e scope c r)
+    (nested_at_url lay source e c r ids (given_or_despite (scope c.sights) r (parameters_of (scope c.sights) r)) (url_of e (scope c.sights) r))
     else no_plan c.plan.templates c.plan.members (shape (path_in e.path r.name) ∷ [])
 
 -- what is seen of a nested output; one that is Later or at fault has no value
@@ -367,16 +379,22 @@ with_nested lay source number e scope conds c r ids =
     let path = path_in e.path r.name in
     let q = nested_plan lay source e scope c r ids (condition_flaw e conds (resource_place r.name) r.condition) in
     record {
-      plan = merged c.plan q (record { path = path; needs = needed_paths e c ids; fault = option_or (parameters_flaw e scope c r) (bind_flaw_at path q.flaws) });
-      sights = c.sights ++ (r.name, sight.Nested (stack_id (name_in e.stack r.name) number) (map output_seen q.outputs ++ outputs_not_made q.unmade)) ∷ [];
+      plan = merged c.plan q
+          (record { path = path; needs = needed_paths e c ids; fault = option_or (parameters_flaw e scope c r) (bind_flaw_at path q.flaws) });
+      sights =
+          c.sights
+          ++ (r.name, sight.Nested (stack_id (name_in e.stack r.name) number) (map output_seen q.outputs ++ outputs_not_made q.unmade)) ∷ [];
       stands = c.stands ++ (r.name, map (λ w. w.path) q.wanted ++ needed_paths e c ids) ∷ [];
       broken = c.broken ++ flat_map (broken_output r.name) q.outputs;
     }
 
 -- The resources in the order of work.
-abbrev pub with_member : Option Laying → Source → Seen → ℕ → Entering → Scoping → List (List ℕ × Verdict) → Course → List ℕ × List (List ℕ) → Course
+abbrev pub with_member :
+    Option Laying → Source → Seen → ℕ → Entering → Scoping → List (List ℕ × Verdict) → Course → List ℕ × List (List ℕ) → Course
 with_member lay source seen number e scope conds c m =
-    option_map_or (λ r. if is_stack r then with_nested lay source number e scope conds c r m.1 else with_resource e scope conds seen c r m.1) (found (λ r. r.name) m.0 e.template.resources) c
+    option_map_or
+    (λ r. if is_stack r then with_nested lay source number e scope conds c r m.1 else with_resource e scope conds seen c r m.1)
+    (found (λ r. r.name) m.0 e.template.resources) c
 
 abbrev pub not_made : List (List ℕ × Verdict) → Template → List (List ℕ × Sight)
 not_made conds t = map (λ r. (r.name, sight.NotMade)) (filter (λ r. not (is_made conds r)) t.resources)
@@ -386,11 +404,12 @@ abbrev pub is_output_made : List (List ℕ × Verdict) → Out → Bool
 is_output_made conds o = not (option_map_or (λ c. is_false (value_at c conds)) o.condition false)
 
 abbrev pub export_wanted : Form → Outcome (List ℕ) → Outcome (List ℕ)
-export_wanted f later = bad (fault WrongKind (place_in f))
+export_wanted f later = bad (fault WrongKind (place_of f))
 export_wanted f o = o
 
 abbrev pub output_flaw : Entering → List (List ℕ × Verdict) → Out → Option Stop
-output_flaw e conds o = option_map_or (λ c. if is_some (value_at c conds) then None else Some (fault UnknownName (output_place o.name))) o.condition None
+output_flaw e conds o =
+    option_map_or (λ c. if is_some (value_at c conds) then None else Some (fault UnknownName (output_place o.name))) o.condition None
 
 abbrev pub export_stop : Scope → Option Form → Option Stop
 export_stop s None = None
@@ -425,11 +444,14 @@ with_outputs e scope conds c =
     }
 
 -- One template: its parameters bound, its conditions decided, its order found, then its resources and its outputs.
-abbrev pub planned : Option Laying → Source → Seen → ℕ → Entering → List (List ℕ × Setting) → List (List ℕ × Verdict) → Plan → Result (List (List ℕ × List (List ℕ))) Tangle → Plan
+abbrev pub planned :
+    Option Laying → Source → Seen → ℕ → Entering → List (List ℕ × Setting) → List (List ℕ × Verdict) → Plan
+    → Result (List (List ℕ × List (List ℕ))) Tangle → Plan
 planned lay source seen number e bound conds p (Err t) = record p { flaws = p.flaws ++ graph e.path t ∷ [] }
 planned lay source seen number e bound conds p (Ok order) =
     let scope = λ (sights : List (List ℕ × Sight)). scope_over e.template bound conds (pseudo_of e.stack number) sights source.imports in
-    with_outputs e scope conds (fold (with_member lay source seen number e scope conds) (record { plan = p; sights = not_made conds e.template; stands = []; broken = [] }) order)
+    let course : Course = record { plan = p; sights = not_made conds e.template; stands = []; broken = [] } in
+    with_outputs e scope conds (fold (with_member lay source seen number e scope conds) course order)
 
 abbrev pub verdict_from : Option Bool → Verdict
 verdict_from None = verdict.Later
@@ -439,17 +461,20 @@ verdict_from (Some false) = verdict.False
 abbrev pub first_later : List (List ℕ × Option Bool) → Option (List ℕ)
 first_later conds = option_map (λ c. c.0) (find (λ c. not (is_some c.1)) conds)
 
-abbrev pub decided_plan : Option Laying → Source → Seen → ℕ → Entering → List (List ℕ × Setting) → Plan → Outcome (List (List ℕ × Option Bool)) → Plan
+abbrev pub decided_plan :
+    Option Laying → Source → Seen → ℕ → Entering → List (List ℕ × Setting) → Plan → Outcome (List (List ℕ × Option Bool)) → Plan
 decided_plan lay source seen number e bound p (bad s) = record p { flaws = p.flaws ++ flaw_at e.path s ∷ [] }
 decided_plan lay source seen number e bound p later = p
 decided_plan lay source seen number e bound p (got conds) =
     let verdicts = map (λ c. (c.0, verdict_from c.1)) conds in
-    option_map_or (λ name. record p { flaws = p.flaws ++ dynamic_condition e.path name ∷ [] }) (first_later conds) (planned lay source seen number e bound verdicts p (needs_of e.template verdicts))
+    option_map_or (λ name. record p { flaws = p.flaws ++ dynamic_condition e.path name ∷ [] }) (first_later conds)
+    (planned lay source seen number e bound verdicts p (needs_of e.template verdicts))
 
 abbrev pub bound_plan : Option Laying → Source → Seen → ℕ → Entering → Plan → List (List ℕ × Setting) → Plan
 bound_plan lay source seen number e p bound = decided_plan lay source seen number e bound p (conditions_of e.template bound (pseudo_of e.stack number))
 
--- Where a nested stack's parameters can't be bound over what is seen, the paths in it are planned with these parameters as Later: policies and needs don't rest on them.
+-- Where a nested stack's parameters can't be bound over what is seen, the paths in it are planned with these parameters as
+-- Later: policies and needs don't rest on them.
 abbrev pub fault_name : BindFault → List ℕ
 fault_name (unbound.Undeclared name) = name
 fault_name (unbound.Missing name) = name
@@ -467,10 +492,12 @@ abbrev pub later_one : List ℕ → List ℕ × Piece → List ℕ × Piece
 later_one name g = if bytes_eq name g.0 then (g.0, Later) else g
 
 -- each parameter at fault in its turn counts as not known yet
-abbrev pub bound_despite : ℕ → List Param → List (List ℕ × Piece) → Result (List (List ℕ × Setting)) BindFault → Option (List (List ℕ × Setting))
+abbrev pub bound_despite :
+    ℕ → List Param → List (List ℕ × Piece) → Result (List (List ℕ × Setting)) BindFault → Option (List (List ℕ × Setting))
 bound_despite n params given (Ok bound) = Some bound
 bound_despite zero params given (Err f) = None
-bound_despite (suc n) params given (Err f) = bound_despite n params (map (later_one (fault_name f)) given) (binding_of params (map (later_one (fault_name f)) given))
+bound_despite (suc n) params given (Err f) =
+    bound_despite n params (map (later_one (fault_name f)) given) (binding_of params (map (later_one (fault_name f)) given))
 
 abbrev pub bound_or_later : Option Laying → Source → Seen → ℕ → Entering → Plan → Result (List (List ℕ × Setting)) BindFault → Plan
 bound_or_later lay source seen number e p (Ok bound) = bound_plan lay source seen number e p bound
@@ -480,14 +507,25 @@ bound_or_later lay source seen number e p (Err f) =
 
 -- a template entered at a depth, where so many more may be entered below it
 abbrev pub laid : ℕ → Source → Seen → ℕ → Laying
-laid zero source seen number e templates members = bound_or_later None source seen number e (no_plan templates members []) (binding_of e.template.params e.given)
-laid (suc n) source seen number e templates members = bound_or_later (Some (laid n source seen number)) source seen number e (no_plan templates members []) (binding_of e.template.params e.given)
+laid zero source seen number e templates members =
+    bound_or_later None source seen number e (no_plan templates members []) (binding_of e.template.params e.given)
+laid (suc n) source seen number e templates members =
+    bound_or_later (Some (laid n source seen number)) source seen number e (no_plan templates members []) (binding_of e.template.params e.given)
 
 -- the root: the number is that of the operation that created the stack
 abbrev pub root_of : Source → Template → Entering
-root_of source t = record { path = []; stack = source.stack; template = t; given = map (λ g. (g.0, Text g.1)) source.given; deletion = None; replace = None; needs = [] }
+root_of source t = record {
+  path = [];
+  stack = source.stack;
+  template = t;
+  given = map (λ g. (g.0, Text g.1)) source.given;
+  deletion = None;
+  replace = None;
+  needs = [];
+}
 
 -- what a source wants over what is seen; depth is 8 at the most, the root's being 1
 abbrev pub plan_of : Source → Seen → Plan
 plan_of source seen =
-    option_map_or (λ t. laid 7 source seen source.number (root_of source t) 1 (length t.resources)) (template_named source.root source) (no_plan 0 0 (template_missing source.root ∷ []))
+    option_map_or (λ t. laid 7 source seen source.number (root_of source t) 1 (length t.resources)) (template_named source.root source)
+    (no_plan 0 0 (template_missing source.root ∷ []))

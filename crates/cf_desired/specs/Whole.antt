@@ -6,6 +6,7 @@ use Rattle.cf_tree.specs.Datum.{Data}
 use Rattle.cf_tree.specs.declared.template.Deletion.{Deletion}
 use Rattle.cf_tree.specs.declared.template.Replace.{Replace}
 use Rattle.cf_tree.specs.declared.source.Source.{Source}
+use Rattle.cf_export.specs.declared.Output.{Output}
 use Rattle.cf_eval.specs.Outcome.{Outcome}
 use Rattle.cf_desired.specs.Flaw.{Flaw}
 use Rattle.cf_desired.specs.Plan.{Seen, Evaluated, flawed, evaluated, Wanted, WantedOutput, Plan, plan_of, value_seen}
@@ -27,7 +28,7 @@ abbrev pub known_of : Evaluated → Option (List (List ℕ × Data))
 known_of (flawed f) = None
 known_of (evaluated ps) = known_props_from ps
 
--- a resource, an output, all of whose parts are known
+-- a resource all of whose parts are known
 pub record Right : Type 0 where
   pub path : List ℕ
   pub kind : List ℕ
@@ -36,23 +37,20 @@ pub record Right : Type 0 where
   pub needs : List (List ℕ)
   pub props : List (List ℕ × Data)
 
-pub record RightOutput : Type 0 where
-  pub name : List ℕ
-  pub value : List ℕ
-  pub export : Option (List ℕ)
-
 abbrev pub right_of : Wanted → Option Right
-right_of w = option_map (λ props. record { path = w.path; kind = w.kind; deletion = w.deletion; replace = w.replace; needs = w.needs; props = props }) (known_of w.props)
+right_of w =
+    option_map (λ props. record { path = w.path; kind = w.kind; deletion = w.deletion; replace = w.replace; needs = w.needs; props = props })
+    (known_of w.props)
 
 abbrev pub export_of : Option (Outcome (List ℕ)) → Option (Option (List ℕ))
 export_of None = Some None
 export_of (Some o) = option_map (λ name. Some name) (value_seen o)
 
-abbrev pub with_export : WantedOutput → List ℕ → Option (Option (List ℕ)) → Option RightOutput
+abbrev pub with_export : WantedOutput → List ℕ → Option (Option (List ℕ)) → Option Output
 with_export o value None = None
 with_export o value (Some export) = Some (record { name = o.name; value = value; export = export })
 
-abbrev pub right_output : WantedOutput → Option RightOutput
+abbrev pub right_output : WantedOutput → Option Output
 right_output o = option_map_or (λ value. with_export o value (export_of o.export)) (value_seen o.value) None
 
 -- f of each of a list, where it is there for all
@@ -66,14 +64,14 @@ right_export e = option_map (λ value. (e.0, value)) (value_seen e.1)
 -- the whole map: every path, output and export, where nothing is Later or at fault
 pub record Whole : Type 0 where
   pub wanted : List Right
-  pub outputs : List RightOutput
+  pub outputs : List Output
   pub exports : List (List ℕ × List ℕ)
 
-abbrev pub whole_with : List Right → List RightOutput → Option (List (List ℕ × List ℕ)) → Option Whole
+abbrev pub whole_with : List Right → List Output → Option (List (List ℕ × List ℕ)) → Option Whole
 whole_with rights outputs None = None
 whole_with rights outputs (Some exports) = Some (record { wanted = rights; outputs = outputs; exports = exports })
 
-abbrev pub whole_from : Plan → Option (List Right) → Option (List RightOutput) → Option Whole
+abbrev pub whole_from : Plan → Option (List Right) → Option (List Output) → Option Whole
 whole_from p (Some rights) (Some outputs) = whole_with rights outputs (all_of right_export p.exports)
 whole_from p _ _ = None
 

@@ -3,9 +3,9 @@ use Rattle.std.proofs.Common.{◌≡◌, refl, List, [], ◌∷◌, Some, None, 
 use Rattle.std.specs.Prelude.{codes, map, ◌==◌, ◌≤◌}
 use Rattle.std.specs.Str.{bytes_eq}
 use Rattle.cf_tree.specs.declared.request.Answer.TheVariants as answer
-use Rattle.cf_handler.specs.declared.settled.Settled.{Settled}
-use Rattle.cf_handler.specs.Lane.{live_of}
-use Rattle.cf_handler.specs.Fence.{Flying, Raised, SettledBy, FlyingOn, settled_at}
+use Rattle.cf_handler.specs.declared.settled.Settlement.{Settlement}
+use Rattle.cf_handler.specs.Lane.{live_of, settlement_of}
+use Rattle.cf_handler.specs.Fence.{Flying, Raised, SettledBy, FlyingOn}
 use Rattle.cf_stacks.specs.declared.held.Pending.{Pending}
 use Rattle.cf_stacks.specs.declared.state.StackState.{StackState}
 use Rattle.cf_stacks.specs.declared.state.World.{World}
@@ -179,8 +179,8 @@ fits = record {
   is_open = λ p e. subst (λ q. (q.lane ≡ codes "f1") × (q.request ≡ late.request)) (some_is {a = pending} e) (refl, refl);
 }
 
-none_settled : {p : Pending} {l : Lane} {s : Settled} → IsAnswered world_3 crashed.lanes p l s → ⊥
-none_settled {p} {l} {s} a = not_there (only (λ (q : Lane). settled_at p.token q.state ≡ Some s → None ≡ Some s) {a = f1} (λ e. e) l (found_passes (λ (q : Lane). bytes_eq p.lane q.name) crashed.lanes l a.at_home).1 a.settled)
+none_settled : {p : Pending} {l : Lane} {s : Settlement} → IsAnswered world_3 crashed.lanes p l s → ⊥
+none_settled {p} {l} {s} a = not_there (only (λ (q : Lane). settlement_of p.token q.state.state.settled ≡ Some s → None ≡ Some s) {a = f1} (λ e. e) l (found_passes (λ (q : Lane). bytes_eq p.lane q.name) crashed.lanes l a.at_home).1 a.settled)
   where
     not_there : None ≡ Some s → ⊥
     not_there e = cc
@@ -219,7 +219,7 @@ leased = record {
   own_call = λ l i. absurd (in_none i);
   accounted = λ l i. absurd (in_none i);
   settled = λ l reply s lane i. absurd (in_none i);
-  going = λ l name s p i. absurd (in_none i);
+  going = λ l i. absurd (in_none i);
 }
 
 pub holds : HoldsWhileItFlies

@@ -22,7 +22,7 @@ use Rattle.cf_stacks.specs.Words.{resources_of, is_create_at}
 use Rattle.cf_graph.specs.Needs.{is_among}
 use Rattle.cf_stacks.specs.Operation.{was_updated, was_restored, was_skipped, named_paths}
 use Rattle.cf_plan.specs.Forward.{In, AllDone, HasFailed}
-use Rattle.cf_plan.specs.Follow.{IntendsDeletion, IntendsRestore, IsToRestore, MayDelete, MayKeep, MayTurn, MayStep, MayRepeat, IsAtEnd, may_repeat, is_untried, has_refused_restore, has_restore, is_cleaned, has_no_need}
+use Rattle.cf_plan.specs.Follow.{IntendsDeletion, IntendsRestore, IsToRestore, MayDelete, MayKeep, MayTurn, MayStep, MayRepeat, IsAtEnd, may_repeat, is_untried, has_refused_restore, has_restore, cleaned_in, is_not_needed}
 use Rattle.cf_plan.specs.Between.{is_needed_by_held}
 use Rattle.cf_examples.proofs.Lists.{in_none, each_passes, none_passes}
 
@@ -38,8 +38,8 @@ module _ (schemas : List Schema) (name : List ℕ) (x : World) (s : StackState) 
 
   create_keeps : (path physical : List ℕ) (w : Why) → MayKeep Forward [] s path physical w → ⊥
   create_keeps path physical why.Retained m = elim m [ inl k ↦ k.1 | inr k ↦ let e = k.0 in absurd (cc) ]
-  create_keeps path physical why.Failed m = absurd (true≢false (sym m.0.1))
-  create_keeps path physical why.Doubt m = absurd (true≢false (sym m.0.1))
+  create_keeps path physical why.Failed m = in_none m.0.1
+  create_keeps path physical why.Doubt m = in_none m.0.1
 
   create_steps : (e : Entry) → MayStep schemas name x [] s Forward e → ⊥
   create_steps (entry.Opened epoch lanes) m = m
@@ -63,10 +63,10 @@ no_deletion stage s path (request.Create k props) none m = m
 no_deletion stage s path (request.Update physical props) none m = m
 no_deletion stage s path (request.Delete physical) none m = none m.0 m.1
 
-no_keep : (stage : Stage) (s : StackState) (path physical : List ℕ) (w : Why) → ((h : Held) → MayDelete stage s h → ⊥) → (stage ≡ Gone → is_among path (named_paths s) ≡ true → list_any (is_create_at path) s.tokens ≡ true → ⊥) → is_cleaned stage s ≡ [] → MayKeep stage [] s path physical w → ⊥
+no_keep : (stage : Stage) (s : StackState) (path physical : List ℕ) (w : Why) → ((h : Held) → MayDelete stage s h → ⊥) → (stage ≡ Gone → is_among path (named_paths s) ≡ true → list_any (is_create_at path) s.tokens ≡ true → ⊥) → cleaned_in stage s ≡ [] → MayKeep stage [] s path physical w → ⊥
 no_keep stage s path physical why.Retained none closed cleaned m = elim m [ inl k ↦ none k.0 k.1 | inr k ↦ closed k.0 k.2 k.3 ]
-no_keep stage s path physical why.Failed none closed cleaned m = in_none (subst (In m.0.0) cleaned m.0.2)
-no_keep stage s path physical why.Doubt none closed cleaned m = in_none (subst (In m.0.0) cleaned m.0.2)
+no_keep stage s path physical why.Failed none closed cleaned m = in_none (subst (In m.0.0) cleaned m.0.1)
+no_keep stage s path physical why.Doubt none closed cleaned m = in_none (subst (In m.0.0) cleaned m.0.1)
 
 no_restore : (s : StackState) (path : List ℕ) (r : Request) → (s.status ≢ status.UpdateRollbackInProgress) → IntendsRestore s path r → ⊥
 no_restore s path (request.Create k props) other m = m
@@ -95,7 +95,7 @@ no_repeat : (stage : Stage) (s : StackState) (p : Pending) → list_any (may_rep
 no_repeat stage s p none i e = true≢false (sym e ∙ none_passes (may_repeat stage [] s) s.tokens p none i)
 
 -- The cleanup of an update: nothing is superseded.
-module _ (schemas : List Schema) (name : List ℕ) (x : World) (s : StackState) (cleans : s.status ≡ status.UpdateCompleteCleanupInProgress) (none_left : is_cleaned Clean s ≡ []) (all_left : list_all (λ r. not r.superseded) s.held ≡ true) (none_open : list_any (may_repeat Clean [] s) s.tokens ≡ false) where
+module _ (schemas : List Schema) (name : List ℕ) (x : World) (s : StackState) (cleans : s.status ≡ status.UpdateCompleteCleanupInProgress) (none_left : cleaned_in Clean s ≡ []) (all_left : list_all (λ r. not r.superseded) s.held ≡ true) (none_open : list_any (may_repeat Clean [] s) s.tokens ≡ false) where
   clean_deletes : (r : Held) → MayDelete Clean s r → ⊥
   clean_deletes r m = true≢false (sym (each_passes (λ (h : Held). not h.superseded) s.held r all_left m.0) ∙ ap not m.1)
 
@@ -116,9 +116,9 @@ module _ (schemas : List Schema) (name : List ℕ) (x : World) (s : StackState) 
   end_of_clean = (clean_steps, λ p m. no_repeat Clean s p none_open m.0 m.1)
 
 -- The rollback of a creation: what was made is gone, or its deletion was tried, or what needs it is there.
-module _ (schemas : List Schema) (name : List ℕ) (x : World) (s : StackState) (rolls : s.status ≡ status.RollbackInProgress) (none_left : list_all (λ r. not (has_no_need s r && is_untried s r)) s.made ≡ true) (none_open : list_any (may_repeat Back [] s) s.tokens ≡ false) where
+module _ (schemas : List Schema) (name : List ℕ) (x : World) (s : StackState) (rolls : s.status ≡ status.RollbackInProgress) (none_left : list_all (λ r. not (is_not_needed s r && is_untried s r)) s.made ≡ true) (none_open : list_any (may_repeat Back [] s) s.tokens ≡ false) where
   roll_deletes : (r : Held) → MayDelete Back s r → ⊥
-  roll_deletes r m = true≢false (sym (each_passes (λ (h : Held). not (has_no_need s h && is_untried s h)) s.made r none_left m.1) ∙ ap not (both (has_no_need s r) (is_untried s r) m.2 m.3))
+  roll_deletes r m = true≢false (sym (each_passes (λ (h : Held). not (is_not_needed s h && is_untried s h)) s.made r none_left m.1) ∙ ap not (both (is_not_needed s r) (is_untried s r) m.2 m.3))
     where
       both : (a b : Bool) → a ≡ true → b ≡ true → (a && b) ≡ true
       both true b e f = f
@@ -163,11 +163,11 @@ module _ (schemas : List Schema) (name : List ℕ) (x : World) (s : StackState) 
 
 -- A deletion: what is held or made is gone, or its deletion was tried, or what needs it is there.
 abbrev pub may_go : StackState → Held → Bool
-may_go s r = has_no_need s r && (not (is_needed_by_held s r) && is_untried s r)
+may_go s r = is_not_needed s r && (not (is_needed_by_held s r) && is_untried s r)
 
 module _ (schemas : List Schema) (name : List ℕ) (x : World) (s : StackState) (goes : s.status ≡ status.DeleteInProgress) (none_left : list_all (λ r. not (may_go s r)) (resources_of s) ≡ true) (none_open : list_any (may_repeat Gone [] s) s.tokens ≡ false) (asked : (path : List ℕ) → is_among path (named_paths s) ≡ true → list_any (is_create_at path) s.tokens ≡ true → ⊥) where
   gone_deletes : (r : Held) → MayDelete Gone s r → ⊥
-  gone_deletes r m = true≢false (sym (each_passes (λ (h : Held). not (may_go s h)) (resources_of s) r none_left m.0) ∙ ap not (all_three (has_no_need s r) (is_needed_by_held s r) (is_untried s r) m.1 m.2 m.3))
+  gone_deletes r m = true≢false (sym (each_passes (λ (h : Held). not (may_go s h)) (resources_of s) r none_left m.0) ∙ ap not (all_three (is_not_needed s r) (is_needed_by_held s r) (is_untried s r) m.1 m.2 m.3))
     where
       all_three : (a b c : Bool) → a ≡ true → b ≡ false → c ≡ true → (a && (not b && c)) ≡ true
       all_three true false c e f g = g

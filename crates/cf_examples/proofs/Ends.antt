@@ -1,8 +1,6 @@
 -- The ends of some runs.
 use Rattle.std.proofs.Common.{◌≡◌, refl, List, [], ◌∷◌, Some, true, false, ℕ, Bool, sym, subst, ap, true≢false, lit≤}
-use Rattle.std.specs.Prelude.{codes, not, find}
-use Rattle.std.specs.Str.{bytes_eq}
-use Rattle.std.proofs.lemmas.Slice.Eq.{bytes_eq-Decides}
+use Rattle.std.specs.Prelude.{codes}
 use Rattle.cf_tree.specs.Keys.{value_at}
 use Rattle.cf_tree.specs.declared.template.Deletion.TheVariants as deletion
 use Rattle.cf_tree.specs.declared.template.Replace.TheVariants as replace
@@ -11,32 +9,27 @@ use Rattle.cf_tree.specs.declared.code.Code.TheVariants as code
 use Rattle.cf_entry.specs.declared.entry.Reply.TheVariants as reply
 use Rattle.cf_stacks.specs.declared.held.HeldStatus.TheVariants as held
 use Rattle.cf_stacks.specs.Operation.{Call, Answered}
-use Rattle.cf_examples.specs.RollbackFailed as unrolled
+use Rattle.cf_examples.proofs.RollbackFailed as unblamed
+use Rattle.cf_examples.proofs.Retained as deleted
+use Rattle.cf_examples.proofs.Skipped as unskipped
+use Rattle.cf_examples.proofs.LostCreation as undeleted
 use Rattle.cf_handler.specs.Lane.{Live}
 use Rattle.cf_desired.specs.Plan.{Seen}
 use Rattle.cf_desired.specs.Whole.{Right, Whole}
 use Rattle.cf_stacks.specs.declared.held.Held.{Held}
-use Rattle.cf_stacks.specs.Words.{current_at, is_current_at}
-use Rattle.cf_stacks.specs.Fold.{known_stack, source_for, is_right_at}
+use Rattle.cf_stacks.specs.Words.{current_at}
+use Rattle.cf_stacks.specs.Fold.{source_for}
 use Rattle.cf_plan.specs.Forward.{In, here, there}
-use Rattle.cf_plan.specs.Ends.{IsLive, Sees, right_at, IsWholeLive, IsComplete, IsRestored, IsCleared, IsBlamedFor}
+use Rattle.cf_plan.specs.Ends.{IsLive, Sees, right_at, IsWholeLive, IsComplete, IsRestored, IsCleared, IsBlamedFor, IsBlamed}
 use Rattle.cf_examples.specs.Given.{file, note, file_props, file_attrs, note_props, note_attrs}
 use Rattle.cf_examples.specs.Replacement.{second}
-use Rattle.cf_examples.specs.Ends.{files_replaced, notes_replaced, files_restored, lanes_replaced, lanes_restored, ReplacementIsComplete, LateEffectIsRestored, RollbackIsCleared, FailuresAreBlamed}
+use Rattle.cf_examples.specs.Ends.{files_replaced, notes_replaced, files_restored, lanes_replaced, lanes_restored, IsPromised, ReplacementIsComplete, LateEffectIsRestored, RollbackIsRestored, DeletionIsCleared, FailuresAreBlamed, FailedRollbackIsBlamed, FailedDeletionIsBlamed}
 use Rattle.cf_examples.proofs.Computing.{computing}
-use Rattle.cf_examples.proofs.Lists.{some_is, and_true, only, either, found_passes}
+use Rattle.cf_examples.proofs.Standing.{held_there, wanted_there}
+use Rattle.cf_examples.proofs.Lists.{some_is, in_none, only, either}
 use Rattle.cf_examples.proofs.Replacement.{arrives_16, world_16, stack_16_app}
 use Rattle.cf_examples.proofs.LateEffect as late
 use Rattle.cf_examples.proofs.RolledBack as rolled
-
--- the resource of a path is one of the list, and its own path is that one
-held_there : (path : List ℕ) (hs : List Held) (r : Held) → current_at path hs ≡ Some r → (r.path ≡ path) × In r hs
-held_there path hs r e =
-    let found = found_passes (is_current_at path) hs r e in
-    (sym ((bytes_eq-Decides path r.path).0 (and_true (bytes_eq path r.path) (not r.superseded) found.0).0), found.1)
-
-wanted_there : (path : List ℕ) (ws : List Right) (w : Right) → find (is_right_at path) ws ≡ Some w → (w.path ≡ path) × In w ws
-wanted_there path ws w e = let found = found_passes (is_right_at path) ws w e in (sym ((bytes_eq-Decides path w.path).0 found.0), found.1)
 
 -- The replacement: what is seen, and the whole map.
 abbrev seen : Seen
@@ -64,10 +57,10 @@ abbrev web_live : Live
 web_live = record { id = codes "f1:3"; kind = file; props = file_props (codes "new.txt") (codes "x"); attrs = file_attrs (codes "f1:3") 1 (codes "new.txt") (codes "x") }
 
 ptr_is_live : IsLive lanes_replaced ptr_held ptr_live
-ptr_is_live = record { lane = notes_replaced; handed_in = refl; named = (codes "2", refl); live = refl }
+ptr_is_live = record { lane = notes_replaced; home = record { handed_in = refl; named = (codes "2", refl) }; live = refl }
 
 web_is_live : IsLive lanes_replaced web_held web_live
-web_is_live = record { lane = files_replaced; handed_in = refl; named = (codes "3", refl); live = refl }
+web_is_live = record { lane = files_replaced; home = record { handed_in = refl; named = (codes "3", refl) }; live = refl }
 
 abbrev SeesOne : Held → Type 0
 SeesOne r = (v : Live) × IsLive lanes_replaced r v × (value_at r.path seen ≡ Some (record { physical = Some r.physical; attrs = Some v.attrs }))
@@ -114,7 +107,7 @@ complete = record {
 }
 
 pub replacement_is_complete : ReplacementIsComplete
-replacement_is_complete = subst (λ x. IsComplete (codes "app") x (known_stack (codes "app") x) lanes_replaced) (sym arrives_16) complete
+replacement_is_complete = subst (λ x. IsPromised (codes "app") x lanes_replaced) (sym arrives_16) complete
 
 -- The late effect: what was there is back.
 abbrev a_before : Held
@@ -131,17 +124,29 @@ restored = record {
   settled = record { none_open = refl; none_made = refl };
   held = λ b i. only (λ (q : Held). (r : Held) × In r late.stack_16_s.held × (r.path ≡ q.path) × (r.physical ≡ q.physical) × (r.kind ≡ q.kind)) {a = a_before} (a_held, here, refl, refl, refl) b i;
   nothing_else = λ r i. only (λ (q : Held). (b : Held) × In b late.stack_16_s.before × (b.path ≡ q.path) × (b.physical ≡ q.physical)) {a = a_held} (a_before, here, refl, refl) r i;
-  live = λ b r i j same. only (λ (q : Held). (v : Live) × IsLive lanes_restored r v × (v.kind ≡ q.kind) × (r.unsure ≡ false → v.props ≡ q.props)) {a = a_before} (only (λ (q : Held). (v : Live) × IsLive lanes_restored q v × (v.kind ≡ a_before.kind) × (q.unsure ≡ false → v.props ≡ a_before.props)) {a = a_held} (a_live, record { lane = files_restored; handed_in = refl; named = (codes "1", refl); live = refl }, refl, λ _. refl) r j) b i;
+  live = λ b r i j same. only (λ (q : Held). (v : Live) × IsLive lanes_restored r v × (v.kind ≡ q.kind) × (r.unsure ≡ false → v.props ≡ q.props)) {a = a_before} (only (λ (q : Held). (v : Live) × IsLive lanes_restored q v × (v.kind ≡ a_before.kind) × (q.unsure ≡ false → v.props ≡ a_before.props)) {a = a_held} (a_live, record { lane = files_restored; home = record { handed_in = refl; named = (codes "1", refl) }; live = refl }, refl, λ _. refl) r j) b i;
 }
 
 pub late_effect_is_restored : LateEffectIsRestored
-late_effect_is_restored = subst (λ x. IsRestored (known_stack (codes "s") x) lanes_restored) (sym late.arrives_16) restored
+late_effect_is_restored = subst (λ x. IsPromised (codes "s") x lanes_restored) (sym late.arrives_16) restored
 
-cleared : IsCleared rolled.stack_10_s
+-- what the creation made is gone, and nothing was there before
+nothing_back : IsRestored rolled.stack_10_s []
+nothing_back = record {
+  settled = record { none_open = refl; none_made = refl };
+  held = λ b i. absurd (in_none i);
+  nothing_else = λ r i. absurd (in_none i);
+  live = λ b r i. absurd (in_none i);
+}
+
+pub rollback_is_restored : RollbackIsRestored
+rollback_is_restored = subst (λ x. IsPromised (codes "s") x []) (sym rolled.arrives_10) (nothing_back, refl)
+
+cleared : IsCleared deleted.stack_12_s
 cleared = record { settled = record { none_open = refl; none_made = refl }; none_held = refl }
 
-pub rollback_is_cleared : RollbackIsCleared
-rollback_is_cleared = subst (λ x. IsCleared (known_stack (codes "s") x)) (sym rolled.arrives_10) cleared
+pub deletion_is_cleared : DeletionIsCleared
+deletion_is_cleared = subst (λ x. IsPromised (codes "s") x []) (sym deleted.arrives_12) cleared
 
 abbrev is_none : List (List ℕ) → Bool
 is_none [] = false
@@ -160,10 +165,44 @@ abbrev call_3 : Call
 call_3 = record { number = 1; token = 3; lane = codes "f1"; path = codes "A"; request = request.Delete (codes "f1:1") }
 
 -- who is blamed: each path has a refused call of the operation, and the count rose
-pub failures_are_blamed : FailuresAreBlamed
-failures_are_blamed = record {
+blamed : IsBlamed unblamed.stack_10_s.entries 1 (codes "A" ∷ codes "B" ∷ [])
+blamed = record {
   some = λ e. true≢false (ap is_none e);
-  each = λ path i. either (IsBlamedFor unrolled.run 1) {a = codes "A"} {b = codes "B"}
+  each = λ path i. either (IsBlamedFor unblamed.stack_10_s.entries 1) {a = codes "A"} {b = codes "B"}
       (record { reply = reply_3; call = call_3; of_call = refl; at_path = refl; stands = there (there here); failed = refl; rose = λ _. lit≤ tt })
       (record { reply = reply_2; call = call_2; of_call = refl; at_path = refl; stands = there here; failed = refl; rose = λ _. lit≤ tt }) path i;
 }
+
+pub failures_are_blamed : FailuresAreBlamed
+failures_are_blamed = subst (λ x. IsPromised (codes "s") x []) (sym unblamed.arrives_10) blamed
+
+-- the update stayed in doubt, and so did the creation in the deletion of its stack
+abbrev reply_doubted : Answered
+reply_doubted = record { token = 2; answer = reply.Doubt; before = 0; after = 1 }
+
+abbrev call_doubted : Call
+call_doubted = record { number = 2; token = 2; lane = codes "f1"; path = codes "A"; request = request.Update (codes "f1:1") (file_props (codes "a") (codes "y")) }
+
+doubted : IsBlamed unskipped.stack_15_s.entries 2 (codes "A" ∷ [])
+doubted = record {
+  some = λ e. true≢false (ap is_none e);
+  each = λ path i. only (IsBlamedFor unskipped.stack_15_s.entries 2) {a = codes "A"} (record { reply = reply_doubted; call = call_doubted; of_call = refl; at_path = refl; stands = here; failed = refl; rose = λ _. lit≤ tt }) path i;
+}
+
+pub failed_rollback_is_blamed : FailedRollbackIsBlamed
+failed_rollback_is_blamed = subst (λ x. IsPromised (codes "s") x []) (sym unskipped.arrives_15) doubted
+
+abbrev reply_lost : Answered
+reply_lost = record { token = 1; answer = reply.Doubt; before = 6; after = 7 }
+
+abbrev call_lost : Call
+call_lost = record { number = 1; token = 1; lane = codes "f1"; path = codes "A"; request = request.Create file (file_props (codes "a") (codes "x")) }
+
+lost : IsBlamed undeleted.stack_16_s.entries 2 (codes "A" ∷ [])
+lost = record {
+  some = λ e. true≢false (ap is_none e);
+  each = λ path i. only (IsBlamedFor undeleted.stack_16_s.entries 2) {a = codes "A"} (record { reply = reply_lost; call = call_lost; of_call = refl; at_path = refl; stands = here; failed = refl; rose = λ _. lit≤ tt }) path i;
+}
+
+pub failed_deletion_is_blamed : FailedDeletionIsBlamed
+failed_deletion_is_blamed = subst (λ x. IsPromised (codes "s") x []) (sym undeleted.arrives_16) lost

@@ -1,30 +1,37 @@
 -- The life that makes the first resource.
 use Rattle.std.proofs.Common.{inr, ◌∙◌, ap, ◌≡◌, refl, List, [], ◌∷◌, Some, None, true, false, ℕ, inl, sym, subst, lit≤, Bool, true≢false}
-use Rattle.std.specs.Prelude.{codes, if◌then◌else◌}
+use Rattle.std.specs.Prelude.{codes, option_map, if◌then◌else◌}
 use Rattle.cf_tree.specs.declared.request.Answer.TheVariants as answer
 use Rattle.std.specs.Prelude.{map, ◌==◌, ◌≤◌}
 use Rattle.std.specs.Str.{bytes_eq}
+use Rattle.cf_handler.specs.declared.settled.Settlement.{Settlement}
 use Rattle.cf_handler.specs.declared.settled.Settled.{Settled}
 use Rattle.cf_handler.specs.Lane.{Live, live_of, is_used, settlement_of}
-use Rattle.cf_handler.specs.Fence.{Flying, Raised, SettledBy, live_at, settled_at}
+use Rattle.cf_handler.specs.Fence.{Flying, Raised, SettledBy, live_at}
 use Rattle.cf_stacks.specs.declared.held.Held.{Held}
 use Rattle.cf_stacks.specs.declared.held.Pending.{Pending}
 use Rattle.cf_stacks.specs.Operation.{Call, Answered, call_at}
-use Rattle.cf_stacks.specs.Words.{all_differ}
+use Rattle.cf_stacks.specs.Words.{all_differ, stack_at, current_at}
 use Rattle.cf_stacks.specs.declared.state.World.{World}
-use Rattle.cf_stacks.specs.Fold.{empty_world, fold_of, known_stack}
+use Rattle.cf_stacks.specs.Fold.{empty_world, fold_of, known_stack, source_for}
 use Rattle.cf_stacks.specs.declared.state.StackState.{StackState}
-use Rattle.cf_stacks.specs.Status.{is_in_progress}
-use Rattle.cf_examples.proofs.Beginning.{one_stack}
 use Rattle.std.proofs.lemmas.Slice.Eq.{bytes_eq-Decides}
 use Rattle.cf_plan.specs.Forward.{In, here}
-use Rattle.cf_plan.specs.Lanes.{Lane, AreLanes, AreSchemas, lane_at, open_at, IsAnswered, told_of, Effect, Nothing, Made, Set, effect_of, ids_of}
-use Rattle.cf_plan.specs.Agrees.{Ties, FitsCall, IsHome, IsListed, IsAccounted}
-use Rattle.cf_plan.specs.Life.{Life, Lease, MayHappen, IsLife, AreLeased, Holds, AreHandedIn, named_lane}
+use Rattle.cf_plan.specs.Lanes.{Lane, AreLanes, AreSchemas, lane_at, open_at, IsAnswered, told_of, Effect, Nothing, Made, Set, effect_of, ids_of, IsHome}
+use Rattle.cf_plan.specs.Agrees.{Ties, FitsCall, IsListed, IsAccounted}
+use Rattle.cf_plan.specs.Life.{Life, Lease, MayHappen, IsLife, AreLeased, IsGoing, IsStart, Holds, AreHandedIn, named_lane}
 use Rattle.cf_plan.specs.Life as life
+use Rattle.cf_tree.specs.Keys.{value_at}
+use Rattle.cf_tree.specs.declared.template.Deletion.TheVariants as deletion
+use Rattle.cf_tree.specs.declared.template.Replace.TheVariants as replace
+use Rattle.cf_desired.specs.Plan.{Seen}
+use Rattle.cf_desired.specs.Whole.{Right, Whole}
+use Rattle.cf_plan.specs.Ends.{IsLive, Sees, right_at, IsWholeLive, IsComplete}
+use Rattle.cf_plan.specs.Promise.{Promised}
+use Rattle.cf_examples.proofs.Standing.{held_there, wanted_there}
 use Rattle.cf_examples.specs.Given.{file, file_props, file_attrs, schemas}
-use Rattle.cf_examples.specs.FirstResource.{opened, begun, intended, answered, done, run, app, web, world}
-use Rattle.cf_examples.specs.FirstLife.{files_with, start, made, end, Lives, HoldsInTheEnd, unwritten, lease_answered, HoldsBeforeItIsWritten}
+use Rattle.cf_examples.specs.FirstResource.{source, opened, begun, intended, answered, done, run, app, web, world}
+use Rattle.cf_examples.specs.FirstLife.{files_with, start, made, end, StartIsOne, Lives, KeepsItsPromises, HoldsInTheEnd, unwritten, lease_answered, HoldsBeforeItIsWritten}
 use Rattle.cf_examples.proofs.Computing.{computing}
 use Rattle.cf_examples.proofs.Lists.{some_is, in_none, only, found_passes}
 use Rattle.cf_examples.proofs.FirstResource.{leaves, legal, opens, begins, intends, answers, ends}
@@ -62,6 +69,16 @@ named_lanes = record { named = refl; names_differ = refl }
 
 pub described_lanes : {settled : List Settled} {flying : List Flying} {fence : ℕ} → AreSchemas schemas (files_with settled flying fence ∷ [])
 described_lanes = record { kinds_differ = refl; described = refl }
+
+pub starts : StartIsOne
+starts = record {
+  no_entries = refl;
+  closed = refl;
+  no_leases = refl;
+  named = named_lanes;
+  described = described_lanes;
+  untouched = λ l i. only (λ (q : Lane). (q.state.state.settled ≡ []) × (q.state.flying ≡ []) × (q.state.fence ≡ 0) × (live_of q.state.state ≡ [])) {a = files_with [] [] 0} (refl, refl, refl, refl) l i;
+}
 
 -- the one lane is handed in
 pub handed_in : (l : Lane) (before : Life) → before.lanes ≡ l ∷ [] → AreHandedIn before (named_lane l ∷ [])
@@ -114,7 +131,7 @@ made_call = record { number = 1; token = 1; lane = codes "f1"; path = codes "Web
 none_open : (token : ℕ) (p : Pending) → open_at token world ≡ Some p → ⊥
 none_open token p e = let z : None ≡ Some p = e in cc
 
-none_answered : {p : Pending} {l : Lane} {s : Settled} → IsAnswered world end.lanes p l s → ⊥
+none_answered : {p : Pending} {l : Lane} {s : Settlement} → IsAnswered world end.lanes p l s → ⊥
 none_answered {p} a = none_open p.token p a.is_open
 
 -- the lane of a resource is the one
@@ -134,8 +151,8 @@ fits = record {
   is_open = λ p e. absurd (none_open 1 p e);
 }
 
-answered_at : (c : Call) (l : Lane) → call_at 1 run ≡ Some c → lane_at c.lane end.lanes ≡ Some l → (s : Settled) × (settled_at 1 l.state ≡ Some s) × (told_of s.settlement ≡ reply_1.answer)
-answered_at c l e at_lane = only (λ (q : Lane). (s : Settled) × (settled_at 1 q.state ≡ Some s) × (told_of s.settlement ≡ reply_1.answer)) {a = f1} (made, refl, refl) l (found_passes (λ (q : Lane). bytes_eq c.lane q.name) end.lanes l at_lane).1
+answered_at : (c : Call) (l : Lane) → call_at 1 run ≡ Some c → lane_at c.lane end.lanes ≡ Some l → option_map told_of (settlement_of 1 l.state.state.settled) ≡ Some reply_1.answer
+answered_at c l e at_lane = only (λ (q : Lane). option_map told_of (settlement_of 1 q.state.state.settled) ≡ Some reply_1.answer) {a = f1} refl l (found_passes (λ (q : Lane). bytes_eq c.lane q.name) end.lanes l at_lane).1
 
 same_as_web : (v : Live) → live_at web.physical f1.state ≡ Some v → (v.props ≡ web.props) × (v.attrs ≡ web.attrs)
 same_as_web v e = subst (λ q. (q.props ≡ web.props) × (q.attrs ≡ web.attrs)) (some_is {a = web_live} e) (refl, refl)
@@ -147,7 +164,7 @@ ties = record {
   base_named = λ l v i j. absurd (in_none (only (λ (q : Lane). In v q.state.state.base → In v []) {a = f1} (λ k. k) l i j));
   settled_calls = λ l s i j. only (λ (q : Lane). In s q.state.state.settled → FitsCall run world q.name s.token s.request) {a = f1} (λ k. only (λ (r : Settled). FitsCall run world (codes "f1") r.token r.request) {a = made} fits s k) l i j;
   flying_calls = λ l f i j. absurd (in_none (only (λ (q : Lane). In f q.state.flying → In f []) {a = f1} (λ k. k) l i j));
-  answers = λ c r l i final called at_lane. only (λ (q : Answered). call_at q.token run ≡ Some c → (s : Settled) × (settled_at q.token l.state ≡ Some s) × (told_of s.settlement ≡ q.answer)) {a = reply_1} (λ k. answered_at c l k at_lane) r i called;
+  answers = λ c r l i final called at_lane. only (λ (q : Answered). call_at q.token run ≡ Some c → option_map told_of (settlement_of q.token l.state.state.settled) ≡ Some q.answer) {a = reply_1} (λ k. answered_at c l k at_lane) r i called;
   flying_open = λ l f i j. absurd (in_none (only (λ (q : Lane). In f q.state.flying → In f []) {a = f1} (λ k. k) l i j));
   flying_epochs = λ l f i j. absurd (in_none (only (λ (q : Lane). In f q.state.flying → In f []) {a = f1} (λ k. k) l i j));
   flying_at_rest = λ l f name s p i j. absurd (in_none (only (λ (q : Lane). In f q.state.flying → In f []) {a = f1} (λ k. k) l i j));
@@ -169,12 +186,68 @@ leased = record {
   own_call = λ l i. absurd (in_none i);
   accounted = λ l i. absurd (in_none i);
   settled = λ l reply s lane i. absurd (in_none i);
-  going = λ l name s p i. absurd (in_none i);
+  going = λ l i. absurd (in_none i);
 }
 
 pub holds : HoldsInTheEnd
 unfolding computing
 holds = record { agrees = record { named = named_lanes; described = described_lanes; legal = legal; ties = subst (λ x. Ties run x end.lanes) (sym leaves) ties }; leased = leased }
+
+-- The stack is what its status promises.
+abbrev seen : Seen
+seen = (codes "Web", record { physical = Some (codes "f1:1"); attrs = Some web.attrs }) ∷ []
+
+abbrev web_right : Right
+web_right = record { path = codes "Web"; kind = file; deletion = deletion.Delete; replace = replace.Delete; needs = []; props = web.props }
+
+abbrev whole : Whole
+whole = record { wanted = web_right ∷ []; outputs = []; exports = [] }
+
+web_is_live : IsLive end.lanes web web_live
+web_is_live = record { lane = f1; home = record { handed_in = refl; named = (codes "1", refl) }; live = refl }
+
+abbrev HasRight : List ℕ → Type 0
+HasRight path = (w : Right) × (right_at path whole ≡ Some w)
+
+abbrev HasHeld : List ℕ → Type 0
+HasHeld path = (r : Held) × (current_at path app.held ≡ Some r)
+
+abbrev IsRightFor : Right → Held → Type 0
+IsRightFor w r = (v : Live) × IsLive end.lanes r v × (v.kind ≡ w.kind) × (v.props ≡ w.props)
+
+whole_live : IsWholeLive end.lanes app whole
+whole_live = record {
+  paths = λ path. (
+    (λ (w, e). let found = wanted_there path whole.wanted w e in subst HasHeld found.0 (only (λ (q : Right). HasHeld q.path) {a = web_right} (web, refl) w found.1)),
+    (λ (r, e). let found = held_there path app.held r e in subst HasRight found.0 (only (λ (q : Held). HasRight q.path) {a = web} (web_right, refl) r found.1)),
+  );
+  live = λ path w r wanted held. only (λ (q : Right). IsRightFor q r) {a = web_right} (only (λ (q : Held). IsRightFor web_right q) {a = web} (web_live, web_is_live, refl, refl) r (held_there path app.held r held).1) w (wanted_there path whole.wanted w wanted).1;
+  nothing_else = λ r i. only (λ (q : Held). current_at q.path app.held ≡ Some q) {a = web} refl r i;
+  outputs = refl;
+}
+
+sees : Sees end.lanes app seen
+sees path r e =
+    let found = held_there path app.held r e in
+    subst (λ p. (v : Live) × IsLive end.lanes r v × (value_at p seen ≡ Some (record { physical = Some r.physical; attrs = Some v.attrs }))) found.0 (only (λ (q : Held). (v : Live) × IsLive end.lanes q v × (value_at q.path seen ≡ Some (record { physical = Some q.physical; attrs = Some v.attrs }))) {a = web} (web_live, web_is_live, refl) r found.1)
+
+complete : IsComplete (codes "app") world app end.lanes
+unfolding computing
+complete = record {
+  settled = record { none_open = refl; none_made = refl };
+  evaluated = (source_for (codes "app") 1 source, seen, whole, refl, sees, refl, whole_live, λ e. (λ i. i, λ i. i));
+}
+
+-- the only stack is this one, under its own name
+app_promised : (name : List ℕ) (s : StackState) → stack_at name world ≡ Some s → Promised s.status name world s end.lanes
+app_promised name s e = by_test (bytes_eq name (codes "app")) refl e
+  where
+    by_test : (t : Bool) → bytes_eq name (codes "app") ≡ t → (if t then Some app else None) ≡ Some s → Promised s.status name world s end.lanes
+    by_test true k f = subst (λ (q : StackState). Promised q.status name world q end.lanes) (some_is f) (subst (λ n. IsComplete n world app end.lanes) (sym ((bytes_eq-Decides name (codes "app")).0 k)) complete)
+    by_test false k f = let z : None ≡ Some s = f in absurd (cc)
+
+pub promises : KeepsItsPromises
+promises = λ name s. subst (λ x. stack_at name x ≡ Some s → Promised s.status name x s end.lanes) (sym leaves) (app_promised name s)
 
 -- Before the answer is written down: the create is open and answered, and its resource is live.
 abbrev world_3 : World
@@ -190,8 +263,8 @@ is_pending p e = only (λ (q : Pending). q ≡ pending) {a = pending} refl p (fo
 is_f1 : (name : List ℕ) (l : Lane) → lane_at name unwritten.lanes ≡ Some l → l ≡ f1
 is_f1 name l e = only (λ (q : Lane). q ≡ f1) {a = f1} refl l (found_passes (λ (q : Lane). bytes_eq name q.name) unwritten.lanes l e).1
 
-is_made : (token : ℕ) (l : Lane) (s : Settled) → l ≡ f1 → settled_at token l.state ≡ Some s → s ≡ made
-is_made token l s here_is e = only (λ (q : Settled). q ≡ made) {a = made} refl s (found_passes (λ (q : Settled). token == q.token) (made ∷ []) s (subst (λ (q : Lane). settled_at token q.state ≡ Some s) here_is e)).1
+is_made : (token : ℕ) (l : Lane) (s : Settlement) → token ≡ 1 → l ≡ f1 → settlement_of token l.state.state.settled ≡ Some s → made.settlement ≡ s
+is_made token l s one here_is e = some_is (subst (λ (t : ℕ). settlement_of t f1.state.state.settled ≡ Some s) one (subst (λ (q : Lane). settlement_of token q.state.state.settled ≡ Some s) here_is e))
 
 open_fits : FitsCall unwritten.entries world_3 (codes "f1") 1 made.request
 unfolding computing
@@ -211,12 +284,13 @@ done_by : IsDoneBy f1 (effect_of made.request made.settlement)
 unfolding computing
 done_by = (refl, λ i. in_none i)
 
-made_done : {p : Pending} {l : Lane} {s : Settled} → IsAnswered world_3 unwritten.lanes p l s → IsDoneBy l (effect_of s.request s.settlement)
+made_done : {p : Pending} {l : Lane} {s : Settlement} → IsAnswered world_3 unwritten.lanes p l s → IsDoneBy l (effect_of p.request s)
 made_done {p} {l} {s} a =
     let there_is = is_f1 p.lane l a.at_home in
-    subst (λ q. IsDoneBy q (effect_of s.request s.settlement)) (sym there_is) (subst (λ q. IsDoneBy f1 (effect_of q.request q.settlement)) (sym (is_made p.token l s there_is a.settled)) done_by)
+    let is_open = is_pending p a.is_open in
+    subst (λ q. IsDoneBy q (effect_of p.request s)) (sym there_is) (subst (λ (q : Pending). IsDoneBy f1 (effect_of q.request s)) (sym is_open) (subst (λ (q : Settlement). IsDoneBy f1 (effect_of pending.request q)) (is_made p.token l s (ap (λ (q : Pending). q.token) is_open) there_is a.settled) done_by))
 
-born_of : IsAnswered world_3 unwritten.lanes pending f1 made
+born_of : IsAnswered world_3 unwritten.lanes pending f1 made.settlement
 unfolding computing
 born_of = record { is_open = refl; at_home = refl; settled = refl }
 
@@ -241,7 +315,7 @@ open_ties = record {
   changed = λ p l s id props attrs a e. absurd (subst (IsDoneBy l) e (made_done a));
   born = λ p l s id k props attrs a e. subst (IsDoneBy l) e (made_done a);
   born_once = λ p q l m s t id k k' props attrs props' attrs' a b e f. ap (λ (o : Pending). o.token) (is_pending p a.is_open ∙ sym (is_pending q b.is_open));
-  listed = λ l v i j. only (λ (q : Lane). In v (live_of q.state.state) → IsListed world_3 unwritten.lanes q v.id) {a = f1} (λ k. only (λ (w : Live). IsListed world_3 unwritten.lanes f1 w.id) {a = web_live} (inr (inr (inl (pending, f1, made, file, web_live.props, web_live.attrs, born_of, refl)))) v k) l i j;
+  listed = λ l v i j. only (λ (q : Lane). In v (live_of q.state.state) → IsListed world_3 unwritten.lanes q v.id) {a = f1} (λ k. only (λ (w : Live). IsListed world_3 unwritten.lanes f1 w.id) {a = web_live} (inr (inr (inl (pending, f1, made.settlement, file, web_live.props, web_live.attrs, born_of, refl)))) v k) l i j;
 }
 
 open_leased : AreLeased unwritten
@@ -251,7 +325,7 @@ open_leased = record {
   own_call = λ l i. only (λ (q : Lease). FitsCall unwritten.entries world_3 q.lane q.token q.request) {a = lease_answered} open_fits l i;
   accounted = λ l i. only (λ (q : Lease). IsAccounted world_3 q.token q.request) {a = lease_answered} (inl (pending, refl)) l i;
   settled = λ l reply s lane i replied told at_lane. only (λ (q : Lease). q.reply ≡ Some reply → lane_at q.lane unwritten.lanes ≡ Some lane → settlement_of q.token lane.state.state.settled ≡ Some s) {a = lease_answered} (λ e f. subst (λ (m : Lane). settlement_of 1 m.state.state.settled ≡ Some s) (sym (is_f1 (codes "f1") lane f)) (subst (λ r. life.settled_reply r ≡ Some s) (sym (some_is {a = answer_1} e)) told)) l i replied at_lane;
-  going = λ l name s p i there_is j same. one_stack (λ (q : StackState). is_in_progress q.status ≡ true) name (codes "app") (known_stack (codes "app") world_3) s refl there_is;
+  going = λ l i. only (λ (q : Lease). IsGoing world_3 q) {a = lease_answered} (record { name = codes "app"; stack = known_stack (codes "app") world_3; call = made_call; stands = refl; in_progress = refl; number = refl; written = refl; lane = refl }) l i;
 }
 
 pub holds_before : HoldsBeforeItIsWritten

@@ -1,5 +1,5 @@
 -- The first resource.
-use Rattle.std.proofs.Common.{List, ℕ, refl, [], ◌∷◌, inl, sym, lit≤, true≢false}
+use Rattle.std.proofs.Common.{List, ℕ, refl, [], ◌∷◌, inl, inr, sym, lit≤, true≢false}
 use Rattle.std.specs.Prelude.{codes}
 use Rattle.cf_stacks.specs.declared.state.World.{World}
 use Rattle.cf_stacks.specs.declared.state.StackState.{StackState}
@@ -8,7 +8,7 @@ use Rattle.cf_stacks.specs.Status.{Forward}
 use Rattle.cf_plan.specs.Forward.{here, HasFailed, IsReady, AllDone, IsDone, is_made}
 use Rattle.cf_plan.specs.Follow.{MayFollow}
 use Rattle.cf_examples.specs.Given.{schemas}
-use Rattle.cf_examples.specs.FirstResource.{opened, begun, intended, answered, done, web, Leaves, Legal, broken, again, RetriedUnderAnotherToken, DoubtIsLegal}
+use Rattle.cf_examples.specs.FirstResource.{opened, begun, intended, answered, done, web, Leaves, Legal, broken, again, RetriedUnderAnotherToken, DoubtIsLegal, run, world, same_again, UpdatedThoughTheSame}
 use Rattle.cf_examples.proofs.Computing.{computing}
 use Rattle.cf_examples.proofs.Lists.{in_none, only}
 use Rattle.cf_examples.proofs.Failing.{not_failed, not_done_new}
@@ -114,3 +114,10 @@ breaks = (codes "app", app_at world_3, Forward, refl, refl, (refl, refl, (lit≤
 pub doubt_is_legal : DoubtIsLegal
 unfolding computing
 doubt_is_legal = (([], opens), (([], begins), (([], intends), ((1 ∷ [], breaks), tt))))
+
+may_not_update : (out : List ℕ) → MayFollow schemas world out same_again → ⊥
+unfolding computing
+may_not_update out may = elim may.2.changing [ inl created ↦ true≢false (sym created) | inr c ↦ elim c [ inl rows ↦ true≢false rows | inr outputs ↦ true≢false (sym outputs) ] ]
+
+pub updated_though_the_same : UpdatedThoughTheSame
+updated_though_the_same = refused_at world run same_again leaves may_not_update

@@ -27,31 +27,31 @@ use Rattle.cf_examples.proofs.Refusing.{legal_step, fold_step}
 use Rattle.cf_examples.proofs.Beginning.{no_imports}
 use Rattle.cf_examples.specs.LateEffect.{first, second, opened, begun, intended, made, created, updating, intended_change, broken_once, broken_twice, broken_thrice, turned, repeated, intended_restore, restored, cleaning, rolled_back, Legal, Shows}
 
-abbrev world_0 : World
+abbrev pub world_0 : World
 world_0 = empty_world
 
-may_opened : MayFollow schemas world_0 [] opened
+pub may_opened : MayFollow schemas world_0 [] opened
 unfolding computing
 may_opened = (refl, refl, λ name s e. absurd (cc))
 
-abbrev world_1 : World
+abbrev pub world_1 : World
 world_1 = record world_0 { lanes = (lane_pair (codes "f1") file ∷ []); epoch = 1; place = 1 }
 
-leads_1 : world_after world_0 opened ≡ world_1
+pub leads_1 : world_after world_0 opened ≡ world_1
 unfolding computing
 leads_1 = refl
 
-may_begun : MayFollow schemas world_1 [] begun
+pub may_begun : MayFollow schemas world_1 [] begun
 unfolding computing
 may_begun = (refl, refl, record { no_flaw = refl; known_types = refl; same_types = refl; imports = no_imports _ _ _ _ refl refl; free = refl; not_in_use = refl; changing = inl refl })
 
-abbrev stack_2_s : StackState
+abbrev pub stack_2_s : StackState
 stack_2_s = record no_stack { status = status.CreateInProgress; number = 1; operation = 1; going = Some (source_for (codes "s") 1 first); events = ((codes "event 2 - CREATE_IN_PROGRESS") ∷ []); entries = (begun ∷ []) }
 
-abbrev world_2 : World
+abbrev pub world_2 : World
 world_2 = record world_1 { stacks = (((codes "s"), stack_2_s) ∷ []); operation = 1; place = 2 }
 
-leads_2 : world_after world_1 begun ≡ world_2
+pub leads_2 : world_after world_1 begun ≡ world_2
 unfolding computing
 leads_2 = refl
 
@@ -63,34 +63,34 @@ ready_2_A : IsReady stack_2_s (codes "A")
 unfolding computing
 ready_2_A = (here, λ q i. absurd (in_none i))
 
-may_intended : MayFollow schemas world_2 [] intended
+pub may_intended : MayFollow schemas world_2 [] intended
 unfolding computing
 may_intended = ((codes "s"), stack_2_s, Forward, refl, refl, record { next = refl; free = refl; home = refl; fits = refl; no_repeat = refl; chosen = (sound_2, ready_2_A, not_done_new (codes "A") stack_2_s refl refl refl, (refl, tt)) })
 
-abbrev stack_3_s : StackState
+abbrev pub stack_3_s : StackState
 stack_3_s = record stack_2_s { tokens = (record { token = 1; path = (codes "A"); lane = (codes "f1"); request = (request.Create file (file_props (codes "a") (codes "x"))) } ∷ []); events = stack_2_s.events ++ (codes "event 3 A CREATE_IN_PROGRESS") ∷ []; entries = stack_2_s.entries ++ intended ∷ [] }
 
-abbrev world_3 : World
+abbrev pub world_3 : World
 world_3 = record world_2 { stacks = (((codes "s"), stack_3_s) ∷ []); token = 1; place = 3 }
 
-leads_3 : world_after world_2 intended ≡ world_3
+pub leads_3 : world_after world_2 intended ≡ world_3
 unfolding computing
 leads_3 = refl
 
-may_made : MayFollow schemas world_3 (1 ∷ []) made
+pub may_made : MayFollow schemas world_3 (1 ∷ []) made
 unfolding computing
 may_made = ((codes "s"), stack_3_s, Forward, refl, refl, (refl, refl, lit≤ tt))
 
-abbrev a_1 : Held
+abbrev pub a_1 : Held
 a_1 = record { path = (codes "A"); kind = file; physical = (codes "f1:1"); props = (file_props (codes "a") (codes "x")); attrs = (file_attrs (codes "f1:1") 1 (codes "a") (codes "x")); needs = []; deletion = deletion.Delete; replace = replace.Delete; status = held.CreateComplete; unsure = false; superseded = false }
 
-abbrev stack_4_s : StackState
+abbrev pub stack_4_s : StackState
 stack_4_s = record stack_3_s { made = (a_1 ∷ []); tokens = []; events = stack_3_s.events ++ (codes "event 4 A CREATE_COMPLETE") ∷ []; entries = stack_3_s.entries ++ made ∷ [] }
 
-abbrev world_4 : World
+abbrev pub world_4 : World
 world_4 = record world_3 { stacks = (((codes "s"), stack_4_s) ∷ []); place = 4 }
 
-leads_4 : world_after world_3 made ≡ world_4
+pub leads_4 : world_after world_3 made ≡ world_4
 unfolding computing
 leads_4 = refl
 
@@ -102,31 +102,31 @@ sound_4 : ¬ HasFailed schemas (codes "s") world_4 stack_4_s
 unfolding computing
 sound_4 = not_failed schemas (codes "s") world_4 stack_4_s (record { calls = refl; paths = refl; inner = refl; flaws = refl; exports = refl })
 
-may_created : MayFollow schemas world_4 [] created
+pub may_created : MayFollow schemas world_4 [] created
 unfolding computing
 may_created = ((codes "s"), stack_4_s, Forward, refl, refl, (refl, end_of_create schemas (codes "s") world_4 stack_4_s refl all_done_4 sound_4 refl, (sound_4, all_done_4), refl))
 
-abbrev stack_5_s : StackState
+abbrev pub stack_5_s : StackState
 stack_5_s = record stack_4_s { status = status.CreateComplete; held = (a_1 ∷ []); made = []; source = Some (source_for (codes "s") 1 first); events = stack_4_s.events ++ (codes "event 5 - CREATE_COMPLETE") ∷ []; entries = stack_4_s.entries ++ created ∷ [] }
 
-abbrev world_5 : World
+abbrev pub world_5 : World
 world_5 = record world_4 { stacks = (((codes "s"), stack_5_s) ∷ []); place = 5 }
 
-leads_5 : world_after world_4 created ≡ world_5
+pub leads_5 : world_after world_4 created ≡ world_5
 unfolding computing
 leads_5 = refl
 
-may_updating : MayFollow schemas world_5 [] updating
+pub may_updating : MayFollow schemas world_5 [] updating
 unfolding computing
 may_updating = (refl, refl, record { no_flaw = refl; known_types = refl; same_types = refl; imports = no_imports _ _ _ _ refl refl; free = refl; not_in_use = refl; changing = inr (inl refl) })
 
-abbrev stack_6_s : StackState
+abbrev pub stack_6_s : StackState
 stack_6_s = record stack_5_s { status = status.UpdateInProgress; operation = 2; before = (a_1 ∷ []); going = Some (source_for (codes "s") 1 second); events = stack_5_s.events ++ (codes "event 6 - UPDATE_IN_PROGRESS") ∷ []; entries = (updating ∷ []) }
 
-abbrev world_6 : World
+abbrev pub world_6 : World
 world_6 = record world_5 { stacks = (((codes "s"), stack_6_s) ∷ []); operation = 2; place = 6 }
 
-leads_6 : world_after world_5 updating ≡ world_6
+pub leads_6 : world_after world_5 updating ≡ world_6
 unfolding computing
 leads_6 = refl
 
@@ -138,139 +138,139 @@ ready_6_A : IsReady stack_6_s (codes "A")
 unfolding computing
 ready_6_A = (here, λ q i. absurd (in_none i))
 
-may_intended_change : MayFollow schemas world_6 [] intended_change
+pub may_intended_change : MayFollow schemas world_6 [] intended_change
 unfolding computing
 may_intended_change = ((codes "s"), stack_6_s, Forward, refl, refl, record { next = refl; free = refl; home = refl; fits = ((codes "1", refl), refl); no_repeat = refl; chosen = (sound_6, ready_6_A, not_done_other (codes "A") stack_6_s (same_at (codes "Content") (codes "x")) _ _ _ refl refl refl refl refl refl, (_, refl, refl, refl, ((λ e. let z : Update ≡ Replace = e in cc), inr (λ e. let z : Update ≡ Same = e in cc)), refl)) })
 
-abbrev stack_7_s : StackState
+abbrev pub stack_7_s : StackState
 stack_7_s = record stack_6_s { tokens = (record { token = 2; path = (codes "A"); lane = (codes "f1"); request = (request.Update (codes "f1:1") (file_props (codes "a") (codes "y"))) } ∷ []); events = stack_6_s.events ++ (codes "event 7 A UPDATE_IN_PROGRESS") ∷ []; entries = stack_6_s.entries ++ intended_change ∷ [] }
 
-abbrev world_7 : World
+abbrev pub world_7 : World
 world_7 = record world_6 { stacks = (((codes "s"), stack_7_s) ∷ []); token = 2; place = 7 }
 
-leads_7 : world_after world_6 intended_change ≡ world_7
+pub leads_7 : world_after world_6 intended_change ≡ world_7
 unfolding computing
 leads_7 = refl
 
-may_broken_once : MayFollow schemas world_7 (2 ∷ []) broken_once
+pub may_broken_once : MayFollow schemas world_7 (2 ∷ []) broken_once
 unfolding computing
 may_broken_once = ((codes "s"), stack_7_s, Forward, refl, refl, (refl, refl, (lit≤ tt, λ _. lit≤ tt)))
 
-abbrev stack_8_s : StackState
+abbrev pub stack_8_s : StackState
 stack_8_s = record stack_7_s { events = stack_7_s.events ++ (codes "event 8 A UPDATE_FAILED Fault") ∷ []; entries = stack_7_s.entries ++ broken_once ∷ [] }
 
-abbrev world_8 : World
+abbrev pub world_8 : World
 world_8 = record world_7 { stacks = (((codes "s"), stack_8_s) ∷ []); place = 8 }
 
-leads_8 : world_after world_7 broken_once ≡ world_8
+pub leads_8 : world_after world_7 broken_once ≡ world_8
 unfolding computing
 leads_8 = refl
 
-may_broken_twice : MayFollow schemas world_8 (2 ∷ []) broken_twice
+pub may_broken_twice : MayFollow schemas world_8 (2 ∷ []) broken_twice
 unfolding computing
 may_broken_twice = ((codes "s"), stack_8_s, Forward, refl, refl, (refl, refl, (lit≤ tt, λ _. lit≤ tt)))
 
-abbrev stack_9_s : StackState
+abbrev pub stack_9_s : StackState
 stack_9_s = record stack_8_s { events = stack_8_s.events ++ (codes "event 9 A UPDATE_FAILED Fault") ∷ []; entries = stack_8_s.entries ++ broken_twice ∷ [] }
 
-abbrev world_9 : World
+abbrev pub world_9 : World
 world_9 = record world_8 { stacks = (((codes "s"), stack_9_s) ∷ []); place = 9 }
 
-leads_9 : world_after world_8 broken_twice ≡ world_9
+pub leads_9 : world_after world_8 broken_twice ≡ world_9
 unfolding computing
 leads_9 = refl
 
-may_broken_thrice : MayFollow schemas world_9 (2 ∷ []) broken_thrice
+pub may_broken_thrice : MayFollow schemas world_9 (2 ∷ []) broken_thrice
 unfolding computing
 may_broken_thrice = ((codes "s"), stack_9_s, Forward, refl, refl, (refl, refl, (lit≤ tt, λ _. lit≤ tt)))
 
-abbrev stack_10_s : StackState
+abbrev pub stack_10_s : StackState
 stack_10_s = record stack_9_s { events = stack_9_s.events ++ (codes "event 10 A UPDATE_FAILED Fault") ∷ []; entries = stack_9_s.entries ++ broken_thrice ∷ [] }
 
-abbrev world_10 : World
+abbrev pub world_10 : World
 world_10 = record world_9 { stacks = (((codes "s"), stack_10_s) ∷ []); place = 10 }
 
-leads_10 : world_after world_9 broken_thrice ≡ world_10
+pub leads_10 : world_after world_9 broken_thrice ≡ world_10
 unfolding computing
 leads_10 = refl
 
-may_turned : MayFollow schemas world_10 [] turned
+pub may_turned : MayFollow schemas world_10 [] turned
 unfolding computing
 may_turned = ((codes "s"), stack_10_s, Forward, refl, refl, (refl, (refl, (inl ((2, reason.Fault), refl)), (2, refl, refl))))
 
-abbrev stack_11_s : StackState
+abbrev pub stack_11_s : StackState
 stack_11_s = record stack_10_s { status = status.UpdateRollbackInProgress; events = stack_10_s.events ++ (codes "event 11 - UPDATE_ROLLBACK_IN_PROGRESS") ∷ []; entries = stack_10_s.entries ++ turned ∷ [] }
 
-abbrev world_11 : World
+abbrev pub world_11 : World
 world_11 = record world_10 { stacks = (((codes "s"), stack_11_s) ∷ []); place = 11 }
 
-leads_11 : world_after world_10 turned ≡ world_11
+pub leads_11 : world_after world_10 turned ≡ world_11
 unfolding computing
 leads_11 = refl
 
-may_repeated : MayFollow schemas world_11 (2 ∷ []) repeated
+pub may_repeated : MayFollow schemas world_11 (2 ∷ []) repeated
 unfolding computing
 may_repeated = ((codes "s"), stack_11_s, Back, refl, refl, (refl, refl, lit≤ tt))
 
 abbrev a_2 : Held
 a_2 = record { path = (codes "A"); kind = file; physical = (codes "f1:1"); props = (file_props (codes "a") (codes "y")); attrs = (file_attrs (codes "f1:1") 1 (codes "a") (codes "y")); needs = []; deletion = deletion.Delete; replace = replace.Delete; status = held.UpdateComplete; unsure = false; superseded = false }
 
-abbrev stack_12_s : StackState
+abbrev pub stack_12_s : StackState
 stack_12_s = record stack_11_s { held = (a_2 ∷ []); tokens = []; events = stack_11_s.events ++ (codes "event 12 A UPDATE_COMPLETE") ∷ []; entries = stack_11_s.entries ++ repeated ∷ [] }
 
-abbrev world_12 : World
+abbrev pub world_12 : World
 world_12 = record world_11 { stacks = (((codes "s"), stack_12_s) ∷ []); place = 12 }
 
-leads_12 : world_after world_11 repeated ≡ world_12
+pub leads_12 : world_after world_11 repeated ≡ world_12
 unfolding computing
 leads_12 = refl
 
-may_intended_restore : MayFollow schemas world_12 [] intended_restore
+pub may_intended_restore : MayFollow schemas world_12 [] intended_restore
 unfolding computing
 may_intended_restore = ((codes "s"), stack_12_s, Back, refl, refl, record { next = refl; free = refl; home = refl; fits = ((codes "1", refl), refl); no_repeat = refl; chosen = inr (refl, _, (here, refl, refl, refl), refl, refl, refl, refl) })
 
-abbrev stack_13_s : StackState
+abbrev pub stack_13_s : StackState
 stack_13_s = record stack_12_s { tokens = (record { token = 3; path = (codes "A"); lane = (codes "f1"); request = (request.Update (codes "f1:1") (file_props (codes "a") (codes "x"))) } ∷ []); events = stack_12_s.events ++ (codes "event 13 A UPDATE_IN_PROGRESS") ∷ []; entries = stack_12_s.entries ++ intended_restore ∷ [] }
 
-abbrev world_13 : World
+abbrev pub world_13 : World
 world_13 = record world_12 { stacks = (((codes "s"), stack_13_s) ∷ []); token = 3; place = 13 }
 
-leads_13 : world_after world_12 intended_restore ≡ world_13
+pub leads_13 : world_after world_12 intended_restore ≡ world_13
 unfolding computing
 leads_13 = refl
 
-may_restored : MayFollow schemas world_13 (3 ∷ []) restored
+pub may_restored : MayFollow schemas world_13 (3 ∷ []) restored
 unfolding computing
 may_restored = ((codes "s"), stack_13_s, Back, refl, refl, (refl, refl, lit≤ tt))
 
 abbrev a_3 : Held
 a_3 = record { path = (codes "A"); kind = file; physical = (codes "f1:1"); props = (file_props (codes "a") (codes "x")); attrs = (file_attrs (codes "f1:1") 1 (codes "a") (codes "x")); needs = []; deletion = deletion.Delete; replace = replace.Delete; status = held.UpdateComplete; unsure = false; superseded = false }
 
-abbrev stack_14_s : StackState
+abbrev pub stack_14_s : StackState
 stack_14_s = record stack_13_s { held = (a_3 ∷ []); tokens = []; events = stack_13_s.events ++ (codes "event 14 A UPDATE_COMPLETE") ∷ []; entries = stack_13_s.entries ++ restored ∷ [] }
 
-abbrev world_14 : World
+abbrev pub world_14 : World
 world_14 = record world_13 { stacks = (((codes "s"), stack_14_s) ∷ []); place = 14 }
 
-leads_14 : world_after world_13 restored ≡ world_14
+pub leads_14 : world_after world_13 restored ≡ world_14
 unfolding computing
 leads_14 = refl
 
-may_cleaning : MayFollow schemas world_14 [] cleaning
+pub may_cleaning : MayFollow schemas world_14 [] cleaning
 unfolding computing
 may_cleaning = ((codes "s"), stack_14_s, Back, refl, refl, (refl, (refl, refl, nothing_to_restore stack_14_s refl, refl)))
 
-abbrev stack_15_s : StackState
+abbrev pub stack_15_s : StackState
 stack_15_s = record stack_14_s { status = status.UpdateRollbackCompleteCleanupInProgress; events = stack_14_s.events ++ (codes "event 15 - UPDATE_ROLLBACK_COMPLETE_CLEANUP_IN_PROGRESS") ∷ []; entries = stack_14_s.entries ++ cleaning ∷ [] }
 
-abbrev world_15 : World
+abbrev pub world_15 : World
 world_15 = record world_14 { stacks = (((codes "s"), stack_15_s) ∷ []); place = 15 }
 
-leads_15 : world_after world_14 cleaning ≡ world_15
+pub leads_15 : world_after world_14 cleaning ≡ world_15
 unfolding computing
 leads_15 = refl
 
-may_rolled_back : MayFollow schemas world_15 [] rolled_back
+pub may_rolled_back : MayFollow schemas world_15 [] rolled_back
 unfolding computing
 may_rolled_back = ((codes "s"), stack_15_s, BackClean, refl, refl, (refl, end_of_back_clean schemas (codes "s") world_15 stack_15_s refl refl refl, tt, refl))
 
@@ -280,7 +280,7 @@ stack_16_s = record stack_15_s { status = status.UpdateRollbackComplete; events 
 abbrev pub world_16 : World
 world_16 = record world_15 { stacks = (((codes "s"), stack_16_s) ∷ []); place = 16 }
 
-leads_16 : world_after world_15 rolled_back ≡ world_16
+pub leads_16 : world_after world_15 rolled_back ≡ world_16
 unfolding computing
 leads_16 = refl
 

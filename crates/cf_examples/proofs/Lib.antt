@@ -1,5 +1,6 @@
 pub mod Computing
 pub mod Lists
+pub mod Standing
 pub mod Failing
 pub mod Ending
 pub mod Refusing
@@ -18,6 +19,8 @@ pub mod Skipped
 pub mod Retained
 pub mod Nested
 pub mod Pinned
+pub mod Site
+pub mod SiteKept
 pub mod MadeAndTakenBack
 pub mod KeptInRollback
 pub mod RestoreRefused
@@ -27,3 +30,4 @@ pub mod Reviewed
 pub mod Ends
 pub mod FirstLife
 pub mod CrashedLife
+pub mod LateLife

@@ -29,6 +29,10 @@ only P p x i = elim (in_cons i) [ inl e ↦ subst P e p | inr j ↦ absurd (in_n
 pub either : {A : Type 0} (P : A → Type 0) {a b : A} → P a → P b → (x : A) → In x (a ∷ b ∷ []) → P x
 either P p q x i = elim (in_cons i) [ inl e ↦ subst P e p | inr j ↦ only P q x j ]
 
+-- one more
+pub more : {A : Type 0} (P : A → Type 0) {a : A} {rest : List A} → P a → ((x : A) → In x rest → P x) → (x : A) → In x (a ∷ rest) → P x
+more P p others x i = elim (in_cons i) [ inl e ↦ subst P e p | inr j ↦ others x j ]
+
 pub none : {A : Type 0} (P : A → Type 0) → (x : A) → In x [] → P x
 none P x i = absurd (in_none i)
 

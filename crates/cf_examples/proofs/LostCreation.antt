@@ -245,10 +245,10 @@ may_undeleted : MayFollow schemas world_15 [] undeleted
 unfolding computing
 may_undeleted = ((codes "s"), stack_15_s, Gone, refl, refl, (refl, end_of_failed_deletion schemas (codes "s") world_15 stack_15_s refl refl refl refl, refl, (refl, are_failed stack_15_s ((codes "A") ∷ []) refl refl)))
 
-abbrev stack_16_s : StackState
+abbrev pub stack_16_s : StackState
 stack_16_s = record stack_15_s { status = status.DeleteFailed; events = stack_15_s.events ++ (codes "event 16 - DELETE_FAILED") ∷ []; entries = stack_15_s.entries ++ undeleted ∷ [] }
 
-abbrev world_16 : World
+abbrev pub world_16 : World
 world_16 = record world_15 { stacks = (((codes "s"), stack_16_s) ∷ []); place = 16 }
 
 leads_16 : world_after world_15 undeleted ≡ world_16
@@ -362,6 +362,9 @@ legal = legal_step world_0 world_1 opened rest_1 [] may_opened leads_1 (legal_st
 
 arrives_11 : fold_of empty_world (opened ∷ begun ∷ intended ∷ broken_once ∷ broken_twice ∷ broken_thrice ∷ turned ∷ broken_back_once ∷ broken_back_twice ∷ broken_back_thrice ∷ failed ∷ []) ≡ world_11
 arrives_11 = fold_step world_0 world_1 opened (begun ∷ intended ∷ broken_once ∷ broken_twice ∷ broken_thrice ∷ turned ∷ broken_back_once ∷ broken_back_twice ∷ broken_back_thrice ∷ failed ∷ []) leads_1 (fold_step world_1 world_2 begun (intended ∷ broken_once ∷ broken_twice ∷ broken_thrice ∷ turned ∷ broken_back_once ∷ broken_back_twice ∷ broken_back_thrice ∷ failed ∷ []) leads_2 (fold_step world_2 world_3 intended (broken_once ∷ broken_twice ∷ broken_thrice ∷ turned ∷ broken_back_once ∷ broken_back_twice ∷ broken_back_thrice ∷ failed ∷ []) leads_3 (fold_step world_3 world_4 broken_once (broken_twice ∷ broken_thrice ∷ turned ∷ broken_back_once ∷ broken_back_twice ∷ broken_back_thrice ∷ failed ∷ []) leads_4 (fold_step world_4 world_5 broken_twice (broken_thrice ∷ turned ∷ broken_back_once ∷ broken_back_twice ∷ broken_back_thrice ∷ failed ∷ []) leads_5 (fold_step world_5 world_6 broken_thrice (turned ∷ broken_back_once ∷ broken_back_twice ∷ broken_back_thrice ∷ failed ∷ []) leads_6 (fold_step world_6 world_7 turned (broken_back_once ∷ broken_back_twice ∷ broken_back_thrice ∷ failed ∷ []) leads_7 (fold_step world_7 world_8 broken_back_once (broken_back_twice ∷ broken_back_thrice ∷ failed ∷ []) leads_8 (fold_step world_8 world_9 broken_back_twice (broken_back_thrice ∷ failed ∷ []) leads_9 (fold_step world_9 world_10 broken_back_thrice (failed ∷ []) leads_10 (fold_step world_10 world_11 failed ([]) leads_11 (refl)))))))))))
+
+pub arrives_16 : fold_of empty_world (opened ∷ begun ∷ intended ∷ broken_once ∷ broken_twice ∷ broken_thrice ∷ turned ∷ broken_back_once ∷ broken_back_twice ∷ broken_back_thrice ∷ failed ∷ deleting ∷ broken_gone_once ∷ broken_gone_twice ∷ broken_gone_thrice ∷ undeleted ∷ []) ≡ world_16
+arrives_16 = fold_step world_0 world_1 opened (begun ∷ intended ∷ broken_once ∷ broken_twice ∷ broken_thrice ∷ turned ∷ broken_back_once ∷ broken_back_twice ∷ broken_back_thrice ∷ failed ∷ deleting ∷ broken_gone_once ∷ broken_gone_twice ∷ broken_gone_thrice ∷ undeleted ∷ []) leads_1 (fold_step world_1 world_2 begun (intended ∷ broken_once ∷ broken_twice ∷ broken_thrice ∷ turned ∷ broken_back_once ∷ broken_back_twice ∷ broken_back_thrice ∷ failed ∷ deleting ∷ broken_gone_once ∷ broken_gone_twice ∷ broken_gone_thrice ∷ undeleted ∷ []) leads_2 (fold_step world_2 world_3 intended (broken_once ∷ broken_twice ∷ broken_thrice ∷ turned ∷ broken_back_once ∷ broken_back_twice ∷ broken_back_thrice ∷ failed ∷ deleting ∷ broken_gone_once ∷ broken_gone_twice ∷ broken_gone_thrice ∷ undeleted ∷ []) leads_3 (fold_step world_3 world_4 broken_once (broken_twice ∷ broken_thrice ∷ turned ∷ broken_back_once ∷ broken_back_twice ∷ broken_back_thrice ∷ failed ∷ deleting ∷ broken_gone_once ∷ broken_gone_twice ∷ broken_gone_thrice ∷ undeleted ∷ []) leads_4 (fold_step world_4 world_5 broken_twice (broken_thrice ∷ turned ∷ broken_back_once ∷ broken_back_twice ∷ broken_back_thrice ∷ failed ∷ deleting ∷ broken_gone_once ∷ broken_gone_twice ∷ broken_gone_thrice ∷ undeleted ∷ []) leads_5 (fold_step world_5 world_6 broken_thrice (turned ∷ broken_back_once ∷ broken_back_twice ∷ broken_back_thrice ∷ failed ∷ deleting ∷ broken_gone_once ∷ broken_gone_twice ∷ broken_gone_thrice ∷ undeleted ∷ []) leads_6 (fold_step world_6 world_7 turned (broken_back_once ∷ broken_back_twice ∷ broken_back_thrice ∷ failed ∷ deleting ∷ broken_gone_once ∷ broken_gone_twice ∷ broken_gone_thrice ∷ undeleted ∷ []) leads_7 (fold_step world_7 world_8 broken_back_once (broken_back_twice ∷ broken_back_thrice ∷ failed ∷ deleting ∷ broken_gone_once ∷ broken_gone_twice ∷ broken_gone_thrice ∷ undeleted ∷ []) leads_8 (fold_step world_8 world_9 broken_back_twice (broken_back_thrice ∷ failed ∷ deleting ∷ broken_gone_once ∷ broken_gone_twice ∷ broken_gone_thrice ∷ undeleted ∷ []) leads_9 (fold_step world_9 world_10 broken_back_thrice (failed ∷ deleting ∷ broken_gone_once ∷ broken_gone_twice ∷ broken_gone_thrice ∷ undeleted ∷ []) leads_10 (fold_step world_10 world_11 failed (deleting ∷ broken_gone_once ∷ broken_gone_twice ∷ broken_gone_thrice ∷ undeleted ∷ []) leads_11 (fold_step world_11 world_12 deleting (broken_gone_once ∷ broken_gone_twice ∷ broken_gone_thrice ∷ undeleted ∷ []) leads_12 (fold_step world_12 world_13 broken_gone_once (broken_gone_twice ∷ broken_gone_thrice ∷ undeleted ∷ []) leads_13 (fold_step world_13 world_14 broken_gone_twice (broken_gone_thrice ∷ undeleted ∷ []) leads_14 (fold_step world_14 world_15 broken_gone_thrice (undeleted ∷ []) leads_15 (fold_step world_15 world_16 undeleted ([]) leads_16 (refl))))))))))))))))
 
 arrives_19 : fold_of empty_world (opened ∷ begun ∷ intended ∷ broken_once ∷ broken_twice ∷ broken_thrice ∷ turned ∷ broken_back_once ∷ broken_back_twice ∷ broken_back_thrice ∷ failed ∷ deleting ∷ broken_gone_once ∷ broken_gone_twice ∷ broken_gone_thrice ∷ undeleted ∷ deleting_without ∷ kept ∷ deleted ∷ []) ≡ world_19
 arrives_19 = fold_step world_0 world_1 opened (begun ∷ intended ∷ broken_once ∷ broken_twice ∷ broken_thrice ∷ turned ∷ broken_back_once ∷ broken_back_twice ∷ broken_back_thrice ∷ failed ∷ deleting ∷ broken_gone_once ∷ broken_gone_twice ∷ broken_gone_thrice ∷ undeleted ∷ deleting_without ∷ kept ∷ deleted ∷ []) leads_1 (fold_step world_1 world_2 begun (intended ∷ broken_once ∷ broken_twice ∷ broken_thrice ∷ turned ∷ broken_back_once ∷ broken_back_twice ∷ broken_back_thrice ∷ failed ∷ deleting ∷ broken_gone_once ∷ broken_gone_twice ∷ broken_gone_thrice ∷ undeleted ∷ deleting_without ∷ kept ∷ deleted ∷ []) leads_2 (fold_step world_2 world_3 intended (broken_once ∷ broken_twice ∷ broken_thrice ∷ turned ∷ broken_back_once ∷ broken_back_twice ∷ broken_back_thrice ∷ failed ∷ deleting ∷ broken_gone_once ∷ broken_gone_twice ∷ broken_gone_thrice ∷ undeleted ∷ deleting_without ∷ kept ∷ deleted ∷ []) leads_3 (fold_step world_3 world_4 broken_once (broken_twice ∷ broken_thrice ∷ turned ∷ broken_back_once ∷ broken_back_twice ∷ broken_back_thrice ∷ failed ∷ deleting ∷ broken_gone_once ∷ broken_gone_twice ∷ broken_gone_thrice ∷ undeleted ∷ deleting_without ∷ kept ∷ deleted ∷ []) leads_4 (fold_step world_4 world_5 broken_twice (broken_thrice ∷ turned ∷ broken_back_once ∷ broken_back_twice ∷ broken_back_thrice ∷ failed ∷ deleting ∷ broken_gone_once ∷ broken_gone_twice ∷ broken_gone_thrice ∷ undeleted ∷ deleting_without ∷ kept ∷ deleted ∷ []) leads_5 (fold_step world_5 world_6 broken_thrice (turned ∷ broken_back_once ∷ broken_back_twice ∷ broken_back_thrice ∷ failed ∷ deleting ∷ broken_gone_once ∷ broken_gone_twice ∷ broken_gone_thrice ∷ undeleted ∷ deleting_without ∷ kept ∷ deleted ∷ []) leads_6 (fold_step world_6 world_7 turned (broken_back_once ∷ broken_back_twice ∷ broken_back_thrice ∷ failed ∷ deleting ∷ broken_gone_once ∷ broken_gone_twice ∷ broken_gone_thrice ∷ undeleted ∷ deleting_without ∷ kept ∷ deleted ∷ []) leads_7 (fold_step world_7 world_8 broken_back_once (broken_back_twice ∷ broken_back_thrice ∷ failed ∷ deleting ∷ broken_gone_once ∷ broken_gone_twice ∷ broken_gone_thrice ∷ undeleted ∷ deleting_without ∷ kept ∷ deleted ∷ []) leads_8 (fold_step world_8 world_9 broken_back_twice (broken_back_thrice ∷ failed ∷ deleting ∷ broken_gone_once ∷ broken_gone_twice ∷ broken_gone_thrice ∷ undeleted ∷ deleting_without ∷ kept ∷ deleted ∷ []) leads_9 (fold_step world_9 world_10 broken_back_thrice (failed ∷ deleting ∷ broken_gone_once ∷ broken_gone_twice ∷ broken_gone_thrice ∷ undeleted ∷ deleting_without ∷ kept ∷ deleted ∷ []) leads_10 (fold_step world_10 world_11 failed (deleting ∷ broken_gone_once ∷ broken_gone_twice ∷ broken_gone_thrice ∷ undeleted ∷ deleting_without ∷ kept ∷ deleted ∷ []) leads_11 (fold_step world_11 world_12 deleting (broken_gone_once ∷ broken_gone_twice ∷ broken_gone_thrice ∷ undeleted ∷ deleting_without ∷ kept ∷ deleted ∷ []) leads_12 (fold_step world_12 world_13 broken_gone_once (broken_gone_twice ∷ broken_gone_thrice ∷ undeleted ∷ deleting_without ∷ kept ∷ deleted ∷ []) leads_13 (fold_step world_13 world_14 broken_gone_twice (broken_gone_thrice ∷ undeleted ∷ deleting_without ∷ kept ∷ deleted ∷ []) leads_14 (fold_step world_14 world_15 broken_gone_thrice (undeleted ∷ deleting_without ∷ kept ∷ deleted ∷ []) leads_15 (fold_step world_15 world_16 undeleted (deleting_without ∷ kept ∷ deleted ∷ []) leads_16 (fold_step world_16 world_17 deleting_without (kept ∷ deleted ∷ []) leads_17 (fold_step world_17 world_18 kept (deleted ∷ []) leads_18 (fold_step world_18 world_19 deleted ([]) leads_19 (refl)))))))))))))))))))

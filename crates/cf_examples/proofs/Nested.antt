@@ -1,5 +1,5 @@
 -- A nested stack gets the length of a file of the stack around it as its parameter.
-use Rattle.std.proofs.Common.{◌≡◌, refl, List, [], ◌∷◌, ◌++◌, Some, false, inl, ap, lit≤}
+use Rattle.std.proofs.Common.{◌≡◌, refl, List, [], ◌∷◌, ◌++◌, Some, false, inl, ap, lit≤, ℕ}
 use Rattle.std.specs.Prelude.{codes}
 use Rattle.cf_tree.specs.declared.request.Request.TheVariants as request
 use Rattle.cf_entry.specs.declared.entry.Entry.{Entry}
@@ -17,13 +17,15 @@ use Rattle.cf_examples.proofs.Failing.{not_failed, not_done_new}
 use Rattle.cf_examples.proofs.Ending.{end_of_create}
 use Rattle.cf_tree.specs.declared.template.Deletion.TheVariants as deletion
 use Rattle.cf_tree.specs.declared.template.Replace.TheVariants as replace
+use Rattle.cf_entry.specs.declared.entry.Entry.TheVariants as entry
+use Rattle.cf_entry.specs.declared.entry.Begun.TheVariants as begin
 use Rattle.cf_entry.specs.declared.status.Status.TheVariants as status
 use Rattle.cf_stacks.specs.declared.held.HeldStatus.TheVariants as held
 use Rattle.cf_stacks.specs.Fold.{fold_of, no_stack}
 use Rattle.cf_examples.specs.Given.{lane_pair, report_of}
-use Rattle.cf_examples.proofs.Refusing.{legal_step, fold_step}
+use Rattle.cf_examples.proofs.Refusing.{legal_step, fold_step, refused_at}
 use Rattle.cf_examples.proofs.Beginning.{no_imports}
-use Rattle.cf_examples.specs.Nested.{FirstNamedIsTold, first, opened, begun, intended_file, made_file, intended_record, made_record, created, Legal, Shows}
+use Rattle.cf_examples.specs.Nested.{FirstNamedIsTold, FlawIsTold, ConditionalIsRefused, conditional, first, opened, begun, intended_file, made_file, intended_record, made_record, created, Legal, Shows, TooDeepIsTold}
 
 abbrev world_0 : World
 world_0 = empty_world
@@ -189,3 +191,24 @@ report_0 = ap (report_of (codes "top")) arrives_7
 pub first_named : FirstNamedIsTold
 unfolding computing
 first_named = refl
+
+pub flaw_is_told : FlawIsTold
+unfolding computing
+flaw_is_told = refl
+
+may_not_0 : (out : List ℕ) → MayFollow schemas world_1 out (entry.Begin 1 (codes "top") (begin.Create conditional)) → ⊥
+unfolding computing
+may_not_0 = λ out may. not_nothing may.2.no_flaw
+  where
+    not_nothing : {A : Type 0} {a : A} {rest : List A} → a ∷ rest ≡ [] → ⊥
+    not_nothing e = cc
+
+arrives_1 : fold_of empty_world (opened ∷ []) ≡ world_1
+arrives_1 = fold_step world_0 world_1 opened [] leads_1 refl
+
+pub refused_0 : ConditionalIsRefused
+refused_0 = refused_at world_1 (opened ∷ []) (entry.Begin 1 (codes "top") (begin.Create conditional)) arrives_1 may_not_0
+
+pub too_deep_is_told : TooDeepIsTold
+unfolding computing
+too_deep_is_told = refl

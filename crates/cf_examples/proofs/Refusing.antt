@@ -91,6 +91,23 @@ legal_step x y e es out may leads rest = ((out, may), subst (λ z. IsLegal schem
 pub fold_step : (x y : World) (e : Entry) (es : List Entry) {z : World} → world_after x e ≡ y → fold_of y es ≡ z → fold_of x (e ∷ es) ≡ z
 fold_step x y e es {z} leads rest = ap (λ w. fold_of w es) leads ∙ rest
 
+-- entries behind others, and one entry more
+pub fold_joined : (x : World) (es rest : List Entry) {y z : World} → fold_of x es ≡ y → fold_of y rest ≡ z → fold_of x (es ++ rest) ≡ z
+fold_joined x [] rest arrives leads = ap (λ w. fold_of w rest) arrives ∙ leads
+fold_joined x (e ∷ es) rest arrives leads = fold_joined (world_after x e) es rest arrives leads
+
+pub fold_more : (x : World) (es : List Entry) (e : Entry) {y z : World} → fold_of x es ≡ y → world_after y e ≡ z → fold_of x (es ++ e ∷ []) ≡ z
+fold_more x es e arrives leads = fold_joined x es (e ∷ []) arrives leads
+
+pub legal_joined : (x : World) (es rest : List Entry) → IsLegal schemas x es → IsLegal schemas (fold_of x es) rest → IsLegal schemas x (es ++ rest)
+legal_joined x [] rest before behind = behind
+legal_joined x (e ∷ es) rest before behind = (before.0, legal_joined (world_after x e) es rest before.1 behind)
+
+-- what stands at the front of a legal list is legal
+pub legal_front : (x : World) (es rest : List Entry) → IsLegal schemas x (es ++ rest) → IsLegal schemas x es
+legal_front x [] rest legal = tt
+legal_front x (e ∷ es) rest legal = (legal.0, legal_front (world_after x e) es rest legal.1)
+
 -- an entry of a legal list may follow where it stands
 legal_at : (x : World) (before : List Entry) (e : Entry) (rest : List Entry) → IsLegal schemas x (before ++ e ∷ rest) → (out : List ℕ) × MayFollow schemas (fold_of x before) out e
 legal_at x [] e rest legal = legal.0

@@ -27,7 +27,7 @@ use Rattle.cf_stacks.specs.Fold.{fold_of, no_stack}
 use Rattle.cf_examples.specs.Given.{lane_pair, report_of}
 use Rattle.cf_examples.proofs.Refusing.{follows_on, follows_none, legal_step, fold_step, refused_at}
 use Rattle.cf_examples.proofs.Beginning.{no_imports}
-use Rattle.cf_examples.specs.Replacement.{first, second, opened, begun, intended_web, made_web, intended_ptr, made_ptr, created, updating, intended_new, made_new, intended_change, changed_ptr, cleaning, intended_deletion, deleted, updated, Legal, Shows, CleanedTooEarly, DeletedBeforeCleanup, OldIdEvaluated, EndedAgain, AnsweredUnderAnotherNumber}
+use Rattle.cf_examples.specs.Replacement.{first, second, opened, begun, intended_web, made_web, intended_ptr, made_ptr, created, updating, intended_new, made_new, intended_change, changed_ptr, cleaning, intended_deletion, deleted, updated, Legal, Shows, third, updating_both, until_replaced, gets, NewIdIsLegal, CleanedTooEarly, DeletedBeforeCleanup, OldIdEvaluated, EndedUnderAnotherNumber, AnsweredUnderAnotherNumber}
 
 abbrev world_0 : World
 world_0 = empty_world
@@ -376,6 +376,9 @@ arrives_10 = fold_step world_0 world_1 opened (begun ∷ intended_web ∷ made_w
 arrives_11 : fold_of empty_world (opened ∷ begun ∷ intended_web ∷ made_web ∷ intended_ptr ∷ made_ptr ∷ created ∷ updating ∷ intended_new ∷ made_new ∷ intended_change ∷ []) ≡ world_11
 arrives_11 = fold_step world_0 world_1 opened (begun ∷ intended_web ∷ made_web ∷ intended_ptr ∷ made_ptr ∷ created ∷ updating ∷ intended_new ∷ made_new ∷ intended_change ∷ []) leads_1 (fold_step world_1 world_2 begun (intended_web ∷ made_web ∷ intended_ptr ∷ made_ptr ∷ created ∷ updating ∷ intended_new ∷ made_new ∷ intended_change ∷ []) leads_2 (fold_step world_2 world_3 intended_web (made_web ∷ intended_ptr ∷ made_ptr ∷ created ∷ updating ∷ intended_new ∷ made_new ∷ intended_change ∷ []) leads_3 (fold_step world_3 world_4 made_web (intended_ptr ∷ made_ptr ∷ created ∷ updating ∷ intended_new ∷ made_new ∷ intended_change ∷ []) leads_4 (fold_step world_4 world_5 intended_ptr (made_ptr ∷ created ∷ updating ∷ intended_new ∷ made_new ∷ intended_change ∷ []) leads_5 (fold_step world_5 world_6 made_ptr (created ∷ updating ∷ intended_new ∷ made_new ∷ intended_change ∷ []) leads_6 (fold_step world_6 world_7 created (updating ∷ intended_new ∷ made_new ∷ intended_change ∷ []) leads_7 (fold_step world_7 world_8 updating (intended_new ∷ made_new ∷ intended_change ∷ []) leads_8 (fold_step world_8 world_9 intended_new (made_new ∷ intended_change ∷ []) leads_9 (fold_step world_9 world_10 made_new (intended_change ∷ []) leads_10 (fold_step world_10 world_11 intended_change ([]) leads_11 (refl)))))))))))
 
+arrives_15 : fold_of empty_world (opened ∷ begun ∷ intended_web ∷ made_web ∷ intended_ptr ∷ made_ptr ∷ created ∷ updating ∷ intended_new ∷ made_new ∷ intended_change ∷ changed_ptr ∷ cleaning ∷ intended_deletion ∷ deleted ∷ []) ≡ world_15
+arrives_15 = fold_step world_0 world_1 opened (begun ∷ intended_web ∷ made_web ∷ intended_ptr ∷ made_ptr ∷ created ∷ updating ∷ intended_new ∷ made_new ∷ intended_change ∷ changed_ptr ∷ cleaning ∷ intended_deletion ∷ deleted ∷ []) leads_1 (fold_step world_1 world_2 begun (intended_web ∷ made_web ∷ intended_ptr ∷ made_ptr ∷ created ∷ updating ∷ intended_new ∷ made_new ∷ intended_change ∷ changed_ptr ∷ cleaning ∷ intended_deletion ∷ deleted ∷ []) leads_2 (fold_step world_2 world_3 intended_web (made_web ∷ intended_ptr ∷ made_ptr ∷ created ∷ updating ∷ intended_new ∷ made_new ∷ intended_change ∷ changed_ptr ∷ cleaning ∷ intended_deletion ∷ deleted ∷ []) leads_3 (fold_step world_3 world_4 made_web (intended_ptr ∷ made_ptr ∷ created ∷ updating ∷ intended_new ∷ made_new ∷ intended_change ∷ changed_ptr ∷ cleaning ∷ intended_deletion ∷ deleted ∷ []) leads_4 (fold_step world_4 world_5 intended_ptr (made_ptr ∷ created ∷ updating ∷ intended_new ∷ made_new ∷ intended_change ∷ changed_ptr ∷ cleaning ∷ intended_deletion ∷ deleted ∷ []) leads_5 (fold_step world_5 world_6 made_ptr (created ∷ updating ∷ intended_new ∷ made_new ∷ intended_change ∷ changed_ptr ∷ cleaning ∷ intended_deletion ∷ deleted ∷ []) leads_6 (fold_step world_6 world_7 created (updating ∷ intended_new ∷ made_new ∷ intended_change ∷ changed_ptr ∷ cleaning ∷ intended_deletion ∷ deleted ∷ []) leads_7 (fold_step world_7 world_8 updating (intended_new ∷ made_new ∷ intended_change ∷ changed_ptr ∷ cleaning ∷ intended_deletion ∷ deleted ∷ []) leads_8 (fold_step world_8 world_9 intended_new (made_new ∷ intended_change ∷ changed_ptr ∷ cleaning ∷ intended_deletion ∷ deleted ∷ []) leads_9 (fold_step world_9 world_10 made_new (intended_change ∷ changed_ptr ∷ cleaning ∷ intended_deletion ∷ deleted ∷ []) leads_10 (fold_step world_10 world_11 intended_change (changed_ptr ∷ cleaning ∷ intended_deletion ∷ deleted ∷ []) leads_11 (fold_step world_11 world_12 changed_ptr (cleaning ∷ intended_deletion ∷ deleted ∷ []) leads_12 (fold_step world_12 world_13 cleaning (intended_deletion ∷ deleted ∷ []) leads_13 (fold_step world_13 world_14 intended_deletion (deleted ∷ []) leads_14 (fold_step world_14 world_15 deleted ([]) leads_15 (refl)))))))))))))))
+
 pub arrives_16 : fold_of empty_world (opened ∷ begun ∷ intended_web ∷ made_web ∷ intended_ptr ∷ made_ptr ∷ created ∷ updating ∷ intended_new ∷ made_new ∷ intended_change ∷ changed_ptr ∷ cleaning ∷ intended_deletion ∷ deleted ∷ updated ∷ []) ≡ world_16
 arrives_16 = fold_step world_0 world_1 opened (begun ∷ intended_web ∷ made_web ∷ intended_ptr ∷ made_ptr ∷ created ∷ updating ∷ intended_new ∷ made_new ∷ intended_change ∷ changed_ptr ∷ cleaning ∷ intended_deletion ∷ deleted ∷ updated ∷ []) leads_1 (fold_step world_1 world_2 begun (intended_web ∷ made_web ∷ intended_ptr ∷ made_ptr ∷ created ∷ updating ∷ intended_new ∷ made_new ∷ intended_change ∷ changed_ptr ∷ cleaning ∷ intended_deletion ∷ deleted ∷ updated ∷ []) leads_2 (fold_step world_2 world_3 intended_web (made_web ∷ intended_ptr ∷ made_ptr ∷ created ∷ updating ∷ intended_new ∷ made_new ∷ intended_change ∷ changed_ptr ∷ cleaning ∷ intended_deletion ∷ deleted ∷ updated ∷ []) leads_3 (fold_step world_3 world_4 made_web (intended_ptr ∷ made_ptr ∷ created ∷ updating ∷ intended_new ∷ made_new ∷ intended_change ∷ changed_ptr ∷ cleaning ∷ intended_deletion ∷ deleted ∷ updated ∷ []) leads_4 (fold_step world_4 world_5 intended_ptr (made_ptr ∷ created ∷ updating ∷ intended_new ∷ made_new ∷ intended_change ∷ changed_ptr ∷ cleaning ∷ intended_deletion ∷ deleted ∷ updated ∷ []) leads_5 (fold_step world_5 world_6 made_ptr (created ∷ updating ∷ intended_new ∷ made_new ∷ intended_change ∷ changed_ptr ∷ cleaning ∷ intended_deletion ∷ deleted ∷ updated ∷ []) leads_6 (fold_step world_6 world_7 created (updating ∷ intended_new ∷ made_new ∷ intended_change ∷ changed_ptr ∷ cleaning ∷ intended_deletion ∷ deleted ∷ updated ∷ []) leads_7 (fold_step world_7 world_8 updating (intended_new ∷ made_new ∷ intended_change ∷ changed_ptr ∷ cleaning ∷ intended_deletion ∷ deleted ∷ updated ∷ []) leads_8 (fold_step world_8 world_9 intended_new (made_new ∷ intended_change ∷ changed_ptr ∷ cleaning ∷ intended_deletion ∷ deleted ∷ updated ∷ []) leads_9 (fold_step world_9 world_10 made_new (intended_change ∷ changed_ptr ∷ cleaning ∷ intended_deletion ∷ deleted ∷ updated ∷ []) leads_10 (fold_step world_10 world_11 intended_change (changed_ptr ∷ cleaning ∷ intended_deletion ∷ deleted ∷ updated ∷ []) leads_11 (fold_step world_11 world_12 changed_ptr (cleaning ∷ intended_deletion ∷ deleted ∷ updated ∷ []) leads_12 (fold_step world_12 world_13 cleaning (intended_deletion ∷ deleted ∷ updated ∷ []) leads_13 (fold_step world_13 world_14 intended_deletion (deleted ∷ updated ∷ []) leads_14 (fold_step world_14 world_15 deleted (updated ∷ []) leads_15 (fold_step world_15 world_16 updated ([]) leads_16 (refl))))))))))))))))
 
@@ -396,19 +399,88 @@ may_not_1 = λ out may. let m = follows_on schemas 2 world_10 out (entry.Intent 
 pub refused_1 : DeletedBeforeCleanup
 refused_1 = refused_at world_10 (opened ∷ begun ∷ intended_web ∷ made_web ∷ intended_ptr ∷ made_ptr ∷ created ∷ updating ∷ intended_new ∷ made_new ∷ []) (entry.Intent 2 4 (codes "f1") (codes "Web") (request.Delete (codes "f1:1"))) arrives_10 may_not_1
 
-may_not_2 : (out : List ℕ) → MayFollow schemas world_10 out (entry.Intent 2 4 (codes "r1") (codes "Ptr") (request.Update (codes "r1:2") (note_props (codes "p") (codes "f1:1")))) → ⊥
+-- The record changes otherwise too.
+may_updating_both : MayFollow schemas world_7 [] updating_both
 unfolding computing
-may_not_2 = λ out may. let m = follows_on schemas 2 world_10 out (entry.Intent 2 4 (codes "r1") (codes "Ptr") (request.Update (codes "r1:2") (note_props (codes "p") (codes "f1:1")))) ((codes "app"), stack_10_app) Forward refl refl may in true≢false (ap (same_at (codes "Value") (codes "f1:3")) (known_props m.chosen.3.3))
+may_updating_both = (refl, refl, record { no_flaw = refl; known_types = refl; same_types = refl; imports = no_imports _ _ _ _ refl refl; free = refl; not_in_use = refl; changing = inr (inl refl) })
+
+abbrev stack_b8_app : StackState
+stack_b8_app = record stack_7_app { status = status.UpdateInProgress; operation = 2; before = (web_1 ∷ ptr_1 ∷ []); going = Some (source_for (codes "app") 1 third); entries = (updating_both ∷ []); events = stack_7_app.events ++ (codes "event 8 - UPDATE_IN_PROGRESS") ∷ [] }
+
+abbrev world_b8 : World
+world_b8 = record world_7 { stacks = (((codes "app"), stack_b8_app) ∷ []); operation = 2; place = 8 }
+
+leads_b8 : world_after world_7 updating_both ≡ world_b8
+unfolding computing
+leads_b8 = refl
+
+sound_b8 : ¬ HasFailed schemas (codes "app") world_b8 stack_b8_app
+unfolding computing
+sound_b8 = not_failed schemas (codes "app") world_b8 stack_b8_app (record { calls = refl; paths = refl; inner = refl; flaws = refl; exports = refl })
+
+ready_b8_Web : IsReady stack_b8_app (codes "Web")
+unfolding computing
+ready_b8_Web = (here, λ q i. absurd (in_none i))
+
+may_b_intended_new : MayFollow schemas world_b8 [] intended_new
+unfolding computing
+may_b_intended_new = ((codes "app"), stack_b8_app, Forward, refl, refl, record { next = refl; free = refl; home = refl; fits = refl; no_repeat = refl; chosen = (sound_b8, ready_b8_Web, not_done_other (codes "Web") stack_b8_app (same_at (codes "Path") (codes "web.txt")) _ _ _ refl refl refl refl refl refl, (refl, inl refl)) })
+
+abbrev stack_b9_app : StackState
+stack_b9_app = record stack_b8_app { tokens = (record { token = 3; path = (codes "Web"); lane = (codes "f1"); request = (request.Create file (file_props (codes "new.txt") (codes "x"))) } ∷ []); events = stack_b8_app.events ++ (codes "event 9 Web CREATE_IN_PROGRESS") ∷ []; entries = stack_b8_app.entries ++ intended_new ∷ [] }
+
+abbrev world_b9 : World
+world_b9 = record world_b8 { stacks = (((codes "app"), stack_b9_app) ∷ []); token = 3; place = 9 }
+
+leads_b9 : world_after world_b8 intended_new ≡ world_b9
+unfolding computing
+leads_b9 = refl
+
+may_b_made_new : MayFollow schemas world_b9 (3 ∷ []) made_new
+unfolding computing
+may_b_made_new = ((codes "app"), stack_b9_app, Forward, refl, refl, (refl, refl, lit≤ tt))
+
+abbrev stack_b10_app : StackState
+stack_b10_app = record stack_b9_app { made = (web_2 ∷ []); tokens = []; events = stack_b9_app.events ++ (codes "event 10 Web CREATE_COMPLETE") ∷ []; entries = stack_b9_app.entries ++ made_new ∷ [] }
+
+abbrev world_b10 : World
+world_b10 = record world_b9 { stacks = (((codes "app"), stack_b10_app) ∷ []); place = 10 }
+
+leads_b10 : world_after world_b9 made_new ≡ world_b10
+unfolding computing
+leads_b10 = refl
+
+sound_b10 : ¬ HasFailed schemas (codes "app") world_b10 stack_b10_app
+unfolding computing
+sound_b10 = not_failed schemas (codes "app") world_b10 stack_b10_app (record { calls = refl; paths = refl; inner = refl; flaws = refl; exports = refl })
+
+ready_b10_Ptr : IsReady stack_b10_app (codes "Ptr")
+unfolding computing
+ready_b10_Ptr = (there (here), λ q i. only (IsDone stack_b10_app) (is_made _ refl) q i)
+
+may_gets : MayFollow schemas world_b10 [] (gets (codes "f1:3"))
+unfolding computing
+may_gets = ((codes "app"), stack_b10_app, Forward, refl, refl, record { next = refl; free = refl; home = refl; fits = ((codes "2", refl), refl); no_repeat = refl; chosen = (sound_b10, ready_b10_Ptr, not_done_other (codes "Ptr") stack_b10_app (same_at (codes "Value") (codes "f1:1")) _ _ _ refl refl refl refl refl refl, (_, refl, refl, refl, ((λ e. let z : Update ≡ Replace = e in cc), inr (λ e. let z : Update ≡ Same = e in cc)), refl)) })
+
+pub new_id_is_legal : NewIdIsLegal
+new_id_is_legal = legal_step world_0 world_1 opened (begun ∷ intended_web ∷ made_web ∷ intended_ptr ∷ made_ptr ∷ created ∷ updating_both ∷ intended_new ∷ made_new ∷ gets (codes "f1:3") ∷ []) [] may_opened leads_1 (legal_step world_1 world_2 begun (intended_web ∷ made_web ∷ intended_ptr ∷ made_ptr ∷ created ∷ updating_both ∷ intended_new ∷ made_new ∷ gets (codes "f1:3") ∷ []) [] may_begun leads_2 (legal_step world_2 world_3 intended_web (made_web ∷ intended_ptr ∷ made_ptr ∷ created ∷ updating_both ∷ intended_new ∷ made_new ∷ gets (codes "f1:3") ∷ []) [] may_intended_web leads_3 (legal_step world_3 world_4 made_web (intended_ptr ∷ made_ptr ∷ created ∷ updating_both ∷ intended_new ∷ made_new ∷ gets (codes "f1:3") ∷ []) (1 ∷ []) may_made_web leads_4 (legal_step world_4 world_5 intended_ptr (made_ptr ∷ created ∷ updating_both ∷ intended_new ∷ made_new ∷ gets (codes "f1:3") ∷ []) [] may_intended_ptr leads_5 (legal_step world_5 world_6 made_ptr (created ∷ updating_both ∷ intended_new ∷ made_new ∷ gets (codes "f1:3") ∷ []) (2 ∷ []) may_made_ptr leads_6 (legal_step world_6 world_7 created (updating_both ∷ intended_new ∷ made_new ∷ gets (codes "f1:3") ∷ []) [] may_created leads_7 (legal_step world_7 world_b8 updating_both (intended_new ∷ made_new ∷ gets (codes "f1:3") ∷ []) [] may_updating_both leads_b8 (legal_step world_b8 world_b9 intended_new (made_new ∷ gets (codes "f1:3") ∷ []) [] may_b_intended_new leads_b9 (legal_step world_b9 world_b10 made_new (gets (codes "f1:3") ∷ []) (3 ∷ []) may_b_made_new leads_b10 ((([], may_gets), tt)))))))))))
+
+arrives_b10 : fold_of empty_world (opened ∷ begun ∷ intended_web ∷ made_web ∷ intended_ptr ∷ made_ptr ∷ created ∷ updating_both ∷ intended_new ∷ made_new ∷ []) ≡ world_b10
+arrives_b10 = fold_step world_0 world_1 opened (begun ∷ intended_web ∷ made_web ∷ intended_ptr ∷ made_ptr ∷ created ∷ updating_both ∷ intended_new ∷ made_new ∷ []) leads_1 (fold_step world_1 world_2 begun (intended_web ∷ made_web ∷ intended_ptr ∷ made_ptr ∷ created ∷ updating_both ∷ intended_new ∷ made_new ∷ []) leads_2 (fold_step world_2 world_3 intended_web (made_web ∷ intended_ptr ∷ made_ptr ∷ created ∷ updating_both ∷ intended_new ∷ made_new ∷ []) leads_3 (fold_step world_3 world_4 made_web (intended_ptr ∷ made_ptr ∷ created ∷ updating_both ∷ intended_new ∷ made_new ∷ []) leads_4 (fold_step world_4 world_5 intended_ptr (made_ptr ∷ created ∷ updating_both ∷ intended_new ∷ made_new ∷ []) leads_5 (fold_step world_5 world_6 made_ptr (created ∷ updating_both ∷ intended_new ∷ made_new ∷ []) leads_6 (fold_step world_6 world_7 created (updating_both ∷ intended_new ∷ made_new ∷ []) leads_7 (fold_step world_7 world_b8 updating_both (intended_new ∷ made_new ∷ []) leads_b8 (fold_step world_b8 world_b9 intended_new (made_new ∷ []) leads_b9 (fold_step world_b9 world_b10 made_new ([]) leads_b10 (refl))))))))))
+
+may_not_2 : (out : List ℕ) → MayFollow schemas world_b10 out (gets (codes "f1:1")) → ⊥
+unfolding computing
+may_not_2 = λ out may. let m = follows_on schemas 2 world_b10 out (gets (codes "f1:1")) ((codes "app"), stack_b10_app) Forward refl refl may in true≢false (ap (same_at (codes "Value") (codes "at f1:3")) (known_props m.chosen.3.3))
 
 pub refused_2 : OldIdEvaluated
-refused_2 = refused_at world_10 (opened ∷ begun ∷ intended_web ∷ made_web ∷ intended_ptr ∷ made_ptr ∷ created ∷ updating ∷ intended_new ∷ made_new ∷ []) (entry.Intent 2 4 (codes "r1") (codes "Ptr") (request.Update (codes "r1:2") (note_props (codes "p") (codes "f1:1")))) arrives_10 may_not_2
+refused_2 = refused_at world_b10 until_replaced (gets (codes "f1:1")) arrives_b10 may_not_2
 
-may_not_3 : (out : List ℕ) → MayFollow schemas world_16 out (entry.Done 2 status.UpdateComplete []) → ⊥
+may_not_3 : (out : List ℕ) → MayFollow schemas world_15 out (entry.Done 1 status.UpdateComplete []) → ⊥
 unfolding computing
-may_not_3 = λ out may. follows_none schemas 2 world_16 out (entry.Done 2 status.UpdateComplete []) refl may
+may_not_3 = λ out may. follows_none schemas 1 world_15 out (entry.Done 1 status.UpdateComplete []) refl may
 
-pub refused_3 : EndedAgain
-refused_3 = refused_at world_16 (opened ∷ begun ∷ intended_web ∷ made_web ∷ intended_ptr ∷ made_ptr ∷ created ∷ updating ∷ intended_new ∷ made_new ∷ intended_change ∷ changed_ptr ∷ cleaning ∷ intended_deletion ∷ deleted ∷ updated ∷ []) (entry.Done 2 status.UpdateComplete []) arrives_16 may_not_3
+pub refused_3 : EndedUnderAnotherNumber
+refused_3 = refused_at world_15 (opened ∷ begun ∷ intended_web ∷ made_web ∷ intended_ptr ∷ made_ptr ∷ created ∷ updating ∷ intended_new ∷ made_new ∷ intended_change ∷ changed_ptr ∷ cleaning ∷ intended_deletion ∷ deleted ∷ []) (entry.Done 1 status.UpdateComplete []) arrives_15 may_not_3
 
 may_not_4 : (out : List ℕ) → MayFollow schemas world_11 out (entry.Outcome 1 4 (reply.Success (codes "r1:2") (note_attrs (codes "r1:2") 4 (codes "p") (codes "f1:3"))) 0 0) → ⊥
 unfolding computing

@@ -217,7 +217,7 @@ may_deleted : MayFollow schemas world_11 [] deleted
 unfolding computing
 may_deleted = ((codes "s"), stack_11_s, Gone, refl, refl, (refl, end_of_deletion schemas (codes "s") world_11 stack_11_s refl refl refl, refl, refl))
 
-abbrev stack_12_s : StackState
+abbrev pub stack_12_s : StackState
 stack_12_s = record stack_11_s { status = status.DeleteComplete; source = None; events = stack_11_s.events ++ (codes "event 12 - DELETE_COMPLETE") ∷ []; entries = stack_11_s.entries ++ deleted ∷ [] }
 
 abbrev world_12 : World
@@ -272,7 +272,7 @@ legal = legal_step world_0 world_1 opened rest_1 [] may_opened leads_1 (legal_st
 arrives_8 : fold_of empty_world (opened ∷ begun ∷ intended_a ∷ made_a ∷ intended_b ∷ made_b ∷ created ∷ deleting ∷ []) ≡ world_8
 arrives_8 = fold_step world_0 world_1 opened (begun ∷ intended_a ∷ made_a ∷ intended_b ∷ made_b ∷ created ∷ deleting ∷ []) leads_1 (fold_step world_1 world_2 begun (intended_a ∷ made_a ∷ intended_b ∷ made_b ∷ created ∷ deleting ∷ []) leads_2 (fold_step world_2 world_3 intended_a (made_a ∷ intended_b ∷ made_b ∷ created ∷ deleting ∷ []) leads_3 (fold_step world_3 world_4 made_a (intended_b ∷ made_b ∷ created ∷ deleting ∷ []) leads_4 (fold_step world_4 world_5 intended_b (made_b ∷ created ∷ deleting ∷ []) leads_5 (fold_step world_5 world_6 made_b (created ∷ deleting ∷ []) leads_6 (fold_step world_6 world_7 created (deleting ∷ []) leads_7 (fold_step world_7 world_8 deleting ([]) leads_8 (refl))))))))
 
-arrives_12 : fold_of empty_world (opened ∷ begun ∷ intended_a ∷ made_a ∷ intended_b ∷ made_b ∷ created ∷ deleting ∷ intended_deletion ∷ deleted_b ∷ kept ∷ deleted ∷ []) ≡ world_12
+pub arrives_12 : fold_of empty_world (opened ∷ begun ∷ intended_a ∷ made_a ∷ intended_b ∷ made_b ∷ created ∷ deleting ∷ intended_deletion ∷ deleted_b ∷ kept ∷ deleted ∷ []) ≡ world_12
 arrives_12 = fold_step world_0 world_1 opened (begun ∷ intended_a ∷ made_a ∷ intended_b ∷ made_b ∷ created ∷ deleting ∷ intended_deletion ∷ deleted_b ∷ kept ∷ deleted ∷ []) leads_1 (fold_step world_1 world_2 begun (intended_a ∷ made_a ∷ intended_b ∷ made_b ∷ created ∷ deleting ∷ intended_deletion ∷ deleted_b ∷ kept ∷ deleted ∷ []) leads_2 (fold_step world_2 world_3 intended_a (made_a ∷ intended_b ∷ made_b ∷ created ∷ deleting ∷ intended_deletion ∷ deleted_b ∷ kept ∷ deleted ∷ []) leads_3 (fold_step world_3 world_4 made_a (intended_b ∷ made_b ∷ created ∷ deleting ∷ intended_deletion ∷ deleted_b ∷ kept ∷ deleted ∷ []) leads_4 (fold_step world_4 world_5 intended_b (made_b ∷ created ∷ deleting ∷ intended_deletion ∷ deleted_b ∷ kept ∷ deleted ∷ []) leads_5 (fold_step world_5 world_6 made_b (created ∷ deleting ∷ intended_deletion ∷ deleted_b ∷ kept ∷ deleted ∷ []) leads_6 (fold_step world_6 world_7 created (deleting ∷ intended_deletion ∷ deleted_b ∷ kept ∷ deleted ∷ []) leads_7 (fold_step world_7 world_8 deleting (intended_deletion ∷ deleted_b ∷ kept ∷ deleted ∷ []) leads_8 (fold_step world_8 world_9 intended_deletion (deleted_b ∷ kept ∷ deleted ∷ []) leads_9 (fold_step world_9 world_10 deleted_b (kept ∷ deleted ∷ []) leads_10 (fold_step world_10 world_11 kept (deleted ∷ []) leads_11 (fold_step world_11 world_12 deleted ([]) leads_12 (refl))))))))))))
 
 pub report_0 : Shows

@@ -1,5 +1,5 @@
 -- A change set: another path replaces the file, and what refers to it may be replaced.
-use Rattle.std.proofs.Common.{◌≡◌, refl, List, [], ◌∷◌, ◌++◌, Some, false, ℕ, inl, inr, sym, ap, lit≤}
+use Rattle.std.proofs.Common.{◌≡◌, refl, List, [], ◌∷◌, ◌++◌, Some, true, false, ℕ, inl, inr, sym, ap, lit≤}
 use Rattle.std.specs.Prelude.{codes}
 use Rattle.cf_tree.specs.declared.request.Request.TheVariants as request
 use Rattle.cf_entry.specs.declared.entry.Entry.{Entry}
@@ -7,14 +7,14 @@ use Rattle.cf_stacks.specs.declared.held.Held.{Held}
 use Rattle.cf_stacks.specs.declared.state.World.{World}
 use Rattle.cf_stacks.specs.declared.state.StackState.{StackState}
 use Rattle.cf_stacks.specs.Fold.{empty_world, world_after, source_for}
-use Rattle.cf_stacks.specs.Status.{Forward}
+use Rattle.cf_stacks.specs.Status.{Forward, Clean}
 use Rattle.cf_plan.specs.Forward.{here, there, HasFailed, IsReady, AllDone, IsDone, is_made}
 use Rattle.cf_plan.specs.Follow.{MayFollow}
 use Rattle.cf_examples.specs.Given.{schemas, file, note, file_props, note_props, file_attrs, note_attrs}
 use Rattle.cf_examples.proofs.Computing.{computing}
 use Rattle.cf_examples.proofs.Lists.{in_none, only, either, not_empty}
-use Rattle.cf_examples.proofs.Failing.{not_failed, not_done_new}
-use Rattle.cf_examples.proofs.Ending.{end_of_create}
+use Rattle.cf_examples.proofs.Failing.{not_failed, not_done_new, not_done_other, same_at}
+use Rattle.cf_examples.proofs.Ending.{end_of_create, end_of_clean}
 use Rattle.cf_tree.specs.declared.template.Deletion.TheVariants as deletion
 use Rattle.cf_tree.specs.declared.template.Replace.TheVariants as replace
 use Rattle.cf_entry.specs.declared.entry.Entry.TheVariants as entry
@@ -24,7 +24,7 @@ use Rattle.cf_stacks.specs.Fold.{fold_of, no_stack}
 use Rattle.cf_examples.specs.Given.{lane_pair, report_of}
 use Rattle.cf_examples.proofs.Refusing.{legal_step, fold_step, refused_at}
 use Rattle.cf_examples.proofs.Beginning.{no_imports}
-use Rattle.cf_examples.specs.Reviewed.{first, second, rows, opened, begun, intended_web, made_web, intended_rec, made_rec, created, reviewed, Legal, Shows, OtherRows}
+use Rattle.cf_examples.specs.Reviewed.{first, second, rows, opened, begun, intended_web, made_web, intended_rec, made_rec, created, reviewed, Legal, Shows, OtherRows, updating, intended_web_new, made_web_new, intended_rec_new, made_rec_new, cleaning, intended_rec_gone, rec_gone, intended_web_gone, web_gone, updated, CarriedOutIsLegal, ShowsCarriedOut}
 
 abbrev world_0 : World
 world_0 = empty_world
@@ -213,3 +213,202 @@ may_not_0 = λ out may. not_empty rows refl (sym may.2.rows_are)
 
 pub refused_0 : OtherRows
 refused_0 = refused_at world_7 (opened ∷ begun ∷ intended_web ∷ made_web ∷ intended_rec ∷ made_rec ∷ created ∷ []) (entry.ChangeSet 1 (codes "app") second [] false) arrives_7 may_not_0
+
+may_updating : MayFollow schemas world_8 [] updating
+unfolding computing
+may_updating = (refl, refl, record { no_flaw = refl; known_types = refl; same_types = refl; imports = no_imports _ _ _ _ refl refl; free = refl; not_in_use = refl; changing = inr (inl refl) })
+
+abbrev stack_9_app : StackState
+stack_9_app = record stack_8_app { status = status.UpdateInProgress; operation = 2; before = (web_1 ∷ rec_1 ∷ []); going = Some (source_for (codes "app") 1 second); sets = []; entries = (updating ∷ []); events = stack_8_app.events ++ (codes "event 9 - UPDATE_IN_PROGRESS") ∷ [] }
+
+abbrev world_9 : World
+world_9 = record world_8 { stacks = (((codes "app"), stack_9_app) ∷ []); operation = 2; place = 9 }
+
+leads_9 : world_after world_8 updating ≡ world_9
+unfolding computing
+leads_9 = refl
+
+sound_9 : ¬ HasFailed schemas (codes "app") world_9 stack_9_app
+unfolding computing
+sound_9 = not_failed schemas (codes "app") world_9 stack_9_app (record { calls = refl; paths = refl; inner = refl; flaws = refl; exports = refl })
+
+ready_9_Web : IsReady stack_9_app (codes "Web")
+unfolding computing
+ready_9_Web = (here, λ q i. absurd (in_none i))
+
+may_intended_web_new : MayFollow schemas world_9 [] intended_web_new
+unfolding computing
+may_intended_web_new = ((codes "app"), stack_9_app, Forward, refl, refl, record { next = refl; free = refl; home = refl; fits = refl; no_repeat = refl; chosen = (sound_9, ready_9_Web, not_done_other (codes "Web") stack_9_app (same_at (codes "Path") (codes "a")) _ _ _ refl refl refl refl refl refl, (refl, inl refl)) })
+
+abbrev stack_10_app : StackState
+stack_10_app = record stack_9_app { tokens = (record { token = 3; path = (codes "Web"); lane = (codes "f1"); request = (request.Create file (file_props (codes "b") (codes "x"))) } ∷ []); events = stack_9_app.events ++ (codes "event 10 Web CREATE_IN_PROGRESS") ∷ []; entries = stack_9_app.entries ++ intended_web_new ∷ [] }
+
+abbrev world_10 : World
+world_10 = record world_9 { stacks = (((codes "app"), stack_10_app) ∷ []); token = 3; place = 10 }
+
+leads_10 : world_after world_9 intended_web_new ≡ world_10
+unfolding computing
+leads_10 = refl
+
+abbrev web_2 : Held
+web_2 = record { path = (codes "Web"); kind = file; physical = (codes "f1:3"); props = (file_props (codes "b") (codes "x")); attrs = (file_attrs (codes "f1:3") 1 (codes "b") (codes "x")); needs = []; deletion = deletion.Delete; replace = replace.Delete; status = held.UpdateComplete; unsure = false; superseded = false }
+
+may_made_web_new : MayFollow schemas world_10 (3 ∷ []) made_web_new
+unfolding computing
+may_made_web_new = ((codes "app"), stack_10_app, Forward, refl, refl, (refl, refl, lit≤ tt))
+
+abbrev stack_11_app : StackState
+stack_11_app = record stack_10_app { made = (web_2 ∷ []); tokens = []; events = stack_10_app.events ++ (codes "event 11 Web CREATE_COMPLETE") ∷ []; entries = stack_10_app.entries ++ made_web_new ∷ [] }
+
+abbrev world_11 : World
+world_11 = record world_10 { stacks = (((codes "app"), stack_11_app) ∷ []); place = 11 }
+
+leads_11 : world_after world_10 made_web_new ≡ world_11
+unfolding computing
+leads_11 = refl
+
+sound_11 : ¬ HasFailed schemas (codes "app") world_11 stack_11_app
+unfolding computing
+sound_11 = not_failed schemas (codes "app") world_11 stack_11_app (record { calls = refl; paths = refl; inner = refl; flaws = refl; exports = refl })
+
+ready_11_Rec : IsReady stack_11_app (codes "Rec")
+unfolding computing
+ready_11_Rec = (there (here), λ q i. only (IsDone stack_11_app) (is_made _ refl) q i)
+
+may_intended_rec_new : MayFollow schemas world_11 [] intended_rec_new
+unfolding computing
+may_intended_rec_new = ((codes "app"), stack_11_app, Forward, refl, refl, record { next = refl; free = refl; home = refl; fits = refl; no_repeat = refl; chosen = (sound_11, ready_11_Rec, not_done_other (codes "Rec") stack_11_app (same_at (codes "Key") (codes "f1:1")) _ _ _ refl refl refl refl refl refl, (refl, inl refl)) })
+
+abbrev stack_12_app : StackState
+stack_12_app = record stack_11_app { tokens = (record { token = 4; path = (codes "Rec"); lane = (codes "r1"); request = (request.Create note (note_props (codes "f1:3") (codes "v"))) } ∷ []); events = stack_11_app.events ++ (codes "event 12 Rec CREATE_IN_PROGRESS") ∷ []; entries = stack_11_app.entries ++ intended_rec_new ∷ [] }
+
+abbrev world_12 : World
+world_12 = record world_11 { stacks = (((codes "app"), stack_12_app) ∷ []); token = 4; place = 12 }
+
+leads_12 : world_after world_11 intended_rec_new ≡ world_12
+unfolding computing
+leads_12 = refl
+
+abbrev rec_2 : Held
+rec_2 = record { path = (codes "Rec"); kind = note; physical = (codes "r1:4"); props = (note_props (codes "f1:3") (codes "v")); attrs = (note_attrs (codes "r1:4") 1 (codes "f1:3") (codes "v")); needs = ((codes "Web") ∷ []); deletion = deletion.Delete; replace = replace.Delete; status = held.UpdateComplete; unsure = false; superseded = false }
+
+may_made_rec_new : MayFollow schemas world_12 (4 ∷ []) made_rec_new
+unfolding computing
+may_made_rec_new = ((codes "app"), stack_12_app, Forward, refl, refl, (refl, refl, lit≤ tt))
+
+abbrev stack_13_app : StackState
+stack_13_app = record stack_12_app { made = (web_2 ∷ rec_2 ∷ []); tokens = []; events = stack_12_app.events ++ (codes "event 13 Rec CREATE_COMPLETE") ∷ []; entries = stack_12_app.entries ++ made_rec_new ∷ [] }
+
+abbrev world_13 : World
+world_13 = record world_12 { stacks = (((codes "app"), stack_13_app) ∷ []); place = 13 }
+
+leads_13 : world_after world_12 made_rec_new ≡ world_13
+unfolding computing
+leads_13 = refl
+
+all_done_13 : AllDone stack_13_app
+unfolding computing
+all_done_13 = λ p i. either (IsDone stack_13_app) (is_made _ refl) (is_made _ refl) p i
+
+sound_13 : ¬ HasFailed schemas (codes "app") world_13 stack_13_app
+unfolding computing
+sound_13 = not_failed schemas (codes "app") world_13 stack_13_app (record { calls = refl; paths = refl; inner = refl; flaws = refl; exports = refl })
+
+may_cleaning : MayFollow schemas world_13 [] cleaning
+unfolding computing
+may_cleaning = ((codes "app"), stack_13_app, Forward, refl, refl, (refl, (refl, sound_13, all_done_13)))
+
+abbrev web_3 : Held
+web_3 = record { path = (codes "Web"); kind = file; physical = (codes "f1:1"); props = (file_props (codes "a") (codes "x")); attrs = (file_attrs (codes "f1:1") 1 (codes "a") (codes "x")); needs = []; deletion = deletion.Delete; replace = replace.Delete; status = held.CreateComplete; unsure = false; superseded = true }
+
+abbrev rec_3 : Held
+rec_3 = record { path = (codes "Rec"); kind = note; physical = (codes "r1:2"); props = (note_props (codes "f1:1") (codes "v")); attrs = (note_attrs (codes "r1:2") 1 (codes "f1:1") (codes "v")); needs = ((codes "Web") ∷ []); deletion = deletion.Delete; replace = replace.Delete; status = held.CreateComplete; unsure = false; superseded = true }
+
+abbrev stack_14_app : StackState
+stack_14_app = record stack_13_app { status = status.UpdateCompleteCleanupInProgress; held = (web_3 ∷ rec_3 ∷ web_2 ∷ rec_2 ∷ []); made = []; source = Some (source_for (codes "app") 1 second); events = stack_13_app.events ++ (codes "event 14 - UPDATE_COMPLETE_CLEANUP_IN_PROGRESS") ∷ []; entries = stack_13_app.entries ++ cleaning ∷ [] }
+
+abbrev world_14 : World
+world_14 = record world_13 { stacks = (((codes "app"), stack_14_app) ∷ []); place = 14 }
+
+leads_14 : world_after world_13 cleaning ≡ world_14
+unfolding computing
+leads_14 = refl
+
+may_intended_rec_gone : MayFollow schemas world_14 [] intended_rec_gone
+unfolding computing
+may_intended_rec_gone = ((codes "app"), stack_14_app, Clean, refl, refl, record { next = refl; free = refl; home = refl; fits = ((codes "2", refl), refl); no_repeat = refl; chosen = (_, (there here, refl, refl), refl, refl, refl) })
+
+abbrev stack_15_app : StackState
+stack_15_app = record stack_14_app { tokens = (record { token = 5; path = (codes "Rec"); lane = (codes "r1"); request = (request.Delete (codes "r1:2")) } ∷ []); events = stack_14_app.events ++ (codes "event 15 Rec DELETE_IN_PROGRESS") ∷ []; entries = stack_14_app.entries ++ intended_rec_gone ∷ [] }
+
+abbrev world_15 : World
+world_15 = record world_14 { stacks = (((codes "app"), stack_15_app) ∷ []); token = 5; place = 15 }
+
+leads_15 : world_after world_14 intended_rec_gone ≡ world_15
+unfolding computing
+leads_15 = refl
+
+may_rec_gone : MayFollow schemas world_15 (5 ∷ []) rec_gone
+unfolding computing
+may_rec_gone = ((codes "app"), stack_15_app, Clean, refl, refl, (refl, refl, lit≤ tt))
+
+abbrev stack_16_app : StackState
+stack_16_app = record stack_15_app { held = (web_3 ∷ web_2 ∷ rec_2 ∷ []); tokens = []; events = stack_15_app.events ++ (codes "event 16 Rec DELETE_COMPLETE") ∷ []; entries = stack_15_app.entries ++ rec_gone ∷ [] }
+
+abbrev world_16 : World
+world_16 = record world_15 { stacks = (((codes "app"), stack_16_app) ∷ []); place = 16 }
+
+leads_16 : world_after world_15 rec_gone ≡ world_16
+unfolding computing
+leads_16 = refl
+
+may_intended_web_gone : MayFollow schemas world_16 [] intended_web_gone
+unfolding computing
+may_intended_web_gone = ((codes "app"), stack_16_app, Clean, refl, refl, record { next = refl; free = refl; home = refl; fits = ((codes "1", refl), refl); no_repeat = refl; chosen = (_, (here, refl, refl), refl, refl, refl) })
+
+abbrev stack_17_app : StackState
+stack_17_app = record stack_16_app { tokens = (record { token = 6; path = (codes "Web"); lane = (codes "f1"); request = (request.Delete (codes "f1:1")) } ∷ []); events = stack_16_app.events ++ (codes "event 17 Web DELETE_IN_PROGRESS") ∷ []; entries = stack_16_app.entries ++ intended_web_gone ∷ [] }
+
+abbrev world_17 : World
+world_17 = record world_16 { stacks = (((codes "app"), stack_17_app) ∷ []); token = 6; place = 17 }
+
+leads_17 : world_after world_16 intended_web_gone ≡ world_17
+unfolding computing
+leads_17 = refl
+
+may_web_gone : MayFollow schemas world_17 (6 ∷ []) web_gone
+unfolding computing
+may_web_gone = ((codes "app"), stack_17_app, Clean, refl, refl, (refl, refl, lit≤ tt))
+
+abbrev stack_18_app : StackState
+stack_18_app = record stack_17_app { held = (web_2 ∷ rec_2 ∷ []); tokens = []; events = stack_17_app.events ++ (codes "event 18 Web DELETE_COMPLETE") ∷ []; entries = stack_17_app.entries ++ web_gone ∷ [] }
+
+abbrev world_18 : World
+world_18 = record world_17 { stacks = (((codes "app"), stack_18_app) ∷ []); place = 18 }
+
+leads_18 : world_after world_17 web_gone ≡ world_18
+unfolding computing
+leads_18 = refl
+
+may_updated : MayFollow schemas world_18 [] updated
+unfolding computing
+may_updated = ((codes "app"), stack_18_app, Clean, refl, refl, (refl, end_of_clean schemas (codes "app") world_18 stack_18_app refl refl refl refl, tt, refl))
+
+abbrev stack_19_app : StackState
+stack_19_app = record stack_18_app { status = status.UpdateComplete; events = stack_18_app.events ++ (codes "event 19 - UPDATE_COMPLETE") ∷ []; entries = stack_18_app.entries ++ updated ∷ [] }
+
+abbrev world_19 : World
+world_19 = record world_18 { stacks = (((codes "app"), stack_19_app) ∷ []); place = 19 }
+
+leads_19 : world_after world_18 updated ≡ world_19
+unfolding computing
+leads_19 = refl
+
+pub carried_out : CarriedOutIsLegal
+carried_out = legal_step world_0 world_1 opened (begun ∷ intended_web ∷ made_web ∷ intended_rec ∷ made_rec ∷ created ∷ reviewed ∷ updating ∷ intended_web_new ∷ made_web_new ∷ intended_rec_new ∷ made_rec_new ∷ cleaning ∷ intended_rec_gone ∷ rec_gone ∷ intended_web_gone ∷ web_gone ∷ updated ∷ []) [] may_opened leads_1 (legal_step world_1 world_2 begun (intended_web ∷ made_web ∷ intended_rec ∷ made_rec ∷ created ∷ reviewed ∷ updating ∷ intended_web_new ∷ made_web_new ∷ intended_rec_new ∷ made_rec_new ∷ cleaning ∷ intended_rec_gone ∷ rec_gone ∷ intended_web_gone ∷ web_gone ∷ updated ∷ []) [] may_begun leads_2 (legal_step world_2 world_3 intended_web (made_web ∷ intended_rec ∷ made_rec ∷ created ∷ reviewed ∷ updating ∷ intended_web_new ∷ made_web_new ∷ intended_rec_new ∷ made_rec_new ∷ cleaning ∷ intended_rec_gone ∷ rec_gone ∷ intended_web_gone ∷ web_gone ∷ updated ∷ []) [] may_intended_web leads_3 (legal_step world_3 world_4 made_web (intended_rec ∷ made_rec ∷ created ∷ reviewed ∷ updating ∷ intended_web_new ∷ made_web_new ∷ intended_rec_new ∷ made_rec_new ∷ cleaning ∷ intended_rec_gone ∷ rec_gone ∷ intended_web_gone ∷ web_gone ∷ updated ∷ []) (1 ∷ []) may_made_web leads_4 (legal_step world_4 world_5 intended_rec (made_rec ∷ created ∷ reviewed ∷ updating ∷ intended_web_new ∷ made_web_new ∷ intended_rec_new ∷ made_rec_new ∷ cleaning ∷ intended_rec_gone ∷ rec_gone ∷ intended_web_gone ∷ web_gone ∷ updated ∷ []) [] may_intended_rec leads_5 (legal_step world_5 world_6 made_rec (created ∷ reviewed ∷ updating ∷ intended_web_new ∷ made_web_new ∷ intended_rec_new ∷ made_rec_new ∷ cleaning ∷ intended_rec_gone ∷ rec_gone ∷ intended_web_gone ∷ web_gone ∷ updated ∷ []) (2 ∷ []) may_made_rec leads_6 (legal_step world_6 world_7 created (reviewed ∷ updating ∷ intended_web_new ∷ made_web_new ∷ intended_rec_new ∷ made_rec_new ∷ cleaning ∷ intended_rec_gone ∷ rec_gone ∷ intended_web_gone ∷ web_gone ∷ updated ∷ []) [] may_created leads_7 (legal_step world_7 world_8 reviewed (updating ∷ intended_web_new ∷ made_web_new ∷ intended_rec_new ∷ made_rec_new ∷ cleaning ∷ intended_rec_gone ∷ rec_gone ∷ intended_web_gone ∷ web_gone ∷ updated ∷ []) [] may_reviewed leads_8 (legal_step world_8 world_9 updating (intended_web_new ∷ made_web_new ∷ intended_rec_new ∷ made_rec_new ∷ cleaning ∷ intended_rec_gone ∷ rec_gone ∷ intended_web_gone ∷ web_gone ∷ updated ∷ []) [] may_updating leads_9 (legal_step world_9 world_10 intended_web_new (made_web_new ∷ intended_rec_new ∷ made_rec_new ∷ cleaning ∷ intended_rec_gone ∷ rec_gone ∷ intended_web_gone ∷ web_gone ∷ updated ∷ []) [] may_intended_web_new leads_10 (legal_step world_10 world_11 made_web_new (intended_rec_new ∷ made_rec_new ∷ cleaning ∷ intended_rec_gone ∷ rec_gone ∷ intended_web_gone ∷ web_gone ∷ updated ∷ []) (3 ∷ []) may_made_web_new leads_11 (legal_step world_11 world_12 intended_rec_new (made_rec_new ∷ cleaning ∷ intended_rec_gone ∷ rec_gone ∷ intended_web_gone ∷ web_gone ∷ updated ∷ []) [] may_intended_rec_new leads_12 (legal_step world_12 world_13 made_rec_new (cleaning ∷ intended_rec_gone ∷ rec_gone ∷ intended_web_gone ∷ web_gone ∷ updated ∷ []) (4 ∷ []) may_made_rec_new leads_13 (legal_step world_13 world_14 cleaning (intended_rec_gone ∷ rec_gone ∷ intended_web_gone ∷ web_gone ∷ updated ∷ []) [] may_cleaning leads_14 (legal_step world_14 world_15 intended_rec_gone (rec_gone ∷ intended_web_gone ∷ web_gone ∷ updated ∷ []) [] may_intended_rec_gone leads_15 (legal_step world_15 world_16 rec_gone (intended_web_gone ∷ web_gone ∷ updated ∷ []) (5 ∷ []) may_rec_gone leads_16 (legal_step world_16 world_17 intended_web_gone (web_gone ∷ updated ∷ []) [] may_intended_web_gone leads_17 (legal_step world_17 world_18 web_gone (updated ∷ []) (6 ∷ []) may_web_gone leads_18 (legal_step world_18 world_19 updated ([]) [] may_updated leads_19 (tt)))))))))))))))))))
+
+arrives_19 : fold_of empty_world (opened ∷ begun ∷ intended_web ∷ made_web ∷ intended_rec ∷ made_rec ∷ created ∷ reviewed ∷ updating ∷ intended_web_new ∷ made_web_new ∷ intended_rec_new ∷ made_rec_new ∷ cleaning ∷ intended_rec_gone ∷ rec_gone ∷ intended_web_gone ∷ web_gone ∷ updated ∷ []) ≡ world_19
+arrives_19 = fold_step world_0 world_1 opened (begun ∷ intended_web ∷ made_web ∷ intended_rec ∷ made_rec ∷ created ∷ reviewed ∷ updating ∷ intended_web_new ∷ made_web_new ∷ intended_rec_new ∷ made_rec_new ∷ cleaning ∷ intended_rec_gone ∷ rec_gone ∷ intended_web_gone ∷ web_gone ∷ updated ∷ []) leads_1 (fold_step world_1 world_2 begun (intended_web ∷ made_web ∷ intended_rec ∷ made_rec ∷ created ∷ reviewed ∷ updating ∷ intended_web_new ∷ made_web_new ∷ intended_rec_new ∷ made_rec_new ∷ cleaning ∷ intended_rec_gone ∷ rec_gone ∷ intended_web_gone ∷ web_gone ∷ updated ∷ []) leads_2 (fold_step world_2 world_3 intended_web (made_web ∷ intended_rec ∷ made_rec ∷ created ∷ reviewed ∷ updating ∷ intended_web_new ∷ made_web_new ∷ intended_rec_new ∷ made_rec_new ∷ cleaning ∷ intended_rec_gone ∷ rec_gone ∷ intended_web_gone ∷ web_gone ∷ updated ∷ []) leads_3 (fold_step world_3 world_4 made_web (intended_rec ∷ made_rec ∷ created ∷ reviewed ∷ updating ∷ intended_web_new ∷ made_web_new ∷ intended_rec_new ∷ made_rec_new ∷ cleaning ∷ intended_rec_gone ∷ rec_gone ∷ intended_web_gone ∷ web_gone ∷ updated ∷ []) leads_4 (fold_step world_4 world_5 intended_rec (made_rec ∷ created ∷ reviewed ∷ updating ∷ intended_web_new ∷ made_web_new ∷ intended_rec_new ∷ made_rec_new ∷ cleaning ∷ intended_rec_gone ∷ rec_gone ∷ intended_web_gone ∷ web_gone ∷ updated ∷ []) leads_5 (fold_step world_5 world_6 made_rec (created ∷ reviewed ∷ updating ∷ intended_web_new ∷ made_web_new ∷ intended_rec_new ∷ made_rec_new ∷ cleaning ∷ intended_rec_gone ∷ rec_gone ∷ intended_web_gone ∷ web_gone ∷ updated ∷ []) leads_6 (fold_step world_6 world_7 created (reviewed ∷ updating ∷ intended_web_new ∷ made_web_new ∷ intended_rec_new ∷ made_rec_new ∷ cleaning ∷ intended_rec_gone ∷ rec_gone ∷ intended_web_gone ∷ web_gone ∷ updated ∷ []) leads_7 (fold_step world_7 world_8 reviewed (updating ∷ intended_web_new ∷ made_web_new ∷ intended_rec_new ∷ made_rec_new ∷ cleaning ∷ intended_rec_gone ∷ rec_gone ∷ intended_web_gone ∷ web_gone ∷ updated ∷ []) leads_8 (fold_step world_8 world_9 updating (intended_web_new ∷ made_web_new ∷ intended_rec_new ∷ made_rec_new ∷ cleaning ∷ intended_rec_gone ∷ rec_gone ∷ intended_web_gone ∷ web_gone ∷ updated ∷ []) leads_9 (fold_step world_9 world_10 intended_web_new (made_web_new ∷ intended_rec_new ∷ made_rec_new ∷ cleaning ∷ intended_rec_gone ∷ rec_gone ∷ intended_web_gone ∷ web_gone ∷ updated ∷ []) leads_10 (fold_step world_10 world_11 made_web_new (intended_rec_new ∷ made_rec_new ∷ cleaning ∷ intended_rec_gone ∷ rec_gone ∷ intended_web_gone ∷ web_gone ∷ updated ∷ []) leads_11 (fold_step world_11 world_12 intended_rec_new (made_rec_new ∷ cleaning ∷ intended_rec_gone ∷ rec_gone ∷ intended_web_gone ∷ web_gone ∷ updated ∷ []) leads_12 (fold_step world_12 world_13 made_rec_new (cleaning ∷ intended_rec_gone ∷ rec_gone ∷ intended_web_gone ∷ web_gone ∷ updated ∷ []) leads_13 (fold_step world_13 world_14 cleaning (intended_rec_gone ∷ rec_gone ∷ intended_web_gone ∷ web_gone ∷ updated ∷ []) leads_14 (fold_step world_14 world_15 intended_rec_gone (rec_gone ∷ intended_web_gone ∷ web_gone ∷ updated ∷ []) leads_15 (fold_step world_15 world_16 rec_gone (intended_web_gone ∷ web_gone ∷ updated ∷ []) leads_16 (fold_step world_16 world_17 intended_web_gone (web_gone ∷ updated ∷ []) leads_17 (fold_step world_17 world_18 web_gone (updated ∷ []) leads_18 (fold_step world_18 world_19 updated ([]) leads_19 (refl)))))))))))))))))))
+
+pub report_carried_out : ShowsCarriedOut
+report_carried_out = ap (report_of (codes "app")) arrives_19

@@ -180,7 +180,7 @@ may_failed : MayFollow schemas world_9 [] failed
 unfolding computing
 may_failed = ((codes "s"), stack_9_s, Back, refl, refl, (refl, end_of_rollback schemas (codes "s") world_9 stack_9_s refl refl refl, refl, (refl, are_failed stack_9_s ((codes "A") ∷ (codes "B") ∷ []) refl refl)))
 
-abbrev stack_10_s : StackState
+abbrev pub stack_10_s : StackState
 stack_10_s = record stack_9_s { status = status.RollbackFailed; held = (a_2 ∷ []); made = []; events = stack_9_s.events ++ (codes "event 10 - ROLLBACK_FAILED") ∷ []; entries = stack_9_s.entries ++ failed ∷ [] }
 
 abbrev world_10 : World
@@ -229,7 +229,7 @@ legal = legal_step world_0 world_1 opened rest_1 [] may_opened leads_1 (legal_st
 arrives_9 : fold_of empty_world (opened ∷ begun ∷ intended_a ∷ made_a ∷ intended_b ∷ refused ∷ turned ∷ intended_deletion ∷ undeleted ∷ []) ≡ world_9
 arrives_9 = fold_step world_0 world_1 opened (begun ∷ intended_a ∷ made_a ∷ intended_b ∷ refused ∷ turned ∷ intended_deletion ∷ undeleted ∷ []) leads_1 (fold_step world_1 world_2 begun (intended_a ∷ made_a ∷ intended_b ∷ refused ∷ turned ∷ intended_deletion ∷ undeleted ∷ []) leads_2 (fold_step world_2 world_3 intended_a (made_a ∷ intended_b ∷ refused ∷ turned ∷ intended_deletion ∷ undeleted ∷ []) leads_3 (fold_step world_3 world_4 made_a (intended_b ∷ refused ∷ turned ∷ intended_deletion ∷ undeleted ∷ []) leads_4 (fold_step world_4 world_5 intended_b (refused ∷ turned ∷ intended_deletion ∷ undeleted ∷ []) leads_5 (fold_step world_5 world_6 refused (turned ∷ intended_deletion ∷ undeleted ∷ []) leads_6 (fold_step world_6 world_7 turned (intended_deletion ∷ undeleted ∷ []) leads_7 (fold_step world_7 world_8 intended_deletion (undeleted ∷ []) leads_8 (fold_step world_8 world_9 undeleted ([]) leads_9 (refl)))))))))
 
-arrives_10 : fold_of empty_world (opened ∷ begun ∷ intended_a ∷ made_a ∷ intended_b ∷ refused ∷ turned ∷ intended_deletion ∷ undeleted ∷ failed ∷ []) ≡ world_10
+pub arrives_10 : fold_of empty_world (opened ∷ begun ∷ intended_a ∷ made_a ∷ intended_b ∷ refused ∷ turned ∷ intended_deletion ∷ undeleted ∷ failed ∷ []) ≡ world_10
 arrives_10 = fold_step world_0 world_1 opened (begun ∷ intended_a ∷ made_a ∷ intended_b ∷ refused ∷ turned ∷ intended_deletion ∷ undeleted ∷ failed ∷ []) leads_1 (fold_step world_1 world_2 begun (intended_a ∷ made_a ∷ intended_b ∷ refused ∷ turned ∷ intended_deletion ∷ undeleted ∷ failed ∷ []) leads_2 (fold_step world_2 world_3 intended_a (made_a ∷ intended_b ∷ refused ∷ turned ∷ intended_deletion ∷ undeleted ∷ failed ∷ []) leads_3 (fold_step world_3 world_4 made_a (intended_b ∷ refused ∷ turned ∷ intended_deletion ∷ undeleted ∷ failed ∷ []) leads_4 (fold_step world_4 world_5 intended_b (refused ∷ turned ∷ intended_deletion ∷ undeleted ∷ failed ∷ []) leads_5 (fold_step world_5 world_6 refused (turned ∷ intended_deletion ∷ undeleted ∷ failed ∷ []) leads_6 (fold_step world_6 world_7 turned (intended_deletion ∷ undeleted ∷ failed ∷ []) leads_7 (fold_step world_7 world_8 intended_deletion (undeleted ∷ failed ∷ []) leads_8 (fold_step world_8 world_9 undeleted (failed ∷ []) leads_9 (fold_step world_9 world_10 failed ([]) leads_10 (refl))))))))))
 
 pub report_0 : Shows

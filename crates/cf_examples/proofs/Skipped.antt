@@ -27,8 +27,9 @@ use Rattle.cf_stacks.specs.declared.held.HeldStatus.TheVariants as held
 use Rattle.cf_stacks.specs.Fold.{fold_of, no_stack}
 use Rattle.cf_examples.specs.Given.{lane_pair, report_of}
 use Rattle.cf_examples.proofs.Refusing.{are_failed, legal_step, fold_step, refused_at}
+use Rattle.cf_examples.proofs.Lists.{not_empty}
 use Rattle.cf_examples.proofs.Beginning.{no_imports, opens_one}
-use Rattle.cf_examples.specs.Skipped.{first, second, opened, begun, intended, made, created, updating, intended_change, broken_once, broken_twice, broken_thrice, turned, broken_back_once, broken_back_twice, broken_back_thrice, failed, opened_again, continued, cleaning, rolled_back, Legal, Fails, Shows, SkipsAnother}
+use Rattle.cf_examples.specs.Skipped.{first, second, opened, begun, intended, made, created, updating, intended_change, broken_once, broken_twice, broken_thrice, turned, broken_back_once, broken_back_twice, broken_back_thrice, failed, opened_again, continued, cleaning, rolled_back, until_opened_again, run, rows, reviewed, ReviewIsLegal, Legal, Fails, Shows, SkipsAnother, ContinuedAtOnce, UnsureLeftOut}
 
 abbrev world_0 : World
 world_0 = empty_world
@@ -260,10 +261,10 @@ may_failed = ((codes "s"), stack_14_s, Back, refl, refl, (refl, end_of_undoing s
 abbrev a_2 : Held
 a_2 = record { path = (codes "A"); kind = file; physical = (codes "f1:1"); props = (file_props (codes "a") (codes "x")); attrs = (file_attrs (codes "f1:1") 1 (codes "a") (codes "x")); needs = []; deletion = deletion.Delete; replace = replace.Delete; status = held.UpdateFailed; unsure = false; superseded = false }
 
-abbrev stack_15_s : StackState
+abbrev pub stack_15_s : StackState
 stack_15_s = record stack_14_s { status = status.UpdateRollbackFailed; held = (a_2 ∷ []); events = stack_14_s.events ++ (codes "event 15 - UPDATE_ROLLBACK_FAILED") ∷ []; entries = stack_14_s.entries ++ failed ∷ [] }
 
-abbrev world_15 : World
+abbrev pub world_15 : World
 world_15 = record world_14 { stacks = (((codes "s"), stack_15_s) ∷ []); place = 15 }
 
 leads_15 : world_after world_14 failed ≡ world_15
@@ -392,7 +393,7 @@ rest_0 = opened ∷ rest_1
 pub legal : Legal
 legal = legal_step world_0 world_1 opened rest_1 [] may_opened leads_1 (legal_step world_1 world_2 begun rest_2 [] may_begun leads_2 (legal_step world_2 world_3 intended rest_3 [] may_intended leads_3 (legal_step world_3 world_4 made rest_4 (1 ∷ []) may_made leads_4 (legal_step world_4 world_5 created rest_5 [] may_created leads_5 (legal_step world_5 world_6 updating rest_6 [] may_updating leads_6 (legal_step world_6 world_7 intended_change rest_7 [] may_intended_change leads_7 (legal_step world_7 world_8 broken_once rest_8 (2 ∷ []) may_broken_once leads_8 (legal_step world_8 world_9 broken_twice rest_9 (2 ∷ []) may_broken_twice leads_9 (legal_step world_9 world_10 broken_thrice rest_10 (2 ∷ []) may_broken_thrice leads_10 (legal_step world_10 world_11 turned rest_11 [] may_turned leads_11 (legal_step world_11 world_12 broken_back_once rest_12 (2 ∷ []) may_broken_back_once leads_12 (legal_step world_12 world_13 broken_back_twice rest_13 (2 ∷ []) may_broken_back_twice leads_13 (legal_step world_13 world_14 broken_back_thrice rest_14 (2 ∷ []) may_broken_back_thrice leads_14 (legal_step world_14 world_15 failed rest_15 [] may_failed leads_15 (legal_step world_15 world_16 opened_again rest_16 [] may_opened_again leads_16 (legal_step world_16 world_17 continued rest_17 [] may_continued leads_17 (legal_step world_17 world_18 cleaning rest_18 [] may_cleaning leads_18 (legal_step world_18 world_19 rolled_back rest_19 [] may_rolled_back leads_19 (tt)))))))))))))))))))
 
-arrives_15 : fold_of empty_world (opened ∷ begun ∷ intended ∷ made ∷ created ∷ updating ∷ intended_change ∷ broken_once ∷ broken_twice ∷ broken_thrice ∷ turned ∷ broken_back_once ∷ broken_back_twice ∷ broken_back_thrice ∷ failed ∷ []) ≡ world_15
+pub arrives_15 : fold_of empty_world (opened ∷ begun ∷ intended ∷ made ∷ created ∷ updating ∷ intended_change ∷ broken_once ∷ broken_twice ∷ broken_thrice ∷ turned ∷ broken_back_once ∷ broken_back_twice ∷ broken_back_thrice ∷ failed ∷ []) ≡ world_15
 arrives_15 = fold_step world_0 world_1 opened (begun ∷ intended ∷ made ∷ created ∷ updating ∷ intended_change ∷ broken_once ∷ broken_twice ∷ broken_thrice ∷ turned ∷ broken_back_once ∷ broken_back_twice ∷ broken_back_thrice ∷ failed ∷ []) leads_1 (fold_step world_1 world_2 begun (intended ∷ made ∷ created ∷ updating ∷ intended_change ∷ broken_once ∷ broken_twice ∷ broken_thrice ∷ turned ∷ broken_back_once ∷ broken_back_twice ∷ broken_back_thrice ∷ failed ∷ []) leads_2 (fold_step world_2 world_3 intended (made ∷ created ∷ updating ∷ intended_change ∷ broken_once ∷ broken_twice ∷ broken_thrice ∷ turned ∷ broken_back_once ∷ broken_back_twice ∷ broken_back_thrice ∷ failed ∷ []) leads_3 (fold_step world_3 world_4 made (created ∷ updating ∷ intended_change ∷ broken_once ∷ broken_twice ∷ broken_thrice ∷ turned ∷ broken_back_once ∷ broken_back_twice ∷ broken_back_thrice ∷ failed ∷ []) leads_4 (fold_step world_4 world_5 created (updating ∷ intended_change ∷ broken_once ∷ broken_twice ∷ broken_thrice ∷ turned ∷ broken_back_once ∷ broken_back_twice ∷ broken_back_thrice ∷ failed ∷ []) leads_5 (fold_step world_5 world_6 updating (intended_change ∷ broken_once ∷ broken_twice ∷ broken_thrice ∷ turned ∷ broken_back_once ∷ broken_back_twice ∷ broken_back_thrice ∷ failed ∷ []) leads_6 (fold_step world_6 world_7 intended_change (broken_once ∷ broken_twice ∷ broken_thrice ∷ turned ∷ broken_back_once ∷ broken_back_twice ∷ broken_back_thrice ∷ failed ∷ []) leads_7 (fold_step world_7 world_8 broken_once (broken_twice ∷ broken_thrice ∷ turned ∷ broken_back_once ∷ broken_back_twice ∷ broken_back_thrice ∷ failed ∷ []) leads_8 (fold_step world_8 world_9 broken_twice (broken_thrice ∷ turned ∷ broken_back_once ∷ broken_back_twice ∷ broken_back_thrice ∷ failed ∷ []) leads_9 (fold_step world_9 world_10 broken_thrice (turned ∷ broken_back_once ∷ broken_back_twice ∷ broken_back_thrice ∷ failed ∷ []) leads_10 (fold_step world_10 world_11 turned (broken_back_once ∷ broken_back_twice ∷ broken_back_thrice ∷ failed ∷ []) leads_11 (fold_step world_11 world_12 broken_back_once (broken_back_twice ∷ broken_back_thrice ∷ failed ∷ []) leads_12 (fold_step world_12 world_13 broken_back_twice (broken_back_thrice ∷ failed ∷ []) leads_13 (fold_step world_13 world_14 broken_back_thrice (failed ∷ []) leads_14 (fold_step world_14 world_15 failed ([]) leads_15 (refl)))))))))))))))
 
 arrives_19 : fold_of empty_world (opened ∷ begun ∷ intended ∷ made ∷ created ∷ updating ∷ intended_change ∷ broken_once ∷ broken_twice ∷ broken_thrice ∷ turned ∷ broken_back_once ∷ broken_back_twice ∷ broken_back_thrice ∷ failed ∷ opened_again ∷ continued ∷ cleaning ∷ rolled_back ∷ []) ≡ world_19
@@ -404,9 +405,33 @@ report_0 = ap (report_of (codes "s")) arrives_15
 pub report_1 : Shows
 report_1 = ap (report_of (codes "s")) arrives_19
 
-may_not_0 : (out : List ℕ) → MayFollow schemas world_15 out (entry.Begin 3 (codes "s") (begin.Continue ((codes "B") ∷ []))) → ⊥
+arrives_16 : fold_of empty_world (opened ∷ begun ∷ intended ∷ made ∷ created ∷ updating ∷ intended_change ∷ broken_once ∷ broken_twice ∷ broken_thrice ∷ turned ∷ broken_back_once ∷ broken_back_twice ∷ broken_back_thrice ∷ failed ∷ opened_again ∷ []) ≡ world_16
+arrives_16 = fold_step world_0 world_1 opened (begun ∷ intended ∷ made ∷ created ∷ updating ∷ intended_change ∷ broken_once ∷ broken_twice ∷ broken_thrice ∷ turned ∷ broken_back_once ∷ broken_back_twice ∷ broken_back_thrice ∷ failed ∷ opened_again ∷ []) leads_1 (fold_step world_1 world_2 begun (intended ∷ made ∷ created ∷ updating ∷ intended_change ∷ broken_once ∷ broken_twice ∷ broken_thrice ∷ turned ∷ broken_back_once ∷ broken_back_twice ∷ broken_back_thrice ∷ failed ∷ opened_again ∷ []) leads_2 (fold_step world_2 world_3 intended (made ∷ created ∷ updating ∷ intended_change ∷ broken_once ∷ broken_twice ∷ broken_thrice ∷ turned ∷ broken_back_once ∷ broken_back_twice ∷ broken_back_thrice ∷ failed ∷ opened_again ∷ []) leads_3 (fold_step world_3 world_4 made (created ∷ updating ∷ intended_change ∷ broken_once ∷ broken_twice ∷ broken_thrice ∷ turned ∷ broken_back_once ∷ broken_back_twice ∷ broken_back_thrice ∷ failed ∷ opened_again ∷ []) leads_4 (fold_step world_4 world_5 created (updating ∷ intended_change ∷ broken_once ∷ broken_twice ∷ broken_thrice ∷ turned ∷ broken_back_once ∷ broken_back_twice ∷ broken_back_thrice ∷ failed ∷ opened_again ∷ []) leads_5 (fold_step world_5 world_6 updating (intended_change ∷ broken_once ∷ broken_twice ∷ broken_thrice ∷ turned ∷ broken_back_once ∷ broken_back_twice ∷ broken_back_thrice ∷ failed ∷ opened_again ∷ []) leads_6 (fold_step world_6 world_7 intended_change (broken_once ∷ broken_twice ∷ broken_thrice ∷ turned ∷ broken_back_once ∷ broken_back_twice ∷ broken_back_thrice ∷ failed ∷ opened_again ∷ []) leads_7 (fold_step world_7 world_8 broken_once (broken_twice ∷ broken_thrice ∷ turned ∷ broken_back_once ∷ broken_back_twice ∷ broken_back_thrice ∷ failed ∷ opened_again ∷ []) leads_8 (fold_step world_8 world_9 broken_twice (broken_thrice ∷ turned ∷ broken_back_once ∷ broken_back_twice ∷ broken_back_thrice ∷ failed ∷ opened_again ∷ []) leads_9 (fold_step world_9 world_10 broken_thrice (turned ∷ broken_back_once ∷ broken_back_twice ∷ broken_back_thrice ∷ failed ∷ opened_again ∷ []) leads_10 (fold_step world_10 world_11 turned (broken_back_once ∷ broken_back_twice ∷ broken_back_thrice ∷ failed ∷ opened_again ∷ []) leads_11 (fold_step world_11 world_12 broken_back_once (broken_back_twice ∷ broken_back_thrice ∷ failed ∷ opened_again ∷ []) leads_12 (fold_step world_12 world_13 broken_back_twice (broken_back_thrice ∷ failed ∷ opened_again ∷ []) leads_13 (fold_step world_13 world_14 broken_back_thrice (failed ∷ opened_again ∷ []) leads_14 (fold_step world_14 world_15 failed (opened_again ∷ []) leads_15 (fold_step world_15 world_16 opened_again ([]) leads_16 (refl))))))))))))))))
+
+may_not_0 : (out : List ℕ) → MayFollow schemas world_16 out (entry.Begin 3 (codes "s") (begin.Continue (codes "B" ∷ []))) → ⊥
 unfolding computing
 may_not_0 = λ out may. (let z : false ≡ true = may.2.1 in true≢false (sym z))
 
 pub refused_0 : SkipsAnother
-refused_0 = refused_at world_15 (opened ∷ begun ∷ intended ∷ made ∷ created ∷ updating ∷ intended_change ∷ broken_once ∷ broken_twice ∷ broken_thrice ∷ turned ∷ broken_back_once ∷ broken_back_twice ∷ broken_back_thrice ∷ failed ∷ []) (entry.Begin 3 (codes "s") (begin.Continue ((codes "B") ∷ []))) arrives_15 may_not_0
+refused_0 = refused_at world_16 until_opened_again (entry.Begin 3 (codes "s") (begin.Continue (codes "B" ∷ []))) arrives_16 may_not_0
+
+may_not_1 : (out : List ℕ) → MayFollow schemas world_15 out continued → ⊥
+unfolding computing
+may_not_1 = λ out may. (let z : false ≡ true = may.2.2 in true≢false (sym z))
+
+pub refused_1 : ContinuedAtOnce
+refused_1 = refused_at world_15 (opened ∷ begun ∷ intended ∷ made ∷ created ∷ updating ∷ intended_change ∷ broken_once ∷ broken_twice ∷ broken_thrice ∷ turned ∷ broken_back_once ∷ broken_back_twice ∷ broken_back_thrice ∷ failed ∷ []) continued arrives_15 may_not_1
+
+may_reviewed : MayFollow schemas world_19 [] (reviewed rows)
+unfolding computing
+may_reviewed = (refl, refl, record { accepted = record { no_flaw = refl; known_types = refl; same_types = refl; imports = no_imports _ _ _ _ refl refl; free = refl; not_in_use = refl; changing = inr (inl refl) }; changing = inl refl; rows_are = refl; outputs_are = refl })
+
+pub review_is_legal : ReviewIsLegal
+review_is_legal = legal_step world_0 world_1 opened (begun ∷ intended ∷ made ∷ created ∷ updating ∷ intended_change ∷ broken_once ∷ broken_twice ∷ broken_thrice ∷ turned ∷ broken_back_once ∷ broken_back_twice ∷ broken_back_thrice ∷ failed ∷ opened_again ∷ continued ∷ cleaning ∷ rolled_back ∷ reviewed rows ∷ []) [] may_opened leads_1 (legal_step world_1 world_2 begun (intended ∷ made ∷ created ∷ updating ∷ intended_change ∷ broken_once ∷ broken_twice ∷ broken_thrice ∷ turned ∷ broken_back_once ∷ broken_back_twice ∷ broken_back_thrice ∷ failed ∷ opened_again ∷ continued ∷ cleaning ∷ rolled_back ∷ reviewed rows ∷ []) [] may_begun leads_2 (legal_step world_2 world_3 intended (made ∷ created ∷ updating ∷ intended_change ∷ broken_once ∷ broken_twice ∷ broken_thrice ∷ turned ∷ broken_back_once ∷ broken_back_twice ∷ broken_back_thrice ∷ failed ∷ opened_again ∷ continued ∷ cleaning ∷ rolled_back ∷ reviewed rows ∷ []) [] may_intended leads_3 (legal_step world_3 world_4 made (created ∷ updating ∷ intended_change ∷ broken_once ∷ broken_twice ∷ broken_thrice ∷ turned ∷ broken_back_once ∷ broken_back_twice ∷ broken_back_thrice ∷ failed ∷ opened_again ∷ continued ∷ cleaning ∷ rolled_back ∷ reviewed rows ∷ []) (1 ∷ []) may_made leads_4 (legal_step world_4 world_5 created (updating ∷ intended_change ∷ broken_once ∷ broken_twice ∷ broken_thrice ∷ turned ∷ broken_back_once ∷ broken_back_twice ∷ broken_back_thrice ∷ failed ∷ opened_again ∷ continued ∷ cleaning ∷ rolled_back ∷ reviewed rows ∷ []) [] may_created leads_5 (legal_step world_5 world_6 updating (intended_change ∷ broken_once ∷ broken_twice ∷ broken_thrice ∷ turned ∷ broken_back_once ∷ broken_back_twice ∷ broken_back_thrice ∷ failed ∷ opened_again ∷ continued ∷ cleaning ∷ rolled_back ∷ reviewed rows ∷ []) [] may_updating leads_6 (legal_step world_6 world_7 intended_change (broken_once ∷ broken_twice ∷ broken_thrice ∷ turned ∷ broken_back_once ∷ broken_back_twice ∷ broken_back_thrice ∷ failed ∷ opened_again ∷ continued ∷ cleaning ∷ rolled_back ∷ reviewed rows ∷ []) [] may_intended_change leads_7 (legal_step world_7 world_8 broken_once (broken_twice ∷ broken_thrice ∷ turned ∷ broken_back_once ∷ broken_back_twice ∷ broken_back_thrice ∷ failed ∷ opened_again ∷ continued ∷ cleaning ∷ rolled_back ∷ reviewed rows ∷ []) (2 ∷ []) may_broken_once leads_8 (legal_step world_8 world_9 broken_twice (broken_thrice ∷ turned ∷ broken_back_once ∷ broken_back_twice ∷ broken_back_thrice ∷ failed ∷ opened_again ∷ continued ∷ cleaning ∷ rolled_back ∷ reviewed rows ∷ []) (2 ∷ []) may_broken_twice leads_9 (legal_step world_9 world_10 broken_thrice (turned ∷ broken_back_once ∷ broken_back_twice ∷ broken_back_thrice ∷ failed ∷ opened_again ∷ continued ∷ cleaning ∷ rolled_back ∷ reviewed rows ∷ []) (2 ∷ []) may_broken_thrice leads_10 (legal_step world_10 world_11 turned (broken_back_once ∷ broken_back_twice ∷ broken_back_thrice ∷ failed ∷ opened_again ∷ continued ∷ cleaning ∷ rolled_back ∷ reviewed rows ∷ []) [] may_turned leads_11 (legal_step world_11 world_12 broken_back_once (broken_back_twice ∷ broken_back_thrice ∷ failed ∷ opened_again ∷ continued ∷ cleaning ∷ rolled_back ∷ reviewed rows ∷ []) (2 ∷ []) may_broken_back_once leads_12 (legal_step world_12 world_13 broken_back_twice (broken_back_thrice ∷ failed ∷ opened_again ∷ continued ∷ cleaning ∷ rolled_back ∷ reviewed rows ∷ []) (2 ∷ []) may_broken_back_twice leads_13 (legal_step world_13 world_14 broken_back_thrice (failed ∷ opened_again ∷ continued ∷ cleaning ∷ rolled_back ∷ reviewed rows ∷ []) (2 ∷ []) may_broken_back_thrice leads_14 (legal_step world_14 world_15 failed (opened_again ∷ continued ∷ cleaning ∷ rolled_back ∷ reviewed rows ∷ []) [] may_failed leads_15 (legal_step world_15 world_16 opened_again (continued ∷ cleaning ∷ rolled_back ∷ reviewed rows ∷ []) [] may_opened_again leads_16 (legal_step world_16 world_17 continued (cleaning ∷ rolled_back ∷ reviewed rows ∷ []) [] may_continued leads_17 (legal_step world_17 world_18 cleaning (rolled_back ∷ reviewed rows ∷ []) [] may_cleaning leads_18 (legal_step world_18 world_19 rolled_back (reviewed rows ∷ []) [] may_rolled_back leads_19 ((([], may_reviewed), tt))))))))))))))))))))
+
+may_not_2 : (out : List ℕ) → MayFollow schemas world_19 out (reviewed []) → ⊥
+unfolding computing
+may_not_2 = λ out may. not_empty rows refl (sym may.2.rows_are)
+
+pub refused_2 : UnsureLeftOut
+refused_2 = refused_at world_19 run (reviewed []) arrives_19 may_not_2

@@ -283,7 +283,7 @@ leads_15 = refl
 
 may_kept : MayFollow schemas world_15 [] kept
 unfolding computing
-may_kept = ((codes "s"), stack_15_s, Clean, refl, refl, ((_, refl, here, refl, refl), lit≤ tt))
+may_kept = ((codes "s"), stack_15_s, Clean, refl, refl, ((_, here, refl, refl), lit≤ tt))
 
 abbrev stack_16_s : StackState
 stack_16_s = record stack_15_s { held = (a_1 ∷ []); leftovers = (record { path = (codes "B"); physical = (codes "f1:2"); why = why.Failed } ∷ []); events = stack_15_s.events ++ (codes "event 16 B DELETE_FAILED") ∷ []; entries = stack_15_s.entries ++ kept ∷ [] }

@@ -1,5 +1,5 @@
 -- A creation is refused at its third resource; of the two that were made one is deleted and one is not.
-use Rattle.std.specs.Prelude.{◌≡◌, List, [], ◌∷◌, codes, Some, false}
+use Rattle.std.specs.Prelude.{◌≡◌, List, [], ◌∷◌, codes, Some, false, ◌++◌}
 use Rattle.cf_tree.specs.declared.code.Code.TheVariants as code
 use Rattle.cf_tree.specs.declared.request.Request.TheVariants as request
 use Rattle.cf_tree.specs.declared.source.Source.{Source}
@@ -14,10 +14,14 @@ use Rattle.cf_entry.specs.declared.turn.Reason.TheVariants as reason
 use Rattle.cf_stacks.specs.declared.held.HeldStatus.TheVariants as held
 use Rattle.cf_stacks.specs.Fold.{empty_world, fold_of}
 use Rattle.cf_plan.specs.Follow.{IsLegal}
-use Rattle.cf_examples.specs.Given.{file, note, file_props, file_attrs, note_props, schemas, source_of, lane_pair, report_of, IsRefusedAfter}
+use Rattle.cf_examples.specs.Given.{file, note, file_props, file_attrs, note_props, schemas, source_of, lane_pair, report_of, bare, IsRefusedAfter}
 
 abbrev pub first : Source
-first = source_of (codes "s") (codes "one") (codes "{\"Resources\":{\"A\":{\"Type\":\"Local::Files::File\",\"Properties\":{\"Path\":\"a\",\"Content\":\"x\"}},\"B\":{\"Type\":\"Local::Files::File\",\"Properties\":{\"Path\":\"b\",\"Content\":\"y\"}},\"C\":{\"Type\":\"Local::Records::Record\",\"DependsOn\":\"A\",\"Properties\":{\"Key\":\"c\",\"Value\":\"u\"}}}}")
+first =
+    source_of (codes "s") (codes "one")
+    (codes "{\"Resources\":{\"A\":{\"Type\":\"Local::Files::File\",\"Properties\":{\"Path\":\"a\",\"Content\":\"x\"}},"
+    ++ codes "\"B\":{\"Type\":\"Local::Files::File\",\"Properties\":{\"Path\":\"b\",\"Content\":\"y\"}},\"C\":{"
+    ++ codes "\"Type\":\"Local::Records::Record\",\"DependsOn\":\"A\",\"Properties\":{\"Key\":\"c\",\"Value\":\"u\"}}}}")
 
 abbrev pub opened : Entry
 opened = entry.Opened 1 (lane_pair (codes "f1") file ∷ lane_pair (codes "r1") note ∷ [])
@@ -62,7 +66,9 @@ abbrev pub failed : Entry
 failed = entry.Done 1 status.RollbackFailed ((codes "A") ∷ (codes "C") ∷ [])
 
 abbrev pub run : List Entry
-run = opened ∷ begun ∷ intended_a ∷ made_a ∷ intended_b ∷ made_b ∷ intended_c ∷ refused ∷ turned ∷ intended_deletion_a ∷ undeleted ∷ intended_deletion_b ∷ deleted ∷ failed ∷ []
+run =
+    opened ∷ begun ∷ intended_a ∷ made_a ∷ intended_b ∷ made_b ∷ intended_c ∷ refused ∷ turned ∷ intended_deletion_a ∷ undeleted
+    ∷ intended_deletion_b ∷ deleted ∷ failed ∷ []
 
 -- each entry may follow where it stands
 abbrev pub Legal : Type 0
@@ -70,8 +76,22 @@ Legal = IsLegal schemas empty_world run
 
 -- what the report shows in the end
 abbrev pub Shows : Type 0
-Shows = report_of (codes "s") (fold_of empty_world run) ≡ record { status = status.RollbackFailed; number = 1; resources = (record { path = (codes "A"); kind = file; physical = (codes "f1:1"); status = held.DeleteFailed; unsure = false; props = (file_props (codes "a") (codes "x")) } ∷ []); made = []; leftovers = [] }
+Shows =
+    report_of (codes "s") (fold_of empty_world run)
+    ≡ record (bare status.RollbackFailed 1) {
+      resources = record {
+        path = (codes "A");
+        kind = file;
+        physical = (codes "f1:1");
+        status = held.DeleteFailed;
+        unsure = false;
+        props = (file_props (codes "a") (codes "x"));
+      } ∷ [];
+      failed = codes "A" ∷ codes "C" ∷ [];
+    }
 
 -- Not every resource of the stack may be told as failed.
 abbrev pub AllNamed : Type 0
-AllNamed = IsRefusedAfter (opened ∷ begun ∷ intended_a ∷ made_a ∷ intended_b ∷ made_b ∷ intended_c ∷ refused ∷ turned ∷ intended_deletion_a ∷ undeleted ∷ intended_deletion_b ∷ deleted ∷ []) (entry.Done 1 status.RollbackFailed ((codes "A") ∷ (codes "B") ∷ (codes "C") ∷ []))
+AllNamed =
+    IsRefusedAfter (opened ∷ begun ∷ intended_a ∷ made_a ∷ intended_b ∷ made_b ∷ intended_c ∷ refused ∷ turned ∷ intended_deletion_a
+    ∷ undeleted ∷ intended_deletion_b ∷ deleted ∷ []) (entry.Done 1 status.RollbackFailed ((codes "A") ∷ (codes "B") ∷ (codes "C") ∷ []))

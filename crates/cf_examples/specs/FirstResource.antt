@@ -18,7 +18,9 @@ use Rattle.cf_plan.specs.Follow.{IsLegal}
 use Rattle.cf_examples.specs.Given.{file, file_props, file_attrs, schemas, source_of, IsRefusedAfter}
 
 abbrev pub source : Source
-source = source_of (codes "app") (codes "one") (codes "{\"Resources\":{\"Web\":{\"Type\":\"Local::Files::File\",\"Properties\":{\"Path\":\"web.txt\",\"Content\":\"hello\"}}}}")
+source =
+    source_of (codes "app") (codes "one")
+    (codes "{\"Resources\":{\"Web\":{\"Type\":\"Local::Files::File\",\"Properties\":{\"Path\":\"web.txt\",\"Content\":\"hello\"}}}}")
 
 abbrev pub opened : Entry
 opened = entry.Opened 1 ((codes "f1", file) ∷ [])
@@ -69,12 +71,26 @@ app = record {
   going = Some (source_for (codes "app") 1 source);
   outputs = [];
   sets = [];
-  events = codes "event 2 - CREATE_IN_PROGRESS" ∷ codes "event 3 Web CREATE_IN_PROGRESS" ∷ codes "event 4 Web CREATE_COMPLETE" ∷ codes "event 5 - CREATE_COMPLETE" ∷ [];
+  events =
+      codes "event 2 - CREATE_IN_PROGRESS" ∷ codes "event 3 Web CREATE_IN_PROGRESS" ∷ codes "event 4 Web CREATE_COMPLETE"
+      ∷ codes "event 5 - CREATE_COMPLETE" ∷ [];
   entries = begun ∷ intended ∷ answered ∷ done ∷ [];
 }
 
 abbrev pub world : World
-world = record { stacks = (codes "app", app) ∷ []; exports = []; pins = []; claims = []; lanes = (codes "f1", file) ∷ []; epoch = 1; operation = 1; set = 0; token = 1; place = 5 }
+world =
+    record {
+      stacks = (codes "app", app) ∷ [];
+      exports = [];
+      pins = [];
+      claims = [];
+      lanes = (codes "f1", file) ∷ [];
+      epoch = 1;
+      operation = 1;
+      set = 0;
+      token = 1;
+      place = 5;
+    }
 
 abbrev pub Leaves : Type 0
 Leaves = fold_of empty_world run ≡ world
@@ -95,3 +111,10 @@ RetriedUnderAnotherToken = IsRefusedAfter (opened ∷ begun ∷ intended ∷ bro
 -- while the doubt itself may come
 abbrev pub DoubtIsLegal : Type 0
 DoubtIsLegal = IsLegal schemas empty_world (opened ∷ begun ∷ intended ∷ broken ∷ [])
+
+-- The same source changes nothing, so no update begins by it.
+abbrev pub same_again : Entry
+same_again = entry.Begin 2 (codes "app") (begin.Update source)
+
+abbrev pub UpdatedThoughTheSame : Type 0
+UpdatedThoughTheSame = IsRefusedAfter run same_again

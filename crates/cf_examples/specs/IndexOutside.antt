@@ -1,5 +1,5 @@
 -- An index turns out to lie outside its list, once the file that gives it is there: the creation is taken back.
-use Rattle.std.specs.Prelude.{◌≡◌, List, [], ◌∷◌, codes, Some}
+use Rattle.std.specs.Prelude.{◌≡◌, List, [], ◌∷◌, codes, Some, ◌++◌}
 use Rattle.cf_tree.specs.declared.request.Request.TheVariants as request
 use Rattle.cf_tree.specs.declared.source.Source.{Source}
 use Rattle.cf_entry.specs.declared.entry.Entry.{Entry}
@@ -11,10 +11,14 @@ use Rattle.cf_entry.specs.declared.turn.Cause.TheVariants as cause
 use Rattle.cf_entry.specs.declared.turn.Phase.TheVariants as phase
 use Rattle.cf_stacks.specs.Fold.{empty_world, fold_of}
 use Rattle.cf_plan.specs.Follow.{IsLegal}
-use Rattle.cf_examples.specs.Given.{file, note, file_props, file_attrs, schemas, source_of, lane_pair, report_of}
+use Rattle.cf_examples.specs.Given.{file, note, file_props, file_attrs, schemas, source_of, lane_pair, report_of, bare}
 
 abbrev pub first : Source
-first = source_of (codes "t") (codes "sel") (codes "{\"Resources\":{\"A\":{\"Type\":\"Local::Files::File\",\"Properties\":{\"Path\":\"a\",\"Content\":\"ab\"}},\"B\":{\"Type\":\"Local::Records::Record\",\"Properties\":{\"Key\":\"b\",\"Value\":{\"Fn::Select\":[{\"Fn::GetAtt\":[\"A\",\"Length\"]},[\"x\",\"y\"]]}}}}}")
+first =
+    source_of (codes "t") (codes "sel")
+    (codes "{\"Resources\":{\"A\":{\"Type\":\"Local::Files::File\",\"Properties\":{\"Path\":\"a\",\"Content\":\"ab\"}},"
+    ++ codes "\"B\":{\"Type\":\"Local::Records::Record\",\"Properties\":{\"Key\":\"b\",\"Value\":{\"Fn::Select\":[{"
+    ++ codes "\"Fn::GetAtt\":[\"A\",\"Length\"]},[\"x\",\"y\"]]}}}}}")
 
 abbrev pub opened : Entry
 opened = entry.Opened 1 (lane_pair (codes "f1") file ∷ lane_pair (codes "r1") note ∷ [])
@@ -49,4 +53,4 @@ Legal = IsLegal schemas empty_world run
 
 -- what the report shows in the end
 abbrev pub Shows : Type 0
-Shows = report_of (codes "t") (fold_of empty_world run) ≡ record { status = status.RollbackComplete; number = 1; resources = []; made = []; leftovers = [] }
+Shows = report_of (codes "t") (fold_of empty_world run) ≡ bare status.RollbackComplete 1

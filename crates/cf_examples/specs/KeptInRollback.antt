@@ -1,5 +1,5 @@
 -- A creation is refused at its second resource; the first one is kept by its policy.
-use Rattle.std.specs.Prelude.{◌≡◌, List, [], ◌∷◌, codes, Some}
+use Rattle.std.specs.Prelude.{◌≡◌, List, [], ◌∷◌, codes, Some, ◌++◌}
 use Rattle.cf_tree.specs.declared.code.Code.TheVariants as code
 use Rattle.cf_tree.specs.declared.request.Request.TheVariants as request
 use Rattle.cf_tree.specs.declared.source.Source.{Source}
@@ -14,10 +14,14 @@ use Rattle.cf_entry.specs.declared.turn.Reason.TheVariants as reason
 use Rattle.cf_entry.specs.declared.turn.Why.TheVariants as why
 use Rattle.cf_stacks.specs.Fold.{empty_world, fold_of}
 use Rattle.cf_plan.specs.Follow.{IsLegal}
-use Rattle.cf_examples.specs.Given.{file, note, file_props, file_attrs, note_props, schemas, source_of, lane_pair, report_of, IsRefusedAfter}
+use Rattle.cf_examples.specs.Given.{file, note, file_props, file_attrs, note_props, schemas, source_of, lane_pair, report_of, bare, IsRefusedAfter}
 
 abbrev pub first : Source
-first = source_of (codes "s") (codes "one") (codes "{\"Resources\":{\"A\":{\"Type\":\"Local::Files::File\",\"DeletionPolicy\":\"Retain\",\"Properties\":{\"Path\":\"a\",\"Content\":\"x\"}},\"B\":{\"Type\":\"Local::Records::Record\",\"DependsOn\":\"A\",\"Properties\":{\"Key\":\"b\",\"Value\":\"u\"}}}}")
+first =
+    source_of (codes "s") (codes "one")
+    (codes "{\"Resources\":{\"A\":{\"Type\":\"Local::Files::File\",\"DeletionPolicy\":\"Retain\",\"Properties\":{"
+    ++ codes "\"Path\":\"a\",\"Content\":\"x\"}},\"B\":{\"Type\":\"Local::Records::Record\",\"DependsOn\":\"A\","
+    ++ codes "\"Properties\":{\"Key\":\"b\",\"Value\":\"u\"}}}}")
 
 abbrev pub opened : Entry
 opened = entry.Opened 1 (lane_pair (codes "f1") file ∷ lane_pair (codes "r1") note ∷ [])
@@ -55,8 +59,12 @@ Legal = IsLegal schemas empty_world run
 
 -- what the report shows in the end
 abbrev pub Shows : Type 0
-Shows = report_of (codes "s") (fold_of empty_world run) ≡ record { status = status.RollbackComplete; number = 1; resources = []; made = []; leftovers = (record { path = (codes "A"); physical = (codes "f1:1"); why = why.Retained } ∷ []) }
+Shows =
+    report_of (codes "s") (fold_of empty_world run)
+    ≡ record (bare status.RollbackComplete 1) { leftovers = record { path = (codes "A"); physical = (codes "f1:1"); why = why.Retained } ∷ [] }
 
 -- What is retained may not be deleted by the rollback.
 abbrev pub DeletedThoughRetained : Type 0
-DeletedThoughRetained = IsRefusedAfter (opened ∷ begun ∷ intended_a ∷ made_a ∷ intended_b ∷ refused ∷ turned ∷ []) (entry.Intent 1 3 (codes "f1") (codes "A") (request.Delete (codes "f1:1")))
+DeletedThoughRetained =
+    IsRefusedAfter (opened ∷ begun ∷ intended_a ∷ made_a ∷ intended_b ∷ refused ∷ turned ∷ [])
+    (entry.Intent 1 3 (codes "f1") (codes "A") (request.Delete (codes "f1:1")))

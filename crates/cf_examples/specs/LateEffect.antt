@@ -13,13 +13,17 @@ use Rattle.cf_entry.specs.declared.turn.Reason.TheVariants as reason
 use Rattle.cf_stacks.specs.declared.held.HeldStatus.TheVariants as held
 use Rattle.cf_stacks.specs.Fold.{empty_world, fold_of}
 use Rattle.cf_plan.specs.Follow.{IsLegal}
-use Rattle.cf_examples.specs.Given.{file, file_props, file_attrs, schemas, source_of, lane_pair, report_of}
+use Rattle.cf_examples.specs.Given.{file, file_props, file_attrs, schemas, source_of, lane_pair, report_of, bare}
 
 abbrev pub first : Source
-first = source_of (codes "s") (codes "one") (codes "{\"Resources\":{\"A\":{\"Type\":\"Local::Files::File\",\"Properties\":{\"Path\":\"a\",\"Content\":\"x\"}}}}")
+first =
+    source_of (codes "s") (codes "one")
+    (codes "{\"Resources\":{\"A\":{\"Type\":\"Local::Files::File\",\"Properties\":{\"Path\":\"a\",\"Content\":\"x\"}}}}")
 
 abbrev pub second : Source
-second = source_of (codes "s") (codes "two") (codes "{\"Resources\":{\"A\":{\"Type\":\"Local::Files::File\",\"Properties\":{\"Path\":\"a\",\"Content\":\"y\"}}}}")
+second =
+    source_of (codes "s") (codes "two")
+    (codes "{\"Resources\":{\"A\":{\"Type\":\"Local::Files::File\",\"Properties\":{\"Path\":\"a\",\"Content\":\"y\"}}}}")
 
 abbrev pub opened : Entry
 opened = entry.Opened 1 (lane_pair (codes "f1") file ∷ [])
@@ -70,7 +74,9 @@ abbrev pub rolled_back : Entry
 rolled_back = entry.Done 2 status.UpdateRollbackComplete []
 
 abbrev pub run : List Entry
-run = opened ∷ begun ∷ intended ∷ made ∷ created ∷ updating ∷ intended_change ∷ broken_once ∷ broken_twice ∷ broken_thrice ∷ turned ∷ repeated ∷ intended_restore ∷ restored ∷ cleaning ∷ rolled_back ∷ []
+run =
+    opened ∷ begun ∷ intended ∷ made ∷ created ∷ updating ∷ intended_change ∷ broken_once ∷ broken_twice ∷ broken_thrice ∷ turned ∷ repeated
+    ∷ intended_restore ∷ restored ∷ cleaning ∷ rolled_back ∷ []
 
 -- each entry may follow where it stands
 abbrev pub Legal : Type 0
@@ -78,4 +84,15 @@ Legal = IsLegal schemas empty_world run
 
 -- what the report shows in the end
 abbrev pub Shows : Type 0
-Shows = report_of (codes "s") (fold_of empty_world run) ≡ record { status = status.UpdateRollbackComplete; number = 1; resources = (record { path = (codes "A"); kind = file; physical = (codes "f1:1"); status = held.UpdateComplete; unsure = false; props = (file_props (codes "a") (codes "x")) } ∷ []); made = []; leftovers = [] }
+Shows =
+    report_of (codes "s") (fold_of empty_world run)
+    ≡ record (bare status.UpdateRollbackComplete 1) {
+      resources = record {
+        path = (codes "A");
+        kind = file;
+        physical = (codes "f1:1");
+        status = held.UpdateComplete;
+        unsure = false;
+        props = (file_props (codes "a") (codes "x"));
+      } ∷ [];
+    }

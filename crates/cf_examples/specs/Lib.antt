@@ -13,6 +13,8 @@ pub mod Skipped
 pub mod Retained
 pub mod Nested
 pub mod Pinned
+pub mod Site
+pub mod SiteKept
 pub mod MadeAndTakenBack
 pub mod KeptInRollback
 pub mod RestoreRefused
@@ -22,3 +24,4 @@ pub mod Reviewed
 pub mod Ends
 pub mod FirstLife
 pub mod CrashedLife
+pub mod LateLife

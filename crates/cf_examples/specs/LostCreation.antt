@@ -13,10 +13,12 @@ use Rattle.cf_entry.specs.declared.turn.Reason.TheVariants as reason
 use Rattle.cf_entry.specs.declared.turn.Why.TheVariants as why
 use Rattle.cf_stacks.specs.Fold.{empty_world, fold_of}
 use Rattle.cf_plan.specs.Follow.{IsLegal}
-use Rattle.cf_examples.specs.Given.{file, file_props, schemas, source_of, lane_pair, report_of}
+use Rattle.cf_examples.specs.Given.{file, file_props, schemas, source_of, lane_pair, report_of, bare}
 
 abbrev pub first : Source
-first = source_of (codes "s") (codes "one") (codes "{\"Resources\":{\"A\":{\"Type\":\"Local::Files::File\",\"Properties\":{\"Path\":\"a\",\"Content\":\"x\"}}}}")
+first =
+    source_of (codes "s") (codes "one")
+    (codes "{\"Resources\":{\"A\":{\"Type\":\"Local::Files::File\",\"Properties\":{\"Path\":\"a\",\"Content\":\"x\"}}}}")
 
 abbrev pub opened : Entry
 opened = entry.Opened 1 (lane_pair (codes "f1") file ∷ [])
@@ -76,7 +78,10 @@ abbrev pub deleted : Entry
 deleted = entry.Done 3 status.DeleteComplete []
 
 abbrev pub run : List Entry
-run = opened ∷ begun ∷ intended ∷ broken_once ∷ broken_twice ∷ broken_thrice ∷ turned ∷ broken_back_once ∷ broken_back_twice ∷ broken_back_thrice ∷ failed ∷ deleting ∷ broken_gone_once ∷ broken_gone_twice ∷ broken_gone_thrice ∷ undeleted ∷ deleting_without ∷ kept ∷ deleted ∷ []
+run =
+    opened ∷ begun ∷ intended ∷ broken_once ∷ broken_twice ∷ broken_thrice ∷ turned ∷ broken_back_once ∷ broken_back_twice
+    ∷ broken_back_thrice ∷ failed ∷ deleting ∷ broken_gone_once ∷ broken_gone_twice ∷ broken_gone_thrice ∷ undeleted ∷ deleting_without
+    ∷ kept ∷ deleted ∷ []
 
 -- each entry may follow where it stands
 abbrev pub Legal : Type 0
@@ -84,8 +89,19 @@ Legal = IsLegal schemas empty_world run
 
 -- what the report shows there
 abbrev pub Fails : Type 0
-Fails = report_of (codes "s") (fold_of empty_world (opened ∷ begun ∷ intended ∷ broken_once ∷ broken_twice ∷ broken_thrice ∷ turned ∷ broken_back_once ∷ broken_back_twice ∷ broken_back_thrice ∷ failed ∷ [])) ≡ record { status = status.RollbackFailed; number = 1; resources = []; made = []; leftovers = [] }
+Fails =
+    report_of (codes "s")
+    (fold_of empty_world (opened ∷ begun ∷ intended ∷ broken_once ∷ broken_twice ∷ broken_thrice ∷ turned ∷ broken_back_once
+    ∷ broken_back_twice ∷ broken_back_thrice ∷ failed ∷ [])) ≡ record (bare status.RollbackFailed 1) { failed = codes "A" ∷ [] }
 
 -- what the report shows in the end
 abbrev pub Shows : Type 0
-Shows = report_of (codes "s") (fold_of empty_world run) ≡ record { status = status.DeleteComplete; number = 1; resources = []; made = []; leftovers = (record { path = (codes "A"); physical = (codes "-"); why = why.Retained } ∷ []) }
+Shows =
+    report_of (codes "s") (fold_of empty_world run)
+    ≡ record (bare status.DeleteComplete 1) { leftovers = record { path = (codes "A"); physical = (codes "-"); why = why.Retained } ∷ [] }
+
+-- the run up to where the deletion has failed
+abbrev pub until_undeleted : List Entry
+until_undeleted =
+    opened ∷ begun ∷ intended ∷ broken_once ∷ broken_twice ∷ broken_thrice ∷ turned ∷ broken_back_once ∷ broken_back_twice
+    ∷ broken_back_thrice ∷ failed ∷ deleting ∷ broken_gone_once ∷ broken_gone_twice ∷ broken_gone_thrice ∷ undeleted ∷ []

@@ -1,5 +1,5 @@
 -- An update makes a resource and is refused at another: what it made is deleted in the cleanup of the rollback, and not before.
-use Rattle.std.specs.Prelude.{◌≡◌, List, [], ◌∷◌, codes, Some, None, false}
+use Rattle.std.specs.Prelude.{◌≡◌, List, [], ◌∷◌, codes, Some, None, false, ◌++◌}
 use Rattle.cf_tree.specs.declared.code.Code.TheVariants as code
 use Rattle.cf_tree.specs.declared.request.Request.TheVariants as request
 use Rattle.cf_tree.specs.declared.source.Source.{Source}
@@ -14,13 +14,18 @@ use Rattle.cf_entry.specs.declared.turn.Reason.TheVariants as reason
 use Rattle.cf_stacks.specs.declared.held.HeldStatus.TheVariants as held
 use Rattle.cf_stacks.specs.Fold.{empty_world, fold_of}
 use Rattle.cf_plan.specs.Follow.{IsLegal}
-use Rattle.cf_examples.specs.Given.{file, note, file_props, file_attrs, note_props, schemas, source_of, lane_pair, report_of, IsRefusedAfter}
+use Rattle.cf_examples.specs.Given.{file, note, file_props, file_attrs, note_props, schemas, source_of, lane_pair, report_of, bare, IsRefusedAfter}
 
 abbrev pub first : Source
-first = source_of (codes "s") (codes "one") (codes "{\"Resources\":{\"A\":{\"Type\":\"Local::Files::File\",\"Properties\":{\"Path\":\"a\",\"Content\":\"x\"}}}}")
+first =
+    source_of (codes "s") (codes "one")
+    (codes "{\"Resources\":{\"A\":{\"Type\":\"Local::Files::File\",\"Properties\":{\"Path\":\"a\",\"Content\":\"x\"}}}}")
 
 abbrev pub second : Source
-second = source_of (codes "s") (codes "two") (codes "{\"Resources\":{\"A\":{\"Type\":\"Local::Files::File\",\"Properties\":{\"Path\":\"b\",\"Content\":\"x\"}},\"B\":{\"Type\":\"Local::Records::Record\",\"DependsOn\":\"A\",\"Properties\":{\"Key\":\"b\",\"Value\":\"u\"}}}}")
+second =
+    source_of (codes "s") (codes "two")
+    (codes "{\"Resources\":{\"A\":{\"Type\":\"Local::Files::File\",\"Properties\":{\"Path\":\"b\",\"Content\":\"x\"}},"
+    ++ codes "\"B\":{\"Type\":\"Local::Records::Record\",\"DependsOn\":\"A\",\"Properties\":{\"Key\":\"b\",\"Value\":\"u\"}}}}")
 
 abbrev pub opened : Entry
 opened = entry.Opened 1 (lane_pair (codes "f1") file ∷ lane_pair (codes "r1") note ∷ [])
@@ -68,7 +73,9 @@ abbrev pub rolled_back : Entry
 rolled_back = entry.Done 2 status.UpdateRollbackComplete []
 
 abbrev pub run : List Entry
-run = opened ∷ begun ∷ intended ∷ made ∷ created ∷ updating ∷ intended_new ∷ made_new ∷ intended_other ∷ refused ∷ turned ∷ cleaning ∷ intended_deletion ∷ deleted ∷ rolled_back ∷ []
+run =
+    opened ∷ begun ∷ intended ∷ made ∷ created ∷ updating ∷ intended_new ∷ made_new ∷ intended_other ∷ refused ∷ turned ∷ cleaning
+    ∷ intended_deletion ∷ deleted ∷ rolled_back ∷ []
 
 -- each entry may follow where it stands
 abbrev pub Legal : Type 0
@@ -76,8 +83,21 @@ Legal = IsLegal schemas empty_world run
 
 -- what the report shows in the end
 abbrev pub Shows : Type 0
-Shows = report_of (codes "s") (fold_of empty_world run) ≡ record { status = status.UpdateRollbackComplete; number = 1; resources = (record { path = (codes "A"); kind = file; physical = (codes "f1:1"); status = held.CreateComplete; unsure = false; props = (file_props (codes "a") (codes "x")) } ∷ []); made = []; leftovers = [] }
+Shows =
+    report_of (codes "s") (fold_of empty_world run)
+    ≡ record (bare status.UpdateRollbackComplete 1) {
+      resources = record {
+        path = (codes "A");
+        kind = file;
+        physical = (codes "f1:1");
+        status = held.CreateComplete;
+        unsure = false;
+        props = (file_props (codes "a") (codes "x"));
+      } ∷ [];
+    }
 
 -- What the update made may not be deleted before the cleanup.
 abbrev pub DeletedInTheRollback : Type 0
-DeletedInTheRollback = IsRefusedAfter (opened ∷ begun ∷ intended ∷ made ∷ created ∷ updating ∷ intended_new ∷ made_new ∷ intended_other ∷ refused ∷ turned ∷ []) (entry.Intent 2 4 (codes "f1") (codes "A") (request.Delete (codes "f1:2")))
+DeletedInTheRollback =
+    IsRefusedAfter (opened ∷ begun ∷ intended ∷ made ∷ created ∷ updating ∷ intended_new ∷ made_new ∷ intended_other ∷ refused ∷ turned
+    ∷ []) (entry.Intent 2 4 (codes "f1") (codes "A") (request.Delete (codes "f1:2")))

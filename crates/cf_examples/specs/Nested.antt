@@ -1,5 +1,5 @@
 -- A nested stack gets the length of a file of the stack around it as its parameter.
-use Rattle.std.specs.Prelude.{option_map, Some, ◌≡◌, List, [], ◌∷◌, codes, false}
+use Rattle.std.specs.Prelude.{option_map, Some, ◌≡◌, List, [], ◌∷◌, codes, false, map, ◌++◌}
 use Rattle.cf_tree.specs.declared.request.Request.TheVariants as request
 use Rattle.cf_tree.specs.declared.source.Source.{Source}
 use Rattle.cf_entry.specs.declared.entry.Entry.{Entry}
@@ -13,11 +13,31 @@ use Rattle.cf_eval.specs.declared.fault.EvalWhy.TheVariants.{UnknownAttribute}
 use Rattle.cf_desired.specs.Flaw.{eval}
 use Rattle.cf_desired.specs.Plan.{Seen, flawed, plan_of}
 use Rattle.cf_desired.specs.Whole.{wanted_at}
+use Rattle.cf_plan.specs.FlawText.{flaw_text}
 use Rattle.cf_plan.specs.Follow.{IsLegal}
-use Rattle.cf_examples.specs.Given.{file, note, file_props, file_attrs, note_props, note_attrs, schemas, lane_pair, report_of}
+use Rattle.cf_examples.specs.Given.{file, note, file_props, file_attrs, note_props, note_attrs, schemas, lane_pair, report_of, bare, IsRefusedAfter}
 
 abbrev pub first : Source
-first = record { root = (codes "root"); texts = (((codes "kid"), (codes "{\"Parameters\":{\"P\":{\"Type\":\"String\"}},\"Resources\":{\"Rec\":{\"Type\":\"Local::Records::Record\",\"Properties\":{\"Key\":\"k\",\"Value\":{\"Ref\":\"P\"}}}}}")) ∷ ((codes "root"), (codes "{\"Resources\":{\"Src\":{\"Type\":\"Local::Files::File\",\"Properties\":{\"Path\":\"s\",\"Content\":\"12\"}},\"Child\":{\"Type\":\"AWS::CloudFormation::Stack\",\"Properties\":{\"TemplateURL\":\"kid\",\"Parameters\":{\"P\":{\"Fn::GetAtt\":[\"Src\",\"Length\"]}}}}}}")) ∷ []); given = []; imports = []; stack = (codes "top"); number = 0 }
+first =
+    record {
+      root = (codes "root");
+      texts = ((
+        (codes "kid"),
+        (codes "{\"Parameters\":{\"P\":{\"Type\":\"String\"}},\"Resources\":{\"Rec\":{\"Type\":\"Local::Records::Record\","
+            ++ codes "\"Properties\":{\"Key\":\"k\",\"Value\":{\"Ref\":\"P\"}}}}}"),
+      )
+          ∷ (
+            (codes "root"),
+            (codes "{\"Resources\":{\"Src\":{\"Type\":\"Local::Files::File\",\"Properties\":{\"Path\":\"s\",\"Content\":\"12\"}},"
+                ++ codes "\"Child\":{\"Type\":\"AWS::CloudFormation::Stack\",\"Properties\":{\"TemplateURL\":\"kid\",\"Parameters\":{"
+                ++ codes "\"P\":{\"Fn::GetAtt\":[\"Src\",\"Length\"]}}}}}}"),
+          )
+          ∷ []);
+      given = [];
+      imports = [];
+      stack = (codes "top");
+      number = 0;
+    }
 
 abbrev pub opened : Entry
 opened = entry.Opened 1 (lane_pair (codes "f1") file ∷ lane_pair (codes "r1") note ∷ [])
@@ -49,14 +69,45 @@ Legal = IsLegal schemas empty_world run
 
 -- what the report shows in the end
 abbrev pub Shows : Type 0
-Shows = report_of (codes "top") (fold_of empty_world run) ≡ record { status = status.CreateComplete; number = 1; resources = (record { path = (codes "Src"); kind = file; physical = (codes "f1:1"); status = held.CreateComplete; unsure = false; props = (file_props (codes "s") (codes "12")) } ∷ record { path = (codes "Child/Rec"); kind = note; physical = (codes "r1:2"); status = held.CreateComplete; unsure = false; props = (note_props (codes "k") (codes "2")) } ∷ []); made = []; leftovers = [] }
+Shows =
+    report_of (codes "top") (fold_of empty_world run)
+    ≡ record (bare status.CreateComplete 1) {
+      resources = record {
+        path = (codes "Child/Rec");
+        kind = note;
+        physical = (codes "r1:2");
+        status = held.CreateComplete;
+        unsure = false;
+        props = (note_props (codes "k") (codes "2"));
+      }
+          ∷ record {
+            path = (codes "Src");
+            kind = file;
+            physical = (codes "f1:1");
+            status = held.CreateComplete;
+            unsure = false;
+            props = (file_props (codes "s") (codes "12"));
+          } ∷ [];
+    }
 
 -- Of two nested outputs that are at fault, a resource that refers to both has the fault of the one that it names first.
 abbrev pub two_faults : Source
 two_faults = record {
   root = (codes "root");
   texts =
-      (((codes "kid"), (codes "{\"Resources\":{\"Rec\":{\"Type\":\"Local::Records::Record\",\"Properties\":{\"Key\":\"k\",\"Value\":\"v\"}}},\"Outputs\":{\"A\":{\"Value\":{\"Fn::Select\":[\"7\",[\"x\"]]}},\"B\":{\"Value\":{\"Fn::GetAtt\":[\"Rec\",\"Nope\"]}}}}")) ∷ ((codes "root"), (codes "{\"Resources\":{\"Child\":{\"Type\":\"AWS::CloudFormation::Stack\",\"Properties\":{\"TemplateURL\":\"kid\"}},\"Src\":{\"Type\":\"Local::Files::File\",\"Properties\":{\"Path\":\"s\",\"Content\":{\"Fn::Sub\":\"${Child.Outputs.B}${Child.Outputs.A}\"}}}}}")) ∷ []);
+      ((
+        (codes "kid"),
+        (codes "{\"Resources\":{\"Rec\":{\"Type\":\"Local::Records::Record\",\"Properties\":{\"Key\":\"k\",\"Value\":\"v\"}}},"
+            ++ codes "\"Outputs\":{\"A\":{\"Value\":{\"Fn::Select\":[\"7\",[\"x\"]]}},\"B\":{\"Value\":{\"Fn::GetAtt\":[\"Rec\","
+            ++ codes "\"Nope\"]}}}}"),
+      )
+      ∷ (
+        (codes "root"),
+        (codes "{\"Resources\":{\"Child\":{\"Type\":\"AWS::CloudFormation::Stack\",\"Properties\":{\"TemplateURL\":\"kid\"}},"
+            ++ codes "\"Src\":{\"Type\":\"Local::Files::File\",\"Properties\":{\"Path\":\"s\",\"Content\":{\"Fn::Sub\":\"${"
+            ++ codes "Child.Outputs.B}${Child.Outputs.A}\"}}}}}"),
+      )
+      ∷ []);
   given = [];
   imports = [];
   stack = (codes "top");
@@ -67,4 +118,54 @@ abbrev pub record_seen : Seen
 record_seen = (codes "Child/Rec", record { physical = Some (codes "r1:1"); attrs = Some (note_attrs (codes "r1:1") 1 (codes "k") (codes "v")) }) ∷ []
 
 abbrev pub FirstNamedIsTold : Type 0
-FirstNamedIsTold = option_map (λ w. w.props) (wanted_at (codes "Src") (plan_of two_faults record_seen)) ≡ Some (flawed (eval UnknownAttribute (codes "Child") (codes "/Outputs/B/Value")))
+FirstNamedIsTold =
+    option_map (λ w. w.props) (wanted_at (codes "Src") (plan_of two_faults record_seen)) ≡ Some
+    (flawed (eval UnknownAttribute (codes "Child") (codes "/Outputs/B/Value")))
+
+-- A condition of a nested stack may not rest on what is known only while the stack is made.
+abbrev pub conditional : Source
+conditional = record {
+  root = codes "root";
+  texts = (
+    codes "kid",
+    codes "{\"Parameters\":{\"P\":{\"Type\":\"String\"}},\"Conditions\":{\"C\":{\"Fn::Equals\":[{\"Ref\":\"P\"},"
+        ++ codes "\"2\"]}},\"Resources\":{\"Rec\":{\"Type\":\"Local::Records::Record\",\"Properties\":{\"Key\":\"k\","
+        ++ codes "\"Value\":{\"Ref\":\"P\"}}}}}",
+  )
+      ∷ (
+        codes "root",
+        codes "{\"Resources\":{\"Src\":{\"Type\":\"Local::Files::File\",\"Properties\":{\"Path\":\"s\",\"Content\":\"12\"}},"
+            ++ codes "\"Child\":{\"Type\":\"AWS::CloudFormation::Stack\",\"Properties\":{\"TemplateURL\":\"kid\",\"Parameters\":{"
+            ++ codes "\"P\":{\"Fn::GetAtt\":[\"Src\",\"Length\"]}}}}}}",
+      )
+      ∷ [];
+  given = [];
+  imports = [];
+  stack = codes "top";
+  number = 0;
+}
+
+-- its only flaw, with its text
+abbrev pub FlawIsTold : Type 0
+FlawIsTold = map flaw_text (plan_of conditional []).flaws ≡ codes "DynamicCondition \"Child\" \"C\"" ∷ []
+
+abbrev pub ConditionalIsRefused : Type 0
+ConditionalIsRefused = IsRefusedAfter (opened ∷ []) (entry.Begin 1 (codes "top") (begin.Create conditional))
+
+-- A stack that nests itself is too deep at the ninth level.
+abbrev pub self : Source
+self = record {
+  root = codes "self";
+  texts = (
+    codes "self",
+    codes "{\"Resources\":{\"Child\":{\"Type\":\"AWS::CloudFormation::Stack\",\"Properties\":{\"TemplateURL\":\"self\"}}}}",
+  ) ∷ [];
+  given = [];
+  imports = [];
+  stack = codes "top";
+  number = 0;
+}
+
+abbrev pub TooDeepIsTold : Type 0
+TooDeepIsTold =
+    map flaw_text (plan_of self []).flaws ≡ codes "TooDeep \"Child/Child/Child/Child/Child/Child/Child/Child\"" ∷ []

@@ -13,13 +13,17 @@ use Rattle.cf_entry.specs.declared.turn.Phase.TheVariants as phase
 use Rattle.cf_stacks.specs.declared.held.HeldStatus.TheVariants as held
 use Rattle.cf_stacks.specs.Fold.{empty_world, fold_of}
 use Rattle.cf_plan.specs.Follow.{IsLegal}
-use Rattle.cf_examples.specs.Given.{note, note_props, note_attrs, schemas, source_of, lane_pair, report_of}
+use Rattle.cf_examples.specs.Given.{note, note_props, note_attrs, schemas, source_of, lane_pair, report_of, bare}
 
 abbrev pub first : Source
-first = source_of (codes "s") (codes "one") (codes "{\"Resources\":{\"K\":{\"Type\":\"Local::Records::Record\",\"Properties\":{\"Key\":\"k\",\"Value\":\"v\",\"Class\":\"sealed\"}}}}")
+first =
+    source_of (codes "s") (codes "one")
+    (codes "{\"Resources\":{\"K\":{\"Type\":\"Local::Records::Record\",\"Properties\":{\"Key\":\"k\",\"Value\":\"v\",\"Class\":\"sealed\"}}}}")
 
 abbrev pub second : Source
-second = source_of (codes "s") (codes "two") (codes "{\"Resources\":{\"K\":{\"Type\":\"Local::Records::Record\",\"Properties\":{\"Key\":\"k\",\"Value\":\"v\",\"Class\":\"plain\"}}}}")
+second =
+    source_of (codes "s") (codes "two")
+    (codes "{\"Resources\":{\"K\":{\"Type\":\"Local::Records::Record\",\"Properties\":{\"Key\":\"k\",\"Value\":\"v\",\"Class\":\"plain\"}}}}")
 
 abbrev pub opened : Entry
 opened = entry.Opened 1 (lane_pair (codes "r1") note ∷ [])
@@ -40,7 +44,9 @@ abbrev pub updating : Entry
 updating = entry.Begin 2 (codes "s") (begin.Update second)
 
 abbrev pub intended_change : Entry
-intended_change = entry.Intent 2 2 (codes "r1") (codes "K") (request.Update (codes "r1:1") ((codes "Class", text (codes "plain")) ∷ (note_props (codes "k") (codes "v"))))
+intended_change =
+    entry.Intent 2 2 (codes "r1") (codes "K")
+    (request.Update (codes "r1:1") ((codes "Class", text (codes "plain")) ∷ (note_props (codes "k") (codes "v"))))
 
 abbrev pub not_updatable : Entry
 not_updatable = entry.Outcome 2 2 (reply.Failed code.NotUpdatable) 0 1
@@ -64,7 +70,9 @@ abbrev pub updated : Entry
 updated = entry.Done 2 status.UpdateComplete []
 
 abbrev pub run : List Entry
-run = opened ∷ begun ∷ intended ∷ made ∷ created ∷ updating ∷ intended_change ∷ not_updatable ∷ intended_new ∷ made_new ∷ cleaning ∷ intended_deletion ∷ deleted ∷ updated ∷ []
+run =
+    opened ∷ begun ∷ intended ∷ made ∷ created ∷ updating ∷ intended_change ∷ not_updatable ∷ intended_new ∷ made_new ∷ cleaning
+    ∷ intended_deletion ∷ deleted ∷ updated ∷ []
 
 -- each entry may follow where it stands
 abbrev pub Legal : Type 0
@@ -72,4 +80,15 @@ Legal = IsLegal schemas empty_world run
 
 -- what the report shows in the end
 abbrev pub Shows : Type 0
-Shows = report_of (codes "s") (fold_of empty_world run) ≡ record { status = status.UpdateComplete; number = 1; resources = (record { path = (codes "K"); kind = note; physical = (codes "r1:3"); status = held.UpdateComplete; unsure = false; props = ((codes "Class", text (codes "plain")) ∷ (note_props (codes "k") (codes "v"))) } ∷ []); made = []; leftovers = [] }
+Shows =
+    report_of (codes "s") (fold_of empty_world run)
+    ≡ record (bare status.UpdateComplete 1) {
+      resources = record {
+        path = (codes "K");
+        kind = note;
+        physical = (codes "r1:3");
+        status = held.UpdateComplete;
+        unsure = false;
+        props = ((codes "Class", text (codes "plain")) ∷ (note_props (codes "k") (codes "v")));
+      } ∷ [];
+    }

@@ -1,5 +1,5 @@
 -- A stack exports the length of a file, and another one imports it: an update that would change the length is taken back.
-use Rattle.std.specs.Prelude.{◌≡◌, List, [], ◌∷◌, codes, Some, None, false}
+use Rattle.std.specs.Prelude.{◌≡◌, List, [], ◌∷◌, codes, Some, None, false, ◌++◌}
 use Rattle.cf_tree.specs.declared.request.Request.TheVariants as request
 use Rattle.cf_tree.specs.declared.source.Source.{Source}
 use Rattle.cf_entry.specs.declared.entry.Entry.{Entry}
@@ -12,16 +12,34 @@ use Rattle.cf_entry.specs.declared.turn.Phase.TheVariants as phase
 use Rattle.cf_stacks.specs.declared.held.HeldStatus.TheVariants as held
 use Rattle.cf_stacks.specs.Fold.{empty_world, fold_of}
 use Rattle.cf_plan.specs.Follow.{IsLegal}
-use Rattle.cf_examples.specs.Given.{file, note, file_props, file_attrs, note_props, note_attrs, schemas, source_of, lane_pair, report_of, IsRefusedAfter}
+use Rattle.cf_examples.specs.Given.{file, note, file_props, file_attrs, note_props, note_attrs, schemas, source_of, lane_pair, report_of, bare, IsRefusedAfter}
 
 abbrev pub first : Source
-first = source_of (codes "site") (codes "one") (codes "{\"Resources\":{\"A\":{\"Type\":\"Local::Files::File\",\"Properties\":{\"Path\":\"a\",\"Content\":\"xx\"}}},\"Outputs\":{\"Total\":{\"Value\":{\"Fn::GetAtt\":[\"A\",\"Length\"]},\"Export\":{\"Name\":\"site-total\"}}}}")
+first =
+    source_of (codes "site") (codes "one")
+    (codes "{\"Resources\":{\"A\":{\"Type\":\"Local::Files::File\",\"Properties\":{\"Path\":\"a\",\"Content\":\"xx\"}}},"
+    ++ codes "\"Outputs\":{\"Total\":{\"Value\":{\"Fn::GetAtt\":[\"A\",\"Length\"]},\"Export\":{\"Name\":\"site-total\"}}}}")
 
 abbrev pub second : Source
-second = source_of (codes "site") (codes "two") (codes "{\"Resources\":{\"A\":{\"Type\":\"Local::Files::File\",\"Properties\":{\"Path\":\"a\",\"Content\":\"xxx\"}}},\"Outputs\":{\"Total\":{\"Value\":{\"Fn::GetAtt\":[\"A\",\"Length\"]},\"Export\":{\"Name\":\"site-total\"}}}}")
+second =
+    source_of (codes "site") (codes "two")
+    (codes "{\"Resources\":{\"A\":{\"Type\":\"Local::Files::File\",\"Properties\":{\"Path\":\"a\",\"Content\":\"xxx\"}}},"
+    ++ codes "\"Outputs\":{\"Total\":{\"Value\":{\"Fn::GetAtt\":[\"A\",\"Length\"]},\"Export\":{\"Name\":\"site-total\"}}}}")
 
 abbrev pub importing : Source
-importing = record { root = (codes "user"); texts = (((codes "user"), (codes "{\"Resources\":{\"U\":{\"Type\":\"Local::Records::Record\",\"Properties\":{\"Key\":\"u\",\"Value\":{\"Fn::ImportValue\":\"site-total\"}}}}}")) ∷ []); given = []; imports = (((codes "site-total"), (codes "2")) ∷ []); stack = (codes "user"); number = 0 }
+importing =
+    record {
+      root = (codes "user");
+      texts = ((
+        (codes "user"),
+        (codes "{\"Resources\":{\"U\":{\"Type\":\"Local::Records::Record\",\"Properties\":{\"Key\":\"u\",\"Value\":{\"Fn::ImportValue\":\"site-total\"}}}}}"),
+      )
+          ∷ []);
+      given = [];
+      imports = (((codes "site-total"), (codes "2")) ∷ []);
+      stack = (codes "user");
+      number = 0;
+    }
 
 abbrev pub opened : Entry
 opened = entry.Opened 1 (lane_pair (codes "f1") file ∷ lane_pair (codes "r1") note ∷ [])
@@ -75,7 +93,9 @@ abbrev pub rolled_back : Entry
 rolled_back = entry.Done 3 status.UpdateRollbackComplete []
 
 abbrev pub run : List Entry
-run = opened ∷ begun ∷ intended_file ∷ made_file ∷ created ∷ begun_user ∷ intended_record ∷ made_record ∷ created_user ∷ updating ∷ intended_change ∷ changed ∷ turned ∷ intended_restore ∷ restored ∷ cleaning ∷ rolled_back ∷ []
+run =
+    opened ∷ begun ∷ intended_file ∷ made_file ∷ created ∷ begun_user ∷ intended_record ∷ made_record ∷ created_user ∷ updating
+    ∷ intended_change ∷ changed ∷ turned ∷ intended_restore ∷ restored ∷ cleaning ∷ rolled_back ∷ []
 
 -- each entry may follow where it stands
 abbrev pub Legal : Type 0
@@ -83,12 +103,30 @@ Legal = IsLegal schemas empty_world run
 
 -- what the report shows in the end
 abbrev pub Shows : Type 0
-Shows = report_of (codes "site") (fold_of empty_world run) ≡ record { status = status.UpdateRollbackComplete; number = 1; resources = (record { path = (codes "A"); kind = file; physical = (codes "f1:1"); status = held.UpdateComplete; unsure = false; props = (file_props (codes "a") (codes "xx")) } ∷ []); made = []; leftovers = [] }
+Shows =
+    report_of (codes "site") (fold_of empty_world run)
+    ≡ record (bare status.UpdateRollbackComplete 1) {
+      resources = record {
+        path = (codes "A");
+        kind = file;
+        physical = (codes "f1:1");
+        status = held.UpdateComplete;
+        unsure = false;
+        props = (file_props (codes "a") (codes "xx"));
+      } ∷ [];
+      outputs = record { name = codes "Total"; value = codes "2"; export = Some (codes "site-total") } ∷ [];
+      exports = (codes "site-total", codes "2") ∷ [];
+    }
 
 -- The cleanup may not begin where a value that another stack imports would change.
 abbrev pub ChangedThoughPinned : Type 0
-ChangedThoughPinned = IsRefusedAfter (opened ∷ begun ∷ intended_file ∷ made_file ∷ created ∷ begun_user ∷ intended_record ∷ made_record ∷ created_user ∷ updating ∷ intended_change ∷ changed ∷ []) (entry.Phase 3 phase.Clean None)
+ChangedThoughPinned =
+    IsRefusedAfter (opened ∷ begun ∷ intended_file ∷ made_file ∷ created ∷ begun_user ∷ intended_record ∷ made_record ∷ created_user
+    ∷ updating ∷ intended_change ∷ changed ∷ []) (entry.Phase 3 phase.Clean None)
 
 -- A stack may not be deleted while another one imports its export.
 abbrev pub DeletedThoughPinned : Type 0
-DeletedThoughPinned = IsRefusedAfter (opened ∷ begun ∷ intended_file ∷ made_file ∷ created ∷ begun_user ∷ intended_record ∷ made_record ∷ created_user ∷ updating ∷ intended_change ∷ changed ∷ turned ∷ intended_restore ∷ restored ∷ cleaning ∷ rolled_back ∷ []) (entry.Begin 4 (codes "site") (begin.Delete []))
+DeletedThoughPinned =
+    IsRefusedAfter (opened ∷ begun ∷ intended_file ∷ made_file ∷ created ∷ begun_user ∷ intended_record ∷ made_record ∷ created_user
+    ∷ updating ∷ intended_change ∷ changed ∷ turned ∷ intended_restore ∷ restored ∷ cleaning ∷ rolled_back ∷ [])
+    (entry.Begin 4 (codes "site") (begin.Delete []))

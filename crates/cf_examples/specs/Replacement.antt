@@ -1,5 +1,5 @@
 -- A file is replaced: the record that refers to it is updated to the new id, and the old file is deleted in the cleanup (worked in the order of the calls).
-use Rattle.std.specs.Prelude.{◌≡◌, List, [], ◌∷◌, codes, None, false}
+use Rattle.std.specs.Prelude.{◌≡◌, ℕ, List, [], ◌∷◌, ◌++◌, codes, None, false}
 use Rattle.cf_tree.specs.declared.request.Request.TheVariants as request
 use Rattle.cf_tree.specs.declared.source.Source.{Source}
 use Rattle.cf_entry.specs.declared.entry.Entry.{Entry}
@@ -11,13 +11,19 @@ use Rattle.cf_entry.specs.declared.turn.Phase.TheVariants as phase
 use Rattle.cf_stacks.specs.declared.held.HeldStatus.TheVariants as held
 use Rattle.cf_stacks.specs.Fold.{empty_world, fold_of}
 use Rattle.cf_plan.specs.Follow.{IsLegal}
-use Rattle.cf_examples.specs.Given.{file, note, file_props, file_attrs, note_props, note_attrs, schemas, source_of, lane_pair, report_of, IsRefusedAfter}
+use Rattle.cf_examples.specs.Given.{file, note, file_props, file_attrs, note_props, note_attrs, schemas, source_of, lane_pair, report_of, bare, IsRefusedAfter}
 
 abbrev pub first : Source
-first = source_of (codes "app") (codes "one") (codes "{\"Resources\":{\"Web\":{\"Type\":\"Local::Files::File\",\"Properties\":{\"Path\":\"web.txt\",\"Content\":\"x\"}},\"Ptr\":{\"Type\":\"Local::Records::Record\",\"Properties\":{\"Key\":\"p\",\"Value\":{\"Ref\":\"Web\"}}}}}")
+first =
+    source_of (codes "app") (codes "one")
+    (codes "{\"Resources\":{\"Web\":{\"Type\":\"Local::Files::File\",\"Properties\":{\"Path\":\"web.txt\",\"Content\":\"x\"}},"
+    ++ codes "\"Ptr\":{\"Type\":\"Local::Records::Record\",\"Properties\":{\"Key\":\"p\",\"Value\":{\"Ref\":\"Web\"}}}}}")
 
 abbrev pub second : Source
-second = source_of (codes "app") (codes "two") (codes "{\"Resources\":{\"Web\":{\"Type\":\"Local::Files::File\",\"Properties\":{\"Path\":\"new.txt\",\"Content\":\"x\"}},\"Ptr\":{\"Type\":\"Local::Records::Record\",\"Properties\":{\"Key\":\"p\",\"Value\":{\"Ref\":\"Web\"}}}}}")
+second =
+    source_of (codes "app") (codes "two")
+    (codes "{\"Resources\":{\"Web\":{\"Type\":\"Local::Files::File\",\"Properties\":{\"Path\":\"new.txt\",\"Content\":\"x\"}},"
+    ++ codes "\"Ptr\":{\"Type\":\"Local::Records::Record\",\"Properties\":{\"Key\":\"p\",\"Value\":{\"Ref\":\"Web\"}}}}}")
 
 abbrev pub opened : Entry
 opened = entry.Opened 1 (lane_pair (codes "f1") file ∷ lane_pair (codes "r1") note ∷ [])
@@ -68,7 +74,9 @@ abbrev pub updated : Entry
 updated = entry.Done 2 status.UpdateComplete []
 
 abbrev pub run : List Entry
-run = opened ∷ begun ∷ intended_web ∷ made_web ∷ intended_ptr ∷ made_ptr ∷ created ∷ updating ∷ intended_new ∷ made_new ∷ intended_change ∷ changed_ptr ∷ cleaning ∷ intended_deletion ∷ deleted ∷ updated ∷ []
+run =
+    opened ∷ begun ∷ intended_web ∷ made_web ∷ intended_ptr ∷ made_ptr ∷ created ∷ updating ∷ intended_new ∷ made_new ∷ intended_change
+    ∷ changed_ptr ∷ cleaning ∷ intended_deletion ∷ deleted ∷ updated ∷ []
 
 -- each entry may follow where it stands
 abbrev pub Legal : Type 0
@@ -76,24 +84,71 @@ Legal = IsLegal schemas empty_world run
 
 -- what the report shows in the end
 abbrev pub Shows : Type 0
-Shows = report_of (codes "app") (fold_of empty_world run) ≡ record { status = status.UpdateComplete; number = 1; resources = (record { path = (codes "Ptr"); kind = note; physical = (codes "r1:2"); status = held.UpdateComplete; unsure = false; props = (note_props (codes "p") (codes "f1:3")) } ∷ record { path = (codes "Web"); kind = file; physical = (codes "f1:3"); status = held.UpdateComplete; unsure = false; props = (file_props (codes "new.txt") (codes "x")) } ∷ []); made = []; leftovers = [] }
+Shows =
+    report_of (codes "app") (fold_of empty_world run)
+    ≡ record (bare status.UpdateComplete 1) {
+      resources = record {
+        path = (codes "Ptr");
+        kind = note;
+        physical = (codes "r1:2");
+        status = held.UpdateComplete;
+        unsure = false;
+        props = (note_props (codes "p") (codes "f1:3"));
+      }
+          ∷ record {
+            path = (codes "Web");
+            kind = file;
+            physical = (codes "f1:3");
+            status = held.UpdateComplete;
+            unsure = false;
+            props = (file_props (codes "new.txt") (codes "x"));
+          } ∷ [];
+    }
 
 -- The cleanup may not begin after the new file alone was sent.
 abbrev pub CleanedTooEarly : Type 0
-CleanedTooEarly = IsRefusedAfter (opened ∷ begun ∷ intended_web ∷ made_web ∷ intended_ptr ∷ made_ptr ∷ created ∷ updating ∷ intended_new ∷ made_new ∷ []) (entry.Phase 2 phase.Clean None)
+CleanedTooEarly =
+    IsRefusedAfter (opened ∷ begun ∷ intended_web ∷ made_web ∷ intended_ptr ∷ made_ptr ∷ created ∷ updating ∷ intended_new ∷ made_new ∷ [])
+    (entry.Phase 2 phase.Clean None)
 
 -- The old file may not be deleted before the cleanup.
 abbrev pub DeletedBeforeCleanup : Type 0
-DeletedBeforeCleanup = IsRefusedAfter (opened ∷ begun ∷ intended_web ∷ made_web ∷ intended_ptr ∷ made_ptr ∷ created ∷ updating ∷ intended_new ∷ made_new ∷ []) (entry.Intent 2 4 (codes "f1") (codes "Web") (request.Delete (codes "f1:1")))
+DeletedBeforeCleanup =
+    IsRefusedAfter (opened ∷ begun ∷ intended_web ∷ made_web ∷ intended_ptr ∷ made_ptr ∷ created ∷ updating ∷ intended_new ∷ made_new ∷ [])
+    (entry.Intent 2 4 (codes "f1") (codes "Web") (request.Delete (codes "f1:1")))
 
--- The record may not get the id of the file that is replaced.
+-- Where the record changes otherwise too, it gets the new id, and may not get the id of the file that is replaced.
+abbrev pub third : Source
+third =
+    source_of (codes "app") (codes "three")
+    (codes "{\"Resources\":{\"Web\":{\"Type\":\"Local::Files::File\",\"Properties\":{\"Path\":\"new.txt\",\"Content\":\"x\"}},"
+    ++ codes "\"Ptr\":{\"Type\":\"Local::Records::Record\",\"Properties\":{\"Key\":\"p\",\"Value\":{\"Fn::Sub\":\"at ${"
+    ++ codes "Web}\"}}}}}")
+
+abbrev pub updating_both : Entry
+updating_both = entry.Begin 2 (codes "app") (begin.Update third)
+
+abbrev pub until_replaced : List Entry
+until_replaced = opened ∷ begun ∷ intended_web ∷ made_web ∷ intended_ptr ∷ made_ptr ∷ created ∷ updating_both ∷ intended_new ∷ made_new ∷ []
+
+abbrev pub gets : List ℕ → Entry
+gets id = entry.Intent 2 4 (codes "r1") (codes "Ptr") (request.Update (codes "r1:2") (note_props (codes "p") (codes "at " ++ id)))
+
+abbrev pub NewIdIsLegal : Type 0
+NewIdIsLegal = IsLegal schemas empty_world (until_replaced ++ gets (codes "f1:3") ∷ [])
+
 abbrev pub OldIdEvaluated : Type 0
-OldIdEvaluated = IsRefusedAfter (opened ∷ begun ∷ intended_web ∷ made_web ∷ intended_ptr ∷ made_ptr ∷ created ∷ updating ∷ intended_new ∷ made_new ∷ []) (entry.Intent 2 4 (codes "r1") (codes "Ptr") (request.Update (codes "r1:2") (note_props (codes "p") (codes "f1:1"))))
+OldIdEvaluated = IsRefusedAfter until_replaced (gets (codes "f1:1"))
 
--- An ended operation has no second end.
-abbrev pub EndedAgain : Type 0
-EndedAgain = IsRefusedAfter (opened ∷ begun ∷ intended_web ∷ made_web ∷ intended_ptr ∷ made_ptr ∷ created ∷ updating ∷ intended_new ∷ made_new ∷ intended_change ∷ changed_ptr ∷ cleaning ∷ intended_deletion ∷ deleted ∷ updated ∷ []) (entry.Done 2 status.UpdateComplete [])
+-- The end of an operation may not carry the number of another one, which has ended.
+abbrev pub EndedUnderAnotherNumber : Type 0
+EndedUnderAnotherNumber =
+    IsRefusedAfter (opened ∷ begun ∷ intended_web ∷ made_web ∷ intended_ptr ∷ made_ptr ∷ created ∷ updating ∷ intended_new ∷ made_new
+    ∷ intended_change ∷ changed_ptr ∷ cleaning ∷ intended_deletion ∷ deleted ∷ []) (entry.Done 1 status.UpdateComplete [])
 
 -- An answer may not carry the number of an ended operation.
 abbrev pub AnsweredUnderAnotherNumber : Type 0
-AnsweredUnderAnotherNumber = IsRefusedAfter (opened ∷ begun ∷ intended_web ∷ made_web ∷ intended_ptr ∷ made_ptr ∷ created ∷ updating ∷ intended_new ∷ made_new ∷ intended_change ∷ []) (entry.Outcome 1 4 (reply.Success (codes "r1:2") (note_attrs (codes "r1:2") 4 (codes "p") (codes "f1:3"))) 0 0)
+AnsweredUnderAnotherNumber =
+    IsRefusedAfter (opened ∷ begun ∷ intended_web ∷ made_web ∷ intended_ptr ∷ made_ptr ∷ created ∷ updating ∷ intended_new ∷ made_new
+    ∷ intended_change ∷ [])
+    (entry.Outcome 1 4 (reply.Success (codes "r1:2") (note_attrs (codes "r1:2") 4 (codes "p") (codes "f1:3"))) 0 0)

@@ -1,5 +1,5 @@
 -- An update is refused at its second resource, and so is the restore of the first: a continued rollback skips it.
-use Rattle.std.specs.Prelude.{◌≡◌, List, [], ◌∷◌, codes, Some, None, true, false}
+use Rattle.std.specs.Prelude.{◌≡◌, List, [], ◌∷◌, codes, Some, None, true, false, ◌++◌}
 use Rattle.cf_tree.specs.declared.code.Code.TheVariants as code
 use Rattle.cf_tree.specs.declared.request.Request.TheVariants as request
 use Rattle.cf_tree.specs.declared.source.Source.{Source}
@@ -14,13 +14,19 @@ use Rattle.cf_entry.specs.declared.turn.Reason.TheVariants as reason
 use Rattle.cf_stacks.specs.declared.held.HeldStatus.TheVariants as held
 use Rattle.cf_stacks.specs.Fold.{empty_world, fold_of}
 use Rattle.cf_plan.specs.Follow.{IsLegal}
-use Rattle.cf_examples.specs.Given.{file, note, file_props, file_attrs, note_props, note_attrs, schemas, source_of, lane_pair, report_of}
+use Rattle.cf_examples.specs.Given.{file, note, file_props, file_attrs, note_props, note_attrs, schemas, source_of, lane_pair, report_of, bare}
 
 abbrev pub first : Source
-first = source_of (codes "s") (codes "one") (codes "{\"Resources\":{\"A\":{\"Type\":\"Local::Files::File\",\"Properties\":{\"Path\":\"a\",\"Content\":\"x\"}},\"B\":{\"Type\":\"Local::Records::Record\",\"DependsOn\":\"A\",\"Properties\":{\"Key\":\"b\",\"Value\":\"u\"}}}}")
+first =
+    source_of (codes "s") (codes "one")
+    (codes "{\"Resources\":{\"A\":{\"Type\":\"Local::Files::File\",\"Properties\":{\"Path\":\"a\",\"Content\":\"x\"}},"
+    ++ codes "\"B\":{\"Type\":\"Local::Records::Record\",\"DependsOn\":\"A\",\"Properties\":{\"Key\":\"b\",\"Value\":\"u\"}}}}")
 
 abbrev pub second : Source
-second = source_of (codes "s") (codes "two") (codes "{\"Resources\":{\"A\":{\"Type\":\"Local::Files::File\",\"Properties\":{\"Path\":\"a\",\"Content\":\"y\"}},\"B\":{\"Type\":\"Local::Records::Record\",\"DependsOn\":\"A\",\"Properties\":{\"Key\":\"b\",\"Value\":\"w\"}}}}")
+second =
+    source_of (codes "s") (codes "two")
+    (codes "{\"Resources\":{\"A\":{\"Type\":\"Local::Files::File\",\"Properties\":{\"Path\":\"a\",\"Content\":\"y\"}},"
+    ++ codes "\"B\":{\"Type\":\"Local::Records::Record\",\"DependsOn\":\"A\",\"Properties\":{\"Key\":\"b\",\"Value\":\"w\"}}}}")
 
 abbrev pub opened : Entry
 opened = entry.Opened 1 (lane_pair (codes "f1") file ∷ lane_pair (codes "r1") note ∷ [])
@@ -83,7 +89,9 @@ abbrev pub rolled_back : Entry
 rolled_back = entry.Done 3 status.UpdateRollbackComplete []
 
 abbrev pub run : List Entry
-run = opened ∷ begun ∷ intended_a ∷ made_a ∷ intended_b ∷ made_b ∷ created ∷ updating ∷ intended_change ∷ changed ∷ intended_other ∷ refused ∷ turned ∷ intended_restore ∷ unrestored ∷ failed ∷ opened_again ∷ continued ∷ cleaning ∷ rolled_back ∷ []
+run =
+    opened ∷ begun ∷ intended_a ∷ made_a ∷ intended_b ∷ made_b ∷ created ∷ updating ∷ intended_change ∷ changed ∷ intended_other ∷ refused
+    ∷ turned ∷ intended_restore ∷ unrestored ∷ failed ∷ opened_again ∷ continued ∷ cleaning ∷ rolled_back ∷ []
 
 -- each entry may follow where it stands
 abbrev pub Legal : Type 0
@@ -91,8 +99,49 @@ Legal = IsLegal schemas empty_world run
 
 -- what the report shows there
 abbrev pub Fails : Type 0
-Fails = report_of (codes "s") (fold_of empty_world (opened ∷ begun ∷ intended_a ∷ made_a ∷ intended_b ∷ made_b ∷ created ∷ updating ∷ intended_change ∷ changed ∷ intended_other ∷ refused ∷ turned ∷ intended_restore ∷ unrestored ∷ failed ∷ [])) ≡ record { status = status.UpdateRollbackFailed; number = 1; resources = (record { path = (codes "A"); kind = file; physical = (codes "f1:1"); status = held.UpdateFailed; unsure = false; props = (file_props (codes "a") (codes "y")) } ∷ record { path = (codes "B"); kind = note; physical = (codes "r1:2"); status = held.CreateComplete; unsure = false; props = (note_props (codes "b") (codes "u")) } ∷ []); made = []; leftovers = [] }
+Fails =
+    report_of (codes "s")
+    (fold_of empty_world (opened ∷ begun ∷ intended_a ∷ made_a ∷ intended_b ∷ made_b ∷ created ∷ updating ∷ intended_change ∷ changed
+    ∷ intended_other ∷ refused ∷ turned ∷ intended_restore ∷ unrestored ∷ failed ∷ []))
+    ≡ record (bare status.UpdateRollbackFailed 1) {
+      resources = record {
+        path = (codes "A");
+        kind = file;
+        physical = (codes "f1:1");
+        status = held.UpdateFailed;
+        unsure = false;
+        props = (file_props (codes "a") (codes "y"));
+      }
+          ∷ record {
+            path = (codes "B");
+            kind = note;
+            physical = (codes "r1:2");
+            status = held.CreateComplete;
+            unsure = false;
+            props = (note_props (codes "b") (codes "u"));
+          } ∷ [];
+      failed = codes "A" ∷ codes "B" ∷ [];
+    }
 
 -- what the report shows in the end
 abbrev pub Shows : Type 0
-Shows = report_of (codes "s") (fold_of empty_world run) ≡ record { status = status.UpdateRollbackComplete; number = 1; resources = (record { path = (codes "A"); kind = file; physical = (codes "f1:1"); status = held.UpdateComplete; unsure = true; props = (file_props (codes "a") (codes "x")) } ∷ record { path = (codes "B"); kind = note; physical = (codes "r1:2"); status = held.CreateComplete; unsure = false; props = (note_props (codes "b") (codes "u")) } ∷ []); made = []; leftovers = [] }
+Shows =
+    report_of (codes "s") (fold_of empty_world run)
+    ≡ record (bare status.UpdateRollbackComplete 1) {
+      resources = record {
+        path = (codes "A");
+        kind = file;
+        physical = (codes "f1:1");
+        status = held.UpdateComplete;
+        unsure = true;
+        props = (file_props (codes "a") (codes "x"));
+      }
+          ∷ record {
+            path = (codes "B");
+            kind = note;
+            physical = (codes "r1:2");
+            status = held.CreateComplete;
+            unsure = false;
+            props = (note_props (codes "b") (codes "u"));
+          } ∷ [];
+    }

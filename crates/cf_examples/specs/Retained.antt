@@ -1,5 +1,5 @@
 -- A stack is deleted: what needs the file goes first, and the file is kept by its policy.
-use Rattle.std.specs.Prelude.{◌≡◌, List, [], ◌∷◌, codes}
+use Rattle.std.specs.Prelude.{◌≡◌, List, [], ◌∷◌, codes, ◌++◌}
 use Rattle.cf_tree.specs.declared.request.Request.TheVariants as request
 use Rattle.cf_tree.specs.declared.source.Source.{Source}
 use Rattle.cf_entry.specs.declared.entry.Entry.{Entry}
@@ -10,10 +10,14 @@ use Rattle.cf_entry.specs.declared.status.Status.TheVariants as status
 use Rattle.cf_entry.specs.declared.turn.Why.TheVariants as why
 use Rattle.cf_stacks.specs.Fold.{empty_world, fold_of}
 use Rattle.cf_plan.specs.Follow.{IsLegal}
-use Rattle.cf_examples.specs.Given.{file, note, file_props, file_attrs, note_props, note_attrs, schemas, source_of, lane_pair, report_of, IsRefusedAfter}
+use Rattle.cf_examples.specs.Given.{file, note, file_props, file_attrs, note_props, note_attrs, schemas, source_of, lane_pair, report_of, bare, IsRefusedAfter}
 
 abbrev pub first : Source
-first = source_of (codes "s") (codes "one") (codes "{\"Resources\":{\"A\":{\"Type\":\"Local::Files::File\",\"DeletionPolicy\":\"Retain\",\"Properties\":{\"Path\":\"a\",\"Content\":\"x\"}},\"B\":{\"Type\":\"Local::Records::Record\",\"DependsOn\":\"A\",\"Properties\":{\"Key\":\"b\",\"Value\":\"u\"}}}}")
+first =
+    source_of (codes "s") (codes "one")
+    (codes "{\"Resources\":{\"A\":{\"Type\":\"Local::Files::File\",\"DeletionPolicy\":\"Retain\",\"Properties\":{"
+    ++ codes "\"Path\":\"a\",\"Content\":\"x\"}},\"B\":{\"Type\":\"Local::Records::Record\",\"DependsOn\":\"A\","
+    ++ codes "\"Properties\":{\"Key\":\"b\",\"Value\":\"u\"}}}}")
 
 abbrev pub opened : Entry
 opened = entry.Opened 1 (lane_pair (codes "f1") file ∷ lane_pair (codes "r1") note ∷ [])
@@ -60,8 +64,12 @@ Legal = IsLegal schemas empty_world run
 
 -- what the report shows in the end
 abbrev pub Shows : Type 0
-Shows = report_of (codes "s") (fold_of empty_world run) ≡ record { status = status.DeleteComplete; number = 1; resources = []; made = []; leftovers = (record { path = (codes "A"); physical = (codes "f1:1"); why = why.Retained } ∷ []) }
+Shows =
+    report_of (codes "s") (fold_of empty_world run)
+    ≡ record (bare status.DeleteComplete 1) { leftovers = record { path = (codes "A"); physical = (codes "f1:1"); why = why.Retained } ∷ [] }
 
 -- What is needed may not leave the stack before what needs it.
 abbrev pub KeptTooEarly : Type 0
-KeptTooEarly = IsRefusedAfter (opened ∷ begun ∷ intended_a ∷ made_a ∷ intended_b ∷ made_b ∷ created ∷ deleting ∷ []) (entry.Kept 2 (codes "A") (codes "f1:1") why.Retained)
+KeptTooEarly =
+    IsRefusedAfter (opened ∷ begun ∷ intended_a ∷ made_a ∷ intended_b ∷ made_b ∷ created ∷ deleting ∷ [])
+    (entry.Kept 2 (codes "A") (codes "f1:1") why.Retained)

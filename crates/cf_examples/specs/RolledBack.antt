@@ -1,5 +1,5 @@
 -- A creation is refused at its second resource, and the first one is deleted.
-use Rattle.std.specs.Prelude.{◌≡◌, List, [], ◌∷◌, codes, Some}
+use Rattle.std.specs.Prelude.{◌≡◌, List, [], ◌∷◌, codes, Some, ◌++◌}
 use Rattle.cf_tree.specs.declared.code.Code.TheVariants as code
 use Rattle.cf_tree.specs.declared.request.Request.TheVariants as request
 use Rattle.cf_tree.specs.declared.source.Source.{Source}
@@ -13,10 +13,13 @@ use Rattle.cf_entry.specs.declared.turn.Phase.TheVariants as phase
 use Rattle.cf_entry.specs.declared.turn.Reason.TheVariants as reason
 use Rattle.cf_stacks.specs.Fold.{empty_world, fold_of}
 use Rattle.cf_plan.specs.Follow.{IsLegal}
-use Rattle.cf_examples.specs.Given.{file, note, file_props, file_attrs, note_props, schemas, source_of, lane_pair, report_of}
+use Rattle.cf_examples.specs.Given.{file, note, file_props, file_attrs, note_props, schemas, source_of, lane_pair, report_of, bare}
 
 abbrev pub first : Source
-first = source_of (codes "s") (codes "one") (codes "{\"Resources\":{\"A\":{\"Type\":\"Local::Files::File\",\"Properties\":{\"Path\":\"a\",\"Content\":\"x\"}},\"B\":{\"Type\":\"Local::Records::Record\",\"DependsOn\":\"A\",\"Properties\":{\"Key\":\"b\",\"Value\":\"u\"}}}}")
+first =
+    source_of (codes "s") (codes "one")
+    (codes "{\"Resources\":{\"A\":{\"Type\":\"Local::Files::File\",\"Properties\":{\"Path\":\"a\",\"Content\":\"x\"}},"
+    ++ codes "\"B\":{\"Type\":\"Local::Records::Record\",\"DependsOn\":\"A\",\"Properties\":{\"Key\":\"b\",\"Value\":\"u\"}}}}")
 
 abbrev pub opened : Entry
 opened = entry.Opened 1 (lane_pair (codes "f1") file ∷ lane_pair (codes "r1") note ∷ [])
@@ -57,4 +60,4 @@ Legal = IsLegal schemas empty_world run
 
 -- what the report shows in the end
 abbrev pub Shows : Type 0
-Shows = report_of (codes "s") (fold_of empty_world run) ≡ record { status = status.RollbackComplete; number = 1; resources = []; made = []; leftovers = [] }
+Shows = report_of (codes "s") (fold_of empty_world run) ≡ bare status.RollbackComplete 1

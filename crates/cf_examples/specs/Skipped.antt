@@ -1,7 +1,10 @@
 -- An update breaks off each time that it is called: the rollback fails, and a continued one skips it.
-use Rattle.std.specs.Prelude.{◌≡◌, List, [], ◌∷◌, codes, Some, None, true, false}
+use Rattle.std.specs.Prelude.{◌≡◌, List, [], ◌∷◌, ◌++◌, codes, Some, None, true, false}
 use Rattle.cf_tree.specs.declared.request.Request.TheVariants as request
 use Rattle.cf_tree.specs.declared.source.Source.{Source}
+use Rattle.cf_tree.specs.declared.row.Row.{Row}
+use Rattle.cf_tree.specs.declared.row.Action.TheVariants as action
+use Rattle.cf_tree.specs.declared.row.Replacement.TheVariants as replacement
 use Rattle.cf_entry.specs.declared.entry.Entry.{Entry}
 use Rattle.cf_entry.specs.declared.entry.Entry.TheVariants as entry
 use Rattle.cf_entry.specs.declared.entry.Begun.TheVariants as begin
@@ -13,13 +16,17 @@ use Rattle.cf_entry.specs.declared.turn.Reason.TheVariants as reason
 use Rattle.cf_stacks.specs.declared.held.HeldStatus.TheVariants as held
 use Rattle.cf_stacks.specs.Fold.{empty_world, fold_of}
 use Rattle.cf_plan.specs.Follow.{IsLegal}
-use Rattle.cf_examples.specs.Given.{file, file_props, file_attrs, schemas, source_of, lane_pair, report_of, IsRefusedAfter}
+use Rattle.cf_examples.specs.Given.{file, file_props, file_attrs, schemas, source_of, lane_pair, report_of, bare, IsRefusedAfter}
 
 abbrev pub first : Source
-first = source_of (codes "s") (codes "one") (codes "{\"Resources\":{\"A\":{\"Type\":\"Local::Files::File\",\"Properties\":{\"Path\":\"a\",\"Content\":\"x\"}}}}")
+first =
+    source_of (codes "s") (codes "one")
+    (codes "{\"Resources\":{\"A\":{\"Type\":\"Local::Files::File\",\"Properties\":{\"Path\":\"a\",\"Content\":\"x\"}}}}")
 
 abbrev pub second : Source
-second = source_of (codes "s") (codes "two") (codes "{\"Resources\":{\"A\":{\"Type\":\"Local::Files::File\",\"Properties\":{\"Path\":\"a\",\"Content\":\"y\"}}}}")
+second =
+    source_of (codes "s") (codes "two")
+    (codes "{\"Resources\":{\"A\":{\"Type\":\"Local::Files::File\",\"Properties\":{\"Path\":\"a\",\"Content\":\"y\"}}}}")
 
 abbrev pub opened : Entry
 opened = entry.Opened 1 (lane_pair (codes "f1") file ∷ [])
@@ -79,20 +86,70 @@ abbrev pub rolled_back : Entry
 rolled_back = entry.Done 3 status.UpdateRollbackComplete []
 
 abbrev pub run : List Entry
-run = opened ∷ begun ∷ intended ∷ made ∷ created ∷ updating ∷ intended_change ∷ broken_once ∷ broken_twice ∷ broken_thrice ∷ turned ∷ broken_back_once ∷ broken_back_twice ∷ broken_back_thrice ∷ failed ∷ opened_again ∷ continued ∷ cleaning ∷ rolled_back ∷ []
+run =
+    opened ∷ begun ∷ intended ∷ made ∷ created ∷ updating ∷ intended_change ∷ broken_once ∷ broken_twice ∷ broken_thrice ∷ turned
+    ∷ broken_back_once ∷ broken_back_twice ∷ broken_back_thrice ∷ failed ∷ opened_again ∷ continued ∷ cleaning ∷ rolled_back ∷ []
 
 -- each entry may follow where it stands
 abbrev pub Legal : Type 0
 Legal = IsLegal schemas empty_world run
 
--- what the report shows there
+-- what the report shows where the rollback has failed
+abbrev pub until_failed : List Entry
+until_failed =
+    opened ∷ begun ∷ intended ∷ made ∷ created ∷ updating ∷ intended_change ∷ broken_once ∷ broken_twice ∷ broken_thrice ∷ turned
+    ∷ broken_back_once ∷ broken_back_twice ∷ broken_back_thrice ∷ failed ∷ []
+
 abbrev pub Fails : Type 0
-Fails = report_of (codes "s") (fold_of empty_world (opened ∷ begun ∷ intended ∷ made ∷ created ∷ updating ∷ intended_change ∷ broken_once ∷ broken_twice ∷ broken_thrice ∷ turned ∷ broken_back_once ∷ broken_back_twice ∷ broken_back_thrice ∷ failed ∷ [])) ≡ record { status = status.UpdateRollbackFailed; number = 1; resources = (record { path = (codes "A"); kind = file; physical = (codes "f1:1"); status = held.UpdateFailed; unsure = false; props = (file_props (codes "a") (codes "x")) } ∷ []); made = []; leftovers = [] }
+Fails =
+    report_of (codes "s") (fold_of empty_world until_failed)
+    ≡ record (bare status.UpdateRollbackFailed 1) {
+      resources = record {
+        path = (codes "A");
+        kind = file;
+        physical = (codes "f1:1");
+        status = held.UpdateFailed;
+        unsure = false;
+        props = (file_props (codes "a") (codes "x"));
+      } ∷ [];
+      failed = codes "A" ∷ [];
+    }
 
 -- what the report shows in the end
 abbrev pub Shows : Type 0
-Shows = report_of (codes "s") (fold_of empty_world run) ≡ record { status = status.UpdateRollbackComplete; number = 1; resources = (record { path = (codes "A"); kind = file; physical = (codes "f1:1"); status = held.UpdateComplete; unsure = true; props = (file_props (codes "a") (codes "x")) } ∷ []); made = []; leftovers = [] }
+Shows =
+    report_of (codes "s") (fold_of empty_world run)
+    ≡ record (bare status.UpdateRollbackComplete 1) {
+      resources = record {
+        path = (codes "A");
+        kind = file;
+        physical = (codes "f1:1");
+        status = held.UpdateComplete;
+        unsure = true;
+        props = (file_props (codes "a") (codes "x"));
+      } ∷ [];
+    }
 
 -- Only a path that failed may be skipped.
+abbrev pub until_opened_again : List Entry
+until_opened_again = until_failed ++ opened_again ∷ []
+
 abbrev pub SkipsAnother : Type 0
-SkipsAnother = IsRefusedAfter (opened ∷ begun ∷ intended ∷ made ∷ created ∷ updating ∷ intended_change ∷ broken_once ∷ broken_twice ∷ broken_thrice ∷ turned ∷ broken_back_once ∷ broken_back_twice ∷ broken_back_thrice ∷ failed ∷ []) (entry.Begin 3 (codes "s") (begin.Continue ((codes "B") ∷ [])))
+SkipsAnother = IsRefusedAfter until_opened_again (entry.Begin 3 (codes "s") (begin.Continue (codes "B" ∷ [])))
+
+-- A continued rollback needs an opening behind the end that failed: what the broken call may still do is over only then.
+abbrev pub ContinuedAtOnce : Type 0
+ContinuedAtOnce = IsRefusedAfter until_failed continued
+
+-- A change set with the first template then has a row for the file, which is unsure though nothing of it differs; without the row it is refused.
+abbrev pub rows : List Row
+rows = record { action = action.Modify; path = codes "A"; kind = file; replacement = Some replacement.False; unsure = true; details = [] } ∷ []
+
+abbrev pub reviewed : List Row → Entry
+reviewed rs = entry.ChangeSet 1 (codes "s") first rs false
+
+abbrev pub ReviewIsLegal : Type 0
+ReviewIsLegal = IsLegal schemas empty_world (run ++ reviewed rows ∷ [])
+
+abbrev pub UnsureLeftOut : Type 0
+UnsureLeftOut = IsRefusedAfter run (reviewed [])

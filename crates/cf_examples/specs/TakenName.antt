@@ -1,5 +1,5 @@
 -- A file is moved onto the name of another one: the handler refuses, and the update is taken back.
-use Rattle.std.specs.Prelude.{◌≡◌, List, [], ◌∷◌, codes, Some, None, false}
+use Rattle.std.specs.Prelude.{◌≡◌, List, [], ◌∷◌, codes, Some, None, false, ◌++◌}
 use Rattle.cf_tree.specs.declared.code.Code.TheVariants as code
 use Rattle.cf_tree.specs.declared.request.Request.TheVariants as request
 use Rattle.cf_tree.specs.declared.source.Source.{Source}
@@ -14,13 +14,19 @@ use Rattle.cf_entry.specs.declared.turn.Reason.TheVariants as reason
 use Rattle.cf_stacks.specs.declared.held.HeldStatus.TheVariants as held
 use Rattle.cf_stacks.specs.Fold.{empty_world, fold_of}
 use Rattle.cf_plan.specs.Follow.{IsLegal}
-use Rattle.cf_examples.specs.Given.{file, file_props, file_attrs, schemas, source_of, lane_pair, report_of, IsRefusedAfter}
+use Rattle.cf_examples.specs.Given.{file, file_props, file_attrs, schemas, source_of, lane_pair, report_of, bare, IsRefusedAfter}
 
 abbrev pub first : Source
-first = source_of (codes "two") (codes "one") (codes "{\"Resources\":{\"A\":{\"Type\":\"Local::Files::File\",\"Properties\":{\"Path\":\"a\",\"Content\":\"x\"}},\"B\":{\"Type\":\"Local::Files::File\",\"Properties\":{\"Path\":\"b\",\"Content\":\"y\"}}}}")
+first =
+    source_of (codes "two") (codes "one")
+    (codes "{\"Resources\":{\"A\":{\"Type\":\"Local::Files::File\",\"Properties\":{\"Path\":\"a\",\"Content\":\"x\"}},"
+    ++ codes "\"B\":{\"Type\":\"Local::Files::File\",\"Properties\":{\"Path\":\"b\",\"Content\":\"y\"}}}}")
 
 abbrev pub second : Source
-second = source_of (codes "two") (codes "two") (codes "{\"Resources\":{\"A\":{\"Type\":\"Local::Files::File\",\"Properties\":{\"Path\":\"b\",\"Content\":\"x\"}},\"B\":{\"Type\":\"Local::Files::File\",\"Properties\":{\"Path\":\"b\",\"Content\":\"y\"}}}}")
+second =
+    source_of (codes "two") (codes "two")
+    (codes "{\"Resources\":{\"A\":{\"Type\":\"Local::Files::File\",\"Properties\":{\"Path\":\"b\",\"Content\":\"x\"}},"
+    ++ codes "\"B\":{\"Type\":\"Local::Files::File\",\"Properties\":{\"Path\":\"b\",\"Content\":\"y\"}}}}")
 
 abbrev pub opened : Entry
 opened = entry.Opened 1 (lane_pair (codes "f1") file ∷ [])
@@ -70,8 +76,29 @@ Legal = IsLegal schemas empty_world run
 
 -- what the report shows in the end
 abbrev pub Shows : Type 0
-Shows = report_of (codes "two") (fold_of empty_world run) ≡ record { status = status.UpdateRollbackComplete; number = 1; resources = (record { path = (codes "A"); kind = file; physical = (codes "f1:1"); status = held.CreateComplete; unsure = false; props = (file_props (codes "a") (codes "x")) } ∷ record { path = (codes "B"); kind = file; physical = (codes "f1:2"); status = held.CreateComplete; unsure = false; props = (file_props (codes "b") (codes "y")) } ∷ []); made = []; leftovers = [] }
+Shows =
+    report_of (codes "two") (fold_of empty_world run)
+    ≡ record (bare status.UpdateRollbackComplete 1) {
+      resources = record {
+        path = (codes "A");
+        kind = file;
+        physical = (codes "f1:1");
+        status = held.CreateComplete;
+        unsure = false;
+        props = (file_props (codes "a") (codes "x"));
+      }
+          ∷ record {
+            path = (codes "B");
+            kind = file;
+            physical = (codes "f1:2");
+            status = held.CreateComplete;
+            unsure = false;
+            props = (file_props (codes "b") (codes "y"));
+          } ∷ [];
+    }
 
 -- A rollback does not make an earlier resource anew under another id.
 abbrev pub MadeAnew : Type 0
-MadeAnew = IsRefusedAfter (opened ∷ begun ∷ intended_a ∷ made_a ∷ intended_b ∷ made_b ∷ created ∷ updating ∷ intended_move ∷ refused ∷ turned ∷ []) (entry.Intent 2 4 (codes "f1") (codes "A") (request.Create file (file_props (codes "a") (codes "x"))))
+MadeAnew =
+    IsRefusedAfter (opened ∷ begun ∷ intended_a ∷ made_a ∷ intended_b ∷ made_b ∷ created ∷ updating ∷ intended_move ∷ refused ∷ turned ∷ [])
+    (entry.Intent 2 4 (codes "f1") (codes "A") (request.Create file (file_props (codes "a") (codes "x"))))

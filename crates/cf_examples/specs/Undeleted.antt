@@ -1,5 +1,5 @@
 -- An update leaves a file out, and its deletion is refused three times: it is left over, and the update is complete.
-use Rattle.std.specs.Prelude.{◌≡◌, List, [], ◌∷◌, codes, None, false}
+use Rattle.std.specs.Prelude.{◌≡◌, List, [], ◌∷◌, codes, None, false, ◌++◌}
 use Rattle.cf_tree.specs.declared.code.Code.TheVariants as code
 use Rattle.cf_tree.specs.declared.request.Request.TheVariants as request
 use Rattle.cf_tree.specs.declared.source.Source.{Source}
@@ -13,13 +13,18 @@ use Rattle.cf_entry.specs.declared.turn.Why.TheVariants as why
 use Rattle.cf_stacks.specs.declared.held.HeldStatus.TheVariants as held
 use Rattle.cf_stacks.specs.Fold.{empty_world, fold_of}
 use Rattle.cf_plan.specs.Follow.{IsLegal}
-use Rattle.cf_examples.specs.Given.{file, file_props, file_attrs, schemas, source_of, lane_pair, report_of, IsRefusedAfter}
+use Rattle.cf_examples.specs.Given.{file, file_props, file_attrs, schemas, source_of, lane_pair, report_of, bare, IsRefusedAfter}
 
 abbrev pub first : Source
-first = source_of (codes "s") (codes "one") (codes "{\"Resources\":{\"A\":{\"Type\":\"Local::Files::File\",\"Properties\":{\"Path\":\"a\",\"Content\":\"x\"}},\"B\":{\"Type\":\"Local::Files::File\",\"Properties\":{\"Path\":\"b\",\"Content\":\"y\"}}}}")
+first =
+    source_of (codes "s") (codes "one")
+    (codes "{\"Resources\":{\"A\":{\"Type\":\"Local::Files::File\",\"Properties\":{\"Path\":\"a\",\"Content\":\"x\"}},"
+    ++ codes "\"B\":{\"Type\":\"Local::Files::File\",\"Properties\":{\"Path\":\"b\",\"Content\":\"y\"}}}}")
 
 abbrev pub second : Source
-second = source_of (codes "s") (codes "two") (codes "{\"Resources\":{\"A\":{\"Type\":\"Local::Files::File\",\"Properties\":{\"Path\":\"a\",\"Content\":\"x\"}}}}")
+second =
+    source_of (codes "s") (codes "two")
+    (codes "{\"Resources\":{\"A\":{\"Type\":\"Local::Files::File\",\"Properties\":{\"Path\":\"a\",\"Content\":\"x\"}}}}")
 
 abbrev pub opened : Entry
 opened = entry.Opened 1 (lane_pair (codes "f1") file ∷ [])
@@ -73,7 +78,9 @@ abbrev pub updated : Entry
 updated = entry.Done 2 status.UpdateComplete []
 
 abbrev pub run : List Entry
-run = opened ∷ begun ∷ intended_a ∷ made_a ∷ intended_b ∷ made_b ∷ created ∷ updating ∷ cleaning ∷ intended_once ∷ refused_once ∷ intended_twice ∷ refused_twice ∷ intended_thrice ∷ refused_thrice ∷ kept ∷ updated ∷ []
+run =
+    opened ∷ begun ∷ intended_a ∷ made_a ∷ intended_b ∷ made_b ∷ created ∷ updating ∷ cleaning ∷ intended_once ∷ refused_once
+    ∷ intended_twice ∷ refused_twice ∷ intended_thrice ∷ refused_thrice ∷ kept ∷ updated ∷ []
 
 -- each entry may follow where it stands
 abbrev pub Legal : Type 0
@@ -81,8 +88,22 @@ Legal = IsLegal schemas empty_world run
 
 -- what the report shows in the end
 abbrev pub Shows : Type 0
-Shows = report_of (codes "s") (fold_of empty_world run) ≡ record { status = status.UpdateComplete; number = 1; resources = (record { path = (codes "A"); kind = file; physical = (codes "f1:1"); status = held.CreateComplete; unsure = false; props = (file_props (codes "a") (codes "x")) } ∷ []); made = []; leftovers = (record { path = (codes "B"); physical = (codes "f1:2"); why = why.Failed } ∷ []) }
+Shows =
+    report_of (codes "s") (fold_of empty_world run)
+    ≡ record (bare status.UpdateComplete 1) {
+      resources = record {
+        path = (codes "A");
+        kind = file;
+        physical = (codes "f1:1");
+        status = held.CreateComplete;
+        unsure = false;
+        props = (file_props (codes "a") (codes "x"));
+      } ∷ [];
+      leftovers = record { path = (codes "B"); physical = (codes "f1:2"); why = why.Failed } ∷ [];
+    }
 
 -- It is not left over before the third refusal.
 abbrev pub KeptTooEarly : Type 0
-KeptTooEarly = IsRefusedAfter (opened ∷ begun ∷ intended_a ∷ made_a ∷ intended_b ∷ made_b ∷ created ∷ updating ∷ cleaning ∷ intended_once ∷ refused_once ∷ intended_twice ∷ refused_twice ∷ []) (entry.Kept 2 (codes "B") (codes "f1:2") why.Failed)
+KeptTooEarly =
+    IsRefusedAfter (opened ∷ begun ∷ intended_a ∷ made_a ∷ intended_b ∷ made_b ∷ created ∷ updating ∷ cleaning ∷ intended_once
+    ∷ refused_once ∷ intended_twice ∷ refused_twice ∷ []) (entry.Kept 2 (codes "B") (codes "f1:2") why.Failed)

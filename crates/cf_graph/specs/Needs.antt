@@ -1,7 +1,8 @@
--- What each resource of a template needs, the order of work, and the refusals (User Guide: DependsOn and references; how the order and a cycle are told is this project's own).
+-- What each resource of a template needs, the order of work, and the refusals (User Guide: DependsOn and references; how
+-- the order and a cycle are told is this project's own).
 use Rattle.std.specs.Prelude.{ℕ, zero, suc, Bool, true, false, ◌&&◌, ◌||◌, not, List, [], ◌∷◌, ◌++◌, Option, Some, None, Result, Ok, Err, find, filter, filter_map, flat_map, map, option_map, is_some, length, codes, if◌then◌else◌}
 use Rattle.std.specs.List.{list_any, list_all}
-use Rattle.std.specs.Option.{option_or, option_map_or}
+use Rattle.std.specs.Option.{option_or, option_map_or, unwrap_or}
 use Rattle.std.specs.Str.{bytes_eq}
 use Rattle.cf_tree.specs.Keys.{value_at}
 use Rattle.cf_tree.specs.Named.{found}
@@ -79,7 +80,7 @@ unknown_dependency t = first_in (flat_map (unknown_of t) t.resources)
 
 -- A closed walk along the needs: those of a length that lead from a resource back to the first one, in byte order.
 abbrev pub needed_by : List (List ℕ × List (List ℕ)) → List ℕ → List (List ℕ)
-needed_by all name = option_map_or (λ ns. ns) (value_at name all) []
+needed_by all name = unwrap_or (value_at name all) []
 
 abbrev pub walks : List (List ℕ × List (List ℕ)) → List ℕ → ℕ → List ℕ → List (List (List ℕ))
 walks all start zero name = []
@@ -112,7 +113,8 @@ abbrev pub order_of : List (List ℕ × List (List ℕ)) → Option (List (List 
 order_of all None = Ok (ordered (length all) all [])
 order_of all (Some cycle) = Err (circular cycle)
 
-abbrev pub unless_unknown : Option (List ℕ × List ℕ) → Result (List (List ℕ × List (List ℕ))) Tangle → Result (List (List ℕ × List (List ℕ))) Tangle
+abbrev pub unless_unknown :
+    Option (List ℕ × List ℕ) → Result (List (List ℕ × List (List ℕ))) Tangle → Result (List (List ℕ × List (List ℕ))) Tangle
 unless_unknown None r = r
 unless_unknown (Some u) r = Err (unknown u.0 u.1)
 

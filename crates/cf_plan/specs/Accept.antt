@@ -1,4 +1,6 @@
--- When a source is accepted before anything is called: its texts are templates, its plan has no flaw, its types have lanes, its imports are just those that it uses, no export is taken, and something changes.
+-- When a source is accepted before anything is called: its plan has no flaw, and so each text that the plan meets is a
+-- template; its types have lanes, its imports are just those that it uses, no export is taken, and something changes. Texts
+-- that the plan does not meet are not read.
 use Rattle.std.specs.Prelude.{◌≡◌, ◌≢◌, ℕ, ◌⊎◌, Bool, true, false, ◌&&◌, ◌||◌, not, List, [], Some, IsTrue, filter, map}
 use Rattle.std.specs.List.{list_any, list_all}
 use Rattle.std.specs.Str.{bytes_eq}
@@ -11,23 +13,29 @@ use Rattle.cf_schema.specs.declared.described.Schema.{Schema}
 use Rattle.cf_entry.specs.declared.status.Status.{Status}
 use Rattle.cf_entry.specs.declared.status.Status.TheVariants as status
 use Rattle.cf_stacks.specs.declared.held.Held.{Held}
-use Rattle.cf_stacks.specs.declared.held.Output.{Output}
 use Rattle.cf_stacks.specs.declared.state.StackState.{StackState}
 use Rattle.cf_stacks.specs.declared.state.World.{World}
 use Rattle.cf_graph.specs.Needs.{is_among}
-use Rattle.cf_stacks.specs.Words.{all_differ}
-use Rattle.cf_change.specs.Changes.{HeldAt, HeldOutput, Changes, changes_of, found_of, is_empty}
+use Rattle.cf_stacks.specs.Words.{all_differ, is_pinned}
+use Rattle.cf_change.specs.Changes.{HeldAt, Changes, changes_of, found_of, is_empty}
 use Rattle.cf_desired.specs.Plan.{Seen, plan_of}
 
--- what a stack holds, as a change set compares it
+-- What a stack holds, as a change set compares it: the resource of each path, and none that is superseded.
 abbrev pub held_as : Held → HeldAt
-held_as h = record { path = h.path; kind = h.kind; physical = h.physical; props = h.props; attrs = h.attrs; deletion = h.deletion; replace = h.replace; unsure = h.unsure }
-
-abbrev pub output_as : Output → HeldOutput
-output_as o = record { name = o.name; value = o.value; export = o.export }
+held_as h =
+    record {
+      path = h.path;
+      kind = h.kind;
+      physical = h.physical;
+      props = h.props;
+      attrs = h.attrs;
+      deletion = h.deletion;
+      replace = h.replace;
+      unsure = h.unsure;
+    }
 
 abbrev pub held_by : StackState → List HeldAt
-held_by s = map held_as s.held
+held_by s = map held_as (filter (λ h. not h.superseded) s.held)
 
 -- the exports of a stack
 abbrev pub exports_in : List ℕ → World → List Export
@@ -37,7 +45,7 @@ abbrev pub exports_by : List ℕ → World → List (List ℕ × List ℕ)
 exports_by name x = map (λ e. (e.name, e.value)) (exports_in name x)
 
 abbrev pub changes_on : List Schema → List ℕ → World → StackState → Source → Changes
-changes_on schemas name x s source = changes_of schemas (held_by s) (map output_as s.outputs) (exports_by name x) source
+changes_on schemas name x s source = changes_of schemas (held_by s) s.outputs (exports_by name x) source
 
 -- what is seen before anything is called: of each path what its row leaves known
 abbrev pub seen_before : List Schema → StackState → Source → Seen
@@ -56,18 +64,22 @@ without_import name imports = filter (λ i. not (bytes_eq name i.0)) imports
 pub record ImportsWhatItUses (name : List ℕ) (x : World) (source : Source) (seen : Seen) : Type 0 where
   pub are_exports : (n v : List ℕ) → value_at n source.imports ≡ Some v → value_at n (exports_of_others name x) ≡ Some v
   pub enough : plan_of source seen ≡ plan_of (with_imports source (exports_of_others name x)) seen
-  pub all_used : (n v : List ℕ) → value_at n source.imports ≡ Some v → plan_of (with_imports source (without_import n source.imports)) seen ≢ plan_of source seen
+  pub all_used :
+      (n v : List ℕ) → value_at n source.imports ≡ Some v
+      → plan_of (with_imports source (without_import n source.imports)) seen ≢ plan_of source seen
 
 -- A name is taken where another stack exports or claims it, or where two outputs export it.
 abbrev pub is_exported_elsewhere : List ℕ → World → List ℕ → Bool
-is_exported_elsewhere name x export = list_any (λ e. bytes_eq export e.name && not (bytes_eq name e.stack)) x.exports || list_any (pins_name export name) x.claims
+is_exported_elsewhere name x export =
+    list_any (λ e. bytes_eq export e.name && not (bytes_eq name e.stack)) x.exports || list_any (pins_name export name) x.claims
 
 abbrev pub are_free : List ℕ → World → List (List ℕ) → Bool
 are_free name x exports = all_differ bytes_eq exports && not (list_any (is_exported_elsewhere name x) exports)
 
--- An export of this stack is taken away where another stack pins it and the new outputs no longer export its name (User Guide, "Get exported outputs from a deployed stack").
+-- An export of this stack is taken away where another stack pins it and the new outputs no longer export its name (User
+-- Guide, "Get exported outputs from a deployed stack").
 abbrev pub is_taken_away : List ℕ → World → List (List ℕ) → Export → Bool
-is_taken_away name x kept e = bytes_eq name e.stack && (list_any (pins_name e.name name) x.pins && not (is_among e.name kept))
+is_taken_away name x kept e = is_pinned name x e && not (is_among e.name kept)
 
 -- a creation, of a stack that is none yet or has a change set alone
 abbrev pub creates_from : Status → Bool

@@ -1,9 +1,10 @@
--- What stands where an operation has ended: the new template is live, the earlier resources are back, nothing is left, or the failed paths are told and blamed (User Guide: stack status codes).
+-- What stands where an operation has ended: the new template is live, the earlier resources are back, nothing is left,
+-- or the failed paths are told and blamed (User Guide: stack status codes).
 use Rattle.std.specs.Prelude.{◌≡◌, ◌≢◌, ℕ, ◌↔◌, false, List, [], Option, Some, map, filter, find}
 use Rattle.cf_tree.specs.Keys.{value_at}
 use Rattle.cf_handler.specs.Lane.{Live}
 use Rattle.cf_handler.specs.Fence.{live_at}
-use Rattle.cf_handler.specs.Move.{IsOfLane, HasRisen}
+use Rattle.cf_handler.specs.Move.{HasRisen}
 use Rattle.cf_export.specs.declared.Export.{Export}
 use Rattle.cf_entry.specs.declared.entry.Entry.{Entry}
 use Rattle.cf_tree.specs.declared.source.Source.{Source}
@@ -14,16 +15,15 @@ use Rattle.cf_desired.specs.Plan.{Seen}
 use Rattle.cf_desired.specs.Whole.{Right, Whole, whole_of}
 use Rattle.cf_stacks.specs.Words.{current_at}
 use Rattle.cf_stacks.specs.Operation.{Call, Answered, call_at, replies_in, is_of, is_success}
-use Rattle.cf_stacks.specs.Fold.{export_by, output_from, is_right_at}
+use Rattle.cf_stacks.specs.Fold.{export_by, is_right_at}
 use Rattle.cf_plan.specs.Accept.{exports_in}
 use Rattle.cf_plan.specs.Forward.{In}
-use Rattle.cf_plan.specs.Lanes.{Lane, lane_at}
+use Rattle.cf_plan.specs.Lanes.{Lane, IsHome}
 
 -- what is live of a resource: its lane is the one that its id names
 pub record IsLive (lanes : List Lane) (r : Held) (v : Live) : Type 0 where
   pub lane : Lane
-  pub handed_in : lane_at lane.name lanes ≡ Some lane
-  pub named : IsOfLane lane.name r.physical
+  pub home : IsHome lanes r.physical lane
   pub live : live_at r.physical lane.state ≡ Some v
 
 -- no call is open, and nothing is made and not held
@@ -34,36 +34,47 @@ pub record IsSettled (s : StackState) : Type 0 where
 -- what is seen of each held path: its id, and its attributes as they are live
 abbrev pub Sees : List Lane → StackState → Seen → Type 0
 Sees lanes s seen =
-    (path : List ℕ) (r : Held) → current_at path s.held ≡ Some r → (v : Live) × IsLive lanes r v × (value_at path seen ≡ Some (record { physical = Some r.physical; attrs = Some v.attrs }))
+    (path : List ℕ) (r : Held) → current_at path s.held ≡ Some r → (v : Live) × IsLive lanes r v
+    × (value_at path seen ≡ Some (record { physical = Some r.physical; attrs = Some v.attrs }))
 
 -- what the whole map wants of a path
 abbrev pub right_at : List ℕ → Whole → Option Right
 right_at path whole = find (is_right_at path) whole.wanted
 
--- The new template is live: over what is seen its evaluation is a whole map, of just the held paths, and each resource is live with exactly its type and properties.
+-- The new template is live: over what is seen its evaluation is a whole map, of just the held paths, and each resource
+-- is live with exactly its type and properties.
 pub record IsWholeLive (lanes : List Lane) (s : StackState) (whole : Whole) : Type 0 where
   pub paths : (path : List ℕ) → ((w : Right) × (right_at path whole ≡ Some w)) ↔ ((r : Held) × (current_at path s.held ≡ Some r))
-  pub live : (path : List ℕ) (w : Right) (r : Held) → right_at path whole ≡ Some w → current_at path s.held ≡ Some r → (v : Live) × IsLive lanes r v × (v.kind ≡ w.kind) × (v.props ≡ w.props)
+  pub live :
+      (path : List ℕ) (w : Right) (r : Held) → right_at path whole ≡ Some w → current_at path s.held ≡ Some r → (v : Live)
+      × IsLive lanes r v × (v.kind ≡ w.kind) × (v.props ≡ w.props)
   pub nothing_else : (r : Held) → In r s.held → current_at r.path s.held ≡ Some r
-  pub outputs : s.outputs ≡ map output_from whole.outputs
+  pub outputs : s.outputs ≡ whole.outputs
 
 pub record IsComplete (name : List ℕ) (x : World) (s : StackState) (lanes : List Lane) : Type 0 where
   pub settled : IsSettled s
-  pub evaluated : (source : Source) × (seen : Seen) × (whole : Whole) × (s.source ≡ Some source) × Sees lanes s seen × (whole_of source seen ≡ Some whole) × IsWholeLive lanes s whole × ((e : Export) → In e (exports_in name x) ↔ In e (map (export_by name) whole.exports))
+  pub evaluated :
+      (source : Source) × (seen : Seen) × (whole : Whole) × (s.source ≡ Some source) × Sees lanes s seen
+      × (whole_of source seen ≡ Some whole) × IsWholeLive lanes s whole
+      × ((e : Export) → In e (exports_in name x) ↔ In e (map (export_by name) whole.exports))
 
--- The earlier resources are back: the held paths are those from before the operation, each live under its old id and type, and with its old properties unless it is unsure.
+-- The earlier resources are back: the held paths are those from before the operation, each live under its old id and
+-- type, and with its old properties unless it is unsure.
 pub record IsRestored (s : StackState) (lanes : List Lane) : Type 0 where
   pub settled : IsSettled s
   pub held : (b : Held) → In b s.before → (r : Held) × In r s.held × (r.path ≡ b.path) × (r.physical ≡ b.physical) × (r.kind ≡ b.kind)
   pub nothing_else : (r : Held) → In r s.held → (b : Held) × In b s.before × (b.path ≡ r.path) × (b.physical ≡ r.physical)
-  pub live : (b r : Held) → In b s.before → In r s.held → r.physical ≡ b.physical → (v : Live) × IsLive lanes r v × (v.kind ≡ b.kind) × (r.unsure ≡ false → v.props ≡ b.props)
+  pub live :
+      (b r : Held) → In b s.before → In r s.held → r.physical ≡ b.physical → (v : Live) × IsLive lanes r v × (v.kind ≡ b.kind)
+      × (r.unsure ≡ false → v.props ≡ b.props)
 
 -- nothing is held or made, and no call is open
 pub record IsCleared (s : StackState) : Type 0 where
   pub settled : IsSettled s
   pub none_held : s.held ≡ []
 
--- A failed status names a path at least, and each with an outcome of the operation that was refused or broke off, whose handler's count rose.
+-- A failed status names a path at least, and each with an outcome of the operation that was refused or broke off, whose
+-- handler's count rose.
 pub record IsBlamedFor (entries : List Entry) (number : ℕ) (path : List ℕ) : Type 0 where
   pub reply : Answered
   pub call : Call

@@ -1,7 +1,9 @@
--- How a flaw of a template is told (this project's own): its name and its fields in order, texts and lists of texts as compact JSON, numbers in decimal.
+-- How a flaw of a template is told (this project's own): its name and its fields in order, texts and lists of texts as compact
+-- JSON, numbers in decimal.
 use Rattle.std.specs.Prelude.{ℕ, List, [], ◌∷◌, ◌++◌, codes, decimal}
 use Rattle.std.specs.List.{join_by}
 use Rattle.json.specs.Print.{quoted}
+use Rattle.cf_funcs.specs.Pieces.{joined}
 use Rattle.cf_eval.specs.declared.fault.EvalWhy.{EvalWhy}
 use Rattle.cf_eval.specs.declared.fault.EvalWhy.TheVariants as why
 use Rattle.cf_graph.specs.Needs.{Tangle, unknown, circular}
@@ -22,7 +24,7 @@ why_name why.TooBig = codes "TooBig"
 
 -- words with a space between any two
 abbrev pub told : List (List ℕ) → List ℕ
-told words = join_by (λ w. w) (codes " ") words
+told words = joined (codes " ") words
 
 abbrev pub names_text : List (List ℕ) → List ℕ
 names_text names = codes "[" ++ join_by quoted (codes ",") names ++ codes "]"

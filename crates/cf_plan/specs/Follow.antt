@@ -1,13 +1,11 @@
 -- Which entry may follow a world (this project's own; what each phase does is that of the User Guide: stack updates, rollbacks and deletions).
 use Rattle.std.specs.Prelude.{◌≡◌, ◌≢◌, ℕ, ◌+◌, ◌==◌, ◌≤◌, ◌⊎◌, ◌↔◌, Bool, true, false, ◌&&◌, ◌||◌, not, List, [], ◌∷◌, Option, Some, None, IsTrue, nat_lt, is_some, filter, find, map, flat_map, length, reverse, MatchBool, if◌then◌else◌}
 use Rattle.std.specs.List.{list_any, list_all}
-use Rattle.std.specs.Option.{option_map_or}
 use Rattle.cf_tree.specs.Datum.{Data}
 use Rattle.std.specs.Str.{bytes_eq}
 use Rattle.cf_tree.specs.declared.request.Request.{Request}
 use Rattle.cf_tree.specs.declared.request.Request.TheVariants as request
 use Rattle.cf_tree.specs.declared.code.Code.TheVariants as code
-use Rattle.cf_export.specs.Export.{pins_name}
 use Rattle.cf_handler.specs.Move.{HasRisen, IsOfLane}
 use Rattle.cf_entry.specs.Entry.{texts_ascend}
 use Rattle.cf_entry.specs.declared.entry.Entry.{Entry}
@@ -35,19 +33,18 @@ use Rattle.cf_stacks.specs.declared.state.StackState.{StackState}
 use Rattle.cf_stacks.specs.declared.state.World.{World}
 use Rattle.cf_stacks.specs.Status.{Stage, Forward, Clean, Back, BackClean, Gone, stage_of}
 use Rattle.cf_graph.specs.Needs.{is_among}
-use Rattle.cf_stacks.specs.Words.{stack_at, stack_of_operation, current_at, resources_of, is_update, is_create_at, pending_of}
+use Rattle.cf_stacks.specs.Words.{stack_at, stack_of_operation, current_at, resources_of, is_update, is_create_at, pending_of, is_pinned}
 use Rattle.cf_stacks.specs.Fold.{known_stack, source_for, world_after}
 use Rattle.cf_stacks.specs.Operation.{Call, Answered, after_last, calls_in, replies_in, own_of, doubts_of, is_new, deletions_of, refusals_of, deletes, updates, was_updated, was_restored, was_skipped, was_refused, is_refusal, call_of, named_paths, rollback_of}
 use Rattle.cf_plan.specs.Between.{is_needed_by_held, is_needed_by_made, is_needed_by_create}
-use Rattle.cf_plan.specs.Forward.{In, IsDone, IsReady, AllDone, HasFailed, IsCause, Known, evaluated_at, was_answered_at}
+use Rattle.cf_plan.specs.Forward.{In, IsDone, IsReady, AllDone, HasFailed, IsCause, Known, evaluated_at, was_answered_at, difference_to}
 use Rattle.cf_schema.specs.declared.described.Schema.{Schema}
-use Rattle.cf_schema.specs.declared.changed.Difference.{Difference}
-use Rattle.cf_schema.specs.declared.changed.Difference.TheVariants.{Same, Update, MayReplace, Replace as ToReplace}
-use Rattle.cf_schema.specs.Change.{difference_of}
-use Rattle.cf_change.specs.Changes.{schema_of, is_empty}
+use Rattle.cf_schema.specs.declared.changed.Difference.TheVariants.{Same, MayReplace, Replace as ToReplace}
+use Rattle.cf_change.specs.Changes.{is_empty}
 use Rattle.cf_plan.specs.Accept.{IsAccepted, IsReviewed, creates_from}
 
--- Policies (template reference, DeletionPolicy and UpdateReplacePolicy): a rollback deletes what the operation made unless it is Retain; every other deletion keeps RetainExceptOnCreate too.
+-- Policies (template reference, DeletionPolicy and UpdateReplacePolicy): a rollback deletes what the operation made
+-- unless it is Retain; every other deletion keeps RetainExceptOnCreate too.
 abbrev pub is_retained : Deletion → Bool
 is_retained deletion.Retain = true
 is_retained _ = false
@@ -73,9 +70,10 @@ keeps Back s r = is_retained r.deletion
 keeps BackClean s r = is_retained r.deletion
 keeps Gone s r = is_retained_or_excepted r.deletion || is_among r.path (named_paths s)
 
--- What a phase deletes, but for what keeps it, for lanes that are out and for open tokens. Only the cleanups delete predecessors, removed resources and what an update made.
-abbrev pub has_no_need : StackState → Held → Bool
-has_no_need s r = not (is_needed_by_made s r || is_needed_by_create s r)
+-- What a phase deletes, but for what keeps it, for lanes that are out and for open tokens. Of an update, only the cleanups
+-- delete predecessors, removed resources and what it made; a deletion of the stack deletes all.
+abbrev pub is_not_needed : StackState → Held → Bool
+is_not_needed s r = not (is_needed_by_made s r || is_needed_by_create s r)
 
 abbrev pub is_untried : StackState → Held → Bool
 is_untried s r = length (deletions_of r.physical s) == 0
@@ -86,14 +84,11 @@ is_tried_less s r = nat_lt (length (deletions_of r.physical s)) 3
 abbrev pub MayDelete : Stage → StackState → Held → Type 0
 MayDelete Forward s r = ⊥
 MayDelete Clean s r = In r s.held × (r.superseded ≡ true) × IsTrue (is_tried_less s r)
-MayDelete Back s r = (s.status ≡ status.RollbackInProgress) × In r s.made × IsTrue (has_no_need s r) × IsTrue (is_untried s r)
+MayDelete Back s r = (s.status ≡ status.RollbackInProgress) × In r s.made × IsTrue (is_not_needed s r) × IsTrue (is_untried s r)
 MayDelete BackClean s r = In r s.made × IsTrue (is_tried_less s r)
-MayDelete Gone s r = In r (resources_of s) × IsTrue (has_no_need s r) × (is_needed_by_held s r ≡ false) × IsTrue (is_untried s r)
+MayDelete Gone s r = In r (resources_of s) × IsTrue (is_not_needed s r) × (is_needed_by_held s r ≡ false) × IsTrue (is_untried s r)
 
 -- What the forward phase makes and changes: a create-only property that differs wants a new resource, as does a conditional one where the handler says so.
-abbrev pub difference_to : List Schema → Held → List (List ℕ × Data) → Difference
-difference_to schemas h props = option_map_or (λ schema. difference_of schema h.props props) (schema_of h.kind schemas) Update
-
 abbrev pub is_not_updatable : Reply → Bool
 is_not_updatable (reply.Failed code.NotUpdatable) = true
 is_not_updatable _ = false
@@ -107,7 +102,8 @@ was_not_updatable s h = list_any (λ c. updates h.physical c.request && answers_
 
 abbrev pub WantsNew : List Schema → StackState → Option Held → List (List ℕ × Data) → Type 0
 WantsNew schemas s None props = Unit {0}
-WantsNew schemas s (Some h) props = (difference_to schemas h props ≡ ToReplace) ⊎ ((difference_to schemas h props ≡ MayReplace) × IsTrue (was_not_updatable s h))
+WantsNew schemas s (Some h) props =
+    (difference_to schemas h props ≡ ToReplace) ⊎ ((difference_to schemas h props ≡ MayReplace) × IsTrue (was_not_updatable s h))
 
 abbrev pub WantsUpdate : List Schema → StackState → Held → List (List ℕ × Data) → Type 0
 WantsUpdate schemas s h props = (difference_to schemas h props ≢ ToReplace) × ((h.unsure ≡ true) ⊎ (difference_to schemas h props ≢ Same))
@@ -115,7 +111,8 @@ WantsUpdate schemas s h props = (difference_to schemas h props ≢ ToReplace) ×
 abbrev pub IntendsForward : List Schema → StackState → List ℕ → Request → Type 0
 IntendsForward schemas s path (request.Create k props) = (evaluated_at path s ≡ Known k props) × WantsNew schemas s (current_at path s.held) props
 IntendsForward schemas s path (request.Update physical props) =
-    (h : Held) × (current_at path s.held ≡ Some h) × (physical ≡ h.physical) × (evaluated_at path s ≡ Known h.kind props) × WantsUpdate schemas s h props × (was_answered_at path s ≡ false)
+    (h : Held) × (current_at path s.held ≡ Some h) × (physical ≡ h.physical) × (evaluated_at path s ≡ Known h.kind props)
+    × WantsUpdate schemas s h props × (was_answered_at path s ≡ false)
 IntendsForward schemas s path (request.Delete physical) = ⊥
 
 -- What the rollback of an update gives back: a resource that was updated in place gets its properties of before.
@@ -127,11 +124,13 @@ IsToRestore s b = In b s.before × IsTrue (was_updated b.physical s) × (was_res
 
 abbrev pub IntendsRestore : StackState → List ℕ → Request → Type 0
 IntendsRestore s path (request.Update physical props) =
-    (s.status ≡ status.UpdateRollbackInProgress) × (b : Held) × IsToRestore s b × (path ≡ b.path) × (physical ≡ b.physical) × (props ≡ b.props) × (has_restore physical s ≡ false)
+    (s.status ≡ status.UpdateRollbackInProgress) × (b : Held) × IsToRestore s b × (path ≡ b.path) × (physical ≡ b.physical)
+    × (props ≡ b.props) × (has_restore physical s ≡ false)
 IntendsRestore s path _ = ⊥
 
 abbrev pub IntendsDeletion : Stage → StackState → List ℕ → Request → Type 0
-IntendsDeletion stage s path (request.Delete physical) = (r : Held) × MayDelete stage s r × (keeps stage s r ≡ false) × (path ≡ r.path) × (physical ≡ r.physical)
+IntendsDeletion stage s path (request.Delete physical) =
+    (r : Held) × MayDelete stage s r × (keeps stage s r ≡ false) × (path ≡ r.path) × (physical ≡ r.physical)
 IntendsDeletion stage s path _ = ⊥
 
 abbrev pub IntendsIn : Stage → List Schema → List ℕ → World → StackState → List ℕ → Request → Type 0
@@ -188,7 +187,8 @@ IsCounted (reply.Failed c) before after = (before ≤ after) × HasRisen before 
 IsCounted reply.Doubt before after = (before ≤ after) × HasRisen before after
 
 -- An Intent of the operation.
-pub record MayIntend (schemas : List Schema) (name : List ℕ) (x : World) (out : List ℕ) (s : StackState) (stage : Stage) (token : ℕ) (lane path : List ℕ) (r : Request) : Type 0 where
+pub record MayIntend (schemas : List Schema) (name : List ℕ) (x : World) (out : List ℕ) (s : StackState) (stage : Stage) (token : ℕ)
+    (lane path : List ℕ) (r : Request) : Type 0 where
   pub next : token ≡ x.token + 1
   pub free : is_free path s ≡ true
   pub home : is_lane_out out x lane ≡ false
@@ -201,30 +201,29 @@ abbrev pub is_to_retain : Stage → StackState → List ℕ → Bool
 is_to_retain Gone s path = is_among path (named_paths s)
 is_to_retain _ s path = false
 
-abbrev pub is_cleanup : Stage → Bool
-is_cleanup Clean = true
-is_cleanup BackClean = true
-is_cleanup _ = false
-
-abbrev pub is_cleaned : Stage → StackState → List Held
-is_cleaned Clean s = filter (λ r. r.superseded) s.held
-is_cleaned BackClean s = s.made
-is_cleaned _ s = []
+-- what a cleanup deletes or keeps; no other phase cleans up
+abbrev pub cleaned_in : Stage → StackState → List Held
+cleaned_in Clean s = filter (λ r. r.superseded) s.held
+cleaned_in BackClean s = s.made
+cleaned_in _ s = []
 
 abbrev pub KeepsRetained : Stage → List ℕ → StackState → List ℕ → List ℕ → Type 0
 KeepsRetained stage out s path physical =
-    ((r : Held) × MayDelete stage s r × (waits_for_repeats stage out s ≡ false) × (keeps stage s r ≡ true) × (path ≡ r.path) × (physical ≡ r.physical) × ((is_free path s ≡ true) ⊎ (is_to_retain stage s path ≡ true))) ⊎ ((stage ≡ Gone) × (physical ≡ []) × (is_among path (named_paths s) ≡ true) × IsTrue (list_any (is_create_at path) s.tokens))
+    ((r : Held) × MayDelete stage s r × (waits_for_repeats stage out s ≡ false) × (keeps stage s r ≡ true) × (path ≡ r.path)
+    × (physical ≡ r.physical) × ((is_free path s ≡ true) ⊎ (is_to_retain stage s path ≡ true)))
+    ⊎ ((stage ≡ Gone) × (physical ≡ []) × (is_among path (named_paths s) ≡ true) × IsTrue (list_any (is_create_at path) s.tokens))
 
 abbrev pub is_deletion_of : List ℕ → Pending → Bool
 is_deletion_of physical p = deletes physical p.request
 
 abbrev pub KeepsUndeleted : Stage → StackState → List ℕ → List ℕ → Type 0
-KeepsUndeleted stage s path physical = (r : Held) × IsTrue (is_cleanup stage) × In r (is_cleaned stage s) × (path ≡ r.path) × (physical ≡ r.physical)
+KeepsUndeleted stage s path physical = (r : Held) × In r (cleaned_in stage s) × (path ≡ r.path) × (physical ≡ r.physical)
 
 abbrev pub MayKeep : Stage → List ℕ → StackState → List ℕ → List ℕ → Why → Type 0
 MayKeep stage out s path physical why.Retained = KeepsRetained stage out s path physical
 MayKeep stage out s path physical why.Failed = KeepsUndeleted stage s path physical × (3 ≤ refusals_of physical s)
-MayKeep stage out s path physical why.Doubt = KeepsUndeleted stage s path physical × (p : Pending) × In p s.tokens × IsTrue (is_deletion_of physical p) × (3 ≤ doubts_of p.token s)
+MayKeep stage out s path physical why.Doubt =
+    KeepsUndeleted stage s path physical × (p : Pending) × In p s.tokens × IsTrue (is_deletion_of physical p) × (3 ≤ doubts_of p.token s)
 
 -- A later phase begins.
 abbrev pub has_refused_restore : StackState → Bool
@@ -246,7 +245,8 @@ MayStep schemas name x out s stage _ = ⊥
 
 -- nothing more can come, even if no lease were out
 abbrev pub IsAtEnd : List Schema → List ℕ → World → StackState → Stage → Type 0
-IsAtEnd schemas name x s stage = ((e : Entry) → MayStep schemas name x [] s stage e → ⊥) × ((p : Pending) → MayRepeat schemas name x [] s stage p → ⊥)
+IsAtEnd schemas name x s stage =
+    ((e : Entry) → MayStep schemas name x [] s stage e → ⊥) × ((p : Pending) → MayRepeat schemas name x [] s stage p → ⊥)
 
 -- The status in which an operation ends.
 abbrev pub is_cleared : StackState → Bool
@@ -341,7 +341,7 @@ begins_from (begin.Continue paths) s = continues_from s
 
 -- a deletion is refused where another stack pins an export of this one
 abbrev pub is_pinned_export : List ℕ → World → Bool
-is_pinned_export name x = list_any (λ e. bytes_eq name e.stack && list_any (pins_name e.name name) x.pins) x.exports
+is_pinned_export name x = list_any (is_pinned name x) x.exports
 
 abbrev pub are_among : List (List ℕ) → List (List ℕ) → Bool
 are_among paths all = list_all (λ p. is_among p all) paths
@@ -357,7 +357,8 @@ BeginsBy schemas name x number s (begin.Delete paths) = IsTrue (texts_ascend pat
 BeginsBy schemas name x number s (begin.Continue paths) = IsTrue (texts_ascend paths) × IsTrue (are_among paths (failed_of s)) × IsTrue (is_opened_since s)
 
 abbrev pub MayBegin : List Schema → World → ℕ → List ℕ → Begun → Type 0
-MayBegin schemas x number name k = (number ≡ x.operation + 1) × IsTrue (begins_from k (known_stack name x).status) × BeginsBy schemas name x number (known_stack name x) k
+MayBegin schemas x number name k =
+    (number ≡ x.operation + 1) × IsTrue (begins_from k (known_stack name x).status) × BeginsBy schemas name x number (known_stack name x) k
 
 -- the number of a set's source: that of the creating operation, or the next one where the set would create its stack
 abbrev pub set_number : World → StackState → ℕ
@@ -365,7 +366,8 @@ set_number x s = if creates_from s.status then x.operation + 1 else s.number
 
 abbrev pub MayReview : List Schema → World → ℕ → List ℕ → Source → List Row → Bool → Type 0
 MayReview schemas x number name source rows outputs =
-    (number ≡ x.set + 1) × IsTrue (creates_from (known_stack name x).status || updates_from (known_stack name x).status) × IsReviewed schemas name x (known_stack name x) (source_for name (set_number x (known_stack name x)) source) rows outputs
+    (number ≡ x.set + 1) × IsTrue (creates_from (known_stack name x).status || updates_from (known_stack name x).status)
+    × IsReviewed schemas name x (known_stack name x) (source_for name (set_number x (known_stack name x)) source) rows outputs
 
 -- An opening: no lease is out, and each resource and each open token has its lane among those named.
 abbrev pub IsNamedLane : List (List ℕ × List ℕ) → List ℕ → List ℕ → Type 0
@@ -380,10 +382,12 @@ IsLaneFor p l = (l.0 ≡ p.lane) × IsKindFor p.request l.1
 
 abbrev pub HasLanes : List (List ℕ × List ℕ) → StackState → Type 0
 HasLanes lanes s =
-    ((r : Held) → In r (resources_of s) → IsNamedLane lanes r.physical r.kind) × ((p : Pending) → In p s.tokens → (l : List ℕ × List ℕ) × In l lanes × IsLaneFor p l)
+    ((r : Held) → In r (resources_of s) → IsNamedLane lanes r.physical r.kind)
+    × ((p : Pending) → In p s.tokens → (l : List ℕ × List ℕ) × In l lanes × IsLaneFor p l)
 
 abbrev pub MayOpen : World → List ℕ → ℕ → List (List ℕ × List ℕ) → Type 0
-MayOpen x out epoch lanes = (out ≡ []) × (epoch ≡ x.epoch + 1) × ((name : List ℕ) (s : StackState) → stack_at name x ≡ Some s → HasLanes lanes s)
+MayOpen x out epoch lanes =
+    (out ≡ []) × (epoch ≡ x.epoch + 1) × ((name : List ℕ) (s : StackState) → stack_at name x ≡ Some s → HasLanes lanes s)
 
 -- no lease of the stack is out
 abbrev pub none_out : List ℕ → StackState → Bool
@@ -391,20 +395,21 @@ none_out out s = is_empty (calls_out out s)
 
 -- An entry of the operation in progress on a stack.
 abbrev pub MayFollowIn : List Schema → List ℕ → World → List ℕ → StackState → Stage → Entry → Type 0
-MayFollowIn schemas name x out s stage (entry.Intent number token lane path r) = MayIntend schemas name x out s stage token lane path r
-MayFollowIn schemas name x out s stage (entry.Outcome number token answer before after) = IsTrue (is_out out token) × IsTrue (is_some (pending_of token s)) × IsCounted answer before after
-MayFollowIn schemas name x out s stage (entry.Kept number path physical w) = MayKeep stage out s path physical w
-MayFollowIn schemas name x out s stage (entry.Phase number p c) = IsTrue (none_out out s) × MayTurn schemas name x s p c
+MayFollowIn schemas name x out s stage (entry.Outcome number token answer before after) =
+    IsTrue (is_out out token) × IsTrue (is_some (pending_of token s)) × IsCounted answer before after
+MayFollowIn schemas name x out s stage (entry.Phase number p c) = IsTrue (none_out out s) × MayStep schemas name x out s stage (entry.Phase number p c)
 MayFollowIn schemas name x out s stage (entry.Done number state failed) =
     IsTrue (none_out out s) × IsAtEnd schemas name x s stage × EndsAs schemas name x s s.status state × AreFailed s state failed
-MayFollowIn schemas name x out s stage _ = ⊥
+MayFollowIn schemas name x out s stage e = MayStep schemas name x out s stage e
 
 -- the entry is of the operation of this number, which is in progress
 abbrev pub MayFollowOn : List Schema → ℕ → World → List ℕ → Entry → Type 0
 MayFollowOn schemas number x out e =
-    (name : List ℕ) × (s : StackState) × (stage : Stage) × (stack_of_operation number x ≡ Some (name, s)) × (stage_of s.status ≡ Some stage) × MayFollowIn schemas name x out s stage e
+    (name : List ℕ) × (s : StackState) × (stage : Stage) × (stack_of_operation number x ≡ Some (name, s)) × (stage_of s.status ≡ Some stage)
+    × MayFollowIn schemas name x out s stage e
 
--- Entry e may follow the world x while the leases of these tokens are out. Every entry but an opening, a beginning and a change set carries the number of the operation in progress of its stack.
+-- Entry e may follow the world x while the leases of these tokens are out. Every entry but an opening, a beginning and
+-- a change set carries the number of the operation in progress of its stack.
 abbrev pub MayFollow : List Schema → World → List ℕ → Entry → Type 0
 MayFollow schemas x out (entry.Opened epoch lanes) = MayOpen x out epoch lanes
 MayFollow schemas x out (entry.Begin number name k) = MayBegin schemas x number name k

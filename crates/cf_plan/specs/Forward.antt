@@ -1,5 +1,5 @@
 -- The forward phase: which paths are done and which are ready, when it has failed, and why.
-use Rattle.std.specs.Prelude.{◌≡◌, ℕ, ◌==◌, ◌⊎◌, Bool, true, false, ◌&&◌, not, List, [], ◌∷◌, ◌++◌, Option, Some, None, IsTrue, count_by, filter, find, map, option_map, if◌then◌else◌}
+use Rattle.std.specs.Prelude.{◌≡◌, ℕ, ◌==◌, ◌⊎◌, Bool, true, false, ◌&&◌, not, List, [], ◌∷◌, ◌++◌, Option, Some, None, IsTrue, filter, find, map, option_map, if◌then◌else◌}
 use Rattle.std.specs.List.{list_any}
 use Rattle.std.specs.Option.{option_or, option_map_or}
 use Rattle.std.specs.Str.{bytes_eq}
@@ -10,7 +10,6 @@ use Rattle.cf_tree.specs.declared.request.Request.TheVariants as request
 use Rattle.cf_tree.specs.declared.code.Code.{Code}
 use Rattle.cf_tree.specs.declared.code.Code.TheVariants as code
 use Rattle.cf_export.specs.declared.Export.{Export}
-use Rattle.cf_export.specs.Export.{pins_name}
 use Rattle.cf_entry.specs.declared.entry.Entry.{Entry}
 use Rattle.cf_entry.specs.declared.entry.Entry.TheVariants as entry
 use Rattle.cf_entry.specs.declared.entry.Reply.TheVariants as reply
@@ -24,17 +23,17 @@ use Rattle.cf_stacks.specs.declared.state.StackState.{StackState}
 use Rattle.cf_stacks.specs.declared.state.World.{World}
 use Rattle.cf_schema.specs.declared.described.Schema.{Schema}
 use Rattle.cf_schema.specs.declared.changed.Difference.{Difference}
-use Rattle.cf_schema.specs.declared.changed.Difference.TheVariants.{MayReplace}
+use Rattle.cf_schema.specs.declared.changed.Difference.TheVariants.{Update, MayReplace}
 use Rattle.cf_schema.specs.Change.{difference_of}
-use Rattle.cf_change.specs.Changes.{schema_of}
+use Rattle.cf_schema.specs.Kinds.{found}
 use Rattle.cf_eval.specs.Outcome.{Outcome, got}
 use Rattle.cf_desired.specs.Flaw.{Flaw}
 use Rattle.cf_desired.specs.Plan.{Seen, Evaluated, flawed, evaluated, Inner, Plan, plan_of, no_plan}
 use Rattle.cf_desired.specs.Whole.{wanted_at, known_props_from}
 use Rattle.cf_graph.specs.Needs.{first_in}
-use Rattle.cf_stacks.specs.Words.{current_at, has_physical, is_update}
+use Rattle.cf_stacks.specs.Words.{current_at, has_physical, is_update, is_pinned}
 use Rattle.cf_stacks.specs.Fold.{seen_in, seen_now}
-use Rattle.cf_stacks.specs.Operation.{Call, calls_in, replies_in, own_of, now_of, forward_of, call_of, succeeded, is_doubt, up_to_last, is_turn_or_opening}
+use Rattle.cf_stacks.specs.Operation.{Call, calls_in, replies_in, own_of, now_of, forward_of, call_of, succeeded, is_doubt, doubts_in, up_to_last, is_turn_or_opening}
 use Rattle.cf_plan.specs.Between.{needs_at}
 use Rattle.cf_plan.specs.FlawText.{flaw_text}
 
@@ -87,11 +86,14 @@ is_answered s c = list_any (λ r. c.token == r.token && not (is_doubt r.answer))
 abbrev pub was_answered_at : List ℕ → StackState → Bool
 was_answered_at path s = list_any (λ c. bytes_eq path c.path && (is_update c.request && is_answered s c)) (calls_in (own_of s))
 
--- a path is done where a resource is made at it, or its update succeeded, or all that it needs are done and what is held is sure and has the evaluated properties
+-- a path is done where a resource is made at it, or its update succeeded, or all that it needs are done and what is
+-- held is sure and has the evaluated properties
 pub data IsDone (s : StackState) : List ℕ → Type 0 where
   is_made : {p : List ℕ} (r : Held) → current_at p s.made ≡ Some r → IsDone s p
   is_updated : {p : List ℕ} → IsTrue (was_updated_at p s) → IsDone s p
-  is_right : {p k : List ℕ} (h : Held) → In p (wanted_paths s) → ((q : List ℕ) → In q (needs_at p s) → IsDone s q) → current_at p s.held ≡ Some h → h.unsure ≡ false → evaluated_at p s ≡ Known k h.props → IsDone s p
+  is_right :
+      {p k : List ℕ} (h : Held) → In p (wanted_paths s) → ((q : List ℕ) → In q (needs_at p s) → IsDone s q) → current_at p s.held ≡ Some h
+      → h.unsure ≡ false → evaluated_at p s ≡ Known k h.props → IsDone s p
 
 -- a path is ready where all that it needs are done
 abbrev pub IsReady : StackState → List ℕ → Type 0
@@ -105,19 +107,16 @@ abbrev pub is_conditional : Difference → Bool
 is_conditional MayReplace = true
 is_conditional _ = false
 
-abbrev pub is_may_replace : Option Schema → Option Held → List (List ℕ × Data) → Bool
-is_may_replace (Some schema) (Some h) props = is_conditional (difference_of schema h.props props)
-is_may_replace _ _ props = false
-
-abbrev pub kind_of_held : Option Held → List ℕ
-kind_of_held None = []
-kind_of_held (Some h) = h.kind
+-- how other properties differ from those that are held, by the schema of the resource's type
+abbrev pub difference_to : List Schema → Held → List (List ℕ × Data) → Difference
+difference_to schemas h props = option_map_or (λ schema. difference_of schema h.props props) (found h.kind schemas) Update
 
 abbrev pub held_before : List ℕ → StackState → Option Held
 held_before physical s = find (has_physical physical) s.before
 
 abbrev pub is_excused : List Schema → StackState → Request → Code → Bool
-is_excused schemas s (request.Update physical props) code.NotUpdatable = is_may_replace (schema_of (kind_of_held (held_before physical s)) schemas) (held_before physical s) props
+is_excused schemas s (request.Update physical props) code.NotUpdatable =
+    option_map_or (λ h. is_conditional (difference_to schemas h props)) (held_before physical s) false
 is_excused schemas s _ _ = false
 
 -- The outcomes that fail the phase: a refusal that is not excused, at any time in the phase, and in this opening the third doubt of a token.
@@ -126,11 +125,13 @@ is_refused_call schemas s None c = false
 is_refused_call schemas s (Some call) c = not (is_excused schemas s call.request c)
 
 abbrev pub refusing : List Schema → StackState → Entry → Option (ℕ × Reason)
-refusing schemas s (entry.Outcome number token (reply.Failed c) before after) = if is_refused_call schemas s (call_of token s) c then Some (token, reason.Code c) else None
+refusing schemas s (entry.Outcome number token (reply.Failed c) before after) =
+    if is_refused_call schemas s (call_of token s) c then Some (token, reason.Code c) else None
 refusing schemas s _ = None
 
 abbrev pub doubting : List Entry → Entry → Option (ℕ × Reason)
-doubting earlier (entry.Outcome number token reply.Doubt before after) = if count_by (λ r. token == r.token && is_doubt r.answer) (replies_in earlier) == 2 then Some (token, reason.Fault) else None
+doubting earlier (entry.Outcome number token reply.Doubt before after) =
+    if doubts_in token earlier == 2 then Some (token, reason.Fault) else None
 doubting earlier _ = None
 
 abbrev pub first_refusing : List Schema → StackState → List Entry → Option (ℕ × Reason)
@@ -139,13 +140,16 @@ first_refusing schemas s (e ∷ es) = option_or (refusing schemas s e) (first_re
 
 abbrev pub first_failing_behind : List Schema → StackState → List Entry → List Entry → Option (ℕ × Reason)
 first_failing_behind schemas s earlier [] = None
-first_failing_behind schemas s earlier (e ∷ es) = option_or (refusing schemas s e) (option_or (doubting earlier e) (first_failing_behind schemas s (earlier ++ e ∷ []) es))
+first_failing_behind schemas s earlier (e ∷ es) =
+    option_or (refusing schemas s e) (option_or (doubting earlier e) (first_failing_behind schemas s (earlier ++ e ∷ []) es))
 
 -- the first outcome that fails the phase: its token, and the reason
 abbrev pub first_failing : List Schema → StackState → Option (ℕ × Reason)
-first_failing schemas s = option_or (first_refusing schemas s (up_to_last is_turn_or_opening (forward_of s))) (first_failing_behind schemas s [] (now_of s))
+first_failing schemas s =
+    option_or (first_refusing schemas s (up_to_last is_turn_or_opening (forward_of s))) (first_failing_behind schemas s [] (now_of s))
 
--- The template fails over the resources of now: at a ready path, at a nested stack whose stack resource has all its needs done, or, where all is done, at an output.
+-- The template fails over the resources of now: at a ready path, at a nested stack whose stack resource has all its
+-- needs done, or, where all is done, at an output.
 abbrev pub IsBadAt : StackState → List ℕ → Flaw → Type 0
 IsBadAt s p fault = IsReady s p × (evaluated_at p s ≡ Bad fault)
 
@@ -167,7 +171,7 @@ keeps_value e (name, got value) = bytes_eq name e.name && bytes_eq value e.value
 keeps_value e (name, _) = false
 
 abbrev pub is_lost : List ℕ → World → Plan → Export → Bool
-is_lost name x p e = bytes_eq name e.stack && (list_any (pins_name e.name name) x.pins && not (list_any (keeps_value e) p.exports))
+is_lost name x p e = is_pinned name x e && not (list_any (keeps_value e) p.exports)
 
 abbrev pub lost_exports : List ℕ → World → StackState → List Export
 lost_exports name x s = filter (is_lost name x (plan_now s)) x.exports
@@ -178,7 +182,8 @@ IsLostExport name x s export = AllDone s × (option_map (λ e. e.name) (first_in
 -- the forward phase of this stack has failed
 abbrev pub HasFailed : List Schema → List ℕ → World → StackState → Type 0
 HasFailed schemas name x s =
-    ((f : ℕ × Reason) × (first_failing schemas s ≡ Some f)) ⊎ ((p : List ℕ) × (fault : Flaw) × IsBadPath s p fault) ⊎ ((fault : Flaw) × IsBadOutput s fault) ⊎ ((export : List ℕ) × IsLostExport name x s export)
+    ((f : ℕ × Reason) × (first_failing schemas s ≡ Some f)) ⊎ ((p : List ℕ) × (fault : Flaw) × IsBadPath s p fault)
+    ⊎ ((fault : Flaw) × IsBadOutput s fault) ⊎ ((export : List ℕ) × IsLostExport name x s export)
 
 -- Its cause: the first outcome that fails it; else the fault of the first path in byte order, outputs after all paths; else the first export name.
 abbrev pub path_of_token : ℕ → StackState → Option (List ℕ)
@@ -187,6 +192,9 @@ path_of_token token s = option_map (λ c. c.path) (call_of token s)
 abbrev pub IsCause : List Schema → List ℕ → World → StackState → Cause → Type 0
 IsCause schemas name x s (cause.Handler path r) = (token : ℕ) × (first_failing schemas s ≡ Some (token, r)) × (path_of_token token s ≡ Some path)
 IsCause schemas name x s (cause.Plan text) =
-    (fault : Flaw) × (text ≡ flaw_text fault) × (first_failing schemas s ≡ None) × (((p : List ℕ) × IsBadPath s p fault × ((q : List ℕ) (other : Flaw) → IsBadPath s q other → bytes_lt q p ≡ false)) ⊎ (IsBadOutput s fault × ((q : List ℕ) (other : Flaw) → IsBadPath s q other → ⊥)))
+    (fault : Flaw) × (text ≡ flaw_text fault) × (first_failing schemas s ≡ None)
+    × (((p : List ℕ) × IsBadPath s p fault × ((q : List ℕ) (other : Flaw) → IsBadPath s q other → bytes_lt q p ≡ false))
+    ⊎ (IsBadOutput s fault × ((q : List ℕ) (other : Flaw) → IsBadPath s q other → ⊥)))
 IsCause schemas name x s (cause.Export export) =
-    (first_failing schemas s ≡ None) × ((q : List ℕ) (other : Flaw) → IsBadPath s q other → ⊥) × ((other : Flaw) → IsBadOutput s other → ⊥) × IsLostExport name x s export
+    (first_failing schemas s ≡ None) × ((q : List ℕ) (other : Flaw) → IsBadPath s q other → ⊥) × ((other : Flaw) → IsBadOutput s other → ⊥)
+    × IsLostExport name x s export

@@ -1,5 +1,5 @@
 -- The lanes that are handed in, and what the journal and the lanes tell of an id and of a token.
-use Rattle.std.specs.Prelude.{◌≡◌, ℕ, ◌==◌, Bool, true, IsTrue, not, List, ◌++◌, Option, Some, None, find, filter, map, flat_map}
+use Rattle.std.specs.Prelude.{◌≡◌, ℕ, ◌==◌, Bool, true, IsTrue, not, List, ◌++◌, Option, Some, None, find, filter, map, flat_map, is_some}
 use Rattle.std.specs.List.{list_any, list_all}
 use Rattle.std.specs.Str.{bytes_eq}
 use Rattle.cf_tree.specs.Datum.{Data}
@@ -8,10 +8,12 @@ use Rattle.cf_tree.specs.declared.request.Request.TheVariants as request
 use Rattle.cf_tree.specs.declared.code.Code.TheVariants as code
 use Rattle.cf_handler.specs.declared.settled.Settlement.{Settlement}
 use Rattle.cf_handler.specs.declared.settled.Settlement.TheVariants.{Success, Failed}
-use Rattle.cf_handler.specs.declared.settled.Settled.{Settled}
-use Rattle.cf_handler.specs.Fence.{FencedLane, settled_at}
+use Rattle.cf_handler.specs.Lane.{settlement_of}
+use Rattle.cf_handler.specs.Fence.{FencedLane}
+use Rattle.cf_handler.specs.Move.{IsOfLane}
 use Rattle.cf_handler.specs.Name.{is_lane_name}
 use Rattle.cf_schema.specs.declared.described.Schema.{Schema}
+use Rattle.cf_schema.specs.Kinds.{found, are_distinct}
 use Rattle.cf_entry.specs.declared.entry.Reply.{Reply}
 use Rattle.cf_entry.specs.declared.entry.Reply.TheVariants as reply
 use Rattle.cf_stacks.specs.declared.held.Held.{Held}
@@ -34,15 +36,17 @@ pub record AreLanes (lanes : List Lane) : Type 0 where
   pub names_differ : all_differ bytes_eq (map (λ l. l.name) lanes) ≡ true
 
 -- there is one schema for each type, and one for the type of each lane
-abbrev pub is_described : List Schema → List ℕ → Bool
-is_described schemas kind = list_any (λ g. bytes_eq kind g.kind) schemas
-
 pub record AreSchemas (schemas : List Schema) (lanes : List Lane) : Type 0 where
-  pub kinds_differ : all_differ bytes_eq (map (λ g. g.kind) schemas) ≡ true
-  pub described : IsTrue (list_all (λ l. is_described schemas l.kind) lanes)
+  pub kinds_differ : IsTrue (are_distinct schemas)
+  pub described : IsTrue (list_all (λ l. is_some (found l.kind schemas)) lanes)
 
 abbrev pub lane_at : List ℕ → List Lane → Option Lane
 lane_at name lanes = find (λ l. bytes_eq name l.name) lanes
+
+-- the resource's lane, which its id names, is handed in
+pub record IsHome (lanes : List Lane) (id : List ℕ) (lane : Lane) : Type 0 where
+  pub handed_in : lane_at lane.name lanes ≡ Some lane
+  pub named : IsOfLane lane.name id
 
 -- What all stacks have.
 abbrev pub all_resources : World → List Held
@@ -92,7 +96,7 @@ effect_of (request.Update physical props) (Success id attrs) = Set physical prop
 effect_of _ _ = Nothing
 
 -- an open token, settled on its lane
-pub record IsAnswered (x : World) (lanes : List Lane) (p : Pending) (lane : Lane) (s : Settled) : Type 0 where
+pub record IsAnswered (x : World) (lanes : List Lane) (p : Pending) (lane : Lane) (s : Settlement) : Type 0 where
   pub is_open : open_at p.token x ≡ Some p
   pub at_home : lane_at p.lane lanes ≡ Some lane
-  pub settled : settled_at p.token lane.state ≡ Some s
+  pub settled : settlement_of p.token lane.state.state.settled ≡ Some s

@@ -19,6 +19,7 @@ use Rattle.cf_stacks.specs.declared.state.World.{World}
 use Rattle.cf_stacks.specs.Status.{Stage, stage_of, is_in_progress}
 use Rattle.cf_stacks.specs.Words.{stack_at, has_token, all_differ}
 use Rattle.cf_stacks.specs.Fold.{empty_world, fold_of}
+use Rattle.cf_stacks.specs.Operation.{Call, call_of}
 use Rattle.cf_plan.specs.Forward.{In}
 use Rattle.cf_plan.specs.Follow.{MayFollow, MayRepeat, is_lane_out}
 use Rattle.cf_schema.specs.declared.described.Schema.{Schema}
@@ -111,7 +112,8 @@ acted left (Some l) life = changing l.lane (left_by left (world_of life).epoch l
 
 -- a granted Intent's call goes out, if its append was whole; every other entry hands out nothing
 abbrev pub granted : End → Entry → Life → Life
-granted Whole (entry.Intent number token lane path request) life = with_lease (record { number = number; token = token; lane = lane; request = request; reply = None }) life
+granted Whole (entry.Intent number token lane path request) life =
+    with_lease (record { number = number; token = token; lane = lane; request = request; reply = None }) life
 granted _ e life = life
 
 -- which entries each part of the engine appends
@@ -132,7 +134,8 @@ IsGranted _ = ⊥
 
 -- the outcome that a lease's answer makes: a fault is a doubt, and want of memory and a stale call make none
 abbrev pub IsOutcomeOf : Lease → CallEnd → Entry → Type 0
-IsOutcomeOf lease (Answered (answer.Success physical attrs) before after) e = e ≡ entry.Outcome lease.number lease.token (reply.Success physical attrs) before after
+IsOutcomeOf lease (Answered (answer.Success physical attrs) before after) e =
+    e ≡ entry.Outcome lease.number lease.token (reply.Success physical attrs) before after
 IsOutcomeOf lease (Answered (answer.Failed code) before after) e = e ≡ entry.Outcome lease.number lease.token (reply.Failed code) before after
 IsOutcomeOf lease (Answered answer.Fault before after) e = e ≡ entry.Outcome lease.number lease.token reply.Doubt before after
 IsOutcomeOf lease (Answered answer.NoMemory before after) e = ⊥
@@ -177,7 +180,8 @@ repeated (Some l) life = with_lease l life
 
 -- The life after an event.
 abbrev pub life_after : Life → Event → Life
-life_after life (Opened epoch lanes end) = appended end (entry.Opened epoch lanes) (record life { leases = []; is_open = true; has_granted = false; is_stopped = false })
+life_after life (Opened epoch lanes end) =
+    appended end (entry.Opened epoch lanes) (record life { leases = []; is_open = true; has_granted = false; is_stopped = false })
 life_after life (ChangeSet e end) = record (appended end e life) { is_stopped = false }
 life_after life (Begin e end) = appended end e life
 life_after life (Grant e end) = granted end e (appended end e life)
@@ -201,20 +205,27 @@ fenced moved epoch lane = if moved then raised_to lane epoch else lane
 
 -- An event may come where it does.
 abbrev pub MayHappen : List Schema → Life → Event → Type 0
-MayHappen schemas life (Opened epoch lanes end) = (life.is_open ≡ false) × MayFollow schemas (world_of life) [] (entry.Opened epoch lanes) × AreHandedIn life lanes
+MayHappen schemas life (Opened epoch lanes end) =
+    (life.is_open ≡ false) × MayFollow schemas (world_of life) [] (entry.Opened epoch lanes) × AreHandedIn life lanes
 MayHappen schemas life (ChangeSet e end) = (life.is_open ≡ false) × IsChangeSet e × MayFollow schemas (world_of life) [] e
 MayHappen schemas life (Begin e end) = IsTrue (is_running life) × AreRaised life × IsBegin e × MayFollow schemas (world_of life) (tokens_out life) e
 MayHappen schemas life (Grant e end) = IsTrue (is_running life) × IsGranted e × MayFollow schemas (world_of life) (tokens_out life) e
 MayHappen schemas life (Repeat token) =
     IsTrue (is_running life) × (name : List ℕ) × (s : StackState) × (stage : Stage) × (p : Pending) × MayBeRepeated schemas life token name s stage p
 MayHappen schemas life (Settle token e end) =
-    IsTrue (is_running life) × (lease : Lease) × (reply : CallEnd) × (lease_at token life ≡ Some lease) × (lease.reply ≡ Some reply) × IsOutcomeOf lease reply e × MayFollow schemas (world_of life) (tokens_out life) e
+    IsTrue (is_running life) × (lease : Lease) × (reply : CallEnd) × (lease_at token life ≡ Some lease) × (lease.reply ≡ Some reply)
+    × IsOutcomeOf lease reply e × MayFollow schemas (world_of life) (tokens_out life) e
 MayHappen schemas life (Park token) = IsTrue life.is_open × (lease : Lease) × (lease_at token life ≡ Some lease)
 MayHappen schemas life (Raise name a moved before counted) =
-    IsTrue (is_running life) × (life.has_granted ≡ false) × (lane : Lane) × (lane_at name life.lanes ≡ Some lane) × In (named_lane lane) (world_of life).lanes × (before ≤ counted) × FenceMove lane.state (fenced moved (world_of life).epoch lane.state) (world_of life).epoch a before counted
+    IsTrue (is_running life) × (life.has_granted ≡ false) × (lane : Lane) × (lane_at name life.lanes ≡ Some lane)
+    × In (named_lane lane) (world_of life).lanes × (before ≤ counted)
+    × FenceMove lane.state (fenced moved (world_of life).epoch lane.state) (world_of life).epoch a before counted
 MayHappen schemas life (Act token reply left) =
-    (lease : Lease) × (lane : Lane) × (lease_at token life ≡ Some lease) × (lease.reply ≡ None) × (lane_at lease.lane life.lanes ≡ Some lane) × MayLeave lane (left_by left (world_of life).epoch lease.token lease.request lane.state) (world_of life).epoch lease reply
-MayHappen schemas life (Late name place s) = (lane : Lane) × (lane_at name life.lanes ≡ Some lane) × LateMove name lane.state (late_by place s lane.state) place s
+    (lease : Lease) × (lane : Lane) × (lease_at token life ≡ Some lease) × (lease.reply ≡ None)
+    × (lane_at lease.lane life.lanes ≡ Some lane)
+    × MayLeave lane (left_by left (world_of life).epoch lease.token lease.request lane.state) (world_of life).epoch lease reply
+MayHappen schemas life (Late name place s) =
+    (lane : Lane) × (lane_at name life.lanes ≡ Some lane) × LateMove name lane.state (late_by place s lane.state) place s
 MayHappen schemas life Close = IsTrue life.is_open × (life.leases ≡ [])
 MayHappen schemas life Crash = Unit {0}
 
@@ -223,7 +234,8 @@ abbrev pub IsLife : List Schema → Life → List Event → Life → Type 0
 IsLife schemas life [] end = end ≡ life
 IsLife schemas life (e ∷ es) end = MayHappen schemas life e × IsLife schemas (life_after life e) es end
 
--- A lease is a promise of one call: no two are of one token, each has its own call, which is open or accounted for, and an answer that it has for good is the settled one of its token.
+-- A lease is a promise of one call: no two are of one token, each has its own call, which is open or accounted for, and
+-- an answer that it has for good is the settled one of its token.
 abbrev pub settlement_in : Answer → Option Settlement
 settlement_in (answer.Success physical attrs) = Some (settlement.Success physical attrs)
 settlement_in (answer.Failed code) = Some (settlement.Failed code)
@@ -233,14 +245,27 @@ abbrev pub settled_reply : CallEnd → Option Settlement
 settled_reply (Answered a before after) = settlement_in a
 settled_reply (Stale fence) = None
 
+-- A call that is out is of the operation in progress of its stack, also where its token was given up meanwhile: so its
+-- lane counts as out, and the operation does not end before it is back.
+pub record IsGoing (x : World) (lease : Lease) : Type 0 where
+  pub name : List ℕ
+  pub stack : StackState
+  pub call : Call
+  pub stands : stack_at name x ≡ Some stack
+  pub in_progress : is_in_progress stack.status ≡ true
+  pub number : stack.operation ≡ lease.number
+  pub written : call_of lease.token stack ≡ Some call
+  pub lane : call.lane ≡ lease.lane
+
 pub record AreLeased (life : Life) : Type 0 where
   pub once : all_differ ◌==◌ (tokens_out life) ≡ true
   pub own_call : (lease : Lease) → In lease life.leases → FitsCall life.entries (world_of life) lease.lane lease.token lease.request
   pub accounted : (lease : Lease) → In lease life.leases → IsAccounted (world_of life) lease.token lease.request
   pub settled :
-      (lease : Lease) (reply : CallEnd) (s : Settlement) (lane : Lane) → In lease life.leases → lease.reply ≡ Some reply → settled_reply reply ≡ Some s → lane_at lease.lane life.lanes ≡ Some lane → settlement_of lease.token lane.state.state.settled ≡ Some s
-  -- the stack of an open call that is out has an operation in progress
-  pub going : (lease : Lease) (name : List ℕ) (s : StackState) (p : Pending) → In lease life.leases → stack_at name (world_of life) ≡ Some s → In p s.tokens → p.token ≡ lease.token → is_in_progress s.status ≡ true
+      (lease : Lease) (reply : CallEnd) (s : Settlement) (lane : Lane) → In lease life.leases → lease.reply ≡ Some reply
+      → settled_reply reply ≡ Some s → lane_at lease.lane life.lanes ≡ Some lane
+      → settlement_of lease.token lane.state.state.settled ≡ Some s
+  pub going : (lease : Lease) → In lease life.leases → IsGoing (world_of life) lease
 
 -- what holds at each moment of a life: journal and lanes agree, and the leases are sound
 pub record Holds (schemas : List Schema) (life : Life) : Type 0 where

@@ -1,7 +1,8 @@
--- Folding the journal: the world after each entry, as a table over the kinds of entry (this project's own; what a stack holds and its statuses are those of the User Guide).
+-- Folding the journal: the world after each entry, as a table over the kinds of entry (this project's own; what a stack
+-- holds and its statuses are those of the User Guide).
 use Rattle.std.specs.Prelude.{ℕ, ◌+◌, ◌==◌, Bool, true, false, ◌&&◌, ◌||◌, not, List, [], ◌∷◌, ◌++◌, Option, Some, None, map, filter, fold, find, codes, if◌then◌else◌}
 use Rattle.std.specs.List.{list_any}
-use Rattle.std.specs.Option.{option_map_or}
+use Rattle.std.specs.Option.{option_map_or, unwrap_or}
 use Rattle.std.specs.Str.{bytes_eq}
 use Rattle.cf_tree.specs.Datum.{Data}
 use Rattle.cf_tree.specs.Keys.{put, bytes_lt}
@@ -29,7 +30,6 @@ use Rattle.cf_stacks.specs.declared.held.HeldStatus.TheVariants as held
 use Rattle.cf_stacks.specs.declared.held.Leftover.{Leftover}
 use Rattle.cf_stacks.specs.declared.held.Pending.{Pending}
 use Rattle.cf_stacks.specs.declared.held.GivenUp.{GivenUp}
-use Rattle.cf_stacks.specs.declared.held.Output.{Output}
 use Rattle.cf_stacks.specs.declared.held.KeptSet.{KeptSet}
 use Rattle.cf_tree.specs.declared.template.Deletion.{Deletion}
 use Rattle.cf_tree.specs.declared.template.Deletion.TheVariants as deletion
@@ -39,8 +39,9 @@ use Rattle.cf_stacks.specs.declared.state.StackState.{StackState}
 use Rattle.cf_stacks.specs.declared.state.World.{World}
 use Rattle.cf_stacks.specs.Status.{begun, turned}
 use Rattle.cf_desired.specs.Plan.{Seen, Wanted, plan_of}
-use Rattle.cf_desired.specs.Whole.{Right, RightOutput, Whole, wanted_at, whole_of, export_names_of}
+use Rattle.cf_desired.specs.Whole.{Right, Whole, wanted_at, whole_of, export_names_of}
 use Rattle.cf_graph.specs.Needs.{is_among}
+use Rattle.cf_graph.specs.Inserted.{insert_by}
 use Rattle.cf_stacks.specs.Words.{stack_at, stack_of_operation, where_going, has_physical, current_at, resource_at, resources_of, without, where_physical, has_token, pending_of, without_token, is_on, is_create, is_create_at}
 use Rattle.cf_stacks.specs.Event.{lines_of, event_line}
 use Rattle.cf_stacks.specs.Operation.{calls_in, rollback_of}
@@ -68,13 +69,9 @@ no_stack = record {
   entries = [];
 }
 
-abbrev pub stack_or_none : Option StackState → StackState
-stack_or_none None = no_stack
-stack_or_none (Some s) = s
-
 -- the stack of a name, or one of which nothing is known
 abbrev pub known_stack : List ℕ → World → StackState
-known_stack name x = stack_or_none (stack_at name x)
+known_stack name x = unwrap_or (stack_at name x) no_stack
 
 -- the entry joins the stack's own, with its line for `events`
 abbrev pub heard : ℕ → Entry → StackState → StackState → StackState
@@ -88,19 +85,14 @@ source_for name number source = record source { stack = name; number = number }
 abbrev pub is_before : Pin → Pin → Bool
 is_before a b = bytes_lt a.stack b.stack || (bytes_eq a.stack b.stack && bytes_lt a.name b.name)
 
-abbrev pub put_pin : List Pin → Pin → List Pin
-put_pin [] pin = pin ∷ []
-put_pin (p ∷ ps) pin = if is_before p pin then p ∷ put_pin ps pin else pin ∷ p ∷ ps
-
 abbrev pub not_pin_of : List ℕ → Pin → Bool
 not_pin_of name pin = not (bytes_eq name pin.stack)
 
 abbrev pub repinned : List ℕ → List (List ℕ) → List Pin → List Pin
-repinned name names pins = fold put_pin (filter (not_pin_of name) pins) (map (λ n. record { stack = name; name = n }) names)
+repinned name names pins = fold (insert_by is_before) (filter (not_pin_of name) pins) (map (λ n. record { stack = name; name = n }) names)
 
-abbrev pub put_export : List Export → Export → List Export
-put_export [] e = e ∷ []
-put_export (f ∷ fs) e = if bytes_lt f.name e.name then f ∷ put_export fs e else e ∷ f ∷ fs
+abbrev pub is_export_before : Export → Export → Bool
+is_export_before a b = bytes_lt a.name b.name
 
 abbrev pub not_export_of : List ℕ → Export → Bool
 not_export_of name e = not (bytes_eq name e.stack)
@@ -109,7 +101,7 @@ abbrev pub export_by : List ℕ → List ℕ × List ℕ → Export
 export_by stack e = record { name = e.0; value = e.1; stack = stack }
 
 abbrev pub reexported : List ℕ → List (List ℕ × List ℕ) → List Export → List Export
-reexported name exports all = fold put_export (filter (not_export_of name) all) (map (export_by name) exports)
+reexported name exports all = fold (insert_by is_export_before) (filter (not_export_of name) all) (map (export_by name) exports)
 
 abbrev pub import_names : Option Source → List (List ℕ)
 import_names None = []
@@ -207,7 +199,7 @@ abbrev pub is_same_pin : Pin → Pin → Bool
 is_same_pin a b = bytes_eq a.stack b.stack && bytes_eq a.name b.name
 
 abbrev pub pin_also : List Pin → Pin → List Pin
-pin_also pins pin = if list_any (is_same_pin pin) pins then pins else put_pin pins pin
+pin_also pins pin = if list_any (is_same_pin pin) pins then pins else insert_by is_before pins pin
 
 abbrev pub pinning : List ℕ → Source → List Pin → List Pin
 pinning name source pins = fold pin_also pins (map (λ p. record { stack = name; name = p.0 }) source.imports)
@@ -294,10 +286,6 @@ answered p (request.Update id props) (reply.Failed c) s = if is_restore p.token 
 answered p r answer s = s
 
 -- Success and Failed close the token; a doubt leaves it open.
-abbrev pub closes : Reply → Bool
-closes reply.Doubt = false
-closes _ = true
-
 abbrev pub closing : ℕ → Reply → StackState → StackState
 closing token reply.Doubt s = s
 closing token _ s = record s { tokens = without_token token s.tokens }
@@ -328,25 +316,21 @@ keeping path physical w s =
     else if list_any (has_physical physical) (resources_of s) then keeping_known path physical w s
     else s
 
--- Where the forward phase is complete, the template is evaluated over the resource of each path: these are held as it says, every other one is superseded, and nothing is made.
+-- Where the forward phase is complete, the template is evaluated over the resource of each path: these are held as it
+-- says, every other one is superseded, and nothing is made.
 abbrev pub seen_now : StackState → Seen
 seen_now s = seen_in (s.made ++ s.held)
 
 abbrev pub empty_whole : Whole
 empty_whole = record { wanted = []; outputs = []; exports = [] }
 
-abbrev pub whole_or : Option Whole → Whole
-whole_or None = empty_whole
-whole_or (Some whole) = whole
-
 abbrev pub whole_over : Option Source → Seen → Whole
 whole_over None seen = empty_whole
-whole_over (Some source) seen = whole_or (whole_of source seen)
+whole_over (Some source) seen = unwrap_or (whole_of source seen) empty_whole
 
 -- the resource is the one of its path
 abbrev pub is_physical_of : List ℕ → Option Held → Bool
-is_physical_of physical None = false
-is_physical_of physical (Some h) = bytes_eq physical h.physical
+is_physical_of physical h = option_map_or (has_physical physical) h false
 
 abbrev pub is_right_at : List ℕ → Right → Bool
 is_right_at path r = bytes_eq path r.path
@@ -356,13 +340,12 @@ as_wanted None h = record h { superseded = true }
 as_wanted (Some w) h = record h { needs = w.needs; deletion = w.deletion; replace = w.replace; superseded = false }
 
 abbrev pub settled_in : Whole → StackState → Held → Held
-settled_in whole s h = if is_physical_of h.physical (resource_at h.path s) && not h.superseded then as_wanted (find (is_right_at h.path) whole.wanted) h else record h { superseded = true }
-
-abbrev pub output_from : RightOutput → Output
-output_from o = record { name = o.name; value = o.value; export = o.export }
+settled_in whole s h =
+    if is_physical_of h.physical (resource_at h.path s) && not h.superseded then as_wanted (find (is_right_at h.path) whole.wanted) h
+    else record h { superseded = true }
 
 abbrev pub completing : Whole → StackState → StackState
-completing whole s = record s { held = map (settled_in whole s) (resources_of s); made = []; source = s.going; outputs = map output_from whole.outputs }
+completing whole s = record s { held = map (settled_in whole s) (resources_of s); made = []; source = s.going; outputs = whole.outputs }
 
 -- A later phase: Clean completes the update, the others change the status alone.
 abbrev pub turning : Phase → StackState → StackState
@@ -417,7 +400,7 @@ exports_turned name _ s exports = exports
 abbrev pub on_stack : ℕ → ℕ → Entry → (StackState → StackState) → World → World
 on_stack place number e change x = record x { stacks = where_going number (λ s. heard place e s (change s)) x.stacks }
 
--- a number of the whole journal, where an entry may be of no operation in progress
+-- the entry counts, whichever stack it is of and also where it is of none
 abbrev pub counted : World → World
 counted x = record x { place = x.place + 1 }
 
@@ -425,7 +408,8 @@ abbrev pub phase_over : List ℕ → Phase → StackState → World → World
 phase_over name p s x = record x { pins = pins_turned name p s x.pins; exports = exports_turned name p s x.exports }
 
 abbrev pub done_over : List ℕ → Status → StackState → World → World
-done_over name state s x = record x { pins = pins_ended name state s x.pins; exports = exports_ended name state s x.exports; claims = repinned name [] x.claims }
+done_over name state s x =
+    record x { pins = pins_ended name state s x.pins; exports = exports_ended name state s x.exports; claims = repinned name [] x.claims }
 
 abbrev pub over : (List ℕ → StackState → World → World) → Option (List ℕ × StackState) → World → World
 over change None x = x
@@ -448,11 +432,19 @@ begun_on number name k x = option_map_or (λ s. begun_over number name k s x) (s
 
 -- the world after one entry
 abbrev pub changed_by : World → Entry → World
-changed_by x (entry.Opened epoch lanes) = record x { epoch = epoch; lanes = lanes; stacks = map (λ s. (s.0, record s.1 { entries = s.1.entries ++ entry.Opened epoch lanes ∷ [] })) x.stacks }
+changed_by x (entry.Opened epoch lanes) =
+    record x {
+      epoch = epoch;
+      lanes = lanes;
+      stacks = map
+          (λ s. (s.0, record s.1 { entries = s.1.entries ++ entry.Opened epoch lanes ∷ [] })) x.stacks;
+    }
 changed_by x (entry.Begin number name k) = begun_on number name k x
 changed_by x (entry.Kept number path physical w) = on_stack (x.place + 1) number (entry.Kept number path physical w) (keeping path physical w) x
 changed_by x (entry.Intent number token lane path r) =
-    on_stack (x.place + 1) number (entry.Intent number token lane path r) (λ s. record s { tokens = s.tokens ++ record { token = token; path = path; lane = lane; request = r } ∷ [] }) (record x { token = token })
+    on_stack (x.place + 1) number (entry.Intent number token lane path r)
+    (λ s. record s { tokens = s.tokens ++ record { token = token; path = path; lane = lane; request = r } ∷ [] })
+    (record x { token = token })
 changed_by x (entry.Outcome number token answer before after) =
     on_stack (x.place + 1) number (entry.Outcome number token answer before after) (λ s. replied token answer (pending_of token s) s) x
 changed_by x (entry.Phase number p cause) =
@@ -461,7 +453,11 @@ changed_by x (entry.Done number state failed) =
     over (λ name s y. done_over name state s y) (stack_of_operation number x) (on_stack (x.place + 1) number (entry.Done number state failed) (ended state) x)
 changed_by x (entry.ChangeSet number name source rows outputs) = record x {
   set = number;
-  stacks = put name (set_heard (x.place + 1) (known_stack name x) (with_set (record { number = number; source = source_for name 0 source; rows = rows; outputs = outputs }) (known_stack name x))) x.stacks;
+  stacks =
+      put name
+      (set_heard (x.place + 1) (known_stack name x)
+      (with_set (record { number = number; source = source_for name 0 source; rows = rows; outputs = outputs }) (known_stack name x)))
+      x.stacks;
 }
 
 abbrev pub world_after : World → Entry → World

@@ -11,6 +11,7 @@ use Rattle.cf_entry.specs.declared.entry.Reply.{Reply}
 use Rattle.cf_stacks.specs.declared.state.StackState.{StackState}
 use Rattle.cf_entry.specs.declared.entry.Entry.TheVariants as entry
 use Rattle.cf_entry.specs.declared.entry.Reply.TheVariants as reply
+use Rattle.cf_entry.specs.declared.turn.Phase.TheVariants as phase
 use Rattle.cf_graph.specs.Needs.{is_among}
 
 -- what stands behind the last that passes; all where none does
@@ -56,8 +57,12 @@ abbrev pub behind_first : {A : Type 0} → (A → Bool) → List A → List A
 behind_first test [] = []
 behind_first test (x ∷ xs) = if test x then xs else behind_first test xs
 
+abbrev pub is_back : Entry → Bool
+is_back (entry.Phase number phase.Back cause) = true
+is_back _ = false
+
 abbrev pub rollback_of : StackState → List Entry
-rollback_of s = behind_first is_phase s.entries
+rollback_of s = behind_first is_back s.entries
 
 -- the entry is of this operation
 abbrev pub is_of : ℕ → Entry → Bool
@@ -111,9 +116,12 @@ abbrev pub is_success : Reply → Bool
 is_success (reply.Success physical attrs) = true
 is_success _ = false
 
--- how often the token was answered by a doubt in this phase and opening
+-- how often the token was answered by a doubt: in these entries, and in this phase and opening
+abbrev pub doubts_in : ℕ → List Entry → ℕ
+doubts_in token es = count_by (λ r. token == r.token && is_doubt r.answer) (replies_in es)
+
 abbrev pub doubts_of : ℕ → StackState → ℕ
-doubts_of token s = count_by (λ r. token == r.token && is_doubt r.answer) (replies_in (now_of s))
+doubts_of token s = doubts_in token (now_of s)
 
 -- the token's call was written down in this phase and opening
 abbrev pub is_new : ℕ → StackState → Bool

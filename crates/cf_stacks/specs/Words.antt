@@ -1,11 +1,13 @@
 -- What is asked of a world and of a stack's lists.
 use Rattle.std.specs.Prelude.{ℕ, ◌==◌, Bool, true, false, ◌&&◌, not, List, [], ◌∷◌, ◌++◌, Option, Some, None, find, filter, map, if◌then◌else◌}
 use Rattle.std.specs.List.{list_any}
-use Rattle.std.specs.Option.{option_or}
+use Rattle.std.specs.Option.{option_or, option_map_or}
 use Rattle.std.specs.Str.{bytes_eq}
 use Rattle.cf_tree.specs.Keys.{value_at}
 use Rattle.cf_tree.specs.declared.request.Request.{Request}
 use Rattle.cf_tree.specs.declared.request.Request.TheVariants as request
+use Rattle.cf_export.specs.declared.Export.{Export}
+use Rattle.cf_export.specs.Export.{pins_name}
 use Rattle.cf_stacks.specs.declared.held.Held.{Held}
 use Rattle.cf_stacks.specs.declared.held.Pending.{Pending}
 use Rattle.cf_stacks.specs.declared.state.StackState.{StackState}
@@ -15,6 +17,10 @@ use Rattle.cf_stacks.specs.Status.{is_in_progress}
 -- the stack of a name
 abbrev pub stack_at : List ℕ → World → Option StackState
 stack_at name x = value_at name x.stacks
+
+-- the export is of this stack, and another stack pins it
+abbrev pub is_pinned : List ℕ → World → Export → Bool
+is_pinned name x e = bytes_eq name e.stack && list_any (pins_name e.name name) x.pins
 
 -- the operation of this number is in progress on the stack
 abbrev pub is_going : ℕ → StackState → Bool
@@ -73,13 +79,9 @@ id_named (request.Create kind props) = None
 id_named (request.Update physical props) = Some physical
 id_named (request.Delete physical) = Some physical
 
-abbrev pub is_id : List ℕ → Option (List ℕ) → Bool
-is_id physical None = false
-is_id physical (Some other) = bytes_eq physical other
-
 -- the open token is of a call on this resource
 abbrev pub is_on : List ℕ → Pending → Bool
-is_on physical p = is_id physical (id_named p.request)
+is_on physical p = option_map_or (bytes_eq physical) (id_named p.request) false
 
 abbrev pub is_update : Request → Bool
 is_update (request.Update physical props) = true

@@ -68,17 +68,6 @@ pub struct GivenUp {
 /// Creates that were given up, in their order.
 pub type Abandoned = Listing<GivenUp>;
 
-/// An output of a stack (User Guide, Outputs), and the name that it is exported by.
-#[derive(Drop)]
-pub struct Output {
-    pub name: Txt,
-    pub value: Txt,
-    pub export: Option<Txt>,
-}
-
-/// Outputs by name.
-pub type Outputs = Listing<Output>;
-
 /// A change set that is kept (User Guide, change sets).
 #[derive(Drop)]
 pub struct KeptSet {

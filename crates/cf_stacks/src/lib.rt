@@ -4,8 +4,9 @@
 mod held;
 mod state;
 
+pub use cf_export::{Output, Outputs};
 pub use held::{
-    Abandoned, GivenUp, Held, HeldStatus, Helds, KeptSet, KeptSets, Leftover, Leftovers, Output,
-    Outputs, Pending, Pendings,
+    Abandoned, GivenUp, Held, HeldStatus, Helds, KeptSet, KeptSets, Leftover, Leftovers, Pending,
+    Pendings,
 };
 pub use state::{StackState, Stacks, World};

@@ -2,9 +2,9 @@
 ghost use Rattle.std.specs.Prelude.{◌≡◌};
 ghost use Rattle.std.specs.Option.{option_copied};
 
-use crate::held::{Abandoned, Helds, KeptSets, Leftovers, Outputs, Pendings};
+use crate::held::{Abandoned, Helds, KeptSets, Leftovers, Pendings};
 use cf_entry::{Entries, LaneNames, Status};
-use cf_export::{Exports, Pins};
+use cf_export::{Exports, Outputs, Pins};
 use cf_tree::{ByName, Names, Source};
 
 /// A stack.

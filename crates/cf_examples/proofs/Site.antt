@@ -1,0 +1,610 @@
+-- A site, a stack that imports its value, and their deletion.
+use Rattle.std.proofs.Common.{◌≡◌, refl, List, [], ◌∷◌, ◌++◌, Some, None, false, ℕ, inl, ap, lit≤, true≢false}
+use Rattle.std.specs.Prelude.{codes, length}
+use Rattle.std.specs.Str.{bytes_eq}
+use Rattle.cf_tree.specs.declared.request.Request.TheVariants as request
+use Rattle.cf_tree.specs.declared.template.Deletion.TheVariants as deletion
+use Rattle.cf_tree.specs.declared.template.Replace.TheVariants as replace
+use Rattle.cf_entry.specs.declared.entry.Entry.TheVariants as entry
+use Rattle.cf_entry.specs.declared.entry.Begun.TheVariants as begin
+use Rattle.cf_entry.specs.declared.status.Status.TheVariants as status
+use Rattle.cf_entry.specs.declared.turn.Why.TheVariants as why
+use Rattle.cf_desired.specs.Plan.{Plan}
+use Rattle.cf_stacks.specs.declared.held.Held.{Held}
+use Rattle.cf_stacks.specs.declared.held.HeldStatus.TheVariants as held
+use Rattle.cf_stacks.specs.declared.state.World.{World}
+use Rattle.cf_stacks.specs.declared.state.StackState.{StackState}
+use Rattle.cf_stacks.specs.Fold.{empty_world, world_after, source_for, fold_of, no_stack}
+use Rattle.cf_stacks.specs.Status.{Forward, Gone}
+use Rattle.cf_plan.specs.Between.{is_needed_by_held}
+use Rattle.cf_plan.specs.Forward.{here, there, HasFailed, IsReady, AllDone, IsDone, is_made}
+use Rattle.cf_plan.specs.Follow.{MayFollow, keeps}
+use Rattle.cf_examples.specs.Given.{schemas, file, note, file_props, note_props, file_attrs, note_attrs, lane_pair, report_of}
+use Rattle.cf_examples.proofs.Computing.{computing}
+use Rattle.cf_examples.proofs.Lists.{in_none, only, either, none, more}
+use Rattle.cf_examples.proofs.Failing.{not_failed, not_done_new}
+use Rattle.cf_examples.proofs.Ending.{end_of_create, end_of_deletion}
+use Rattle.cf_examples.proofs.Refusing.{follows_on, legal_step, fold_step, refused_at}
+use Rattle.cf_examples.proofs.Beginning.{no_imports, one_import}
+use Rattle.cf_examples.specs.Site.{real, importing, opened, begun, intended_audit, made_audit, intended_conf, made_conf, intended_home, made_home, intended_main, made_main, intended_size, made_size, created, begun_user, intended_use, made_use, created_user, deleting_user, intended_use_gone, use_gone, user_gone, deleting_site, kept_audit, intended_main_gone, main_gone, intended_size_gone, size_gone, intended_home_gone, home_gone, intended_conf_gone, conf_gone, site_gone, until_used, until_going, Legal, ShowsSite, ShowsUser, ShowsSiteGone, ShowsUserGone, DeletedWhileUsed, NeededDeletedFirst, RetainedDeleted}
+
+abbrev world_0 : World
+world_0 = empty_world
+
+may_opened : MayFollow schemas world_0 [] opened
+unfolding computing
+may_opened = (refl, refl, λ name s e. absurd (cc))
+
+abbrev world_1 : World
+world_1 = record world_0 { stacks = ([]); lanes = (lane_pair (codes "f1") file ∷ lane_pair (codes "r1") note ∷ []); epoch = 1; place = 1 }
+
+leads_1 : world_after world_0 opened ≡ world_1
+unfolding computing
+leads_1 = refl
+
+may_begun : MayFollow schemas world_1 [] begun
+unfolding computing
+may_begun = (refl, refl, record { no_flaw = refl; known_types = refl; same_types = refl; imports = no_imports _ _ _ _ refl refl; free = refl; not_in_use = refl; changing = inl refl })
+
+abbrev stack_2_site : StackState
+stack_2_site = record no_stack { status = status.CreateInProgress; number = 1; operation = 1; going = Some (source_for (codes "site") 1 real); entries = (begun ∷ []); events = ((codes "event 2 - CREATE_IN_PROGRESS") ∷ []) }
+
+abbrev world_2 : World
+world_2 = record world_1 { stacks = (((codes "site"), stack_2_site) ∷ []); claims = (record { stack = (codes "site"); name = (codes "site-total") } ∷ []); operation = 1; place = 2 }
+
+leads_2 : world_after world_1 begun ≡ world_2
+unfolding computing
+leads_2 = refl
+
+sound_2 : ¬ HasFailed schemas (codes "site") world_2 stack_2_site
+unfolding computing
+sound_2 = not_failed schemas (codes "site") world_2 stack_2_site (record { calls = refl; paths = refl; inner = refl; flaws = refl; exports = refl })
+
+ready_2_Audit : IsReady stack_2_site (codes "Audit")
+unfolding computing
+ready_2_Audit = (here, λ q i. absurd (in_none i))
+
+may_intended_audit : MayFollow schemas world_2 [] intended_audit
+unfolding computing
+may_intended_audit = ((codes "site"), stack_2_site, Forward, refl, refl, record { next = refl; free = refl; home = refl; fits = refl; no_repeat = refl; chosen = (sound_2, ready_2_Audit, not_done_new (codes "Audit") stack_2_site refl refl refl, (refl, tt)) })
+
+abbrev stack_3_site : StackState
+stack_3_site = record stack_2_site { tokens = (record { token = 1; path = (codes "Audit"); lane = (codes "f1"); request = (request.Create file (file_props (codes "audit.txt") (codes "on"))) } ∷ []); events = stack_2_site.events ++ (codes "event 3 Audit CREATE_IN_PROGRESS") ∷ []; entries = stack_2_site.entries ++ intended_audit ∷ [] }
+
+abbrev world_3 : World
+world_3 = record world_2 { stacks = (((codes "site"), stack_3_site) ∷ []); token = 1; place = 3 }
+
+leads_3 : world_after world_2 intended_audit ≡ world_3
+unfolding computing
+leads_3 = refl
+
+abbrev pub audit_1 : Held
+audit_1 = record { path = (codes "Audit"); kind = file; physical = (codes "f1:1"); props = (file_props (codes "audit.txt") (codes "on")); attrs = (file_attrs (codes "f1:1") 2 (codes "audit.txt") (codes "on")); needs = []; deletion = deletion.Retain; replace = replace.Delete; status = held.CreateComplete; unsure = false; superseded = false }
+
+may_made_audit : MayFollow schemas world_3 (1 ∷ []) made_audit
+unfolding computing
+may_made_audit = ((codes "site"), stack_3_site, Forward, refl, refl, (refl, refl, lit≤ tt))
+
+abbrev stack_4_site : StackState
+stack_4_site = record stack_3_site { made = (audit_1 ∷ []); tokens = []; events = stack_3_site.events ++ (codes "event 4 Audit CREATE_COMPLETE") ∷ []; entries = stack_3_site.entries ++ made_audit ∷ [] }
+
+abbrev world_4 : World
+world_4 = record world_3 { stacks = (((codes "site"), stack_4_site) ∷ []); place = 4 }
+
+leads_4 : world_after world_3 made_audit ≡ world_4
+unfolding computing
+leads_4 = refl
+
+sound_4 : ¬ HasFailed schemas (codes "site") world_4 stack_4_site
+unfolding computing
+sound_4 = not_failed schemas (codes "site") world_4 stack_4_site (record { calls = refl; paths = refl; inner = refl; flaws = refl; exports = refl })
+
+ready_4_Conf : IsReady stack_4_site (codes "Conf")
+unfolding computing
+ready_4_Conf = (there (here), λ q i. absurd (in_none i))
+
+may_intended_conf : MayFollow schemas world_4 [] intended_conf
+unfolding computing
+may_intended_conf = ((codes "site"), stack_4_site, Forward, refl, refl, record { next = refl; free = refl; home = refl; fits = refl; no_repeat = refl; chosen = (sound_4, ready_4_Conf, not_done_new (codes "Conf") stack_4_site refl refl refl, (refl, tt)) })
+
+abbrev stack_5_site : StackState
+stack_5_site = record stack_4_site { tokens = (record { token = 2; path = (codes "Conf"); lane = (codes "f1"); request = (request.Create file (file_props (codes "site.conf") (codes "stage=prod\ndepth=8"))) } ∷ []); events = stack_4_site.events ++ (codes "event 5 Conf CREATE_IN_PROGRESS") ∷ []; entries = stack_4_site.entries ++ intended_conf ∷ [] }
+
+abbrev world_5 : World
+world_5 = record world_4 { stacks = (((codes "site"), stack_5_site) ∷ []); token = 2; place = 5 }
+
+leads_5 : world_after world_4 intended_conf ≡ world_5
+unfolding computing
+leads_5 = refl
+
+abbrev pub conf_1 : Held
+conf_1 = record { path = (codes "Conf"); kind = file; physical = (codes "f1:2"); props = (file_props (codes "site.conf") (codes "stage=prod\ndepth=8")); attrs = (file_attrs (codes "f1:2") 18 (codes "site.conf") (codes "stage=prod\ndepth=8")); needs = []; deletion = deletion.Delete; replace = replace.Delete; status = held.CreateComplete; unsure = false; superseded = false }
+
+may_made_conf : MayFollow schemas world_5 (2 ∷ []) made_conf
+unfolding computing
+may_made_conf = ((codes "site"), stack_5_site, Forward, refl, refl, (refl, refl, lit≤ tt))
+
+abbrev stack_6_site : StackState
+stack_6_site = record stack_5_site { made = (audit_1 ∷ conf_1 ∷ []); tokens = []; events = stack_5_site.events ++ (codes "event 6 Conf CREATE_COMPLETE") ∷ []; entries = stack_5_site.entries ++ made_conf ∷ [] }
+
+abbrev world_6 : World
+world_6 = record world_5 { stacks = (((codes "site"), stack_6_site) ∷ []); place = 6 }
+
+leads_6 : world_after world_5 made_conf ≡ world_6
+unfolding computing
+leads_6 = refl
+
+sound_6 : ¬ HasFailed schemas (codes "site") world_6 stack_6_site
+unfolding computing
+sound_6 = not_failed schemas (codes "site") world_6 stack_6_site (record { calls = refl; paths = refl; inner = refl; flaws = refl; exports = refl })
+
+ready_6_Home : IsReady stack_6_site (codes "Home")
+unfolding computing
+ready_6_Home = (there (there (here)), λ q i. only (IsDone stack_6_site) (is_made _ refl) q i)
+
+may_intended_home : MayFollow schemas world_6 [] intended_home
+unfolding computing
+may_intended_home = ((codes "site"), stack_6_site, Forward, refl, refl, record { next = refl; free = refl; home = refl; fits = refl; no_repeat = refl; chosen = (sound_6, ready_6_Home, not_done_new (codes "Home") stack_6_site refl refl refl, (refl, tt)) })
+
+abbrev stack_7_site : StackState
+stack_7_site = record stack_6_site { tokens = (record { token = 3; path = (codes "Home"); lane = (codes "f1"); request = (request.Create file (file_props (codes "home.txt") (codes "beta"))) } ∷ []); events = stack_6_site.events ++ (codes "event 7 Home CREATE_IN_PROGRESS") ∷ []; entries = stack_6_site.entries ++ intended_home ∷ [] }
+
+abbrev world_7 : World
+world_7 = record world_6 { stacks = (((codes "site"), stack_7_site) ∷ []); token = 3; place = 7 }
+
+leads_7 : world_after world_6 intended_home ≡ world_7
+unfolding computing
+leads_7 = refl
+
+abbrev pub home_1 : Held
+home_1 = record { path = (codes "Home"); kind = file; physical = (codes "f1:3"); props = (file_props (codes "home.txt") (codes "beta")); attrs = (file_attrs (codes "f1:3") 4 (codes "home.txt") (codes "beta")); needs = ((codes "Conf") ∷ []); deletion = deletion.Delete; replace = replace.Delete; status = held.CreateComplete; unsure = false; superseded = false }
+
+may_made_home : MayFollow schemas world_7 (3 ∷ []) made_home
+unfolding computing
+may_made_home = ((codes "site"), stack_7_site, Forward, refl, refl, (refl, refl, lit≤ tt))
+
+abbrev stack_8_site : StackState
+stack_8_site = record stack_7_site { made = (audit_1 ∷ conf_1 ∷ home_1 ∷ []); tokens = []; events = stack_7_site.events ++ (codes "event 8 Home CREATE_COMPLETE") ∷ []; entries = stack_7_site.entries ++ made_home ∷ [] }
+
+abbrev world_8 : World
+world_8 = record world_7 { stacks = (((codes "site"), stack_8_site) ∷ []); place = 8 }
+
+leads_8 : world_after world_7 made_home ≡ world_8
+unfolding computing
+leads_8 = refl
+
+sound_8 : ¬ HasFailed schemas (codes "site") world_8 stack_8_site
+unfolding computing
+sound_8 = not_failed schemas (codes "site") world_8 stack_8_site (record { calls = refl; paths = refl; inner = refl; flaws = refl; exports = refl })
+
+ready_8_Main : IsReady stack_8_site (codes "Main")
+unfolding computing
+ready_8_Main = (there (there (there (here))), λ q i. only (IsDone stack_8_site) (is_made _ refl) q i)
+
+may_intended_main : MayFollow schemas world_8 [] intended_main
+unfolding computing
+may_intended_main = ((codes "site"), stack_8_site, Forward, refl, refl, record { next = refl; free = refl; home = refl; fits = refl; no_repeat = refl; chosen = (sound_8, ready_8_Main, not_done_new (codes "Main") stack_8_site refl refl refl, (refl, tt)) })
+
+abbrev stack_9_site : StackState
+stack_9_site = record stack_8_site { tokens = (record { token = 4; path = (codes "Main"); lane = (codes "r1"); request = (request.Create note (note_props (codes "main") (codes "f1:2"))) } ∷ []); events = stack_8_site.events ++ (codes "event 9 Main CREATE_IN_PROGRESS") ∷ []; entries = stack_8_site.entries ++ intended_main ∷ [] }
+
+abbrev world_9 : World
+world_9 = record world_8 { stacks = (((codes "site"), stack_9_site) ∷ []); token = 4; place = 9 }
+
+leads_9 : world_after world_8 intended_main ≡ world_9
+unfolding computing
+leads_9 = refl
+
+abbrev pub main_1 : Held
+main_1 = record { path = (codes "Main"); kind = note; physical = (codes "r1:4"); props = (note_props (codes "main") (codes "f1:2")); attrs = (note_attrs (codes "r1:4") 4 (codes "main") (codes "f1:2")); needs = ((codes "Conf") ∷ []); deletion = deletion.Delete; replace = replace.Delete; status = held.CreateComplete; unsure = false; superseded = false }
+
+may_made_main : MayFollow schemas world_9 (4 ∷ []) made_main
+unfolding computing
+may_made_main = ((codes "site"), stack_9_site, Forward, refl, refl, (refl, refl, lit≤ tt))
+
+abbrev stack_10_site : StackState
+stack_10_site = record stack_9_site { made = (audit_1 ∷ conf_1 ∷ home_1 ∷ main_1 ∷ []); tokens = []; events = stack_9_site.events ++ (codes "event 10 Main CREATE_COMPLETE") ∷ []; entries = stack_9_site.entries ++ made_main ∷ [] }
+
+abbrev world_10 : World
+world_10 = record world_9 { stacks = (((codes "site"), stack_10_site) ∷ []); place = 10 }
+
+leads_10 : world_after world_9 made_main ≡ world_10
+unfolding computing
+leads_10 = refl
+
+sound_10 : ¬ HasFailed schemas (codes "site") world_10 stack_10_site
+unfolding computing
+sound_10 = not_failed schemas (codes "site") world_10 stack_10_site (record { calls = refl; paths = refl; inner = refl; flaws = refl; exports = refl })
+
+ready_10_Size : IsReady stack_10_site (codes "Size")
+unfolding computing
+ready_10_Size = (there (there (there (there (here)))), λ q i. either (IsDone stack_10_site) (is_made _ refl) (is_made _ refl) q i)
+
+may_intended_size : MayFollow schemas world_10 [] intended_size
+unfolding computing
+may_intended_size = ((codes "site"), stack_10_site, Forward, refl, refl, record { next = refl; free = refl; home = refl; fits = refl; no_repeat = refl; chosen = (sound_10, ready_10_Size, not_done_new (codes "Size") stack_10_site refl refl refl, (refl, tt)) })
+
+abbrev stack_11_site : StackState
+stack_11_site = record stack_10_site { tokens = (record { token = 5; path = (codes "Size"); lane = (codes "r1"); request = (request.Create note (note_props (codes "size") (codes "18/4"))) } ∷ []); events = stack_10_site.events ++ (codes "event 11 Size CREATE_IN_PROGRESS") ∷ []; entries = stack_10_site.entries ++ intended_size ∷ [] }
+
+abbrev world_11 : World
+world_11 = record world_10 { stacks = (((codes "site"), stack_11_site) ∷ []); token = 5; place = 11 }
+
+leads_11 : world_after world_10 intended_size ≡ world_11
+unfolding computing
+leads_11 = refl
+
+abbrev pub size_1 : Held
+size_1 = record { path = (codes "Size"); kind = note; physical = (codes "r1:5"); props = (note_props (codes "size") (codes "18/4")); attrs = (note_attrs (codes "r1:5") 4 (codes "size") (codes "18/4")); needs = ((codes "Conf") ∷ (codes "Home") ∷ []); deletion = deletion.Delete; replace = replace.Delete; status = held.CreateComplete; unsure = false; superseded = false }
+
+may_made_size : MayFollow schemas world_11 (5 ∷ []) made_size
+unfolding computing
+may_made_size = ((codes "site"), stack_11_site, Forward, refl, refl, (refl, refl, lit≤ tt))
+
+abbrev stack_12_site : StackState
+stack_12_site = record stack_11_site { made = (audit_1 ∷ conf_1 ∷ home_1 ∷ main_1 ∷ size_1 ∷ []); tokens = []; events = stack_11_site.events ++ (codes "event 12 Size CREATE_COMPLETE") ∷ []; entries = stack_11_site.entries ++ made_size ∷ [] }
+
+abbrev world_12 : World
+world_12 = record world_11 { stacks = (((codes "site"), stack_12_site) ∷ []); place = 12 }
+
+leads_12 : world_after world_11 made_size ≡ world_12
+unfolding computing
+leads_12 = refl
+
+sound_12 : ¬ HasFailed schemas (codes "site") world_12 stack_12_site
+unfolding computing
+sound_12 = not_failed schemas (codes "site") world_12 stack_12_site (record { calls = refl; paths = refl; inner = refl; flaws = refl; exports = refl })
+
+all_done_12 : AllDone stack_12_site
+unfolding computing
+all_done_12 = λ p i. (more (IsDone stack_12_site) (is_made _ refl) (more (IsDone stack_12_site) (is_made _ refl) (more (IsDone stack_12_site) (is_made _ refl) (more (IsDone stack_12_site) (is_made _ refl) (more (IsDone stack_12_site) (is_made _ refl) (none (IsDone stack_12_site))))))) p i
+
+may_created : MayFollow schemas world_12 [] created
+unfolding computing
+may_created = ((codes "site"), stack_12_site, Forward, refl, refl, (refl, end_of_create schemas (codes "site") world_12 stack_12_site refl all_done_12 sound_12 refl, (sound_12, all_done_12), refl))
+
+abbrev pub stack_13_site : StackState
+stack_13_site = record stack_12_site { status = status.CreateComplete; held = (audit_1 ∷ conf_1 ∷ home_1 ∷ main_1 ∷ size_1 ∷ []); made = []; source = Some (source_for (codes "site") 1 real); outputs = (record { name = (codes "Total"); value = (codes "18/4"); export = Some (codes "site-total") } ∷ []); events = stack_12_site.events ++ (codes "event 13 - CREATE_COMPLETE") ∷ []; entries = stack_12_site.entries ++ created ∷ [] }
+
+abbrev world_13 : World
+world_13 = record world_12 { stacks = (((codes "site"), stack_13_site) ∷ []); exports = (record { name = (codes "site-total"); value = (codes "18/4"); stack = (codes "site") } ∷ []); claims = []; place = 13 }
+
+leads_13 : world_after world_12 created ≡ world_13
+unfolding computing
+leads_13 = refl
+
+may_begun_user : MayFollow schemas world_13 [] begun_user
+unfolding computing
+may_begun_user = (refl, refl, record { no_flaw = refl; known_types = refl; same_types = refl; imports = one_import _ _ _ _ (codes "site-total") (codes "18/4") refl refl refl (λ e. let z : 1 ≡ 0 = ap (λ (p : Plan). length p.flaws) e in cc); free = refl; not_in_use = refl; changing = inl refl })
+
+abbrev stack_14_user : StackState
+stack_14_user = record no_stack { status = status.CreateInProgress; number = 2; operation = 2; going = Some (source_for (codes "user") 2 importing); entries = (begun_user ∷ []); events = ((codes "event 14 - CREATE_IN_PROGRESS") ∷ []) }
+
+abbrev world_14 : World
+world_14 = record world_13 { stacks = (((codes "site"), stack_13_site) ∷ ((codes "user"), stack_14_user) ∷ []); pins = (record { stack = (codes "user"); name = (codes "site-total") } ∷ []); operation = 2; place = 14 }
+
+leads_14 : world_after world_13 begun_user ≡ world_14
+unfolding computing
+leads_14 = refl
+
+sound_14 : ¬ HasFailed schemas (codes "user") world_14 stack_14_user
+unfolding computing
+sound_14 = not_failed schemas (codes "user") world_14 stack_14_user (record { calls = refl; paths = refl; inner = refl; flaws = refl; exports = refl })
+
+ready_14_Use : IsReady stack_14_user (codes "Use")
+unfolding computing
+ready_14_Use = (here, λ q i. absurd (in_none i))
+
+may_intended_use : MayFollow schemas world_14 [] intended_use
+unfolding computing
+may_intended_use = ((codes "user"), stack_14_user, Forward, refl, refl, record { next = refl; free = refl; home = refl; fits = refl; no_repeat = refl; chosen = (sound_14, ready_14_Use, not_done_new (codes "Use") stack_14_user refl refl refl, (refl, tt)) })
+
+abbrev stack_15_user : StackState
+stack_15_user = record stack_14_user { tokens = (record { token = 6; path = (codes "Use"); lane = (codes "r1"); request = (request.Create note (note_props (codes "u") (codes "18/4"))) } ∷ []); events = stack_14_user.events ++ (codes "event 15 Use CREATE_IN_PROGRESS") ∷ []; entries = stack_14_user.entries ++ intended_use ∷ [] }
+
+abbrev world_15 : World
+world_15 = record world_14 { stacks = (((codes "site"), stack_13_site) ∷ ((codes "user"), stack_15_user) ∷ []); token = 6; place = 15 }
+
+leads_15 : world_after world_14 intended_use ≡ world_15
+unfolding computing
+leads_15 = refl
+
+abbrev use_1 : Held
+use_1 = record { path = (codes "Use"); kind = note; physical = (codes "r1:6"); props = (note_props (codes "u") (codes "18/4")); attrs = (note_attrs (codes "r1:6") 4 (codes "u") (codes "18/4")); needs = []; deletion = deletion.Delete; replace = replace.Delete; status = held.CreateComplete; unsure = false; superseded = false }
+
+may_made_use : MayFollow schemas world_15 (6 ∷ []) made_use
+unfolding computing
+may_made_use = ((codes "user"), stack_15_user, Forward, refl, refl, (refl, refl, lit≤ tt))
+
+abbrev stack_16_user : StackState
+stack_16_user = record stack_15_user { made = (use_1 ∷ []); tokens = []; events = stack_15_user.events ++ (codes "event 16 Use CREATE_COMPLETE") ∷ []; entries = stack_15_user.entries ++ made_use ∷ [] }
+
+abbrev world_16 : World
+world_16 = record world_15 { stacks = (((codes "site"), stack_13_site) ∷ ((codes "user"), stack_16_user) ∷ []); place = 16 }
+
+leads_16 : world_after world_15 made_use ≡ world_16
+unfolding computing
+leads_16 = refl
+
+sound_16 : ¬ HasFailed schemas (codes "user") world_16 stack_16_user
+unfolding computing
+sound_16 = not_failed schemas (codes "user") world_16 stack_16_user (record { calls = refl; paths = refl; inner = refl; flaws = refl; exports = refl })
+
+all_done_16 : AllDone stack_16_user
+unfolding computing
+all_done_16 = λ p i. only (IsDone stack_16_user) (is_made _ refl) p i
+
+may_created_user : MayFollow schemas world_16 [] created_user
+unfolding computing
+may_created_user = ((codes "user"), stack_16_user, Forward, refl, refl, (refl, end_of_create schemas (codes "user") world_16 stack_16_user refl all_done_16 sound_16 refl, (sound_16, all_done_16), refl))
+
+abbrev pub stack_17_user : StackState
+stack_17_user = record stack_16_user { status = status.CreateComplete; held = (use_1 ∷ []); made = []; source = Some (source_for (codes "user") 2 importing); events = stack_16_user.events ++ (codes "event 17 - CREATE_COMPLETE") ∷ []; entries = stack_16_user.entries ++ created_user ∷ [] }
+
+abbrev pub world_17 : World
+world_17 = record world_16 { stacks = (((codes "site"), stack_13_site) ∷ ((codes "user"), stack_17_user) ∷ []); place = 17 }
+
+leads_17 : world_after world_16 created_user ≡ world_17
+unfolding computing
+leads_17 = refl
+
+may_deleting_user : MayFollow schemas world_17 [] deleting_user
+unfolding computing
+may_deleting_user = (refl, refl, (refl, refl, refl))
+
+abbrev stack_18_user : StackState
+stack_18_user = record stack_17_user { status = status.DeleteInProgress; operation = 3; entries = (deleting_user ∷ []); events = stack_17_user.events ++ (codes "event 18 - DELETE_IN_PROGRESS") ∷ [] }
+
+abbrev world_18 : World
+world_18 = record world_17 { stacks = (((codes "site"), stack_13_site) ∷ ((codes "user"), stack_18_user) ∷ []); operation = 3; place = 18 }
+
+leads_18 : world_after world_17 deleting_user ≡ world_18
+unfolding computing
+leads_18 = refl
+
+may_intended_use_gone : MayFollow schemas world_18 [] intended_use_gone
+unfolding computing
+may_intended_use_gone = ((codes "user"), stack_18_user, Gone, refl, refl, record { next = refl; free = refl; home = refl; fits = ((codes "6", refl), refl); no_repeat = refl; chosen = (_, (here, refl, refl, refl), refl, refl, refl) })
+
+abbrev stack_19_user : StackState
+stack_19_user = record stack_18_user { tokens = (record { token = 7; path = (codes "Use"); lane = (codes "r1"); request = (request.Delete (codes "r1:6")) } ∷ []); events = stack_18_user.events ++ (codes "event 19 Use DELETE_IN_PROGRESS") ∷ []; entries = stack_18_user.entries ++ intended_use_gone ∷ [] }
+
+abbrev world_19 : World
+world_19 = record world_18 { stacks = (((codes "site"), stack_13_site) ∷ ((codes "user"), stack_19_user) ∷ []); token = 7; place = 19 }
+
+leads_19 : world_after world_18 intended_use_gone ≡ world_19
+unfolding computing
+leads_19 = refl
+
+may_use_gone : MayFollow schemas world_19 (7 ∷ []) use_gone
+unfolding computing
+may_use_gone = ((codes "user"), stack_19_user, Gone, refl, refl, (refl, refl, lit≤ tt))
+
+abbrev stack_20_user : StackState
+stack_20_user = record stack_19_user { held = []; tokens = []; events = stack_19_user.events ++ (codes "event 20 Use DELETE_COMPLETE") ∷ []; entries = stack_19_user.entries ++ use_gone ∷ [] }
+
+abbrev world_20 : World
+world_20 = record world_19 { stacks = (((codes "site"), stack_13_site) ∷ ((codes "user"), stack_20_user) ∷ []); place = 20 }
+
+leads_20 : world_after world_19 use_gone ≡ world_20
+unfolding computing
+leads_20 = refl
+
+may_user_gone : MayFollow schemas world_20 [] user_gone
+unfolding computing
+may_user_gone = ((codes "user"), stack_20_user, Gone, refl, refl, (refl, end_of_deletion schemas (codes "user") world_20 stack_20_user refl refl refl, refl, refl))
+
+abbrev stack_21_user : StackState
+stack_21_user = record stack_20_user { status = status.DeleteComplete; source = None; events = stack_20_user.events ++ (codes "event 21 - DELETE_COMPLETE") ∷ []; entries = stack_20_user.entries ++ user_gone ∷ [] }
+
+abbrev world_21 : World
+world_21 = record world_20 { stacks = (((codes "site"), stack_13_site) ∷ ((codes "user"), stack_21_user) ∷ []); pins = []; place = 21 }
+
+leads_21 : world_after world_20 user_gone ≡ world_21
+unfolding computing
+leads_21 = refl
+
+may_deleting_site : MayFollow schemas world_21 [] deleting_site
+unfolding computing
+may_deleting_site = (refl, refl, (refl, refl, refl))
+
+abbrev stack_22_site : StackState
+stack_22_site = record stack_13_site { status = status.DeleteInProgress; operation = 4; entries = (deleting_site ∷ []); outputs = []; events = stack_13_site.events ++ (codes "event 22 - DELETE_IN_PROGRESS") ∷ [] }
+
+abbrev world_22 : World
+world_22 = record world_21 { stacks = (((codes "site"), stack_22_site) ∷ ((codes "user"), stack_21_user) ∷ []); operation = 4; exports = []; place = 22 }
+
+leads_22 : world_after world_21 deleting_site ≡ world_22
+unfolding computing
+leads_22 = refl
+
+may_kept_audit : MayFollow schemas world_22 [] kept_audit
+unfolding computing
+may_kept_audit = ((codes "site"), stack_22_site, Gone, refl, refl, inl (_, (here, refl, refl, refl), refl, refl, refl, refl, inl refl))
+
+abbrev stack_23_site : StackState
+stack_23_site = record stack_22_site { held = (conf_1 ∷ home_1 ∷ main_1 ∷ size_1 ∷ []); leftovers = (record { path = (codes "Audit"); physical = (codes "f1:1"); why = why.Retained } ∷ []); events = stack_22_site.events ++ (codes "event 23 Audit DELETE_SKIPPED") ∷ []; entries = stack_22_site.entries ++ kept_audit ∷ [] }
+
+abbrev world_23 : World
+world_23 = record world_22 { stacks = (((codes "site"), stack_23_site) ∷ ((codes "user"), stack_21_user) ∷ []); place = 23 }
+
+leads_23 : world_after world_22 kept_audit ≡ world_23
+unfolding computing
+leads_23 = refl
+
+may_intended_main_gone : MayFollow schemas world_23 [] intended_main_gone
+unfolding computing
+may_intended_main_gone = ((codes "site"), stack_23_site, Gone, refl, refl, record { next = refl; free = refl; home = refl; fits = ((codes "4", refl), refl); no_repeat = refl; chosen = (_, (there (there here), refl, refl, refl), refl, refl, refl) })
+
+abbrev stack_24_site : StackState
+stack_24_site = record stack_23_site { tokens = (record { token = 8; path = (codes "Main"); lane = (codes "r1"); request = (request.Delete (codes "r1:4")) } ∷ []); events = stack_23_site.events ++ (codes "event 24 Main DELETE_IN_PROGRESS") ∷ []; entries = stack_23_site.entries ++ intended_main_gone ∷ [] }
+
+abbrev world_24 : World
+world_24 = record world_23 { stacks = (((codes "site"), stack_24_site) ∷ ((codes "user"), stack_21_user) ∷ []); token = 8; place = 24 }
+
+leads_24 : world_after world_23 intended_main_gone ≡ world_24
+unfolding computing
+leads_24 = refl
+
+may_main_gone : MayFollow schemas world_24 (8 ∷ []) main_gone
+unfolding computing
+may_main_gone = ((codes "site"), stack_24_site, Gone, refl, refl, (refl, refl, lit≤ tt))
+
+abbrev stack_25_site : StackState
+stack_25_site = record stack_24_site { held = (conf_1 ∷ home_1 ∷ size_1 ∷ []); tokens = []; events = stack_24_site.events ++ (codes "event 25 Main DELETE_COMPLETE") ∷ []; entries = stack_24_site.entries ++ main_gone ∷ [] }
+
+abbrev world_25 : World
+world_25 = record world_24 { stacks = (((codes "site"), stack_25_site) ∷ ((codes "user"), stack_21_user) ∷ []); place = 25 }
+
+leads_25 : world_after world_24 main_gone ≡ world_25
+unfolding computing
+leads_25 = refl
+
+may_intended_size_gone : MayFollow schemas world_25 [] intended_size_gone
+unfolding computing
+may_intended_size_gone = ((codes "site"), stack_25_site, Gone, refl, refl, record { next = refl; free = refl; home = refl; fits = ((codes "5", refl), refl); no_repeat = refl; chosen = (_, (there (there here), refl, refl, refl), refl, refl, refl) })
+
+abbrev stack_26_site : StackState
+stack_26_site = record stack_25_site { tokens = (record { token = 9; path = (codes "Size"); lane = (codes "r1"); request = (request.Delete (codes "r1:5")) } ∷ []); events = stack_25_site.events ++ (codes "event 26 Size DELETE_IN_PROGRESS") ∷ []; entries = stack_25_site.entries ++ intended_size_gone ∷ [] }
+
+abbrev world_26 : World
+world_26 = record world_25 { stacks = (((codes "site"), stack_26_site) ∷ ((codes "user"), stack_21_user) ∷ []); token = 9; place = 26 }
+
+leads_26 : world_after world_25 intended_size_gone ≡ world_26
+unfolding computing
+leads_26 = refl
+
+may_size_gone : MayFollow schemas world_26 (9 ∷ []) size_gone
+unfolding computing
+may_size_gone = ((codes "site"), stack_26_site, Gone, refl, refl, (refl, refl, lit≤ tt))
+
+abbrev stack_27_site : StackState
+stack_27_site = record stack_26_site { held = (conf_1 ∷ home_1 ∷ []); tokens = []; events = stack_26_site.events ++ (codes "event 27 Size DELETE_COMPLETE") ∷ []; entries = stack_26_site.entries ++ size_gone ∷ [] }
+
+abbrev world_27 : World
+world_27 = record world_26 { stacks = (((codes "site"), stack_27_site) ∷ ((codes "user"), stack_21_user) ∷ []); place = 27 }
+
+leads_27 : world_after world_26 size_gone ≡ world_27
+unfolding computing
+leads_27 = refl
+
+may_intended_home_gone : MayFollow schemas world_27 [] intended_home_gone
+unfolding computing
+may_intended_home_gone = ((codes "site"), stack_27_site, Gone, refl, refl, record { next = refl; free = refl; home = refl; fits = ((codes "3", refl), refl); no_repeat = refl; chosen = (_, (there here, refl, refl, refl), refl, refl, refl) })
+
+abbrev stack_28_site : StackState
+stack_28_site = record stack_27_site { tokens = (record { token = 10; path = (codes "Home"); lane = (codes "f1"); request = (request.Delete (codes "f1:3")) } ∷ []); events = stack_27_site.events ++ (codes "event 28 Home DELETE_IN_PROGRESS") ∷ []; entries = stack_27_site.entries ++ intended_home_gone ∷ [] }
+
+abbrev world_28 : World
+world_28 = record world_27 { stacks = (((codes "site"), stack_28_site) ∷ ((codes "user"), stack_21_user) ∷ []); token = 10; place = 28 }
+
+leads_28 : world_after world_27 intended_home_gone ≡ world_28
+unfolding computing
+leads_28 = refl
+
+may_home_gone : MayFollow schemas world_28 (10 ∷ []) home_gone
+unfolding computing
+may_home_gone = ((codes "site"), stack_28_site, Gone, refl, refl, (refl, refl, lit≤ tt))
+
+abbrev stack_29_site : StackState
+stack_29_site = record stack_28_site { held = (conf_1 ∷ []); tokens = []; events = stack_28_site.events ++ (codes "event 29 Home DELETE_COMPLETE") ∷ []; entries = stack_28_site.entries ++ home_gone ∷ [] }
+
+abbrev world_29 : World
+world_29 = record world_28 { stacks = (((codes "site"), stack_29_site) ∷ ((codes "user"), stack_21_user) ∷ []); place = 29 }
+
+leads_29 : world_after world_28 home_gone ≡ world_29
+unfolding computing
+leads_29 = refl
+
+may_intended_conf_gone : MayFollow schemas world_29 [] intended_conf_gone
+unfolding computing
+may_intended_conf_gone = ((codes "site"), stack_29_site, Gone, refl, refl, record { next = refl; free = refl; home = refl; fits = ((codes "2", refl), refl); no_repeat = refl; chosen = (_, (here, refl, refl, refl), refl, refl, refl) })
+
+abbrev stack_30_site : StackState
+stack_30_site = record stack_29_site { tokens = (record { token = 11; path = (codes "Conf"); lane = (codes "f1"); request = (request.Delete (codes "f1:2")) } ∷ []); events = stack_29_site.events ++ (codes "event 30 Conf DELETE_IN_PROGRESS") ∷ []; entries = stack_29_site.entries ++ intended_conf_gone ∷ [] }
+
+abbrev world_30 : World
+world_30 = record world_29 { stacks = (((codes "site"), stack_30_site) ∷ ((codes "user"), stack_21_user) ∷ []); token = 11; place = 30 }
+
+leads_30 : world_after world_29 intended_conf_gone ≡ world_30
+unfolding computing
+leads_30 = refl
+
+may_conf_gone : MayFollow schemas world_30 (11 ∷ []) conf_gone
+unfolding computing
+may_conf_gone = ((codes "site"), stack_30_site, Gone, refl, refl, (refl, refl, lit≤ tt))
+
+abbrev stack_31_site : StackState
+stack_31_site = record stack_30_site { held = []; tokens = []; events = stack_30_site.events ++ (codes "event 31 Conf DELETE_COMPLETE") ∷ []; entries = stack_30_site.entries ++ conf_gone ∷ [] }
+
+abbrev world_31 : World
+world_31 = record world_30 { stacks = (((codes "site"), stack_31_site) ∷ ((codes "user"), stack_21_user) ∷ []); place = 31 }
+
+leads_31 : world_after world_30 conf_gone ≡ world_31
+unfolding computing
+leads_31 = refl
+
+may_site_gone : MayFollow schemas world_31 [] site_gone
+unfolding computing
+may_site_gone = ((codes "site"), stack_31_site, Gone, refl, refl, (refl, end_of_deletion schemas (codes "site") world_31 stack_31_site refl refl refl, refl, refl))
+
+abbrev stack_32_site : StackState
+stack_32_site = record stack_31_site { status = status.DeleteComplete; source = None; events = stack_31_site.events ++ (codes "event 32 - DELETE_COMPLETE") ∷ []; entries = stack_31_site.entries ++ site_gone ∷ [] }
+
+abbrev world_32 : World
+world_32 = record world_31 { stacks = (((codes "site"), stack_32_site) ∷ ((codes "user"), stack_21_user) ∷ []); place = 32 }
+
+leads_32 : world_after world_31 site_gone ≡ world_32
+unfolding computing
+leads_32 = refl
+
+pub legal : Legal
+legal = legal_step world_0 world_1 opened (begun ∷ intended_audit ∷ made_audit ∷ intended_conf ∷ made_conf ∷ intended_home ∷ made_home ∷ intended_main ∷ made_main ∷ intended_size ∷ made_size ∷ created ∷ begun_user ∷ intended_use ∷ made_use ∷ created_user ∷ deleting_user ∷ intended_use_gone ∷ use_gone ∷ user_gone ∷ deleting_site ∷ kept_audit ∷ intended_main_gone ∷ main_gone ∷ intended_size_gone ∷ size_gone ∷ intended_home_gone ∷ home_gone ∷ intended_conf_gone ∷ conf_gone ∷ site_gone ∷ []) [] may_opened leads_1 (legal_step world_1 world_2 begun (intended_audit ∷ made_audit ∷ intended_conf ∷ made_conf ∷ intended_home ∷ made_home ∷ intended_main ∷ made_main ∷ intended_size ∷ made_size ∷ created ∷ begun_user ∷ intended_use ∷ made_use ∷ created_user ∷ deleting_user ∷ intended_use_gone ∷ use_gone ∷ user_gone ∷ deleting_site ∷ kept_audit ∷ intended_main_gone ∷ main_gone ∷ intended_size_gone ∷ size_gone ∷ intended_home_gone ∷ home_gone ∷ intended_conf_gone ∷ conf_gone ∷ site_gone ∷ []) [] may_begun leads_2 (legal_step world_2 world_3 intended_audit (made_audit ∷ intended_conf ∷ made_conf ∷ intended_home ∷ made_home ∷ intended_main ∷ made_main ∷ intended_size ∷ made_size ∷ created ∷ begun_user ∷ intended_use ∷ made_use ∷ created_user ∷ deleting_user ∷ intended_use_gone ∷ use_gone ∷ user_gone ∷ deleting_site ∷ kept_audit ∷ intended_main_gone ∷ main_gone ∷ intended_size_gone ∷ size_gone ∷ intended_home_gone ∷ home_gone ∷ intended_conf_gone ∷ conf_gone ∷ site_gone ∷ []) [] may_intended_audit leads_3 (legal_step world_3 world_4 made_audit (intended_conf ∷ made_conf ∷ intended_home ∷ made_home ∷ intended_main ∷ made_main ∷ intended_size ∷ made_size ∷ created ∷ begun_user ∷ intended_use ∷ made_use ∷ created_user ∷ deleting_user ∷ intended_use_gone ∷ use_gone ∷ user_gone ∷ deleting_site ∷ kept_audit ∷ intended_main_gone ∷ main_gone ∷ intended_size_gone ∷ size_gone ∷ intended_home_gone ∷ home_gone ∷ intended_conf_gone ∷ conf_gone ∷ site_gone ∷ []) (1 ∷ []) may_made_audit leads_4 (legal_step world_4 world_5 intended_conf (made_conf ∷ intended_home ∷ made_home ∷ intended_main ∷ made_main ∷ intended_size ∷ made_size ∷ created ∷ begun_user ∷ intended_use ∷ made_use ∷ created_user ∷ deleting_user ∷ intended_use_gone ∷ use_gone ∷ user_gone ∷ deleting_site ∷ kept_audit ∷ intended_main_gone ∷ main_gone ∷ intended_size_gone ∷ size_gone ∷ intended_home_gone ∷ home_gone ∷ intended_conf_gone ∷ conf_gone ∷ site_gone ∷ []) [] may_intended_conf leads_5 (legal_step world_5 world_6 made_conf (intended_home ∷ made_home ∷ intended_main ∷ made_main ∷ intended_size ∷ made_size ∷ created ∷ begun_user ∷ intended_use ∷ made_use ∷ created_user ∷ deleting_user ∷ intended_use_gone ∷ use_gone ∷ user_gone ∷ deleting_site ∷ kept_audit ∷ intended_main_gone ∷ main_gone ∷ intended_size_gone ∷ size_gone ∷ intended_home_gone ∷ home_gone ∷ intended_conf_gone ∷ conf_gone ∷ site_gone ∷ []) (2 ∷ []) may_made_conf leads_6 (legal_step world_6 world_7 intended_home (made_home ∷ intended_main ∷ made_main ∷ intended_size ∷ made_size ∷ created ∷ begun_user ∷ intended_use ∷ made_use ∷ created_user ∷ deleting_user ∷ intended_use_gone ∷ use_gone ∷ user_gone ∷ deleting_site ∷ kept_audit ∷ intended_main_gone ∷ main_gone ∷ intended_size_gone ∷ size_gone ∷ intended_home_gone ∷ home_gone ∷ intended_conf_gone ∷ conf_gone ∷ site_gone ∷ []) [] may_intended_home leads_7 (legal_step world_7 world_8 made_home (intended_main ∷ made_main ∷ intended_size ∷ made_size ∷ created ∷ begun_user ∷ intended_use ∷ made_use ∷ created_user ∷ deleting_user ∷ intended_use_gone ∷ use_gone ∷ user_gone ∷ deleting_site ∷ kept_audit ∷ intended_main_gone ∷ main_gone ∷ intended_size_gone ∷ size_gone ∷ intended_home_gone ∷ home_gone ∷ intended_conf_gone ∷ conf_gone ∷ site_gone ∷ []) (3 ∷ []) may_made_home leads_8 (legal_step world_8 world_9 intended_main (made_main ∷ intended_size ∷ made_size ∷ created ∷ begun_user ∷ intended_use ∷ made_use ∷ created_user ∷ deleting_user ∷ intended_use_gone ∷ use_gone ∷ user_gone ∷ deleting_site ∷ kept_audit ∷ intended_main_gone ∷ main_gone ∷ intended_size_gone ∷ size_gone ∷ intended_home_gone ∷ home_gone ∷ intended_conf_gone ∷ conf_gone ∷ site_gone ∷ []) [] may_intended_main leads_9 (legal_step world_9 world_10 made_main (intended_size ∷ made_size ∷ created ∷ begun_user ∷ intended_use ∷ made_use ∷ created_user ∷ deleting_user ∷ intended_use_gone ∷ use_gone ∷ user_gone ∷ deleting_site ∷ kept_audit ∷ intended_main_gone ∷ main_gone ∷ intended_size_gone ∷ size_gone ∷ intended_home_gone ∷ home_gone ∷ intended_conf_gone ∷ conf_gone ∷ site_gone ∷ []) (4 ∷ []) may_made_main leads_10 (legal_step world_10 world_11 intended_size (made_size ∷ created ∷ begun_user ∷ intended_use ∷ made_use ∷ created_user ∷ deleting_user ∷ intended_use_gone ∷ use_gone ∷ user_gone ∷ deleting_site ∷ kept_audit ∷ intended_main_gone ∷ main_gone ∷ intended_size_gone ∷ size_gone ∷ intended_home_gone ∷ home_gone ∷ intended_conf_gone ∷ conf_gone ∷ site_gone ∷ []) [] may_intended_size leads_11 (legal_step world_11 world_12 made_size (created ∷ begun_user ∷ intended_use ∷ made_use ∷ created_user ∷ deleting_user ∷ intended_use_gone ∷ use_gone ∷ user_gone ∷ deleting_site ∷ kept_audit ∷ intended_main_gone ∷ main_gone ∷ intended_size_gone ∷ size_gone ∷ intended_home_gone ∷ home_gone ∷ intended_conf_gone ∷ conf_gone ∷ site_gone ∷ []) (5 ∷ []) may_made_size leads_12 (legal_step world_12 world_13 created (begun_user ∷ intended_use ∷ made_use ∷ created_user ∷ deleting_user ∷ intended_use_gone ∷ use_gone ∷ user_gone ∷ deleting_site ∷ kept_audit ∷ intended_main_gone ∷ main_gone ∷ intended_size_gone ∷ size_gone ∷ intended_home_gone ∷ home_gone ∷ intended_conf_gone ∷ conf_gone ∷ site_gone ∷ []) [] may_created leads_13 (legal_step world_13 world_14 begun_user (intended_use ∷ made_use ∷ created_user ∷ deleting_user ∷ intended_use_gone ∷ use_gone ∷ user_gone ∷ deleting_site ∷ kept_audit ∷ intended_main_gone ∷ main_gone ∷ intended_size_gone ∷ size_gone ∷ intended_home_gone ∷ home_gone ∷ intended_conf_gone ∷ conf_gone ∷ site_gone ∷ []) [] may_begun_user leads_14 (legal_step world_14 world_15 intended_use (made_use ∷ created_user ∷ deleting_user ∷ intended_use_gone ∷ use_gone ∷ user_gone ∷ deleting_site ∷ kept_audit ∷ intended_main_gone ∷ main_gone ∷ intended_size_gone ∷ size_gone ∷ intended_home_gone ∷ home_gone ∷ intended_conf_gone ∷ conf_gone ∷ site_gone ∷ []) [] may_intended_use leads_15 (legal_step world_15 world_16 made_use (created_user ∷ deleting_user ∷ intended_use_gone ∷ use_gone ∷ user_gone ∷ deleting_site ∷ kept_audit ∷ intended_main_gone ∷ main_gone ∷ intended_size_gone ∷ size_gone ∷ intended_home_gone ∷ home_gone ∷ intended_conf_gone ∷ conf_gone ∷ site_gone ∷ []) (6 ∷ []) may_made_use leads_16 (legal_step world_16 world_17 created_user (deleting_user ∷ intended_use_gone ∷ use_gone ∷ user_gone ∷ deleting_site ∷ kept_audit ∷ intended_main_gone ∷ main_gone ∷ intended_size_gone ∷ size_gone ∷ intended_home_gone ∷ home_gone ∷ intended_conf_gone ∷ conf_gone ∷ site_gone ∷ []) [] may_created_user leads_17 (legal_step world_17 world_18 deleting_user (intended_use_gone ∷ use_gone ∷ user_gone ∷ deleting_site ∷ kept_audit ∷ intended_main_gone ∷ main_gone ∷ intended_size_gone ∷ size_gone ∷ intended_home_gone ∷ home_gone ∷ intended_conf_gone ∷ conf_gone ∷ site_gone ∷ []) [] may_deleting_user leads_18 (legal_step world_18 world_19 intended_use_gone (use_gone ∷ user_gone ∷ deleting_site ∷ kept_audit ∷ intended_main_gone ∷ main_gone ∷ intended_size_gone ∷ size_gone ∷ intended_home_gone ∷ home_gone ∷ intended_conf_gone ∷ conf_gone ∷ site_gone ∷ []) [] may_intended_use_gone leads_19 (legal_step world_19 world_20 use_gone (user_gone ∷ deleting_site ∷ kept_audit ∷ intended_main_gone ∷ main_gone ∷ intended_size_gone ∷ size_gone ∷ intended_home_gone ∷ home_gone ∷ intended_conf_gone ∷ conf_gone ∷ site_gone ∷ []) (7 ∷ []) may_use_gone leads_20 (legal_step world_20 world_21 user_gone (deleting_site ∷ kept_audit ∷ intended_main_gone ∷ main_gone ∷ intended_size_gone ∷ size_gone ∷ intended_home_gone ∷ home_gone ∷ intended_conf_gone ∷ conf_gone ∷ site_gone ∷ []) [] may_user_gone leads_21 (legal_step world_21 world_22 deleting_site (kept_audit ∷ intended_main_gone ∷ main_gone ∷ intended_size_gone ∷ size_gone ∷ intended_home_gone ∷ home_gone ∷ intended_conf_gone ∷ conf_gone ∷ site_gone ∷ []) [] may_deleting_site leads_22 (legal_step world_22 world_23 kept_audit (intended_main_gone ∷ main_gone ∷ intended_size_gone ∷ size_gone ∷ intended_home_gone ∷ home_gone ∷ intended_conf_gone ∷ conf_gone ∷ site_gone ∷ []) [] may_kept_audit leads_23 (legal_step world_23 world_24 intended_main_gone (main_gone ∷ intended_size_gone ∷ size_gone ∷ intended_home_gone ∷ home_gone ∷ intended_conf_gone ∷ conf_gone ∷ site_gone ∷ []) [] may_intended_main_gone leads_24 (legal_step world_24 world_25 main_gone (intended_size_gone ∷ size_gone ∷ intended_home_gone ∷ home_gone ∷ intended_conf_gone ∷ conf_gone ∷ site_gone ∷ []) (8 ∷ []) may_main_gone leads_25 (legal_step world_25 world_26 intended_size_gone (size_gone ∷ intended_home_gone ∷ home_gone ∷ intended_conf_gone ∷ conf_gone ∷ site_gone ∷ []) [] may_intended_size_gone leads_26 (legal_step world_26 world_27 size_gone (intended_home_gone ∷ home_gone ∷ intended_conf_gone ∷ conf_gone ∷ site_gone ∷ []) (9 ∷ []) may_size_gone leads_27 (legal_step world_27 world_28 intended_home_gone (home_gone ∷ intended_conf_gone ∷ conf_gone ∷ site_gone ∷ []) [] may_intended_home_gone leads_28 (legal_step world_28 world_29 home_gone (intended_conf_gone ∷ conf_gone ∷ site_gone ∷ []) (10 ∷ []) may_home_gone leads_29 (legal_step world_29 world_30 intended_conf_gone (conf_gone ∷ site_gone ∷ []) [] may_intended_conf_gone leads_30 (legal_step world_30 world_31 conf_gone (site_gone ∷ []) (11 ∷ []) may_conf_gone leads_31 (legal_step world_31 world_32 site_gone ([]) [] may_site_gone leads_32 (tt))))))))))))))))))))))))))))))))
+
+arrives_13 : fold_of empty_world (opened ∷ begun ∷ intended_audit ∷ made_audit ∷ intended_conf ∷ made_conf ∷ intended_home ∷ made_home ∷ intended_main ∷ made_main ∷ intended_size ∷ made_size ∷ created ∷ []) ≡ world_13
+arrives_13 = fold_step world_0 world_1 opened (begun ∷ intended_audit ∷ made_audit ∷ intended_conf ∷ made_conf ∷ intended_home ∷ made_home ∷ intended_main ∷ made_main ∷ intended_size ∷ made_size ∷ created ∷ []) leads_1 (fold_step world_1 world_2 begun (intended_audit ∷ made_audit ∷ intended_conf ∷ made_conf ∷ intended_home ∷ made_home ∷ intended_main ∷ made_main ∷ intended_size ∷ made_size ∷ created ∷ []) leads_2 (fold_step world_2 world_3 intended_audit (made_audit ∷ intended_conf ∷ made_conf ∷ intended_home ∷ made_home ∷ intended_main ∷ made_main ∷ intended_size ∷ made_size ∷ created ∷ []) leads_3 (fold_step world_3 world_4 made_audit (intended_conf ∷ made_conf ∷ intended_home ∷ made_home ∷ intended_main ∷ made_main ∷ intended_size ∷ made_size ∷ created ∷ []) leads_4 (fold_step world_4 world_5 intended_conf (made_conf ∷ intended_home ∷ made_home ∷ intended_main ∷ made_main ∷ intended_size ∷ made_size ∷ created ∷ []) leads_5 (fold_step world_5 world_6 made_conf (intended_home ∷ made_home ∷ intended_main ∷ made_main ∷ intended_size ∷ made_size ∷ created ∷ []) leads_6 (fold_step world_6 world_7 intended_home (made_home ∷ intended_main ∷ made_main ∷ intended_size ∷ made_size ∷ created ∷ []) leads_7 (fold_step world_7 world_8 made_home (intended_main ∷ made_main ∷ intended_size ∷ made_size ∷ created ∷ []) leads_8 (fold_step world_8 world_9 intended_main (made_main ∷ intended_size ∷ made_size ∷ created ∷ []) leads_9 (fold_step world_9 world_10 made_main (intended_size ∷ made_size ∷ created ∷ []) leads_10 (fold_step world_10 world_11 intended_size (made_size ∷ created ∷ []) leads_11 (fold_step world_11 world_12 made_size (created ∷ []) leads_12 (fold_step world_12 world_13 created ([]) leads_13 (refl)))))))))))))
+
+pub arrives_17 : fold_of empty_world (opened ∷ begun ∷ intended_audit ∷ made_audit ∷ intended_conf ∷ made_conf ∷ intended_home ∷ made_home ∷ intended_main ∷ made_main ∷ intended_size ∷ made_size ∷ created ∷ begun_user ∷ intended_use ∷ made_use ∷ created_user ∷ []) ≡ world_17
+arrives_17 = fold_step world_0 world_1 opened (begun ∷ intended_audit ∷ made_audit ∷ intended_conf ∷ made_conf ∷ intended_home ∷ made_home ∷ intended_main ∷ made_main ∷ intended_size ∷ made_size ∷ created ∷ begun_user ∷ intended_use ∷ made_use ∷ created_user ∷ []) leads_1 (fold_step world_1 world_2 begun (intended_audit ∷ made_audit ∷ intended_conf ∷ made_conf ∷ intended_home ∷ made_home ∷ intended_main ∷ made_main ∷ intended_size ∷ made_size ∷ created ∷ begun_user ∷ intended_use ∷ made_use ∷ created_user ∷ []) leads_2 (fold_step world_2 world_3 intended_audit (made_audit ∷ intended_conf ∷ made_conf ∷ intended_home ∷ made_home ∷ intended_main ∷ made_main ∷ intended_size ∷ made_size ∷ created ∷ begun_user ∷ intended_use ∷ made_use ∷ created_user ∷ []) leads_3 (fold_step world_3 world_4 made_audit (intended_conf ∷ made_conf ∷ intended_home ∷ made_home ∷ intended_main ∷ made_main ∷ intended_size ∷ made_size ∷ created ∷ begun_user ∷ intended_use ∷ made_use ∷ created_user ∷ []) leads_4 (fold_step world_4 world_5 intended_conf (made_conf ∷ intended_home ∷ made_home ∷ intended_main ∷ made_main ∷ intended_size ∷ made_size ∷ created ∷ begun_user ∷ intended_use ∷ made_use ∷ created_user ∷ []) leads_5 (fold_step world_5 world_6 made_conf (intended_home ∷ made_home ∷ intended_main ∷ made_main ∷ intended_size ∷ made_size ∷ created ∷ begun_user ∷ intended_use ∷ made_use ∷ created_user ∷ []) leads_6 (fold_step world_6 world_7 intended_home (made_home ∷ intended_main ∷ made_main ∷ intended_size ∷ made_size ∷ created ∷ begun_user ∷ intended_use ∷ made_use ∷ created_user ∷ []) leads_7 (fold_step world_7 world_8 made_home (intended_main ∷ made_main ∷ intended_size ∷ made_size ∷ created ∷ begun_user ∷ intended_use ∷ made_use ∷ created_user ∷ []) leads_8 (fold_step world_8 world_9 intended_main (made_main ∷ intended_size ∷ made_size ∷ created ∷ begun_user ∷ intended_use ∷ made_use ∷ created_user ∷ []) leads_9 (fold_step world_9 world_10 made_main (intended_size ∷ made_size ∷ created ∷ begun_user ∷ intended_use ∷ made_use ∷ created_user ∷ []) leads_10 (fold_step world_10 world_11 intended_size (made_size ∷ created ∷ begun_user ∷ intended_use ∷ made_use ∷ created_user ∷ []) leads_11 (fold_step world_11 world_12 made_size (created ∷ begun_user ∷ intended_use ∷ made_use ∷ created_user ∷ []) leads_12 (fold_step world_12 world_13 created (begun_user ∷ intended_use ∷ made_use ∷ created_user ∷ []) leads_13 (fold_step world_13 world_14 begun_user (intended_use ∷ made_use ∷ created_user ∷ []) leads_14 (fold_step world_14 world_15 intended_use (made_use ∷ created_user ∷ []) leads_15 (fold_step world_15 world_16 made_use (created_user ∷ []) leads_16 (fold_step world_16 world_17 created_user ([]) leads_17 (refl)))))))))))))))))
+
+arrives_22 : fold_of empty_world (opened ∷ begun ∷ intended_audit ∷ made_audit ∷ intended_conf ∷ made_conf ∷ intended_home ∷ made_home ∷ intended_main ∷ made_main ∷ intended_size ∷ made_size ∷ created ∷ begun_user ∷ intended_use ∷ made_use ∷ created_user ∷ deleting_user ∷ intended_use_gone ∷ use_gone ∷ user_gone ∷ deleting_site ∷ []) ≡ world_22
+arrives_22 = fold_step world_0 world_1 opened (begun ∷ intended_audit ∷ made_audit ∷ intended_conf ∷ made_conf ∷ intended_home ∷ made_home ∷ intended_main ∷ made_main ∷ intended_size ∷ made_size ∷ created ∷ begun_user ∷ intended_use ∷ made_use ∷ created_user ∷ deleting_user ∷ intended_use_gone ∷ use_gone ∷ user_gone ∷ deleting_site ∷ []) leads_1 (fold_step world_1 world_2 begun (intended_audit ∷ made_audit ∷ intended_conf ∷ made_conf ∷ intended_home ∷ made_home ∷ intended_main ∷ made_main ∷ intended_size ∷ made_size ∷ created ∷ begun_user ∷ intended_use ∷ made_use ∷ created_user ∷ deleting_user ∷ intended_use_gone ∷ use_gone ∷ user_gone ∷ deleting_site ∷ []) leads_2 (fold_step world_2 world_3 intended_audit (made_audit ∷ intended_conf ∷ made_conf ∷ intended_home ∷ made_home ∷ intended_main ∷ made_main ∷ intended_size ∷ made_size ∷ created ∷ begun_user ∷ intended_use ∷ made_use ∷ created_user ∷ deleting_user ∷ intended_use_gone ∷ use_gone ∷ user_gone ∷ deleting_site ∷ []) leads_3 (fold_step world_3 world_4 made_audit (intended_conf ∷ made_conf ∷ intended_home ∷ made_home ∷ intended_main ∷ made_main ∷ intended_size ∷ made_size ∷ created ∷ begun_user ∷ intended_use ∷ made_use ∷ created_user ∷ deleting_user ∷ intended_use_gone ∷ use_gone ∷ user_gone ∷ deleting_site ∷ []) leads_4 (fold_step world_4 world_5 intended_conf (made_conf ∷ intended_home ∷ made_home ∷ intended_main ∷ made_main ∷ intended_size ∷ made_size ∷ created ∷ begun_user ∷ intended_use ∷ made_use ∷ created_user ∷ deleting_user ∷ intended_use_gone ∷ use_gone ∷ user_gone ∷ deleting_site ∷ []) leads_5 (fold_step world_5 world_6 made_conf (intended_home ∷ made_home ∷ intended_main ∷ made_main ∷ intended_size ∷ made_size ∷ created ∷ begun_user ∷ intended_use ∷ made_use ∷ created_user ∷ deleting_user ∷ intended_use_gone ∷ use_gone ∷ user_gone ∷ deleting_site ∷ []) leads_6 (fold_step world_6 world_7 intended_home (made_home ∷ intended_main ∷ made_main ∷ intended_size ∷ made_size ∷ created ∷ begun_user ∷ intended_use ∷ made_use ∷ created_user ∷ deleting_user ∷ intended_use_gone ∷ use_gone ∷ user_gone ∷ deleting_site ∷ []) leads_7 (fold_step world_7 world_8 made_home (intended_main ∷ made_main ∷ intended_size ∷ made_size ∷ created ∷ begun_user ∷ intended_use ∷ made_use ∷ created_user ∷ deleting_user ∷ intended_use_gone ∷ use_gone ∷ user_gone ∷ deleting_site ∷ []) leads_8 (fold_step world_8 world_9 intended_main (made_main ∷ intended_size ∷ made_size ∷ created ∷ begun_user ∷ intended_use ∷ made_use ∷ created_user ∷ deleting_user ∷ intended_use_gone ∷ use_gone ∷ user_gone ∷ deleting_site ∷ []) leads_9 (fold_step world_9 world_10 made_main (intended_size ∷ made_size ∷ created ∷ begun_user ∷ intended_use ∷ made_use ∷ created_user ∷ deleting_user ∷ intended_use_gone ∷ use_gone ∷ user_gone ∷ deleting_site ∷ []) leads_10 (fold_step world_10 world_11 intended_size (made_size ∷ created ∷ begun_user ∷ intended_use ∷ made_use ∷ created_user ∷ deleting_user ∷ intended_use_gone ∷ use_gone ∷ user_gone ∷ deleting_site ∷ []) leads_11 (fold_step world_11 world_12 made_size (created ∷ begun_user ∷ intended_use ∷ made_use ∷ created_user ∷ deleting_user ∷ intended_use_gone ∷ use_gone ∷ user_gone ∷ deleting_site ∷ []) leads_12 (fold_step world_12 world_13 created (begun_user ∷ intended_use ∷ made_use ∷ created_user ∷ deleting_user ∷ intended_use_gone ∷ use_gone ∷ user_gone ∷ deleting_site ∷ []) leads_13 (fold_step world_13 world_14 begun_user (intended_use ∷ made_use ∷ created_user ∷ deleting_user ∷ intended_use_gone ∷ use_gone ∷ user_gone ∷ deleting_site ∷ []) leads_14 (fold_step world_14 world_15 intended_use (made_use ∷ created_user ∷ deleting_user ∷ intended_use_gone ∷ use_gone ∷ user_gone ∷ deleting_site ∷ []) leads_15 (fold_step world_15 world_16 made_use (created_user ∷ deleting_user ∷ intended_use_gone ∷ use_gone ∷ user_gone ∷ deleting_site ∷ []) leads_16 (fold_step world_16 world_17 created_user (deleting_user ∷ intended_use_gone ∷ use_gone ∷ user_gone ∷ deleting_site ∷ []) leads_17 (fold_step world_17 world_18 deleting_user (intended_use_gone ∷ use_gone ∷ user_gone ∷ deleting_site ∷ []) leads_18 (fold_step world_18 world_19 intended_use_gone (use_gone ∷ user_gone ∷ deleting_site ∷ []) leads_19 (fold_step world_19 world_20 use_gone (user_gone ∷ deleting_site ∷ []) leads_20 (fold_step world_20 world_21 user_gone (deleting_site ∷ []) leads_21 (fold_step world_21 world_22 deleting_site ([]) leads_22 (refl))))))))))))))))))))))
+
+arrives_23 : fold_of empty_world (opened ∷ begun ∷ intended_audit ∷ made_audit ∷ intended_conf ∷ made_conf ∷ intended_home ∷ made_home ∷ intended_main ∷ made_main ∷ intended_size ∷ made_size ∷ created ∷ begun_user ∷ intended_use ∷ made_use ∷ created_user ∷ deleting_user ∷ intended_use_gone ∷ use_gone ∷ user_gone ∷ deleting_site ∷ kept_audit ∷ []) ≡ world_23
+arrives_23 = fold_step world_0 world_1 opened (begun ∷ intended_audit ∷ made_audit ∷ intended_conf ∷ made_conf ∷ intended_home ∷ made_home ∷ intended_main ∷ made_main ∷ intended_size ∷ made_size ∷ created ∷ begun_user ∷ intended_use ∷ made_use ∷ created_user ∷ deleting_user ∷ intended_use_gone ∷ use_gone ∷ user_gone ∷ deleting_site ∷ kept_audit ∷ []) leads_1 (fold_step world_1 world_2 begun (intended_audit ∷ made_audit ∷ intended_conf ∷ made_conf ∷ intended_home ∷ made_home ∷ intended_main ∷ made_main ∷ intended_size ∷ made_size ∷ created ∷ begun_user ∷ intended_use ∷ made_use ∷ created_user ∷ deleting_user ∷ intended_use_gone ∷ use_gone ∷ user_gone ∷ deleting_site ∷ kept_audit ∷ []) leads_2 (fold_step world_2 world_3 intended_audit (made_audit ∷ intended_conf ∷ made_conf ∷ intended_home ∷ made_home ∷ intended_main ∷ made_main ∷ intended_size ∷ made_size ∷ created ∷ begun_user ∷ intended_use ∷ made_use ∷ created_user ∷ deleting_user ∷ intended_use_gone ∷ use_gone ∷ user_gone ∷ deleting_site ∷ kept_audit ∷ []) leads_3 (fold_step world_3 world_4 made_audit (intended_conf ∷ made_conf ∷ intended_home ∷ made_home ∷ intended_main ∷ made_main ∷ intended_size ∷ made_size ∷ created ∷ begun_user ∷ intended_use ∷ made_use ∷ created_user ∷ deleting_user ∷ intended_use_gone ∷ use_gone ∷ user_gone ∷ deleting_site ∷ kept_audit ∷ []) leads_4 (fold_step world_4 world_5 intended_conf (made_conf ∷ intended_home ∷ made_home ∷ intended_main ∷ made_main ∷ intended_size ∷ made_size ∷ created ∷ begun_user ∷ intended_use ∷ made_use ∷ created_user ∷ deleting_user ∷ intended_use_gone ∷ use_gone ∷ user_gone ∷ deleting_site ∷ kept_audit ∷ []) leads_5 (fold_step world_5 world_6 made_conf (intended_home ∷ made_home ∷ intended_main ∷ made_main ∷ intended_size ∷ made_size ∷ created ∷ begun_user ∷ intended_use ∷ made_use ∷ created_user ∷ deleting_user ∷ intended_use_gone ∷ use_gone ∷ user_gone ∷ deleting_site ∷ kept_audit ∷ []) leads_6 (fold_step world_6 world_7 intended_home (made_home ∷ intended_main ∷ made_main ∷ intended_size ∷ made_size ∷ created ∷ begun_user ∷ intended_use ∷ made_use ∷ created_user ∷ deleting_user ∷ intended_use_gone ∷ use_gone ∷ user_gone ∷ deleting_site ∷ kept_audit ∷ []) leads_7 (fold_step world_7 world_8 made_home (intended_main ∷ made_main ∷ intended_size ∷ made_size ∷ created ∷ begun_user ∷ intended_use ∷ made_use ∷ created_user ∷ deleting_user ∷ intended_use_gone ∷ use_gone ∷ user_gone ∷ deleting_site ∷ kept_audit ∷ []) leads_8 (fold_step world_8 world_9 intended_main (made_main ∷ intended_size ∷ made_size ∷ created ∷ begun_user ∷ intended_use ∷ made_use ∷ created_user ∷ deleting_user ∷ intended_use_gone ∷ use_gone ∷ user_gone ∷ deleting_site ∷ kept_audit ∷ []) leads_9 (fold_step world_9 world_10 made_main (intended_size ∷ made_size ∷ created ∷ begun_user ∷ intended_use ∷ made_use ∷ created_user ∷ deleting_user ∷ intended_use_gone ∷ use_gone ∷ user_gone ∷ deleting_site ∷ kept_audit ∷ []) leads_10 (fold_step world_10 world_11 intended_size (made_size ∷ created ∷ begun_user ∷ intended_use ∷ made_use ∷ created_user ∷ deleting_user ∷ intended_use_gone ∷ use_gone ∷ user_gone ∷ deleting_site ∷ kept_audit ∷ []) leads_11 (fold_step world_11 world_12 made_size (created ∷ begun_user ∷ intended_use ∷ made_use ∷ created_user ∷ deleting_user ∷ intended_use_gone ∷ use_gone ∷ user_gone ∷ deleting_site ∷ kept_audit ∷ []) leads_12 (fold_step world_12 world_13 created (begun_user ∷ intended_use ∷ made_use ∷ created_user ∷ deleting_user ∷ intended_use_gone ∷ use_gone ∷ user_gone ∷ deleting_site ∷ kept_audit ∷ []) leads_13 (fold_step world_13 world_14 begun_user (intended_use ∷ made_use ∷ created_user ∷ deleting_user ∷ intended_use_gone ∷ use_gone ∷ user_gone ∷ deleting_site ∷ kept_audit ∷ []) leads_14 (fold_step world_14 world_15 intended_use (made_use ∷ created_user ∷ deleting_user ∷ intended_use_gone ∷ use_gone ∷ user_gone ∷ deleting_site ∷ kept_audit ∷ []) leads_15 (fold_step world_15 world_16 made_use (created_user ∷ deleting_user ∷ intended_use_gone ∷ use_gone ∷ user_gone ∷ deleting_site ∷ kept_audit ∷ []) leads_16 (fold_step world_16 world_17 created_user (deleting_user ∷ intended_use_gone ∷ use_gone ∷ user_gone ∷ deleting_site ∷ kept_audit ∷ []) leads_17 (fold_step world_17 world_18 deleting_user (intended_use_gone ∷ use_gone ∷ user_gone ∷ deleting_site ∷ kept_audit ∷ []) leads_18 (fold_step world_18 world_19 intended_use_gone (use_gone ∷ user_gone ∷ deleting_site ∷ kept_audit ∷ []) leads_19 (fold_step world_19 world_20 use_gone (user_gone ∷ deleting_site ∷ kept_audit ∷ []) leads_20 (fold_step world_20 world_21 user_gone (deleting_site ∷ kept_audit ∷ []) leads_21 (fold_step world_21 world_22 deleting_site (kept_audit ∷ []) leads_22 (fold_step world_22 world_23 kept_audit ([]) leads_23 (refl)))))))))))))))))))))))
+
+arrives_32 : fold_of empty_world (opened ∷ begun ∷ intended_audit ∷ made_audit ∷ intended_conf ∷ made_conf ∷ intended_home ∷ made_home ∷ intended_main ∷ made_main ∷ intended_size ∷ made_size ∷ created ∷ begun_user ∷ intended_use ∷ made_use ∷ created_user ∷ deleting_user ∷ intended_use_gone ∷ use_gone ∷ user_gone ∷ deleting_site ∷ kept_audit ∷ intended_main_gone ∷ main_gone ∷ intended_size_gone ∷ size_gone ∷ intended_home_gone ∷ home_gone ∷ intended_conf_gone ∷ conf_gone ∷ site_gone ∷ []) ≡ world_32
+arrives_32 = fold_step world_0 world_1 opened (begun ∷ intended_audit ∷ made_audit ∷ intended_conf ∷ made_conf ∷ intended_home ∷ made_home ∷ intended_main ∷ made_main ∷ intended_size ∷ made_size ∷ created ∷ begun_user ∷ intended_use ∷ made_use ∷ created_user ∷ deleting_user ∷ intended_use_gone ∷ use_gone ∷ user_gone ∷ deleting_site ∷ kept_audit ∷ intended_main_gone ∷ main_gone ∷ intended_size_gone ∷ size_gone ∷ intended_home_gone ∷ home_gone ∷ intended_conf_gone ∷ conf_gone ∷ site_gone ∷ []) leads_1 (fold_step world_1 world_2 begun (intended_audit ∷ made_audit ∷ intended_conf ∷ made_conf ∷ intended_home ∷ made_home ∷ intended_main ∷ made_main ∷ intended_size ∷ made_size ∷ created ∷ begun_user ∷ intended_use ∷ made_use ∷ created_user ∷ deleting_user ∷ intended_use_gone ∷ use_gone ∷ user_gone ∷ deleting_site ∷ kept_audit ∷ intended_main_gone ∷ main_gone ∷ intended_size_gone ∷ size_gone ∷ intended_home_gone ∷ home_gone ∷ intended_conf_gone ∷ conf_gone ∷ site_gone ∷ []) leads_2 (fold_step world_2 world_3 intended_audit (made_audit ∷ intended_conf ∷ made_conf ∷ intended_home ∷ made_home ∷ intended_main ∷ made_main ∷ intended_size ∷ made_size ∷ created ∷ begun_user ∷ intended_use ∷ made_use ∷ created_user ∷ deleting_user ∷ intended_use_gone ∷ use_gone ∷ user_gone ∷ deleting_site ∷ kept_audit ∷ intended_main_gone ∷ main_gone ∷ intended_size_gone ∷ size_gone ∷ intended_home_gone ∷ home_gone ∷ intended_conf_gone ∷ conf_gone ∷ site_gone ∷ []) leads_3 (fold_step world_3 world_4 made_audit (intended_conf ∷ made_conf ∷ intended_home ∷ made_home ∷ intended_main ∷ made_main ∷ intended_size ∷ made_size ∷ created ∷ begun_user ∷ intended_use ∷ made_use ∷ created_user ∷ deleting_user ∷ intended_use_gone ∷ use_gone ∷ user_gone ∷ deleting_site ∷ kept_audit ∷ intended_main_gone ∷ main_gone ∷ intended_size_gone ∷ size_gone ∷ intended_home_gone ∷ home_gone ∷ intended_conf_gone ∷ conf_gone ∷ site_gone ∷ []) leads_4 (fold_step world_4 world_5 intended_conf (made_conf ∷ intended_home ∷ made_home ∷ intended_main ∷ made_main ∷ intended_size ∷ made_size ∷ created ∷ begun_user ∷ intended_use ∷ made_use ∷ created_user ∷ deleting_user ∷ intended_use_gone ∷ use_gone ∷ user_gone ∷ deleting_site ∷ kept_audit ∷ intended_main_gone ∷ main_gone ∷ intended_size_gone ∷ size_gone ∷ intended_home_gone ∷ home_gone ∷ intended_conf_gone ∷ conf_gone ∷ site_gone ∷ []) leads_5 (fold_step world_5 world_6 made_conf (intended_home ∷ made_home ∷ intended_main ∷ made_main ∷ intended_size ∷ made_size ∷ created ∷ begun_user ∷ intended_use ∷ made_use ∷ created_user ∷ deleting_user ∷ intended_use_gone ∷ use_gone ∷ user_gone ∷ deleting_site ∷ kept_audit ∷ intended_main_gone ∷ main_gone ∷ intended_size_gone ∷ size_gone ∷ intended_home_gone ∷ home_gone ∷ intended_conf_gone ∷ conf_gone ∷ site_gone ∷ []) leads_6 (fold_step world_6 world_7 intended_home (made_home ∷ intended_main ∷ made_main ∷ intended_size ∷ made_size ∷ created ∷ begun_user ∷ intended_use ∷ made_use ∷ created_user ∷ deleting_user ∷ intended_use_gone ∷ use_gone ∷ user_gone ∷ deleting_site ∷ kept_audit ∷ intended_main_gone ∷ main_gone ∷ intended_size_gone ∷ size_gone ∷ intended_home_gone ∷ home_gone ∷ intended_conf_gone ∷ conf_gone ∷ site_gone ∷ []) leads_7 (fold_step world_7 world_8 made_home (intended_main ∷ made_main ∷ intended_size ∷ made_size ∷ created ∷ begun_user ∷ intended_use ∷ made_use ∷ created_user ∷ deleting_user ∷ intended_use_gone ∷ use_gone ∷ user_gone ∷ deleting_site ∷ kept_audit ∷ intended_main_gone ∷ main_gone ∷ intended_size_gone ∷ size_gone ∷ intended_home_gone ∷ home_gone ∷ intended_conf_gone ∷ conf_gone ∷ site_gone ∷ []) leads_8 (fold_step world_8 world_9 intended_main (made_main ∷ intended_size ∷ made_size ∷ created ∷ begun_user ∷ intended_use ∷ made_use ∷ created_user ∷ deleting_user ∷ intended_use_gone ∷ use_gone ∷ user_gone ∷ deleting_site ∷ kept_audit ∷ intended_main_gone ∷ main_gone ∷ intended_size_gone ∷ size_gone ∷ intended_home_gone ∷ home_gone ∷ intended_conf_gone ∷ conf_gone ∷ site_gone ∷ []) leads_9 (fold_step world_9 world_10 made_main (intended_size ∷ made_size ∷ created ∷ begun_user ∷ intended_use ∷ made_use ∷ created_user ∷ deleting_user ∷ intended_use_gone ∷ use_gone ∷ user_gone ∷ deleting_site ∷ kept_audit ∷ intended_main_gone ∷ main_gone ∷ intended_size_gone ∷ size_gone ∷ intended_home_gone ∷ home_gone ∷ intended_conf_gone ∷ conf_gone ∷ site_gone ∷ []) leads_10 (fold_step world_10 world_11 intended_size (made_size ∷ created ∷ begun_user ∷ intended_use ∷ made_use ∷ created_user ∷ deleting_user ∷ intended_use_gone ∷ use_gone ∷ user_gone ∷ deleting_site ∷ kept_audit ∷ intended_main_gone ∷ main_gone ∷ intended_size_gone ∷ size_gone ∷ intended_home_gone ∷ home_gone ∷ intended_conf_gone ∷ conf_gone ∷ site_gone ∷ []) leads_11 (fold_step world_11 world_12 made_size (created ∷ begun_user ∷ intended_use ∷ made_use ∷ created_user ∷ deleting_user ∷ intended_use_gone ∷ use_gone ∷ user_gone ∷ deleting_site ∷ kept_audit ∷ intended_main_gone ∷ main_gone ∷ intended_size_gone ∷ size_gone ∷ intended_home_gone ∷ home_gone ∷ intended_conf_gone ∷ conf_gone ∷ site_gone ∷ []) leads_12 (fold_step world_12 world_13 created (begun_user ∷ intended_use ∷ made_use ∷ created_user ∷ deleting_user ∷ intended_use_gone ∷ use_gone ∷ user_gone ∷ deleting_site ∷ kept_audit ∷ intended_main_gone ∷ main_gone ∷ intended_size_gone ∷ size_gone ∷ intended_home_gone ∷ home_gone ∷ intended_conf_gone ∷ conf_gone ∷ site_gone ∷ []) leads_13 (fold_step world_13 world_14 begun_user (intended_use ∷ made_use ∷ created_user ∷ deleting_user ∷ intended_use_gone ∷ use_gone ∷ user_gone ∷ deleting_site ∷ kept_audit ∷ intended_main_gone ∷ main_gone ∷ intended_size_gone ∷ size_gone ∷ intended_home_gone ∷ home_gone ∷ intended_conf_gone ∷ conf_gone ∷ site_gone ∷ []) leads_14 (fold_step world_14 world_15 intended_use (made_use ∷ created_user ∷ deleting_user ∷ intended_use_gone ∷ use_gone ∷ user_gone ∷ deleting_site ∷ kept_audit ∷ intended_main_gone ∷ main_gone ∷ intended_size_gone ∷ size_gone ∷ intended_home_gone ∷ home_gone ∷ intended_conf_gone ∷ conf_gone ∷ site_gone ∷ []) leads_15 (fold_step world_15 world_16 made_use (created_user ∷ deleting_user ∷ intended_use_gone ∷ use_gone ∷ user_gone ∷ deleting_site ∷ kept_audit ∷ intended_main_gone ∷ main_gone ∷ intended_size_gone ∷ size_gone ∷ intended_home_gone ∷ home_gone ∷ intended_conf_gone ∷ conf_gone ∷ site_gone ∷ []) leads_16 (fold_step world_16 world_17 created_user (deleting_user ∷ intended_use_gone ∷ use_gone ∷ user_gone ∷ deleting_site ∷ kept_audit ∷ intended_main_gone ∷ main_gone ∷ intended_size_gone ∷ size_gone ∷ intended_home_gone ∷ home_gone ∷ intended_conf_gone ∷ conf_gone ∷ site_gone ∷ []) leads_17 (fold_step world_17 world_18 deleting_user (intended_use_gone ∷ use_gone ∷ user_gone ∷ deleting_site ∷ kept_audit ∷ intended_main_gone ∷ main_gone ∷ intended_size_gone ∷ size_gone ∷ intended_home_gone ∷ home_gone ∷ intended_conf_gone ∷ conf_gone ∷ site_gone ∷ []) leads_18 (fold_step world_18 world_19 intended_use_gone (use_gone ∷ user_gone ∷ deleting_site ∷ kept_audit ∷ intended_main_gone ∷ main_gone ∷ intended_size_gone ∷ size_gone ∷ intended_home_gone ∷ home_gone ∷ intended_conf_gone ∷ conf_gone ∷ site_gone ∷ []) leads_19 (fold_step world_19 world_20 use_gone (user_gone ∷ deleting_site ∷ kept_audit ∷ intended_main_gone ∷ main_gone ∷ intended_size_gone ∷ size_gone ∷ intended_home_gone ∷ home_gone ∷ intended_conf_gone ∷ conf_gone ∷ site_gone ∷ []) leads_20 (fold_step world_20 world_21 user_gone (deleting_site ∷ kept_audit ∷ intended_main_gone ∷ main_gone ∷ intended_size_gone ∷ size_gone ∷ intended_home_gone ∷ home_gone ∷ intended_conf_gone ∷ conf_gone ∷ site_gone ∷ []) leads_21 (fold_step world_21 world_22 deleting_site (kept_audit ∷ intended_main_gone ∷ main_gone ∷ intended_size_gone ∷ size_gone ∷ intended_home_gone ∷ home_gone ∷ intended_conf_gone ∷ conf_gone ∷ site_gone ∷ []) leads_22 (fold_step world_22 world_23 kept_audit (intended_main_gone ∷ main_gone ∷ intended_size_gone ∷ size_gone ∷ intended_home_gone ∷ home_gone ∷ intended_conf_gone ∷ conf_gone ∷ site_gone ∷ []) leads_23 (fold_step world_23 world_24 intended_main_gone (main_gone ∷ intended_size_gone ∷ size_gone ∷ intended_home_gone ∷ home_gone ∷ intended_conf_gone ∷ conf_gone ∷ site_gone ∷ []) leads_24 (fold_step world_24 world_25 main_gone (intended_size_gone ∷ size_gone ∷ intended_home_gone ∷ home_gone ∷ intended_conf_gone ∷ conf_gone ∷ site_gone ∷ []) leads_25 (fold_step world_25 world_26 intended_size_gone (size_gone ∷ intended_home_gone ∷ home_gone ∷ intended_conf_gone ∷ conf_gone ∷ site_gone ∷ []) leads_26 (fold_step world_26 world_27 size_gone (intended_home_gone ∷ home_gone ∷ intended_conf_gone ∷ conf_gone ∷ site_gone ∷ []) leads_27 (fold_step world_27 world_28 intended_home_gone (home_gone ∷ intended_conf_gone ∷ conf_gone ∷ site_gone ∷ []) leads_28 (fold_step world_28 world_29 home_gone (intended_conf_gone ∷ conf_gone ∷ site_gone ∷ []) leads_29 (fold_step world_29 world_30 intended_conf_gone (conf_gone ∷ site_gone ∷ []) leads_30 (fold_step world_30 world_31 conf_gone (site_gone ∷ []) leads_31 (fold_step world_31 world_32 site_gone ([]) leads_32 (refl))))))))))))))))))))))))))))))))
+
+pub shows_site : ShowsSite
+shows_site = ap (report_of (codes "site")) arrives_13
+
+pub shows_user : ShowsUser
+shows_user = ap (report_of (codes "user")) arrives_17
+
+pub shows_site_gone : ShowsSiteGone
+shows_site_gone = ap (report_of (codes "site")) arrives_32
+
+pub shows_user_gone : ShowsUserGone
+shows_user_gone = ap (report_of (codes "user")) arrives_32
+
+may_not_0 : (out : List ℕ) → MayFollow schemas world_17 out (entry.Begin 3 (codes "site") (begin.Delete [])) → ⊥
+unfolding computing
+may_not_0 = λ out may. true≢false may.2.2
+
+pub refused_0 : DeletedWhileUsed
+refused_0 = refused_at world_17 until_used (entry.Begin 3 (codes "site") (begin.Delete [])) arrives_17 may_not_0
+
+may_not_1 : (out : List ℕ) → MayFollow schemas world_23 out (entry.Intent 4 8 (codes "f1") (codes "Home") (request.Delete (codes "f1:3"))) → ⊥
+unfolding computing
+may_not_1 = λ out may. let m = follows_on schemas 4 world_23 out (entry.Intent 4 8 (codes "f1") (codes "Home") (request.Delete (codes "f1:3"))) ((codes "site"), stack_23_site) Gone refl refl may in let c = m.chosen in (more (λ (h : Held). codes "f1:3" ≡ h.physical → is_needed_by_held stack_23_site h ≡ false → ⊥) (λ e f. true≢false (ap (bytes_eq (codes "f1:3")) e)) (more (λ (h : Held). codes "f1:3" ≡ h.physical → is_needed_by_held stack_23_site h ≡ false → ⊥) (λ e f. true≢false f) (more (λ (h : Held). codes "f1:3" ≡ h.physical → is_needed_by_held stack_23_site h ≡ false → ⊥) (λ e f. true≢false (ap (bytes_eq (codes "f1:3")) e)) (more (λ (h : Held). codes "f1:3" ≡ h.physical → is_needed_by_held stack_23_site h ≡ false → ⊥) (λ e f. true≢false (ap (bytes_eq (codes "f1:3")) e)) (none (λ (h : Held). codes "f1:3" ≡ h.physical → is_needed_by_held stack_23_site h ≡ false → ⊥)))))) c.0 c.1.0 c.4 c.1.2
+
+pub refused_1 : NeededDeletedFirst
+refused_1 = refused_at world_23 until_going (entry.Intent 4 8 (codes "f1") (codes "Home") (request.Delete (codes "f1:3"))) arrives_23 may_not_1
+
+may_not_2 : (out : List ℕ) → MayFollow schemas world_22 out (entry.Intent 4 8 (codes "f1") (codes "Audit") (request.Delete (codes "f1:1"))) → ⊥
+unfolding computing
+may_not_2 = λ out may. let m = follows_on schemas 4 world_22 out (entry.Intent 4 8 (codes "f1") (codes "Audit") (request.Delete (codes "f1:1"))) ((codes "site"), stack_22_site) Gone refl refl may in let c = m.chosen in (more (λ (h : Held). codes "f1:1" ≡ h.physical → keeps Gone stack_22_site h ≡ false → ⊥) (λ e f. true≢false f) (more (λ (h : Held). codes "f1:1" ≡ h.physical → keeps Gone stack_22_site h ≡ false → ⊥) (λ e f. true≢false (ap (bytes_eq (codes "f1:1")) e)) (more (λ (h : Held). codes "f1:1" ≡ h.physical → keeps Gone stack_22_site h ≡ false → ⊥) (λ e f. true≢false (ap (bytes_eq (codes "f1:1")) e)) (more (λ (h : Held). codes "f1:1" ≡ h.physical → keeps Gone stack_22_site h ≡ false → ⊥) (λ e f. true≢false (ap (bytes_eq (codes "f1:1")) e)) (more (λ (h : Held). codes "f1:1" ≡ h.physical → keeps Gone stack_22_site h ≡ false → ⊥) (λ e f. true≢false (ap (bytes_eq (codes "f1:1")) e)) (none (λ (h : Held). codes "f1:1" ≡ h.physical → keeps Gone stack_22_site h ≡ false → ⊥))))))) c.0 c.1.0 c.4 c.2
+
+pub refused_2 : RetainedDeleted
+refused_2 = refused_at world_22 (until_used ++ deleting_user ∷ intended_use_gone ∷ use_gone ∷ user_gone ∷ deleting_site ∷ []) (entry.Intent 4 8 (codes "f1") (codes "Audit") (request.Delete (codes "f1:1"))) arrives_22 may_not_2
