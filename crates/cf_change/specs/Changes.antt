@@ -44,8 +44,8 @@ pub record HeldAt : Type 0 where
   pub replace : Replace
   pub unsure : Bool
 
-abbrev pub held_at : List ℕ → List HeldAt → Option HeldAt
-held_at path hs = find (λ h. bytes_eq path h.path) hs
+abbrev pub resource_held : List ℕ → List HeldAt → Option HeldAt
+resource_held path hs = find (λ h. bytes_eq path h.path) hs
 
 -- whether a change of the property replaces the resource
 abbrev pub recreation_by : Schema → List ℕ → Recreation
@@ -170,12 +170,12 @@ is_other_kind (Some h) w = not (bytes_eq h.kind w.kind)
 
 abbrev pub found_with : List Schema → List HeldAt → Found → Wanted → Found
 found_with schemas held f w =
-    if is_other_kind (held_at w.path held) w
-    then record f { clash = f.clash ++ w.path ∷ []; seen = f.seen ++ (w.path, seen_after (held_at w.path held) None) ∷ [] }
+    if is_other_kind (resource_held w.path held) w
+    then record f { clash = f.clash ++ w.path ∷ []; seen = f.seen ++ (w.path, seen_after (resource_held w.path held) None) ∷ [] }
     else record f {
-      rows = f.rows ++ row_list (row_for schemas (held_at w.path held) w);
+      rows = f.rows ++ row_list (row_for schemas (resource_held w.path held) w);
       seen = f.seen
-          ++ (w.path, seen_after (held_at w.path held) (row_for schemas (held_at w.path held) w)) ∷ [];
+          ++ (w.path, seen_after (resource_held w.path held) (row_for schemas (resource_held w.path held) w)) ∷ [];
     }
 
 abbrev pub found_at : List Schema → List HeldAt → Source → Found → List ℕ → Found

@@ -21,9 +21,9 @@ use Rattle.cf_param.specs.declared.offered.Piece.TheVariants.{Text, Later}
 use Rattle.cf_desired.specs.Flaw.{Flaw, eval}
 
 -- the scope of a template's resources and outputs
-abbrev pub scope_over :
+abbrev pub resource_scope :
     Template → List (List ℕ × Setting) → List (List ℕ × Verdict) → List (List ℕ × Data) → List (List ℕ × Sight) → List (List ℕ × List ℕ) → Scope
-scope_over t bound conds pseudo seen imports = record {
+resource_scope t bound conds pseudo seen imports = record {
   params = λ name. option_map setting_of (value_at name bound);
   mapping = λ name. value_at name t.mappings;
   pseudo = pseudo;
@@ -100,12 +100,17 @@ map_wanted at None = got []
 map_wanted at (Some (dict ms)) = member_pieces at ms
 map_wanted at (Some d) = bad (fault WrongKind at)
 
+-- a map of members that are each right is itself measured as any value is, where all of it is known
+abbrev pub unless_bad : Found → List (List ℕ × Piece) → Outcome (List (List ℕ × Piece))
+unless_bad (bad s) ps = bad s
+unless_bad _ ps = got ps
+
 abbrev mutual
   pub parameters_in : Scope → Option (List ℕ) → Form → Outcome (List (List ℕ × Piece))
   parameters_in s around (expr at n) = node_parameters s around at n
 
   pub node_parameters : Scope → Option (List ℕ) → List ℕ → Node → Outcome (List (List ℕ × Piece))
-  node_parameters s around at (node.dict fs) = pieces_in s around fs
+  node_parameters s around at (node.dict fs) = on_got (pieces_in s around fs) (unless_bad (plain (form_found s around (expr at (node.dict fs)))))
   node_parameters s around at (choice name y n) = on_got (s.decided at name) (λ b. if b then parameters_in s (Some at) y else parameters_in s (Some at) n)
   node_parameters s around at n = on_got (plain (form_found s around (expr at n))) (map_wanted (blamed around at n))
 

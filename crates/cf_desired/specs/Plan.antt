@@ -38,7 +38,7 @@ use Rattle.cf_tree.specs.declared.template.Param.{Param}
 use Rattle.cf_param.specs.Binding.{binding_of}
 use Rattle.cf_desired.specs.Names.{path_in, name_in, stack_id, pseudo_of}
 use Rattle.cf_desired.specs.Flaw.{Flaw, bind, eval, graph, shape, template_missing, too_deep, too_many, dynamic_condition, dynamic_template}
-use Rattle.cf_desired.specs.Evaluate.{scope_over, value_in, flaw_at, Props, known_props, bad_props, props_in, text_in, parameters_in, parameters_despite}
+use Rattle.cf_desired.specs.Evaluate.{resource_scope, value_in, flaw_at, Props, known_props, bad_props, props_in, text_in, parameters_in, parameters_despite}
 
 -- what is known of a resource's physical id and of its attributes, by path
 pub record SeenAt : Type 0 where
@@ -449,7 +449,7 @@ abbrev pub planned :
     → Result (List (List ℕ × List (List ℕ))) Tangle → Plan
 planned lay source seen number e bound conds p (Err t) = record p { flaws = p.flaws ++ graph e.path t ∷ [] }
 planned lay source seen number e bound conds p (Ok order) =
-    let scope = λ (sights : List (List ℕ × Sight)). scope_over e.template bound conds (pseudo_of e.stack number) sights source.imports in
+    let scope = λ (sights : List (List ℕ × Sight)). resource_scope e.template bound conds (pseudo_of e.stack number) sights source.imports in
     let course : Course = record { plan = p; sights = not_made conds e.template; stands = []; broken = [] } in
     with_outputs e scope conds (fold (with_member lay source seen number e scope conds) course order)
 

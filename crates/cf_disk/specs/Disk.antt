@@ -1,5 +1,6 @@
 -- What the calls of a disk do to its file, and what a crash may do between two syncs.
 use Rattle.std.specs.Prelude.{◌≡◌, ◌⊎◌, ℕ, ◌+◌, ◌-◌, ◌^◌, ◌≤◌, min, max, Bool, List, ◌++◌, length, take, drop, Option, IfSome, Result, is_ok, OnErr}
+use Rattle.cf_tree.specs.Counts.{HasRisen}
 
 -- old with these bytes at this offset
 abbrev pub overwritten : List ℕ → ℕ → List ℕ → List ℕ
@@ -55,10 +56,6 @@ pub record LeavesOnly {D : Type 0} (moment : D → ℕ) (left_since : D → ℕ 
   pub each : (c : List ℕ) → left_since new (moment old) c → P c
   -- for a run that began earlier
   pub before : (t : ℕ) (c : List ℕ) → t ≤ moment old → left_since new t c → left_since old t c ⊎ P c
-
--- the count of faults rose, unless it stood at its last value
-abbrev pub HasRisen : ℕ → ℕ → Type 0
-HasRisen before now = min (before + 1) (2 ^ 64 - 1) ≤ now
 
 -- the count never falls, and rises where the call fails
 pub record HasCause {T E : Type 0} (before now : ℕ) (result : Result T E) : Type 0 where

@@ -3,7 +3,8 @@ use Rattle.std.specs.Prelude.{◌≡◌, ◌==◌, ◌+◌, ◌-◌, ◌^◌, �
 use Rattle.std.specs.List.{list_any}
 use Rattle.cf_disk.specs.declared.memory.MemoryDisk.{MemoryDisk}
 use Rattle.cf_disk.specs.Calls.{left_after, left_after_since}
-use Rattle.cf_disk.specs.Disk.{Only, HasRisen}
+use Rattle.cf_disk.specs.Disk.{Only}
+use Rattle.cf_tree.specs.Counts.{HasRisen}
 
 -- what a read gives
 abbrev pub memory_bytes : MemoryDisk → List ℕ

@@ -1,6 +1,7 @@
 ghost use Rattle.std.specs.Prelude.{◌≡◌, ◌==◌, ◌+◌, ◌-◌, ◌^◌, ◌<◌, ◌≤◌, min, [], ◌∷◌, ◌++◌, true, false, length, reverse, nat_lt, if◌then◌else◌, Some, IsTrue, IfOk, vec_len, vec_capacity};
 ghost use Rattle.std.specs.List.{list_any};
-ghost use Rattle.cf_disk.specs.Disk.{overwritten, Torn, Shortened, Follows, NoneNew, NoneLost, Leaves, Elapses, HasRisen};
+ghost use Rattle.cf_disk.specs.Disk.{overwritten, Torn, Shortened, Follows, NoneNew, NoneLost, Leaves, Elapses};
+ghost use Rattle.cf_tree.specs.Counts.{HasRisen};
 ghost use Rattle.cf_disk.specs.Calls.{seen_after, is_possible, now_counts, now_only};
 ghost use Rattle.cf_disk.specs.Stays.{memory_stays};
 

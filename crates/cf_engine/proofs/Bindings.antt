@@ -23,7 +23,7 @@ use Rattle.cf_eval.specs.ScopeOf.{verdict_of}
 use Rattle.cf_eval.specs.ScopeOf as held
 use Rattle.cf_eval.specs.Env.{conditions_of, scope_within}
 use Rattle.cf_eval.proofs.Noting.{put_here, put_else}
-use Rattle.cf_desired.specs.Evaluate.{scope_over}
+use Rattle.cf_desired.specs.Evaluate.{resource_scope}
 use Rattle.cf_engine.specs.Planning.{piece_of}
 use Rattle.cf_engine.specs.Sure.{IsSure, IsBare, IsKnown, AreSet}
 use Rattle.cf_engine.proofs.Sure.{AreDecided, AllDecided, conditions_decided}
@@ -109,7 +109,7 @@ held_sure at name [] d = tt
 held_sure at name (c ∷ conds) d = held_by at name (bytes_eq name c.0) c.1 (value_at name conds) d.0 (held_sure at name conds d.1)
 
 -- over parameters that are bound to values, conditions are decided, and all that is evaluated is known
-pub root_known : (t : Template) (bound : List (List ℕ × Setting)) (pseudo : List (List ℕ × Data)) (conds : List (List ℕ × Verdict)) (imports : List (List ℕ × List ℕ)) → AreSet bound → conditions_of t bound pseudo ≡ got (map (λ c. (c.0, verdict_of c.1)) conds) → IsKnown (scope_over t bound conds pseudo [] imports)
+pub root_known : (t : Template) (bound : List (List ℕ × Setting)) (pseudo : List (List ℕ × Data)) (conds : List (List ℕ × Verdict)) (imports : List (List ℕ × List ℕ)) → AreSet bound → conditions_of t bound pseudo ≡ got (map (λ c. (c.0, verdict_of c.1)) conds) → IsKnown (resource_scope t bound conds pseudo [] imports)
 root_known t bound pseudo conds imports s e =
     let decided : AreDecided (map (λ c. (c.0, verdict_of c.1)) conds) = subst AllDecided e (conditions_decided (scope_within t bound pseudo) t.conds (λ name. params_known (value_at name bound) (s name)) tt) in
     record { params = λ name. params_known (value_at name bound) (s name); decided = λ at name. held_sure at name conds decided; bare = tt }

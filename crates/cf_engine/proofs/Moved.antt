@@ -7,7 +7,8 @@ use Rattle.cf_tree.specs.declared.request.Answer.{Answer}
 use Rattle.cf_entry.specs.declared.entry.Reply.{Reply}
 use Rattle.cf_entry.specs.declared.entry.Reply.TheVariants as reply
 use Rattle.cf_handler.specs.Lane.{LaneState}
-use Rattle.cf_handler.specs.Move.{CallTells, HasCause, HasRisen}
+use Rattle.cf_handler.specs.Move.{CallTells, HasCause}
+use Rattle.cf_tree.specs.Counts.{HasRisen}
 use Rattle.cf_engine.specs.declared.cause.Reason.{Reason}
 use Rattle.cf_engine.specs.Lanes.{Told, lane_for, AreLater, RoseAt}
 use Rattle.cf_engine.specs.Written.{Call}

@@ -14,7 +14,7 @@ use Rattle.cf_eval.specs.Env.{conditions_of, Decides}
 use Rattle.cf_eval.specs.Outcome.{Outcome, got, bad, fault, on_got, each}
 use Rattle.cf_eval.specs.ScopeOf.{verdict_of}
 use Rattle.cf_graph.specs.Needs.{is_made}
-use Rattle.cf_desired.specs.Evaluate.{scope_over}
+use Rattle.cf_desired.specs.Evaluate.{resource_scope}
 use Rattle.cf_desired.specs.Names.{pseudo_of}
 use Rattle.cf_desired.specs.Plan.{verdict_from}
 use Rattle.cf_engine.specs.declared.exit.DesiredFault.{DesiredFault}
@@ -46,11 +46,11 @@ over_conditions t bound stack number conds e =
 
 -- what the resources come to over the conditions and the pseudo parameters that were made
 pub wanted_by : (t : Template) (bound : List (List ℕ × Setting)) (stack : List ℕ) (number : ℕ) (conds : List (List ℕ × Verdict)) (pseudo : List (List ℕ × Data)) (seen : List (List ℕ × Sight)) (imports : List (List ℕ × List ℕ)) (r : Result (List Planned) DesiredFault) → pseudo ≡ pseudo_of stack number → seen ≡ [] → imports ≡ [] → conditions_of t bound pseudo ≡ got (map (λ c. (c.0, verdict_of c.1)) conds)
-    → FoundAs (each (map (resource_found (scope_over t bound conds pseudo seen imports) conds) (filter (is_made conds) t.resources))) r → FoundAs (wanted_found t bound stack number) r
+    → FoundAs (each (map (resource_found (resource_scope t bound conds pseudo seen imports) conds) (filter (is_made conds) t.resources))) r → FoundAs (wanted_found t bound stack number) r
 wanted_by t bound stack number conds pseudo seen imports r p s q e f =
     let decided : conditions_of t bound (pseudo_of stack number) ≡ got (map (λ c. (c.0, verdict_of c.1)) conds) = ap (conditions_of t bound) (sym p) ∙ e in
-    let same : each (map (resource_found (scope_over t bound conds pseudo seen imports) conds) (filter (is_made conds) t.resources)) ≡ resources_found t bound stack number conds =
-    λ i. each (map (resource_found (scope_over t bound conds (p i) (s i) (q i)) conds) (filter (is_made conds) t.resources)) in
+    let same : each (map (resource_found (resource_scope t bound conds pseudo seen imports) conds) (filter (is_made conds) t.resources)) ≡ resources_found t bound stack number conds =
+    λ i. each (map (resource_found (resource_scope t bound conds (p i) (s i) (q i)) conds) (filter (is_made conds) t.resources)) in
     subst (λ (o : Outcome (List Planned)). FoundAs o r) (same ∙ sym (over_conditions t bound stack number conds decided)) f
 
 -- conditions that are at fault

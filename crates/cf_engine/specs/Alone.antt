@@ -3,9 +3,8 @@ use Rattle.std.specs.Prelude.{◌≡◌, ◌⊎◌, ℕ, List, [], ◌∷◌, �
 use Rattle.std.specs.Io.KnownBytes.{Appends}
 use Rattle.cf_tree.specs.declared.planned.Planned.{Planned}
 use Rattle.cf_entry.specs.declared.entry.Entry.{Entry}
-use Rattle.cf_io.specs.Counts.{HasRisen}
+use Rattle.cf_tree.specs.Counts.{HasRisen}
 use Rattle.cf_io.specs.Library.{Texts, text_at}
-use Rattle.cf_disk.specs.Disk.{HasRisen as IsRisen}
 use Rattle.cf_engine.specs.declared.cause.Cause.{Cause}
 use Rattle.cf_engine.specs.declared.words.Choice.{Choice}
 use Rattle.cf_engine.specs.declared.words.Command.{Command}
@@ -140,7 +139,7 @@ IsOneOf e (x ∷ xs) = (e ≡ x) ⊎ IsOneOf e xs
 -- no count of faults rose, where one at its last value counts as risen
 pub record NoCountRose (m : Meeting) (p : Printing) : Type 0 where
   pub library : HasRisen m.shelf.faults m.shelf.faults' → ⊥
-  pub disk : IsRisen m.faults m.faults' → ⊥
+  pub disk : HasRisen m.faults m.faults' → ⊥
   pub sink : HasRisen p.faults p.faults' → ⊥
   pub lanes : (k : ℕ) → RoseAt (Some k) m.counts m.counts' → ⊥
 

@@ -3,7 +3,7 @@ use Rattle.std.specs.Prelude.{◌≡◌, ◌⊎◌, ℕ, Bool, true, false, not,
 use Rattle.cf_tree.specs.declared.template.Template.{Template}
 use Rattle.cf_template.specs.Refusals.{Reading}
 use Rattle.cf_template.specs.Whole.{template_of}
-use Rattle.cf_io.specs.Counts.{HasRisen}
+use Rattle.cf_tree.specs.Counts.{HasRisen}
 use Rattle.cf_io.specs.Library.{StandsUnder}
 use Rattle.cf_journal.specs.Record.{Keeps}
 use Rattle.cf_schema.specs.declared.described.Schema.{Schema}

@@ -1,7 +1,7 @@
 -- A journal that is open for a run, and what an append to it leaves (this project's own format, docs/JOURNAL.md).
 use Rattle.std.specs.Prelude.{◌≡◌, ◌⊎◌, ℕ, ◌+◌, ◌<◌, Bool, List, [], ◌∷◌, ◌++◌, length, Result, Ok, Err, IsTrue}
 use Rattle.cf_tree.specs.SizeOf.{capped}
-use Rattle.cf_disk.specs.Disk.{HasRisen}
+use Rattle.cf_tree.specs.Counts.{HasRisen}
 use Rattle.cf_entry.specs.Entry.{spelling_of}
 use Rattle.cf_entry.specs.declared.entry.Entry.{Entry}
 use Rattle.cf_journal.specs.Record.{Stands, record_of, length_of}

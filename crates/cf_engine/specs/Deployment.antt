@@ -7,7 +7,7 @@ use Rattle.cf_entry.specs.declared.entry.Entry.{Entry}
 use Rattle.cf_entry.specs.declared.entry.Reply.{Reply}
 use Rattle.cf_entry.specs.declared.entry.Reply.TheVariants as reply
 use Rattle.cf_entry.specs.declared.status.Status.TheVariants as status
-use Rattle.cf_io.specs.Counts.{HasRisen}
+use Rattle.cf_tree.specs.Counts.{HasRisen}
 use Rattle.cf_io.specs.Library.{Texts, StandsUnder}
 use Rattle.cf_engine.specs.declared.book.Halt.{Halt}
 use Rattle.cf_engine.specs.declared.book.Halt.TheVariants as halt

@@ -21,7 +21,7 @@ use Rattle.cf_engine.specs.declared.cause.Cause.TheVariants as cause
 use Rattle.cf_engine.specs.declared.cause.Reason.{Reason}
 use Rattle.cf_engine.specs.declared.cause.Reason.TheVariants as reason
 use Rattle.cf_tree.specs.Codes.{name_of as code_name}
-use Rattle.cf_engine.specs.StatusName.{status_name}
+use Rattle.cf_entry.specs.Status.{status_name}
 use Rattle.cf_engine.specs.Line.{line_of, text_word}
 
 -- the number of an exit, which is the status of the process

@@ -8,7 +8,8 @@ use Rattle.cf_schema.specs.declared.described.Schema.{Schema}
 use Rattle.cf_schema.specs.Kinds.{found}
 use Rattle.cf_handler.specs.declared.settled.Settlement.{Settlement}
 use Rattle.cf_handler.specs.Lane.{LaneState, settlement_of}
-use Rattle.cf_handler.specs.Move.{HasRisen, with_settled}
+use Rattle.cf_handler.specs.Move.{with_settled}
+use Rattle.cf_tree.specs.Counts.{HasRisen}
 
 -- the types of lanes, as their schemas say them
 abbrev pub kinds_of : List Schema → List (List ℕ)

@@ -1,6 +1,5 @@
 pub mod Line
 pub mod Words
-pub mod StatusName
 pub mod Exit
 pub mod Report
 pub mod Stack

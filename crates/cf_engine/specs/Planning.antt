@@ -22,7 +22,7 @@ use Rattle.cf_eval.specs.Outcome.{Outcome, Stop, got, later, bad, fault, undecid
 use Rattle.cf_eval.specs.Scope.{Scope}
 use Rattle.cf_eval.specs.Value.{pairs_found, fields_found}
 use Rattle.cf_graph.specs.Needs.{is_made}
-use Rattle.cf_desired.specs.Evaluate.{scope_over}
+use Rattle.cf_desired.specs.Evaluate.{resource_scope}
 use Rattle.cf_desired.specs.Names.{pseudo_of}
 use Rattle.cf_desired.specs.Plan.{verdict_from, resource_place}
 use Rattle.cf_engine.specs.declared.exit.DesiredFault.{DesiredFault}
@@ -53,7 +53,7 @@ resource_found s conds r = unless_stopped (condition_stop conds r) (on_got (prop
 
 -- the scope of the resources: none refers to another one, and nothing is imported
 abbrev pub scope_of : Template → List (List ℕ × Setting) → List ℕ → ℕ → List (List ℕ × Verdict) → Scope
-scope_of t bound stack number conds = scope_over t bound conds (pseudo_of stack number) [] []
+scope_of t bound stack number conds = resource_scope t bound conds (pseudo_of stack number) [] []
 
 -- the resources whose condition is not false, one after another
 abbrev pub resources_found : Template → List (List ℕ × Setting) → List ℕ → ℕ → List (List ℕ × Verdict) → Outcome (List Planned)

@@ -1,7 +1,7 @@
 -- What stands in the library under a name, and why it may be refused before anything is made.
 use Rattle.std.specs.Prelude.{◌≡◌, ℕ, List, Option, Some, None, Result, Ok, Err, find, option_map, ⊤}
 use Rattle.cf_tree.specs.declared.planned.Planned.{Planned}
-use Rattle.cf_io.specs.Counts.{HasRisen}
+use Rattle.cf_tree.specs.Counts.{HasRisen}
 use Rattle.cf_engine.specs.declared.exit.Exit.{Exit}
 use Rattle.cf_engine.specs.declared.exit.Exit.TheVariants as exit
 use Rattle.cf_engine.specs.declared.exit.Refusal.{Refusal}

@@ -3,7 +3,7 @@ use Rattle.std.specs.Prelude.{◌≡◌, ℕ, ◌+◌, ◌<◌, ◌⊎◌, Bool,
 use Rattle.cf_tree.specs.declared.planned.Planned.{Planned}
 use Rattle.cf_tree.specs.declared.request.Answer.{Answer}
 use Rattle.cf_tree.specs.declared.request.Answer.TheVariants as answer
-use Rattle.cf_disk.specs.Disk.{HasRisen}
+use Rattle.cf_tree.specs.Counts.{HasRisen}
 use Rattle.cf_entry.specs.declared.entry.Entry.{Entry}
 use Rattle.cf_entry.specs.declared.entry.Reply.{Reply}
 use Rattle.cf_journal.specs.Record.{length_of}

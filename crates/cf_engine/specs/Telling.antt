@@ -5,7 +5,7 @@ use Rattle.cf_engine.specs.declared.exit.Exit.{Exit}
 use Rattle.cf_engine.specs.declared.exit.Exit.TheVariants as exit
 use Rattle.cf_engine.specs.declared.stack.Held.{Held}
 use Rattle.cf_engine.specs.declared.stack.Stack.{Stack}
-use Rattle.cf_engine.specs.StatusName.{status_name}
+use Rattle.cf_entry.specs.Status.{status_name}
 use Rattle.cf_engine.specs.Exit.{exit_line}
 use Rattle.cf_engine.specs.Report.{stack_line, parameter_lines, resource_line}
 use Rattle.cf_engine.specs.Stack.{row_of}

@@ -7,7 +7,6 @@ ghost use Rattle.cf_engine.specs.Exit.{number_of, name_of, desired_words, refusa
 use crate::cause::Cause;
 use crate::fault_words::{push_unbound, push_unread, push_unvalued};
 use crate::line::{push_named, push_number, push_text, push_texts, push_word};
-use crate::status_name::name_of_status;
 use cf_entry::Status;
 use cf_eval::EvalFault;
 use cf_param::BindFault;
@@ -204,7 +203,7 @@ impl StackFault {
             StackFault::NoStack => push_word(line, "NoStack"),
             StackFault::WrongStatus { status } => {
                 push_word(line, "WrongStatus")?;
-                push_word(line, name_of_status(*status))?;
+                push_word(line, status.name())?;
                 Ok(())
             }
         }

@@ -27,7 +27,6 @@ mod refusals;
 mod report;
 mod schemas;
 mod stack;
-mod status_name;
 mod telling;
 #[cfg(test)]
 mod tests;

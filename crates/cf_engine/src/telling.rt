@@ -8,7 +8,6 @@ use crate::exit::Exit;
 use crate::print::{print_exit, put};
 use crate::report::{push_parameters, push_resource, push_stack};
 use crate::stack::{Held, Stack};
-use crate::status_name::name_of_status;
 use cf_io::Sink;
 use cf_tree::{NoMemory, Txt};
 use std::alloc::Global;
@@ -45,7 +44,7 @@ fn report(alloc: Global, name: &Txt, stack: &Stack) -> Result<String, NoMemory>
         alloc,
         &mut text,
         name,
-        name_of_status(stack.status),
+        stack.status.name(),
         stack.number,
     )?;
     push_parameters(alloc, &mut text, stack.source.as_ref())?;

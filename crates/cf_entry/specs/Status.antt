@@ -1,5 +1,5 @@
 -- The statuses of a stack ("Stack status codes" of the CloudFormation User Guide), with the numbers that the journal has (this project's own).
-use Rattle.std.specs.Prelude.{ℕ, ◌==◌, Bool, true, false, List, [], ◌∷◌, Option, find}
+use Rattle.std.specs.Prelude.{ℕ, ◌==◌, Bool, true, false, List, [], ◌∷◌, Option, find, codes}
 use Rattle.cf_entry.specs.declared.status.Status.{Status}
 use Rattle.cf_entry.specs.declared.status.Status.TheVariants as status
 
@@ -21,6 +21,25 @@ status_number status.DeleteInProgress = 13
 status_number status.DeleteComplete = 14
 status_number status.DeleteFailed = 15
 status_number status.ReviewInProgress = 16
+
+-- the name of a status, as reports print it
+abbrev pub status_name : Status → List ℕ
+status_name status.CreateInProgress = codes "CREATE_IN_PROGRESS"
+status_name status.CreateComplete = codes "CREATE_COMPLETE"
+status_name status.RollbackInProgress = codes "ROLLBACK_IN_PROGRESS"
+status_name status.RollbackComplete = codes "ROLLBACK_COMPLETE"
+status_name status.RollbackFailed = codes "ROLLBACK_FAILED"
+status_name status.UpdateInProgress = codes "UPDATE_IN_PROGRESS"
+status_name status.UpdateCompleteCleanupInProgress = codes "UPDATE_COMPLETE_CLEANUP_IN_PROGRESS"
+status_name status.UpdateComplete = codes "UPDATE_COMPLETE"
+status_name status.UpdateRollbackInProgress = codes "UPDATE_ROLLBACK_IN_PROGRESS"
+status_name status.UpdateRollbackCompleteCleanupInProgress = codes "UPDATE_ROLLBACK_COMPLETE_CLEANUP_IN_PROGRESS"
+status_name status.UpdateRollbackComplete = codes "UPDATE_ROLLBACK_COMPLETE"
+status_name status.UpdateRollbackFailed = codes "UPDATE_ROLLBACK_FAILED"
+status_name status.DeleteInProgress = codes "DELETE_IN_PROGRESS"
+status_name status.DeleteComplete = codes "DELETE_COMPLETE"
+status_name status.DeleteFailed = codes "DELETE_FAILED"
+status_name status.ReviewInProgress = codes "REVIEW_IN_PROGRESS"
 
 -- all statuses
 abbrev pub all_statuses : List Status

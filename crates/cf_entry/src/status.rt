@@ -1,6 +1,6 @@
 //! The statuses of a stack.
 ghost use Rattle.std.specs.Prelude.{◌≡◌};
-ghost use Rattle.cf_entry.specs.Status.{status_number, status_numbered, is_end};
+ghost use Rattle.cf_entry.specs.Status.{status_name, status_number, status_numbered, is_end};
 
 /// A stack's status, by the names of the CloudFormation User Guide ("Stack status codes").
 #[derive(Clone, Copy, Debug, PartialEq, Eq)]
@@ -45,6 +45,32 @@ impl Status {
             Status::DeleteComplete => 14,
             Status::DeleteFailed => 15,
             Status::ReviewInProgress => 16,
+        }
+    }
+
+    /// The status's name, as reports print it.
+    pub fn name(self) -> &'static str
+        ensures { result.now ≡ status_name self }
+    {
+        match self {
+            Status::CreateInProgress => "CREATE_IN_PROGRESS",
+            Status::CreateComplete => "CREATE_COMPLETE",
+            Status::RollbackInProgress => "ROLLBACK_IN_PROGRESS",
+            Status::RollbackComplete => "ROLLBACK_COMPLETE",
+            Status::RollbackFailed => "ROLLBACK_FAILED",
+            Status::UpdateInProgress => "UPDATE_IN_PROGRESS",
+            Status::UpdateCompleteCleanupInProgress => "UPDATE_COMPLETE_CLEANUP_IN_PROGRESS",
+            Status::UpdateComplete => "UPDATE_COMPLETE",
+            Status::UpdateRollbackInProgress => "UPDATE_ROLLBACK_IN_PROGRESS",
+            Status::UpdateRollbackCompleteCleanupInProgress => {
+                "UPDATE_ROLLBACK_COMPLETE_CLEANUP_IN_PROGRESS"
+            }
+            Status::UpdateRollbackComplete => "UPDATE_ROLLBACK_COMPLETE",
+            Status::UpdateRollbackFailed => "UPDATE_ROLLBACK_FAILED",
+            Status::DeleteInProgress => "DELETE_IN_PROGRESS",
+            Status::DeleteComplete => "DELETE_COMPLETE",
+            Status::DeleteFailed => "DELETE_FAILED",
+            Status::ReviewInProgress => "REVIEW_IN_PROGRESS",
         }
     }
 

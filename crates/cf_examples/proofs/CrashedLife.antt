@@ -10,7 +10,8 @@ use Rattle.cf_stacks.specs.declared.held.Pending.{Pending}
 use Rattle.cf_stacks.specs.declared.state.StackState.{StackState}
 use Rattle.cf_stacks.specs.declared.state.World.{World}
 use Rattle.cf_stacks.specs.Operation.{Call}
-use Rattle.cf_stacks.specs.Words.{all_differ, stack_at}
+use Rattle.cf_stacks.specs.Words.{stack_at}
+use Rattle.cf_tree.specs.Named.{all_differ}
 use Rattle.cf_stacks.specs.Status.{Forward, is_in_progress}
 use Rattle.cf_stacks.specs.Fold.{empty_world, fold_of, world_after, known_stack}
 use Rattle.cf_plan.specs.Forward.{In, here, HasFailed, AllDone, IsDone, is_made}

@@ -8,7 +8,7 @@ use Rattle.cf_tree.specs.declared.request.Request.TheVariants as request
 use Rattle.cf_tree.specs.declared.code.Code.TheVariants as code
 use Rattle.cf_entry.specs.declared.entry.Reply.TheVariants as reply
 use Rattle.cf_stacks.specs.declared.held.HeldStatus.TheVariants as held
-use Rattle.cf_stacks.specs.Operation.{Call, Answered}
+use Rattle.cf_stacks.specs.Operation.{Call, Response}
 use Rattle.cf_examples.proofs.RollbackFailed as unblamed
 use Rattle.cf_examples.proofs.Retained as deleted
 use Rattle.cf_examples.proofs.Skipped as unskipped
@@ -152,10 +152,10 @@ abbrev is_none : List (List ℕ) → Bool
 is_none [] = false
 is_none (p ∷ ps) = true
 
-abbrev reply_2 : Answered
+abbrev reply_2 : Response
 reply_2 = record { token = 2; answer = reply.Failed code.ServiceLimitExceeded; before = 0; after = 1 }
 
-abbrev reply_3 : Answered
+abbrev reply_3 : Response
 reply_3 = record { token = 3; answer = reply.Failed code.AccessDenied; before = 0; after = 1 }
 
 abbrev call_2 : Call
@@ -177,7 +177,7 @@ pub failures_are_blamed : FailuresAreBlamed
 failures_are_blamed = subst (λ x. IsPromised (codes "s") x []) (sym unblamed.arrives_10) blamed
 
 -- the update stayed in doubt, and so did the creation in the deletion of its stack
-abbrev reply_doubted : Answered
+abbrev reply_doubted : Response
 reply_doubted = record { token = 2; answer = reply.Doubt; before = 0; after = 1 }
 
 abbrev call_doubted : Call
@@ -192,7 +192,7 @@ doubted = record {
 pub failed_rollback_is_blamed : FailedRollbackIsBlamed
 failed_rollback_is_blamed = subst (λ x. IsPromised (codes "s") x []) (sym unskipped.arrives_15) doubted
 
-abbrev reply_lost : Answered
+abbrev reply_lost : Response
 reply_lost = record { token = 1; answer = reply.Doubt; before = 6; after = 7 }
 
 abbrev call_lost : Call

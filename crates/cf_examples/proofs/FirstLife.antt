@@ -10,8 +10,9 @@ use Rattle.cf_handler.specs.Lane.{Live, live_of, is_used, settlement_of}
 use Rattle.cf_handler.specs.Fence.{Flying, Raised, SettledBy, live_at}
 use Rattle.cf_stacks.specs.declared.held.Held.{Held}
 use Rattle.cf_stacks.specs.declared.held.Pending.{Pending}
-use Rattle.cf_stacks.specs.Operation.{Call, Answered, call_at}
-use Rattle.cf_stacks.specs.Words.{all_differ, stack_at, current_at}
+use Rattle.cf_stacks.specs.Operation.{Call, Response, call_at}
+use Rattle.cf_stacks.specs.Words.{stack_at, current_at}
+use Rattle.cf_tree.specs.Named.{all_differ}
 use Rattle.cf_stacks.specs.declared.state.World.{World}
 use Rattle.cf_stacks.specs.Fold.{empty_world, fold_of, known_stack, source_for}
 use Rattle.cf_stacks.specs.declared.state.StackState.{StackState}
@@ -138,7 +139,7 @@ none_answered {p} a = none_open p.token p a.is_open
 home : (id : List ℕ) (l : Lane) → IsHome end.lanes id l → In l end.lanes
 home id l h = (found_passes (λ (q : Lane). bytes_eq l.name q.name) end.lanes l h.handed_in).1
 
-abbrev reply_1 : Answered
+abbrev reply_1 : Response
 reply_1 = record { token = 1; answer = told_of made.settlement; before = 0; after = 0 }
 
 is_made_call : (c : Call) → call_at 1 run ≡ Some c → made_call ≡ c
@@ -164,7 +165,7 @@ ties = record {
   base_named = λ l v i j. absurd (in_none (only (λ (q : Lane). In v q.state.state.base → In v []) {a = f1} (λ k. k) l i j));
   settled_calls = λ l s i j. only (λ (q : Lane). In s q.state.state.settled → FitsCall run world q.name s.token s.request) {a = f1} (λ k. only (λ (r : Settled). FitsCall run world (codes "f1") r.token r.request) {a = made} fits s k) l i j;
   flying_calls = λ l f i j. absurd (in_none (only (λ (q : Lane). In f q.state.flying → In f []) {a = f1} (λ k. k) l i j));
-  answers = λ c r l i final called at_lane. only (λ (q : Answered). call_at q.token run ≡ Some c → option_map told_of (settlement_of q.token l.state.state.settled) ≡ Some q.answer) {a = reply_1} (λ k. answered_at c l k at_lane) r i called;
+  answers = λ c r l i final called at_lane. only (λ (q : Response). call_at q.token run ≡ Some c → option_map told_of (settlement_of q.token l.state.state.settled) ≡ Some q.answer) {a = reply_1} (λ k. answered_at c l k at_lane) r i called;
   flying_open = λ l f i j. absurd (in_none (only (λ (q : Lane). In f q.state.flying → In f []) {a = f1} (λ k. k) l i j));
   flying_epochs = λ l f i j. absurd (in_none (only (λ (q : Lane). In f q.state.flying → In f []) {a = f1} (λ k. k) l i j));
   flying_at_rest = λ l f name s p i j. absurd (in_none (only (λ (q : Lane). In f q.state.flying → In f []) {a = f1} (λ k. k) l i j));

@@ -13,8 +13,9 @@ use Rattle.cf_stacks.specs.declared.held.Held.{Held}
 use Rattle.cf_stacks.specs.declared.held.Pending.{Pending}
 use Rattle.cf_stacks.specs.declared.state.StackState.{StackState}
 use Rattle.cf_stacks.specs.declared.state.World.{World}
-use Rattle.cf_stacks.specs.Operation.{Call, Answered, call_at, is_doubt}
-use Rattle.cf_stacks.specs.Words.{all_differ, stack_at}
+use Rattle.cf_stacks.specs.Operation.{Call, Response, call_at, is_doubt}
+use Rattle.cf_stacks.specs.Words.{stack_at}
+use Rattle.cf_tree.specs.Named.{all_differ}
 use Rattle.cf_stacks.specs.Status.{Stage, Forward, Back, stage_of}
 use Rattle.cf_stacks.specs.Fold.{empty_world, fold_of}
 use Rattle.cf_plan.specs.Forward.{In, here, HasFailed}
@@ -487,13 +488,13 @@ takes_nothing {p} {l} {s} {id} a e = not_there (subst (λ (q : Settlement). gone
 changed_it : IsChanged world_11 acted.lanes (codes "f1:1")
 changed_it = (pending, f1, change.settlement, live_y.props, live_y.attrs, record { is_open = refl; at_home = refl; settled = refl }, refl)
 
-abbrev reply_1 : Answered
+abbrev reply_1 : Response
 reply_1 = record { token = 1; answer = told_of creation.settlement; before = 0; after = 0 }
 
-abbrev doubt : ℕ → ℕ → Answered
+abbrev doubt : ℕ → ℕ → Response
 doubt before after = record { token = 2; answer = reply.Doubt; before = before; after = after }
 
-abbrev IsToldOf : Call → Lane → Answered → Type 0
+abbrev IsToldOf : Call → Lane → Response → Type 0
 IsToldOf c l q = is_doubt q.answer ≡ false → call_at q.token until_turned ≡ Some c → option_map told_of (settlement_of q.token l.state.state.settled) ≡ Some q.answer
 
 ties : Ties until_turned world_11 acted.lanes

@@ -6,7 +6,7 @@ use Rattle.std.specs.Option.{option_map_or}
 use Rattle.std.specs.Str.{bytes_eq}
 use Rattle.std.proofs.lemmas.Slice.Eq.{bytes_eq-Decides}
 use Rattle.cf_stacks.specs.declared.held.Held.{Held}
-use Rattle.cf_stacks.specs.Operation.{Call, Answered, call_of, replies_in, own_of, refusals_of}
+use Rattle.cf_stacks.specs.Operation.{Call, Response, call_of, replies_in, own_of, refusals_of}
 use Rattle.cf_plan.specs.Forward.{In, here}
 use Rattle.cf_stacks.specs.Fold.{empty_world, world_after, fold_of}
 use Rattle.cf_examples.specs.Given.{schemas, IsRefusedAfter}
@@ -34,7 +34,7 @@ pub follows_none : (schemas : List Schema) (number : ℕ) (x : World) (out : Lis
 follows_none schemas number x out e is (name, s, t, found, there_is, may) = let z = found in cc
 
 -- The failed paths: each of them is the path of a call that was answered, or of a resource.
-abbrev pub path_of_reply : StackState → Answered → List (List ℕ)
+abbrev pub path_of_reply : StackState → Response → List (List ℕ)
 path_of_reply s r = option_map_or (λ (c : Call). c.path ∷ []) (call_of r.token s) []
 
 abbrev pub candidates : StackState → List (List ℕ)
@@ -47,14 +47,14 @@ same_text : (a b : List ℕ) → bytes_eq a b ≡ true → b ≡ a
 same_text a b e = sym ((bytes_eq-Decides a b).0 e)
 
 -- a call at a path is a candidate
-at_call : (s : StackState) (p : List ℕ) (r : Answered) (c : Option Call) → call_of r.token s ≡ c → has_path p c ≡ true → In p (path_of_reply s r)
+at_call : (s : StackState) (p : List ℕ) (r : Response) (c : Option Call) → call_of r.token s ≡ c → has_path p c ≡ true → In p (path_of_reply s r)
 at_call s p r None is e = absurd (true≢false (sym e))
 at_call s p r (Some c) is e = subst (λ (o : Option Call). In p (option_map_or (λ (d : Call). d.path ∷ []) o [])) (sym is) (subst (λ q. In p (q ∷ [])) (sym (same_text p c.path e)) here)
 
-last_is_candidate : (s : StackState) (p : List ℕ) (o : Option Answered) → last_at p s ≡ o → is_bad_last s o ≡ true → In p (candidates s)
+last_is_candidate : (s : StackState) (p : List ℕ) (o : Option Response) → last_at p s ≡ o → is_bad_last s o ≡ true → In p (candidates s)
 last_is_candidate s p None is e = absurd (true≢false (sym e))
 last_is_candidate s p (Some r) is e =
-    let found = found_passes (λ (q : Answered). has_path p (call_of q.token s)) (reverse (replies_in (own_of s))) r is in
+    let found = found_passes (λ (q : Response). has_path p (call_of q.token s)) (reverse (replies_in (own_of s))) r is in
     in_more (flat_map (path_of_reply s) (reverse (replies_in (own_of s)))) (map (λ (h : Held). h.path) (resources_of s)) p (in_parts (path_of_reply s) (reverse (replies_in (own_of s))) r p found.1 (at_call s p r (call_of r.token s) refl found.0))
 
 held_is_candidate : (s : StackState) (p : List ℕ) → list_any (λ r. bytes_eq p r.path && nat_lt 0 (refusals_of r.physical s)) (resources_of s) ≡ true → In p (candidates s)

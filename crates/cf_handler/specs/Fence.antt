@@ -7,7 +7,8 @@ use Rattle.cf_tree.specs.declared.request.Answer.TheVariants as answer
 use Rattle.cf_handler.specs.declared.settled.Settlement.{Settlement}
 use Rattle.cf_handler.specs.declared.settled.Settled.{Settled}
 use Rattle.cf_handler.specs.Lane.{LaneState, Live, live_of, settlement_of}
-use Rattle.cf_handler.specs.Move.{HasRisen, MaySettle, LaneMove, with_settled}
+use Rattle.cf_handler.specs.Move.{MaySettle, LaneMove, with_settled}
+use Rattle.cf_tree.specs.Counts.{HasRisen}
 
 -- a call that broke off and may act later: the opening that made it, its token, and what was asked
 pub record Flying : Type 0 where

@@ -1,6 +1,7 @@
 -- What a handler may answer, and what a call may change (the handler contract of the CloudFormation registry; tokens and limits are this project's own).
 use Rattle.std.specs.Prelude.{◌≡◌, ℕ, ◌-◌, ◌^◌, ◌<◌, ◌≤◌, false, List, [], ◌∷◌, ◌++◌, length, Option, Some, None, IsTrue, ◌⊎◌}
 use Rattle.cf_tree.specs.Datum.{Data}
+use Rattle.cf_tree.specs.Counts.{HasRisen}
 use Rattle.cf_tree.specs.SizeOf.{size_of_dict}
 use Rattle.cf_tree.specs.declared.request.Request.{Request}
 use Rattle.cf_tree.specs.declared.request.Request.TheVariants.{Create, Update, Delete}
@@ -12,20 +13,16 @@ use Rattle.cf_handler.specs.declared.settled.Settlement.TheVariants.{Success, Fa
 use Rattle.cf_handler.specs.declared.settled.Settled.{Settled}
 use Rattle.cf_handler.specs.Lane.{LaneState, live_of, has_id, is_used, settlement_of}
 
--- a count of faults rose; one at its last value, 2 ^ 64 - 1, counts as risen in each call
-abbrev pub HasRisen : ℕ → ℕ → Type 0
-HasRisen before after = before < 2 ^ 64 - 1 → before < after
-
 -- a refusal and a fault come only where the count rose
-abbrev pub IsBlamed : Answer → ℕ → ℕ → Type 0
-IsBlamed (answer.Success physical attrs) before after = Unit {0}
-IsBlamed (answer.Failed code) before after = HasRisen before after
-IsBlamed answer.Fault before after = HasRisen before after
-IsBlamed answer.NoMemory before after = Unit {0}
+abbrev pub IsAccounted : Answer → ℕ → ℕ → Type 0
+IsAccounted (answer.Success physical attrs) before after = Unit {0}
+IsAccounted (answer.Failed code) before after = HasRisen before after
+IsAccounted answer.Fault before after = HasRisen before after
+IsAccounted answer.NoMemory before after = Unit {0}
 
 -- the count never falls, and each refusal and fault has it for its cause
 abbrev pub HasCause : ℕ → ℕ → Answer → Type 0
-HasCause before after result = (before ≤ after) × IsBlamed result before after
+HasCause before after result = (before ≤ after) × IsAccounted result before after
 
 -- the attributes are within their limit
 abbrev pub AreShort : List (List ℕ × Data) → Type 0

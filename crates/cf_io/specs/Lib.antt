@@ -1,4 +1,3 @@
-pub mod Counts
 pub mod Library
 pub mod Sink
 pub mod Stores

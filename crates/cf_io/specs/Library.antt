@@ -5,7 +5,7 @@ use Rattle.std.specs.List.{find}
 use Rattle.std.specs.Str.{bytes_eq}
 use Rattle.std.specs.Prelude.{Option}
 use Rattle.std.specs.Global.{Vec}
-use Rattle.cf_io.specs.Counts.{HasRisen}
+use Rattle.cf_tree.specs.Counts.{HasRisen}
 use Rattle.cf_io.specs.declared.library.FetchFault.{FetchFault}
 use Rattle.cf_io.specs.declared.library.FetchFault.TheVariants.{Failed, NoMemory}
 

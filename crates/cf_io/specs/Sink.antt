@@ -1,7 +1,7 @@
 -- What a sink of printed bytes tells of itself, and what a put does.
 use Rattle.std.specs.Prelude.{ℕ, ◌≤◌, List, take, Option, Result, Ok, Err}
 use Rattle.std.specs.Io.KnownBytes.{Appends}
-use Rattle.cf_io.specs.Counts.{HasRisen}
+use Rattle.cf_tree.specs.Counts.{HasRisen}
 use Rattle.cf_io.specs.declared.sink.SinkFail.{SinkFail}
 use Rattle.cf_io.specs.declared.sink.SinkFail.TheVariants.{Failed, NoMemory}
 

@@ -1,5 +1,5 @@
 ghost use Rattle.std.specs.Prelude.{◌≡◌, [], IfOk, Some};
-ghost use Rattle.cf_io.specs.Counts.{next_count, count_after};
+ghost use Rattle.cf_tree.specs.Counts.{next_count, count_after};
 ghost use Rattle.cf_io.specs.Sink.{Puts, HasPutCause};
 ghost use Rattle.cf_io.specs.Stores.{is_planned, FailsWhere};
 

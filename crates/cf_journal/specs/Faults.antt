@@ -1,6 +1,6 @@
 -- When the calls of a journal fail.
 use Rattle.std.specs.Prelude.{◌≡◌, ◌+◌, ◌<◌, ◌≤◌, ℕ, Bool, true, List, IsTrue, Result, Ok, Err}
-use Rattle.cf_disk.specs.Disk.{HasRisen}
+use Rattle.cf_tree.specs.Counts.{HasRisen}
 use Rattle.cf_entry.specs.declared.entry.Entry.{Entry}
 use Rattle.cf_journal.specs.declared.faults.AppendFault.{AppendFault}
 use Rattle.cf_journal.specs.declared.faults.AppendFault.TheVariants as append

@@ -1,6 +1,7 @@
 //! Reading a journal back.
 ghost use Rattle.std.specs.Prelude.{◌≡◌, ◌≤◌, ◌<◌, ◌^◌, ◌+◌, ◌-◌, ◌⊎◌, [], List, ℕ, false, Ok, Err, length, take, drop, vec_len, IsTrue, IfOk, IfErr, OnOk, MatchResult};
-ghost use Rattle.cf_disk.specs.Disk.{Only, LeavesOnly, HasCause, HasRisen};
+ghost use Rattle.cf_disk.specs.Disk.{Only, LeavesOnly, HasCause};
+ghost use Rattle.cf_tree.specs.Counts.{HasRisen};
 ghost use Rattle.cf_entry.specs.EntryReading.{entry_of};
 ghost use Rattle.cf_journal.specs.Head.{head_of, IsEmpty, IsBegun};
 ghost use Rattle.cf_journal.specs.Frames.{frames_of, with_front};

@@ -15,8 +15,9 @@ use Rattle.cf_stacks.specs.declared.held.Pending.{Pending}
 use Rattle.cf_stacks.specs.declared.state.StackState.{StackState}
 use Rattle.cf_stacks.specs.declared.state.World.{World}
 use Rattle.cf_stacks.specs.Status.{is_in_progress, is_complete}
-use Rattle.cf_stacks.specs.Words.{stack_at, id_named, all_differ}
-use Rattle.cf_stacks.specs.Operation.{Call, Answered, call_at, replies_in, is_doubt}
+use Rattle.cf_stacks.specs.Words.{stack_at, id_named}
+use Rattle.cf_tree.specs.Named.{all_differ}
+use Rattle.cf_stacks.specs.Operation.{Call, Response, call_at, replies_in, is_doubt}
 use Rattle.cf_stacks.specs.Fold.{empty_world, fold_of}
 use Rattle.cf_plan.specs.Forward.{In}
 use Rattle.cf_plan.specs.Follow.{IsLegal, is_opened_since}
@@ -82,7 +83,7 @@ pub record Ties (entries : List Entry) (x : World) (lanes : List Lane) : Type 0 
   pub flying_calls : (l : Lane) (f : Flying) → In l lanes → In f l.state.flying → FitsCall entries x l.name f.token f.request
   -- what the journal says was answered
   pub answers :
-      (c : Call) (r : Answered) (l : Lane) → In r (replies_in entries) → is_doubt r.answer ≡ false → call_at r.token entries ≡ Some c
+      (c : Call) (r : Response) (l : Lane) → In r (replies_in entries) → is_doubt r.answer ≡ false → call_at r.token entries ≡ Some c
       → lane_at c.lane lanes ≡ Some l → option_map told_of (settlement_of r.token l.state.state.settled) ≡ Some r.answer
   -- what may act later is accounted for, and is of no later opening
   pub flying_open :

@@ -4,7 +4,7 @@ use Rattle.std.specs.Prelude.{◌≡◌, ◌≢◌, ℕ, ◌↔◌, false, List,
 use Rattle.cf_tree.specs.Keys.{value_at}
 use Rattle.cf_handler.specs.Lane.{Live}
 use Rattle.cf_handler.specs.Fence.{live_at}
-use Rattle.cf_handler.specs.Move.{HasRisen}
+use Rattle.cf_tree.specs.Counts.{HasRisen}
 use Rattle.cf_export.specs.declared.Export.{Export}
 use Rattle.cf_entry.specs.declared.entry.Entry.{Entry}
 use Rattle.cf_tree.specs.declared.source.Source.{Source}
@@ -14,7 +14,7 @@ use Rattle.cf_stacks.specs.declared.state.World.{World}
 use Rattle.cf_desired.specs.Plan.{Seen}
 use Rattle.cf_desired.specs.Whole.{Right, Whole, whole_of}
 use Rattle.cf_stacks.specs.Words.{current_at}
-use Rattle.cf_stacks.specs.Operation.{Call, Answered, call_at, replies_in, is_of, is_success}
+use Rattle.cf_stacks.specs.Operation.{Call, Response, call_at, replies_in, is_of, is_success}
 use Rattle.cf_stacks.specs.Fold.{export_by, is_right_at}
 use Rattle.cf_plan.specs.Accept.{exports_in}
 use Rattle.cf_plan.specs.Forward.{In}
@@ -76,7 +76,7 @@ pub record IsCleared (s : StackState) : Type 0 where
 -- A failed status names a path at least, and each with an outcome of the operation that was refused or broke off, whose
 -- handler's count rose.
 pub record IsBlamedFor (entries : List Entry) (number : ℕ) (path : List ℕ) : Type 0 where
-  pub reply : Answered
+  pub reply : Response
   pub call : Call
   pub of_call : call_at reply.token entries ≡ Some call
   pub at_path : call.path ≡ path

@@ -6,7 +6,8 @@ use Rattle.std.specs.Str.{bytes_eq}
 use Rattle.cf_tree.specs.declared.request.Request.{Request}
 use Rattle.cf_tree.specs.declared.request.Request.TheVariants as request
 use Rattle.cf_tree.specs.declared.code.Code.TheVariants as code
-use Rattle.cf_handler.specs.Move.{HasRisen, IsOfLane}
+use Rattle.cf_handler.specs.Move.{IsOfLane}
+use Rattle.cf_tree.specs.Counts.{HasRisen}
 use Rattle.cf_entry.specs.Entry.{texts_ascend}
 use Rattle.cf_entry.specs.declared.entry.Entry.{Entry}
 use Rattle.cf_entry.specs.declared.entry.Entry.TheVariants as entry
@@ -35,7 +36,7 @@ use Rattle.cf_stacks.specs.Status.{Stage, Forward, Clean, Back, BackClean, Gone,
 use Rattle.cf_graph.specs.Needs.{is_among}
 use Rattle.cf_stacks.specs.Words.{stack_at, stack_of_operation, current_at, resources_of, is_update, is_create_at, pending_of, is_pinned}
 use Rattle.cf_stacks.specs.Fold.{known_stack, source_for, world_after}
-use Rattle.cf_stacks.specs.Operation.{Call, Answered, after_last, calls_in, replies_in, own_of, doubts_of, is_new, deletions_of, refusals_of, deletes, updates, was_updated, was_restored, was_skipped, was_refused, is_refusal, call_of, named_paths, rollback_of}
+use Rattle.cf_stacks.specs.Operation.{Call, Response, after_last, calls_in, replies_in, own_of, doubts_of, is_new, deletions_of, refusals_of, deletes, updates, was_updated, was_restored, was_skipped, was_refused, is_refusal, call_of, named_paths, rollback_of}
 use Rattle.cf_plan.specs.Between.{is_needed_by_held, is_needed_by_made, is_needed_by_create}
 use Rattle.cf_plan.specs.Forward.{In, IsDone, IsReady, AllDone, HasFailed, IsCause, Known, evaluated_at, was_answered_at, difference_to}
 use Rattle.cf_schema.specs.declared.described.Schema.{Schema}
@@ -280,10 +281,10 @@ has_path path None = false
 has_path path (Some c) = bytes_eq path c.path
 
 -- the operation's last outcome at the path
-abbrev pub last_at : List ℕ → StackState → Option Answered
+abbrev pub last_at : List ℕ → StackState → Option Response
 last_at path s = find (λ r. has_path path (call_of r.token s)) (reverse (replies_in (own_of s)))
 
-abbrev pub is_bad_last : StackState → Option Answered → Bool
+abbrev pub is_bad_last : StackState → Option Response → Bool
 is_bad_last s None = false
 is_bad_last s (Some r) = is_bad_outcome (call_of r.token s) r.answer
 

@@ -21,7 +21,8 @@ use Rattle.cf_stacks.specs.declared.held.Leftover.{Leftover}
 use Rattle.cf_stacks.specs.declared.held.Pending.{Pending}
 use Rattle.cf_stacks.specs.declared.held.GivenUp.{GivenUp}
 use Rattle.cf_stacks.specs.declared.state.World.{World}
-use Rattle.cf_stacks.specs.Words.{resources_of, all_differ}
+use Rattle.cf_stacks.specs.Words.{resources_of}
+use Rattle.cf_tree.specs.Named.{all_differ}
 use Rattle.cf_stacks.specs.Fold.{unknown_id}
 
 -- a lane that is handed in

@@ -17,7 +17,8 @@ use Rattle.cf_stacks.specs.declared.held.Pending.{Pending}
 use Rattle.cf_stacks.specs.declared.state.StackState.{StackState}
 use Rattle.cf_stacks.specs.declared.state.World.{World}
 use Rattle.cf_stacks.specs.Status.{Stage, stage_of, is_in_progress}
-use Rattle.cf_stacks.specs.Words.{stack_at, has_token, all_differ}
+use Rattle.cf_stacks.specs.Words.{stack_at, has_token}
+use Rattle.cf_tree.specs.Named.{all_differ}
 use Rattle.cf_stacks.specs.Fold.{empty_world, fold_of}
 use Rattle.cf_stacks.specs.Operation.{Call, call_of}
 use Rattle.cf_plan.specs.Forward.{In}

@@ -1,7 +1,7 @@
 -- Lists of schemas, at most one of each type (this project's own).
-use Rattle.std.specs.Prelude.{ℕ, List, [], ◌∷◌, ◌++◌, Bool, true, ◌&&◌, not, Option, Some, None, find}
-use Rattle.std.specs.List.{list_any}
+use Rattle.std.specs.Prelude.{ℕ, List, [], ◌∷◌, ◌++◌, Bool, Option, Some, None, find}
 use Rattle.std.specs.Str.{bytes_eq}
+use Rattle.cf_tree.specs.Named.{all_differ}
 use Rattle.cf_schema.specs.declared.described.Schema.{Schema}
 
 -- the schema of a type
@@ -10,8 +10,7 @@ found kind ss = find (λ s. bytes_eq kind s.kind) ss
 
 -- no two schemas are of one type
 abbrev pub are_distinct : List Schema → Bool
-are_distinct [] = true
-are_distinct (s ∷ ss) = not (list_any (λ t. bytes_eq s.kind t.kind) ss) && are_distinct ss
+are_distinct = all_differ (λ s t. bytes_eq s.kind t.kind)
 
 -- the schemas, and behind them s where none is of its type
 abbrev pub with_kind : Schema → List Schema → List Schema

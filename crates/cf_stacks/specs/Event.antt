@@ -7,35 +7,15 @@ use Rattle.cf_tree.specs.declared.request.Request.TheVariants as request
 use Rattle.cf_tree.specs.declared.code.Code.TheVariants as code
 use Rattle.cf_entry.specs.declared.entry.Entry.{Entry}
 use Rattle.cf_entry.specs.declared.entry.Reply.{Reply}
-use Rattle.cf_entry.specs.declared.status.Status.{Status}
+use Rattle.cf_entry.specs.Status.{status_name}
 use Rattle.cf_entry.specs.declared.turn.Why.{Why}
 use Rattle.cf_stacks.specs.declared.state.StackState.{StackState}
 use Rattle.cf_stacks.specs.declared.held.Pending.{Pending}
 use Rattle.cf_entry.specs.declared.entry.Entry.TheVariants as entry
 use Rattle.cf_entry.specs.declared.entry.Reply.TheVariants as reply
-use Rattle.cf_entry.specs.declared.status.Status.TheVariants as status
 use Rattle.cf_entry.specs.declared.turn.Why.TheVariants as why
 use Rattle.cf_stacks.specs.Status.{begun, turned}
 use Rattle.cf_stacks.specs.Words.{pending_of}
-
--- the name of a status
-abbrev pub status_name : Status → List ℕ
-status_name status.CreateInProgress = codes "CREATE_IN_PROGRESS"
-status_name status.CreateComplete = codes "CREATE_COMPLETE"
-status_name status.RollbackInProgress = codes "ROLLBACK_IN_PROGRESS"
-status_name status.RollbackComplete = codes "ROLLBACK_COMPLETE"
-status_name status.RollbackFailed = codes "ROLLBACK_FAILED"
-status_name status.UpdateInProgress = codes "UPDATE_IN_PROGRESS"
-status_name status.UpdateCompleteCleanupInProgress = codes "UPDATE_COMPLETE_CLEANUP_IN_PROGRESS"
-status_name status.UpdateComplete = codes "UPDATE_COMPLETE"
-status_name status.UpdateRollbackInProgress = codes "UPDATE_ROLLBACK_IN_PROGRESS"
-status_name status.UpdateRollbackCompleteCleanupInProgress = codes "UPDATE_ROLLBACK_COMPLETE_CLEANUP_IN_PROGRESS"
-status_name status.UpdateRollbackComplete = codes "UPDATE_ROLLBACK_COMPLETE"
-status_name status.UpdateRollbackFailed = codes "UPDATE_ROLLBACK_FAILED"
-status_name status.DeleteInProgress = codes "DELETE_IN_PROGRESS"
-status_name status.DeleteComplete = codes "DELETE_COMPLETE"
-status_name status.DeleteFailed = codes "DELETE_FAILED"
-status_name status.ReviewInProgress = codes "REVIEW_IN_PROGRESS"
 
 -- what a request does to a resource
 abbrev pub action_name : Request → List ℕ

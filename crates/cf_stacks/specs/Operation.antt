@@ -95,17 +95,17 @@ abbrev pub calls_in : List Entry → List Call
 calls_in es = filter_map call_in es
 
 -- an answer that an Outcome writes down
-pub record Answered : Type 0 where
+pub record Response : Type 0 where
   pub token : ℕ
   pub answer : Reply
   pub before : ℕ
   pub after : ℕ
 
-abbrev pub reply_in : Entry → Option Answered
+abbrev pub reply_in : Entry → Option Response
 reply_in (entry.Outcome number token answer before after) = Some (record { token = token; answer = answer; before = before; after = after })
 reply_in _ = None
 
-abbrev pub replies_in : List Entry → List Answered
+abbrev pub replies_in : List Entry → List Response
 replies_in es = filter_map reply_in es
 
 abbrev pub is_doubt : Reply → Bool
@@ -153,13 +153,13 @@ is_refusal (request.Delete physical) (reply.Failed code.NotFound) = false
 is_refusal _ (reply.Failed code) = true
 is_refusal _ _ = false
 
-abbrev pub refuses : Call → Answered → Bool
+abbrev pub refuses : Call → Response → Bool
 refuses c r = c.token == r.token && is_refusal c.request r.answer
 
 abbrev pub was_refused : StackState → Call → Bool
 was_refused s c = list_any (refuses c) (replies_in s.entries)
 
-abbrev pub succeeds : Call → Answered → Bool
+abbrev pub succeeds : Call → Response → Bool
 succeeds c r = c.token == r.token && is_success r.answer
 
 abbrev pub succeeded : StackState → Call → Bool

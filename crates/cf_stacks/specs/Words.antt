@@ -94,8 +94,3 @@ is_create _ = false
 -- the open token is of a create at this path
 abbrev pub is_create_at : List ℕ → Pending → Bool
 is_create_at path p = is_create p.request && bytes_eq path p.path
-
--- no two of a list are the same, where a test tells which are
-abbrev pub all_differ : {A : Type 0} → (A → A → Bool) → List A → Bool
-all_differ same [] = true
-all_differ same (a ∷ rest) = not (list_any (same a) rest) && all_differ same rest

@@ -31,8 +31,8 @@ pub struct StackState {
     pub sets: KeptSets,
     /// The lines that `events` prints.
     pub events: Names,
-    /// Its entries since its last operation began that is no continued rollback, and each opening
-    /// since then.
+    /// Its entries since its last operation began that is no continued rollback, each opening since
+    /// then, and before them the intents of the calls that were open as it began.
     pub entries: Entries,
 }
 

@@ -7,6 +7,6 @@ returns-in_ok-push_word-in-WrongStatus-2 c =
     rw (
       c.in_ok-push_word-in-WrongStatus-2.ensures,
       c.in_ok-push_word-in-WrongStatus.ensures,
-      c.name_of_status.ensures,
+      c.name.ensures,
       c.in-WrongStatus.is,
     ) (two_words _ _ _)
