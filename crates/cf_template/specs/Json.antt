@@ -1,5 +1,5 @@
 -- The JSON value that bytes are (RFC 8259), as `serde_json` reads it.
-use Rattle.std.specs.Prelude.{◌≡◌, ℕ, suc, List, Option, Some, None, Result, Ok, Err, ◌⊎◌, if◌then◌else◌, ⊤}
+use Rattle.std.specs.Prelude.{◌≡◌, ℕ, suc, List, Option, Some, None, Result, Ok, Err, ◌⊎◌, if◌then◌else◌}
 use Rattle.std.specs.Str.{is_utf8}
 use Rattle.serde_json.specs.declared.value.Value.{Value}
 use Rattle.serde_json.specs.View.{view}
@@ -7,18 +7,10 @@ use Rattle.cf_template.specs.declared.refusal.TemplateFault.{TemplateFault}
 use Rattle.cf_template.specs.declared.refusal.TemplateFault.TheVariants as refusal
 use Rattle.serde_json.specs.Data.{Data, Members, no_members, member}
 use Rattle.serde_json.specs.Read.{read}
-use Rattle.cf_template.specs.declared.fault.PlainFault.{PlainFault}
-use Rattle.cf_template.specs.declared.fault.PlainFault.TheVariants.{NotJson, NoMemory, NotYet}
 
 -- the value, where the bytes are the UTF-8 text of one that nests no deeper than 127
 abbrev pub json_of : List ℕ → Option Data
 json_of bytes = if is_utf8 bytes then read bytes else None
-
--- why bytes are read as no value
-abbrev pub IsJsonFault : List ℕ → PlainFault → Type 0
-IsJsonFault bytes NotJson = json_of bytes ≡ None
-IsJsonFault bytes NoMemory = ⊤
-IsJsonFault bytes NotYet = ⊥
 
 -- how many members an object has
 abbrev pub count : Members → ℕ

@@ -1,8 +1,6 @@
-pub mod Fault
 pub mod Refusals
 pub mod Json
 pub mod Words
-pub mod Plain
 pub mod Places
 pub mod Walk
 pub mod Functions

@@ -682,6 +682,20 @@ fn long_and_deep_texts_are_refused(rt: HostRuntime) -> Result<(), Fail> {
     Ok(())
 }
 
+#[test]
+fn bytes_that_are_no_text_are_refused(rt: HostRuntime) -> Result<(), Fail> {
+    for bytes in [
+        &b"\"\xff\""[..],
+        &b"{\"Resources\":{\"A\":{\"Type\":\"\xc3\"}}}"[..],
+    ] {
+        match read_template(rt.alloc(), bytes) {
+            Ok(_) => assert!(rt; false, "a template"),
+            Err(fault) => assert_eq!(rt; spelled(rt.alloc(), &fault)?.as_str(), "NotJson"),
+        }
+    }
+    Ok(())
+}
+
 /// A section of a name with so many members, each of which is a number.
 fn crowded(alloc: Global, section: &str, count: u32) -> Result<String, Fail> {
     let mut text = format!(in alloc; "{{\"{section}\":{{\"a\":1")?;

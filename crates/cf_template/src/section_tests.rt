@@ -153,6 +153,24 @@ fn each_section_is_read(rt: HostRuntime) -> Result<(), Fail> {
     Ok(())
 }
 
+#[test]
+fn resources_come_in_byte_order(rt: HostRuntime) -> Result<(), Fail> {
+    let text =
+        r#"{"Resources":{"b":{"Type":"T"},"B":{"Type":"T"},"A1":{"Type":"T"},"A":{"Type":"T"}}}"#;
+    let mut names = String::new(rt.alloc());
+    match read_template(rt.alloc(), text.as_bytes()) {
+        Ok(template) => {
+            for resource in template.resources.as_slice() {
+                names.push_str(resource.name.as_str())?;
+                names.push(' ')?;
+            }
+        }
+        Err(_) => assert!(rt; false, "no template"),
+    }
+    assert_eq!(rt; names.as_str(), "A A1 B b ");
+    Ok(())
+}
+
 fn word_of(node: &ExprNode) -> &'static str {
     match node {
         ExprNode::Lit(Val::Text(_)) => "text",
