@@ -137,7 +137,7 @@ fn templates_are_validated(rt: HostRuntime) -> Result<(), Fail> {
     Ok(())
 }
 
-// First what is no template, then what is not made yet, then the plan, then types.
+// First what is no template, then what is not made yet, then the plan, then types, and last what the handler refuses.
 #[test]
 fn templates_are_refused_in_order(rt: HostRuntime) -> Result<(), Fail> {
     let alloc = rt.alloc();
@@ -146,6 +146,10 @@ fn templates_are_refused_in_order(rt: HostRuntime) -> Result<(), Fail> {
         (
             "{\"AWSTemplateFormatVersion\":1,\"Resources\":{\"A\":{\"Type\":\"AWS::CloudFormation::Stack\"}}}",
             "exit 2 TemplateRefused Read \"t\" BadVersion\n",
+        ),
+        (
+            "{\"Resources\":{\"A\":{\"Type\":\"T\",\"Properties\":{\"P\":\"{{resolve:ssm:x}}\"}}}}",
+            "exit 2 TemplateRefused Read \"t\" Unsupported \"/Resources/A/Properties/P\" \"{{resolve:\"\n",
         ),
         (OUTPUT, "exit 2 TemplateRefused NotYet \"t\"\n"),
         (
@@ -180,6 +184,10 @@ fn templates_are_refused_in_order(rt: HostRuntime) -> Result<(), Fail> {
         (
             "{\"Resources\":{\"A\":{\"Type\":\"T\",\"Condition\":\"C\",\"Properties\":{\"P\":{\"Ref\":\"Nobody\"}}}}}",
             "exit 2 TemplateRefused Plan Eval Bad UnknownName \"\" \"/Resources/A/Condition\"\n",
+        ),
+        (
+            "{\"Resources\":{\"A\":{\"Type\":\"Local::Files::File\",\"Properties\":{\"Path\":\"a\",\"Content\":1}}}}",
+            "exit 15 Unrolled Handler \"A\" InvalidRequest\n",
         ),
     ];
     for (template, wanted) in cases {
