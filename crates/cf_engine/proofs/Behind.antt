@@ -15,6 +15,7 @@ use Rattle.cf_engine.specs.Make.{CompleteTells, MakeTells}
 use Rattle.cf_engine.proofs.Moved.{same_later, all_before}
 use Rattle.cf_engine.proofs.Written.{none_called, due_end}
 use Rattle.cf_engine.proofs.Cut.{nearly_due, cut_at, halts_since}
+use Rattle.cf_engine.proofs.Runs.{faulted_since}
 
 -- a run that made all, and its end
 pub ended_all : (s : Scene) (es : List Entry) (number token : ℕ) (rs : List Planned) → RunTells (record s { entries' = es }) number token rs run.Done → s.entries' ≡ es ++ ending number ∷ [] → CompleteTells s number token rs run.Done
@@ -51,7 +52,7 @@ room_same s es room_now faults_now (x ∷ missing) long need r e t = (t.0, t.1, 
 
 cause_same : (s : Scene) (es : List Entry) (room_now faults_now : ℕ) (missing : List Entry) (h : Halt) → room_now ≡ s.room → s.faults ≤ faults_now → HasHaltCause (record s { entries = es; room = room_now; faults = faults_now }) missing h → HasHaltCause s missing h
 cause_same s es room_now faults_now missing (halt.Full long need r) e k t = room_same s es room_now faults_now missing long need r e t
-cause_same s es room_now faults_now missing halt.DiskFault e k t = omega (arith, k, t)
+cause_same s es room_now faults_now missing halt.DiskFault e k t = faulted_since k t
 cause_same s es room_now faults_now missing halt.NoMemory e k t = tt
 
 -- a run that is cut short behind an entry

@@ -12,7 +12,7 @@ use Rattle.cf_engine.specs.Lanes.{Told, lane_for, AreLater}
 use Rattle.cf_engine.specs.Written.{Call, intent_of, outcome_of, name_for, calls_written, due_after, run_written, IsNearlyAll}
 use Rattle.cf_engine.specs.Calls.{AreCalled, AreMade, AreMadeBefore}
 use Rattle.cf_engine.specs.Run.{Scene, StepTells, RunTells, IsCut}
-use Rattle.cf_engine.proofs.Runs.{rose_both}
+use Rattle.cf_engine.proofs.Runs.{rose_both, faulted_since}
 use Rattle.cf_engine.proofs.Moved.{rose_of, later_of, called_later, same_later, last_fails, made_before, all_before}
 use Rattle.cf_engine.proofs.Written.{IsSoFar, step_from, written_more, due_here, called_more}
 
@@ -90,7 +90,7 @@ cut_at s first number token rs halt.NoMemory calls counted w e more es f b l q n
 -- faults that rose later rose since an earlier moment
 pub halts_since : (tells : Bool) (bytes : List ℕ) (room before now after : ℕ) (es : List Entry) (e : Entry) (h : Halt) → before ≤ now → HaltsAt tells bytes room now after es e h → HaltsAt tells bytes room before after es e h
 halts_since tells bytes room before now after es e (halt.Full long need r) q t = t
-halts_since tells bytes room before now after es e halt.DiskFault q t = (omega (arith, q, t.0), t.1)
+halts_since tells bytes room before now after es e halt.DiskFault q t = (faulted_since q t.0, t.1)
 halts_since tells bytes room before now after es e halt.NoMemory q t = t
 
 -- a run that halts in a step, behind the calls before it

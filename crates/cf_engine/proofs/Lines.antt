@@ -24,6 +24,7 @@ use Rattle.cf_engine.specs.Telling.{text_of, exit_of}
 use Rattle.cf_engine.specs.Print.{PrintTells}
 use Rattle.cf_engine.specs.Alone.{Printing, deploy_words, Comes, AloneTells, IsMade, HasFailed, IsCutShort, Says, IsOneOf, NoCountRose, IsRefusal, ComesBefore, IsAnswered}
 use Rattle.cf_engine.proofs.Alive.{calls_live, failed_live}
+use Rattle.cf_engine.proofs.Runs.{faulted_since}
 use Rattle.cf_engine.proofs.Journaled.{journals}
 
 -- an opening is no token
@@ -170,8 +171,8 @@ library_rose m p name choice (inr (inr w)) c = elim w.came [ inl x ↦ c.library
 
 disk_rose : (m : Meeting) (p : Printing) (name : List ℕ) (choice : Choice) → RunsAs m name choice (Err exit.DiskFault) → NoCountRose m p → ⊥
 disk_rose m p name choice (inl x) c = c.disk x.0
-disk_rose m p name choice (inr (inl w)) c = c.disk (omega (arith, w.later, w.why.2.0))
-disk_rose m p name choice (inr (inr w)) c = elim w.came [ inl x ↦ x.0 | inr x ↦ c.disk (omega (arith, w.later, x.3.cut.cause)) ]
+disk_rose m p name choice (inr (inl w)) c = c.disk (faulted_since w.later w.why.2.0).1
+disk_rose m p name choice (inr (inr w)) c = elim w.came [ inl x ↦ x.0 | inr x ↦ c.disk (faulted_since w.later x.3.cut.cause).1 ]
 
 otherwise : (m : Meeting) (p : Printing) (words : List (List ℕ)) (result : Exit) (said : List ℕ × Choice) → Says m p words result → deploy_words words ≡ Some said → NoCountRose m p → (result ≡ exit.Done) ⊎ ((result ≡ exit.NoMemory) ⊎ IsRefusal result)
 otherwise m p words exit.Done said s w c = inl refl

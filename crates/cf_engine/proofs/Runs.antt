@@ -7,6 +7,7 @@ use Rattle.cf_tree.specs.declared.request.Request.TheVariants.{Create}
 use Rattle.cf_handler.specs.declared.settled.Settled.{Settled}
 use Rattle.cf_handler.specs.declared.settled.Settlement.{Settlement}
 use Rattle.cf_handler.specs.Lane.{LaneState, settlement_of}
+use Rattle.cf_engine.specs.Book.{HasFaulted}
 use Rattle.cf_engine.specs.Lanes.{Told, is_unknown, settled_by, settled_at, IsFresh, AreFresh, AreLater, RoseAt}
 
 none≢some : {A : Type 0} (x : A) → Some x ≡ None → ⊥
@@ -78,6 +79,13 @@ rose_both (Some k) a b c h g r = λ q.
       | inl d ↦ omega (arith, h k, r d.1)
       | inr d ↦ omega (arith, h k, g k, d.1, q)
     ]
+
+-- faults of a disk that rose later rose since an earlier moment
+pub faulted_since : {before now after : ℕ} → before ≤ now → HasFaulted now after → HasFaulted before after
+faulted_since {now = now} h r = (
+  omega (arith, h, r.0),
+  λ q. elim (leb_tells (suc now) (2 ^ 64 - 1)) [ inl d ↦ omega (arith, h, r.1 d.1) | inr d ↦ omega (arith, h, r.0, d.1, q) ],
+)
 
 pub known_now : (kinds kinds_now : List (List ℕ)) (rs : List Planned) (at : ℕ) (r : Planned) → kinds_now ≡ kinds → find (is_unknown kinds) rs ≡ None → at < length rs → r ≡ get_or rs at r → is_unknown kinds_now r ≡ false
 known_now kinds kinds_now rs at r k e h d = subst (λ (ks : List (List ℕ)). is_unknown ks r ≡ false) (sym k) (known_at kinds rs at r e h d)

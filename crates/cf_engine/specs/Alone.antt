@@ -1,5 +1,5 @@
 -- What the program's run over its words comes to.
-use Rattle.std.specs.Prelude.{◌≡◌, ◌⊎◌, ℕ, List, [], ◌∷◌, ◌++◌, length, take, Option, Some, None, Result, Err, ⊤}
+use Rattle.std.specs.Prelude.{◌≡◌, ◌⊎◌, ℕ, Bool, List, [], ◌∷◌, ◌++◌, length, take, Option, Some, None, Result, Err, ⊤}
 use Rattle.std.specs.Io.KnownBytes.{Appends}
 use Rattle.cf_tree.specs.declared.planned.Planned.{Planned}
 use Rattle.cf_entry.specs.declared.entry.Entry.{Entry}
@@ -18,10 +18,10 @@ use Rattle.cf_engine.specs.Words.{command_of}
 use Rattle.cf_engine.specs.Exit.{exit_line}
 use Rattle.cf_engine.specs.Lanes.{AreFresh, AreLater, RoseAt}
 use Rattle.cf_engine.specs.Refusals.{refusal_of}
-use Rattle.cf_engine.specs.Book.{Holds}
+use Rattle.cf_engine.specs.Book.{Holds, Lasts}
 use Rattle.cf_engine.specs.Written.{Call, opening, due_after, run_written, next_of, IsNearlyAll}
 use Rattle.cf_engine.specs.Calls.{AreCalled, AreMadeBefore}
-use Rattle.cf_engine.specs.Deployment.{IsFound, IsDeployed, HasStopped, beginning_in}
+use Rattle.cf_engine.specs.Deployment.{IsFound, IsUnasked, IsDeployed, HasStopped, beginning_in}
 use Rattle.cf_engine.specs.Opening.{twice, missing}
 use Rattle.cf_engine.specs.Meeting.{Meeting, AreQuiet, IsKept, opened, RunsAs}
 use Rattle.cf_engine.specs.Telling.{stack_report, text_of, exit_of}
@@ -45,9 +45,9 @@ deploy_in None = None
 abbrev pub deploy_words : List (List ℕ) → Option (List ℕ × Choice)
 deploy_words words = deploy_in (command_of words)
 
--- nothing was changed outside
+-- nothing was changed outside, and nothing asked
 abbrev pub Untouched : Meeting → Type 0
-Untouched m = AreQuiet m × (m.bytes' ≡ m.bytes)
+Untouched m = AreQuiet m × (m.bytes' ≡ m.bytes) × IsUnasked m.shelf
 
 -- what the words come to: they say nothing that is known, memory is short, or they are a deployment
 abbrev pub Comes : Meeting → List (List ℕ) → List ℕ → Result Stack Exit → Type 0
@@ -55,6 +55,11 @@ Comes m words stack outcome =
     ((outcome ≡ Err exit.BadWords) × (deploy_words words ≡ None) × Untouched m)
     ⊎ (((outcome ≡ Err exit.NoMemory) × Untouched m)
     ⊎ ((choice : Choice) × (deploy_words words ≡ Some (stack, choice)) × RunsAs m stack choice outcome))
+
+-- after Done what the disk has outlives a crash
+abbrev pub LastsWhereDone : Exit → Bool → List ℕ → (List ℕ → Type 0) → Type 0
+LastsWhereDone exit.Done tells bytes may_leave = Lasts tells bytes may_leave
+LastsWhereDone _ tells bytes may_leave = ⊤
 
 -- all of it: the words come to something, and that is printed and answered
 abbrev pub AloneTells : Meeting → Printing → List (List ℕ) → Exit → Type 0

@@ -19,7 +19,7 @@ use Rattle.cf_engine.specs.declared.stack.Stack.{Stack}
 use Rattle.cf_engine.specs.Exit.{exit_line}
 use Rattle.cf_engine.specs.Words.{command_of, drives}
 use Rattle.cf_engine.specs.Refusals.{MissesFor}
-use Rattle.cf_engine.specs.Deployment.{Shelf}
+use Rattle.cf_engine.specs.Deployment.{Shelf, IsUnasked}
 use Rattle.cf_engine.specs.Meeting.{Meeting, AreQuiet, IsKept, Describes}
 use Rattle.cf_engine.specs.Lanes.{kinds_of, unused}
 use Rattle.cf_engine.specs.Telling.{text_of, exit_of}
@@ -48,10 +48,6 @@ Validates o name (exit.TemplateRefused fault) =
 Validates o name exit.LibraryFault = HasRisen o.faults o.faults'
 Validates o name exit.NoMemory = ⊤
 Validates o name _ = ⊥
-
--- the library was not asked
-abbrev pub IsUnasked : Shelf → Type 0
-IsUnasked o = (o.faults' ≡ o.faults) × (o.misses' ≡ o.misses)
 
 -- what the words come to where they are no validation: they ask for nothing, memory is short, or they are a description, which keeps the record of a disk that tells its bytes
 abbrev pub AnswerComes : Bool → List ℕ → List ℕ → ℕ → ℕ → List (List ℕ) → List ℕ → Result Stack Exit → Type 0

@@ -39,6 +39,10 @@ pub record Shelf : Type 0 where
   pub misses : ℕ
   pub misses' : ℕ
 
+-- the library was not asked
+abbrev pub IsUnasked : Shelf → Type 0
+IsUnasked o = (o.faults' ≡ o.faults) × (o.misses' ≡ o.misses)
+
 -- What the fetch of the template for a new stack with this number comes to: its bytes and what it wants, or the exit with its cause.
 abbrev pub FetchesAs : Shelf → Choice → List ℕ → ℕ → Result (Vec ℕ × List Planned) Exit → Type 0
 FetchesAs o choice stack number (Ok found) = StandsUnder o.texts choice.template (Some found.0.items) × (planned_of choice stack number found.0.items ≡ Ok found.1)
@@ -134,7 +138,7 @@ pub record IsFound (o : Shelf) (s : Scene) (name : List ℕ) (choice : Choice) (
 
 -- why nothing was made: there is a stack of the name, the library failed, or what was found there is refused
 abbrev pub RefusesEarly : Shelf → Scene → List ℕ → Choice → Exit → Type 0
-RefusesEarly o s name choice (exit.StackRefused (stack.WrongStatus state)) = (st : Stack) × (stack_of name s.entries ≡ Some st) × (state ≡ st.status)
+RefusesEarly o s name choice (exit.StackRefused (stack.WrongStatus state)) = (st : Stack) × (stack_of name s.entries ≡ Some st) × (state ≡ st.status) × IsUnasked o
 RefusesEarly o s name choice (exit.TemplateRefused fault) =
     (found : Option (List ℕ)) × StandsUnder o.texts choice.template found × (refusal_of s.kinds choice name (next_of Operations s.entries) found ≡ Some fault) × MissesFor fault o.misses o.misses' × (stack_of name s.entries ≡ None)
 RefusesEarly o s name choice exit.LibraryFault = HasRisen o.faults o.faults' × (stack_of name s.entries ≡ None)

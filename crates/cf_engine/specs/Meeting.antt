@@ -13,7 +13,7 @@ use Rattle.cf_engine.specs.Written.{opening}
 use Rattle.cf_engine.specs.Run.{Scene}
 use Rattle.cf_engine.specs.Opening.{twice, missing, HasOpenCause, EnterTells}
 use Rattle.cf_engine.specs.Stack.{stack_of}
-use Rattle.cf_engine.specs.Deployment.{Shelf, DeploysAs}
+use Rattle.cf_engine.specs.Deployment.{Shelf, IsUnasked, DeploysAs}
 
 -- What a deployment meets outside, before and after: the library; of each lane its name, its type, its state and its count; whether the disk tells its bytes, those, its room and its count of faults.
 pub record Meeting : Type 0 where
@@ -67,6 +67,7 @@ pub record WasNotEntered (m : Meeting) (e : Exit) : Type 0 where
   pub was : Holds m.tells m.bytes old
   pub why : EnterTells m.tells m.bytes' m.room faults m.faults' m.names m.kinds old now (Err e)
   pub quiet : AreQuiet m
+  pub unasked : IsUnasked m.shelf
 
 -- the journal was opened, the opening was written, and a deployment came to this
 pub record WasEntered (m : Meeting) (name : List ℕ) (choice : Choice) (outcome : Result Stack Exit) : Type 0 where
@@ -83,7 +84,7 @@ pub record WasEntered (m : Meeting) (name : List ℕ) (choice : Choice) (outcome
 abbrev pub RunsAs : Meeting → List ℕ → Choice → Result Stack Exit → Type 0
 RunsAs m name choice (Ok st) = WasEntered m name choice (Ok st)
 RunsAs m name choice (Err e) =
-    (HasOpenCause m.tells m.bytes m.faults m.faults' e × IsKept m) ⊎ (WasNotEntered m e ⊎ WasEntered m name choice (Err e))
+    (HasOpenCause m.tells m.bytes m.faults m.faults' e × IsKept m × IsUnasked m.shelf) ⊎ (WasNotEntered m e ⊎ WasEntered m name choice (Err e))
 
 -- a description is of the stack that the entries leave, and writes none
 abbrev pub Describes : Bool → List ℕ → List ℕ → ℕ → ℕ → List ℕ → Result Stack Exit → Type 0

@@ -3,7 +3,6 @@ use Rattle.std.specs.Prelude.{◌≡◌, ℕ, ◌+◌, ◌<◌, ◌⊎◌, Bool,
 use Rattle.cf_tree.specs.declared.planned.Planned.{Planned}
 use Rattle.cf_tree.specs.declared.request.Answer.{Answer}
 use Rattle.cf_tree.specs.declared.request.Answer.TheVariants as answer
-use Rattle.cf_tree.specs.Counts.{HasRisen}
 use Rattle.cf_entry.specs.declared.entry.Entry.{Entry}
 use Rattle.cf_entry.specs.declared.entry.Reply.{Reply}
 use Rattle.cf_journal.specs.Record.{length_of}
@@ -13,7 +12,7 @@ use Rattle.cf_engine.specs.declared.course.Step.{Step}
 use Rattle.cf_engine.specs.declared.course.Step.TheVariants as step
 use Rattle.cf_engine.specs.declared.course.RunEnd.{RunEnd}
 use Rattle.cf_engine.specs.declared.course.RunEnd.TheVariants as run
-use Rattle.cf_engine.specs.Book.{Holds, need_of, HaltsAt}
+use Rattle.cf_engine.specs.Book.{Holds, need_of, HasFaulted, HaltsAt}
 use Rattle.cf_engine.specs.Lanes.{Told, lane_for, AreLater, RoseAt}
 use Rattle.cf_engine.specs.Written.{Call, intent_of, outcome_of, name_at, calls_written, due_after, run_written, IsNearlyAll}
 use Rattle.cf_engine.specs.Calls.{answer_as, IsCalled, AreCalled, reason_of, IsMade, AreMade, AreMadeBefore, FailsLast}
@@ -86,7 +85,7 @@ HasNoRoom s (e ∷ es) length need room = (IsTrue s.tells → length_of s.bytes'
 
 abbrev pub HasHaltCause : Scene → List Entry → Halt → Type 0
 HasHaltCause s missing (halt.Full length need room) = HasNoRoom s missing length need room
-HasHaltCause s missing halt.DiskFault = HasRisen s.faults s.faults'
+HasHaltCause s missing halt.DiskFault = HasFaulted s.faults s.faults'
 HasHaltCause s missing halt.NoMemory = ⊤
 
 -- The run was cut short: of what it writes, behind what is given first, a part is on the disk and a part is missing. It went on behind a success alone.

@@ -1,5 +1,5 @@
 //! A deployment over an open journal: the stack is new, its template is read, and its resources are made.
-ghost use Rattle.std.specs.Prelude.{◌≡◌, ◌≤◌, ◌<◌, find, map, None, Some, length, IfOk, IfErr};
+ghost use Rattle.std.specs.Prelude.{◌≡◌, ◌≤◌, ◌<◌, find, map, None, Some, length, IfOk, IfErr, OnOk};
 ghost use Rattle.cf_engine.specs.declared.exit.Exit.TheVariants.{StackRefused};
 ghost use Rattle.cf_engine.specs.declared.exit.StackFault.TheVariants.{WrongStatus};
 ghost use Rattle.cf_engine.specs.Lanes.{kinds_of, is_unknown};
@@ -99,6 +99,7 @@ fn deploy_read<D: Disk, H: Handler>(
     ensures names { map H.label lanes.new.items ≡ map H.label lanes.old.items }
     ensures schemas { map H.schema_of lanes.new.items ≡ map H.schema_of lanes.old.items }
     ensures room { D.room_of disk.new ≡ D.room_of disk.old }
+    ensures lasts { OnOk result (IsOpen D.tells D.seen D.may_leave D.room_of book.new disk.new) }
     ensures count { D.count disk.old ≤ D.count disk.new }
     ensures tells { ReadAs (record {
       names = map H.label lanes.old.items;
@@ -153,6 +154,7 @@ fn deploy_new<L: Library, D: Disk, H: Handler>(
     ensures names { map H.label lanes.new.items ≡ map H.label lanes.old.items }
     ensures schemas { map H.schema_of lanes.new.items ≡ map H.schema_of lanes.old.items }
     ensures room { D.room_of disk.new ≡ D.room_of disk.old }
+    ensures lasts { OnOk result (IsOpen D.tells D.seen D.may_leave D.room_of book.new disk.new) }
     ensures count { D.count disk.old ≤ D.count disk.new }
     ensures tells { DeploysAs (record {
       texts = L.texts library.old;
@@ -219,6 +221,7 @@ pub fn deploy_in<L: Library, D: Disk, H: Handler>(
     ensures names { map H.label lanes.new.items ≡ map H.label lanes.old.items }
     ensures schemas { map H.schema_of lanes.new.items ≡ map H.schema_of lanes.old.items }
     ensures room { D.room_of disk.new ≡ D.room_of disk.old }
+    ensures lasts { OnOk result (IsOpen D.tells D.seen D.may_leave D.room_of book.new disk.new) }
     ensures count { D.count disk.old ≤ D.count disk.new }
     ensures tells { DeploysAs (record {
       texts = L.texts library.old;

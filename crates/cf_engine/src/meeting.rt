@@ -1,7 +1,8 @@
 //! Commands over the journal of a disk.
-ghost use Rattle.std.specs.Prelude.{◌≡◌, ◌≤◌, ◌^◌, map, IsTrue};
+ghost use Rattle.std.specs.Prelude.{◌≡◌, ◌≤◌, ◌^◌, map, IsTrue, OnOk};
 ghost use Rattle.cf_journal.specs.Record.{Keeps};
 ghost use Rattle.cf_engine.specs.Lanes.{kinds_of};
+ghost use Rattle.cf_engine.specs.Book.{Lasts};
 ghost use Rattle.cf_engine.specs.Meeting.{RunsAs, Describes};
 
 use crate::deployment::deploy_in;
@@ -34,6 +35,7 @@ pub fn deploy_on<L: Library, D: Disk, H: Handler>(
     ensures names { map H.label lanes.new.items ≡ map H.label lanes.old.items }
     ensures schemas { map H.schema_of lanes.new.items ≡ map H.schema_of lanes.old.items }
     ensures room { D.room_of disk.new ≡ D.room_of disk.old }
+    ensures lasts { OnOk result (Lasts D.tells (D.seen disk.new) (D.may_leave disk.new)) }
     ensures tells { RunsAs (record {
       shelf = record {
         texts = L.texts library.old;

@@ -40,13 +40,7 @@ fn report(alloc: Global, name: &Txt, stack: &Stack) -> Result<String, NoMemory>
     ensures { IfOk result (λ text. string_bytes text ≡ stack_report name.now stack.now) }
 {
     let mut text = String::new(alloc);
-    push_stack(
-        alloc,
-        &mut text,
-        name,
-        stack.status.name(),
-        stack.number,
-    )?;
+    push_stack(alloc, &mut text, name, stack.status.name(), stack.number)?;
     push_parameters(alloc, &mut text, stack.source.as_ref())?;
     push_held(&mut text, stack.held.as_slice())?;
     Exit::Done.push_line(alloc, &mut text)?;

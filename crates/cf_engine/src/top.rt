@@ -1,8 +1,8 @@
 //! The top calls.
-ghost use Rattle.std.specs.Prelude.{◌≡◌, ◌≤◌, ◌^◌, IfOk, IsTrue, map};
+ghost use Rattle.std.specs.Prelude.{◌≡◌, ◌≤◌, ◌^◌, IfOk, IsTrue, map, false};
 ghost use Rattle.cf_journal.specs.Record.{Keeps};
 ghost use Rattle.cf_engine.specs.Lanes.{kinds_of};
-ghost use Rattle.cf_engine.specs.Alone.{AloneTells, IsAnswered, deploy_words};
+ghost use Rattle.cf_engine.specs.Alone.{AloneTells, IsAnswered, LastsWhereDone, deploy_words};
 ghost use Rattle.cf_engine.specs.Words.{command_of};
 ghost use Rattle.cf_engine.specs.Answer.{AnswerTells, is_asking, RanAs};
 
@@ -59,6 +59,7 @@ fn run_words<L: Library, K: Sink, D: Disk, H: Handler>(
     ensures names { map H.label lanes.new.items ≡ map H.label lanes.old.items }
     ensures schemas { map H.schema_of lanes.new.items ≡ map H.schema_of lanes.old.items }
     ensures room { D.room_of disk.new ≡ D.room_of disk.old }
+    ensures lasts { LastsWhereDone result D.tells (D.seen disk.new) (D.may_leave disk.new) }
     ensures tells { AloneTells (record {
       shelf = record {
         texts = L.texts library.old;
@@ -115,8 +116,7 @@ fn run_words<L: Library, K: Sink, D: Disk, H: Handler>(
 /// the calls made; behind a call that was no success there is none. The lanes keep their names and types, the library
 /// its texts and the disk its room.
 ///
-/// The room of the disk is from 16 to 4,294,967,296 bytes. No more than 256 lanes are handed in, and words of less than
-/// 2^30 bytes together.
+/// After `Done` a crash leaves the journal as it is. The room of the disk is from 16 to 4,294,967,296 bytes.
 pub fn alone<L: Library, K: Sink, D: Disk, H: Handler>(
     alloc: Global,
     words: &[Txt],
@@ -131,6 +131,7 @@ pub fn alone<L: Library, K: Sink, D: Disk, H: Handler>(
     ensures names { map H.label result.lanes.items ≡ map H.label lanes.items }
     ensures schemas { map H.schema_of result.lanes.items ≡ map H.schema_of lanes.items }
     ensures room { D.room_of result.disk ≡ D.room_of disk }
+    ensures lasts { LastsWhereDone result.exit D.tells (D.seen result.disk) (D.may_leave result.disk) }
     ensures answered { IsAnswered (record {
       shelf = record {
         texts = L.texts library.old;
@@ -245,6 +246,7 @@ pub fn cfstack<L: Library, K: Sink, D: Disk + Send, H: Handler + Send>(
     ensures names { map H.label result.lanes.items ≡ map H.label lanes.items }
     ensures schemas { map H.schema_of result.lanes.items ≡ map H.schema_of lanes.items }
     ensures room { D.room_of result.disk ≡ D.room_of disk }
+    ensures lasts { is_asking (command_of words.now) ≡ false → LastsWhereDone result.exit D.tells (D.seen result.disk) (D.may_leave result.disk) }
     ensures answered { RanAs (record {
       shelf = record {
         texts = L.texts library.old;

@@ -59,4 +59,4 @@ returns-clause-tells g c =
     c.args.stack.now c.args.choice.now c.in-Err-enter.exit c.in-Ok.book.entries.items c.enter.new.book.entries.items (g.D.Disk.room_of c.open.new.disk) (g.D.Disk.count c.open.new.disk)
     c.in-Ok.ensures.count c.in-Ok.ensures.found c.in-Ok.ensures.room
     (subst (λ xs. EnterTells g.D.Disk.tells (g.D.Disk.seen c.enter.new.disk) (g.D.Disk.room_of c.open.new.disk) (g.D.Disk.count c.open.new.disk) (g.D.Disk.count c.enter.new.disk) (map g.H.Handler.label xs) (kinds_of (map g.H.Handler.schema_of xs)) c.in-Ok.book.entries.items c.enter.new.book.entries.items (Err c.in-Err-enter.exit)) c.as_slice.ensures.value c.in-Err-enter.ensures.tells)
-    (refl, refl)
+    (refl, refl) (refl, refl)
