@@ -1,3 +1,5 @@
 pub mod Mentions
 pub mod Needs
 pub mod Inserted
+pub mod Noted
+pub mod Waiting

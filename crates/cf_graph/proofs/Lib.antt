@@ -1,0 +1,4 @@
+pub mod Noting
+pub mod Copies
+pub mod Readiness
+pub mod Lookups
