@@ -1,8 +1,10 @@
 -- What a map in the order of insertion finds is what stands under the name in the list of its entries.
-use Rattle.std.proofs.Common.{◌≡◌, ℕ, ◌<◌, List, [], ◌∷◌, length, get_or, Bool, true, false, cond, Option, Some, None, is_some, refl, ap, sym, ◌∙◌, true≢false}
+use Rattle.std.proofs.Common.{◌≡◌, ℕ, ◌<◌, List, [], ◌∷◌, ◌++◌, length, get_or, Bool, true, false, cond, Option, Some, None, is_some, refl, ap, sym, ◌∙◌, true≢false}
 use Rattle.std.specs.Str.{bytes_eq}
 use Rattle.std.specs.Map.{lookup}
 use Rattle.std.proofs.lemmas.List.{get_or_default}
+use Rattle.indexmap.specs.IndexMap.{IndexMap, insert_entry}
+use Rattle.indexmap.proofs.CallerLemmas.{insert_entry-new}
 use Rattle.cf_tree.specs.Keys.{value_at}
 use Rattle.cf_graph.specs.Waiting.{name_at, has_come}
 
@@ -23,3 +25,9 @@ module _ (all placed : List (List ℕ × List (List ℕ))) (p : ℕ) (r : List �
 
   pub not_come : b ≡ false → value_at (name_at all p) placed ≡ None
   not_come f = none_from _ (come_is ∙ f)
+
+-- a name that was not there goes last
+pub pushed : {S : Type 0} (m : IndexMap (List ℕ) (List (List ℕ)) S) (k j : List ℕ) (v w : List (List ℕ)) (new : List (List ℕ × List (List ℕ))) → value_at k m.entries ≡ None → j ≡ k → w ≡ v → new ≡ insert_entry bytes_eq m.entries j w → new ≡ m.entries ++ (k, v) ∷ []
+pushed m k j v w new none e f g =
+    let absent = ap (λ (l : List ℕ). lookup (bytes_eq l) m.entries) e ∙ lookup_is_value_at k m.entries ∙ none in
+    g ∙ insert_entry-new bytes_eq m j w absent ∙ (λ i. m.entries ++ (e i, f i) ∷ [])

@@ -3,3 +3,4 @@ pub mod Needs
 pub mod Inserted
 pub mod Noted
 pub mod Waiting
+pub mod UnderWay

@@ -1,5 +1,5 @@
 -- What waits for what, while resources are put in the order of work.
-use Rattle.std.specs.Prelude.{◌≡◌, ℕ, ◌<◌, ◌⊎◌, Bool, true, not, ◌&&◌, List, [], Option, Some, None, length, is_some, slice_index_or, nat_eq, nat_lt, count_by}
+use Rattle.std.specs.Prelude.{◌≡◌, ℕ, ◌<◌, ◌⊎◌, Bool, true, not, ◌&&◌, List, [], ◌∷◌, ◌++◌, Option, Some, None, length, is_some, slice_index_or, nat_eq, nat_lt, count_by}
 use Rattle.std.specs.Str.{bytes_eq}
 use Rattle.std.specs.Ordering.{nat_cmp}
 use Rattle.std.specs.BTreeMap.{BTreeMap}
@@ -46,6 +46,16 @@ pub record IsNextPlace (all placed : List (List ℕ × List (List ℕ))) (old ne
   pub fewer : (q : ℕ) → contains nat_cmp new q ≡ true → contains nat_cmp old q ≡ true
   pub others : (q : ℕ) → contains nat_cmp old q ≡ true → (q ≡ p) ⊎ (has_come all placed q ≡ true) ⊎ (contains nat_cmp new q ≡ true)
 
+-- or all ready ones have come
+pub record IsNoPlace (all placed : List (List ℕ × List (List ℕ))) (old new : BTreeSet ℕ) : Type 0 where
+  pub all_came : (q : ℕ) → contains nat_cmp old q ≡ true → has_come all placed q ≡ true
+  pub fewer : (q : ℕ) → contains nat_cmp new q ≡ true → contains nat_cmp old q ≡ true
+
 abbrev pub GivesNext : List (List ℕ × List (List ℕ)) → List (List ℕ × List (List ℕ)) → BTreeSet ℕ → BTreeSet ℕ → Option ℕ → Type 0
-GivesNext all placed old new None = (q : ℕ) → contains nat_cmp old q ≡ true → has_come all placed q ≡ true
+GivesNext all placed old new None = IsNoPlace all placed old new
 GivesNext all placed old new (Some p) = IsNextPlace all placed old new p
+
+-- what has come, with what comes next, where there is one
+abbrev pub with_next : List (List ℕ × List (List ℕ)) → Option (List ℕ × List (List ℕ)) → List (List ℕ × List (List ℕ))
+with_next placed None = placed
+with_next placed (Some r) = placed ++ r ∷ []

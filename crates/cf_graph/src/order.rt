@@ -1,10 +1,12 @@
 //! The order of work over what each resource needs.
-ghost use Rattle.std.specs.Prelude.{◌≡◌, ℕ, ◌+◌, ◌≤◌, ◌<◌, List, [], ◌∷◌, ◌++◌, ◌&&◌, ◌||◌, IfOk, if◌then◌else◌, map, length, nat_eq, nat_lt, slice_index_or, vec_len, true, count_by};
+ghost use Rattle.std.specs.Prelude.{◌≡◌, ℕ, ◌+◌, ◌≤◌, ◌<◌, List, [], ◌∷◌, ◌++◌, ◌&&◌, ◌||◌, IfOk, if◌then◌else◌, map, length, nat_eq, nat_lt, slice_index_or, vec_len, true, count_by, find, is_some, None};
 ghost use Rattle.std.specs.BTreeSet.{contains};
 ghost use Rattle.std.specs.Ordering.{nat_cmp};
-ghost use Rattle.cf_graph.specs.Needs.{ordered};
+ghost use Rattle.cf_tree.specs.Keys.{value_at};
+ghost use Rattle.cf_graph.specs.Needs.{is_next, ordered};
 ghost use Rattle.cf_graph.specs.Noted.{noted};
-ghost use Rattle.cf_graph.specs.Waiting.{times, copies, WaitsFor, GivesNext, is_free};
+ghost use Rattle.cf_graph.specs.Waiting.{times, copies, WaitsFor, GivesNext, is_free, with_next};
+ghost use Rattle.cf_graph.specs.UnderWay.{IsUnderWay};
 
 use crate::notes::{Notes, note};
 use cf_tree::{Names, NoMemory, Txt};
@@ -86,4 +88,90 @@ fn release(
         }
     }
     Ok(())
+}
+
+/// How far the order has come: how many needs of each have not come, the places of those that have none left, and what came.
+#[derive(Drop)]
+struct Progress {
+    missing: Vec<usize>,
+    ready: BTreeSet<usize>,
+    placed: Needs,
+}
+
+/// Each resource behind all that it needs; of those that could come next the first in the list comes first. What needs itself,
+/// or needs such, is left out.
+///
+/// It takes time in proportion to the needs, times the logarithm of how many resources there are.
+pub(crate) fn in_order(alloc: Global, all: &[(Txt, Names)]) -> Result<Needs, NoMemory>
+    ensures { IfOk result (λ needs. needs.entries ≡ ordered (length all.now) all.now []) }
+{
+    let waiting = waiting_for(alloc, all)?;
+    let mut progress = begin(alloc, all)?;
+    for _entry in all {
+        if !place_next(alloc, all, &waiting, &mut progress)? {
+            break;
+        }
+    }
+    let Progress { missing: _, ready: _, placed } = progress;
+    Ok(placed)
+}
+
+fn begin(alloc: Global, all: &[(Txt, Names)]) -> Result<Progress, NoMemory>
+    ensures under_way { IfOk result (IsUnderWay all.now) }
+    ensures empty { IfOk result (λ p. p.placed.entries ≡ []) }
+{
+    Ok(Progress {
+        missing: counts(alloc, all)?,
+        ready: first_ready(alloc, all)?,
+        placed: Needs::new(alloc),
+    })
+}
+
+/// Places the next one, and tells whether there was one.
+fn place_next(
+    alloc: Global,
+    all: &[(Txt, Names)],
+    waiting: &Notes,
+    progress: &mut Progress,
+) -> Result<bool, NoMemory>
+    requires waits { WaitsFor all.now waiting.now }
+    requires under_way { IsUnderWay all.now progress.old }
+    ensures under_way { IfOk result (λ _. IsUnderWay all.now progress.new) }
+    ensures placed { IfOk result (λ _. progress.new.placed.entries ≡ with_next progress.old.placed.entries (find (is_next progress.old.placed.entries) all.now)) }
+    ensures more { IfOk result (λ more. more ≡ is_some (find (is_next progress.old.placed.entries) all.now)) }
+{
+    match next(&mut progress.ready, &progress.placed, all) {
+        None => Ok(false),
+        Some(at) => {
+            let entry = &all[at];
+            append(alloc, &mut progress.placed, &entry.0, &entry.1)?;
+            release(
+                behind(waiting, &entry.0),
+                &mut progress.missing,
+                &mut progress.ready,
+            )?;
+            Ok(true)
+        }
+    }
+}
+
+/// Adds a resource that is not there yet.
+fn append(alloc: Global, placed: &mut Needs, name: &Txt, needs: &Names) -> Result<(), NoMemory>
+    requires { value_at name.now placed.old.entries ≡ None }
+    ensures { IfOk result (λ _. placed.new.entries ≡ placed.old.entries ++ (name.now, needs.now) ∷ []) }
+{
+    match placed.insert(name.try_clone(alloc)?, needs.try_clone(alloc)?) {
+        Ok(_) => Ok(()),
+        Err(_) => Err(NoMemory),
+    }
+}
+
+/// The places of those that wait for a name.
+fn behind<'a>(waiting: &'a Notes, name: &Txt) -> &'a [usize]
+    ensures { result.now ≡ noted waiting.now name.now }
+{
+    match waiting.get(name) {
+        Some(places) => places.as_slice(),
+        None => &[],
+    }
 }
