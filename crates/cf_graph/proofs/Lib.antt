@@ -5,3 +5,7 @@ pub mod Lookups
 pub mod Finding
 pub mod Placing
 pub mod Steps
+pub mod Sets
+pub mod Selected
+pub mod Among
+pub mod Needed

@@ -4,3 +4,4 @@ pub mod Inserted
 pub mod Noted
 pub mod Waiting
 pub mod UnderWay
+pub mod Mentioned

@@ -1,6 +1,8 @@
 //! Which resource of a template needs which.
 #![tactic(auto)]
 
+mod mentions;
+mod needs;
 mod notes;
 mod order;
 

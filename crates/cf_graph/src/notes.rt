@@ -29,3 +29,13 @@ pub(crate) fn note(
     }
     Ok(())
 }
+
+/// The places that are noted under a name.
+pub(crate) fn behind<'a>(notes: &'a Notes, name: &Txt) -> &'a [usize]
+    ensures { result.now ≡ noted notes.now name.now }
+{
+    match notes.get(name) {
+        Some(places) => places.as_slice(),
+        None => &[],
+    }
+}

@@ -8,7 +8,7 @@ ghost use Rattle.cf_graph.specs.Noted.{noted};
 ghost use Rattle.cf_graph.specs.Waiting.{times, copies, WaitsFor, GivesNext, is_free, with_next};
 ghost use Rattle.cf_graph.specs.UnderWay.{IsUnderWay};
 
-use crate::notes::{Notes, note};
+use crate::notes::{Notes, behind, note};
 use cf_tree::{Names, NoMemory, Txt};
 use indexmap::IndexMap;
 use std::alloc::Global;
@@ -163,15 +163,5 @@ fn append(alloc: Global, placed: &mut Needs, name: &Txt, needs: &Names) -> Resul
     match placed.insert(name.try_clone(alloc)?, needs.try_clone(alloc)?) {
         Ok(_) => Ok(()),
         Err(_) => Err(NoMemory),
-    }
-}
-
-/// The places of those that wait for a name.
-fn behind<'a>(waiting: &'a Notes, name: &Txt) -> &'a [usize]
-    ensures { result.now ≡ noted waiting.now name.now }
-{
-    match waiting.get(name) {
-        Some(places) => places.as_slice(),
-        None => &[],
     }
 }
