@@ -9,3 +9,6 @@ pub mod Sets
 pub mod Selected
 pub mod Among
 pub mod Needed
+pub mod Alike
+pub mod Walks
+pub mod Back

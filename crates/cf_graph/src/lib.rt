@@ -1,6 +1,7 @@
 //! Which resource of a template needs which.
 #![tactic(auto)]
 
+mod cycle;
 mod mentions;
 mod needs;
 mod notes;

@@ -156,7 +156,7 @@ fn place_next(
 }
 
 /// Adds a resource that is not there yet.
-fn append(alloc: Global, placed: &mut Needs, name: &Txt, needs: &Names) -> Result<(), NoMemory>
+pub(crate) fn append(alloc: Global, placed: &mut Needs, name: &Txt, needs: &Names) -> Result<(), NoMemory>
     requires { value_at name.now placed.old.entries ≡ None }
     ensures { IfOk result (λ _. placed.new.entries ≡ placed.old.entries ++ (name.now, needs.now) ∷ []) }
 {
