@@ -12,3 +12,5 @@ pub mod Needed
 pub mod Alike
 pub mod Walks
 pub mod Back
+pub mod Acyclic
+pub mod Undeclared

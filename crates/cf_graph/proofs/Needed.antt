@@ -11,7 +11,7 @@ use Rattle.cf_graph.specs.Mentions.{Mention, by_ref, by_attribute, fields_mentio
 use Rattle.cf_graph.specs.Mentioned.{meant_by, needs_by}
 use Rattle.cf_graph.specs.Needs.{all_needs, needs_in, is_made, is_among, is_parameter, meant, holds_in, evaluated_props}
 
-some_found : {X : Type 0} (test : X → Bool) (xs : List X) → list_any test xs ≡ is_some (find test xs)
+pub some_found : {X : Type 0} (test : X → Bool) (xs : List X) → list_any test xs ≡ is_some (find test xs)
 some_found test [] = refl
 some_found test (x ∷ xs) = by (test x) (some_found test xs)
   where

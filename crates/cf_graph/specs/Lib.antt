@@ -6,3 +6,5 @@ pub mod Noted
 pub mod Waiting
 pub mod UnderWay
 pub mod Mentioned
+pub mod Before
+pub mod Orders

@@ -2,7 +2,7 @@
 use Rattle.std.specs.Prelude.{◌≡◌, ℕ, ◌<◌, ◌⊎◌, true, List, length, slice_index_or}
 use Rattle.std.specs.Ordering.{nat_cmp}
 use Rattle.std.specs.BTreeSet.{BTreeSet, contains}
-use Rattle.cf_graph.specs.declared.order.Progress.{Progress}
+use Rattle.cf_graph.specs.declared.sequence.Progress.{Progress}
 use Rattle.cf_graph.specs.Waiting.{unmet, needs_at, has_come}
 
 -- the needs of each that have not come are counted, and the ready ones are those without, but for some that have come

@@ -5,7 +5,7 @@ ghost use Rattle.std.specs.Str.{bytes_eq};
 ghost use Rattle.cf_graph.specs.Needs.{cycle_of, first_in, is_among, needed_by, shortest_walk, walks};
 ghost use Rattle.cf_graph.specs.Cycles.{leads_back, has, IsLevel, AreLevels, StandAlike};
 
-use crate::order::{Needs, append};
+use crate::sequence::{Needs, append};
 use cf_tree::{Names, NoMemory, Txt};
 use std::alloc::Global;
 use std::collections::BTreeSet;

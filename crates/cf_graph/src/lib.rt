@@ -1,10 +1,16 @@
-//! Which resource of a template needs which.
+//! Which resource of a template needs which, and in which order work on them is done.
 #![tactic(auto)]
 
+mod before;
 mod cycle;
+mod fault;
+mod graph;
 mod mentions;
 mod needs;
 mod notes;
-mod order;
+mod sequence;
+mod unknown;
 
-pub use order::Needs;
+pub use fault::GraphFault;
+pub use graph::order;
+pub use sequence::Needs;

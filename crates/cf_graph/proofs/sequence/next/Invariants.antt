@@ -2,7 +2,7 @@ use Rattle.std.proofs.Common.{◌≡◌, ℕ, ◌<◌, ◌⊎◌, true}
 use Rattle.std.specs.BTreeSet.{contains, btree_set_len}
 use Rattle.std.specs.Ordering.{nat_cmp}
 use Rattle.cf_graph.specs.Waiting.{has_come}
-use Rattle.cf_graph.proofs.order.next.Given as goal
+use Rattle.cf_graph.proofs.sequence.next.Given as goal
 
 abbrev pub invariant-loop-at : goal.invariant-loop-at
 invariant-loop-at l = record {

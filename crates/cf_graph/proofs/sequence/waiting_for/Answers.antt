@@ -2,7 +2,7 @@ use Rattle.std.proofs.Common.{◌≡◌, ◌∙◌, ap, sym, get_or, [], cond, n
 use Rattle.std.proofs.lemmas.List.{get_or_read}
 use Rattle.cf_graph.specs.Waiting.{times, needs_at}
 use Rattle.cf_graph.proofs.Copies.{times_more}
-use Rattle.cf_graph.proofs.order.waiting_for.Goals as goal
+use Rattle.cf_graph.proofs.sequence.waiting_for.Goals as goal
 
 pub loop-at-preserved : goal.loop-at-preserved
 loop-at-preserved c = λ q p.

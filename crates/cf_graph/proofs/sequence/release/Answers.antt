@@ -1,7 +1,7 @@
 use Rattle.std.proofs.Common.{arith, ◌+◌, ◌<◌, get_or}
 use Rattle.std.proofs.lemmas.List.{get_or_default}
 use Rattle.cf_graph.proofs.Copies.{copies_below, in_range}
-use Rattle.cf_graph.proofs.order.release.Goals as goal
+use Rattle.cf_graph.proofs.sequence.release.Goals as goal
 
 pub index_mut-requires : goal.index_mut-requires
 index_mut-requires c =

@@ -1,7 +1,7 @@
 use Rattle.std.proofs.Common.{◌∙◌, length, ◌<◌}
 use Rattle.cf_graph.proofs.Readiness.{next_place, still_fewer, still_others}
 use Rattle.cf_graph.proofs.Lookups.{come_is, not_come}
-use Rattle.cf_graph.proofs.order.next.Goals as goal
+use Rattle.cf_graph.proofs.sequence.next.Goals as goal
 
 pub returns-then-not-contains_key : goal.returns-then-not-contains_key
 returns-then-not-contains_key c =

@@ -1,7 +1,7 @@
 use Rattle.std.proofs.Common.{sym, subst, ℕ, List}
 use Rattle.cf_graph.specs.UnderWay.{IsCounted}
 use Rattle.cf_graph.proofs.Steps.{counted_first}
-use Rattle.cf_graph.proofs.order.begin.Goals as goal
+use Rattle.cf_graph.proofs.sequence.begin.Goals as goal
 
 pub returns-clause-under_way : goal.returns-clause-under_way
 returns-clause-under_way c =

@@ -1,9 +1,9 @@
 use Rattle.std.proofs.Common.{◌≡◌, ◌∙◌, ◌-◌, ap, sym, length, [], arith, ℕ, List}
-use Rattle.cf_graph.specs.declared.order.Progress.{Progress}
+use Rattle.cf_graph.specs.declared.sequence.Progress.{Progress}
 use Rattle.cf_graph.specs.Needs.{ordered}
 use Rattle.cf_graph.proofs.Steps.{goes_on, stops, is_whole}
-use Rattle.cf_graph.proofs.order.in_order.Goals as goal
-use Rattle.cf_graph.proofs.order.in_order.Goals.{else-loop-entry-test, then-loop-entry-test+in_ok-place_next+then-not-branch}
+use Rattle.cf_graph.proofs.sequence.in_order.Goals as goal
+use Rattle.cf_graph.proofs.sequence.in_order.Goals.{else-loop-entry-test, then-loop-entry-test+in_ok-place_next+then-not-branch}
 
 pub loop-entry-init : goal.loop-entry-init
 loop-entry-init c = record {

@@ -4,7 +4,7 @@ use Rattle.cf_graph.specs.Needs.{is_next}
 use Rattle.cf_graph.specs.Waiting.{times, copies, needs_at, name_at, with_next}
 use Rattle.cf_graph.specs.UnderWay.{IsCounted}
 use Rattle.cf_graph.proofs.Steps.{none_next, counted_still, at_within, found_next, enough, counted_now}
-use Rattle.cf_graph.proofs.order.place_next.Goals as goal
+use Rattle.cf_graph.proofs.sequence.place_next.Goals as goal
 
 pub release-requires : goal.release-requires
 release-requires c =

@@ -2,7 +2,7 @@ use Rattle.std.proofs.Common.{◌≡◌, ℕ, ◌+◌, take, get_or, vec_len, �
 use Rattle.std.specs.BTreeSet.{contains}
 use Rattle.std.specs.Ordering.{nat_cmp}
 use Rattle.cf_graph.specs.Waiting.{copies}
-use Rattle.cf_graph.proofs.order.release.Given as goal
+use Rattle.cf_graph.proofs.sequence.release.Given as goal
 
 abbrev pub invariant-loop-at : goal.invariant-loop-at
 invariant-loop-at l = record {

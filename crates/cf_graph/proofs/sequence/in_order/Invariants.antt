@@ -1,7 +1,7 @@
 use Rattle.std.proofs.Common.{◌≡◌, ◌-◌, length, []}
 use Rattle.cf_graph.specs.Needs.{ordered}
 use Rattle.cf_graph.specs.UnderWay.{IsUnderWay}
-use Rattle.cf_graph.proofs.order.in_order.Given as goal
+use Rattle.cf_graph.proofs.sequence.in_order.Given as goal
 
 abbrev pub invariant-loop-entry : goal.invariant-loop-entry
 invariant-loop-entry l = record {
