@@ -186,7 +186,8 @@ fn level_after(
 
 /// The cycle of the least resource that lies on one: the shortest from there, and the first in byte order of these.
 ///
-/// It looks for one from each resource in turn, which takes time in proportion to the resources times all needs.
+/// It looks for one from each resource in turn, in as many steps as there are resources at most, each of which takes time in
+/// proportion to all needs, times a logarithm.
 pub(crate) fn cycle_of(alloc: Global, all: &[(Txt, Names)]) -> Result<Option<Names>, NoMemory>
     ensures { IfOk result (λ cycle. cycle ≡ cycle_of all.now) }
 {
