@@ -9,6 +9,8 @@ mod mentions;
 mod needs;
 mod notes;
 mod sequence;
+#[cfg(test)]
+mod tests;
 mod unknown;
 
 pub use fault::GraphFault;
