@@ -23,6 +23,7 @@ module _ (k : List ℕ) (v : List (List ℕ)) where
     where
       gone : value_at q ps ≡ None → bytes_eq q k ≡ true → is_some (value_at k rows) ≡ false
       gone e f = ap (λ (n : List ℕ). is_some (value_at n rows)) (sym ((bytes_eq-Decides q k).0 f)) ∙ ap is_some (h q ∙ e)
+
       by : (o : Option (List (List ℕ))) (b : Bool) → value_at q ps ≡ o → bytes_eq q k ≡ b → o ≡ option_or o (cond b (Some v) None)
       by (Some w) b e f = refl
       by None false e f = refl
@@ -37,6 +38,7 @@ module _ (f : List ℕ → Bool) where
       joined true b = refl
       joined false true = refl
       joined false false = refl
+
       by : list_any (λ r. bytes_eq q r.0 && f r.0) ps ≡ (is_some (value_at q ps) && f q) → (b : Bool) → bytes_eq q p.0 ≡ b → ((b && f p.0) || list_any (λ r. bytes_eq q r.0 && f r.0) ps) ≡ (is_some (cond b (Some p.1) (value_at q ps)) && f q)
       by h true e = ap (λ (b : Bool). f p.0 || b) h ∙ ap (λ (n : List ℕ). f n || (is_some (value_at q ps) && f q)) (sym ((bytes_eq-Decides q p.0).0 e)) ∙ joined (f q) (is_some (value_at q ps))
       by h false e = h

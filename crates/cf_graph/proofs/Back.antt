@@ -117,11 +117,12 @@ module _ (all : Rows) (start : List ℕ) where
 
   pub last_level : (ls : List (BTreeSet (List ℕ))) (l : BTreeSet (List ℕ)) → AreLevels all start 1 ls → Some l ≡ slice_get ls (length ls - 1) → (1 ≤ length ls) × IsLevel all start (length ls) l
   last_level [] l a e = absurd (none≢some l (sym e))
-  last_level (x ∷ ls) l a e =
-      (omega arith,
-       subst (λ (j : ℕ). IsLevel all start j l) {x = suc (0 + (length (x ∷ ls) - 1))} {y = length (x ∷ ls)} (omega arith)
-       (subst (IsLevel all start (suc (0 + (length (x ∷ ls) - 1)))) (get_or_from_slice_get (x ∷ ls) (length (x ∷ ls) - 1) l l (sym e))
-       (level_at all start 0 (x ∷ ls) (length (x ∷ ls) - 1) l a (omega arith))))
+  last_level (x ∷ ls) l a e = (
+    omega arith,
+    subst (λ (j : ℕ). IsLevel all start j l) {x = suc (0 + (length (x ∷ ls) - 1))} {y = length (x ∷ ls)} (omega arith)
+        (subst (IsLevel all start (suc (0 + (length (x ∷ ls) - 1)))) (get_or_from_slice_get (x ∷ ls) (length (x ∷ ls) - 1) l l (sym e))
+        (level_at all start 0 (x ∷ ls) (length (x ∷ ls) - 1) l a (omega arith))),
+  )
 
 none_from : {A : Type 0} (o : Option A) → is_some o ≡ false → o ≡ None
 none_from None e = refl
@@ -133,8 +134,8 @@ module _ (all : Rows) (start : List ℕ) where
   is_shortest k w e f zero l = absurd (omega (arith, l))
   is_shortest k w e f (suc m) l = ⊎_elim
       (λ (s : m ≡ k).
-        subst (λ (j : ℕ). shortest_walk all start (suc j) ≡ Some w) (sym s)
-        (ap (λ (o : Option (List (List ℕ))). option_or o (first_in (walks all start (suc k) start))) e ∙ f))
+      subst (λ (j : ℕ). shortest_walk all start (suc j) ≡ Some w) (sym s)
+      (ap (λ (o : Option (List (List ℕ))). option_or o (first_in (walks all start (suc k) start))) e ∙ f))
       (λ (s : m ≡ k → ⊥). ap (λ (o : Option (List (List ℕ))). option_or o (first_in (walks all start (suc m) start))) (is_shortest k w e f m (grind (arith, common_steps))))
       (cases_eq m k)
 

@@ -1,5 +1,5 @@
 -- What a map in the order of insertion finds is what stands under the name in the list of its entries.
-use Rattle.std.proofs.Common.{◌≡◌, ℕ, ◌<◌, List, [], ◌∷◌, ◌++◌, length, get_or, Bool, true, false, cond, Option, Some, None, is_some, refl, ap, sym, ◌∙◌, true≢false}
+use Rattle.std.proofs.Common.{◌≡◌, ℕ, ◌<◌, List, [], ◌∷◌, ◌++◌, length, get_or, Bool, false, cond, Option, Some, None, is_some, refl, ap, sym, ◌∙◌, true≢false}
 use Rattle.std.specs.Str.{bytes_eq}
 use Rattle.std.specs.Map.{lookup}
 use Rattle.std.proofs.lemmas.List.{get_or_default}

@@ -1,5 +1,5 @@
 -- What a placement changes of what has come, and of the needs that have not.
-use Rattle.std.proofs.Common.{◌≡◌, ℕ, zero, suc, ◌+◌, ◌<◌, ◌≤◌, ◌⊎◌, inl, inr, ⊎_elim, List, [], ◌∷◌, ◌++◌, length, map, get_or, Bool, true, false, not, cond, ◌&&◌, ◌||◌, nat_eq, nat_lt, Option, Some, None, is_some, refl, ap, sym, ◌∙◌, subst, arith, true≢false, find, eqb, if◌then◌else◌}
+use Rattle.std.proofs.Common.{◌≡◌, ℕ, ◌+◌, List, [], ◌∷◌, ◌++◌, get_or, Bool, true, false, not, cond, nat_eq, Option, Some, None, is_some, refl, ap, sym, ◌∙◌, arith, true≢false, eqb}
 use Rattle.std.specs.Option.{option_or}
 use Rattle.std.specs.List.{list_all}
 use Rattle.std.specs.Str.{bytes_eq}
@@ -8,7 +8,7 @@ use Rattle.std.proofs.lemmas.List.Sums.{sum_by-cons}
 use Rattle.std.proofs.lemmas.List.Folds.{sum_by-zero}
 use Rattle.cf_tree.specs.Keys.{value_at}
 use Rattle.cf_graph.specs.Needs.{is_next}
-use Rattle.cf_graph.specs.Waiting.{times, copies, unmet, name_at, needs_at, has_come}
+use Rattle.cf_graph.specs.Waiting.{times, unmet, name_at, needs_at, has_come}
 
 -- the test of two texts is the same both ways round
 pub flip : (k l : List ℕ) → bytes_eq k l ≡ bytes_eq l k
@@ -45,9 +45,11 @@ module _ (placed : List (List ℕ × List (List ℕ))) where
         none_here : (b : Bool) → bytes_eq k n ≡ b → bytes_eq n k ≡ b → cond (not (is_some (cond (bytes_eq n k) (Some v) None))) 1 0 + cond (bytes_eq k n) 1 0 ≡ 1
         none_here true e f = rw (e, f) (omega arith)
         none_here false e f = rw (e, f) (omega arith)
+
         some_here : (w : List (List ℕ)) (b : Bool) → value_at n placed ≡ Some w → bytes_eq k n ≡ b → 0 + cond b 1 0 ≡ 0
         some_here w true e f = absurd (true≢false (sym (ap is_some (ap (λ (m : List ℕ). value_at m placed) ((bytes_eq-Decides k n).0 f) ∙ e)) ∙ ap is_some open_still))
         some_here w false e f = omega arith
+
         by : (o : Option (List (List ℕ))) → value_at n placed ≡ o → cond (not (is_some (option_or o (cond (bytes_eq n k) (Some v) None)))) 1 0 + cond (bytes_eq k n) 1 0 ≡ cond (not (is_some o)) 1 0
         by None e = none_here (bytes_eq k n) refl (flip n k)
         by (Some w) e = some_here w (bytes_eq k n) e refl

@@ -1,6 +1,6 @@
 -- What is ready, and the first of it.
-use Rattle.std.proofs.Common.{◌≡◌, ◌≢◌, ℕ, zero, suc, ◌+◌, ◌<◌, ◌≤◌, ◌⊎◌, inl, inr, ⊎_elim, List, [], ◌∷◌, Bool, true, false, Option, Some, None, cond, refl, ap, sym, ◌∙◌, arith, subst}
-use Rattle.std.specs.Ordering.{nat_cmp, is_gt}
+use Rattle.std.proofs.Common.{◌≡◌, ℕ, ◌⊎◌, inl, inr, ⊎_elim, List, true, false, None, ap, sym, ◌∙◌, arith, subst}
+use Rattle.std.specs.Ordering.{nat_cmp}
 use Rattle.std.specs.BTreeSet.{BTreeSet, contains, IsLowerBound, Updates}
 use Rattle.std.proofs.lemmas.Bool.{cases_eq, true≢false}
 use Rattle.std.proofs.lemmas.Map.Keys.{le_from_not_gt}
@@ -11,15 +11,15 @@ use Rattle.cf_graph.specs.Waiting.{IsNextPlace, has_come, name_at}
 module _ (before after : BTreeSet ℕ) (p : ℕ) (h : Updates nat_cmp before after p false) where
   pub was_there : (q : ℕ) → contains nat_cmp after q ≡ true → contains nat_cmp before q ≡ true
   was_there q a = ⊎_elim
-    (λ (e : p ≡ q). absurd (true≢false (sym a ∙ ap (contains nat_cmp after) (sym e) ∙ h.1)))
-    (λ (ne : p ≡ q → ⊥). sym (h.2 q (grind (arith, common_steps))) ∙ a)
-    (cases_eq p q)
+      (λ (e : p ≡ q). absurd (true≢false (sym a ∙ ap (contains nat_cmp after) (sym e) ∙ h.1)))
+      (λ (ne : p ≡ q → ⊥). sym (h.2 q (grind (arith, common_steps))) ∙ a)
+      (cases_eq p q)
 
   pub is_there : (q : ℕ) → contains nat_cmp before q ≡ true → (q ≡ p) ⊎ (contains nat_cmp after q ≡ true)
   is_there q b = ⊎_elim
-    (λ (e : p ≡ q). inl (sym e))
-    (λ (ne : p ≡ q → ⊥). inr (h.2 q (grind (arith, common_steps)) ∙ b))
-    (cases_eq p q)
+      (λ (e : p ≡ q). inl (sym e))
+      (λ (ne : p ≡ q → ⊥). inr (h.2 q (grind (arith, common_steps)) ∙ b))
+      (cases_eq p q)
 
 module _ (all placed : List (List ℕ × List (List ℕ))) (init before after : BTreeSet ℕ)
     (fewer : (q : ℕ) → contains nat_cmp before q ≡ true → contains nat_cmp init q ≡ true)

@@ -1,10 +1,10 @@
 -- Places that ascend, and are just those whose members pass a test, lead to the members that pass it, in their order.
-use Rattle.std.proofs.Common.{◌≡◌, ℕ, zero, suc, ◌+◌, ◌<◌, ◌≤◌, List, [], ◌∷◌, length, map, filter, get_or, Bool, true, false, cond, ◌||◌, ◌&&◌, nat_lt, nat_eq, refl, ap, sym, ◌∙◌, subst, ⊎_elim, arith, true≢false}
+use Rattle.std.proofs.Common.{◌≡◌, ℕ, suc, ◌+◌, ◌<◌, ◌≤◌, List, [], ◌∷◌, length, map, filter, get_or, Bool, true, false, cond, ◌&&◌, nat_lt, nat_eq, refl, ap, sym, ◌∙◌, subst, ⊎_elim, arith, true≢false}
 use Rattle.std.specs.Ordering.{nat_cmp}
 use Rattle.std.specs.declared.cmp.Ordering.TheVariants.{Less}
 use Rattle.std.specs.List.{list_any, AllByRecursion}
 use Rattle.std.specs.List.Sorted.{IsStrictlySortedBy}
-use Rattle.std.proofs.lemmas.Bool.{cases_eq, cases_Bool, eq-eqb, eqb-true, or_cases, or_left, or_right, and_from, and_parts, lt-ltb, ltb-true}
+use Rattle.std.proofs.lemmas.Bool.{cases_eq, eq-eqb, eqb-true, or_cases, or_left, or_right, and_from, and_parts, lt-ltb, ltb-true}
 use Rattle.std.proofs.lemmas.Map.Keys.{sorted_head, sorted_tail}
 use Rattle.std.proofs.lemmas.Grind.{common_steps}
 use Rattle.std.specs.BTreeSet.{BTreeSet, contains}
@@ -31,9 +31,9 @@ module _ {X : Type 0} (test : X → Bool) (at : ℕ → X) (d : X) where
   skipped base count ks f h = record {
     sorted = h.sorted;
     sound = λ k i. let s = h.sound k i in ⊎_elim
-      (λ (e : k ≡ base). absurd (true≢false (sym s.2 ∙ ap (λ n. test (at n)) e ∙ f)))
-      (λ (ne : k ≡ base → ⊥). (omega (arith, s.0, ne), omega (arith, s.1), s.2))
-      (cases_eq k base);
+        (λ (e : k ≡ base). absurd (true≢false (sym s.2 ∙ ap (λ n. test (at n)) e ∙ f)))
+        (λ (ne : k ≡ base → ⊥). (omega (arith, s.0, ne), omega (arith, s.1), s.2))
+        (cases_eq k base);
     complete = λ k l m t. h.complete k (omega (arith, l)) (omega (arith, m)) t;
   }
 
@@ -41,13 +41,13 @@ module _ {X : Type 0} (test : X → Bool) (at : ℕ → X) (d : X) where
   taken base count k ks e h = record {
     sorted = sorted_tail nat_cmp k ks h.sorted;
     sound = λ j i.
-      let s = h.sound j (or_right (nat_eq j k) (list_any (nat_eq j) ks) i) in
-      let up = above k ks (sorted_head nat_cmp k ks h.sorted) j i in
-      (omega (arith, up, e), omega (arith, s.1), s.2);
+        let s = h.sound j (or_right (nat_eq j k) (list_any (nat_eq j) ks) i) in
+        let up = above k ks (sorted_head nat_cmp k ks h.sorted) j i in
+        (omega (arith, up, e), omega (arith, s.1), s.2);
     complete = λ j l m t. ⊎_elim
-      (λ (s : nat_eq j k ≡ true). absurd (omega (arith, l, eqb-true j k s, e)))
-      (λ s. s)
-      (or_cases (nat_eq j k) (list_any (nat_eq j) ks) (h.complete j (omega (arith, l)) (omega (arith, m)) t));
+        (λ (s : nat_eq j k ≡ true). absurd (omega (arith, l, eqb-true j k s, e)))
+        (λ s. s)
+        (or_cases (nat_eq j k) (list_any (nat_eq j) ks) (h.complete j (omega (arith, l)) (omega (arith, m)) t));
   }
 
   first : (base count k : ℕ) (ks : List ℕ) → test (at base) ≡ true → Picks test at base (suc count) (k ∷ ks) → k ≡ base

@@ -1,9 +1,8 @@
 -- One step of the order of work: which comes next, and what is counted and ready then.
-use Rattle.std.proofs.Common.{◌≡◌, ℕ, zero, suc, ◌+◌, ◌-◌, ◌<◌, ◌≤◌, ◌⊎◌, inl, inr, ⊎_elim, List, [], ◌∷◌, ◌++◌, length, map, get_or, Bool, true, false, not, cond, ◌&&◌, ◌||◌, nat_eq, nat_lt, Option, Some, None, is_some, refl, ap, sym, ◌∙◌, subst, arith, true≢false, find, eqb, add-zero}
+use Rattle.std.proofs.Common.{◌≡◌, ℕ, zero, suc, ◌+◌, ◌-◌, ◌<◌, ◌≤◌, ◌⊎◌, inl, inr, ⊎_elim, List, [], ◌∷◌, ◌++◌, length, map, get_or, Bool, true, false, not, cond, ◌&&◌, ◌||◌, nat_eq, nat_lt, Option, Some, None, is_some, refl, ap, sym, ◌∙◌, subst, arith, true≢false, find}
 use Rattle.std.specs.Ordering.{nat_cmp}
 use Rattle.std.specs.BTreeSet.{BTreeSet, contains}
 use Rattle.std.specs.List.{list_all}
-use Rattle.std.specs.Str.{bytes_eq}
 use Rattle.std.proofs.lemmas.Bool.{cases_eq, cases_lt, eqb-true, eq-eqb, ne_eqb, lt-ltb, ltb-true, and_right, and_parts, or_cases, or_left, or_right, and_from}
 use Rattle.std.proofs.lemmas.List.{get_or_past, get_or-map, length-map}
 use Rattle.std.proofs.lemmas.List.Sums.{sum_by-cons}
@@ -13,7 +12,7 @@ use Rattle.cf_graph.specs.Waiting.{times, copies, unmet, name_at, needs_at, has_
 use Rattle.cf_graph.specs.UnderWay.{IsCounted}
 use Rattle.cf_graph.proofs.Copies.{in_range}
 use Rattle.cf_graph.proofs.Finding.{find_here, find_none}
-use Rattle.cf_graph.proofs.Placing.{all_met, unmet_less, come_stays, came_now, next_if, not_next_if_come, flip}
+use Rattle.cf_graph.proofs.Placing.{all_met, unmet_less, come_stays, came_now, next_if, not_next_if_come}
 
 -- at first nothing has come
 unmet_first : (ns : List (List ℕ)) → unmet [] ns ≡ length ns
@@ -29,16 +28,16 @@ counted_first all missing ready e f =
       counted = λ p l. here p l ∙ sym (unmet_first (needs_at all p));
       listed = λ p l z. inr (f p ∙ and_from _ _ (lt-ltb p (length all) l) (eq-eqb (length (needs_at all p)) 0 (sym (here p l) ∙ z)));
       free = λ p c. let both = and_parts (nat_lt p (length all)) (nat_eq (length (needs_at all p)) 0) (sym (f p) ∙ c) in
-      let l = ltb-true p (length all) both.0 in (l, here p l ∙ eqb-true (length (needs_at all p)) 0 both.1);
+          let l = ltb-true p (length all) both.0 in (l, here p l ∙ eqb-true (length (needs_at all p)) 0 both.1);
     }
 
 module _ (all placed : List (List ℕ × List (List ℕ))) (missing : List ℕ) (ready : BTreeSet ℕ) (under : IsCounted all placed missing ready) where
   not_next : (p : ℕ) → p < length all → (contains nat_cmp ready p ≡ true → has_come all placed p ≡ true) → is_next placed (get_or all p ([], [])) ≡ false
   not_next p l came = ⊎_elim
-    (λ (z : get_or missing p 0 ≡ 0). not_next_if_come placed all p (⊎_elim (λ h. h) came (under.listed p l z)))
-    (λ (nz : get_or missing p 0 ≡ 0 → ⊥). and_right (not (has_come all placed p)) (list_all (λ n. is_some (value_at n placed)) (needs_at all p))
+      (λ (z : get_or missing p 0 ≡ 0). not_next_if_come placed all p (⊎_elim (λ h. h) came (under.listed p l z)))
+      (λ (nz : get_or missing p 0 ≡ 0 → ⊥). and_right (not (has_come all placed p)) (list_all (λ n. is_some (value_at n placed)) (needs_at all p))
       (all_met placed (needs_at all p) ∙ ne_eqb (unmet placed (needs_at all p)) 0 (λ z. nz (under.counted p l ∙ z))))
-    (cases_eq (get_or missing p 0) 0)
+      (cases_eq (get_or missing p 0) 0)
 
   pub none_next : (after : BTreeSet ℕ) → IsNoPlace all placed ready after → find (is_next placed) all ≡ None
   none_next after none = find_none (is_next placed) all ([], []) (λ j l. not_next j l (none.all_came j))
@@ -65,33 +64,33 @@ module _ (all placed : List (List ℕ × List (List ℕ))) (missing : List ℕ) 
       -- what comes was missing to each that needs it
       pub enough : (p : ℕ) → copies p behind ≤ get_or missing p 0
       enough p = ⊎_elim
-        (λ (l : p < length all). omega (arith, waits p, under.counted p l, unmet_less placed (name_at all at) [] next.open_still (needs_at all p)))
-        (λ (g : length all ≤ p). omega (arith, waits p ∙ ap (λ (r : List ℕ × List (List ℕ)). times (name_at all at) r.1) (get_or_past all p ([], []) g)))
-        (cases_lt p (length all))
+          (λ (l : p < length all). omega (arith, waits p, under.counted p l, unmet_less placed (name_at all at) [] next.open_still (needs_at all p)))
+          (λ (g : length all ≤ p). omega (arith, waits p ∙ ap (λ (r : List ℕ × List (List ℕ)). times (name_at all at) r.1) (get_or_past all p ([], []) g)))
+          (cases_lt p (length all))
 
       module _ (v : List (List ℕ)) (fewer : List ℕ) (after : BTreeSet ℕ) (long : length fewer ≡ length missing)
           (counted : (p : ℕ) → get_or fewer p 0 + copies p behind ≡ get_or missing p 0)
           (listed : (p : ℕ) → contains nat_cmp after p ≡ (contains nat_cmp kept p || (nat_eq (get_or fewer p 0) 0 && nat_lt 0 (copies p behind)))) where
         listed_now : (p : ℕ) → p < length all → get_or fewer p 0 ≡ 0 → (has_come all (placed ++ (name_at all at, v) ∷ []) p ≡ true) ⊎ (contains nat_cmp after p ≡ true)
         listed_now p l z = ⊎_elim
-          (λ (c : copies p behind ≡ 0). ⊎_elim
+            (λ (c : copies p behind ≡ 0). ⊎_elim
             (λ h. inl (come_stays placed (name_at all at) v next.open_still (name_at all p) h))
             (λ r. ⊎_elim
-              (λ (e : p ≡ at). inl (subst (λ q. has_come all (placed ++ (name_at all at, v) ∷ []) q ≡ true) (sym e) (came_now placed (name_at all at) v)))
-              (λ o. ⊎_elim (λ h. inl (come_stays placed (name_at all at) v next.open_still (name_at all p) h)) (λ k. inr (listed p ∙ or_left (contains nat_cmp kept p) _ k)) o)
-              (next.others p r))
+            (λ (e : p ≡ at). inl (subst (λ q. has_come all (placed ++ (name_at all at, v) ∷ []) q ≡ true) (sym e) (came_now placed (name_at all at) v)))
+            (λ o. ⊎_elim (λ h. inl (come_stays placed (name_at all at) v next.open_still (name_at all p) h)) (λ k. inr (listed p ∙ or_left (contains nat_cmp kept p) _ k)) o)
+            (next.others p r))
             (under.listed p l (omega (arith, counted p))))
-          (λ (c : copies p behind ≡ 0 → ⊥). inr (listed p ∙ or_right (contains nat_cmp kept p) _ (and_from _ _ (eq-eqb (get_or fewer p 0) 0 z) (lt-ltb 0 (copies p behind) (omega (arith, c))))))
-          (cases_eq (copies p behind) 0)
+            (λ (c : copies p behind ≡ 0 → ⊥). inr (listed p ∙ or_right (contains nat_cmp kept p) _ (and_from _ _ (eq-eqb (get_or fewer p 0) 0 z) (lt-ltb 0 (copies p behind) (omega (arith, c))))))
+            (cases_eq (copies p behind) 0)
 
         free_now : (p : ℕ) → contains nat_cmp after p ≡ true → (p < length all) × (get_or fewer p 0 ≡ 0)
         free_now p c = ⊎_elim
-          (λ (k : contains nat_cmp kept p ≡ true). let f = under.free p (next.fewer p k) in (f.0, omega (arith, f.1, counted p)))
-          (λ k. let both = and_parts (nat_eq (get_or fewer p 0) 0) (nat_lt 0 (copies p behind)) k in
+            (λ (k : contains nat_cmp kept p ≡ true). let f = under.free p (next.fewer p k) in (f.0, omega (arith, f.1, counted p)))
+            (λ k. let both = and_parts (nat_eq (get_or fewer p 0) 0) (nat_lt 0 (copies p behind)) k in
             let some = ltb-true 0 (copies p behind) both.1 in
             let there : p < length missing = in_range missing p (omega (arith, some, counted p)) in
             (omega (arith, there, under.long), eqb-true (get_or fewer p 0) 0 both.0))
-          (or_cases (contains nat_cmp kept p) _ (sym (listed p) ∙ c))
+            (or_cases (contains nat_cmp kept p) _ (sym (listed p) ∙ c))
 
         pub counted_now : IsCounted all (placed ++ (name_at all at, v) ∷ []) fewer after
         counted_now = record {

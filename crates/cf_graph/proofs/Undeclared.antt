@@ -1,5 +1,5 @@
 -- The first name of a DependsOn that nothing declares.
-use Rattle.std.proofs.Common.{◌≡◌, ℕ, suc, ◌+◌, ◌<◌, arith, length, get_or, drop, flat_map, List, [], ◌∷◌, ◌++◌, map, filter, find, not, Bool, true, false, cond, Option, Some, None, is_some, refl, ap, sym, ◌∙◌}
+use Rattle.std.proofs.Common.{◌≡◌, ℕ, suc, ◌+◌, ◌<◌, arith, length, get_or, drop, flat_map, List, [], ◌∷◌, ◌++◌, map, filter, find, not, Bool, true, false, cond, Option, Some, None, refl, ap, sym, ◌∙◌}
 use Rattle.std.specs.List.{list_any}
 use Rattle.std.specs.Str.{bytes_eq}
 use Rattle.std.specs.Option.{unwrap_or}

@@ -1,11 +1,9 @@
 -- Walks along the needs, and from which resources they lead back.
-use Rattle.std.proofs.Common.{◌≡◌, ◌≤◌, ◌+◌, arith, length, take, ℕ, zero, suc, Bool, true, false, ◌&&◌, ◌||◌, not, cond, List, [], ◌∷◌, ◌++◌, map, flat_map, find, Option, Some, None, option_map, is_some, refl, ap, sym, ◌∙◌, subst}
-use Rattle.std.specs.Bool.{IsTrue}
+use Rattle.std.proofs.Common.{◌≡◌, ◌≤◌, ◌+◌, arith, length, take, ℕ, zero, suc, Bool, true, false, ◌&&◌, ◌||◌, cond, List, [], ◌∷◌, ◌++◌, map, flat_map, Option, None, is_some, refl, ap, sym, ◌∙◌, subst}
 use Rattle.std.specs.List.{list_any}
 use Rattle.std.specs.Option.{unwrap_or}
 use Rattle.std.specs.Str.{bytes_eq}
-use Rattle.std.proofs.lemmas.Slice.Eq.{bytes_eq-Decides}
-use Rattle.cf_tree.specs.Keys.{bytes_lt, ascends, ascends_from, value_at}
+use Rattle.cf_tree.specs.Keys.{value_at}
 use Rattle.cf_graph.specs.Needs.{is_among, needed_by, walks, first_in}
 use Rattle.std.specs.BTreeSet.{BTreeSet}
 use Rattle.std.proofs.lemmas.List.{take_all}
@@ -25,7 +23,6 @@ some_mapped f [] = refl
 some_mapped f (x ∷ xs) = refl
 
 module _ (all : Rows) (start : List ℕ) where
-
   abbrev pub longer : ℕ → List ℕ → List ℕ → List (List (List ℕ))
   longer n name q = map (λ w. name ∷ w) (walks all start (suc n) q)
 

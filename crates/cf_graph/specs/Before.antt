@@ -1,6 +1,6 @@
 -- Which of two names comes first in a list of rows, and whether each row of a list needs only what comes before it (this
 -- project's own).
-use Rattle.std.specs.Prelude.{ℕ, Bool, false, List, Option, Some, None, map, nat_lt}
+use Rattle.std.specs.Prelude.{ℕ, Bool, false, List, Option, Some, map, nat_lt}
 use Rattle.std.specs.List.{list_all, position}
 use Rattle.std.specs.Str.{bytes_eq}
 

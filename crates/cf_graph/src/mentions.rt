@@ -8,7 +8,9 @@ ghost use Rattle.cf_graph.specs.Mentions.{mentions_of, node_mentions, forms_ment
 ghost use Rattle.cf_graph.specs.Needs.{holds_in};
 ghost use Rattle.cf_graph.specs.Mentioned.{mention_in, mentioned, as_keys};
 
-use cf_tree::{CondMap, Expr, ExprDict, ExprNode, ExprPair, Exprs, NoMemory, Parts, Part, Txt, Verdict};
+use cf_tree::{
+    CondMap, Expr, ExprDict, ExprNode, ExprPair, Exprs, NoMemory, Part, Parts, Txt, Verdict,
+};
 use std::alloc::Global;
 
 /// A name that an expression refers to.

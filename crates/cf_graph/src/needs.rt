@@ -155,11 +155,7 @@ fn is_evaluated(kind: &Txt, name: &Txt) -> bool
 }
 
 /// The resources that mentions mean: a parameter of the name hides one from `Ref`.
-fn meant(
-    alloc: Global,
-    params: &BTreeSet<Txt>,
-    mentions: &[Mention],
-) -> Result<Vec<Txt>, NoMemory>
+fn meant(alloc: Global, params: &BTreeSet<Txt>, mentions: &[Mention]) -> Result<Vec<Txt>, NoMemory>
     ensures { IfOk result (λ v. v.items ≡ filter_map (meant_by (contains (slice_cmp nat_cmp) params.now)) (mentioned mentions.now)) }
 {
     let mut names = Vec::new(alloc);
@@ -210,11 +206,7 @@ fn add_places(found: &mut BTreeSet<usize>, places: &[usize]) -> Result<(), NoMem
 }
 
 /// The names at places, which ascend.
-fn names_at(
-    alloc: Global,
-    names: &[Txt],
-    mut places: BTreeSet<usize>,
-) -> Result<Names, NoMemory>
+fn names_at(alloc: Global, names: &[Txt], mut places: BTreeSet<usize>) -> Result<Names, NoMemory>
     requires { (p : ℕ) → contains nat_cmp places p ≡ true → p < length names.now }
     ensures value { IfOk result (λ found. found ≡ map (λ p. slice_index_or names.now p []) places.keys) }
     ensures ordered { IfOk result (λ _. IsOrdered nat_cmp places) }

@@ -11,12 +11,7 @@ use std::collections::BTreeMap;
 pub(crate) type Notes = BTreeMap<Txt, Vec<usize>>;
 
 /// Notes a place under a name, behind those that stand there.
-pub(crate) fn note(
-    alloc: Global,
-    notes: &mut Notes,
-    name: &Txt,
-    at: usize,
-) -> Result<(), NoMemory>
+pub(crate) fn note(alloc: Global, notes: &mut Notes, name: &Txt, at: usize) -> Result<(), NoMemory>
     ensures { IfOk result (λ _. (q : List ℕ) → noted notes.new q ≡ (if bytes_eq q name.now then noted notes.old q ++ at ∷ [] else noted notes.old q)) }
 {
     match notes.get_mut(name) {

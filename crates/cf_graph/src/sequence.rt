@@ -112,7 +112,11 @@ pub(crate) fn in_order(alloc: Global, all: &[(Txt, Names)]) -> Result<Needs, NoM
             break;
         }
     }
-    let Progress { missing: _, ready: _, placed } = progress;
+    let Progress {
+        missing: _,
+        ready: _,
+        placed,
+    } = progress;
     Ok(placed)
 }
 
@@ -156,7 +160,12 @@ fn place_next(
 }
 
 /// Adds a resource that is not there yet.
-pub(crate) fn append(alloc: Global, placed: &mut Needs, name: &Txt, needs: &Names) -> Result<(), NoMemory>
+pub(crate) fn append(
+    alloc: Global,
+    placed: &mut Needs,
+    name: &Txt,
+    needs: &Names,
+) -> Result<(), NoMemory>
     requires { value_at name.now placed.old.entries ≡ None }
     ensures { IfOk result (λ _. placed.new.entries ≡ placed.old.entries ++ (name.now, needs.now) ∷ []) }
 {

@@ -23,10 +23,7 @@ pub(crate) fn unknown_dependency(
     let declared = resource_names(alloc, &template.resources)?;
     for resource in template.resources.as_slice() {
         if let Some(name) = first_unknown(&declared, &resource.depends) {
-            return Ok(Some((
-                resource.name.try_clone(alloc)?,
-                name.try_clone(alloc)?,
-            )));
+            return Ok(Some((resource.name.try_clone(alloc)?, name.try_clone(alloc)?)));
         }
     }
     Ok(None)

@@ -1,4 +1,4 @@
-use Rattle.std.proofs.Common.{◌≡◌, ◌++◌, ◌∷◌, [], List, ℕ, sym, subst, take}
+use Rattle.std.proofs.Common.{◌++◌, ◌∷◌, [], List, ℕ, sym, subst, take}
 use Rattle.cf_graph.specs.Cycles.{StandAlike}
 use Rattle.cf_graph.proofs.Alike.{take_more}
 use Rattle.cf_graph.proofs.cycle.rows_of.Goals as goal

@@ -25,5 +25,5 @@ loop-row-preserved c =
       levels_joined c.args.all.now c.args.start.now c.loop-row.levels.items c.push.new.self.items c.in_ok-level.level c.loop-row._row-index c.loop-row.invariant.0 c.loop-row.invariant.1 b c.in_ok-push.ensures.items,
       one_more_level c.args.all.now c.args.start.now c.loop-row.levels.items c.push.new.self.items c.in_ok-level.level c.loop-row._row-index c.loop-row.invariant.0 c.loop-row.invariant.1 b c.in_ok-push.ensures.items,
       none_yet c.args.all.now c.args.start.now c.loop-row.levels.items c.push.new.self.items c.in_ok-level.level c.loop-row._row-index c.loop-row.invariant.0 c.loop-row.invariant.1 b c.in_ok-push.ensures.items c.loop-row.invariant.2
-      (sym c.contains-leads.ensures ∙ c.if-leads.false),
+          (sym c.contains-leads.ensures ∙ c.if-leads.false),
     )

@@ -6,7 +6,7 @@ use Rattle.cf_graph.proofs.needs.names_at.Given as goal
 abbrev pub invariant-loop-place : goal.invariant-loop-place
 invariant-loop-place l = record {
   so_far : map (λ p. get_or l.names p []) l.initial.places.keys ≡ l.found ++ map (λ p. get_or l.names p []) l.places.keys;
-  within : (p : ℕ) → contains nat_cmp l.places p ≡ true → p < length l.names
+  within : (p : ℕ) → contains nat_cmp l.places p ≡ true → p < length l.names;
 }
 
 abbrev pub decreases-loop-place : goal.decreases-loop-place

@@ -1,6 +1,3 @@
-use Rattle.std.proofs.Common.{◌≡◌, ◌∙◌, ◌++◌, ◌∷◌, [], ap, sym, ℕ, List, refl}
-use Rattle.std.specs.Str.{bytes_eq}
-use Rattle.cf_tree.specs.Keys.{value_at}
 use Rattle.cf_graph.proofs.Lookups.{pushed}
 use Rattle.cf_graph.proofs.sequence.append.Goals as goal
 

@@ -1,7 +1,7 @@
-use Rattle.std.proofs.Common.{◌≡◌, ℕ, take, ◌&&◌, nat_lt, nat_eq, length}
+use Rattle.std.proofs.Common.{◌≡◌, ℕ, ◌&&◌, nat_lt, nat_eq, length}
 use Rattle.std.specs.BTreeSet.{contains}
 use Rattle.std.specs.Ordering.{nat_cmp}
-use Rattle.cf_graph.specs.Waiting.{is_free, needs_at}
+use Rattle.cf_graph.specs.Waiting.{needs_at}
 use Rattle.cf_graph.proofs.sequence.first_ready.Given as goal
 
 abbrev pub invariant-loop-at : goal.invariant-loop-at

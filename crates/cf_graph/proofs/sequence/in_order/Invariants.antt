@@ -6,5 +6,5 @@ use Rattle.cf_graph.proofs.sequence.in_order.Given as goal
 abbrev pub invariant-loop-entry : goal.invariant-loop-entry
 invariant-loop-entry l = record {
   under_way : IsUnderWay l.all l.progress;
-  so_far : ordered (length l.all) l.all [] ≡ ordered (length l.all - l._entry-index) l.all l.progress.placed.entries
+  so_far : ordered (length l.all) l.all [] ≡ ordered (length l.all - l._entry-index) l.all l.progress.placed.entries;
 }

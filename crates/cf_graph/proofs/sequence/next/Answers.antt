@@ -16,5 +16,5 @@ loop-at-preserved c =
     record {
       fewer = still_fewer c.args.all.now c.args.placed.now.entries c.args.ready.now c.loop-at.ready c.pop_first.new.self c.loop-at.invariant.fewer c.loop-at.invariant.others c.in-Some.at c.in-Some.ensures.updates;
       others = still_others c.args.all.now c.args.placed.now.entries c.args.ready.now c.loop-at.ready c.pop_first.new.self c.loop-at.invariant.fewer c.loop-at.invariant.others c.in-Some.at c.in-Some.ensures.updates
-        (come_is c.args.all.now c.args.placed.now.entries c.in-Some.at c.index-all-at.result below c.index-all-at.is c.contains_key.result c.contains_key.ensures ∙ c.if-not-contains_key.false)
+          (come_is c.args.all.now c.args.placed.now.entries c.in-Some.at c.index-all-at.result below c.index-all-at.is c.contains_key.result c.contains_key.ensures ∙ c.if-not-contains_key.false);
     }

@@ -1,4 +1,4 @@
-use Rattle.std.proofs.Common.{arith, ◌+◌, ◌<◌, get_or}
+use Rattle.std.proofs.Common.{arith, ◌<◌, get_or}
 use Rattle.std.proofs.lemmas.List.{get_or_default}
 use Rattle.cf_graph.proofs.Copies.{copies_below, in_range}
 use Rattle.cf_graph.proofs.sequence.release.Goals as goal

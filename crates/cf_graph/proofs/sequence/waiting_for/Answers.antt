@@ -1,4 +1,4 @@
-use Rattle.std.proofs.Common.{◌≡◌, ◌∙◌, ap, sym, get_or, [], cond, nat_eq, ◌+◌, ℕ, List, take}
+use Rattle.std.proofs.Common.{◌∙◌, ap, sym, [], cond, nat_eq, ◌+◌, ℕ, List, take}
 use Rattle.std.proofs.lemmas.List.{get_or_read}
 use Rattle.cf_graph.specs.Waiting.{times, needs_at}
 use Rattle.cf_graph.proofs.Copies.{times_more}
