@@ -1,2 +1,18 @@
-//! Which resource of a template needs which.
+//! Which resource of a template needs which, and in which order work on them is done.
 #![tactic(auto)]
+
+mod before;
+mod cycle;
+mod fault;
+mod graph;
+mod mentions;
+mod needs;
+mod notes;
+mod sequence;
+#[cfg(test)]
+mod tests;
+mod unknown;
+
+pub use fault::GraphFault;
+pub use graph::order;
+pub use sequence::Needs;

@@ -1,0 +1,16 @@
+pub mod Noting
+pub mod Copies
+pub mod Readiness
+pub mod Lookups
+pub mod Finding
+pub mod Placing
+pub mod Steps
+pub mod Sets
+pub mod Selected
+pub mod Among
+pub mod Needed
+pub mod Alike
+pub mod Walks
+pub mod Back
+pub mod Acyclic
+pub mod Undeclared
