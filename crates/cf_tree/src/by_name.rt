@@ -1,12 +1,13 @@
 //! Maps of names, kept in the order of their bytes.
 ghost use Rattle.std.specs.Prelude.{◌≡◌, [], ◌∷◌, ◌++◌, Some, None, length, IfOk, IsTrue, OnErr, if◌then◌else◌, ◌↔◌};
 ghost use Rattle.std.specs.Option.{option_copied};
-ghost use Rattle.cf_tree.specs.Keys.{ascends, place, put, value_at};
+ghost use Rattle.cf_tree.specs.Keys.{ascends, place, put, value_at, Replaces};
 
 use crate::text::Txt;
 use std::alloc::{AllocError, Global};
 use std::cmp::Ordering;
 use std::marker::Model;
+use std::mem;
 
 /// Names with what stands under them, each name once, in the order of their bytes.
 #[derive(Drop)]
@@ -98,6 +99,15 @@ impl<V: Drop> ByName<V> {
         }
     }
 
+    /// Puts a value in place of the one that stands under a name, which it gives back. Where nothing
+    /// stands there, it changes nothing and gives the value back as an error. It takes no memory.
+    #[tactic(auto, using(crate::proofs::Order::ascends_replaced))]
+    pub fn replace(&mut self, name: &str, value: V) -> Result<V, V>
+        ensures { Replaces name.now value self.old self.new result }
+    {
+        replace_entry(&mut self.pairs, name, value)
+    }
+
     /// Puts a value under a name, in place of the one that stood there. After an error the map is
     /// as it was, and the value is gone.
     #[tactic(auto, using(crate::proofs::Order::ascends_put))]
@@ -142,6 +152,17 @@ fn place_of<V>(pairs: &[(Txt, V)], name: &str) -> Result<usize, usize>
         }
     }
     Err(low)
+}
+
+#[tactic(auto, using(crate::proofs::Placed::entry_in, crate::proofs::Placed::entry_kept, crate::proofs::Lookups::entry_found, crate::proofs::Lookups::entry_missed))]
+fn replace_entry<V: Drop>(pairs: &mut Vec<(Txt, V)>, name: &str, value: V) -> Result<V, V>
+    requires { IsTrue (ascends pairs.old.items) }
+    ensures { Replaces name.now value pairs.old.items pairs.new.items result }
+{
+    match place_of(pairs.as_slice(), name) {
+        Ok(at) => Ok(mem::replace(&mut pairs[at].1, value)),
+        Err(_) => Err(value),
+    }
 }
 
 #[tactic(auto, using(crate::proofs::Placed::entry_in, crate::proofs::Placed::entry_put, crate::proofs::Placed::entry_within, crate::proofs::Placed::entry_new))]

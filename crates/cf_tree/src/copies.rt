@@ -4,6 +4,8 @@ ghost use Rattle.std.specs.Prelude.{◌≡◌, IfOk};
 use crate::by_name::ByName;
 use crate::list::Listing;
 use crate::names::Names;
+use crate::request::Request;
+use crate::source::Source;
 use crate::text::Txt;
 use crate::value::Dict;
 use std::alloc::{AllocError, Global};
@@ -30,6 +32,35 @@ impl TryClone for Names {
 impl TryClone for Dict {
     fn try_clone(&self, alloc: Global) -> Result<Dict, AllocError> {
         Dict::try_clone(self, alloc)
+    }
+}
+
+impl TryClone for Request {
+    fn try_clone(&self, alloc: Global) -> Result<Request, AllocError> {
+        Request::try_clone(self, alloc)
+    }
+}
+
+impl TryClone for Source {
+    fn try_clone(&self, alloc: Global) -> Result<Source, AllocError> {
+        Source::try_clone(self, alloc)
+    }
+}
+
+impl<A: TryClone + Drop, B: TryClone + Drop> TryClone for (A, B) {
+    fn try_clone(&self, alloc: Global) -> Result<(A, B), AllocError> {
+        let first = self.0.try_clone(alloc)?;
+        let second = self.1.try_clone(alloc)?;
+        Ok((first, second))
+    }
+}
+
+impl<T: TryClone + Drop> TryClone for Option<T> {
+    fn try_clone(&self, alloc: Global) -> Result<Option<T>, AllocError> {
+        match self {
+            Some(value) => Ok(Some(value.try_clone(alloc)?)),
+            None => Ok(None),
+        }
     }
 }
 

@@ -1,5 +1,9 @@
 //! Lists of structs.
-ghost use Rattle.std.specs.Prelude.{◌≡◌, [], ◌∷◌, ◌++◌, length, IfOk, OnErr, IsTrue, ◌↔◌};
+ghost use Rattle.std.specs.Prelude.{◌≡◌, [], ◌∷◌, ◌++◌, length, IfOk, OnErr, IsTrue, ◌↔◌, ◌≤◌, insert};
+ghost use Rattle.std.specs.Borrow.{sem};
+ghost use Rattle.std.specs.Fn.{CalledAt};
+ghost use Rattle.std.specs.List.Retain.{IsFiltered};
+ghost use Rattle.cf_tree.specs.Lent.{LendsMembers};
 
 use std::alloc::{AllocError, AllocFailed, Global};
 use std::marker::Model;
@@ -63,6 +67,14 @@ impl<T> Listing<T> {
     {
         self.items.as_slice()
     }
+
+    /// The members in their order, each of which may be changed where it stands.
+    pub fn as_mut_slice(&mut self) -> &mut [T]
+        ensures* lends { sem 𝓛 (LendsMembers T.row self.entry result) }
+        ensures value { result.now ≡ self.old }
+    {
+        self.items.as_mut_slice()
+    }
 }
 
 impl<T: Drop> Listing<T> {
@@ -73,5 +85,34 @@ impl<T: Drop> Listing<T> {
     {
         self.items.push(item)?;
         Ok(())
+    }
+
+    /// Puts a member before the one at a place, or at the end. After an error the list is as it was,
+    /// and the member is gone.
+    pub fn insert(&mut self, at: usize, item: T) -> Result<(), AllocError>
+        requires { at ≤ length self.old }
+        ensures ok { IfOk result (λ _. self.new ≡ insert self.old at item) }
+        ensures err { OnErr result (self.new ≡ self.old) }
+    {
+        self.items.insert(at, item)?;
+        Ok(())
+    }
+
+    /// Moves the members of another list to the end. After an error the list is as it was, and the
+    /// other one is gone.
+    pub fn append(&mut self, other: Listing<T>) -> Result<(), AllocError>
+        ensures ok { IfOk result (λ _. self.new ≡ self.old ++ other) }
+        ensures err { OnErr result (self.new ≡ self.old) }
+    {
+        let mut items = other.into_vec();
+        self.items.append(&mut items)
+    }
+
+    /// Keeps the members that pass a test, in their order.
+    pub fn retain<F: FnMut(&T) -> bool>(&mut self, test: F)
+        requires { F.IsAlwaysCallable test }
+        ensures { IsFiltered (CalledAt F.FnMut) test self.old self.new }
+    {
+        self.items.retain(test);
     }
 }

@@ -193,3 +193,45 @@ fn conditions_are_put_together(rt: HostRuntime) -> Result<(), Fail> {
     assert!(rt; matches!(conds.as_slice()[0].node(), CondNode::Name(name) if name.is("IsProd")));
     Ok(())
 }
+
+/// `b`, then `c` before it, then `d` behind both, then without `b`.
+#[test]
+fn lists_are_changed(rt: HostRuntime) -> Result<(), Fail> {
+    let alloc = rt.alloc();
+    let mut list = Listing::new(alloc);
+    list.push(txt(alloc, "b")?)?;
+    list.insert(0, txt(alloc, "c")?)?;
+    let mut more = Listing::new(alloc);
+    more.push(txt(alloc, "d")?)?;
+    list.append(more)?;
+    list.retain(|text| !text.is("b"));
+    assert_eq!(rt; list.len(), 2);
+    assert!(rt; list.as_slice()[0].is("c"));
+    assert!(rt; list.as_slice()[1].is("d"));
+    Ok(())
+}
+
+#[test]
+fn what_stands_under_a_name_is_replaced(rt: HostRuntime) -> Result<(), Fail> {
+    let alloc = rt.alloc();
+    let mut given = pairs(alloc)?;
+    let value = txt(alloc, "beta")?;
+    let was = given.replace("Stage", value);
+    assert!(rt; matches!(&was, Ok(value) if value.is("prod")));
+    assert!(rt; matches!(given.get("Stage"), Some(value) if value.is("beta")));
+    let value = txt(alloc, "3")?;
+    let back = given.replace("Size", value);
+    assert!(rt; matches!(&back, Err(value) if value.is("3")));
+    assert!(rt; given.get("Size").is_none());
+    Ok(())
+}
+
+#[test]
+fn pairs_and_options_are_copied(rt: HostRuntime) -> Result<(), Fail> {
+    let alloc = rt.alloc();
+    let pair = (txt(alloc, "Url")?, Some(txt(alloc, "home")?));
+    let copy = pair.try_clone(alloc)?;
+    assert!(rt; copy.0.is("Url"));
+    assert!(rt; matches!(&copy.1, Some(value) if value.is("home")));
+    Ok(())
+}
