@@ -4,3 +4,4 @@ pub mod References
 pub mod Escapes
 pub mod Holes
 pub mod Steps
+pub mod Ordered
