@@ -1,8 +1,8 @@
 //! Orders of work and refusals, with expected values worked out from the rules.
 use crate::{GraphFault, Needs, order};
 use cf_tree::{
-    ByName, CondMap, Expr, ExprDict, ExprNode, Listing, Names, Part, Parts, Res, Template, Txt,
-    Val, Verdict,
+    ByName, CondMap, Expr, ExprDict, ExprNode, Kind, Listing, Names, Param, Part, Parts, Res,
+    Template, Txt, Val, Verdict,
 };
 use std::alloc::{AllocError, Global};
 use std::test::Fail;
@@ -240,5 +240,186 @@ fn references_are_needs_where_they_are_evaluated(rt: HostRuntime) -> Result<(), 
     }
     let line = told(alloc, &template(alloc, resources))?;
     assert_eq!(rt; line.as_str(), "A:; B:; C:; D:; E:; 0: A C D E; F:; ");
+    Ok(())
+}
+
+/// How a resource names another one.
+enum Naming {
+    Depends,
+    Ref,
+    Attribute,
+    Hole,
+    /// By `Ref`, in the branch that is taken or in the one that is not.
+    Taken,
+    Untaken,
+}
+
+/// The value of a property that names a resource.
+fn value_naming(alloc: Global, how: &Naming, other: &str) -> Result<Expr, AllocError> {
+    match how {
+        Naming::Attribute => attribute(alloc, other),
+        Naming::Hole => {
+            let own = reference(alloc, "Free")?;
+            holes(alloc, other, "Own", own)
+        }
+        Naming::Taken => choice(alloc, other, "Free"),
+        Naming::Untaken => choice(alloc, "Free", other),
+        _ => reference(alloc, other),
+    }
+}
+
+/// The resource, naming one more. Properties stand by the name of the one that is named.
+fn named_by(alloc: Global, made: Res, how: &Naming, other: &str) -> Result<Res, AllocError> {
+    match how {
+        Naming::Depends => {
+            let mut made = made;
+            made.depends.push(text(alloc, other)?)?;
+            Ok(made)
+        }
+        _ => {
+            let value = value_naming(alloc, how, other)?;
+            with_property(alloc, made, other, value)
+        }
+    }
+}
+
+/// A parameter of type String.
+fn parameter(alloc: Global, name: &str) -> Result<Param, AllocError> {
+    Ok(Param {
+        name: text(alloc, name)?,
+        kind: Kind::Text,
+        default: None,
+        allowed: None,
+        pattern: None,
+        min_length: None,
+        max_length: None,
+        min_value: None,
+        max_value: None,
+        no_echo: false,
+        description: None,
+        constraint: None,
+    })
+}
+
+/// Adds a resource that names others so.
+fn add(
+    alloc: Global,
+    resources: &mut Vec<Res>,
+    name: &str,
+    namings: &[(Naming, &str)],
+) -> Result<(), AllocError> {
+    let mut made = resource(alloc, name, &[])?;
+    for naming in namings {
+        made = named_by(alloc, made, &naming.0, naming.1)?;
+    }
+    resources.push(made)?;
+    Ok(())
+}
+
+/// The resources `01` to `10`.
+fn add_first_ten(alloc: Global, resources: &mut Vec<Res>) -> Result<(), AllocError> {
+    add(alloc, resources, "01", &[(Naming::Depends, "30")])?;
+    add(alloc, resources, "02", &[(Naming::Ref, "01")])?;
+    add(alloc, resources, "03", &[(Naming::Attribute, "05")])?;
+    add(alloc, resources, "04", &[])?;
+    add(alloc, resources, "05", &[(Naming::Hole, "04")])?;
+    add(alloc, resources, "06", &[(Naming::Untaken, "29")])?;
+    add(alloc, resources, "07", &[(Naming::Taken, "10")])?;
+    add(
+        alloc,
+        resources,
+        "08",
+        &[(Naming::Depends, "07"), (Naming::Ref, "06")],
+    )?;
+    add(alloc, resources, "09", &[(Naming::Ref, "28")])?;
+    add(alloc, resources, "10", &[(Naming::Attribute, "28")])
+}
+
+/// The resources `11` to `20`.
+fn add_second_ten(alloc: Global, resources: &mut Vec<Res>) -> Result<(), AllocError> {
+    add(alloc, resources, "11", &[(Naming::Depends, "12")])?;
+    add(alloc, resources, "12", &[(Naming::Depends, "13")])?;
+    add(alloc, resources, "13", &[])?;
+    add(
+        alloc,
+        resources,
+        "14",
+        &[(Naming::Ref, "11"), (Naming::Attribute, "13")],
+    )?;
+    add(alloc, resources, "15", &[])?;
+    add(
+        alloc,
+        resources,
+        "16",
+        &[(Naming::Hole, "15"), (Naming::Hole, "04")],
+    )?;
+    add(alloc, resources, "17", &[(Naming::Depends, "18")])?;
+    add(alloc, resources, "18", &[(Naming::Ref, "01")])?;
+    add(alloc, resources, "19", &[(Naming::Untaken, "18")])?;
+    add(alloc, resources, "20", &[])
+}
+
+/// The resources `21` to `30`.
+fn add_third_ten(alloc: Global, resources: &mut Vec<Res>) -> Result<(), AllocError> {
+    add(alloc, resources, "21", &[(Naming::Ref, "20")])?;
+    add(alloc, resources, "22", &[(Naming::Attribute, "21")])?;
+    add(alloc, resources, "23", &[(Naming::Taken, "22")])?;
+    add(
+        alloc,
+        resources,
+        "24",
+        &[(Naming::Ref, "23"), (Naming::Depends, "20")],
+    )?;
+    add(alloc, resources, "25", &[(Naming::Depends, "26")])?;
+    add(alloc, resources, "26", &[])?;
+    add(alloc, resources, "27", &[(Naming::Depends, "25")])?;
+    add(alloc, resources, "28", &[])?;
+    add(alloc, resources, "29", &[(Naming::Depends, "27")])?;
+    add(alloc, resources, "30", &[])
+}
+
+/// The template of thirty: `18` has the condition `No`, `27` is a nested stack, and `28` is the name of a parameter too.
+fn thirty(alloc: Global) -> Result<Template, AllocError> {
+    let mut resources = Vec::new(alloc);
+    add_first_ten(alloc, &mut resources)?;
+    add_second_ten(alloc, &mut resources)?;
+    add_third_ten(alloc, &mut resources)?;
+    let mut made = Vec::new(alloc);
+    for resource in resources {
+        made.push(singled_out(alloc, resource)?)?;
+    }
+    let mut params = Listing::new(alloc);
+    params.push(parameter(alloc, "28")?)?;
+    let mut template = template(alloc, made);
+    template.params = params;
+    Ok(template)
+}
+
+/// `18` is not made; `27` is a nested stack with a tag, which is not evaluated, and a parameter, which is.
+fn singled_out(alloc: Global, made: Res) -> Result<Res, AllocError> {
+    let mut made = made;
+    if made.name.is("18") {
+        made.condition = Some(text(alloc, "No")?);
+    }
+    if made.name.is("27") {
+        made.kind = text(alloc, "AWS::CloudFormation::Stack")?;
+        made = with_property(alloc, made, "Tags", reference(alloc, "29")?)?;
+        return with_property(alloc, made, "Parameters", reference(alloc, "26")?);
+    }
+    Ok(made)
+}
+
+/// `04`, `06`, `09` (the parameter hides `28`), `13`, `15`, `17` (`18` is not made), `19` (which names `18` in a branch
+/// that is not taken), `20`, `26`, `28` and `30` need nothing. Of those that are ready the least comes next: `03` and `05`
+/// come as soon as `04` has, while `01`, `02`, `07`, `08` and `10` wait for `28` and `30`.
+#[test]
+fn thirty_resources_come_in_order(rt: HostRuntime) -> Result<(), Fail> {
+    let alloc = rt.alloc();
+    let template = thirty(alloc)?;
+    let line = told(alloc, &template)?;
+    assert_eq!(rt;
+        line.as_str(),
+        "04:; 05: 04; 03: 05; 06:; 09:; 13:; 12: 13; 11: 12; 14: 11 13; 15:; 16: 04 15; 17:; 19:; 20:; 21: 20; 22: 21; 23: 22; 24: 20 23; 26:; 25: 26; 27: 25 26; 28:; 10: 28; 07: 10; 08: 06 07; 29: 27; 30:; 01: 30; 02: 01; "
+    );
     Ok(())
 }
