@@ -1,6 +1,7 @@
 //! The entries of the journal, and the one spelling of each in bytes.
 #![tactic(auto)]
 
+mod copies;
 mod entry;
 mod put;
 mod size;
