@@ -28,9 +28,15 @@ use Rattle.cf_graph.specs.Inserted.{insert_by}
 use Rattle.cf_export.specs.declared.Output.{Output}
 use Rattle.cf_schema.specs.declared.described.Schema.{Schema}
 use Rattle.cf_schema.specs.Kinds.{found}
-use Rattle.cf_eval.specs.Outcome.{Outcome, got}
-use Rattle.cf_desired.specs.Flaw.{Flaw}
-use Rattle.cf_desired.specs.Plan.{Seen, SeenAt, Evaluated, flawed, evaluated, Wanted, WantedOutput, plan_of}
+use Rattle.cf_desired.specs.declared.wanted.Evaluated.TheVariants.{Flawed as flawed, Known as evaluated}
+use Rattle.cf_desired.specs.declared.wanted.Exporting.{Exporting}
+use Rattle.cf_desired.specs.declared.wanted.Exporting.TheVariants as exporting
+use Rattle.cf_desired.specs.declared.flaw.Flaw.{Flaw}
+use Rattle.cf_desired.specs.declared.seen.SeenAt.{SeenAt}
+use Rattle.cf_desired.specs.declared.wanted.Evaluated.{Evaluated}
+use Rattle.cf_desired.specs.declared.wanted.Wanted.{Wanted}
+use Rattle.cf_desired.specs.declared.wanted.WantedOutput.{WantedOutput}
+use Rattle.cf_desired.specs.Plan.{Seen, plan_of}
 use Rattle.cf_desired.specs.Whole.{wanted_at}
 
 -- a resource as a stack holds it
@@ -206,13 +212,13 @@ abbrev pub is_row_before : Row → Row → Bool
 is_row_before a b = bytes_lt a.path b.path
 
 -- whether the evaluated outputs and exports differ from those that are held, or may
-abbrev pub is_same_text : List ℕ → Outcome (List ℕ) → Bool
-is_same_text t (got v) = bytes_eq t v
-is_same_text t _ = false
+abbrev pub is_same_text : List ℕ → Option (List ℕ) → Bool
+is_same_text t (Some v) = bytes_eq t v
+is_same_text t None = false
 
-abbrev pub is_same_export : Option (List ℕ) → Option (Outcome (List ℕ)) → Bool
-is_same_export None None = true
-is_same_export (Some a) (Some b) = is_same_text a b
+abbrev pub is_same_export : Option (List ℕ) → Exporting → Bool
+is_same_export None exporting.Nothing = true
+is_same_export (Some a) (exporting.Named b) = bytes_eq a b
 is_same_export _ _ = false
 
 abbrev pub are_same_outputs : List Output → List WantedOutput → Bool
@@ -221,13 +227,13 @@ are_same_outputs (h ∷ hs) (w ∷ ws) =
     bytes_eq h.name w.name && (is_same_text h.value w.value && (is_same_export h.export w.export && are_same_outputs hs ws))
 are_same_outputs _ _ = false
 
-abbrev pub is_kept_export : List (List ℕ × Outcome (List ℕ)) → List ℕ × List ℕ → Bool
+abbrev pub is_kept_export : List (List ℕ × Option (List ℕ)) → List ℕ × List ℕ → Bool
 is_kept_export new e = list_any (λ n. bytes_eq e.0 n.0 && is_same_text e.1 n.1) new
 
-abbrev pub is_old_export : List (List ℕ × List ℕ) → List ℕ × Outcome (List ℕ) → Bool
+abbrev pub is_old_export : List (List ℕ × List ℕ) → List ℕ × Option (List ℕ) → Bool
 is_old_export old n = list_any (λ e. bytes_eq e.0 n.0 && is_same_text e.1 n.1) old
 
-abbrev pub are_same_exports : List (List ℕ × List ℕ) → List (List ℕ × Outcome (List ℕ)) → Bool
+abbrev pub are_same_exports : List (List ℕ × List ℕ) → List (List ℕ × Option (List ℕ)) → Bool
 are_same_exports old new = not (list_any (λ e. not (is_kept_export new e)) old) && not (list_any (λ n. not (is_old_export old n)) new)
 
 -- what changes: rows by path, whether the outputs differ or may, the paths that are held with another type, and the flaws of the template

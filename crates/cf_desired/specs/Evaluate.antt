@@ -18,7 +18,8 @@ use Rattle.cf_eval.specs.Value.{form_found, blamed}
 use Rattle.cf_eval.specs.Env.{plain}
 use Rattle.cf_param.specs.declared.offered.Piece.{Piece}
 use Rattle.cf_param.specs.declared.offered.Piece.TheVariants.{Text, Later}
-use Rattle.cf_desired.specs.Flaw.{Flaw, eval}
+use Rattle.cf_desired.specs.declared.flaw.Flaw.{Flaw}
+use Rattle.cf_desired.specs.declared.flaw.Flaw.TheVariants as flaw
 
 -- the scope of a template's resources and outputs
 abbrev pub resource_scope :
@@ -36,8 +37,8 @@ value_in s e = plain (form_found s None e)
 
 -- where an evaluation stops, as a flaw of the stack at a path
 abbrev pub flaw_at : List ℕ → Stop → Flaw
-flaw_at stack (fault why at) = eval why stack at
-flaw_at stack (undecided name at) = eval UnknownName stack at
+flaw_at stack (fault why at) = flaw.Eval why stack at
+flaw_at stack (undecided name at) = flaw.Eval UnknownName stack at
 
 -- Properties, one by one: one that is NoValue is left out, one that is Later is None; the first fault is the answer.
 pub data Props : Type 0 where

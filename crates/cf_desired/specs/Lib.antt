@@ -1,5 +1,11 @@
+pub mod Props
 pub mod Names
 pub mod Flaw
 pub mod Evaluate
 pub mod Plan
+pub mod Templates
+pub mod Flat
+pub mod Desired
 pub mod Whole
+pub mod Stays
+pub mod TermsAt

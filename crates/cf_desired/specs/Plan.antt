@@ -37,54 +37,23 @@ use Rattle.cf_param.specs.declared.fault.BindFault.TheVariants as unbound
 use Rattle.cf_tree.specs.declared.template.Param.{Param}
 use Rattle.cf_param.specs.Binding.{binding_of}
 use Rattle.cf_desired.specs.Names.{path_in, name_in, stack_id, pseudo_of}
-use Rattle.cf_desired.specs.Flaw.{Flaw, bind, eval, graph, shape, template_missing, too_deep, too_many, dynamic_condition, dynamic_template}
+use Rattle.cf_desired.specs.Flaw.{tangled_as}
+use Rattle.cf_desired.specs.declared.flaw.Flaw.TheVariants as flaw
+use Rattle.cf_desired.specs.declared.wanted.Evaluated.TheVariants.{Flawed as flawed, Known as evaluated}
+use Rattle.cf_desired.specs.declared.wanted.Exporting.{Exporting}
+use Rattle.cf_desired.specs.declared.wanted.Exporting.TheVariants as exporting
+use Rattle.cf_desired.specs.declared.flaw.Flaw.{Flaw}
+use Rattle.cf_desired.specs.declared.seen.SeenAt.{SeenAt}
+use Rattle.cf_desired.specs.declared.wanted.Evaluated.{Evaluated}
+use Rattle.cf_desired.specs.declared.wanted.Wanted.{Wanted}
+use Rattle.cf_desired.specs.declared.wanted.WantedOutput.{WantedOutput}
+use Rattle.cf_desired.specs.declared.wanted.Inner.{Inner}
+use Rattle.cf_desired.specs.declared.wanted.Plan.{Plan}
 use Rattle.cf_desired.specs.Evaluate.{resource_scope, value_in, flaw_at, Props, known_props, bad_props, props_in, text_in, parameters_in, parameters_despite}
 
--- what is known of a resource's physical id and of its attributes, by path
-pub record SeenAt : Type 0 where
-  pub physical : Option (List ℕ)
-  pub attrs : Option (List (List ℕ × Data))
-
+-- what is seen of resources, by path
 abbrev pub Seen : Type 0
 Seen = List (List ℕ × SeenAt)
-
--- the evaluation of a path: a flaw, or its properties, each a value or None while it is Later
-pub data Evaluated : Type 0 where
-  flawed : Flaw → Evaluated
-  evaluated : List (List ℕ × Option Data) → Evaluated
-
--- what is wanted at a path
-pub record Wanted : Type 0 where
-  pub path : List ℕ
-  pub kind : List ℕ
-  pub deletion : Deletion
-  pub replace : Replace
-  pub needs : List (List ℕ)
-  pub props : Evaluated
-
--- an output: its value and the name that it is exported by, where it is, and why it is at fault
-pub record WantedOutput : Type 0 where
-  pub name : List ℕ
-  pub value : Outcome (List ℕ)
-  pub export : Option (Outcome (List ℕ))
-  pub fault : Option Flaw
-
--- a nested stack: the path of its stack resource, what that needs, and why its parameters can't be bound
-pub record Inner : Type 0 where
-  pub path : List ℕ
-  pub needs : List (List ℕ)
-  pub fault : Option Flaw
-
--- what the templates of a source want: paths in the order of work, outputs, nested stacks, and every flaw in the order in which it is met
-pub record Plan : Type 0 where
-  pub wanted : List Wanted
-  pub outputs : List WantedOutput
-  pub nested : List Inner
-  pub unmade : List (List ℕ)
-  pub exports : List (List ℕ × Outcome (List ℕ))
-  pub flaws : List Flaw
-  pub templates : ℕ
-  pub members : ℕ
 
 -- a template that is entered: at which path, as which stack, with which parameters, policies and needs
 pub record Entering : Type 0 where
@@ -205,7 +174,7 @@ flaws_of (evaluated ps) = []
 -- A resource's condition that is not declared is an unknown name.
 abbrev pub condition_flaw : Entering → List (List ℕ × Verdict) → List ℕ → Option (List ℕ) → Option Flaw
 condition_flaw e conds at None = None
-condition_flaw e conds at (Some name) = if is_some (value_at name conds) then None else Some (eval UnknownName e.path at)
+condition_flaw e conds at (Some name) = if is_some (value_at name conds) then None else Some (flaw.Eval UnknownName e.path at)
 
 abbrev pub resource_place : List ℕ → List ℕ
 resource_place id = codes "/Resources/" ++ id ++ codes "/Condition"
@@ -239,8 +208,8 @@ with_resource e scope conds seen c r ids =
             unless_flaw (condition_flaw e conds (resource_place r.name) r.condition)
             (evaluation_of (flaw_over (λ sights. stop_of_props (props_in (scope sights) r.props)) e.path c) (props_in (scope c.sights) r.props));
       });
-      sights = c.sights ++ (r.name, seen_as (value_at path seen)) ∷ [];
-      stands = c.stands ++ (r.name, path ∷ []) ∷ [];
+      sights = put r.name (seen_as (value_at path seen)) c.sights;
+      stands = put r.name (path ∷ []) c.stands;
     }
 
 -- A nested stack: the properties that it may have, its parameters, its template by name, and the limits, in this order.
@@ -264,8 +233,8 @@ pub data Url : Type 0 where
 
 abbrev pub url_from : List ℕ → List ℕ → Outcome (Option (List ℕ)) → Url
 url_from stack path (got (Some name)) = url name
-url_from stack path (got None) = no_url (shape path)
-url_from stack path later = no_url (dynamic_template path)
+url_from stack path (got None) = no_url (flaw.Shape path)
+url_from stack path later = no_url (flaw.DynamicTemplate path)
 url_from stack path (bad s) = no_url (flaw_at stack s)
 
 abbrev pub maybe_text : List ℕ → Option Data → Outcome (Option (List ℕ))
@@ -285,13 +254,13 @@ Laying = Entering → ℕ → ℕ → Plan
 
 -- the limits, on entering a nested stack: depth, templates, the template itself, the members of all together
 abbrev pub entered : Option Laying → Plan → List ℕ → List ℕ → Option Template → (Template → Entering) → Plan
-entered None p path name t entering = no_plan p.templates p.members (too_deep path ∷ [])
+entered None p path name t entering = no_plan p.templates p.members (flaw.TooDeep path ∷ [])
 entered (Some lay) p path name None entering =
-    if nat_lt 16 (p.templates + 1) then no_plan p.templates p.members (too_many (p.templates + 1) ∷ [])
-    else no_plan p.templates p.members (template_missing name ∷ [])
+    if nat_lt 16 (p.templates + 1) then no_plan p.templates p.members (flaw.TooMany (p.templates + 1) ∷ [])
+    else no_plan p.templates p.members (flaw.TemplateMissing name ∷ [])
 entered (Some lay) p path name (Some t) entering =
-    if nat_lt 16 (p.templates + 1) then no_plan p.templates p.members (too_many (p.templates + 1) ∷ [])
-    else if nat_lt 2000 (p.members + length t.resources) then no_plan p.templates p.members (too_many (p.members + length t.resources) ∷ [])
+    if nat_lt 16 (p.templates + 1) then no_plan p.templates p.members (flaw.TooMany (p.templates + 1) ∷ [])
+    else if nat_lt 2000 (p.members + length t.resources) then no_plan p.templates p.members (flaw.TooMany (p.members + length t.resources) ∷ [])
     else lay (entering t) (p.templates + 1) (p.members + length t.resources)
 
 abbrev pub nested_at_url : Option Laying → Source → Entering → Course → Res → List (List ℕ) → List (List ℕ × Piece) → Url → Plan
@@ -338,7 +307,7 @@ nested_plan lay source e scope c r ids (Some f) = no_plan c.plan.templates c.pla
 nested_plan lay source e scope c r ids None =
     if has_stack_shape r then despite (parameters_flaw e scope c r)
     (nested_at_url lay source e c r ids (given_or_despite (scope c.sights) r (parameters_of (scope c.sights) r)) (url_of e (scope c.sights) r))
-    else no_plan c.plan.templates c.plan.members (shape (path_in e.path r.name) ∷ [])
+    else no_plan c.plan.templates c.plan.members (flaw.Shape (path_in e.path r.name) ∷ [])
 
 -- what is seen of a nested output; one that is Later or at fault has no value
 abbrev pub value_seen : Outcome (List ℕ) → Option (List ℕ)
@@ -346,7 +315,10 @@ value_seen (got v) = Some v
 value_seen _ = None
 
 abbrev pub output_seen : WantedOutput → List ℕ × OutputSight
-output_seen o = (codes "Outputs." ++ o.name, output.Made (value_seen o.value))
+output_seen o = (codes "Outputs." ++ o.name, output.Made o.value)
+
+abbrev pub put_output : List (List ℕ × OutputSight) → List ℕ × OutputSight → List (List ℕ × OutputSight)
+put_output all o = put o.0 o.1 all
 
 abbrev pub outputs_not_made : List (List ℕ) → List (List ℕ × OutputSight)
 outputs_not_made names = map (λ n. (codes "Outputs." ++ n, output.NotMade)) names
@@ -368,7 +340,7 @@ merged p q inner = record {
 }
 
 abbrev pub is_bind_at : List ℕ → Flaw → Bool
-is_bind_at path (bind at f) = bytes_eq path at
+is_bind_at path (flaw.Bind at f) = bytes_eq path at
 is_bind_at path _ = false
 
 abbrev pub bind_flaw_at : List ℕ → List Flaw → Option Flaw
@@ -382,9 +354,10 @@ with_nested lay source number e scope conds c r ids =
       plan = merged c.plan q
           (record { path = path; needs = needed_paths e c ids; fault = option_or (parameters_flaw e scope c r) (bind_flaw_at path q.flaws) });
       sights =
-          c.sights
-          ++ (r.name, sight.Nested (stack_id (name_in e.stack r.name) number) (map output_seen q.outputs ++ outputs_not_made q.unmade)) ∷ [];
-      stands = c.stands ++ (r.name, map (λ w. w.path) q.wanted ++ needed_paths e c ids) ∷ [];
+          put r.name
+          (sight.Nested (stack_id (name_in e.stack r.name) number) (fold put_output [] (map output_seen q.outputs ++ outputs_not_made q.unmade)))
+          c.sights;
+      stands = put r.name (map (λ w. w.path) q.wanted ++ needed_paths e c ids) c.stands;
       broken = c.broken ++ flat_map (broken_output r.name) q.outputs;
     }
 
@@ -396,8 +369,11 @@ with_member lay source seen number e scope conds c m =
     (λ r. if is_stack r then with_nested lay source number e scope conds c r m.1 else with_resource e scope conds seen c r m.1)
     (found (λ r. r.name) m.0 e.template.resources) c
 
+abbrev pub with_not_made : List (List ℕ × Sight) → Res → List (List ℕ × Sight)
+with_not_made sights r = put r.name sight.NotMade sights
+
 abbrev pub not_made : List (List ℕ × Verdict) → Template → List (List ℕ × Sight)
-not_made conds t = map (λ r. (r.name, sight.NotMade)) (filter (λ r. not (is_made conds r)) t.resources)
+not_made conds t = fold with_not_made [] (filter (λ r. not (is_made conds r)) t.resources)
 
 -- Outputs whose condition isn't false: the export before the value; an export's name may not be Later.
 abbrev pub is_output_made : List (List ℕ × Verdict) → Out → Bool
@@ -419,16 +395,28 @@ abbrev pub output_stop : Option Stop → Out → Scope → Option Stop
 output_stop (Some stop) o s = Some stop
 output_stop None o s = option_or (export_stop s o.export) (stop_in (text_in s o.value))
 
+abbrev pub exporting_as : Outcome (List ℕ) → Exporting
+exporting_as (got name) = exporting.Named name
+exporting_as _ = exporting.Fault
+
+abbrev pub exporting_in : Scope → Option Form → Exporting
+exporting_in s None = exporting.Nothing
+exporting_in s (Some f) = exporting_as (export_wanted f (text_in s f))
+
 abbrev pub wanted_output : Entering → Scoping → Course → Option Stop → Out → WantedOutput
 wanted_output e scope c stop o = record {
   name = o.name;
-  value = text_in (scope c.sights) o.value;
-  export = option_map (λ f. export_wanted f (text_in (scope c.sights) f)) o.export;
+  value = value_seen (text_in (scope c.sights) o.value);
+  export = exporting_in (scope c.sights) o.export;
   fault = flaw_over (λ sights. output_stop stop o (scope sights)) e.path c;
 }
 
-abbrev pub exported : WantedOutput → List (List ℕ × Outcome (List ℕ))
-exported o = option_map_or (λ x. option_map_or (λ name. (name, o.value) ∷ []) (value_seen x) []) o.export []
+abbrev pub exported_as : Option (List ℕ) → Exporting → List (List ℕ × Option (List ℕ))
+exported_as value (exporting.Named name) = (name, value) ∷ []
+exported_as value _ = []
+
+abbrev pub exported : WantedOutput → List (List ℕ × Option (List ℕ))
+exported o = exported_as o.value o.export
 
 abbrev pub output_flaws : WantedOutput → List Flaw
 output_flaws o = option_map_or (λ f. f ∷ []) o.fault []
@@ -447,7 +435,7 @@ with_outputs e scope conds c =
 abbrev pub planned :
     Option Laying → Source → Seen → ℕ → Entering → List (List ℕ × Setting) → List (List ℕ × Verdict) → Plan
     → Result (List (List ℕ × List (List ℕ))) Tangle → Plan
-planned lay source seen number e bound conds p (Err t) = record p { flaws = p.flaws ++ graph e.path t ∷ [] }
+planned lay source seen number e bound conds p (Err t) = record p { flaws = p.flaws ++ flaw.Graph e.path (tangled_as t) ∷ [] }
 planned lay source seen number e bound conds p (Ok order) =
     let scope = λ (sights : List (List ℕ × Sight)). resource_scope e.template bound conds (pseudo_of e.stack number) sights source.imports in
     let course : Course = record { plan = p; sights = not_made conds e.template; stands = []; broken = [] } in
@@ -467,7 +455,7 @@ decided_plan lay source seen number e bound p (bad s) = record p { flaws = p.fla
 decided_plan lay source seen number e bound p later = p
 decided_plan lay source seen number e bound p (got conds) =
     let verdicts = map (λ c. (c.0, verdict_from c.1)) conds in
-    option_map_or (λ name. record p { flaws = p.flaws ++ dynamic_condition e.path name ∷ [] }) (first_later conds)
+    option_map_or (λ name. record p { flaws = p.flaws ++ flaw.DynamicCondition e.path name ∷ [] }) (first_later conds)
     (planned lay source seen number e bound verdicts p (needs_of e.template verdicts))
 
 abbrev pub bound_plan : Option Laying → Source → Seen → ℕ → Entering → Plan → List (List ℕ × Setting) → Plan
@@ -502,7 +490,7 @@ bound_despite (suc n) params given (Err f) =
 abbrev pub bound_or_later : Option Laying → Source → Seen → ℕ → Entering → Plan → Result (List (List ℕ × Setting)) BindFault → Plan
 bound_or_later lay source seen number e p (Ok bound) = bound_plan lay source seen number e p bound
 bound_or_later lay source seen number e p (Err f) =
-    let q = record p { flaws = p.flaws ++ bind e.path f ∷ [] } in
+    let q = record p { flaws = p.flaws ++ flaw.Bind e.path f ∷ [] } in
     option_map_or (bound_plan lay source seen number e q) (bound_despite (length e.given) e.template.params e.given (Err f)) q
 
 -- a template entered at a depth, where so many more may be entered below it
@@ -528,4 +516,4 @@ root_of source t = record {
 abbrev pub plan_of : Source → Seen → Plan
 plan_of source seen =
     option_map_or (λ t. laid 7 source seen source.number (root_of source t) 1 (length t.resources)) (template_named source.root source)
-    (no_plan 0 0 (template_missing source.root ∷ []))
+    (no_plan 0 0 (flaw.TemplateMissing source.root ∷ []))

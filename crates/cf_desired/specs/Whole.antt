@@ -3,13 +3,19 @@ use Rattle.std.specs.Prelude.{ℕ, Bool, List, [], ◌∷◌, Option, Some, None
 use Rattle.std.specs.Option.{option_map_or}
 use Rattle.std.specs.Str.{bytes_eq}
 use Rattle.cf_tree.specs.Datum.{Data}
-use Rattle.cf_tree.specs.declared.template.Deletion.{Deletion}
-use Rattle.cf_tree.specs.declared.template.Replace.{Replace}
 use Rattle.cf_tree.specs.declared.source.Source.{Source}
 use Rattle.cf_export.specs.declared.Output.{Output}
-use Rattle.cf_eval.specs.Outcome.{Outcome}
-use Rattle.cf_desired.specs.Flaw.{Flaw}
-use Rattle.cf_desired.specs.Plan.{Seen, Evaluated, flawed, evaluated, Wanted, WantedOutput, Plan, plan_of, value_seen}
+use Rattle.cf_desired.specs.declared.wanted.Evaluated.TheVariants.{Flawed as flawed, Known as evaluated}
+use Rattle.cf_desired.specs.declared.wanted.Exporting.{Exporting}
+use Rattle.cf_desired.specs.declared.wanted.Exporting.TheVariants as exporting
+use Rattle.cf_desired.specs.declared.flaw.Flaw.{Flaw}
+use Rattle.cf_desired.specs.declared.whole_plan.Right as kept_right
+use Rattle.cf_desired.specs.declared.whole_plan.WholePlan as kept_whole
+use Rattle.cf_desired.specs.declared.wanted.Evaluated.{Evaluated}
+use Rattle.cf_desired.specs.declared.wanted.Wanted.{Wanted}
+use Rattle.cf_desired.specs.declared.wanted.WantedOutput.{WantedOutput}
+use Rattle.cf_desired.specs.declared.wanted.Plan.{Plan}
+use Rattle.cf_desired.specs.Plan.{Seen, plan_of}
 
 -- the plan of a path
 abbrev pub is_wanted_at : List ℕ → Wanted → Bool
@@ -29,43 +35,37 @@ known_of (flawed f) = None
 known_of (evaluated ps) = known_props_from ps
 
 -- a resource all of whose parts are known
-pub record Right : Type 0 where
-  pub path : List ℕ
-  pub kind : List ℕ
-  pub deletion : Deletion
-  pub replace : Replace
-  pub needs : List (List ℕ)
-  pub props : List (List ℕ × Data)
+abbrev pub Right : Type 0
+Right = kept_right.Right
 
 abbrev pub right_of : Wanted → Option Right
 right_of w =
     option_map (λ props. record { path = w.path; kind = w.kind; deletion = w.deletion; replace = w.replace; needs = w.needs; props = props })
     (known_of w.props)
 
-abbrev pub export_of : Option (Outcome (List ℕ)) → Option (Option (List ℕ))
-export_of None = Some None
-export_of (Some o) = option_map (λ name. Some name) (value_seen o)
+abbrev pub export_of : Exporting → Option (Option (List ℕ))
+export_of exporting.Nothing = Some None
+export_of exporting.Fault = None
+export_of (exporting.Named name) = Some (Some name)
 
 abbrev pub with_export : WantedOutput → List ℕ → Option (Option (List ℕ)) → Option Output
 with_export o value None = None
 with_export o value (Some export) = Some (record { name = o.name; value = value; export = export })
 
 abbrev pub right_output : WantedOutput → Option Output
-right_output o = option_map_or (λ value. with_export o value (export_of o.export)) (value_seen o.value) None
+right_output o = option_map_or (λ value. with_export o value (export_of o.export)) o.value None
 
 -- f of each of a list, where it is there for all
 abbrev pub all_of : {A B : Type 0} → (A → Option B) → List A → Option (List B)
 all_of f [] = Some []
 all_of f (a ∷ rest) = option_map_or (λ b. option_map (λ bs. b ∷ bs) (all_of f rest)) (f a) None
 
-abbrev pub right_export : List ℕ × Outcome (List ℕ) → Option (List ℕ × List ℕ)
-right_export e = option_map (λ value. (e.0, value)) (value_seen e.1)
+abbrev pub right_export : List ℕ × Option (List ℕ) → Option (List ℕ × List ℕ)
+right_export e = option_map (λ value. (e.0, value)) e.1
 
 -- the whole map: every path, output and export, where nothing is Later or at fault
-pub record Whole : Type 0 where
-  pub wanted : List Right
-  pub outputs : List Output
-  pub exports : List (List ℕ × List ℕ)
+abbrev pub Whole : Type 0
+Whole = kept_whole.WholePlan
 
 abbrev pub whole_with : List Right → List Output → Option (List (List ℕ × List ℕ)) → Option Whole
 whole_with rights outputs None = None

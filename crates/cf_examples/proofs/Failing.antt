@@ -11,8 +11,8 @@ use Rattle.cf_stacks.specs.declared.held.Held.{Held}
 use Rattle.cf_stacks.specs.declared.state.StackState.{StackState}
 use Rattle.cf_stacks.specs.declared.state.World.{World}
 use Rattle.cf_stacks.specs.Words.{current_at}
-use Rattle.cf_desired.specs.Flaw.{Flaw}
-use Rattle.cf_desired.specs.Plan.{Inner}
+use Rattle.cf_desired.specs.declared.flaw.Flaw.{Flaw}
+use Rattle.cf_desired.specs.declared.wanted.Inner.{Inner}
 use Rattle.cf_export.specs.declared.Export.{Export}
 use Rattle.cf_graph.specs.Needs.{first_in}
 use Rattle.cf_plan.specs.Forward.{IsDone, is_made, is_updated, is_right, Finding, Bad, Later, Known, evaluated_at, was_updated_at, wanted_paths, plan_now, first_failing, lost_exports, HasFailed, IsBadPath, IsBadOutput}

@@ -8,7 +8,7 @@ use Rattle.cf_stacks.specs.declared.state.World.{World}
 use Rattle.cf_stacks.specs.declared.state.StackState.{StackState}
 use Rattle.cf_stacks.specs.Fold.{empty_world, world_after, source_for}
 use Rattle.cf_stacks.specs.Status.{Forward, Back}
-use Rattle.cf_desired.specs.Flaw.{eval}
+use Rattle.cf_desired.specs.declared.flaw.Flaw.TheVariants as flaw
 use Rattle.cf_eval.specs.declared.fault.EvalWhy.TheVariants.{IndexOutside}
 use Rattle.cf_plan.specs.Forward.{here, there, HasFailed, IsReady, IsDone, is_made}
 use Rattle.cf_plan.specs.Follow.{MayFollow}
@@ -100,7 +100,7 @@ ready_4_B = (there here, λ q i. only (IsDone stack_4_t) (is_made _ refl) q i)
 
 may_turned : MayFollow schemas world_4 [] turned
 unfolding computing
-may_turned = ((codes "t"), stack_4_t, Forward, refl, refl, (refl, (refl, inr (inl (codes "B", (eval IndexOutside (codes "") (codes "/Resources/B/Properties/Value")), inl (ready_4_B, refl))), ((eval IndexOutside (codes "") (codes "/Resources/B/Properties/Value")), refl, refl, inl (codes "B", inl (ready_4_B, refl), only_bad stack_4_t (codes "B") refl refl)))))
+may_turned = ((codes "t"), stack_4_t, Forward, refl, refl, (refl, (refl, inr (inl (codes "B", (flaw.Eval IndexOutside (codes "") (codes "/Resources/B/Properties/Value")), inl (ready_4_B, refl))), ((flaw.Eval IndexOutside (codes "") (codes "/Resources/B/Properties/Value")), refl, refl, inl (codes "B", inl (ready_4_B, refl), only_bad stack_4_t (codes "B") refl refl)))))
 
 abbrev stack_5_t : StackState
 stack_5_t = record stack_4_t { status = status.RollbackInProgress; events = stack_4_t.events ++ (codes "event 5 - ROLLBACK_IN_PROGRESS") ∷ []; entries = stack_4_t.entries ++ turned ∷ [] }

@@ -1,7 +1,7 @@
 -- A stack exports the length of a file, and another one imports it: an update that would change the length is taken back.
 use Rattle.std.proofs.Common.{◌≡◌, refl, List, [], ◌∷◌, ◌++◌, Some, None, false, ℕ, inl, inr, ap, lit≤, true≢false}
 use Rattle.std.specs.Prelude.{codes, length}
-use Rattle.cf_desired.specs.Plan.{Plan}
+use Rattle.cf_desired.specs.declared.wanted.Plan.{Plan}
 use Rattle.cf_tree.specs.declared.request.Request.TheVariants as request
 use Rattle.cf_entry.specs.declared.entry.Entry.{Entry}
 use Rattle.cf_stacks.specs.declared.held.Held.{Held}

@@ -10,8 +10,9 @@ use Rattle.cf_entry.specs.declared.status.Status.TheVariants as status
 use Rattle.cf_stacks.specs.declared.held.HeldStatus.TheVariants as held
 use Rattle.cf_stacks.specs.Fold.{empty_world, fold_of}
 use Rattle.cf_eval.specs.declared.fault.EvalWhy.TheVariants.{UnknownAttribute}
-use Rattle.cf_desired.specs.Flaw.{eval}
-use Rattle.cf_desired.specs.Plan.{Seen, flawed, plan_of}
+use Rattle.cf_desired.specs.declared.flaw.Flaw.TheVariants as flaw
+use Rattle.cf_desired.specs.declared.wanted.Evaluated.TheVariants.{Flawed as flawed}
+use Rattle.cf_desired.specs.Plan.{Seen, plan_of}
 use Rattle.cf_desired.specs.Whole.{wanted_at}
 use Rattle.cf_plan.specs.FlawText.{flaw_text}
 use Rattle.cf_plan.specs.Follow.{IsLegal}
@@ -120,7 +121,7 @@ record_seen = (codes "Child/Rec", record { physical = Some (codes "r1:1"); attrs
 abbrev pub FirstNamedIsTold : Type 0
 FirstNamedIsTold =
     option_map (λ w. w.props) (wanted_at (codes "Src") (plan_of two_faults record_seen)) ≡ Some
-    (flawed (eval UnknownAttribute (codes "Child") (codes "/Outputs/B/Value")))
+    (flawed (flaw.Eval UnknownAttribute (codes "Child") (codes "/Outputs/B/Value")))
 
 -- A condition of a nested stack may not rest on what is known only while the stack is made.
 abbrev pub conditional : Source

@@ -4,7 +4,7 @@ use Rattle.std.specs.List.{list_any}
 use Rattle.cf_stacks.specs.declared.held.Held.{Held}
 use Rattle.cf_stacks.specs.declared.state.StackState.{StackState}
 use Rattle.cf_stacks.specs.Words.{current_at, resource_at, is_create}
-use Rattle.cf_stacks.specs.Fold.{is_physical_of, wanted_in, needs_of_wanted, seen_in}
+use Rattle.cf_stacks.specs.Fold.{is_physical_of, terms_at}
 
 -- the resource is the held one at one of these paths
 abbrev pub is_held_at_one : List (List ℕ) → StackState → Held → Bool
@@ -16,7 +16,7 @@ is_at_one paths s r = list_any (λ p. is_physical_of r.physical (resource_at p s
 
 -- the paths that a path needs in the operation's template
 abbrev pub needs_at : List ℕ → StackState → List (List ℕ)
-needs_at path s = needs_of_wanted (wanted_in s.going (seen_in s.before) path)
+needs_at path s = (terms_at path s).needs
 
 -- a held resource needs the held ones at the paths that its record names
 abbrev pub is_needed_by_held : StackState → Held → Bool

@@ -6,10 +6,12 @@ use Rattle.json.specs.Print.{quoted}
 use Rattle.cf_funcs.specs.Pieces.{joined}
 use Rattle.cf_eval.specs.declared.fault.EvalWhy.{EvalWhy}
 use Rattle.cf_eval.specs.declared.fault.EvalWhy.TheVariants as why
-use Rattle.cf_graph.specs.Needs.{Tangle, unknown, circular}
+use Rattle.cf_graph.specs.declared.fault.GraphFault.{GraphFault}
+use Rattle.cf_graph.specs.declared.fault.GraphFault.TheVariants as tangled
 use Rattle.cf_param.specs.declared.fault.BindFault.{BindFault}
 use Rattle.cf_param.specs.declared.fault.BindFault.TheVariants as fault
-use Rattle.cf_desired.specs.Flaw.{Flaw, bind, eval, graph, shape, template_missing, too_deep, too_many, dynamic_condition, dynamic_template}
+use Rattle.cf_desired.specs.declared.flaw.Flaw.{Flaw}
+use Rattle.cf_desired.specs.declared.flaw.Flaw.TheVariants as flaw
 
 abbrev pub why_name : EvalWhy → List ℕ
 why_name why.UnknownName = codes "UnknownName"
@@ -29,9 +31,10 @@ told words = joined (codes " ") words
 abbrev pub names_text : List (List ℕ) → List ℕ
 names_text names = codes "[" ++ join_by quoted (codes ",") names ++ codes "]"
 
-abbrev pub tangle_text : Tangle → List ℕ
-tangle_text (unknown from name) = told (codes "UnknownDependency" ∷ quoted from ∷ quoted name ∷ [])
-tangle_text (circular cycle) = told (codes "Circular" ∷ names_text cycle ∷ [])
+abbrev pub tangle_text : GraphFault → List ℕ
+tangle_text (tangled.UnknownDependency from name) = told (codes "UnknownDependency" ∷ quoted from ∷ quoted name ∷ [])
+tangle_text (tangled.Circular cycle) = told (codes "Circular" ∷ names_text cycle ∷ [])
+tangle_text tangled.NoMemory = codes "NoMemory"
 
 abbrev pub bind_text : BindFault → List ℕ
 bind_text (fault.Undeclared name) = told (codes "Undeclared" ∷ quoted name ∷ [])
@@ -47,12 +50,12 @@ bind_text (fault.BadPattern name) = told (codes "BadPattern" ∷ quoted name ∷
 bind_text fault.NoMemory = codes "NoMemory"
 
 abbrev pub flaw_text : Flaw → List ℕ
-flaw_text (bind at fault) = told (codes "Bind" ∷ quoted at ∷ bind_text fault ∷ [])
-flaw_text (eval w stack at) = told (codes "Eval" ∷ codes "Bad" ∷ why_name w ∷ quoted stack ∷ quoted at ∷ [])
-flaw_text (graph at tangle) = told (codes "Graph" ∷ quoted at ∷ tangle_text tangle ∷ [])
-flaw_text (shape path) = told (codes "Shape" ∷ quoted path ∷ [])
-flaw_text (template_missing name) = told (codes "TemplateMissing" ∷ quoted name ∷ [])
-flaw_text (too_deep path) = told (codes "TooDeep" ∷ quoted path ∷ [])
-flaw_text (too_many count) = told (codes "TooMany" ∷ decimal count ∷ [])
-flaw_text (dynamic_condition path name) = told (codes "DynamicCondition" ∷ quoted path ∷ quoted name ∷ [])
-flaw_text (dynamic_template path) = told (codes "DynamicTemplate" ∷ quoted path ∷ [])
+flaw_text (flaw.Bind at fault) = told (codes "Bind" ∷ quoted at ∷ bind_text fault ∷ [])
+flaw_text (flaw.Eval w stack at) = told (codes "Eval" ∷ codes "Bad" ∷ why_name w ∷ quoted stack ∷ quoted at ∷ [])
+flaw_text (flaw.Graph at tangle) = told (codes "Graph" ∷ quoted at ∷ tangle_text tangle ∷ [])
+flaw_text (flaw.Shape path) = told (codes "Shape" ∷ quoted path ∷ [])
+flaw_text (flaw.TemplateMissing name) = told (codes "TemplateMissing" ∷ quoted name ∷ [])
+flaw_text (flaw.TooDeep path) = told (codes "TooDeep" ∷ quoted path ∷ [])
+flaw_text (flaw.TooMany count) = told (codes "TooMany" ∷ decimal count ∷ [])
+flaw_text (flaw.DynamicCondition path name) = told (codes "DynamicCondition" ∷ quoted path ∷ quoted name ∷ [])
+flaw_text (flaw.DynamicTemplate path) = told (codes "DynamicTemplate" ∷ quoted path ∷ [])

@@ -26,9 +26,12 @@ use Rattle.cf_schema.specs.declared.changed.Difference.{Difference}
 use Rattle.cf_schema.specs.declared.changed.Difference.TheVariants.{Update, MayReplace}
 use Rattle.cf_schema.specs.Change.{difference_of}
 use Rattle.cf_schema.specs.Kinds.{found}
-use Rattle.cf_eval.specs.Outcome.{Outcome, got}
-use Rattle.cf_desired.specs.Flaw.{Flaw}
-use Rattle.cf_desired.specs.Plan.{Seen, Evaluated, flawed, evaluated, Inner, Plan, plan_of, no_plan}
+use Rattle.cf_desired.specs.declared.wanted.Evaluated.TheVariants.{Flawed as flawed, Known as evaluated}
+use Rattle.cf_desired.specs.declared.flaw.Flaw.{Flaw}
+use Rattle.cf_desired.specs.declared.wanted.Evaluated.{Evaluated}
+use Rattle.cf_desired.specs.declared.wanted.Inner.{Inner}
+use Rattle.cf_desired.specs.declared.wanted.Plan.{Plan}
+use Rattle.cf_desired.specs.Plan.{Seen, plan_of, no_plan}
 use Rattle.cf_desired.specs.Whole.{wanted_at, known_props_from}
 use Rattle.cf_graph.specs.Needs.{first_in}
 use Rattle.cf_stacks.specs.Words.{current_at, has_physical, is_update, is_pinned}
@@ -166,9 +169,9 @@ abbrev pub IsBadOutput : StackState → Flaw → Type 0
 IsBadOutput s fault = AllDone s × (first_in (plan_now s).flaws ≡ Some fault)
 
 -- An export that another stack pins would be gone, or have another value.
-abbrev pub keeps_value : Export → List ℕ × Outcome (List ℕ) → Bool
-keeps_value e (name, got value) = bytes_eq name e.name && bytes_eq value e.value
-keeps_value e (name, _) = false
+abbrev pub keeps_value : Export → List ℕ × Option (List ℕ) → Bool
+keeps_value e (name, Some value) = bytes_eq name e.name && bytes_eq value e.value
+keeps_value e (name, None) = false
 
 abbrev pub is_lost : List ℕ → World → Plan → Export → Bool
 is_lost name x p e = is_pinned name x e && not (list_any (keeps_value e) p.exports)

@@ -1,2 +1,37 @@
-//! Which entry may follow.
+//! Which entry may follow, and what comes next in an operation.
 #![tactic(auto)]
+
+mod back;
+mod bad;
+mod calls;
+mod cause;
+mod done;
+mod end;
+mod entries;
+mod failing;
+mod forward;
+mod found;
+mod lanes;
+mod laws;
+mod next;
+mod repeats;
+mod starts;
+mod text;
+
+pub use bad::{BadAt, first_bad};
+pub use calls::{
+    Call, call_at, doubts_in, path_of_token, was_answered_at, was_not_updatable, was_updated_at,
+};
+pub use cause::{Failure, are_all_done, failure_of};
+pub use done::{done_paths, is_among};
+pub use failing::{difference_to, first_failing};
+pub use forward::{Wants, is_free, wants_at};
+pub use found::{Found, current_at, finding_at, is_held_right, wanted_at};
+pub use lanes::{first_home, fits_lane};
+pub use laws::{
+    begins_right, create_ends_whole, create_goes_on, created_is_whole, creation_begins,
+    creation_keeps_promise, intent_stays_right, opening_stays_right, outcome_stays_right,
+};
+pub use next::{Home, Homes, Next, next_step};
+pub use starts::starts_of;
+pub use text::plan_text;

@@ -43,6 +43,11 @@ abbrev pub reply_line : ℕ → Reply → Option Pending → List (List ℕ)
 reply_line place answer None = []
 reply_line place answer (Some p) = event_line place p.path (reply_name p.request answer) ∷ []
 
+-- a line that is there or not, as a list
+abbrev pub line_in : Option (List ℕ) → List (List ℕ)
+line_in None = []
+line_in (Some line) = line ∷ []
+
 -- the line of the entry at this place, over the stack as it was before it
 abbrev pub lines_of : ℕ → Entry → StackState → List (List ℕ)
 lines_of place (entry.Begin number stack kind) s = event_line place (codes "-") (status_name (begun kind)) ∷ []

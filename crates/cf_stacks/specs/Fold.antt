@@ -1,11 +1,11 @@
 -- Folding the journal: the world after each entry, as a table over the kinds of entry (this project's own; what a stack
 -- holds and its statuses are those of the User Guide).
-use Rattle.std.specs.Prelude.{ℕ, ◌+◌, ◌==◌, Bool, true, false, ◌&&◌, ◌||◌, not, List, [], ◌∷◌, ◌++◌, Option, Some, None, map, filter, fold, find, codes, if◌then◌else◌}
+use Rattle.std.specs.Prelude.{◌≡◌, ℕ, ◌+◌, ◌==◌, Bool, true, false, ◌&&◌, ◌||◌, not, List, [], ◌∷◌, ◌++◌, Option, Some, None, map, filter, fold, find, is_some, codes, if◌then◌else◌}
 use Rattle.std.specs.List.{list_any}
 use Rattle.std.specs.Option.{option_map_or, unwrap_or}
 use Rattle.std.specs.Str.{bytes_eq}
 use Rattle.cf_tree.specs.Datum.{Data}
-use Rattle.cf_tree.specs.Keys.{put, bytes_lt}
+use Rattle.cf_tree.specs.Keys.{put, value_at, bytes_lt}
 use Rattle.cf_tree.specs.declared.request.Request.{Request}
 use Rattle.cf_tree.specs.declared.request.Request.TheVariants as request
 use Rattle.cf_tree.specs.declared.code.Code.TheVariants as code
@@ -35,10 +35,13 @@ use Rattle.cf_tree.specs.declared.template.Deletion.{Deletion}
 use Rattle.cf_tree.specs.declared.template.Deletion.TheVariants as deletion
 use Rattle.cf_tree.specs.declared.template.Replace.{Replace}
 use Rattle.cf_tree.specs.declared.template.Replace.TheVariants as replace
+use Rattle.cf_stacks.specs.declared.terms.Terms.{Terms}
 use Rattle.cf_stacks.specs.declared.state.StackState.{StackState}
 use Rattle.cf_stacks.specs.declared.state.World.{World}
 use Rattle.cf_stacks.specs.Status.{begun, turned}
-use Rattle.cf_desired.specs.Plan.{Seen, Wanted, plan_of}
+use Rattle.cf_desired.specs.declared.seen.SeenAt.{SeenAt}
+use Rattle.cf_desired.specs.declared.wanted.Wanted.{Wanted}
+use Rattle.cf_desired.specs.Plan.{Seen, plan_of}
 use Rattle.cf_desired.specs.Whole.{Right, Whole, wanted_at, whole_of, export_names_of}
 use Rattle.cf_graph.specs.Needs.{is_among}
 use Rattle.cf_graph.specs.Inserted.{insert_by}
@@ -88,8 +91,11 @@ is_before a b = bytes_lt a.stack b.stack || (bytes_eq a.stack b.stack && bytes_l
 abbrev pub not_pin_of : List ℕ → Pin → Bool
 not_pin_of name pin = not (bytes_eq name pin.stack)
 
+abbrev pub pin_of : List ℕ → List ℕ → Pin
+pin_of name export = record { stack = name; name = export }
+
 abbrev pub repinned : List ℕ → List (List ℕ) → List Pin → List Pin
-repinned name names pins = fold (insert_by is_before) (filter (not_pin_of name) pins) (map (λ n. record { stack = name; name = n }) names)
+repinned name names pins = fold (insert_by is_before) (filter (not_pin_of name) pins) (map (pin_of name) names)
 
 abbrev pub is_export_before : Export → Export → Bool
 is_export_before a b = bytes_lt a.name b.name
@@ -202,16 +208,22 @@ abbrev pub pin_also : List Pin → Pin → List Pin
 pin_also pins pin = if list_any (is_same_pin pin) pins then pins else insert_by is_before pins pin
 
 abbrev pub pinning : List ℕ → Source → List Pin → List Pin
-pinning name source pins = fold pin_also pins (map (λ p. record { stack = name; name = p.0 }) source.imports)
+pinning name source pins = fold pin_also pins (map (λ p. pin_of name p.0) source.imports)
 
 abbrev pub pins_begun : List ℕ → Begun → List Pin → List Pin
 pins_begun name (begin.Create source) pins = pinning name source pins
 pins_begun name (begin.Update source) pins = pinning name source pins
 pins_begun name _ pins = pins
 
--- what a list of resources shows of its paths
+-- what a list of resources shows of its paths, by path: of two at one path the first one
+abbrev pub seen_as_held : Held → SeenAt
+seen_as_held h = record { physical = Some h.physical; attrs = Some h.attrs }
+
+abbrev pub put_seen : Seen → Held → Seen
+put_seen seen h = if is_some (value_at h.path seen) then seen else put h.path (seen_as_held h) seen
+
 abbrev pub seen_in : List Held → Seen
-seen_in hs = map (λ h. (h.path, record { physical = Some h.physical; attrs = Some h.attrs })) (filter (λ h. not h.superseded) hs)
+seen_in hs = fold put_seen [] (filter (λ h. not h.superseded) hs)
 
 abbrev pub claims_begun : List ℕ → ℕ → Seen → Begun → List Pin → List Pin
 claims_begun name number seen (begin.Create source) claims = repinned name (export_names_of (source_for name number source) seen) claims
@@ -233,34 +245,31 @@ status_made None = held.CreateComplete
 status_made (Some h) = held.UpdateComplete
 
 -- the policies and needs that the template gives a path, or else the defaults
-abbrev pub needs_of_wanted : Option Wanted → List (List ℕ)
-needs_of_wanted w = option_map_or (λ v. v.needs) w []
+abbrev pub terms_of : Option Wanted → Terms
+terms_of None = record { needs = []; deletion = deletion.Delete; replace = replace.Delete }
+terms_of (Some w) = record { needs = w.needs; deletion = w.deletion; replace = w.replace }
 
-abbrev pub deletion_of_wanted : Option Wanted → Deletion
-deletion_of_wanted w = option_map_or (λ v. v.deletion) w deletion.Delete
+abbrev pub terms_at : List ℕ → StackState → Terms
+terms_at path s = terms_of (wanted_in s.going (seen_in s.before) path)
 
-abbrev pub replace_of_wanted : Option Wanted → Replace
-replace_of_wanted w = option_map_or (λ v. v.replace) w replace.Delete
-
-abbrev pub made_of : List ℕ → List ℕ → List ℕ → List (List ℕ × Data) → List (List ℕ × Data) → HeldStatus → Option Wanted → Held
-made_of path k physical props attrs s w = record {
+abbrev pub made_of : List ℕ → List ℕ → List ℕ → List (List ℕ × Data) → List (List ℕ × Data) → HeldStatus → Terms → Held
+made_of path k physical props attrs s t = record {
   path = path;
   kind = k;
   physical = physical;
   props = props;
   attrs = attrs;
-  needs = needs_of_wanted w;
-  deletion = deletion_of_wanted w;
-  replace = replace_of_wanted w;
+  needs = t.needs;
+  deletion = t.deletion;
+  replace = t.replace;
   status = s;
   unsure = false;
   superseded = false;
 }
 
-abbrev pub making : Pending → List ℕ → List (List ℕ × Data) → List ℕ → List (List ℕ × Data) → StackState → StackState
-making p k props physical attrs s = record s {
-  made = s.made ++ made_of p.path k physical props attrs (status_made (current_at p.path s.held)) (wanted_in s.going (seen_in s.before) p.path) ∷ [];
-}
+abbrev pub making : Terms → Pending → List ℕ → List (List ℕ × Data) → List ℕ → List (List ℕ × Data) → StackState → StackState
+making t p k props physical attrs s =
+    record s { made = s.made ++ made_of p.path k physical props attrs (status_made (current_at p.path s.held)) t ∷ [] }
 
 -- Outcome of an update and of a deletion.
 abbrev pub updating : List ℕ → List (List ℕ × Data) → List (List ℕ × Data) → Held → Held
@@ -269,30 +278,54 @@ updating physical props attrs h = record h { props = props; attrs = attrs; statu
 abbrev pub each_resource : (List Held → List Held) → StackState → StackState
 each_resource change s = record s { held = change s.held; made = change s.made }
 
-abbrev pub with_status : List ℕ → HeldStatus → StackState → StackState
-with_status physical state s = each_resource (where_physical physical (λ h. record h { status = state })) s
+abbrev pub with_status : List ℕ → HeldStatus → List Held → List Held
+with_status physical state hs = where_physical physical (λ h. record h { status = state }) hs
 
 -- the update gives a resource back what it had: its call stands in the rollback
 abbrev pub is_restore : ℕ → StackState → Bool
 is_restore token s = list_any (λ c. token == c.token) (calls_in (rollback_of s))
 
-abbrev pub answered : Pending → Request → Reply → StackState → StackState
-answered p (request.Create k props) (reply.Success physical attrs) s = making p k props physical attrs s
-answered p (request.Update id props) (reply.Success physical attrs) s = each_resource (where_physical id (updating id props attrs)) s
-answered p (request.Delete id) (reply.Success physical attrs) s = each_resource (without id) s
-answered p (request.Delete id) (reply.Failed code.NotFound) s = each_resource (without id) s
-answered p (request.Delete id) (reply.Failed c) s = with_status id held.DeleteFailed s
-answered p (request.Update id props) (reply.Failed c) s = if is_restore p.token s then with_status id held.UpdateFailed s else s
-answered p r answer s = s
+-- what the answer to an update or a deletion changes of a list of resources
+abbrev pub answered_in : Request → Reply → Bool → List Held → List Held
+answered_in (request.Update id props) (reply.Success physical attrs) restore hs = where_physical id (updating id props attrs) hs
+answered_in (request.Delete id) (reply.Success physical attrs) restore hs = without id hs
+answered_in (request.Delete id) (reply.Failed code.NotFound) restore hs = without id hs
+answered_in (request.Delete id) (reply.Failed c) restore hs = with_status id held.DeleteFailed hs
+answered_in (request.Update id props) (reply.Failed c) restore hs = if restore then with_status id held.UpdateFailed hs else hs
+answered_in r answer restore hs = hs
+
+abbrev pub answered : Terms → Pending → Request → Reply → StackState → StackState
+answered t p (request.Create k props) (reply.Success physical attrs) s = making t p k props physical attrs s
+answered t p r answer s = each_resource (answered_in r answer (is_restore p.token s)) s
+
+-- the answer changes resources as it would if this were whether the call is a restore
+abbrev pub CountsAs : Pending → Reply → Bool → Bool → Type 0
+CountsAs p answer restore counted = (hs : List Held) → answered_in p.request answer restore hs ≡ answered_in p.request answer counted hs
+
+-- before and after are what a stack holds and what it made, before and after an answer
+abbrev pub Responds : Terms → Pending → Reply → Bool → List Held × List Held → List Held × List Held → Type 0
+Responds t p answer restore before after =
+    (s : StackState) → s.held ≡ before.0 → s.made ≡ before.1 → CountsAs p answer (is_restore p.token s) restore
+    → answered t p p.request answer s ≡ record s { held = after.0; made = after.1 }
 
 -- Success and Failed close the token; a doubt leaves it open.
+abbrev pub still_open : ℕ → Reply → List Pending → List Pending
+still_open token reply.Doubt ps = ps
+still_open token _ ps = without_token token ps
+
 abbrev pub closing : ℕ → Reply → StackState → StackState
-closing token reply.Doubt s = s
-closing token _ s = record s { tokens = without_token token s.tokens }
+closing token answer s = record s { tokens = still_open token answer s.tokens }
+
+-- the answer to an open token, where a create has these policies and needs
+abbrev pub replied_with : Terms → ℕ → Reply → Option Pending → StackState → StackState
+replied_with t token answer None s = s
+replied_with t token answer (Some p) s = closing token answer (answered t p p.request answer s)
+
+abbrev pub terms_for : Option Pending → StackState → Terms
+terms_for p s = option_map_or (λ q. terms_at q.path s) p (terms_of None)
 
 abbrev pub replied : ℕ → Reply → Option Pending → StackState → StackState
-replied token answer None s = s
-replied token answer (Some p) s = closing token answer (answered p p.request answer s)
+replied token answer p s = replied_with (terms_for p s) token answer p s
 
 -- Kept: the resource leaves its list and is a leftover; an open token on it is given up. Without an id it stands for the open create of its path.
 abbrev pub keeping_known : List ℕ → List ℕ → Why → StackState → StackState
@@ -411,14 +444,14 @@ abbrev pub done_over : List ℕ → Status → StackState → World → World
 done_over name state s x =
     record x { pins = pins_ended name state s x.pins; exports = exports_ended name state s x.exports; claims = repinned name [] x.claims }
 
-abbrev pub over : (List ℕ → StackState → World → World) → Option (List ℕ × StackState) → World → World
+abbrev pub over : {A : Type 0} → (List ℕ → StackState → A → A) → Option (List ℕ × StackState) → A → A
 over change None x = x
 over change (Some s) x = change s.0 s.1 x
 
 -- an operation begins on a stack
-abbrev pub begun_over : ℕ → List ℕ → Begun → StackState → World → World
-begun_over number name k s x = record x {
-  stacks = put name (heard (x.place + 1) (entry.Begin number name k) s (beginning name number k s)) x.stacks;
+abbrev pub begun_over : ℕ → ℕ → List ℕ → Begun → StackState → World → World
+begun_over place number name k s x = record x {
+  stacks = put name (heard place (entry.Begin number name k) s (beginning name number k s)) x.stacks;
   operation = number;
   pins = pins_begun name k x.pins;
   claims = claims_begun name (creating_number k number s) (seen_in s.held) k x.claims;
@@ -426,42 +459,39 @@ begun_over number name k s x = record x {
 }
 
 -- A create makes its stack; every other operation changes nothing where there is none.
-abbrev pub begun_on : ℕ → List ℕ → Begun → World → World
-begun_on number name (begin.Create source) x = begun_over number name (begin.Create source) (known_stack name x) x
-begun_on number name k x = option_map_or (λ s. begun_over number name k s x) (stack_at name x) (record x { operation = number })
+abbrev pub begun_on : ℕ → ℕ → List ℕ → Begun → World → World
+begun_on place number name (begin.Create source) x = begun_over place number name (begin.Create source) (known_stack name x) x
+begun_on place number name k x = option_map_or (λ s. begun_over place number name k s x) (stack_at name x) (record x { operation = number })
 
--- the world after one entry
-abbrev pub changed_by : World → Entry → World
-changed_by x (entry.Opened epoch lanes) =
-    record x {
-      epoch = epoch;
-      lanes = lanes;
-      stacks = map
-          (λ s. (s.0, record s.1 { entries = s.1.entries ++ entry.Opened epoch lanes ∷ [] })) x.stacks;
-    }
-changed_by x (entry.Begin number name k) = begun_on number name k x
-changed_by x (entry.Kept number path physical w) = on_stack (x.place + 1) number (entry.Kept number path physical w) (keeping path physical w) x
-changed_by x (entry.Intent number token lane path r) =
-    on_stack (x.place + 1) number (entry.Intent number token lane path r)
+-- every stack hears of an opening
+abbrev pub joined : Entry → List (List ℕ × StackState) → List (List ℕ × StackState)
+joined e stacks = map (λ s. (s.0, record s.1 { entries = s.1.entries ++ e ∷ [] })) stacks
+
+-- a change set joins the others of its stack
+abbrev pub set_on : ℕ → List ℕ → KeptSet → World → World
+set_on place name set x =
+    record x { set = set.number; stacks = put name (set_heard place (known_stack name x) (with_set set (known_stack name x))) x.stacks }
+
+-- the world after one entry, which stands at this place
+abbrev pub changed_by : ℕ → World → Entry → World
+changed_by place x (entry.Opened epoch lanes) = record x { epoch = epoch; lanes = lanes; stacks = joined (entry.Opened epoch lanes) x.stacks }
+changed_by place x (entry.Begin number name k) = begun_on place number name k x
+changed_by place x (entry.Kept number path physical w) = on_stack place number (entry.Kept number path physical w) (keeping path physical w) x
+changed_by place x (entry.Intent number token lane path r) =
+    on_stack place number (entry.Intent number token lane path r)
     (λ s. record s { tokens = s.tokens ++ record { token = token; path = path; lane = lane; request = r } ∷ [] })
     (record x { token = token })
-changed_by x (entry.Outcome number token answer before after) =
-    on_stack (x.place + 1) number (entry.Outcome number token answer before after) (λ s. replied token answer (pending_of token s) s) x
-changed_by x (entry.Phase number p cause) =
-    over (λ name s y. phase_over name p s y) (stack_of_operation number x) (on_stack (x.place + 1) number (entry.Phase number p cause) (turning p) x)
-changed_by x (entry.Done number state failed) =
-    over (λ name s y. done_over name state s y) (stack_of_operation number x) (on_stack (x.place + 1) number (entry.Done number state failed) (ended state) x)
-changed_by x (entry.ChangeSet number name source rows outputs) = record x {
-  set = number;
-  stacks =
-      put name
-      (set_heard (x.place + 1) (known_stack name x)
-      (with_set (record { number = number; source = source_for name 0 source; rows = rows; outputs = outputs }) (known_stack name x)))
-      x.stacks;
-}
+changed_by place x (entry.Outcome number token answer before after) =
+    on_stack place number (entry.Outcome number token answer before after) (λ s. replied token answer (pending_of token s) s) x
+changed_by place x (entry.Phase number p cause) =
+    over (λ name s y. phase_over name p s y) (stack_of_operation number x) (on_stack place number (entry.Phase number p cause) (turning p) x)
+changed_by place x (entry.Done number state failed) =
+    over (λ name s y. done_over name state s y) (stack_of_operation number x) (on_stack place number (entry.Done number state failed) (ended state) x)
+changed_by place x (entry.ChangeSet number name source rows outputs) =
+    set_on place name (record { number = number; source = source_for name 0 source; rows = rows; outputs = outputs }) x
 
 abbrev pub world_after : World → Entry → World
-world_after x e = counted (changed_by x e)
+world_after x e = counted (changed_by (x.place + 1) x e)
 
 -- the world after these entries
 abbrev pub fold_of : World → List Entry → World

@@ -3,3 +3,4 @@ pub mod Words
 pub mod Operation
 pub mod Event
 pub mod Fold
+pub mod Changing

@@ -1,6 +1,9 @@
 //! What a stack holds, and what is open or left over.
+ghost use Rattle.std.specs.Prelude.{◌≡◌, IfOk};
+
 use cf_entry::Why;
-use cf_tree::{Deletion, Dict, Listing, Names, Replace, Request, Rows, Source, Txt};
+use cf_tree::{Deletion, Dict, Listing, Names, Replace, Request, Rows, Source, TryClone, Txt};
+use std::alloc::{AllocError, Global};
 
 /// The status of a held resource (User Guide, resource status codes).
 #[derive(Clone, Copy, Debug, PartialEq, Eq)]
@@ -80,3 +83,27 @@ pub struct KeptSet {
 
 /// Change sets in the order of their numbers.
 pub type KeptSets = Listing<KeptSet>;
+
+impl TryClone for Held {
+    fn try_clone(&self, alloc: Global) -> Result<Held, AllocError> {
+        let path = self.path.try_clone(alloc)?;
+        let kind = self.kind.try_clone(alloc)?;
+        let physical = self.physical.try_clone(alloc)?;
+        let props = self.props.try_clone(alloc)?;
+        let attrs = self.attrs.try_clone(alloc)?;
+        let needs = self.needs.try_clone(alloc)?;
+        Ok(Held {
+            path,
+            kind,
+            physical,
+            props,
+            attrs,
+            needs,
+            deletion: self.deletion,
+            replace: self.replace,
+            status: self.status,
+            unsure: self.unsure,
+            superseded: self.superseded,
+        })
+    }
+}

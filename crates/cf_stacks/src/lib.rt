@@ -1,12 +1,36 @@
 //! What a journal's entries leave of each stack: the types, the calls that read them, and in `specs/` the fold.
 #![tactic(auto)]
 
+mod answers;
+mod beginning;
+mod begun;
+mod changes;
+mod completing;
+mod ending;
+mod events;
+mod fault;
+mod going;
 mod held;
+mod outcomes;
+mod own;
+mod pinned;
+mod seen;
 mod state;
+mod statuses;
+mod steps;
+mod terms;
+#[cfg(test)]
+mod tests;
+mod told;
+mod world;
 
 pub use cf_export::{Output, Outputs};
+pub use fault::StepFault;
+pub use going::Going;
 pub use held::{
     Abandoned, GivenUp, Held, HeldStatus, Helds, KeptSet, KeptSets, Leftover, Leftovers, Pending,
     Pendings,
 };
 pub use state::{StackState, Stacks, World};
+pub use terms::Terms;
+pub use world::fold;

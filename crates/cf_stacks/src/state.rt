@@ -2,6 +2,7 @@
 ghost use Rattle.std.specs.Prelude.{◌≡◌};
 ghost use Rattle.std.specs.Option.{option_copied};
 
+use crate::going::Going;
 use crate::held::{Abandoned, Helds, KeptSets, Leftovers, Pendings};
 use cf_entry::{Entries, LaneNames, Status};
 use cf_export::{Exports, Outputs, Pins};
@@ -26,7 +27,7 @@ pub struct StackState {
     /// The source that was completed last.
     pub source: Option<Source>,
     /// The source of its last create or update.
-    pub going: Option<Source>,
+    pub going: Option<Going>,
     pub outputs: Outputs,
     pub sets: KeptSets,
     /// The lines that `events` prints.
@@ -191,7 +192,10 @@ impl StackState {
     pub fn going(&self) -> Option<&Source>
         ensures { option_copied result ≡ self.now.going }
     {
-        self.going.as_ref()
+        match &self.going {
+            Some(going) => Some(going.source()),
+            None => None,
+        }
     }
 
     /// Its outputs.

@@ -1,0 +1,5 @@
+use Rattle.cf_desired.proofs.StaysWhole.{known_whole}
+use Rattle.cf_desired.proofs.laws.all_known_is_whole.Goals as goal
+
+pub returns : goal.returns
+returns c = known_whole

@@ -1,0 +1,5 @@
+use Rattle.cf_desired.proofs.StaysKept.{known_kept}
+use Rattle.cf_desired.proofs.laws.known_stays.Goals as goal
+
+pub returns : goal.returns
+returns c = known_kept

@@ -1,0 +1,5 @@
+use Rattle.cf_desired.proofs.StaysFilled.{needed_known}
+use Rattle.cf_desired.proofs.laws.needed_is_known.Goals as goal
+
+pub returns : goal.returns
+returns c = needed_known

@@ -1,0 +1,5 @@
+use Rattle.cf_desired.proofs.StaysRests.{needs_suffice}
+use Rattle.cf_desired.proofs.laws.needs_matter.Goals as goal
+
+pub returns : goal.returns
+returns c = needs_suffice

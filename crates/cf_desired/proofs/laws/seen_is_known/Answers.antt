@@ -1,0 +1,5 @@
+use Rattle.cf_desired.proofs.StaysClear.{seen_known}
+use Rattle.cf_desired.proofs.laws.seen_is_known.Goals as goal
+
+pub returns : goal.returns
+returns c = seen_known

@@ -1,0 +1,280 @@
+-- A create stays right as calls are written down and answered.
+use Rattle.std.proofs.Common.{◌≡◌, ℕ, ◌==◌, List, [], ◌∷◌, ◌++◌, Bool, true, false, not, ◌&&◌, ◌||◌, Option, Some, None, refl, sym, ap, subst, ◌∙◌, true≢false, filter, find}
+use Rattle.std.specs.Prelude.{cond}
+use Rattle.std.specs.List.{list_any}
+use Rattle.std.specs.Str.{bytes_eq}
+use Rattle.std.proofs.lemmas.Slice.Eq.{bytes_eq-Decides}
+use Rattle.std.proofs.lemmas.List.Elements.{filter-append, filter_map-append}
+use Rattle.std.proofs.lemmas.List.Folds.{list_any-append}
+use Rattle.cf_tree.specs.Datum.{Data}
+use Rattle.cf_tree.specs.declared.request.Request.{Request}
+use Rattle.cf_tree.specs.declared.request.Request.TheVariants as request
+use Rattle.cf_tree.specs.declared.source.Source.{Source}
+use Rattle.cf_entry.specs.declared.entry.Entry.{Entry}
+use Rattle.cf_entry.specs.declared.entry.Entry.TheVariants as entry
+use Rattle.cf_entry.specs.declared.entry.Begun.TheVariants as begin
+use Rattle.cf_entry.specs.declared.entry.Reply.{Reply}
+use Rattle.cf_entry.specs.declared.entry.Reply.TheVariants as reply
+use Rattle.cf_stacks.specs.declared.held.Held.{Held}
+use Rattle.cf_stacks.specs.declared.held.Pending.{Pending}
+use Rattle.cf_stacks.specs.declared.state.StackState.{StackState}
+use Rattle.cf_stacks.specs.declared.terms.Terms.{Terms}
+use Rattle.cf_stacks.specs.Words.{current_at, is_current_at, has_token, pending_of, without_token, is_update}
+use Rattle.cf_stacks.specs.Operation.{calls_in, call_in, is_of}
+use Rattle.cf_stacks.specs.Event.{lines_of}
+use Rattle.cf_stacks.specs.Fold.{is_open_call, seen_in, made_of, status_made, heard, replied, terms_for, answered, closing}
+use Rattle.cf_plan.specs.Forward.{In, here, there, Known, evaluated_at, IsDone, is_made}
+use Rattle.cf_plan.specs.Follow.{is_free}
+use Rattle.cf_plan.specs.Created.{has_update, IsCreating, IsSaid, IsRightCreate, intending, BeginsRight, OpeningStaysRight, IntentStaysRight, OutcomeStaysRight}
+use Rattle.cf_plan.proofs.CreatedSeen.{more_shown}
+use Rattle.cf_plan.proofs.CreatedStays.{said_now, found_stays, in_more, found_in_more, found_still, found_one}
+
+pub first_not : (a b : Bool) → (a || b) ≡ false → a ≡ false
+first_not true b h = h
+first_not false b h = refl
+
+pub second_not : (a b : Bool) → (a || b) ≡ false → b ≡ false
+second_not true b h = absurd (true≢false h)
+second_not false b h = h
+
+pub not_so : (b : Bool) → not b ≡ true → b ≡ false
+not_so true h = sym h
+not_so false h = refl
+
+-- an entry that writes no update down, whether it is taken or not
+abbrev WritesNone : Entry → Type 0
+WritesNone e = (b : Bool) → has_update (cond b (e ∷ []) []) ≡ false
+
+-- entries have no update where one more is none
+no_more : (t : Entry → Bool) (es : List Entry) (e : Entry) → WritesNone e → has_update (filter t es) ≡ false → has_update (filter t (es ++ e ∷ [])) ≡ false
+no_more t es e n h =
+    ap has_update (filter-append t es (e ∷ []))
+    ∙ ap (λ cs. list_any (λ c. is_update c.request) cs) (filter_map-append call_in (filter t es) (cond (t e) (e ∷ []) []))
+    ∙ list_any-append (λ c. is_update c.request) (calls_in (filter t es)) (calls_in (cond (t e) (e ∷ []) []))
+    ∙ ap (λ b. b || has_update (cond (t e) (e ∷ []) [])) h ∙ n (t e)
+
+create_none : (number token : ℕ) (lane path k : List ℕ) (props : List (List ℕ × Data)) → WritesNone (entry.Intent number token lane path (request.Create k props))
+create_none number token lane path k props true = refl
+create_none number token lane path k props false = refl
+
+outcome_none : (number token before after : ℕ) (answer : Reply) → WritesNone (entry.Outcome number token answer before after)
+outcome_none number token before after answer true = refl
+outcome_none number token before after answer false = refl
+
+-- what is true of no member of a list
+pub none_of : {A : Type 0} (test : A → Bool) (xs : List A) (x : A) → list_any test xs ≡ false → In x xs → test x ≡ false
+none_of test (y ∷ xs) x h here = first_not (test x) (list_any test xs) h
+none_of test (y ∷ xs) x h (there i) = none_of test xs x (second_not (test y) (list_any test xs) h) i
+none_of test [] x h i = elim i [ ]
+
+pub in_filter : {A : Type 0} (test : A → Bool) (xs : List A) (x : A) → In x (filter test xs) → In x xs × (test x ≡ true)
+in_filter test [] x i = elim i [ ]
+in_filter {A} test (y ∷ xs) x i = by_test (test y) refl i (in_filter test xs x) where
+  passed : test y ≡ true → (z : A) (zs : List A) → In x (z ∷ zs) → z ≡ y → (In x zs → In x xs × (test x ≡ true)) → In x (y ∷ xs) × (test x ≡ true)
+  passed e z zs here s ih = (subst (λ w. In z (w ∷ xs)) s here, ap test s ∙ e)
+  passed e z zs (there j) s ih = let k = ih j in (there k.0, k.1)
+
+  by_test : (b : Bool) → test y ≡ b → In x (cond b (y ∷ filter test xs) (filter test xs)) → (In x (filter test xs) → In x xs × (test x ≡ true)) → In x (y ∷ xs) × (test x ≡ true)
+  by_test true e j ih = passed e y (filter test xs) j refl ih
+  by_test false e j ih = let k = ih j in (there k.0, k.1)
+
+none_found : {A : Type 0} (test : A → Bool) (xs : List A) (x : A) → test x ≡ false → find test xs ≡ None → find test (xs ++ x ∷ []) ≡ None
+none_found test [] x t n = ap (λ b. cond b (Some x) None) t
+none_found test (y ∷ xs) x t n = by_test (test y) n (none_found test xs x t) where
+  by_test : (b : Bool) → cond b (Some y) (find test xs) ≡ None → (find test xs ≡ None → find test (xs ++ x ∷ []) ≡ None) → cond b (Some y) (find test (xs ++ x ∷ [])) ≡ None
+  by_test true m ih = let no : ⊥ = cc in absurd no
+  by_test false m ih = ih m
+
+-- what the template says of paths stays
+abbrev SaysStill : StackState → StackState → Type 0
+SaysStill s t = (path k : List ℕ) (props : List (List ℕ × Data)) → evaluated_at path s ≡ Known k props → evaluated_at path t ≡ Known k props
+
+said_still : (s t : StackState) → SaysStill s t → (path : List ℕ) (r : Request) → IsSaid s path r → IsSaid t path r
+said_still s t h path (request.Create k props) e = h path k props e
+said_still s t h path (request.Update physical props) e = e
+said_still s t h path (request.Delete physical) e = e
+
+-- a path without an open call is not that of one
+pub free_path : (path : List ℕ) (ps : List Pending) (p : Pending) → not (list_any (λ q. bytes_eq path q.path) ps) ≡ true → In p ps → p.path ≡ path → ⊥
+free_path path ps p h i e =
+    true≢false (sym ((bytes_eq-Decides path p.path).1 (sym e)) ∙ none_of (λ q. bytes_eq path q.path) ps p (not_so _ h) i)
+
+intended_right :
+    (source : Source) (s : StackState) → IsRightCreate source s → (place number token : ℕ) (lane path k : List ℕ) (props : List (List ℕ × Data))
+    → is_free path s ≡ true → current_at path s.made ≡ None → evaluated_at path s ≡ Known k props
+    → IsRightCreate source (heard place (entry.Intent number token lane path (request.Create k props)) s (intending token lane path (request.Create k props) s))
+intended_right source s h place number token lane path k props free none said =
+    let r : Request = request.Create k props in
+    let n : Pending = record { token = token; path = path; lane = lane; request = r } in (
+      record {
+        going = h.0.going;
+        flat = h.0.flat;
+        none_held = h.0.none_held;
+        no_update = no_more (is_of s.operation) s.entries (entry.Intent number token lane path r) (create_none number token lane path k props) h.0.no_update;
+      },
+      record {
+        single = h.1.single;
+        right = h.1.right;
+        said = in_more (λ p. IsSaid s p.path p.request) n s.tokens h.1.said said;
+        unmade = in_more (λ p. current_at p.path s.made ≡ None) n s.tokens h.1.unmade none;
+        apart = λ p q i j.
+            in_more (λ x. x.path ≡ q.path → x.token ≡ q.token) n s.tokens
+            (λ x a. in_more (λ y. x.path ≡ y.path → x.token ≡ y.token) n s.tokens (λ y b. h.1.apart x y a b) (λ e. absurd (free_path path s.tokens x free a e)) q j)
+            (in_more (λ y. path ≡ y.path → token ≡ y.token) n s.tokens (λ y b e. absurd (free_path path s.tokens y free b (sym e))) (λ e. refl) q j)
+            p i;
+      },
+    )
+
+-- at a path that is not done nothing is made
+not_made : (path : List ℕ) (s : StackState) → (IsDone s path → ⊥) → current_at path s.made ≡ None
+not_made path s n = by_found (current_at path s.made) refl where
+  by_found : (o : Option Held) → current_at path s.made ≡ o → o ≡ None
+  by_found None e = refl
+  by_found (Some r) e = absurd (n (is_made r e))
+
+pub intent_right : IntentStaysRight
+intent_right schemas name x out source s h place number token lane path (request.Create k props) may =
+    intended_right source s h place number token lane path k props may.free (not_made path s may.chosen.2) may.chosen.3.0
+intent_right schemas name x out source s h place number token lane path (request.Update physical props) may =
+    let held : None ≡ Some may.chosen.3.0 = sym (ap (current_at path) h.0.none_held) ∙ may.chosen.3.1 in
+    let no : ⊥ = cc in absurd no
+intent_right schemas name x out source s h place number token lane path (request.Delete physical) may = absurd may.chosen.3
+
+module _ (source : Source) (s : StackState) (h : IsRightCreate source s) (e : Entry) (n : WritesNone e) (events : List (List ℕ)) where
+  -- the stack with fewer open calls, and with one more that is made
+  abbrev with_tokens : List Pending → StackState
+  with_tokens ts = record s { tokens = ts; entries = s.entries ++ e ∷ []; events = events }
+
+  abbrev with_made : Held → List Pending → StackState
+  with_made m ts = record s { made = s.made ++ m ∷ []; tokens = ts; entries = s.entries ++ e ∷ []; events = events }
+
+  fewer : (ts : List Pending) → ((q : Pending) → In q ts → In q s.tokens) → IsRightCreate source (with_tokens ts)
+  fewer ts sub = (
+    record { going = h.0.going; flat = h.0.flat; none_held = h.0.none_held; no_update = no_more (is_of s.operation) s.entries e n h.0.no_update },
+    record {
+      single = h.1.single;
+      right = h.1.right;
+      said = λ q i. h.1.said q (sub q i);
+      unmade = λ q i. h.1.unmade q (sub q i);
+      apart = λ q r i j. h.1.apart q r (sub q i) (sub r j);
+    },
+  )
+
+  module _ (token : ℕ) (p : Pending) (i : In p s.tokens) (named : has_token token p ≡ true) where
+    -- another open call is at another path
+    elsewhere : (q : Pending) → In q (without_token token s.tokens) → (b : Bool) → bytes_eq q.path p.path ≡ b → b ≡ false
+    elsewhere q j false d = refl
+    elsewhere q j true d =
+        let k = in_filter (λ x. not (has_token token x)) s.tokens q j in
+        let same : q.token ≡ p.token = h.1.apart q p k.0 i ((bytes_eq-Decides q.path p.path).0 d) in
+        sym (ap (λ t. token == t) same ∙ named) ∙ not_so _ k.1
+
+    made_one :
+        (k physical : List ℕ) (props attrs : List (List ℕ × Data)) (t : Terms) → evaluated_at p.path s ≡ Known k props
+        → IsRightCreate source (with_made (made_of p.path k physical props attrs (status_made (current_at p.path s.held)) t) (without_token token s.tokens))
+    made_one k physical props attrs t said =
+        let m : Held = made_of p.path k physical props attrs (status_made (current_at p.path s.held)) t in
+        let after : StackState = with_made m (without_token token s.tokens) in
+        let creating : IsCreating source after =
+        record { going = h.0.going; flat = h.0.flat; none_held = h.0.none_held; no_update = no_more (is_of s.operation) s.entries e n h.0.no_update } in
+        let stays : SaysStill s after =
+        λ path l ps d.
+        said_now source after creating path
+        ∙ found_stays source h.0.flat (seen_in s.made) (seen_in (s.made ++ m ∷ [])) (more_shown s.made (m ∷ [])) path l ps
+        (sym (said_now source s h.0 path) ∙ d) in (
+          creating,
+          record {
+            single =
+                in_more (λ r. current_at r.path after.made ≡ Some r) m s.made
+                (λ r j. found_still (is_current_at r.path) s.made (m ∷ []) r (h.1.single r j))
+                (found_in_more (is_current_at p.path) s.made m (ap (λ b. b && true) ((bytes_eq-Decides p.path p.path).1 refl)) (h.1.unmade p i));
+            right =
+                in_more (λ r. evaluated_at r.path after ≡ Known r.kind r.props) m s.made (λ r j. stays r.path r.kind r.props (h.1.right r j))
+                (stays p.path k props said);
+            said = λ q j. said_still s after stays q.path q.request (h.1.said q ((in_filter (λ x. not (has_token token x)) s.tokens q j).0));
+            unmade = λ q j.
+                none_found (is_current_at q.path) s.made m (ap (λ b. b && true) (elsewhere q j (bytes_eq q.path p.path) refl))
+                (h.1.unmade q ((in_filter (λ x. not (has_token token x)) s.tokens q j).0));
+            apart = λ q r j l.
+                h.1.apart q r ((in_filter (λ x. not (has_token token x)) s.tokens q j).0) ((in_filter (λ x. not (has_token token x)) s.tokens r l).0);
+          },
+        )
+
+module _ (source : Source) (s : StackState) (h : IsRightCreate source s) (place number token before after : ℕ) (answer : Reply) where
+  abbrev told : Entry
+  told = entry.Outcome number token answer before after
+
+  abbrev lines : List (List ℕ)
+  lines = s.events ++ lines_of place told s
+
+  without_one : (q : Pending) → In q (without_token token s.tokens) → In q s.tokens
+  without_one q j = (in_filter (λ x. not (has_token token x)) s.tokens q j).0
+
+  by_answer :
+      (a : Reply) (t : Terms) (p : Pending) (k : List ℕ) (props : List (List ℕ × Data)) → In p s.tokens → has_token token p ≡ true
+      → evaluated_at p.path s ≡ Known k props → IsRightCreate source (heard place told s (closing token a (answered t p (request.Create k props) a s)))
+  by_answer (reply.Success physical attrs) t p k props i named said =
+      made_one source s h told (outcome_none number token before after answer) lines token p i named k physical props attrs t said
+  by_answer (reply.Failed c) t p k props i named said =
+      fewer source s h told (outcome_none number token before after answer) lines (without_token token s.tokens) without_one
+  by_answer reply.Doubt t p k props i named said = fewer source s h told (outcome_none number token before after answer) lines s.tokens (λ q j. j)
+
+  by_request :
+      (r : Request) (t : Terms) (p : Pending) → In p s.tokens → has_token token p ≡ true → IsSaid s p.path r
+      → IsRightCreate source (heard place told s (closing token answer (answered t p r answer s)))
+  by_request (request.Create k props) t p i named said = by_answer answer t p k props i named said
+  by_request (request.Update physical props) t p i named said = absurd said
+  by_request (request.Delete physical) t p i named said = absurd said
+
+  by_pending : (o : Option Pending) → pending_of token s ≡ o → IsRightCreate source (heard place told s (replied token answer o s))
+  by_pending None d = fewer source s h told (outcome_none number token before after answer) lines s.tokens (λ q j. j)
+  by_pending (Some p) d =
+      let one = found_one (has_token token) s.tokens p d in
+      by_request p.request (terms_for (Some p) s) p one.0 one.1 (h.1.said p one.0)
+
+pub outcome_right : OutcomeStaysRight
+outcome_right source s h place number token before after answer = by_pending source s h place number token before after answer (pending_of token s) refl
+
+pub opening_right : OpeningStaysRight
+opening_right source s h epoch lanes = fewer source s h (entry.Opened epoch lanes) opened_none s.events s.tokens (λ q j. j) where
+  opened_none : WritesNone (entry.Opened epoch lanes)
+  opened_none true = refl
+  opened_none false = refl
+
+-- without an open call none of the entries is kept
+not_open : (e : Entry) → is_open_call [] e ≡ false
+not_open (entry.Opened epoch lanes) = refl
+not_open (entry.Begin number name k) = refl
+not_open (entry.Kept number path physical w) = refl
+not_open (entry.Intent number token lane path r) = refl
+not_open (entry.Outcome number token answer before after) = refl
+not_open (entry.Phase number p c) = refl
+not_open (entry.Done number state failed) = refl
+not_open (entry.ChangeSet number name source rows outputs) = refl
+
+pub none_kept : (es : List Entry) → filter (is_open_call []) es ≡ []
+none_kept [] = refl
+none_kept (e ∷ es) = ap (λ b. cond b (e ∷ filter (is_open_call []) es) (filter (is_open_call []) es)) (not_open e) ∙ none_kept es
+
+pub begun_right : BeginsRight
+begun_right name place number source s flat none_held none_open =
+    let none : (A : Type 0) → (p : Pending) → In p s.tokens → A = λ A p i. absurd (elim (subst (In p) none_open i) [ ]) in (
+      record {
+        going = refl;
+        flat = flat;
+        none_held = none_held;
+        no_update =
+            no_more (is_of number) (filter (is_open_call s.tokens) s.entries) (entry.Begin number name (begin.Create source)) begin_none
+            (ap (λ es. has_update (filter (is_of number) es)) (ap (λ ts. filter (is_open_call ts) s.entries) none_open ∙ none_kept s.entries));
+      },
+      record {
+        single = λ r i. elim i [ ];
+        right = λ r i. elim i [ ];
+        said = λ p i. none _ p i;
+        unmade = λ p i. none _ p i;
+        apart = λ p q i j. none _ p i;
+      },
+    ) where
+      begin_none : WritesNone (entry.Begin number name (begin.Create source))
+      begin_none true = refl
+      begin_none false = refl

@@ -1,0 +1,249 @@
+-- An outcome keeps what a run of a creation keeps: the call is settled on its lane, and the stack hears the answer.
+use Rattle.std.proofs.Common.{◌≡◌, inl, inr, ℕ, ◌+◌, ◌<◌, List, [], true, Option, Some, None, refl, sym, ap, subst, ◌∙◌, true≢false, length, option_and_then}
+use Rattle.std.specs.Prelude.{slice_index_or, slice_set, ⊤}
+use Rattle.std.specs.List.{list_all}
+use Rattle.std.specs.Str.{bytes_eq}
+use Rattle.std.proofs.lemmas.List.{set-get_or}
+use Rattle.std.proofs.lemmas.Bool.{eqb-true}
+use Rattle.cf_tree.specs.Datum.{Data}
+use Rattle.cf_tree.specs.Named.{all_differ}
+use Rattle.cf_tree.specs.declared.request.Request.{Request}
+use Rattle.cf_tree.specs.declared.request.Request.TheVariants as request
+use Rattle.cf_tree.specs.declared.request.Answer.TheVariants as answer
+use Rattle.cf_tree.specs.declared.code.Code.TheVariants as code
+use Rattle.cf_tree.specs.declared.source.Source.{Source}
+use Rattle.cf_schema.specs.declared.described.Schema.{Schema}
+use Rattle.cf_handler.specs.declared.settled.Settlement.{Settlement}
+use Rattle.cf_handler.specs.declared.settled.Settlement.TheVariants.{Success, Failed}
+use Rattle.cf_handler.specs.Lane.{LaneState, settlement_of}
+use Rattle.cf_handler.specs.Move.{CallTells, LaneMove, Settles, SettlesBy, with_settled}
+use Rattle.cf_handler.specs.Name.{is_lane_name}
+use Rattle.cf_entry.specs.declared.entry.Entry.{Entry}
+use Rattle.cf_entry.specs.declared.entry.Entry.TheVariants as entry
+use Rattle.cf_entry.specs.declared.entry.Reply.{Reply}
+use Rattle.cf_entry.specs.declared.entry.Reply.TheVariants as reply
+use Rattle.cf_stacks.specs.declared.held.Held.{Held}
+use Rattle.cf_stacks.specs.declared.held.HeldStatus.TheVariants as held
+use Rattle.cf_stacks.specs.declared.held.Leftover.{Leftover}
+use Rattle.cf_stacks.specs.declared.held.Pending.{Pending}
+use Rattle.cf_stacks.specs.declared.state.StackState.{StackState}
+use Rattle.cf_stacks.specs.declared.state.World.{World}
+use Rattle.cf_stacks.specs.declared.terms.Terms.{Terms}
+use Rattle.cf_stacks.specs.Status.{is_in_progress}
+use Rattle.cf_stacks.specs.Words.{current_at, is_update, is_create, has_token, pending_of, without}
+use Rattle.cf_stacks.specs.Fold.{heard, made_of, status_made, answered, closing, replied, terms_for, with_status, world_after}
+use Rattle.cf_plan.specs.Forward.{In}
+use Rattle.cf_plan.specs.Created.{IsRightCreate, IsSaid}
+use Rattle.cf_plan.specs.Run.{Told, IsDone, IsAsked, answer_as}
+use Rattle.cf_plan.specs.Keeping.{Tells, name_at, IsSettledAs, Agree, AreAlive, IsOnItsWay, makes, takes_back, IsKept}
+use Rattle.cf_plan.proofs.CreatedStays.{found_one}
+use Rattle.cf_plan.proofs.CreatedRight.{outcome_right}
+use Rattle.cf_plan.proofs.RunLanes.{settled_now}
+use Rattle.cf_plan.proofs.KeepingSettle.{agree_settled, alive_settled, here_now}
+use Rattle.cf_plan.proofs.KeepingTold.{agree_refused, agree_created, alive_created, alive_refused, agree_deleted, agree_undeleted}
+use Rattle.cf_plan.proofs.KeepingWorld.{kept_with}
+
+-- every open call makes
+abbrev AllCreate : List Pending → Type 0
+AllCreate ps = (q : Pending) → In q ps → is_create q.request ≡ true
+
+-- What the lanes tell once an open call was answered: they agree with the stack, and the call is settled so.
+pub record Acted (names : List (List ℕ)) (began told now : Told) (made : List Held) (tokens : List Pending) (leftovers : List Leftover) (last : ℕ) : Type 0 where
+  pub agree : Agree names began now made tokens leftovers last
+  pub alive : AreAlive names told made tokens → AllCreate tokens → AreAlive names now made tokens
+
+pub record Settled (names : List (List ℕ)) (now : Told) (p : Pending) (s : Settlement) : Type 0 where
+  pub place : ℕ
+  pub lane : LaneState
+  pub settled : IsSettledAs names now p place lane s
+
+module _ (names : List (List ℕ)) (began told : Told) (made : List Held) (tokens : List Pending) (leftovers : List Leftover) (last : ℕ)
+    (h : Agree names began told made tokens leftovers last) (lanes_named : list_all is_lane_name names ≡ true) (lanes_differ : all_differ bytes_eq names ≡ true)
+    (p : Pending) (i : In p tokens) (k : ℕ) (named : name_at names k ≡ p.lane) (lane after : LaneState) (tells : Tells told k lane) (now : Told)
+    (moves : now ≡ slice_set told k (Some after)) where
+  -- a lane that didn't move
+  quiet : after ≡ lane → Acted names began told now made tokens leftovers last × (now ≡ told)
+  quiet e =
+      let same : now ≡ told = moves ∙ ap (λ l. slice_set told k (Some l)) e ∙ ap (slice_set told k) (sym tells) ∙ set-get_or told k None in (
+        record {
+          agree = subst (λ t. Agree names began t made tokens leftovers last) (sym same) h;
+          alive = λ all creates. subst (λ t. AreAlive names t made tokens) (sym same) all;
+        },
+        same,
+      )
+
+  settled_by : (s : Settlement) (o : Option Settlement) → settlement_of p.token lane.settled ≡ o → SettlesBy o (name_at names k) lane after p.token p.request s → Acted names began told now made tokens leftovers last × Settled names now p s
+  settled_by s (Some earlier) e m =
+      let q = quiet m.1 in (
+        q.0,
+        record {
+          place = k;
+          lane = lane;
+          settled = record { tells = ap (λ t. slice_index_or t k None) q.1 ∙ tells; named = named; settled = e ∙ ap (λ t. Some t) (sym m.0) };
+        },
+      )
+  settled_by s None e m =
+      let same : slice_set told k (Some (with_settled lane (record { token = p.token; request = p.request; settlement = s }))) ≡ now = ap (λ l. slice_set told k (Some l)) (sym m.1) ∙ sym moves in (
+        record {
+          agree = subst (λ t. Agree names began t made tokens leftovers last) same (agree_settled names began told made tokens leftovers last h lanes_named lanes_differ p i k lane tells named s e m.0);
+          alive = λ all creates. subst (λ t. AreAlive names t made tokens) same (alive_settled names began told made tokens leftovers last h lanes_named lanes_differ p i k lane tells named s e m.0 all creates);
+        },
+        record {
+          place = k;
+          lane = with_settled lane (record { token = p.token; request = p.request; settlement = s });
+          settled = record {
+            tells = ap (λ t. slice_index_or t k None) (sym same) ∙ here_now names began told made tokens leftovers last h lanes_named lanes_differ p i k lane tells named s e m.0;
+            named = named;
+            settled = settled_now p.token lane.settled (record { token = p.token; request = p.request; settlement = s }) refl e;
+          };
+        },
+      )
+
+  pub settled_so : (s : Settlement) → Settles (name_at names k) lane after p.token p.request s → Acted names began told now made tokens leftovers last × Settled names now p s
+  settled_so s m = settled_by s (settlement_of p.token lane.settled) refl m
+
+  -- a fault may have settled the call or not
+  pub acted_fault : LaneMove (name_at names k) lane after p.token p.request answer.Fault → Acted names began told now made tokens leftovers last
+  acted_fault (inl e) = (quiet e).0
+  acted_fault (inr (s, fresh, m)) = (settled_so s m).0
+
+-- each open call of a create makes
+all_create : (source : Source) (s : StackState) → IsRightCreate source s → AllCreate s.tokens
+all_create source s right q i = by_request q.request (right.1.said q i) where
+  by_request : (r : Request) → IsSaid s q.path r → is_create r ≡ true
+  by_request (request.Create kind props) said = refl
+  by_request (request.Update physical props) said = absurd said
+  by_request (request.Delete physical) said = absurd said
+
+-- what an answer tells of its call: it is settled so; a doubt tells nothing
+abbrev IsToldBy : List (List ℕ) → Told → Pending → Reply → Type 0
+IsToldBy names now p (reply.Success id attrs) = Settled names now p (Success id attrs)
+IsToldBy names now p (reply.Failed c) = Settled names now p (Failed c)
+IsToldBy names now p reply.Doubt = ⊤
+
+-- an answer leaves what else the stack has
+pub record Leaves (s t : StackState) : Type 0 where
+  pub operation : t.operation ≡ s.operation
+  pub status : t.status ≡ s.status
+  pub before : t.before ≡ s.before
+
+leaves : (t : Terms) (p : Pending) (r : Request) (a : Reply) (s : StackState) (token : ℕ) → Leaves s (closing token a (answered t p r a s))
+leaves t p (request.Create kind props) (reply.Success physical attrs) s token = record { operation = refl; status = refl; before = refl }
+leaves t p r a s token = record { operation = refl; status = refl; before = refl }
+
+module _ (names : List (List ℕ)) (began told now : Told) (number : ℕ) (name : List ℕ) (source : Source) (x : World) (s : StackState)
+    (h : IsKept names began told number name source x s) (lanes_named : list_all is_lane_name names ≡ true) (lanes_differ : all_differ bytes_eq names ≡ true)
+    (p : Pending) (i : In p s.tokens) (acted : Acted names began told now s.made s.tokens s.leftovers x.token) where
+  abbrev closed : Terms → Request → Reply → StackState
+  closed t r a = closing p.token a (answered t p r a s)
+
+  -- what the stack makes of an answer agrees with the lanes
+  pub record Lists (u : StackState) : Type 0 where
+    pub none_held : u.held ≡ []
+    pub agree : Agree names began now u.made u.tokens u.leftovers x.token
+    pub alive : AreAlive names told s.made s.tokens → AllCreate s.tokens → AreAlive names now u.made u.tokens
+
+  -- a call that deletes is none of a create
+  never_deletes : (A : Type 0) (id : List ℕ) → p.request ≡ request.Delete id → AllCreate s.tokens → A
+  never_deletes A id e creates = absurd (true≢false (sym (creates p i) ∙ ap is_create e))
+
+  of_create : (kind : List ℕ) (props : List (List ℕ × Data)) → p.request ≡ request.Create kind props → (t : Terms) (a : Reply) → IsToldBy names now p a → Lists (closed t (request.Create kind props) a)
+  of_create kind props e t (reply.Success id attrs) so =
+      let m : Held = made_of p.path kind id props attrs (status_made (current_at p.path s.held)) t in
+      record {
+        none_held = h.none_held;
+        agree = agree_created names began now s.made s.tokens s.leftovers x.token acted.agree lanes_named lanes_differ p i so.place so.lane (Success id attrs) so.settled kind props attrs id e refl m refl;
+        alive = λ all creates. alive_created names began now s.made s.tokens s.leftovers x.token acted.agree lanes_named lanes_differ p i so.place so.lane (Success id attrs) so.settled kind props attrs id e refl (acted.alive all creates) m refl refl refl refl;
+      }
+  of_create kind props e t (reply.Failed c) so = record {
+    none_held = h.none_held;
+    agree = agree_refused names began now s.made s.tokens s.leftovers x.token acted.agree lanes_named lanes_differ p i so.place so.lane (Failed c) so.settled (λ id attrs d. let no : ⊥ = cc in no);
+    alive = λ all creates. alive_refused names began now s.made s.tokens s.leftovers x.token acted.agree lanes_named lanes_differ p i so.place so.lane (Failed c) so.settled (acted.alive all creates);
+  }
+  of_create kind props e t reply.Doubt so = record { none_held = h.none_held; agree = acted.agree; alive = acted.alive }
+
+  of_delete : (id : List ℕ) → p.request ≡ request.Delete id → (t : Terms) (a : Reply) → IsToldBy names now p a → Lists (closed t (request.Delete id) a)
+  of_delete id e t (reply.Success physical attrs) so = record {
+    none_held = ap (without id) h.none_held;
+    agree = agree_deleted names began now s.made s.tokens s.leftovers x.token acted.agree lanes_named lanes_differ p i so.place so.lane (Success physical attrs) so.settled id e refl;
+    alive = λ all creates. never_deletes _ id e creates;
+  }
+  of_delete id e t (reply.Failed code.NotFound) so = record {
+    none_held = ap (without id) h.none_held;
+    agree = agree_deleted names began now s.made s.tokens s.leftovers x.token acted.agree lanes_named lanes_differ p i so.place so.lane (Failed code.NotFound) so.settled id e refl;
+    alive = λ all creates. never_deletes _ id e creates;
+  }
+  of_delete id e t (reply.Failed c) so = record {
+    none_held = ap (with_status id held.DeleteFailed) h.none_held;
+    agree = agree_undeleted names began now s.made s.tokens s.leftovers x.token acted.agree lanes_named lanes_differ p i so.place so.lane (Failed c) so.settled id e held.DeleteFailed;
+    alive = λ all creates. never_deletes _ id e creates;
+  }
+  of_delete id e t reply.Doubt so = record { none_held = h.none_held; agree = acted.agree; alive = acted.alive }
+
+  lists : (r : Request) → p.request ≡ r → (t : Terms) (a : Reply) → IsToldBy names now p a → Lists (closed t r a)
+  lists (request.Create kind props) e t a so = of_create kind props e t a so
+  lists (request.Delete id) e t a so = of_delete id e t a so
+  lists (request.Update id props) e t a so = absurd (true≢false (ap is_update (sym e) ∙ acted.agree.no_update p i))
+
+  module _ (a : Reply) (before after : ℕ) where
+    abbrev outcome : Entry
+    outcome = entry.Outcome number p.token a before after
+
+    abbrev pub heard_as : StackState → StackState
+    heard_as t = heard (x.place + 1) outcome t (replied p.token a (pending_of p.token t) t)
+
+    pub kept_heard : pending_of p.token s ≡ Some p → IsToldBy names now p a → IsKept names began now number name source (world_after x outcome) (heard_as s)
+    kept_heard open_is so =
+        let t : Terms = terms_for (Some p) s in
+        let same : closed t p.request a ≡ replied p.token a (pending_of p.token s) s = ap (λ o. replied p.token a o s) (sym open_is) in
+        let l : Lists (replied p.token a (pending_of p.token s) s) = subst Lists same (lists p.request refl t a so) in
+        let v : Leaves s (replied p.token a (pending_of p.token s) s) = subst (Leaves s) same (leaves t p p.request a s p.token) in
+        kept_with names began told number name source x s h now (world_after x outcome) heard_as refl v.operation (goes h.way v.status) v.before l.none_held
+        (by_way h.way v.status l.alive) l.agree where
+          goes : IsOnItsWay names told source s → (heard_as s).status ≡ s.status → is_in_progress (heard_as s).status ≡ true
+          goes (makes forward right all) e = ap is_in_progress (e ∙ forward)
+          goes (takes_back back) e = ap is_in_progress (e ∙ back)
+
+          by_way :
+              IsOnItsWay names told source s → (heard_as s).status ≡ s.status
+              → (AreAlive names told s.made s.tokens → AllCreate s.tokens → AreAlive names now (heard_as s).made (heard_as s).tokens) → IsOnItsWay names now source (heard_as s)
+          by_way (makes forward right all) e alive =
+              makes (e ∙ forward) (outcome_right source s right (x.place + 1) number p.token before after a) (alive all (all_create source s right))
+          by_way (takes_back back) e alive = takes_back (e ∙ back)
+
+module _ (schemas : List Schema) (names : List (List ℕ)) (began told now : Told) (counts counted : List ℕ) (number : ℕ) (name : List ℕ) (source : Source) (x : World) (s : StackState)
+    (h : IsKept names began told number name source x s) (lanes_named : list_all is_lane_name names ≡ true) (lanes_differ : all_differ bytes_eq names ≡ true)
+    (all_began : (k : ℕ) → k < length names → (lane : LaneState) × Tells began k lane) where
+  -- what an answer tells, and what its call did
+  acted_by :
+      (a : Reply) (p : Pending) → In p s.tokens → (k : ℕ) → name_at names k ≡ p.lane → (lane after : LaneState) → Tells told k lane → now ≡ slice_set told k (Some after)
+      → LaneMove (name_at names k) lane after p.token p.request (answer_as a) → Acted names began told now s.made s.tokens s.leftovers x.token × IsToldBy names now p a
+  acted_by (reply.Success id attrs) p i k named lane after tells moves m = settled_so names began told s.made s.tokens s.leftovers x.token h.agree lanes_named lanes_differ p i k named lane after tells now moves (Success id attrs) m
+  acted_by (reply.Failed c) p i k named lane after tells moves m = settled_so names began told s.made s.tokens s.leftovers x.token h.agree lanes_named lanes_differ p i k named lane after tells now moves (Failed c) m
+  acted_by reply.Doubt p i k named lane after tells moves m = (acted_fault names began told s.made s.tokens s.leftovers x.token h.agree lanes_named lanes_differ p i k named lane after tells now moves m, tt)
+
+  tells_by :
+      (o : Option LaneState) (lane : LaneState) (k : ℕ) (p : Pending) (a : Reply) → o ≡ Some lane → CallTells (name_at names k) o (slice_index_or now k None) p.token p.request (answer_as a)
+      → (after : LaneState) × (slice_index_or now k None ≡ Some after) × LaneMove (name_at names k) lane after p.token p.request (answer_as a)
+  tells_by None lane k p a e m = let no : ⊥ = cc in absurd no
+  tells_by (Some l) lane k p a e m = let same : l ≡ lane = cc in (m.0, m.1, subst (λ b. LaneMove (name_at names k) b m.0 p.token p.request (answer_as a)) same m.2)
+
+  pub kept_outcome :
+      (token : ℕ) (a : Reply) (before after : ℕ) → IsDone schemas names x told now counts counted (entry.Outcome number token a before after)
+      → (t : StackState) × IsKept names began now number name source (world_after x (entry.Outcome number token a before after)) t
+  kept_outcome token a before after done =
+      let p : Pending = done.1 in
+      let open_is : pending_of token s ≡ Some p = ap (option_and_then (λ u. pending_of token u.1)) (sym h.going) ∙ done.2 in
+      let one = found_one (has_token token) s.tokens p open_is in
+      let token_is : token ≡ p.token = eqb-true token p.token one.1 in
+      let asked : IsAsked names told now counts counted p (answer_as a) before after = done.3 in
+      let k : ℕ = asked.0 in
+      let b = all_began k asked.1 in
+      let l = h.agree.all_tell k b.0 b.1 in
+      let m = tells_by (slice_index_or told k None) l.0 k p a l.1 asked.4.0 in
+      let moves : now ≡ slice_set told k (Some m.0) = asked.4.1 ∙ ap (slice_set told k) m.1 in
+      let d = acted_by a p one.0 k asked.3 l.0 m.0 l.1 moves m.2 in (
+        heard_as names began told now number name source x s h lanes_named lanes_differ p one.0 d.0 a before after s,
+        subst (λ n. IsKept names began now number name source (world_after x (entry.Outcome number n a before after)) (heard_as names began told now number name source x s h lanes_named lanes_differ p one.0 d.0 a before after s)) (sym token_is)
+            (kept_heard names began told now number name source x s h lanes_named lanes_differ p one.0 d.0 a before after (ap (λ n. pending_of n s) (sym token_is) ∙ open_is) d.1),
+      )

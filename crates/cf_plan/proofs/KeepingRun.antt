@@ -1,0 +1,193 @@
+-- A run of a creation keeps what each status promises.
+use Rattle.std.proofs.Common.{◌≡◌, ℕ, suc, zero, ◌<◌, List, [], ◌∷◌, true, Some, None, refl, sym, ap, subst, ◌∙◌, true≢false, length, arith}
+use Rattle.std.specs.Prelude.{is_some}
+use Rattle.std.specs.List.{list_all}
+use Rattle.std.specs.Str.{bytes_eq}
+use Rattle.std.proofs.lemmas.Bool.{eqb-true}
+use Rattle.cf_tree.specs.Named.{all_differ}
+use Rattle.cf_tree.specs.declared.source.Source.{Source}
+use Rattle.cf_schema.specs.declared.described.Schema.{Schema}
+use Rattle.cf_handler.specs.Lane.{LaneState, live_of, has_id}
+use Rattle.cf_handler.specs.Name.{is_lane_name}
+use Rattle.cf_entry.specs.declared.entry.Entry.{Entry}
+use Rattle.cf_entry.specs.declared.entry.Entry.TheVariants as entry
+use Rattle.cf_entry.specs.declared.status.Status.{Status}
+use Rattle.cf_entry.specs.declared.status.Status.TheVariants as status
+use Rattle.cf_stacks.specs.declared.held.Held.{Held}
+use Rattle.cf_stacks.specs.declared.held.Pending.{Pending}
+use Rattle.cf_stacks.specs.declared.state.StackState.{StackState}
+use Rattle.cf_stacks.specs.declared.state.World.{World}
+use Rattle.cf_stacks.specs.Words.{stack_at, stack_of_operation}
+use Rattle.cf_stacks.specs.Fold.{world_after, fold_of}
+use Rattle.cf_plan.specs.Forward.{In, here, there}
+use Rattle.cf_plan.specs.Follow.{MayFollowOn, EndsAs}
+use Rattle.cf_plan.specs.Promise.{Promised}
+use Rattle.cf_plan.specs.Run.{Told, IsDone, IsOwn, Runs, lanes_told, HasBegun, NothingNewer, KeepsPromise, CreationKeepsPromise}
+use Rattle.cf_plan.specs.Blame.{RollbackBlames}
+use Rattle.cf_plan.specs.Keeping.{Tells, was_live, IsOnItsWay, makes, takes_back, IsKept}
+use Rattle.cf_plan.proofs.RunLists.{any_of}
+use Rattle.cf_plan.proofs.RunLanes.{same_bytes}
+use Rattle.cf_plan.proofs.KeepingWorld.{number_is}
+use Rattle.cf_plan.proofs.KeepingSteps.{IsStep, step_of, intended, kept_intent, left, kept_kept, turned_as, kept_phase}
+use Rattle.cf_plan.proofs.KeepingOutcome.{kept_outcome}
+use Rattle.cf_plan.proofs.KeepingEnd.{EndsSo, completes, restores, fails, HasEnded, not_in, ends_forward, ends_back}
+
+-- a creation goes on, or has ended
+pub data After (names kinds : List (List ℕ)) (began told : Told) (number : ℕ) (name : List ℕ) (source : Source) (y : World) : Type 0 where
+  goes : (s : StackState) → IsKept names began told number name source y s → After names kinds began told number name source y
+  is_over : HasEnded names kinds began told number name y → After names kinds began told number name source y
+
+module _ (schemas : List Schema) (names kinds : List (List ℕ)) (began : Told) (number : ℕ) (name : List ℕ) (source : Source)
+    (lanes_named : list_all is_lane_name names ≡ true) (lanes_differ : all_differ bytes_eq names ≡ true) (as_many : length kinds ≡ length names)
+    (all_began : (k : ℕ) → k < length names → (lane : LaneState) × Tells began k lane) where
+  abbrev Later : Told → World → Type 0
+  Later told y = After names kinds began told number name source y
+
+  -- nothing told changes but by an outcome
+  same_told : (told now : Told) (y : World) → now ≡ told → Later told y → Later now y
+  same_told told now y e a = subst (λ t. Later t y) (sym e) a
+
+  ended : (told : Told) (x : World) (s : StackState) → IsKept names began told number name source x s → (state : Status) (failed : List (List ℕ))
+      → MayFollowOn schemas number x [] (entry.Done number state failed) → HasEnded names kinds began told number name (world_after x (entry.Done number state failed))
+  ended told x s h state failed may = by_way h.way (step_of schemas names began told number name source x s h (entry.Done number state failed) [] may) where
+    by_way : IsOnItsWay names told source s → IsStep schemas names began told number name source x s h (entry.Done number state failed) [] → HasEnded names kinds began told number name (world_after x (entry.Done number state failed))
+    by_way (makes forward right all) step =
+        ends_forward schemas names kinds began told number name source x s h lanes_differ as_many failed state step.stack forward right all
+        (subst (λ st. EndsAs schemas step.stack x s st state) forward step.may.2)
+    by_way (takes_back back) step =
+        ends_back schemas names kinds began told number name source x s h lanes_differ as_many failed state step.stack back
+        (subst (λ st. EndsAs schemas step.stack x s st state) back step.may.2)
+
+  -- an entry of the operation
+  module _ (told now : Told) (counts counted : List ℕ) (x : World) (s : StackState) (h : IsKept names began told number name source x s) where
+    abbrev Steps : Entry → Type 0
+    Steps e = IsDone schemas names x told now counts counted e → Later now (world_after x e)
+
+    step : (e : Entry) → IsOwn number e → Steps e
+    step (entry.Kept n path physical w) own done =
+        subst (λ m. Steps (entry.Kept m path physical w)) (sym own)
+        (λ d. same_told told now _ d.1 (goes (left schemas names began told number name source x s h path physical w s) (kept_kept schemas names began told number name source x s h path physical w d.0))) done
+    step (entry.Intent n token lane path r) own done =
+        subst (λ m. Steps (entry.Intent m token lane path r)) (sym own)
+        (λ d. same_told told now _ d.1 (goes (intended schemas names began told number name source x s h token lane path r s) (kept_intent schemas names began told number name source x s h token lane path r d.0))) done
+    step (entry.Outcome n token a before after) own done =
+        subst (λ m. Steps (entry.Outcome m token a before after)) (sym own)
+        (λ d. (let k = kept_outcome schemas names began told now counts counted number name source x s h lanes_named lanes_differ all_began token a before after d in goes k.0 k.1)) done
+    step (entry.Phase n p c) own done =
+        subst (λ m. Steps (entry.Phase m p c)) (sym own)
+        (λ d. same_told told now _ d.1 (goes (turned_as schemas names began told number name source x s h p c s) (kept_phase schemas names began told number name source x s h p c d.0))) done
+    step (entry.Done n state failed) own done =
+        subst (λ m. Steps (entry.Done m state failed)) (sym own) (λ d. same_told told now _ d.1 (is_over (ended told x s h state failed d.0))) done
+    step (entry.Opened epoch lanes) own done = absurd own
+    step (entry.Begin n stack k) own done = absurd own
+    step (entry.ChangeSet n stack from rows outputs) own done = absurd own
+
+  none_some : (a : List ℕ × StackState) → None ≡ Some a → ⊥
+  none_some a e = let no : ⊥ = cc in no
+
+  -- nothing of an operation follows where none is in progress
+  none_follows : (told now : Told) (counts counted : List ℕ) (x : World) → stack_of_operation number x ≡ None → (e : Entry) → IsOwn number e → IsDone schemas names x told now counts counted e → ⊥
+  none_follows told now counts counted x none e own done = by_entry e own done where
+    never : (n : ℕ) (f : Entry) (out : List ℕ) → n ≡ number → MayFollowOn schemas n x out f → ⊥
+    never n f out same may =
+        none_some (may.0, may.1) (sym none ∙ ap (λ m. stack_of_operation m x) (sym same) ∙ may.3)
+
+    by_entry : (f : Entry) → IsOwn number f → IsDone schemas names x told now counts counted f → ⊥
+    by_entry (entry.Kept n path physical w) own d = never n (entry.Kept n path physical w) [] own d.0
+    by_entry (entry.Intent n token lane path r) own d = never n (entry.Intent n token lane path r) [] own d.0
+    by_entry (entry.Outcome n token a before after) own d = never n (entry.Outcome n token a before after) (token ∷ []) own d.0
+    by_entry (entry.Phase n p c) own d = never n (entry.Phase n p c) [] own d.0
+    by_entry (entry.Done n state failed) own d = never n (entry.Done n state failed) [] own d.0
+    by_entry (entry.Opened epoch lanes) own d = own
+    by_entry (entry.Begin n stack k) own d = own
+    by_entry (entry.ChangeSet n stack from rows outputs) own d = own
+
+  pub run :
+      (es : List Entry) (x : World) (told now : Told) (counts counted : List ℕ) → After names kinds began told number name source x → Runs schemas names x told counts es now counted
+      → ((e : Entry) → In e es → IsOwn number e) → After names kinds began now number name source (fold_of x es)
+  run [] x told now counts counted a r own = same_told told now x r.0 a
+  run (e ∷ es) x told now counts counted a r own =
+      run es (world_after x e) r.0 now r.1 counted (by_state a) r.3 (λ f i. own f (there i)) where
+        by_state : After names kinds began told number name source x → After names kinds began r.0 number name source (world_after x e)
+        by_state (goes s h) = step told r.0 counts r.1 x s h e (own e here) r.2
+        by_state (is_over w) = absurd (none_follows told r.0 counts r.1 x w.none e (own e here) r.2)
+
+tells_all : (told : Told) (k : ℕ) → list_all is_some told ≡ true → k < length told → (lane : LaneState) × Tells told k lane
+tells_all [] k a i = let no : ⊥ = omega arith in absurd no
+tells_all (None ∷ told) k a i = absurd (true≢false (sym a))
+tells_all (Some lane ∷ told) zero a i = (lane, refl)
+tells_all (Some lane ∷ told) (suc k) a i = let j : k < length told = omega arith in tells_all told k a j
+
+-- as a creation begins, nothing is made and no call is open
+pub begun :
+    (names kinds : List (List ℕ)) (x : World) (told : Told) (number : ℕ) (name : List ℕ) (source : Source) (s : StackState)
+    → HasBegun names kinds x told number name source s → IsKept names told told number name source x s
+begun names kinds x told number name source s h =
+    let none_made = λ (r : Held) (i : In r s.made). not_in r s.made h.none_made i in
+    let none_open = λ (p : Pending) (i : In p s.tokens). not_in p s.tokens h.none_open i in
+    record {
+      going = h.going;
+      here = h.here;
+      none_before = h.none_before;
+      none_held = h.right.0.none_held;
+      way = makes h.creating h.right (record { alive = λ r i. absurd (none_made r i); called = λ p kind props k lane id attrs i. absurd (none_open p i) });
+      agree = record {
+        as_many = h.as_many.1;
+        all_tell = λ k before t. (before, t);
+        fresh = h.fresh;
+        known = λ r i. absurd (none_made r i);
+        no_update = λ p i. absurd (none_open p i);
+        past = λ p i. absurd (none_open p i);
+        apart = λ p q i j. absurd (none_open p i);
+        deleting = λ p id i. absurd (none_open p i);
+        gone = λ p id k lane a i. absurd (none_open p i);
+        born = λ p kind props k lane id attrs i. absurd (none_open p i);
+        ours = λ k before after v b t i.
+            let both : Some before ≡ Some after = sym b ∙ t in
+            let same : before ≡ after = cc in
+            was_live (ap (λ l. has_id v.id (live_of l)) same ∙ any_of (λ r. bytes_eq v.id r.id) (live_of after) v i (same_bytes v.id v.id refl));
+      };
+    }
+
+-- what blames the failed paths of a rollback makes it whole
+pub keeps_promise : RollbackBlames → CreationKeepsPromise
+keeps_promise blames schemas names kinds x told now counts counted number name source s es h r own =
+    by_end (run schemas names kinds told number name source h.lanes_named h.lanes_differ h.as_many.0 tells es x told now counts counted (goes s (begun names kinds x told number name source s h)) r own) where
+      tells : (k : ℕ) → k < length names → (lane : LaneState) × Tells told k lane
+      tells k i = tells_all told k h.all_tell (subst (λ n. k < n) (sym h.as_many.1) i)
+
+      promised : (t : StackState) → EndsSo names kinds told now name (fold_of x es) t → stack_at name (fold_of x es) ≡ Some t → Promised t.status name (fold_of x es) t (lanes_told names kinds now)
+      promised t (completes e c) at_name = subst (λ st. Promised st name (fold_of x es) t (lanes_told names kinds now)) (sym e) c
+      promised t (restores e c none newer) at_name = subst (λ st. Promised st name (fold_of x es) t (lanes_told names kinds now)) (sym e) (c, none)
+      promised t (fails e) at_name =
+          subst (λ st. Promised st name (fold_of x es) t (lanes_told names kinds now)) (sym e)
+          (blames schemas names kinds x told now counts counted number name source s es h r own t at_name e)
+
+      newer : (t : StackState) → EndsSo names kinds told now name (fold_of x es) t → t.status ≡ status.RollbackComplete → NothingNewer (fold_of x es) told now
+      newer t (completes e c) f = let no : status.CreateComplete ≡ status.RollbackComplete = sym e ∙ f in let never : ⊥ = cc in absurd never
+      newer t (restores e c none n) f = n
+      newer t (fails e) f = let no : status.RollbackFailed ≡ status.RollbackComplete = sym e ∙ f in let never : ⊥ = cc in absurd never
+
+      promises_nothing : (t : StackState) → IsOnItsWay names now source t → Promised t.status name (fold_of x es) t (lanes_told names kinds now)
+      promises_nothing t (makes forward right all) = subst (λ st. Promised st name (fold_of x es) t (lanes_told names kinds now)) (sym forward) tt
+      promises_nothing t (takes_back back) = subst (λ st. Promised st name (fold_of x es) t (lanes_told names kinds now)) (sym back) tt
+
+      not_yet : (t : StackState) → IsOnItsWay names now source t → t.status ≡ status.RollbackComplete → ⊥
+      not_yet t (makes forward right all) f = let no : status.CreateInProgress ≡ status.RollbackComplete = sym forward ∙ f in let never : ⊥ = cc in never
+      not_yet t (takes_back back) f = let no : status.RollbackInProgress ≡ status.RollbackComplete = sym back ∙ f in let never : ⊥ = cc in never
+
+      by_end : After names kinds told now number name source (fold_of x es) → KeepsPromise names kinds (fold_of x es) told now number name
+      by_end (goes t k) = record {
+        stack = t;
+        here = k.here;
+        number_is = eqb-true t.operation number (number_is names told now number name source (fold_of x es) t k);
+        promised = promises_nothing t k.way;
+        nothing_newer = λ e. absurd (not_yet t k.way e);
+      }
+      by_end (is_over w) = record {
+        stack = w.stack;
+        here = w.at_name;
+        number_is = w.number_is;
+        promised = promised w.stack w.so w.at_name;
+        nothing_newer = newer w.stack w.so;
+      }

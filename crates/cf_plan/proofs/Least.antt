@@ -1,0 +1,117 @@
+-- The first in byte order of what is found.
+use Rattle.std.proofs.Common.{◌≡◌, ◌⊎◌, inl, inr, ℕ, suc, ◌+◌, ◌<◌, Bool, true, false, List, [], ◌∷◌, ◌++◌, Option, Some, None, length, take, get_or, refl, ap, sym, ◌∙◌, subst, arith, cond, if◌then◌else◌, true≢false}
+use Rattle.std.specs.Prelude.{filter_map, fold}
+use Rattle.std.specs.Option.{option_to_list, unwrap_or}
+use Rattle.std.proofs.lemmas.List.Sums.{fold-append}
+use Rattle.std.proofs.lemmas.Option.{none-some}
+use Rattle.std.specs.Ordering.{nat_cmp, is_lt, ordering_reverse}
+use Rattle.std.specs.declared.cmp.Ordering.{Ordering}
+use Rattle.std.specs.declared.cmp.Ordering.TheVariants.{Less, Equal, Greater}
+use Rattle.std.specs.Cmp.Lexicographic.{slice_cmp, nat_list_cmp_total, texts_ties}
+use Rattle.cf_tree.specs.Keys.{bytes_lt}
+use Rattle.cf_desired.specs.declared.flaw.Flaw.{Flaw}
+use Rattle.cf_plan.specs.Failed.{least, lesser, lesser_of}
+use Rattle.cf_plan.specs.Forward.{In, here, there}
+use Rattle.cf_plan.proofs.Listed.{bytes_same, in_cons, in_none, mapped_more}
+
+abbrev B : Type 0
+B = List ℕ × Flaw
+
+one_folded : (m : Option B) (o : Option B) → fold lesser m (option_to_list o) ≡ lesser_of m o
+one_folded m None = refl
+one_folded m (Some b) = refl
+
+-- one more is folded in
+pub folded_more :
+    {A : Type 0} (f : A → Option B) (xs : List A) (i : ℕ) (d : A) (a mid o new : Option B) → i < length xs → d ≡ get_or xs i d →
+    mid ≡ fold lesser a (filter_map f (take i xs)) → o ≡ f d → new ≡ lesser_of mid o → new ≡ fold lesser a (filter_map f (take (i + 1) xs))
+folded_more f xs i d a mid o new l at was is now =
+    let next : suc i ≡ i + 1 = omega arith in
+    now ∙ ap (λ m. lesser_of m o) was ∙ sym (one_folded (fold lesser a (filter_map f (take i xs))) o)
+    ∙ ap (λ x. fold lesser (fold lesser a (filter_map f (take i xs))) (option_to_list x)) (is ∙ ap f at)
+    ∙ sym (fold-append lesser a (filter_map f (take i xs)) (option_to_list (f (get_or xs i d))))
+    ∙ ap (fold lesser a) (sym (mapped_more f xs i d l)) ∙ ap (λ k. fold lesser a (filter_map f (take k xs))) next
+
+less_from : (o : Ordering) → is_lt o ≡ true → o ≡ Less
+less_from Less h = refl
+less_from Equal h = absurd (true≢false (sym h))
+less_from Greater h = absurd (true≢false (sym h))
+
+lt_trans : (a b c : List ℕ) → bytes_lt a b ≡ true → bytes_lt b c ≡ true → bytes_lt a c ≡ true
+lt_trans a b c h g = ap is_lt (nat_list_cmp_total.trans a b c (less_from _ h) (less_from _ g))
+
+not_both : (b : Bool) → (b ≡ true → ⊥) → b ≡ false
+not_both true h = absurd (h refl)
+not_both false h = refl
+
+some_same : {A : Type 0} (a b : A) → Some a ≡ Some b → a ≡ b
+some_same a b e = ap (λ o. unwrap_or o a) e
+
+fold_by : (c x : B) (xs : List B) (a : B) (b : Bool) → bytes_lt x.0 c.0 ≡ b → (lesser (Some c) x ≡ Some a) ⊎ In a xs → (Some c ≡ Some a) ⊎ In a (x ∷ xs)
+fold_by c x xs a b k (inr i) = inr (there i)
+fold_by c x xs a true k (inl f) = let one : lesser (Some c) x ≡ Some x = rw k refl in inr (subst (λ z. In a (z ∷ xs)) (sym (some_same x a (sym one ∙ f))) here)
+fold_by c x xs a false k (inl f) = let one : lesser (Some c) x ≡ Some c = rw k refl in inl (sym one ∙ f)
+
+-- what the fold gives is where it began, or one of the list
+from_fold : (o : Option B) (xs : List B) (a : B) → fold lesser o xs ≡ Some a → (o ≡ Some a) ⊎ In a xs
+from_fold o [] a e = inl e
+from_fold None (x ∷ xs) a e = elim (from_fold (Some x) xs a e) [ inl k ↦ inr (subst (λ c. In a (c ∷ xs)) (sym (some_same x a k)) here) | inr k ↦ inr (there k) ]
+from_fold (Some c) (x ∷ xs) a e = fold_by c x xs a (bytes_lt x.0 c.0) refl (from_fold (lesser (Some c) x) xs a e)
+
+not_itself : (a : List ℕ) → bytes_lt a a ≡ false
+not_itself a = by_order (slice_cmp nat_cmp a a) (nat_list_cmp_total.antisymm a a)
+  where
+    by_order : (o : Ordering) → o ≡ ordering_reverse o → is_lt o ≡ false
+    by_order Less h = absurd (true≢false (ap is_lt h))
+    by_order Equal h = refl
+    by_order Greater h = refl
+
+-- where one is not below another, it comes behind it, or is the same
+behind : (c a : List ℕ) → bytes_lt c a ≡ false → (bytes_lt a c ≡ true) ⊎ (c ≡ a)
+behind c a h = by_order (slice_cmp nat_cmp c a) refl
+  where
+    by_order : (o : Ordering) → slice_cmp nat_cmp c a ≡ o → (bytes_lt a c ≡ true) ⊎ (c ≡ a)
+    by_order Less e = absurd (true≢false (sym (ap is_lt e) ∙ h))
+    by_order Equal e = inr (bytes_same c a (texts_ties c a ∙ rw e refl))
+    by_order Greater e = inl (ap is_lt (nat_list_cmp_total.antisymm a c ∙ ap ordering_reverse e))
+
+below : (x c a : List ℕ) → bytes_lt x c ≡ false → bytes_lt c a ≡ false → bytes_lt x a ≡ false
+below x c a h g = not_both (bytes_lt x a) (λ t. elim (behind c a g) [
+  | inl k ↦ true≢false (sym (lt_trans x a c t k) ∙ h)
+  | inr k ↦ true≢false (sym (subst (λ z. bytes_lt x z ≡ true) (sym k) t) ∙ h)
+])
+
+two_low : (c x a : B) (b : Bool) → bytes_lt x.0 c.0 ≡ b → ((d : B) → (if b then Some x else Some c) ≡ Some d → bytes_lt d.0 a.0 ≡ false) → (bytes_lt c.0 a.0 ≡ false) × (bytes_lt x.0 a.0 ≡ false)
+two_low c x a true k h = let xa = h x refl in (not_both (bytes_lt c.0 a.0) (λ t. true≢false (sym (lt_trans x.0 c.0 a.0 k t) ∙ xa)), xa)
+two_low c x a false k h = let ca = h c refl in (ca, below x.0 c.0 a.0 k ca)
+
+low : (xs : List B) (o : Option B) (a : B) → fold lesser o xs ≡ Some a → ((c : B) → o ≡ Some c → bytes_lt c.0 a.0 ≡ false) × ((b : B) → In b xs → bytes_lt b.0 a.0 ≡ false)
+low [] o a e = (λ c f. subst (λ (z : B). bytes_lt z.0 a.0 ≡ false) (sym (some_same c a (sym f ∙ e))) (not_itself a.0), λ b i. absurd (in_none i))
+low (x ∷ xs) None a e =
+    let h = low xs (Some x) a e in
+    (λ c f. absurd (none-some c f), λ b i. elim (in_cons i) [ inl k ↦ subst (λ (z : B). bytes_lt z.0 a.0 ≡ false) k (h.0 x refl) | inr j ↦ h.1 b j ])
+low (x ∷ xs) (Some c) a e =
+    let h = low xs (lesser (Some c) x) a e in
+    let p = two_low c x a (bytes_lt x.0 c.0) refl h.0 in (
+      λ d f. subst (λ (z : B). bytes_lt z.0 a.0 ≡ false) (some_same c d f) p.0,
+      λ b i. elim (in_cons i) [ inl k ↦ subst (λ (z : B). bytes_lt z.0 a.0 ≡ false) k p.1 | inr j ↦ h.1 b j ],
+    )
+
+keep_by : (x c : B) (xs : List B) (b : Bool) → bytes_lt x.0 c.0 ≡ b → ((d : B) → fold lesser (Some d) xs ≡ None → ⊥) → fold lesser (Some c) (x ∷ xs) ≡ None → ⊥
+keep_by x c xs true k h e = let one : lesser (Some c) x ≡ Some x = rw k refl in h x (ap (λ o. fold lesser o xs) (sym one) ∙ e)
+keep_by x c xs false k h e = let one : lesser (Some c) x ≡ Some c = rw k refl in h c (ap (λ o. fold lesser o xs) (sym one) ∙ e)
+
+keeps : (xs : List B) (c : B) → fold lesser (Some c) xs ≡ None → ⊥
+keeps [] c e = none-some c (sym e)
+keeps (x ∷ xs) c e = keep_by x c xs (bytes_lt x.0 c.0) refl (keeps xs) e
+
+-- the least is one of them, and none is below it; where there is no least, there is none
+pub least_in : (xs : List B) (a : B) → least xs ≡ Some a → In a xs
+least_in xs a e = elim (from_fold None xs a e) [ inl k ↦ absurd (none-some a k) | inr i ↦ i ]
+
+pub least_low : (xs : List B) (a : B) → least xs ≡ Some a → (b : B) → In b xs → bytes_lt b.0 a.0 ≡ false
+least_low xs a e = (low xs None a e).1
+
+pub least_none : (xs : List B) → least xs ≡ None → (b : B) → In b xs → ⊥
+least_none [] e b i = in_none i
+least_none (x ∷ xs) e b i = keeps xs x e

@@ -1,0 +1,93 @@
+-- Which one of the steps that may start is chosen (this project's own order): a call that is made again, in the order of
+-- tokens; then a new call or a resource to keep, in the order of paths and then of physical ids; then a phase or the end;
+-- and nothing where only a call that is out can go on.
+use Rattle.std.specs.Prelude.{◌≡◌, ◌≢◌, ℕ, ◌==◌, Bool, true, false, ◌&&◌, ◌||◌, not, List, [], Option, Some, None, nat_lt, find, filter_map, option_map}
+use Rattle.std.specs.Option.{unwrap_or}
+use Rattle.std.specs.Str.{bytes_eq}
+use Rattle.cf_tree.specs.Keys.{bytes_lt}
+use Rattle.cf_tree.specs.declared.request.Request.{Request}
+use Rattle.cf_tree.specs.declared.request.Request.TheVariants as request
+use Rattle.cf_schema.specs.declared.described.Schema.{Schema}
+use Rattle.cf_entry.specs.declared.entry.Entry.{Entry}
+use Rattle.cf_entry.specs.declared.entry.Entry.TheVariants as entry
+use Rattle.cf_stacks.specs.declared.state.StackState.{StackState}
+use Rattle.cf_stacks.specs.declared.state.World.{World}
+use Rattle.cf_stacks.specs.Status.{Stage, stage_of}
+use Rattle.cf_stacks.specs.Words.{id_named, stack_of_operation}
+use Rattle.cf_plan.specs.declared.next.Home.{Home}
+use Rattle.cf_plan.specs.declared.next.Next.{Next}
+use Rattle.cf_plan.specs.declared.next.Next.TheVariants as next
+use Rattle.cf_plan.specs.Follow.{MayRepeat, MayFollowIn, is_lane_out}
+
+-- the tokens of the leases that are out, as the lanes tell them
+abbrev pub leases_of : List Home → List ℕ
+leases_of homes = filter_map (λ h. h.out) homes
+
+-- the call of an open token goes out once more, on its lane, which is at home
+pub record MayCallAgain (schemas : List Schema) (name : List ℕ) (x : World) (out : List ℕ) (s : StackState) (stage : Stage)
+    (path lane : List ℕ) (token : ℕ) (r : Request) : Type 0 where
+  pub repeats : MayRepeat schemas name x out s stage (record { token = token; path = path; lane = lane; request = r })
+  pub home : is_lane_out out x lane ≡ false
+
+-- What may start: a repeat, or what an entry writes down that may follow. To wait, a lease is out.
+abbrev pub MayStart : List Schema → List ℕ → World → List ℕ → StackState → Stage → Next → Type 0
+MayStart schemas name x out s stage (next.Step path lane token r true) = MayCallAgain schemas name x out s stage path lane token r
+MayStart schemas name x out s stage (next.Step path lane token r false) = MayFollowIn schemas name x out s stage (entry.Intent s.operation token lane path r)
+MayStart schemas name x out s stage (next.Keep path physical w) = MayFollowIn schemas name x out s stage (entry.Kept s.operation path physical w)
+MayStart schemas name x out s stage (next.Turn p cause) = MayFollowIn schemas name x out s stage (entry.Phase s.operation p cause)
+MayStart schemas name x out s stage (next.End state failed) = MayFollowIn schemas name x out s stage (entry.Done s.operation state failed)
+MayStart schemas name x out s stage next.Wait = out ≢ []
+
+-- Where a step stands in the order.
+pub record Place : Type 0 where
+  pub rank : ℕ
+  pub token : ℕ
+  pub path : List ℕ
+  pub physical : List ℕ
+
+-- a create, which names no physical id, stands before every other step of its path
+abbrev pub place_of : Next → Place
+place_of (next.Step path lane token r true) = record { rank = 0; token = token; path = []; physical = [] }
+place_of (next.Step path lane token r false) = record { rank = 1; token = 0; path = path; physical = unwrap_or (id_named r) [] }
+place_of (next.Keep path physical w) = record { rank = 1; token = 0; path = path; physical = physical }
+place_of (next.Turn p cause) = record { rank = 2; token = 0; path = []; physical = [] }
+place_of (next.End state failed) = record { rank = 2; token = 0; path = []; physical = [] }
+place_of next.Wait = record { rank = 3; token = 0; path = []; physical = [] }
+
+-- the paths in the order of their bytes, and where they are the same the physical ids
+abbrev pub is_sooner : List ℕ × List ℕ → List ℕ × List ℕ → Bool
+is_sooner a b = bytes_lt a.0 b.0 || (bytes_eq a.0 b.0 && bytes_lt a.1 b.1)
+
+abbrev pub is_placed_before : Place → Place → Bool
+is_placed_before a b =
+    nat_lt a.rank b.rank
+    || (a.rank == b.rank && (nat_lt a.token b.token || (a.token == b.token && is_sooner (a.path, a.physical) (b.path, b.physical))))
+
+-- a create goes to the first lane at home of its type, in the order in which the lanes were handed in
+abbrev pub first_home : List ℕ → List ℕ → World → Option (List ℕ)
+first_home k out x = option_map (λ l. l.0) (find (λ l. bytes_eq k l.1 && not (is_lane_out out x l.0)) x.lanes)
+
+abbrev pub GoesFirst : List ℕ → World → Next → Type 0
+GoesFirst out x (next.Step path lane token (request.Create k props) false) = first_home k out x ≡ Some lane
+GoesFirst out x _ = Unit {0}
+
+-- The chosen step may start, and none that may start stands before it.
+pub record IsChosen (schemas : List Schema) (name : List ℕ) (x : World) (out : List ℕ) (s : StackState) (stage : Stage) (n : Next) : Type 0 where
+  pub may : MayStart schemas name x out s stage n
+  pub first : (m : Next) → MayStart schemas name x out s stage m → is_placed_before (place_of m) (place_of n) ≡ false
+  pub lane : GoesFirst out x n
+
+-- The next step of the operation of this number is chosen on its stack, in its stage.
+abbrev pub IsNext : List Schema → World → List ℕ → ℕ → Next → Type 0
+IsNext schemas x out number n =
+    (name : List ℕ) × (s : StackState) × (stage : Stage) × (stack_of_operation number x ≡ Some (name, s)) × (stage_of s.status ≡ Some stage)
+    × IsChosen schemas name x out s stage n
+
+-- The entry that writes a step of the operation down; to repeat a call and to wait write none.
+abbrev pub entry_of : ℕ → Next → Option Entry
+entry_of number (next.Step path lane token r true) = None
+entry_of number (next.Step path lane token r false) = Some (entry.Intent number token lane path r)
+entry_of number (next.Keep path physical w) = Some (entry.Kept number path physical w)
+entry_of number (next.Turn p cause) = Some (entry.Phase number p cause)
+entry_of number (next.End state failed) = Some (entry.Done number state failed)
+entry_of number next.Wait = None

@@ -1,0 +1,77 @@
+-- Which paths are done, as it is found out: path after path joins those that are done already (this project's own).
+use Rattle.std.specs.Prelude.{◌≡◌, ◌↔◌, ◌⊎◌, ℕ, Bool, true, false, List, [], ◌∷◌, ◌++◌, Some, IsTrue, filter, filter_map, map, not}
+use Rattle.std.specs.List.{list_all}
+use Rattle.std.specs.Option.{option_map_or}
+use Rattle.cf_tree.specs.Datum.{Data}
+use Rattle.cf_tree.specs.Keys.{ascends}
+use Rattle.cf_graph.specs.Needs.{is_among}
+use Rattle.cf_desired.specs.declared.wanted.Evaluated.{Evaluated}
+use Rattle.cf_desired.specs.declared.wanted.Evaluated.TheVariants as result
+use Rattle.cf_desired.specs.declared.wanted.Plan.{Plan}
+use Rattle.cf_desired.specs.Whole.{wanted_at}
+use Rattle.cf_stacks.specs.declared.held.Held.{Held}
+use Rattle.cf_stacks.specs.declared.state.StackState.{StackState}
+use Rattle.cf_stacks.specs.Fold.{terms_of}
+use Rattle.cf_stacks.specs.Words.{current_at}
+use Rattle.cf_plan.specs.Called.{updated_path}
+use Rattle.cf_plan.specs.declared.found.Found as found
+use Rattle.cf_plan.specs.declared.found.Found.TheVariants.{Bad as bad, Later as not_yet, Known as known}
+use Rattle.cf_plan.specs.Forward.{In, IsDone, Finding, Bad, Later, Known, finding}
+
+-- the names of properties ascend, as those of a template do
+abbrev pub is_in_order : Evaluated → Bool
+is_in_order (result.Flawed f) = true
+is_in_order (result.Known ps) = ascends ps
+
+abbrev pub are_in_order : Plan → Bool
+are_in_order p = list_all (λ w. is_in_order w.props) p.wanted
+
+-- what properties come to, as code has it
+abbrev pub finding_of : found.Found → Finding
+finding_of (bad flaw) = Bad flaw.now
+finding_of not_yet = Later
+finding_of (known kind props) = Known kind.now props
+
+-- by a plan: what the properties of a path come to, and what it needs
+abbrev pub finding_by : List ℕ → Plan → Finding
+finding_by path p = option_map_or (λ w. finding w.kind w.props) (wanted_at path p) Later
+
+abbrev pub needs_by : List ℕ → Plan → List (List ℕ)
+needs_by path p = (terms_of (wanted_at path p)).needs
+
+abbrev pub are_met : List ℕ → Plan → List (List ℕ) → Bool
+are_met path p done = list_all (λ n. is_among n done) (needs_by path p)
+
+-- what is held at a path is sure and has the properties that a plan gives the path
+abbrev pub HasProps : List ℕ → Plan → List (List ℕ × Data) → Type 0
+HasProps path p props = (k : List ℕ) × (finding_by path p ≡ Known k props)
+
+abbrev pub IsHeldRight : List ℕ → Plan → List Held → Type 0
+IsHeldRight path p held = (h : Held) × (current_at path held ≡ Some h) × (h.unsure ≡ false) × HasProps path p h.props
+
+-- the paths that are done whatever the template says: those of what was made, and of the updates that succeeded
+abbrev pub made_paths : StackState → List (List ℕ)
+made_paths s = map (λ h. h.path) (filter (λ h. not h.superseded) s.made)
+
+abbrev pub updated_paths : StackState → List (List ℕ)
+updated_paths s = filter_map (updated_path s) s.entries
+
+-- a path that is not among those that are done, though it is right and its needs are done
+abbrev pub IsFresh : Plan → Plan → List Held → List (List ℕ) → List ℕ → Type 0
+IsFresh before now held done p = (is_among p done ≡ false) × IsTrue (are_met p before done) × IsHeldRight p now held
+
+abbrev pub IsNext : Plan → Plan → List Held → List (List ℕ) → List ℕ → Type 0
+IsNext before now held done p = In p (map (λ w. w.path) before.wanted) × IsFresh before now held done p
+
+-- a path joins where it is fresh, and nothing changes where it isn't
+abbrev pub Adds : Plan → Plan → List Held → List ℕ → List (List ℕ) → List (List ℕ) → Type 0
+Adds before now held p old new = (IsFresh before now held old p × (new ≡ old ++ p ∷ [])) ⊎ ((IsFresh before now held old p → ⊥) × (new ≡ old))
+
+-- one such path after another has joined
+pub data Joined (before now : Plan) (held : List Held) (old : List (List ℕ)) : List (List ℕ) → Type 0 where
+  none : Joined before now held old old
+  one : {done : List (List ℕ)} {p : List ℕ} → Joined before now held old done → IsNext before now held done p → Joined before now held old (done ++ p ∷ [])
+
+-- these are just the paths that are done
+abbrev pub AreDone : StackState → List (List ℕ) → Type 0
+AreDone s done = (p : List ℕ) → IsDone s p ↔ IsTrue (is_among p done)

@@ -1,0 +1,116 @@
+//! The path that fails the forward phase by a flaw of its template.
+ghost use Rattle.std.specs.Prelude.{◌≡◌, Some, filter_map, fold, option_map};
+ghost use Rattle.std.specs.Option.{option_copied};
+ghost use Rattle.cf_plan.specs.Failed.{bad_of, flaw_by, flaw_found, flaws_found, inner_found, least, lesser, lesser_of};
+
+use crate::done::{are_among, are_met};
+use crate::found::wanted_at;
+use cf_desired::{Evaluated, Flaw, Inner, Plan, Wanted};
+use cf_tree::{Names, Txt};
+
+/// A path, and its flaw.
+#[derive(Drop)]
+pub struct BadAt<'a> {
+    pub path: &'a Txt,
+    pub flaw: &'a Flaw,
+}
+
+/// The flaw of a path by a plan.
+fn flaw_at<'a>(plan: &'a Plan, path: &Txt) -> Option<&'a Flaw>
+    ensures { option_copied result ≡ flaw_by path.now plan.now }
+{
+    match wanted_at(plan, path) {
+        Some(wanted) => match &wanted.props {
+            Evaluated::Flawed { flaw } => Some(flaw),
+            Evaluated::Known { props: _ } => None,
+        },
+        None => None,
+    }
+}
+
+/// A wanted path with its flaw, where its needs are done.
+fn flaw_found<'a>(
+    before: &Plan,
+    now: &'a Plan,
+    done: &Names,
+    wanted: &'a Wanted,
+) -> Option<BadAt<'a>>
+    ensures { option_map bad_of result ≡ flaw_found before.now now.now done.now wanted.now }
+{
+    if are_met(before, done, &wanted.path) {
+        match flaw_at(now, &wanted.path) {
+            Some(flaw) => Some(BadAt {
+                path: &wanted.path,
+                flaw,
+            }),
+            None => None,
+        }
+    } else {
+        None
+    }
+}
+
+/// The path of a nested stack with its flaw, where its needs are done.
+fn inner_found<'a>(done: &Names, inner: &'a Inner) -> Option<BadAt<'a>>
+    ensures { option_map bad_of result ≡ inner_found done.now inner.now }
+{
+    if are_among(&inner.needs, done) {
+        match &inner.fault {
+            Some(flaw) => Some(BadAt {
+                path: &inner.path,
+                flaw,
+            }),
+            None => None,
+        }
+    } else {
+        None
+    }
+}
+
+/// Of two paths the one that comes first in byte order, the first of them where they are the same.
+fn lesser<'a>(first: Option<BadAt<'a>>, second: BadAt<'a>) -> BadAt<'a>
+    ensures { Some (bad_of result) ≡ lesser (option_map bad_of first.entry) (bad_of second.entry) }
+{
+    match first {
+        Some(first) => {
+            if *second.path < *first.path {
+                second
+            } else {
+                first
+            }
+        }
+        None => second,
+    }
+}
+
+/// The same where there may be no second one.
+fn lesser_of<'a>(first: Option<BadAt<'a>>, second: Option<BadAt<'a>>) -> Option<BadAt<'a>>
+    ensures { option_map bad_of result ≡ lesser_of (option_map bad_of first.entry) (option_map bad_of second.entry) }
+{
+    match second {
+        Some(second) => Some(lesser(first, second)),
+        None => first,
+    }
+}
+
+/// The first of these in byte order, `first` included.
+fn first_inner<'a>(done: &Names, nested: &'a [Inner], first: Option<BadAt<'a>>) -> Option<BadAt<'a>>
+    ensures { option_map bad_of result ≡ fold lesser (option_map bad_of first.entry) (filter_map (inner_found done.now) nested.now) }
+{
+    let mut first = first;
+    for inner in nested.iter() {
+        first = lesser_of(first, inner_found(done, inner));
+    }
+    first
+}
+
+/// The first path in byte order that is at fault while its needs are done, nested stacks included.
+pub fn first_bad<'a>(before: &'a Plan, now: &'a Plan, done: &Names) -> Option<BadAt<'a>>
+    ensures { option_map bad_of result ≡ least (flaws_found before.now now.now done.now) }
+{
+    let mut first = None;
+    for wanted in before.wanted.as_slice() {
+        first = lesser_of(first, flaw_found(before, now, done, wanted));
+    }
+    first_inner(done, now.nested.as_slice(), first)
+}

@@ -1,0 +1,299 @@
+//! The lanes that a step may take, and what the next step of an operation is.
+ghost use Rattle.std.specs.Prelude.{◌≡◌, ◌++◌, ℕ, List, [], true, false, not, IfOk, IsTrue, Some, option_copied};
+ghost use Rattle.std.specs.List.{cons_option};
+ghost use Rattle.cf_graph.specs.Needs.{is_among};
+ghost use Rattle.cf_tree.specs.declared.request.Request.TheVariants as request;
+ghost use Rattle.cf_schema.specs.declared.described.Schema.{Schema};
+ghost use Rattle.cf_entry.specs.declared.entry.Entry.{Entry};
+ghost use Rattle.cf_entry.specs.declared.status.Status.TheVariants as status;
+ghost use Rattle.cf_entry.specs.declared.turn.Why.TheVariants as why;
+ghost use Rattle.cf_stacks.specs.declared.held.Held.{Held};
+ghost use Rattle.cf_stacks.specs.Status.{Back, is_in_progress};
+ghost use Rattle.cf_stacks.specs.Words.{stack_of_operation};
+ghost use Rattle.cf_plan.specs.declared.next.Next.TheVariants as next;
+ghost use Rattle.cf_plan.specs.Follow.{is_not_needed, waits_for_repeats, MayFollow};
+ghost use Rattle.cf_plan.specs.Chosen.{IsChosen, IsNext, entry_of, leases_of};
+ghost use Rattle.cf_plan.specs.Taking.{AreTerms, RollsBack, TakesBack, EndsBack, can_go, is_ended};
+
+use crate::back::{first_repeat, first_to_go, home_of, is_kept, needed};
+use crate::end::{failed_paths, is_cleared};
+use crate::repeats::{none_out, waits_for_repeats};
+use cf_entry::{Cause, Phase, Status, Why};
+use cf_schema::Schema;
+use cf_stacks::{Held, Pending, StackState, Terms, World};
+use cf_tree::{ByName, Listing, Names, Request, TryClone, Txt};
+use std::alloc::{AllocError, Global};
+
+/// A lane of the opening.
+#[derive(Drop)]
+pub struct Home {
+    pub name: Txt,
+    /// The schema of its resource type.
+    pub schema: Schema,
+    /// The token of its lease, where the lane is not at home.
+    pub out: Option<u64>,
+}
+
+/// The lanes of the opening, in the order in which they were handed in.
+pub type Homes = Listing<Home>;
+
+/// What comes next in an operation.
+#[derive(Drop)]
+pub enum Next {
+    /// A call goes out on a lane: a new one, whose intent is to be written down, or that of an open
+    /// token once more.
+    Step {
+        path: Txt,
+        lane: Txt,
+        token: u64,
+        request: Request,
+        repeated: bool,
+    },
+    /// A resource goes off its stack's list; the physical id is empty where it is not known.
+    Keep {
+        path: Txt,
+        physical: Txt,
+        why: Why,
+    },
+    /// The operation enters a phase; it has a cause exactly where it turns back.
+    Turn {
+        phase: Phase,
+        cause: Option<Cause>,
+    },
+    /// The operation ends in a status; the paths are those that failed.
+    End {
+        status: Status,
+        failed: Names,
+    },
+    /// Nothing may start before a call that is out comes back.
+    Wait,
+}
+
+/// The call of an open token, once more.
+fn again(alloc: Global, pending: &Pending) -> Result<Next, AllocError>
+    ensures { IfOk result (λ n. n ≡ next.Step pending.now.path pending.now.lane pending.now.token pending.now.request true) }
+{
+    let path = pending.path.try_clone(alloc)?;
+    let lane = pending.lane.try_clone(alloc)?;
+    let request = pending.request.try_clone(alloc)?;
+    Ok(Next::Step {
+        path,
+        lane,
+        token: pending.token,
+        request,
+        repeated: true,
+    })
+}
+
+/// A resource is kept.
+fn kept(alloc: Global, held: &Held) -> Result<Next, AllocError>
+    ensures { IfOk result (λ n. n ≡ next.Keep held.now.path held.now.physical why.Retained) }
+{
+    let path = held.path.try_clone(alloc)?;
+    let physical = held.physical.try_clone(alloc)?;
+    Ok(Next::Keep {
+        path,
+        physical,
+        why: Why::Retained,
+    })
+}
+
+/// A resource is deleted, under a new token.
+fn deleted(alloc: Global, held: &Held, lane: &Txt, token: u64) -> Result<Next, AllocError>
+    ensures { IfOk result (λ n. n ≡ next.Step held.now.path lane.now token (request.Delete held.now.physical) false) }
+{
+    let path = held.path.try_clone(alloc)?;
+    let lane = lane.try_clone(alloc)?;
+    let physical = held.physical.try_clone(alloc)?;
+    Ok(Next::Step {
+        path,
+        lane,
+        token,
+        request: Request::Delete { physical },
+        repeated: false,
+    })
+}
+
+/// The first made resource that may go goes: it is kept, or deleted on its lane. Where no token is
+/// left, this is an error too.
+fn take_back(alloc: Global, out: &[u64], world: &World, held: &Held) -> Result<Next, AllocError>
+    requires { IsTrue (can_go out.now world.now held.now) }
+    ensures { IfOk result (λ n. TakesBack out.now world.now held.now n) }
+{
+    if is_kept(held) {
+        return kept(alloc, held);
+    }
+    match (
+        home_of(out, world, &held.physical),
+        world.token.checked_add(1),
+    ) {
+        (Some(lane), Some(token)) => deleted(alloc, held, &lane.0, token),
+        // It can go, so a lane at home is its own.
+        (None, _) => unreachable!(),
+        (_, None) => Err(AllocError),
+    }
+}
+
+/// Whether a rollback is at its end: no call is out, and even if none of another stack were out,
+/// none would be repeated and nothing would go.
+fn is_ended(out: &[u64], world: &World, stack: &StackState, needed: &Names) -> bool
+    requires { (r : Held) → is_not_needed stack.now r ≡ not (is_among r.physical needed.now) }
+    ensures { result ≡ is_ended out.now world.now stack.now }
+{
+    none_out(out, stack)
+        && !waits_for_repeats(&[], stack)
+        && first_to_go(&[], world, stack, needed).is_none()
+}
+
+/// The end of a rollback, with the paths that failed where not all was taken back.
+fn end_back(alloc: Global, stack: &StackState) -> Result<Next, AllocError>
+    ensures { IfOk result (λ n. EndsBack stack.now n) }
+{
+    if is_cleared(stack) {
+        return Ok(Next::End {
+            status: Status::RollbackComplete,
+            failed: Names::new(alloc),
+        });
+    }
+    let failed = failed_paths(alloc, stack)?;
+    Ok(Next::End {
+        status: Status::RollbackFailed,
+        failed,
+    })
+}
+
+/// The next repeat of a rollback that waits for repeats.
+fn next_repeat(
+    alloc: Global,
+    world: &World,
+    stack: &StackState,
+    out: &[u64],
+) -> Result<Next, AllocError>
+    requires rolling { stack.now.status ≡ status.RollbackInProgress }
+    requires waits { waits_for_repeats Back out.now stack.now ≡ true }
+    ensures { IfOk result (λ n. (schemas : List Schema) (name : List ℕ) → IsChosen schemas name world.now out.now stack.now Back n) }
+{
+    match first_repeat(out, world, stack) {
+        Some(pending) => again(alloc, pending),
+        None => Ok(Next::Wait),
+    }
+}
+
+/// The next step of a rollback that waits for no repeat.
+fn next_to_go(
+    alloc: Global,
+    world: &World,
+    stack: &StackState,
+    out: &[u64],
+    needed: &Names,
+) -> Result<Next, AllocError>
+    requires rolling { stack.now.status ≡ status.RollbackInProgress }
+    requires waits { waits_for_repeats Back out.now stack.now ≡ false }
+    requires needed { (r : Held) → is_not_needed stack.now r ≡ not (is_among r.physical needed.now) }
+    ensures { IfOk result (λ n. (schemas : List Schema) (name : List ℕ) → IsChosen schemas name world.now out.now stack.now Back n) }
+{
+    match first_to_go(out, world, stack, needed) {
+        Some(held) => take_back(alloc, out, world, held),
+        None => {
+            if is_ended(out, world, stack, needed) {
+                end_back(alloc, stack)
+            } else {
+                Ok(Next::Wait)
+            }
+        }
+    }
+}
+
+/// The next step of the rollback of a creation, while the leases of these tokens are out: of those
+/// that may start the first, as the order of steps says. The terms are those of each path of what
+/// is made, and of what is being created.
+///
+/// The error comes where memory is lacking, and where no token is left.
+pub fn next_back(
+    alloc: Global,
+    world: &World,
+    stack: &StackState,
+    out: &[u64],
+    terms: &ByName<Terms>,
+) -> Result<Next, AllocError>
+    requires rolling { stack.now.status ≡ status.RollbackInProgress }
+    requires terms { AreTerms terms.now stack.now }
+    ensures { IfOk result (λ n. (schemas : List Schema) (name : List ℕ) → IsChosen schemas name world.now out.now stack.now Back n) }
+{
+    if waits_for_repeats(out, stack) {
+        return next_repeat(alloc, world, stack, out);
+    }
+    let needed = needed(alloc, stack, terms)?;
+    next_to_go(alloc, world, stack, out, &needed)
+}
+
+/// Adds a token, where there is one.
+fn add_lease(out: &mut Vec<u64>, lease: Option<u64>) -> Result<(), AllocError>
+    ensures { IfOk result (λ _. out.new.items ≡ out.old.items ++ cons_option lease []) }
+{
+    match lease {
+        Some(token) => {
+            out.push(token)?;
+            Ok(())
+        }
+        None => Ok(()),
+    }
+}
+
+/// The tokens of the leases that are out, as the lanes tell them.
+pub fn leases_of(alloc: Global, homes: &Homes) -> Result<Vec<u64>, AllocError>
+    ensures { IfOk result (λ out. out.items ≡ leases_of homes.now) }
+{
+    let mut out = Vec::new(alloc);
+    for home in homes.as_slice() {
+        add_lease(&mut out, home.out)?;
+    }
+    Ok(out)
+}
+
+/// Whether an operation of this status is in progress.
+fn is_in_progress(status: Status) -> bool
+    ensures { result ≡ is_in_progress status }
+{
+    matches!(
+        status,
+        Status::CreateInProgress
+            | Status::UpdateInProgress
+            | Status::UpdateCompleteCleanupInProgress
+            | Status::RollbackInProgress
+            | Status::UpdateRollbackInProgress
+            | Status::UpdateRollbackCompleteCleanupInProgress
+            | Status::DeleteInProgress
+    )
+}
+
+/// The stack, with its name, on which the operation of a number is in progress.
+pub fn stack_of_operation(world: &World, number: u64) -> Option<&(Txt, StackState)>
+    ensures { option_copied result ≡ stack_of_operation number world.now }
+{
+    world.stacks.as_slice().iter().find(|stack| stack.1.operation == number
+        && is_in_progress(stack.1.status))
+}
+
+/// The next step of the operation of a number, which rolls a creation back. The lanes tell which
+/// leases are out; the terms are those of each path of what is made, and of what is being created.
+///
+/// The error comes where memory is lacking, and where no token is left.
+pub fn next_step(
+    alloc: Global,
+    world: &World,
+    number: u64,
+    homes: &Homes,
+    terms: &ByName<Terms>,
+) -> Result<Next, AllocError>
+    requires { RollsBack terms.now world.now number }
+    ensures chosen { IfOk result (λ n. (schemas : List Schema) → IsNext schemas world.now (leases_of homes.now) number n) }
+    ensures may_follow { IfOk result (λ n. (schemas : List Schema) (e : Entry) → entry_of number n ≡ Some e → MayFollow schemas world.now (leases_of homes.now) e) }
+{
+    let out = leases_of(alloc, homes)?;
+    match stack_of_operation(world, number) {
+        Some(going) => next_back(alloc, world, &going.1, out.as_slice(), terms),
+        // The operation is in progress.
+        None => unreachable!(),
+    }
+}

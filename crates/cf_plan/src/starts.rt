@@ -1,0 +1,97 @@
+//! Where the forward phase of an operation may begin, and with which requests.
+ghost use Rattle.std.specs.Prelude.{◌≡◌, [], IfOk, IsTrue, fold};
+ghost use Rattle.cf_plan.specs.Forward.{plan_before, plan_now};
+ghost use Rattle.cf_plan.specs.Done.{AreDone, are_in_order};
+ghost use Rattle.cf_plan.specs.Starts.{AreStarts, may_start, starts_by, with_start};
+
+use crate::done::{are_met, is_among};
+use crate::forward::{Wants, is_free, wants_by};
+use cf_desired::Plan;
+use cf_schema::Schemas;
+use cf_stacks::StackState;
+use cf_tree::{ByName, Names, Txt};
+use std::alloc::{AllocError, Global};
+
+/// Whether a path is not done, all that it needs is done, and no token of it is open.
+fn may_start(stack: &StackState, before: &Plan, done: &Names, path: &Txt) -> bool
+    ensures { result ≡ may_start stack.now before.now done.now path.now }
+{
+    !is_among(path, done) && are_met(before, done, path) && is_free(stack, path)
+}
+
+/// Adds what a path may begin with, where it may. After an error nothing is said of the map.
+fn add_start(
+    alloc: Global,
+    schemas: &Schemas,
+    stack: &StackState,
+    before: &Plan,
+    now: &Plan,
+    done: &Names,
+    starts: &mut ByName<Wants>,
+    path: &Txt,
+) -> Result<(), AllocError>
+    requires { IsTrue (are_in_order now.now) }
+    ensures { IfOk result (λ _. starts.new ≡ with_start schemas.now stack.now before.now now.now done.now starts.old path.now) }
+{
+    if may_start(stack, before, done, path) {
+        let wants = wants_by(alloc, schemas, stack, now, path)?;
+        let path = path.try_clone(alloc)?;
+        starts.insert(path, wants)
+    } else {
+        Ok(())
+    }
+}
+
+/// The same of all wanted paths.
+fn starts_by(
+    alloc: Global,
+    schemas: &Schemas,
+    stack: &StackState,
+    before: &Plan,
+    now: &Plan,
+    done: &Names,
+) -> Result<ByName<Wants>, AllocError>
+    requires { IsTrue (are_in_order now.now) }
+    ensures { IfOk result (λ starts. starts ≡ starts_by schemas.now stack.now before.now now.now done.now) }
+{
+    let mut starts = ByName::new(alloc);
+    for wanted in before.wanted.as_slice() {
+        add_start(
+            alloc,
+            schemas,
+            stack,
+            before,
+            now,
+            done,
+            &mut starts,
+            &wanted.path,
+        )?;
+    }
+    Ok(starts)
+}
+
+/// What the forward phase may begin with, by path in byte order: the requests of each path that is ready and not done, and of
+/// which no token is open. That the phase has not failed is for the caller to see.
+///
+/// `before` is what the operation's source says over what was held before, `now` what it says over the resources of now, and
+/// `done` are the paths that are done.
+///
+/// # Errors
+///
+/// Only for want of memory.
+pub fn starts_of(
+    alloc: Global,
+    schemas: &Schemas,
+    stack: &StackState,
+    before: &Plan,
+    now: &Plan,
+    done: &Names,
+) -> Result<ByName<Wants>, AllocError>
+    requires before { before.now ≡ plan_before stack.now }
+    requires now { now.now ≡ plan_now stack.now }
+    requires done { AreDone stack.now done.now }
+    requires ordered { IsTrue (are_in_order now.now) }
+    ensures { IfOk result (λ starts. AreStarts schemas.now stack.now starts) }
+{
+    starts_by(alloc, schemas, stack, before, now, done)
+}

@@ -1,0 +1,122 @@
+//! The source that an operation works by, with its templates.
+ghost use Rattle.std.specs.Prelude.{◌≡◌, IfOk, Some, map};
+ghost use Rattle.cf_desired.specs.Plan.{Seen, plan_of};
+ghost use Rattle.cf_desired.specs.Templates.{IsFlat};
+ghost use Rattle.cf_desired.specs.Whole.{export_names_of, wanted_at};
+ghost use Rattle.cf_stacks.specs.Changing.{Steps};
+ghost use Rattle.cf_stacks.specs.Fold.{empty_whole, terms_of, whole_over};
+
+use crate::fault::StepFault;
+use crate::terms::Terms;
+use cf_desired::{Plan, Seen, WholePlan, is_flat_source, plan, templates_of, terms_at, whole};
+use cf_export::Outputs;
+use cf_tree::{Listing, Names, Source, Templates, TryClone, Txt};
+use std::alloc::{AllocError, Global};
+use std::marker::Model;
+
+/// A source with its templates, which are read once. Its root template holds no nested stack.
+#[derive(Drop)]
+pub struct Going {
+    source: Source,
+    templates: Templates,
+}
+
+impl Model for Going {
+    ghost use Rattle.std.specs.Prelude.{◌≡◌};
+    ghost use Rattle.cf_tree.specs.declared.source.Source.{Source};
+    ghost use Rattle.cf_desired.specs.Templates.{IsFlat, templates_of};
+
+    ghost Value = { Source };
+
+    ghost view = { λ g. g.source };
+
+    ghost invariant = { λ g. IsFlat g.source × (g.templates ≡ templates_of g.source) };
+}
+
+impl Going {
+    /// A source with its templates.
+    ///
+    /// # Errors
+    ///
+    /// `Nested` comes exactly where its root template holds a nested stack.
+    pub fn new(alloc: Global, source: Source) -> Result<Going, StepFault>
+        ensures { Steps (IsFlat source) (λ going. going ≡ source) result }
+    {
+        let templates = templates_of(alloc, &source)?;
+        if is_flat_source(&source, &templates) {
+            Ok(Going { source, templates })
+        } else {
+            Err(StepFault::Nested)
+        }
+    }
+
+    /// The source.
+    pub fn source(&self) -> &Source
+        ensures { result.now ≡ self.now }
+    {
+        &self.source
+    }
+
+    /// What it wants, over what is seen.
+    pub fn plan(&self, alloc: Global, seen: &Seen) -> Result<Plan, AllocError>
+        ensures { IfOk result (λ plan. plan ≡ plan_of self.now seen.now) }
+    {
+        plan(alloc, &self.source, &self.templates, seen)
+    }
+
+    /// The policies and needs that it gives a path; they don't rest on what is seen.
+    #[tactic(auto, using(crate::proofs::Termed::terms_so, crate::proofs::Termed::no_terms))]
+    pub fn terms(&self, alloc: Global, path: &Txt) -> Result<Terms, AllocError>
+        ensures { IfOk result (λ terms. (seen : Seen) → terms ≡ terms_of (wanted_at path.now (plan_of self.now seen))) }
+    {
+        match terms_at(alloc, &self.source, &self.templates, path)? {
+            Some(terms) => Ok(Terms {
+                needs: terms.needs,
+                deletion: terms.deletion,
+                replace: terms.replace,
+            }),
+            None => Ok(Terms::usual(alloc)),
+        }
+    }
+
+    /// All that it wants over what is seen; nothing where not all of that is known.
+    pub fn whole(&self, alloc: Global, seen: &Seen) -> Result<WholePlan, AllocError>
+        ensures { IfOk result (λ whole. whole ≡ whole_over (Some self.now) seen.now) }
+    {
+        let plan = self.plan(alloc, seen)?;
+        match whole(alloc, &plan)? {
+            Some(whole) => Ok(whole),
+            None => Ok(nothing(alloc)),
+        }
+    }
+
+    /// The names that it exports, over what is seen.
+    pub fn export_names(&self, alloc: Global, seen: &Seen) -> Result<Names, AllocError>
+        ensures { IfOk result (λ names. names ≡ export_names_of self.now seen.now) }
+    {
+        let plan = self.plan(alloc, seen)?;
+        names_in(alloc, &plan)
+    }
+}
+
+/// The names of the exports of a plan.
+fn names_in(alloc: Global, plan: &Plan) -> Result<Names, AllocError>
+    ensures { IfOk result (λ names. names ≡ map (λ e. e.0) plan.now.exports) }
+{
+    let mut names = Names::new(alloc);
+    for (name, _) in plan.exports.as_slice() {
+        names.push(name.try_clone(alloc)?)?;
+    }
+    Ok(names)
+}
+
+/// What is wanted where nothing is known; it takes no memory.
+pub fn nothing(alloc: Global) -> WholePlan
+    ensures { result ≡ empty_whole }
+{
+    WholePlan {
+        wanted: Listing::new(alloc),
+        outputs: Outputs::new(alloc),
+        exports: Listing::new(alloc),
+    }
+}

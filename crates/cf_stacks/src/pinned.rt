@@ -1,0 +1,161 @@
+//! The exports, pins and claims of one stack among those of all stacks.
+ghost use Rattle.std.specs.Prelude.{◌≡◌, ◌≤◌, ◌∷◌, [], IfOk, filter, fold, map, length, not, insert};
+ghost use Rattle.std.specs.List.{list_any};
+ghost use Rattle.cf_graph.specs.Inserted.{insert_by};
+ghost use Rattle.cf_stacks.specs.Fold.{is_before, is_export_before, is_same_pin, not_pin_of, not_export_of, export_by, pin_also, pin_of, repinned, reexported, pinning};
+
+use cf_export::{Export, Exports, Pin, Pins};
+use cf_tree::{Listing, Names, Pairs, TryClone, Txt};
+use std::alloc::{AllocError, Global};
+
+/// Whether a pin stands before another: by its stack and then by its name.
+fn is_before(a: &Pin, b: &Pin) -> bool
+    ensures { result ≡ is_before a.now b.now }
+{
+    a.stack < b.stack || (a.stack == b.stack && a.name < b.name)
+}
+
+/// Where a pin joins others: behind those that stand before it.
+#[tactic(auto, using(crate::proofs::Joins::behind_next, crate::proofs::Joins::behind_here, crate::proofs::Joins::behind_all))]
+fn place_of_pin(pins: &[Pin], pin: &Pin) -> usize
+    ensures within { result ≤ length pins.now }
+    ensures place { insert_by is_before pins.now pin.now ≡ insert pins.now result pin.now }
+{
+    for (at, other) in pins.iter().enumerate() {
+        if !is_before(other, pin) {
+            return at;
+        }
+    }
+    pins.len()
+}
+
+/// Puts a pin in its place. After an error the pins are as they were.
+fn insert_pin(pins: &mut Pins, pin: Pin) -> Result<(), AllocError>
+    ensures { IfOk result (λ _. pins.new ≡ insert_by is_before pins.old pin) }
+{
+    let at = place_of_pin(pins.as_slice(), &pin);
+    pins.insert(at, pin)
+}
+
+/// A stack's pin of a name.
+fn pin_of(alloc: Global, stack: &Txt, name: &Txt) -> Result<Pin, AllocError>
+    ensures { IfOk result (λ pin. pin ≡ pin_of stack.now name.now) }
+{
+    let stack = stack.try_clone(alloc)?;
+    let name = name.try_clone(alloc)?;
+    Ok(Pin { stack, name })
+}
+
+/// Takes the pins of a stack off.
+pub fn unpin(pins: &mut Pins, stack: &Txt)
+    ensures { pins.new ≡ filter (not_pin_of stack.now) pins.old }
+{
+    pins.retain(|pin| !(*stack == pin.stack));
+}
+
+/// Pins these names for a stack, in place of those that it pinned before. After an error nothing is
+/// said of the pins.
+pub fn repin(alloc: Global, pins: &mut Pins, stack: &Txt, names: &Names) -> Result<(), AllocError>
+    ensures { IfOk result (λ _. pins.new ≡ repinned stack.now names.now pins.old) }
+{
+    unpin(pins, stack);
+    for name in names.as_slice() {
+        let pin = pin_of(alloc, stack, name)?;
+        insert_pin(pins, pin)?;
+    }
+    Ok(())
+}
+
+/// Whether a list has a pin.
+fn has_pin(pins: &Pins, pin: &Pin) -> bool
+    ensures { result ≡ list_any (is_same_pin pin.now) pins.now }
+{
+    pins.as_slice()
+        .iter()
+        .any(|other| pin.stack == other.stack && pin.name == other.name)
+}
+
+/// Pins a name, where it is not pinned already. After an error nothing is said of the pins.
+fn pin_also(pins: &mut Pins, pin: Pin) -> Result<(), AllocError>
+    ensures { IfOk result (λ _. pins.new ≡ pin_also pins.old pin) }
+{
+    if has_pin(pins, &pin) {
+        return Ok(());
+    }
+    insert_pin(pins, pin)
+}
+
+/// Pins the names of these imports for a stack, beside those that it pins already. After an error
+/// nothing is said of the pins.
+pub fn pin_imports(
+    alloc: Global,
+    pins: &mut Pins,
+    stack: &Txt,
+    imports: &Pairs,
+) -> Result<(), AllocError>
+    ensures { IfOk result (λ _. pins.new ≡ fold pin_also pins.old (map (λ p. pin_of stack.now p.0) imports.now)) }
+{
+    for (name, _) in imports.as_slice() {
+        let pin = pin_of(alloc, stack, name)?;
+        pin_also(pins, pin)?;
+    }
+    Ok(())
+}
+
+/// Whether an export stands before another: by its name.
+fn is_export_before(a: &Export, b: &Export) -> bool
+    ensures { result ≡ is_export_before a.now b.now }
+{
+    a.name < b.name
+}
+
+/// Where an export joins others: behind those that stand before it.
+#[tactic(auto, using(crate::proofs::Joins::behind_next, crate::proofs::Joins::behind_here, crate::proofs::Joins::behind_all))]
+fn place_of_export(exports: &[Export], export: &Export) -> usize
+    ensures within { result ≤ length exports.now }
+    ensures place { insert_by is_export_before exports.now export.now ≡ insert exports.now result export.now }
+{
+    for (at, other) in exports.iter().enumerate() {
+        if !is_export_before(other, export) {
+            return at;
+        }
+    }
+    exports.len()
+}
+
+/// Puts an export in its place. After an error the exports are as they were.
+fn insert_export(exports: &mut Exports, export: Export) -> Result<(), AllocError>
+    ensures { IfOk result (λ _. exports.new ≡ insert_by is_export_before exports.old export) }
+{
+    let at = place_of_export(exports.as_slice(), &export);
+    exports.insert(at, export)
+}
+
+/// Takes the exports of a stack off.
+pub fn unexport(exports: &mut Exports, stack: &Txt)
+    ensures { exports.new ≡ filter (not_export_of stack.now) exports.old }
+{
+    exports.retain(|export| !(*stack == export.stack));
+}
+
+/// Exports these names with their values for a stack, in place of what it exported before. After an
+/// error nothing is said of the exports.
+pub fn reexport(
+    alloc: Global,
+    exports: &mut Exports,
+    stack: &Txt,
+    values: &Listing<(Txt, Txt)>,
+) -> Result<(), AllocError>
+    ensures { IfOk result (λ _. exports.new ≡ reexported stack.now values.now exports.old) }
+{
+    unexport(exports, stack);
+    for (name, value) in values.as_slice() {
+        let export = Export {
+            name: name.try_clone(alloc)?,
+            value: value.try_clone(alloc)?,
+            stack: stack.try_clone(alloc)?,
+        };
+        insert_export(exports, export)?;
+    }
+    Ok(())
+}

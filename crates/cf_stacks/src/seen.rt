@@ -1,0 +1,59 @@
+//! What the resources of a stack show to a template.
+ghost use Rattle.std.specs.Prelude.{◌≡◌, IfOk, filter, fold, not};
+ghost use Rattle.cf_stacks.specs.Fold.{put_seen, seen_in, seen_now};
+
+use crate::held::{Held, Helds};
+use crate::state::StackState;
+use cf_desired::{Seen, SeenAt};
+use cf_tree::TryClone;
+use std::alloc::{AllocError, Global};
+
+/// Adds what a resource shows of its path, unless another one shows it already. After an error
+/// nothing is said of what is seen.
+fn see(alloc: Global, seen: &mut Seen, held: &Held) -> Result<(), AllocError>
+    ensures { IfOk result (λ _. seen.new ≡ put_seen seen.old held.now) }
+{
+    if seen.get(held.path.as_str()).is_some() {
+        return Ok(());
+    }
+    let path = held.path.try_clone(alloc)?;
+    let physical = held.physical.try_clone(alloc)?;
+    let attrs = held.attrs.try_clone(alloc)?;
+    let shown = SeenAt {
+        physical: Some(physical),
+        attrs: Some(attrs),
+    };
+    seen.insert(path, shown)
+}
+
+/// Adds what a list of resources shows, but for those that are superseded. After an error nothing is
+/// said of what is seen.
+fn see_each(alloc: Global, seen: &mut Seen, helds: &Helds) -> Result<(), AllocError>
+    ensures { IfOk result (λ _. seen.new ≡ fold put_seen seen.old (filter (λ h. not h.superseded) helds.now)) }
+{
+    for held in helds.as_slice() {
+        if !held.superseded {
+            see(alloc, seen, held)?;
+        }
+    }
+    Ok(())
+}
+
+/// What a list of resources shows.
+pub fn seen_in(alloc: Global, helds: &Helds) -> Result<Seen, AllocError>
+    ensures { IfOk result (λ seen. seen ≡ seen_in helds.now) }
+{
+    let mut seen = Seen::new(alloc);
+    see_each(alloc, &mut seen, helds)?;
+    Ok(seen)
+}
+
+/// What the resources of a stack show: those that its operation made before those that it holds.
+pub fn seen_now(alloc: Global, stack: &StackState) -> Result<Seen, AllocError>
+    ensures { IfOk result (λ seen. seen ≡ seen_now stack.now) }
+{
+    let mut seen = Seen::new(alloc);
+    see_each(alloc, &mut seen, &stack.made)?;
+    see_each(alloc, &mut seen, &stack.held)?;
+    Ok(seen)
+}
