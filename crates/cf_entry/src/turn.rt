@@ -16,7 +16,7 @@ pub enum Phase {
 }
 
 /// Why an operation turned back.
-#[derive(Drop)]
+#[derive(Debug, Drop, PartialEq, Eq)]
 pub enum Cause {
     /// A request for the resource at a path was refused, or broke off.
     Handler { path: Txt, reason: Reason },
