@@ -21,8 +21,8 @@ use std::alloc::{AllocError, Global};
 ///
 /// `Bad` exactly where a condition has a fault, with the first one: why, the path `stack`, and the
 /// place of the innermost function around it. A condition that needs itself is
-/// `CircularCondition`, at the reference that comes back to it. `NoMemory`, where there is no
-/// memory for the map.
+/// `CircularCondition`, at the innermost function around the reference that comes back to it.
+/// `NoMemory`, where there is no memory for the map.
 #[tactic(auto, using(crate::proofs::Tells::told))]
 pub fn conditions(
     alloc: Global,
