@@ -5,7 +5,7 @@ use cf_param::BindFault;
 use cf_tree::Txt;
 
 /// A flaw of what a source wants. A path is that of a nested stack or of a resource, empty for the root.
-#[derive(Drop)]
+#[derive(Debug, Drop, PartialEq, Eq)]
 pub enum Flaw {
     /// The parameters of the stack at a path can't be bound.
     Bind { at: Txt, fault: BindFault },
