@@ -19,8 +19,6 @@ mod state;
 mod statuses;
 mod steps;
 mod terms;
-#[cfg(test)]
-mod tests;
 mod told;
 mod world;
 
@@ -31,6 +29,7 @@ pub use held::{
     Abandoned, GivenUp, Held, HeldStatus, Helds, KeptSet, KeptSets, Leftover, Leftovers, Pending,
     Pendings,
 };
+pub use seen::{seen_in, seen_now};
 pub use state::{StackState, Stacks, World};
 pub use terms::Terms;
 pub use world::fold;
