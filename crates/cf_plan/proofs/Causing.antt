@@ -46,15 +46,15 @@ and true b e f = f
 and false b e f = absurd (true≢false (sym e))
 
 -- members of lists that are put together
-in_left : {A : Type 0} (x : A) (xs ys : List A) → In x xs → In x (xs ++ ys)
+pub in_left : {A : Type 0} (x : A) (xs ys : List A) → In x xs → In x (xs ++ ys)
 in_left x [] ys i = absurd (in_none i)
 in_left x (z ∷ zs) ys i = elim (in_cons i) [ inl e ↦ subst (λ c. In x (c ∷ (zs ++ ys))) (sym e) here | inr j ↦ there (in_left x zs ys j) ]
 
-in_right : {A : Type 0} (x : A) (xs ys : List A) → In x ys → In x (xs ++ ys)
+pub in_right : {A : Type 0} (x : A) (xs ys : List A) → In x ys → In x (xs ++ ys)
 in_right x [] ys i = i
 in_right x (z ∷ zs) ys i = there (in_right x zs ys i)
 
-in_either : {A : Type 0} (x : A) (xs ys : List A) → In x (xs ++ ys) → In x xs ⊎ In x ys
+pub in_either : {A : Type 0} (x : A) (xs ys : List A) → In x (xs ++ ys) → In x xs ⊎ In x ys
 in_either x [] ys i = inr i
 in_either x (z ∷ zs) ys i = elim (in_cons i) [ inl e ↦ inl (subst (λ c. In x (c ∷ zs)) (sym e) here) | inr j ↦ elim (in_either x zs ys j) [ inl k ↦ inl (there k) | inr k ↦ inr k ] ]
 
@@ -133,13 +133,13 @@ first_found test (x ∷ xs) = by_test (test x) refl (first_found test xs)
     by_test true k h = rw k refl
     by_test false k h = rw k h
 
-all_are : (ws : List Wanted) (done : List (List ℕ)) → list_all (λ w. is_among w.path done) ws ≡ true → (p : List ℕ) → In p (map (λ w. w.path) ws) → is_among p done ≡ true
+pub all_are : (ws : List Wanted) (done : List (List ℕ)) → list_all (λ w. is_among w.path done) ws ≡ true → (p : List ℕ) → In p (map (λ w. w.path) ws) → is_among p done ≡ true
 all_are [] done e p i = absurd (in_none i)
 all_are (w ∷ ws) done e p i =
     let k = both (is_among w.path done) (list_all (λ v. is_among v.path done) ws) e in
     elim (in_cons i) [ inl same ↦ subst (λ q. is_among q done ≡ true) same k.0 | inr j ↦ all_are ws done k.1 p j ]
 
-are_all : (ws : List Wanted) (done : List (List ℕ)) → ((p : List ℕ) → In p (map (λ w. w.path) ws) → is_among p done ≡ true) → list_all (λ w. is_among w.path done) ws ≡ true
+pub are_all : (ws : List Wanted) (done : List (List ℕ)) → ((p : List ℕ) → In p (map (λ w. w.path) ws) → is_among p done ≡ true) → list_all (λ w. is_among w.path done) ws ≡ true
 are_all [] done h = refl
 are_all (w ∷ ws) done h = and (is_among w.path done) (list_all (λ v. is_among v.path done) ws) (h w.path here) (are_all ws done (λ p i. h p (there i)))
 

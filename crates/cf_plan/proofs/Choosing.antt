@@ -51,7 +51,7 @@ pub is_so : (b : Bool) → not b ≡ true → b ≡ false
 is_so true e = absurd (true≢false (sym e))
 is_so false e = refl
 
-and_no : (a b : Bool) → b ≡ false → (a && b) ≡ false
+pub and_no : (a b : Bool) → b ≡ false → (a && b) ≡ false
 and_no true b e = e
 and_no false b e = refl
 
@@ -66,7 +66,7 @@ module _ (schemas : List Schema) (name : List ℕ) (x : World) (out : List ℕ) 
   go_by r a b c d = both (is_not_needed s r) _ a (both (is_untried s r) _ b (both (is_free r.path s) _ c d))
 
   -- a lane of the opening that fits and is at home
-  home_by : (id lane : List ℕ) → IsOfLane lane id → list_any (λ l. bytes_eq lane l.0) x.lanes ≡ true → is_lane_out out x lane ≡ false
+  pub home_by : (id lane : List ℕ) → IsOfLane lane id → list_any (λ l. bytes_eq lane l.0) x.lanes ≡ true → is_lane_out out x lane ≡ false
       → list_any (is_home_of out x id) x.lanes ≡ true
   home_by id lane of there_is home =
       let l = in_any (λ (m : List ℕ × List ℕ). bytes_eq lane m.0) x.lanes there_is in

@@ -31,7 +31,7 @@ use Rattle.cf_plan.proofs.OfLane.{of_lane_is}
 use Rattle.cf_plan.proofs.Orders.{helds_in_order, tokens_in_order}
 use Rattle.cf_plan.proofs.Choosing.{both, either, not_so, is_so, emptied, waits_by, deletes_going, keeps_going, no_turn, Starts, repeat_passes, repeat_first, no_repeat, go_first, none_goes, end_first}
 
-found_in : {A : Type 0} (test : A → Bool) (xs : List A) (a : A) → find test xs ≡ Some a → In a xs × (test a ≡ true)
+pub found_in : {A : Type 0} (test : A → Bool) (xs : List A) (a : A) → find test xs ≡ Some a → In a xs × (test a ≡ true)
 found_in test [] a e = absurd cc
 found_in test (x ∷ xs) a e = by (found_in test xs a) (test x) refl e
   where
@@ -93,7 +93,7 @@ none_called : (cs : List Call) → filter (λ c. is_out [] c.token) cs ≡ []
 none_called [] = refl
 none_called (c ∷ cs) = none_called cs
 
-no_repeat_out : (s : StackState) → is_repeat_out [] s ≡ false
+pub no_repeat_out : (s : StackState) → is_repeat_out [] s ≡ false
 no_repeat_out s =
     ap (λ (cs : List Call). list_any (λ c. nat_lt 0 (doubts_of c.token s) || not (is_new c.token s)) cs) (none_called (calls_in s.entries))
 
@@ -109,7 +109,7 @@ no_lane_out x lane = by x.stacks
 
 module _ (schemas : List Schema) (name : List ℕ) (x : World) (s : StackState) (rolling : s.status ≡ status.RollbackInProgress) where
   -- at the end, if nobody's lease were out, none would be repeated and nothing would go
-  at_end : waits_for_repeats Back [] s ≡ false → IsFirstOf is_held_before (may_go [] x s) s.made None → IsAtEnd schemas name x s Back
+  pub at_end : waits_for_repeats Back [] s ≡ false → IsFirstOf is_held_before (may_go [] x s) s.made None → IsAtEnd schemas name x s Back
   at_end idle f = (nothing, λ p w. not_both (waits_for_repeats Back [] s) (waits_by schemas name x [] s p w.0 w.1) idle)
     where
       nothing : (e : Entry) → MayStep schemas name x [] s Back e → ⊥
@@ -125,7 +125,7 @@ module _ (schemas : List Schema) (name : List ℕ) (x : World) (s : StackState) 
       nothing (entry.ChangeSet number stack source rows outputs) w = w
 
   -- a rollback that waits for repeats, of which none is out, is not at its end
-  waits_on : (out : List ℕ) → waits_for_repeats Back out s ≡ true → none_out out s ≡ true → IsAtEnd schemas name x s Back → ⊥
+  pub waits_on : (out : List ℕ) → waits_for_repeats Back out s ≡ true → none_out out s ≡ true → IsAtEnd schemas name x s Back → ⊥
   waits_on out waits none end = by (either (is_repeat_out out s) (list_any (may_repeat Back out s) s.tokens) waits)
     where
       by : (is_repeat_out out s ≡ true) ⊎ (list_any (may_repeat Back out s) s.tokens ≡ true) → ⊥
@@ -190,7 +190,7 @@ module _ (schemas : List Schema) (name : List ℕ) (x : World) (s : StackState) 
         } in
         subst Chosen (sym same) c
 
-    ended_parts : is_ended out x s ≡ true → (none_out out s ≡ true) × (waits_for_repeats Back [] s ≡ false) × (first_by is_held_before (may_go [] x s) s.made ≡ None)
+    pub ended_parts : is_ended out x s ≡ true → (none_out out s ≡ true) × (waits_for_repeats Back [] s ≡ false) × (first_by is_held_before (may_go [] x s) s.made ≡ None)
     ended_parts e =
         let rest = second_so (none_out out s) (not (waits_for_repeats Back [] s) && not (is_some (first_by is_held_before (may_go [] x s) s.made))) e in (
           first_so (none_out out s) (not (waits_for_repeats Back [] s) && not (is_some (first_by is_held_before (may_go [] x s) s.made))) e,
@@ -267,7 +267,7 @@ module _ (schemas : List Schema) (name : List ℕ) (x : World) (s : StackState) 
         (both (not (waits_for_repeats Back [] s)) (not (is_some (first_by is_held_before (may_go [] x s) s.made))) (not_so (waits_for_repeats Back [] s) idle)
         (ap (λ (o : Option Held). not (is_some o)) e))
 
-    not_ended : is_ended out x s ≡ false → none_out out s ≡ true → IsAtEnd schemas name x s Back → ⊥
+    pub not_ended : is_ended out x s ≡ false → none_out out s ≡ true → IsAtEnd schemas name x s Back → ⊥
     not_ended more none end = by (waits_for_repeats Back [] s) refl (first_by is_held_before (may_go [] x s) s.made) refl
       where
         by : (b : Bool) → waits_for_repeats Back [] s ≡ b → (o : Option Held) → first_by is_held_before (may_go [] x s) s.made ≡ o → ⊥

@@ -29,15 +29,17 @@ use Rattle.cf_stacks.specs.Words.{stack_at, stack_of_operation, current_at, reso
 use Rattle.cf_stacks.specs.Fold.{heard, marked, left_in_doubt, as_wanted, is_physical_of, is_right_at, settled_in, ended, over, done_over, on_stack, world_after, whole_over, empty_whole, seen_in, seen_now, reexported, is_export_before, not_export_of, export_by}
 use Rattle.cf_plan.specs.Forward.{In, here, there}
 use Rattle.cf_plan.specs.Follow.{EndsAs, is_cleared}
-use Rattle.cf_plan.specs.Lanes.{Lane, lane_at, is_leftover}
+use Rattle.cf_plan.specs.Lanes.{Lane, lane_at}
 use Rattle.cf_plan.specs.Ends.{IsLive, IsComplete, IsRestored}
 use Rattle.cf_plan.specs.Created.{IsRightCreate, IsWholeHeld}
-use Rattle.cf_plan.specs.Run.{Told, told_lane, lanes_told, NothingNewer}
-use Rattle.cf_plan.specs.Keeping.{Tells, name_at, IsOurs, was_live, is_left, is_made, is_born, live_as, live_in, IsAlive, AreAlive, IsKept}
+use Rattle.cf_plan.specs.Run.{Told, AreFresh, told_lane, lanes_told, Tells, name_at, IsBorn, IsOurs, was_live, is_left, is_made, is_born, OnlyOurs, NothingNewer}
+use Rattle.cf_plan.specs.Keeping.{live_as, live_in, IsAlive, AreAlive, IsKept}
 use Rattle.cf_plan.proofs.CreatedRight.{not_so, none_of, in_filter}
 use Rattle.cf_plan.proofs.CreatedSeen.{shown, shown_at}
 use Rattle.cf_plan.proofs.CreatedEnd.{in_changed, ends_over}
 use Rattle.cf_plan.proofs.CreatedStays.{found_one}
+use Rattle.cf_plan.proofs.Causing.{in_left, in_right}
+use Rattle.cf_plan.proofs.Listed.{in_map}
 use Rattle.cf_plan.proofs.RunLists.{none_false, in_kept}
 use Rattle.cf_plan.proofs.RunLanes.{same_bytes, bytes_same, in_place, tells_within}
 use Rattle.cf_plan.proofs.RunStacks.{value_where, none_where}
@@ -156,27 +158,22 @@ marked_live ps h = by_found (find (is_on h.physical) ps) where
   by_found None = refl
   by_found (Some p) = refl
 
--- the leftovers of a stack are among all
-left_here : (test : Leftover → Bool) (name : List ℕ) (s : StackState) (xs : List (List ℕ × StackState)) → value_at name xs ≡ Some s → list_any test s.leftovers ≡ true → list_any test (flat_map (λ t. t.1.leftovers) xs) ≡ true
-left_here test name s [] e l = let no : ⊥ = cc in absurd no
-left_here test name s (t ∷ xs) e l =
-    list_any-append test t.1.leftovers (flat_map (λ u. u.1.leftovers) xs) ∙ by_name (bytes_eq name t.0) e (left_here test name s xs) where
-      by_name : (b : Bool) → cond b (Some t.1) (value_at name xs) ≡ Some s → (value_at name xs ≡ Some s → list_any test s.leftovers ≡ true → list_any test (flat_map (λ u. u.1.leftovers) xs) ≡ true) → (list_any test t.1.leftovers || list_any test (flat_map (λ u. u.1.leftovers) xs)) ≡ true
-      by_name true f ih = let same : t.1 ≡ s = cc in ap (λ u. list_any test u.leftovers || list_any test (flat_map (λ v. v.1.leftovers) xs)) same ∙ ap (λ b. b || list_any test (flat_map (λ v. v.1.leftovers) xs)) l
-      by_name false f ih = or_right (list_any test t.1.leftovers) (list_any test (flat_map (λ u. u.1.leftovers) xs)) (ih f l)
-
 -- how a creation has ended
-pub data EndsSo (names kinds : List (List ℕ)) (began told : Told) (name : List ℕ) (y : World) (t : StackState) : Type 0 where
-  completes : t.status ≡ status.CreateComplete → IsComplete name y t (lanes_told names kinds told) → EndsSo names kinds began told name y t
-  restores : t.status ≡ status.RollbackComplete → IsRestored t (lanes_told names kinds told) → t.before ≡ [] → NothingNewer y began told → EndsSo names kinds began told name y t
-  fails : t.status ≡ status.RollbackFailed → EndsSo names kinds began told name y t
+pub data EndsSo (names kinds : List (List ℕ)) (began told : Told) (name : List ℕ) (source : Source) (y : World) (t : StackState) : Type 0 where
+  completes : t.status ≡ status.CreateComplete → IsComplete name y t (lanes_told names kinds told) → t.source ≡ Some source → EndsSo names kinds began told name source y t
+  restores : t.status ≡ status.RollbackComplete → IsRestored t (lanes_told names kinds told) → t.before ≡ [] → NothingNewer t began told → EndsSo names kinds began told name source y t
+  fails : t.status ≡ status.RollbackFailed → EndsSo names kinds began told name source y t
 
-pub record HasEnded (names kinds : List (List ℕ)) (began told : Told) (number : ℕ) (name : List ℕ) (y : World) : Type 0 where
+pub record HasEnded (names kinds : List (List ℕ)) (began told : Told) (number : ℕ) (name : List ℕ) (source : Source) (y : World) : Type 0 where
   pub none : stack_of_operation number y ≡ None
   pub stack : StackState
   pub at_name : stack_at name y ≡ Some stack
   pub number_is : stack.operation ≡ number
-  pub so : EndsSo names kinds began told name y stack
+  pub so : EndsSo names kinds began told name source y stack
+  pub only_ours : OnlyOurs names stack began told
+  pub as_many : length told ≡ length names
+  pub all_tell : (k : ℕ) (before : LaneState) → Tells began k before → (lane : LaneState) × Tells told k lane
+  pub fresh : AreFresh y.token told
 
 pub not_in : {A : Type 0} (x : A) (xs : List A) → xs ≡ [] → In x xs → ⊥
 not_in {A} x xs e i = never (subst (In x) e i) where
@@ -187,6 +184,11 @@ not_in {A} x xs e i = never (subst (In x) e i) where
 done_stacks : (state : Status) (o : Option (List ℕ × StackState)) (y : World) → (over (λ n t z. done_over n state t z) o y).stacks ≡ y.stacks
 done_stacks state None y = refl
 done_stacks state (Some t) y = refl
+
+-- and gives no token out
+done_token : (state : Status) (o : Option (List ℕ × StackState)) (y : World) → (over (λ n t z. done_over n state t z) o y).token ≡ y.token
+done_token state None y = refl
+done_token state (Some t) y = refl
 
 module _ (schemas : List Schema) (names kinds : List (List ℕ)) (began told : Told) (number : ℕ) (name : List ℕ) (source : Source) (x : World) (s : StackState)
     (h : IsKept names began told number name source x s) (lanes_differ : all_differ bytes_eq names ≡ true) (as_many : length kinds ≡ length names) (failed : List (List ℕ)) where
@@ -296,16 +298,56 @@ module _ (schemas : List Schema) (names kinds : List (List ℕ)) (began told : T
   operation_is : s.operation ≡ number
   operation_is = eqb-true s.operation number (number_is names began told number name source x s h)
 
-  nothing_newer : (s.made ≡ []) × (s.tokens ≡ []) → NothingNewer (world status.RollbackComplete) began told
+  -- what is live is of the stack as it ends, where this keeps each resource that was made
+  still_ours :
+      (t : StackState) → t.tokens ≡ s.tokens → t.leftovers ≡ s.leftovers
+      → ((r : Held) → In r s.made → (q : Held) × In q (resources_of t) × (q.physical ≡ r.physical)) → OnlyOurs names t began told
+  still_ours t tokens leftovers kept k before after v b now i = by_part (h.agree.ours k before after v b now i) where
+    by_part : IsOurs names told s.made s.tokens s.leftovers k before after v.id → IsOurs names told (resources_of t) t.tokens t.leftovers k before after v.id
+    by_part (was_live e) = was_live e
+    by_part (is_left e) = is_left (subst (λ ls. list_any (λ l. bytes_eq v.id l.physical) ls ≡ true) (sym leftovers) e)
+    by_part (is_made r j e o) = let q = kept r j in is_made q.0 q.1 (q.2 ∙ e) o
+    by_part (is_born w) = is_born (subst (λ ps. IsBorn names told ps k after v.id) (sym tokens) w)
+
+  -- where the creation is complete, what was made is held
+  made_held : (r : Held) → In r s.made → (q : Held) × In q (resources_of (end_of status.CreateComplete s)) × (q.physical ≡ r.physical)
+  made_held r i = by_whole (whole_over s.going (seen_in (map (marked s.tokens) s.made ++ map (marked s.tokens) s.held))) where
+    middle : StackState
+    middle = record s { status = status.CreateComplete; held = map (marked s.tokens) s.held; made = map (marked s.tokens) s.made }
+
+    by_whole :
+        (whole : Whole)
+        → (q : Held) × In q (map (settled_in whole middle) (map (marked s.tokens) s.held ++ map (marked s.tokens) s.made) ++ []) × (q.physical ≡ r.physical)
+    by_whole whole =
+        let q : Held = settled_in whole middle (marked s.tokens r) in (
+          q,
+          in_left q (map (settled_in whole middle) (map (marked s.tokens) s.held ++ map (marked s.tokens) s.made)) []
+              (in_map (settled_in whole middle) (marked s.tokens r) (map (marked s.tokens) s.held ++ map (marked s.tokens) s.made)
+              (in_right (marked s.tokens r) (map (marked s.tokens) s.held) (map (marked s.tokens) s.made) (in_map (marked s.tokens) r s.made i))),
+          ap (λ v. v.id) (settled_live whole middle (marked s.tokens r) ∙ marked_live s.tokens r),
+        )
+
+  -- a rollback leaves what was made and not deleted, among what it made or, where it failed, among what is held
+  made_left : (r : Held) → In r s.made → (q : Held) × In q (map (marked s.tokens) s.held ++ map (marked s.tokens) s.made) × (q.physical ≡ r.physical)
+  made_left r i = (
+    marked s.tokens r,
+    in_right (marked s.tokens r) (map (marked s.tokens) s.held) (map (marked s.tokens) s.made) (in_map (marked s.tokens) r s.made i),
+    ap (λ v. v.id) (marked_live s.tokens r),
+  )
+
+  made_kept : (r : Held) → In r s.made → (q : Held) × In q ((map (marked s.tokens) s.held ++ map (marked s.tokens) s.made) ++ []) × (q.physical ≡ r.physical)
+  made_kept r i =
+      let q = made_left r i in (q.0, in_left q.0 (map (marked s.tokens) s.held ++ map (marked s.tokens) s.made) [] q.1, q.2)
+
+  nothing_newer : (s.made ≡ []) × (s.tokens ≡ []) → NothingNewer (end_of status.RollbackComplete s) began told
   nothing_newer none k before after v b t i = by_part (h.agree.ours k before after v b t i) where
-    by_part : IsOurs names told s.made s.tokens s.leftovers k before after v.id → (has_id v.id (live_of before) ≡ true) ⊎ (is_leftover v.id (world status.RollbackComplete) ≡ true)
+    by_part : IsOurs names told s.made s.tokens s.leftovers k before after v.id → (has_id v.id (live_of before) ≡ true) ⊎ (list_any (λ l. bytes_eq v.id l.physical) s.leftovers ≡ true)
     by_part (was_live e) = inl e
-    by_part (is_left e) =
-        inr (left_here (λ l. bytes_eq v.id l.physical) name (end_of status.RollbackComplete s) (world status.RollbackComplete).stacks (here_at status.RollbackComplete) e)
+    by_part (is_left e) = inr e
     by_part (is_made r j e o) = absurd (not_in r s.made none.0 j)
     by_part (is_born w) = absurd (not_in w.0 s.tokens none.1 w.4)
 
-  restored : is_cleared s ≡ true → EndsSo names kinds began told name (world status.RollbackComplete) (end_of status.RollbackComplete s)
+  restored : is_cleared s ≡ true → EndsSo names kinds began told name source (world status.RollbackComplete) (end_of status.RollbackComplete s)
   restored e =
       let none = none_made e in
       let none_kept : map (marked s.tokens) s.held ≡ [] = ap (map (marked s.tokens)) h.none_held in
@@ -319,19 +361,33 @@ module _ (schemas : List Schema) (names kinds : List (List ℕ)) (began told : T
       h.none_before (nothing_newer none)
 
   has_ended : (state : Status) → ((t : StackState) → is_going number (end_of state t) ≡ false) → (end_of state s).operation ≡ s.operation
-      → EndsSo names kinds began told name (world state) (end_of state s) → HasEnded names kinds began told number name (world state)
-  has_ended state none operation so = record { none = none_at state none; stack = end_of state s; at_name = here_at state; number_is = operation ∙ operation_is; so = so }
+      → EndsSo names kinds began told name source (world state) (end_of state s) → OnlyOurs names (end_of state s) began told
+      → HasEnded names kinds began told number name source (world state)
+  has_ended state none operation so ours = record {
+    none = none_at state none;
+    stack = end_of state s;
+    at_name = here_at state;
+    number_is = operation ∙ operation_is;
+    so = so;
+    only_ours = ours;
+    as_many = h.agree.as_many;
+    all_tell = h.agree.all_tell;
+    fresh = subst (λ last. AreFresh last told) (sym (done_token state (stack_of_operation number x) (over_all state))) h.agree.fresh;
+  }
 
   -- how a creation may end
   pub ends_forward :
       (state : Status) (other : List ℕ) → s.status ≡ status.CreateInProgress → IsRightCreate source s → AreAlive names told s.made s.tokens
-      → EndsAs schemas other x s status.CreateInProgress state → HasEnded names kinds began told number name (world state)
+      → EndsAs schemas other x s status.CreateInProgress state → HasEnded names kinds began told number name source (world state)
   ends_forward status.CreateComplete other forward right all ends =
-      has_ended status.CreateComplete (λ t. and_right (t.operation == number) false refl) refl (completes refl (completed right all other ends))
+      has_ended status.CreateComplete (λ t. and_right (t.operation == number) false refl) refl (completes refl (completed right all other ends) right.0.going)
+      (still_ours (end_of status.CreateComplete s) refl refl made_held)
   ends_forward state other forward right all ends = absurd ends
 
   pub ends_back :
-      (state : Status) (other : List ℕ) → s.status ≡ status.RollbackInProgress → EndsAs schemas other x s status.RollbackInProgress state → HasEnded names kinds began told number name (world state)
+      (state : Status) (other : List ℕ) → s.status ≡ status.RollbackInProgress → EndsAs schemas other x s status.RollbackInProgress state → HasEnded names kinds began told number name source (world state)
   ends_back status.RollbackComplete other back ends = has_ended status.RollbackComplete (λ t. and_right (t.operation == number) false refl) refl (restored ends)
+      (still_ours (end_of status.RollbackComplete s) refl refl made_left)
   ends_back status.RollbackFailed other back ends = has_ended status.RollbackFailed (λ t. and_right (t.operation == number) false refl) refl (fails refl)
+      (still_ours (end_of status.RollbackFailed s) refl refl made_kept)
   ends_back state other back ends = absurd ends

@@ -34,8 +34,8 @@ use Rattle.cf_stacks.specs.Words.{current_at, is_update, is_create, has_token, p
 use Rattle.cf_stacks.specs.Fold.{heard, made_of, status_made, answered, closing, replied, terms_for, with_status, world_after}
 use Rattle.cf_plan.specs.Forward.{In}
 use Rattle.cf_plan.specs.Created.{IsRightCreate, IsSaid}
-use Rattle.cf_plan.specs.Run.{Told, IsDone, IsAsked, answer_as}
-use Rattle.cf_plan.specs.Keeping.{Tells, name_at, IsSettledAs, Agree, AreAlive, IsOnItsWay, makes, takes_back, IsKept}
+use Rattle.cf_plan.specs.Run.{Told, IsDone, IsAsked, answer_as, Tells, name_at, IsSettledAs}
+use Rattle.cf_plan.specs.Keeping.{Agree, AreAlive, IsOnItsWay, makes, takes_back, IsKept}
 use Rattle.cf_plan.proofs.CreatedStays.{found_one}
 use Rattle.cf_plan.proofs.CreatedRight.{outcome_right}
 use Rattle.cf_plan.proofs.RunLanes.{settled_now}

@@ -17,14 +17,15 @@ use Rattle.cf_stacks.specs.declared.held.Held.{Held}
 use Rattle.cf_stacks.specs.declared.held.Pending.{Pending}
 use Rattle.cf_stacks.specs.declared.state.StackState.{StackState}
 use Rattle.cf_stacks.specs.declared.state.World.{World}
-use Rattle.cf_stacks.specs.Words.{stack_at, stack_of_operation}
+use Rattle.cf_stacks.specs.Words.{stack_at, stack_of_operation, resources_of}
 use Rattle.cf_stacks.specs.Fold.{world_after, fold_of}
 use Rattle.cf_plan.specs.Forward.{In, here, there}
 use Rattle.cf_plan.specs.Follow.{MayFollowOn, EndsAs}
 use Rattle.cf_plan.specs.Promise.{Promised}
-use Rattle.cf_plan.specs.Run.{Told, IsDone, IsOwn, Runs, lanes_told, HasBegun, NothingNewer, KeepsPromise, CreationKeepsPromise}
+use Rattle.cf_plan.specs.Run.{Told, IsDone, IsOwn, Runs, lanes_told, HasBegun, Tells, IsBorn, IsOurs, was_live, is_left, is_made, is_born, OnlyOurs, NothingNewer, KeepsPromise, CreationKeepsPromise}
 use Rattle.cf_plan.specs.Blame.{RollbackBlames}
-use Rattle.cf_plan.specs.Keeping.{Tells, was_live, IsOnItsWay, makes, takes_back, IsKept}
+use Rattle.cf_plan.specs.Keeping.{IsOnItsWay, makes, takes_back, IsKept}
+use Rattle.cf_plan.proofs.Causing.{in_right}
 use Rattle.cf_plan.proofs.RunLists.{any_of}
 use Rattle.cf_plan.proofs.RunLanes.{same_bytes}
 use Rattle.cf_plan.proofs.KeepingWorld.{number_is}
@@ -35,7 +36,7 @@ use Rattle.cf_plan.proofs.KeepingEnd.{EndsSo, completes, restores, fails, HasEnd
 -- a creation goes on, or has ended
 pub data After (names kinds : List (List ℕ)) (began told : Told) (number : ℕ) (name : List ℕ) (source : Source) (y : World) : Type 0 where
   goes : (s : StackState) → IsKept names began told number name source y s → After names kinds began told number name source y
-  is_over : HasEnded names kinds began told number name y → After names kinds began told number name source y
+  is_over : HasEnded names kinds began told number name source y → After names kinds began told number name source y
 
 module _ (schemas : List Schema) (names kinds : List (List ℕ)) (began : Told) (number : ℕ) (name : List ℕ) (source : Source)
     (lanes_named : list_all is_lane_name names ≡ true) (lanes_differ : all_differ bytes_eq names ≡ true) (as_many : length kinds ≡ length names)
@@ -48,9 +49,9 @@ module _ (schemas : List Schema) (names kinds : List (List ℕ)) (began : Told) 
   same_told told now y e a = subst (λ t. Later t y) (sym e) a
 
   ended : (told : Told) (x : World) (s : StackState) → IsKept names began told number name source x s → (state : Status) (failed : List (List ℕ))
-      → MayFollowOn schemas number x [] (entry.Done number state failed) → HasEnded names kinds began told number name (world_after x (entry.Done number state failed))
+      → MayFollowOn schemas number x [] (entry.Done number state failed) → HasEnded names kinds began told number name source (world_after x (entry.Done number state failed))
   ended told x s h state failed may = by_way h.way (step_of schemas names began told number name source x s h (entry.Done number state failed) [] may) where
-    by_way : IsOnItsWay names told source s → IsStep schemas names began told number name source x s h (entry.Done number state failed) [] → HasEnded names kinds began told number name (world_after x (entry.Done number state failed))
+    by_way : IsOnItsWay names told source s → IsStep schemas names began told number name source x s h (entry.Done number state failed) [] → HasEnded names kinds began told number name source (world_after x (entry.Done number state failed))
     by_way (makes forward right all) step =
         ends_forward schemas names kinds began told number name source x s h lanes_differ as_many failed state step.stack forward right all
         (subst (λ st. EndsAs schemas step.stack x s st state) forward step.may.2)
@@ -118,6 +119,16 @@ tells_all (None ∷ told) k a i = absurd (true≢false (sym a))
 tells_all (Some lane ∷ told) zero a i = (lane, refl)
 tells_all (Some lane ∷ told) (suc k) a i = let j : k < length told = omega arith in tells_all told k a j
 
+none_tells : (lane : LaneState) → None ≡ Some lane → ⊥
+none_tells lane e = let no : ⊥ = cc in no
+
+all_tells : (told : Told) → ((k : ℕ) → k < length told → (lane : LaneState) × Tells told k lane) → list_all is_some told ≡ true
+all_tells [] tells = refl
+all_tells (None ∷ told) tells =
+    let first : 0 < suc (length told) = omega arith in
+    let t = tells 0 first in absurd (none_tells t.0 t.1)
+all_tells (Some lane ∷ told) tells = all_tells told (λ k i. (let j : suc k < suc (length told) = omega arith in tells (suc k) j))
+
 -- as a creation begins, nothing is made and no call is open
 pub begun :
     (names kinds : List (List ℕ)) (x : World) (told : Told) (number : ℕ) (name : List ℕ) (source : Source) (s : StackState)
@@ -156,17 +167,31 @@ keeps_promise blames schemas names kinds x told now counts counted number name s
       tells : (k : ℕ) → k < length names → (lane : LaneState) × Tells told k lane
       tells k i = tells_all told k h.all_tell (subst (λ n. k < n) (sym h.as_many.1) i)
 
-      promised : (t : StackState) → EndsSo names kinds told now name (fold_of x es) t → stack_at name (fold_of x es) ≡ Some t → Promised t.status name (fold_of x es) t (lanes_told names kinds now)
-      promised t (completes e c) at_name = subst (λ st. Promised st name (fold_of x es) t (lanes_told names kinds now)) (sym e) c
+      promised : (t : StackState) → EndsSo names kinds told now name source (fold_of x es) t → stack_at name (fold_of x es) ≡ Some t → Promised t.status name (fold_of x es) t (lanes_told names kinds now)
+      promised t (completes e c kept) at_name = subst (λ st. Promised st name (fold_of x es) t (lanes_told names kinds now)) (sym e) c
       promised t (restores e c none newer) at_name = subst (λ st. Promised st name (fold_of x es) t (lanes_told names kinds now)) (sym e) (c, none)
       promised t (fails e) at_name =
           subst (λ st. Promised st name (fold_of x es) t (lanes_told names kinds now)) (sym e)
           (blames schemas names kinds x told now counts counted number name source s es h r own t at_name e)
 
-      newer : (t : StackState) → EndsSo names kinds told now name (fold_of x es) t → t.status ≡ status.RollbackComplete → NothingNewer (fold_of x es) told now
-      newer t (completes e c) f = let no : status.CreateComplete ≡ status.RollbackComplete = sym e ∙ f in let never : ⊥ = cc in absurd never
+      newer : (t : StackState) → EndsSo names kinds told now name source (fold_of x es) t → t.status ≡ status.RollbackComplete → NothingNewer t told now
+      newer t (completes e c kept) f = let no : status.CreateComplete ≡ status.RollbackComplete = sym e ∙ f in let never : ⊥ = cc in absurd never
       newer t (restores e c none n) f = n
       newer t (fails e) f = let no : status.RollbackFailed ≡ status.RollbackComplete = sym e ∙ f in let never : ⊥ = cc in absurd never
+
+      source_kept : (t : StackState) → EndsSo names kinds told now name source (fold_of x es) t → t.status ≡ status.CreateComplete → t.source ≡ Some source
+      source_kept t (completes e c kept) f = kept
+      source_kept t (restores e c none n) f = let no : status.RollbackComplete ≡ status.CreateComplete = sym e ∙ f in let never : ⊥ = cc in absurd never
+      source_kept t (fails e) f = let no : status.RollbackFailed ≡ status.CreateComplete = sym e ∙ f in let never : ⊥ = cc in absurd never
+
+      -- while the creation goes on, what it made is not held yet
+      ours : (t : StackState) → IsKept names told now number name source (fold_of x es) t → OnlyOurs names t told now
+      ours t k place before after v b l i = by_part (k.agree.ours place before after v b l i) where
+        by_part : IsOurs names now t.made t.tokens t.leftovers place before after v.id → IsOurs names now (resources_of t) t.tokens t.leftovers place before after v.id
+        by_part (was_live e) = was_live e
+        by_part (is_left e) = is_left e
+        by_part (is_made r j e o) = is_made r (in_right r t.held t.made j) e o
+        by_part (is_born w) = is_born w
 
       promises_nothing : (t : StackState) → IsOnItsWay names now source t → Promised t.status name (fold_of x es) t (lanes_told names kinds now)
       promises_nothing t (makes forward right all) = subst (λ st. Promised st name (fold_of x es) t (lanes_told names kinds now)) (sym forward) tt
@@ -176,18 +201,35 @@ keeps_promise blames schemas names kinds x told now counts counted number name s
       not_yet t (makes forward right all) f = let no : status.CreateInProgress ≡ status.RollbackComplete = sym forward ∙ f in let never : ⊥ = cc in never
       not_yet t (takes_back back) f = let no : status.RollbackInProgress ≡ status.RollbackComplete = sym back ∙ f in let never : ⊥ = cc in never
 
-      by_end : After names kinds told now number name source (fold_of x es) → KeepsPromise names kinds (fold_of x es) told now number name
+      not_complete : (t : StackState) → IsOnItsWay names now source t → t.status ≡ status.CreateComplete → ⊥
+      not_complete t (makes forward right all) f = let no : status.CreateInProgress ≡ status.CreateComplete = sym forward ∙ f in let never : ⊥ = cc in never
+      not_complete t (takes_back back) f = let no : status.RollbackInProgress ≡ status.CreateComplete = sym back ∙ f in let never : ⊥ = cc in never
+
+      -- each lane that told its state as the run began tells it at its end
+      tells_still : ((k : ℕ) (before : LaneState) → Tells told k before → (lane : LaneState) × Tells now k lane) → length now ≡ length names → list_all is_some now ≡ true
+      tells_still all as_many =
+          all_tells now (λ k i. (let t = tells k (subst (λ n. k < n) as_many i) in all k t.0 t.1))
+
+      by_end : After names kinds told now number name source (fold_of x es) → KeepsPromise names kinds (fold_of x es) told now number name source
       by_end (goes t k) = record {
         stack = t;
         here = k.here;
         number_is = eqb-true t.operation number (number_is names told now number name source (fold_of x es) t k);
         promised = promises_nothing t k.way;
+        source_kept = λ e. absurd (not_complete t k.way e);
         nothing_newer = λ e. absurd (not_yet t k.way e);
+        only_ours = ours t k;
+        tell = tells_still k.agree.all_tell k.agree.as_many;
+        fresh = k.agree.fresh;
       }
       by_end (is_over w) = record {
         stack = w.stack;
         here = w.at_name;
         number_is = w.number_is;
         promised = promised w.stack w.so w.at_name;
+        source_kept = source_kept w.stack w.so;
         nothing_newer = newer w.stack w.so;
+        only_ours = w.only_ours;
+        tell = tells_still w.all_tell w.as_many;
+        fresh = w.fresh;
       }

@@ -21,8 +21,8 @@ use Rattle.cf_stacks.specs.declared.held.Leftover.{Leftover}
 use Rattle.cf_stacks.specs.declared.held.Pending.{Pending}
 use Rattle.cf_stacks.specs.Words.{is_update, is_create}
 use Rattle.cf_plan.specs.Forward.{In}
-use Rattle.cf_plan.specs.Run.{Told, AreFresh}
-use Rattle.cf_plan.specs.Keeping.{Tells, name_at, IsKnown, IsSettledAs, has_gone, IsBorn, IsOurs, was_live, is_left, is_made, is_born, Agree, live_as, live_in, IsAlive, AreAlive}
+use Rattle.cf_plan.specs.Run.{Told, AreFresh, Tells, name_at, IsSettledAs, IsBorn, IsOurs, was_live, is_left, is_made, is_born}
+use Rattle.cf_plan.specs.Keeping.{IsKnown, has_gone, Agree, live_as, live_in, IsAlive, AreAlive}
 use Rattle.cf_plan.proofs.CreatedRight.{not_so, in_filter}
 use Rattle.cf_plan.proofs.CreatedStays.{in_more, found_in_more, found_still}
 use Rattle.cf_plan.proofs.RunLists.{none_false}

@@ -30,7 +30,7 @@ module _ (number : ℕ) (name : List ℕ) (s : StackState) (on : is_going number
   abbrev with_it : List (List ℕ × StackState) → List (List ℕ × StackState)
   with_it xs = insert_entry (slice_cmp nat_cmp) xs name s
 
-  found_put : (xs : List (List ℕ × StackState)) → ((t : List ℕ × StackState) → In t xs → is_going number t.1 ≡ false) → find (λ t. is_going number t.1) (with_it xs) ≡ Some (name, s)
+  pub found_put : (xs : List (List ℕ × StackState)) → ((t : List ℕ × StackState) → In t xs → is_going number t.1 ≡ false) → find (λ t. is_going number t.1) (with_it xs) ≡ Some (name, s)
   found_put [] h = ap (λ b. cond b (Some (name, s)) None) on
   found_put (t ∷ xs) h = by_order (slice_cmp nat_cmp name t.0) refl (found_put xs (λ u i. h u (there i))) where
     by_order :

@@ -21,8 +21,8 @@ use Rattle.cf_stacks.specs.declared.held.Pending.{Pending}
 use Rattle.cf_stacks.specs.Words.{is_update, has_token, without_token, has_physical, without, is_on, id_named}
 use Rattle.cf_stacks.specs.Fold.{with_status}
 use Rattle.cf_plan.specs.Forward.{In}
-use Rattle.cf_plan.specs.Run.{Told}
-use Rattle.cf_plan.specs.Keeping.{Tells, name_at, IsKnown, IsSettledAs, has_gone, IsOurs, was_live, is_left, is_made, is_born, Agree, live_as, live_in, IsAlive, AreAlive}
+use Rattle.cf_plan.specs.Run.{Told, Tells, name_at, IsSettledAs, IsOurs, was_live, is_left, is_made, is_born}
+use Rattle.cf_plan.specs.Keeping.{IsKnown, has_gone, Agree, live_as, live_in, IsAlive, AreAlive}
 use Rattle.cf_plan.proofs.CreatedRight.{in_filter}
 use Rattle.cf_plan.proofs.CreatedStays.{in_more}
 use Rattle.cf_plan.proofs.CreatedWhole.{in_map}

@@ -8,7 +8,6 @@ pub mod Choosing
 pub mod Chosen
 pub mod FailedPaths
 pub mod Followed
-pub mod Defaults
 pub mod Members
 pub mod Firsts
 pub mod Needed
@@ -18,7 +17,6 @@ pub mod Told
 pub mod Turns
 pub mod Answered
 pub mod Parting
-pub mod Known
 pub mod Findings
 pub mod Listed
 pub mod Fresh
@@ -26,6 +24,15 @@ pub mod Doing
 pub mod Least
 pub mod Causing
 pub mod Starting
+pub mod AtHome
+pub mod StepChosen
+pub mod InOrder
+pub mod CallsDue
+pub mod DueForward
+pub mod DueBack
+pub mod DueAll
+pub mod BlankSeen
+pub mod Prepared
 pub mod Begins
 pub mod RunLists
 pub mod RunLanes
@@ -38,6 +45,8 @@ pub mod KeepingOutcome
 pub mod KeepingEnd
 pub mod KeepingRun
 pub mod KeepingStarts
+pub mod Going
+pub mod Cleared
 pub mod BlameOrder
 pub mod BlameLanes
 pub mod BlameBooks

@@ -11,7 +11,9 @@ use Rattle.std.proofs.lemmas.Slice.Eq.{bytes_eq-Decides}
 use Rattle.cf_tree.specs.Keys.{bytes_lt}
 use Rattle.cf_plan.specs.Chosen.{is_sooner}
 use Rattle.cf_plan.specs.Taking.{is_token_before, is_held_before}
-use Rattle.cf_plan.proofs.Members.{false_from}
+use Rattle.cf_plan.specs.declared.stepping.Start.{Start}
+use Rattle.cf_plan.specs.Stepping.{is_start_before, place_in_path}
+use Rattle.cf_plan.proofs.Members.{false_from, not_both}
 use Rattle.cf_plan.proofs.Firsts.{IsOrder}
 
 is_less : (o : Ordering) → is_lt o ≡ true → o ≡ Less
@@ -90,4 +92,20 @@ pub tokens_in_order : IsOrder is_token_before
 tokens_in_order = record {
   not_itself = λ p. false_from (nat_lt p.token p.token) (λ t. absurd (omega (arith, ltb-true p.token p.token t)));
   goes_on = λ p q r l m. lt-ltb p.token r.token (omega (arith, ltb-true p.token q.token l, ltb-true q.token r.token m));
+}
+
+pub starts_in_order : IsOrder is_start_before
+starts_in_order = record {
+  not_itself = λ a. sooner_not_itself a.path (place_in_path a.request);
+  goes_on = λ a b c l m.
+      to_so (a.path, place_in_path a.request) (c.path, place_in_path c.request)
+      (sooner_on (a.path, place_in_path a.request) (b.path, place_in_path b.request) (c.path, place_in_path c.request)
+      (is_so (a.path, place_in_path a.request) (b.path, place_in_path b.request) l)
+      (is_so (b.path, place_in_path b.request) (c.path, place_in_path c.request) m));
+}
+
+pub sooner_in_order : IsOrder is_sooner
+sooner_in_order = record {
+  not_itself = λ a. sooner_not_itself a.0 a.1;
+  goes_on = λ a b c l m. to_so a c (sooner_on a b c (is_so a b l) (is_so b c m));
 }

@@ -18,8 +18,7 @@ use Rattle.cf_handler.specs.Lane.{LaneState, Live, live_of, live_after, changed_
 use Rattle.cf_handler.specs.Move.{with_settled, IsOfLane}
 use Rattle.cf_handler.specs.Name.{is_lane_name, is_name_byte}
 use Rattle.cf_plan.specs.Forward.{In, here, there}
-use Rattle.cf_plan.specs.Run.{Told}
-use Rattle.cf_plan.specs.Keeping.{Tells, name_at}
+use Rattle.cf_plan.specs.Run.{Told, Tells, name_at}
 use Rattle.cf_plan.proofs.CreatedRight.{first_not, second_not, not_so, none_of, in_filter}
 
 pub same_bytes : (a b : List ℕ) → a ≡ b → bytes_eq a b ≡ true

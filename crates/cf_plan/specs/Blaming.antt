@@ -1,4 +1,4 @@
--- Which paths failed, as it is worked out: in one walk over the outcomes, and then over the resources.
+-- Which paths failed, as it is worked out: in one walk over the outcomes, and then over the resources (this project's own).
 use Rattle.std.specs.Prelude.{ℕ, ◌==◌, Bool, true, List, [], Option, Some, None, nat_lt, fold, filter, map, if◌then◌else◌}
 use Rattle.cf_tree.specs.Keys.{put}
 use Rattle.cf_entry.specs.declared.entry.Entry.{Entry}

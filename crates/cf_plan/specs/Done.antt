@@ -1,12 +1,9 @@
 -- Which paths are done, as it is found out: path after path joins those that are done already (this project's own).
-use Rattle.std.specs.Prelude.{◌≡◌, ◌↔◌, ◌⊎◌, ℕ, Bool, true, false, List, [], ◌∷◌, ◌++◌, Some, IsTrue, filter, filter_map, map, not}
+use Rattle.std.specs.Prelude.{◌≡◌, ◌↔◌, ◌⊎◌, ℕ, Bool, false, List, [], ◌∷◌, ◌++◌, Some, IsTrue, filter, filter_map, map, not}
 use Rattle.std.specs.List.{list_all}
 use Rattle.std.specs.Option.{option_map_or}
 use Rattle.cf_tree.specs.Datum.{Data}
-use Rattle.cf_tree.specs.Keys.{ascends}
 use Rattle.cf_graph.specs.Needs.{is_among}
-use Rattle.cf_desired.specs.declared.wanted.Evaluated.{Evaluated}
-use Rattle.cf_desired.specs.declared.wanted.Evaluated.TheVariants as result
 use Rattle.cf_desired.specs.declared.wanted.Plan.{Plan}
 use Rattle.cf_desired.specs.Whole.{wanted_at}
 use Rattle.cf_stacks.specs.declared.held.Held.{Held}
@@ -17,14 +14,6 @@ use Rattle.cf_plan.specs.Called.{updated_path}
 use Rattle.cf_plan.specs.declared.found.Found as found
 use Rattle.cf_plan.specs.declared.found.Found.TheVariants.{Bad as bad, Later as not_yet, Known as known}
 use Rattle.cf_plan.specs.Forward.{In, IsDone, Finding, Bad, Later, Known, finding}
-
--- the names of properties ascend, as those of a template do
-abbrev pub is_in_order : Evaluated → Bool
-is_in_order (result.Flawed f) = true
-is_in_order (result.Known ps) = ascends ps
-
-abbrev pub are_in_order : Plan → Bool
-are_in_order p = list_all (λ w. is_in_order w.props) p.wanted
 
 -- what properties come to, as code has it
 abbrev pub finding_of : found.Found → Finding

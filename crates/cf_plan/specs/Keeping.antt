@@ -1,7 +1,6 @@
 -- What a run of a creation keeps of its stack and of the lanes: each made resource is of the lane that its id names, what an
 -- open call was settled with is what its answer will say, and what is live was so before or the stack knows it (this project's own).
 use Rattle.std.specs.Prelude.{◌≡◌, ℕ, ◌≤◌, Bool, true, false, List, [], length, Option, Some, None, find, slice_index_or}
-use Rattle.std.specs.List.{list_any}
 use Rattle.std.specs.Str.{bytes_eq}
 use Rattle.cf_tree.specs.Datum.{Data}
 use Rattle.cf_tree.specs.declared.request.Request.TheVariants as request
@@ -9,7 +8,7 @@ use Rattle.cf_tree.specs.declared.code.Code.TheVariants as code
 use Rattle.cf_tree.specs.declared.source.Source.{Source}
 use Rattle.cf_handler.specs.declared.settled.Settlement.{Settlement}
 use Rattle.cf_handler.specs.declared.settled.Settlement.TheVariants.{Success, Failed}
-use Rattle.cf_handler.specs.Lane.{LaneState, Live, live_of, has_id, is_used, settlement_of}
+use Rattle.cf_handler.specs.Lane.{LaneState, Live, live_of, has_id, is_used}
 use Rattle.cf_handler.specs.Move.{IsOfLane}
 use Rattle.cf_entry.specs.declared.status.Status.TheVariants as status
 use Rattle.cf_stacks.specs.declared.held.Held.{Held}
@@ -20,15 +19,7 @@ use Rattle.cf_stacks.specs.declared.state.World.{World}
 use Rattle.cf_stacks.specs.Words.{stack_at, stack_of_operation, is_update}
 use Rattle.cf_plan.specs.Forward.{In}
 use Rattle.cf_plan.specs.Created.{IsRightCreate}
-use Rattle.cf_plan.specs.Run.{Told, AreFresh}
-
--- the lane at this place tells this state
-abbrev pub Tells : Told → ℕ → LaneState → Type 0
-Tells told k lane = slice_index_or told k None ≡ Some lane
-
--- the name of the lane at this place
-abbrev pub name_at : List (List ℕ) → ℕ → List ℕ
-name_at names k = slice_index_or names k []
+use Rattle.cf_plan.specs.Run.{Told, AreFresh, Tells, name_at, IsSettledAs, IsOurs}
 
 -- the id was used in the lane that it names
 pub record IsKnown (names : List (List ℕ)) (told : Told) (id : List ℕ) : Type 0 where
@@ -38,31 +29,11 @@ pub record IsKnown (names : List (List ℕ)) (told : Told) (id : List ℕ) : Typ
   pub named : IsOfLane (name_at names place) id
   pub used : is_used id lane ≡ true
 
--- the call is settled so on its lane, which is at this place and tells this state
-pub record IsSettledAs (names : List (List ℕ)) (told : Told) (p : Pending) (k : ℕ) (lane : LaneState) (s : Settlement) : Type 0 where
-  pub tells : Tells told k lane
-  pub named : name_at names k ≡ p.lane
-  pub settled : settlement_of p.token lane.settled ≡ Some s
-
 -- a deletion that was settled so left nothing of its id
 abbrev pub has_gone : Settlement → Bool
 has_gone (Success physical attrs) = true
 has_gone (Failed code.NotFound) = true
 has_gone (Failed c) = false
-
--- an open create was settled with this id
-abbrev pub IsBorn : List (List ℕ) → Told → List Pending → ℕ → LaneState → List ℕ → Type 0
-IsBorn names told tokens k lane id =
-    (p : Pending) × (kind : List ℕ) × (props attrs : List (List ℕ × Data)) × In p tokens × (p.request ≡ request.Create kind props)
-    × IsSettledAs names told p k lane (Success id attrs)
-
--- a live resource was live before, by its id, or the stack knows it: it is a leftover, or made, or of an open create
-pub data IsOurs (names : List (List ℕ)) (told : Told) (made : List Held) (tokens : List Pending) (leftovers : List Leftover)
-    (k : ℕ) (before after : LaneState) (id : List ℕ) : Type 0 where
-  was_live : has_id id (live_of before) ≡ true → IsOurs names told made tokens leftovers k before after id
-  is_left : list_any (λ l. bytes_eq id l.physical) leftovers ≡ true → IsOurs names told made tokens leftovers k before after id
-  is_made : (r : Held) → In r made → r.physical ≡ id → IsOfLane (name_at names k) id → IsOurs names told made tokens leftovers k before after id
-  is_born : IsBorn names told tokens k after id → IsOurs names told made tokens leftovers k before after id
 
 -- What is made, open and left over agrees with the lanes, where `began` is what these told as the run began, and `last` is the
 -- last token that was given out.

@@ -16,8 +16,13 @@ pub mod Promise
 pub mod Created
 pub mod Chosen
 pub mod Taking
+pub mod Stepping
 pub mod Blaming
 pub mod Run
 pub mod Keeping
 pub mod Blame
 pub mod RunBegins
+pub mod Going
+pub mod Cleared
+pub mod Due
+pub mod Prepare

@@ -2,30 +2,36 @@
 -- of an open token, on its lane, whose state moves as the contract of handlers says (this project's own).
 use Rattle.std.specs.Prelude.{◌≡◌, ℕ, ◌<◌, ◌≤◌, ◌⊎◌, Bool, true, false, List, [], ◌∷◌, length, Option, Some, None, IsTrue, is_some, option_and_then, slice_set, slice_index_or}
 use Rattle.std.specs.Str.{bytes_eq}
-use Rattle.std.specs.List.{list_all}
+use Rattle.std.specs.List.{list_all, list_any}
+use Rattle.cf_tree.specs.Datum.{Data}
 use Rattle.cf_tree.specs.Named.{all_differ}
 use Rattle.cf_tree.specs.declared.request.Request.{Request}
+use Rattle.cf_tree.specs.declared.request.Request.TheVariants as request
 use Rattle.cf_tree.specs.declared.request.Answer.{Answer}
 use Rattle.cf_tree.specs.declared.request.Answer.TheVariants as answer
 use Rattle.cf_tree.specs.declared.source.Source.{Source}
 use Rattle.cf_schema.specs.declared.described.Schema.{Schema}
+use Rattle.cf_handler.specs.declared.settled.Settlement.{Settlement}
+use Rattle.cf_handler.specs.declared.settled.Settlement.TheVariants.{Success}
 use Rattle.cf_handler.specs.Lane.{LaneState, Live, live_of, has_id, settlement_of}
-use Rattle.cf_handler.specs.Move.{CallTells, HasCause}
+use Rattle.cf_handler.specs.Move.{CallTells, HasCause, IsOfLane}
 use Rattle.cf_handler.specs.Name.{is_lane_name}
 use Rattle.cf_entry.specs.declared.entry.Entry.{Entry}
 use Rattle.cf_entry.specs.declared.entry.Entry.TheVariants as entry
 use Rattle.cf_entry.specs.declared.entry.Reply.{Reply}
 use Rattle.cf_entry.specs.declared.entry.Reply.TheVariants as reply
 use Rattle.cf_entry.specs.declared.status.Status.TheVariants as status
+use Rattle.cf_stacks.specs.declared.held.Held.{Held}
+use Rattle.cf_stacks.specs.declared.held.Leftover.{Leftover}
 use Rattle.cf_stacks.specs.declared.held.Pending.{Pending}
 use Rattle.cf_stacks.specs.declared.state.StackState.{StackState}
 use Rattle.cf_stacks.specs.declared.state.World.{World}
-use Rattle.cf_stacks.specs.Words.{stack_at, stack_of_operation, pending_of}
+use Rattle.cf_stacks.specs.Words.{stack_at, stack_of_operation, pending_of, resources_of}
 use Rattle.cf_stacks.specs.Operation.{own_of, calls_in, replies_in}
 use Rattle.cf_stacks.specs.Fold.{world_after, fold_of}
 use Rattle.cf_plan.specs.Follow.{MayFollow}
 use Rattle.cf_plan.specs.Forward.{In}
-use Rattle.cf_plan.specs.Lanes.{Lane, is_leftover}
+use Rattle.cf_plan.specs.Lanes.{Lane}
 use Rattle.cf_plan.specs.Created.{IsRightCreate}
 use Rattle.cf_plan.specs.Promise.{Promised}
 
@@ -119,24 +125,64 @@ pub record HasBegun (names kinds : List (List ℕ)) (x : World) (told : Told) (n
   pub all_tell : IsTrue (list_all is_some told)
   pub fresh : AreFresh x.token told
 
--- what is live in the lanes was live before, by its id, or it is a leftover
-abbrev pub NothingNewer : World → Told → Told → Type 0
-NothingNewer x told told' =
-    (k : ℕ) (before after : LaneState) (v : Live) → slice_index_or told k None ≡ Some before → slice_index_or told' k None ≡ Some after
-    → In v (live_of after) → IsTrue (has_id v.id (live_of before)) ⊎ IsTrue (is_leftover v.id x)
+-- the lane at this place tells this state
+abbrev pub Tells : Told → ℕ → LaneState → Type 0
+Tells told k lane = slice_index_or told k None ≡ Some lane
 
--- A run of a creation keeps what each status promises: where it is complete, its template is live; where it was rolled back,
--- nothing newer is live; where the rollback failed, paths are named, each with an outcome whose lane's count rose.
-pub record KeepsPromise (names kinds : List (List ℕ)) (x : World) (told told' : Told) (number : ℕ) (name : List ℕ) : Type 0 where
+-- the name of the lane at this place
+abbrev pub name_at : List (List ℕ) → ℕ → List ℕ
+name_at names k = slice_index_or names k []
+
+-- the call is settled so on its lane, which is at this place and tells this state
+pub record IsSettledAs (names : List (List ℕ)) (told : Told) (p : Pending) (k : ℕ) (lane : LaneState) (s : Settlement) : Type 0 where
+  pub tells : Tells told k lane
+  pub named : name_at names k ≡ p.lane
+  pub settled : settlement_of p.token lane.settled ≡ Some s
+
+-- an open create was settled with this id
+abbrev pub IsBorn : List (List ℕ) → Told → List Pending → ℕ → LaneState → List ℕ → Type 0
+IsBorn names told tokens k lane id =
+    (p : Pending) × (kind : List ℕ) × (props attrs : List (List ℕ × Data)) × In p tokens × (p.request ≡ request.Create kind props)
+    × IsSettledAs names told p k lane (Success id attrs)
+
+-- a live resource was live before, by its id, or it is of the stack: a leftover, one of these that it holds or made, or of an open create
+pub data IsOurs (names : List (List ℕ)) (told : Told) (made : List Held) (tokens : List Pending) (leftovers : List Leftover)
+    (k : ℕ) (before after : LaneState) (id : List ℕ) : Type 0 where
+  was_live : has_id id (live_of before) ≡ true → IsOurs names told made tokens leftovers k before after id
+  is_left : list_any (λ l. bytes_eq id l.physical) leftovers ≡ true → IsOurs names told made tokens leftovers k before after id
+  is_made : (r : Held) → In r made → r.physical ≡ id → IsOfLane (name_at names k) id → IsOurs names told made tokens leftovers k before after id
+  is_born : IsBorn names told tokens k after id → IsOurs names told made tokens leftovers k before after id
+
+-- what is live in the lanes was live before, by its id, or it is of the stack
+abbrev pub OnlyOurs : List (List ℕ) → StackState → Told → Told → Type 0
+OnlyOurs names s told told' =
+    (k : ℕ) (before after : LaneState) (v : Live) → Tells told k before → Tells told' k after → In v (live_of after)
+    → IsOurs names told' (resources_of s) s.tokens s.leftovers k before after v.id
+
+-- what is live in the lanes was live before, by its id, or it is a leftover of the stack
+abbrev pub NothingNewer : StackState → Told → Told → Type 0
+NothingNewer s told told' =
+    (k : ℕ) (before after : LaneState) (v : Live) → Tells told k before → Tells told' k after → In v (live_of after)
+    → IsTrue (has_id v.id (live_of before)) ⊎ IsTrue (list_any (λ l. bytes_eq v.id l.physical) s.leftovers)
+
+-- A run of a creation keeps what each status promises: where it is complete, its template is live, and it is the one that the
+-- creation began with; where it was rolled back, nothing newer is live; where the rollback failed, paths are named, each with an
+-- outcome whose lane's count rose. At each status nothing is live but what was so before and what is of the stack; and, as before
+-- it began, each lane tells its state, and no token to come is settled.
+pub record KeepsPromise (names kinds : List (List ℕ)) (x : World) (told told' : Told) (number : ℕ) (name : List ℕ) (source : Source) : Type 0 where
   pub stack : StackState
   pub here : stack_at name x ≡ Some stack
   pub number_is : stack.operation ≡ number
   pub promised : Promised stack.status name x stack (lanes_told names kinds told')
-  pub nothing_newer : stack.status ≡ status.RollbackComplete → NothingNewer x told told'
+  pub source_kept : stack.status ≡ status.CreateComplete → stack.source ≡ Some source
+  pub nothing_newer : stack.status ≡ status.RollbackComplete → NothingNewer stack told told'
+  pub only_ours : OnlyOurs names stack told told'
+  pub tell : IsTrue (list_all is_some told')
+  pub fresh : AreFresh x.token told'
 
 abbrev pub CreationKeepsPromise : Type 0
 CreationKeepsPromise =
     (schemas : List Schema) (names kinds : List (List ℕ)) (x : World) (told told' : Told) (counts counts' : List ℕ) (number : ℕ) (name : List ℕ)
     (source : Source) (s : StackState) (es : List Entry)
     → HasBegun names kinds x told number name source s → Runs schemas names x told counts es told' counts'
-    → ((e : Entry) → In e es → IsOwn number e) → KeepsPromise names kinds (fold_of x es) told told' number name
+    → ((e : Entry) → In e es → IsOwn number e) → KeepsPromise names kinds (fold_of x es) told told' number name source

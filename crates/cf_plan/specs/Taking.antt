@@ -1,4 +1,4 @@
--- Taking back what a creation made, as it is decided: what is needed, what may go, and on which lane.
+-- Taking back what a creation made, as it is decided: what is needed, what may go, and on which lane (this project's own).
 use Rattle.std.specs.Prelude.{◌≡◌, ℕ, ◌+◌, ◌==◌, ◌⊎◌, is_some, Bool, true, false, ◌&&◌, ◌||◌, not, List, [], ◌∷◌, ◌++◌, Option, Some, None, IsTrue, nat_lt, fold, find, flat_map, option_map, if◌then◌else◌}
 use Rattle.std.specs.List.{list_any}
 use Rattle.std.specs.Option.{option_map_or}

@@ -134,7 +134,7 @@ fn contains(text: &Txt, names: &Names) -> bool
 }
 
 /// Whether the lane of a physical id is at home.
-fn is_home_of(out: &[u64], world: &World, physical: &Txt, lane: &(Txt, Txt)) -> bool
+pub(crate) fn is_home_of(out: &[u64], world: &World, physical: &Txt, lane: &(Txt, Txt)) -> bool
     ensures { result ≡ is_home_of out.now world.now physical.now lane.now }
 {
     is_of_lane(&lane.0, physical) && !is_lane_out(out, world, &lane.0)

@@ -4,7 +4,7 @@ ghost use Rattle.std.specs.List.{list_all};
 ghost use Rattle.std.specs.Option.{option_copied, option_to_list};
 ghost use Rattle.cf_graph.specs.Needs.{is_among};
 ghost use Rattle.cf_plan.specs.Forward.{plan_before, plan_now};
-ghost use Rattle.cf_plan.specs.Done.{Adds, AreDone, IsFresh, IsNext, Joined, are_in_order, are_met, made_paths, updated_paths};
+ghost use Rattle.cf_plan.specs.Done.{Adds, AreDone, IsFresh, IsNext, Joined, are_met, made_paths, updated_paths};
 
 use crate::calls::updated_path;
 use crate::found::{is_held_right, wanted_at};
@@ -82,7 +82,6 @@ fn is_fresh(
     done: &Names,
     path: &Txt,
 ) -> Result<bool, AllocError>
-    requires { IsTrue (are_in_order now.now) }
     ensures { IfOk result (λ fresh. IsTrue fresh ↔ IsFresh before.now now.now held.now done.now path.now) }
 {
     if is_among(path, done) || !are_met(before, done, path) {
@@ -102,7 +101,6 @@ fn add_one(
     done: &mut Names,
     path: &Txt,
 ) -> Result<(), AllocError>
-    requires { IsTrue (are_in_order now.now) }
     ensures { IfOk result (λ _. Adds before.now now.now held.now path.now done.old done.new) }
 {
     if is_fresh(alloc, before, now, held, done, path)? {
@@ -122,7 +120,6 @@ fn add_right(
     held: &Helds,
     done: &mut Names,
 ) -> Result<(), AllocError>
-    requires { IsTrue (are_in_order now.now) }
     ensures joined { IfOk result (λ _. Joined before.now now.now held.now done.old done.new) }
     ensures all { IfOk result (λ _. done.new ≡ done.old → (p : List ℕ) → IsNext before.now now.now held.now done.old p → ⊥) }
 {
@@ -141,7 +138,6 @@ fn add_all_right(
     held: &Helds,
     done: &mut Names,
 ) -> Result<(), AllocError>
-    requires { IsTrue (are_in_order now.now) }
     ensures joined { IfOk result (λ _. Joined before.now now.now held.now done.old done.new) }
     ensures all { IfOk result (λ _. (p : List ℕ) → IsNext before.now now.now held.now done.new p → ⊥) }
 {
@@ -172,7 +168,6 @@ pub fn done_paths(
 ) -> Result<Names, AllocError>
     requires before { before.now ≡ plan_before stack.now }
     requires now { now.now ≡ plan_now stack.now }
-    requires ordered { IsTrue (are_in_order now.now) }
     ensures { IfOk result (λ done. AreDone stack.now done) }
 {
     let mut done = made_paths(alloc, stack)?;

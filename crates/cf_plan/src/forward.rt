@@ -1,11 +1,11 @@
 //! The requests that the forward phase of an operation may begin with.
-ghost use Rattle.std.specs.Prelude.{◌≡◌, IfOk, IsTrue};
+ghost use Rattle.std.specs.Prelude.{◌≡◌, IfOk};
 ghost use Rattle.std.specs.List.{list_any};
 ghost use Rattle.std.specs.Option.{option_copied};
 ghost use Rattle.std.specs.Str.{bytes_eq};
 ghost use Rattle.cf_plan.specs.Forward.{plan_now};
 ghost use Rattle.cf_plan.specs.Follow.{is_free};
-ghost use Rattle.cf_plan.specs.Done.{are_in_order, finding_by};
+ghost use Rattle.cf_plan.specs.Done.{finding_by};
 ghost use Rattle.cf_plan.specs.Starts.{AreIntended, create_over, update_over, wants_by, wants_new, wants_update};
 
 use crate::calls::{was_answered_at, was_not_updatable};
@@ -124,7 +124,6 @@ pub fn wants_by(
     now: &Plan,
     path: &Txt,
 ) -> Result<Wants, AllocError>
-    requires { IsTrue (are_in_order now.now) }
     ensures { IfOk result (λ wants. wants ≡ wants_by schemas.now stack.now path.now (finding_by path.now now.now)) }
 {
     match finding_at(alloc, now, path)? {
@@ -161,7 +160,6 @@ pub fn wants_at(
     path: &Txt,
 ) -> Result<Wants, AllocError>
     requires now { now.now ≡ plan_now stack.now }
-    requires ordered { IsTrue (are_in_order now.now) }
     ensures { IfOk result (λ wants. AreIntended schemas.now stack.now path.now wants) }
 {
     wants_by(alloc, schemas, stack, now, path)

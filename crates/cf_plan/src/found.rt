@@ -1,15 +1,14 @@
 //! What the properties of a path come to.
 ghost use Rattle.std.specs.Prelude.{◌≡◌, ◌↔◌, IfOk, IsTrue};
 ghost use Rattle.std.specs.Option.{option_copied};
-ghost use Rattle.cf_tree.specs.Keys.{ascends};
-ghost use Rattle.cf_desired.specs.Whole.{known_props_from, wanted_at};
+ghost use Rattle.cf_desired.specs.Whole.{wanted_at};
 ghost use Rattle.cf_stacks.specs.Words.{current_at};
 ghost use Rattle.cf_plan.specs.Forward.{finding};
-ghost use Rattle.cf_plan.specs.Done.{HasProps, IsHeldRight, are_in_order, finding_by, finding_of, is_in_order};
+ghost use Rattle.cf_plan.specs.Done.{HasProps, IsHeldRight, finding_by, finding_of};
 
-use cf_desired::{Evaluated, Flaw, Plan, Props, Wanted};
+use cf_desired::{Evaluated, Flaw, Plan, Wanted};
 use cf_stacks::{Held, Helds};
-use cf_tree::{Dict, Pair, Txt};
+use cf_tree::{Dict, Txt};
 use std::alloc::{AllocError, Global};
 
 /// What the properties of a path come to.
@@ -43,35 +42,13 @@ pub fn current_at<'a>(helds: &'a Helds, path: &Txt) -> Option<&'a Held>
         .find(|held| *path == held.path && !held.superseded)
 }
 
-/// Properties as a dictionary, where all of them are known.
-#[tactic(auto, using(crate::proofs::Known::known_next, crate::proofs::Known::known_stops, crate::proofs::Known::known_all, crate::proofs::Known::known_ascends))]
-fn known(alloc: Global, props: &Props) -> Result<Option<Dict>, AllocError>
-    requires { IsTrue (ascends props.now) }
-    ensures { IfOk result (λ known. known ≡ known_props_from props.now) }
-{
-    let mut pairs = Vec::new(alloc);
-    let items = props.as_slice();
-    for prop in items.iter() {
-        match &prop.value {
-            Some(value) => {
-                let name = prop.name.try_clone(alloc)?;
-                let value = value.try_clone(alloc)?;
-                pairs.push(Pair { name, value })?;
-            }
-            None => return Ok(None),
-        }
-    }
-    Ok(Some(Dict::from_pairs(pairs)))
-}
-
 /// What the properties of what is wanted come to.
 fn finding<'a>(alloc: Global, wanted: &'a Wanted) -> Result<Found<'a>, AllocError>
-    requires { IsTrue (is_in_order wanted.now.props) }
     ensures { IfOk result (λ found. finding_of found ≡ finding wanted.now.kind wanted.now.props) }
 {
     match &wanted.props {
         Evaluated::Flawed { flaw } => Ok(Found::Bad { flaw }),
-        Evaluated::Known { props } => match known(alloc, props)? {
+        Evaluated::Known { props } => match props.known(alloc)? {
             Some(props) => Ok(Found::Known {
                 kind: &wanted.kind,
                 props,
@@ -82,9 +59,7 @@ fn finding<'a>(alloc: Global, wanted: &'a Wanted) -> Result<Found<'a>, AllocErro
 }
 
 /// What the properties of a path come to by a plan.
-#[tactic(auto, using(crate::proofs::Findings::order_found))]
 pub fn finding_at<'a>(alloc: Global, plan: &'a Plan, path: &Txt) -> Result<Found<'a>, AllocError>
-    requires { IsTrue (are_in_order plan.now) }
     ensures { IfOk result (λ found. finding_of found ≡ finding_by path.now plan.now) }
 {
     match wanted_at(plan, path) {
@@ -96,7 +71,6 @@ pub fn finding_at<'a>(alloc: Global, plan: &'a Plan, path: &Txt) -> Result<Found
 /// Whether a plan gives a path these properties.
 #[tactic(auto, using(crate::proofs::Findings::known_has))]
 fn has_props(alloc: Global, plan: &Plan, path: &Txt, props: &Dict) -> Result<bool, AllocError>
-    requires { IsTrue (are_in_order plan.now) }
     ensures { IfOk result (λ same. IsTrue same ↔ HasProps path.now plan.now props.now) }
 {
     match finding_at(alloc, plan, path)? {
@@ -116,7 +90,6 @@ pub fn is_held_right(
     helds: &Helds,
     path: &Txt,
 ) -> Result<bool, AllocError>
-    requires { IsTrue (are_in_order plan.now) }
     ensures { IfOk result (λ right. IsTrue right ↔ IsHeldRight path.now plan.now helds.now) }
 {
     match current_at(helds, path) {

@@ -2,6 +2,8 @@
 ghost use Rattle.cf_plan.specs.Created.{BeginsRight, CreateEndsWhole, CreateGoesOn, CreatedIsWhole, IntentStaysRight, OpeningStaysRight, OutcomeStaysRight};
 ghost use Rattle.cf_plan.specs.Run.{CreationKeepsPromise};
 ghost use Rattle.cf_plan.specs.RunBegins.{CreationBegins};
+ghost use Rattle.cf_plan.specs.Cleared.{CreationFindsNothing};
+ghost use Rattle.cf_plan.specs.Going.{AnswerFollows, CreationEnds, CreationGoesOn, CreationIsProper, CreationStarts, IntentOpens};
 
 /// A create of a flat source begins right, where nothing is held and no call is open: what is made
 /// and what is open is what its template says.
@@ -53,6 +55,13 @@ pub fn creation_begins()
     ensures { CreationBegins }
 {}
 
+/// In a journal, whose entries could each follow those before it, a stack from which a creation may
+/// begin holds nothing, has made nothing and has no open call, and no stack has an operation with a
+/// later number than the last one that began.
+pub fn creation_finds_nothing()
+    ensures { CreationFindsNothing }
+{}
+
 /// A run of a creation keeps what each status promises, whatever its calls come to: on one thread, in
 /// one opening, from a template without nested stacks, over lanes that all tell their state and on
 /// which no token to come is settled.
@@ -61,7 +70,38 @@ pub fn creation_begins()
 /// whole, and each of its resources is live with exactly its kind and properties; where it is
 /// ROLLBACK_COMPLETE, nothing is live in any lane that was not so before, but for what is listed as a
 /// leftover; where it is ROLLBACK_FAILED, paths are named, and each with an outcome of the operation
-/// that was refused or broke off, whose handler's count rose.
+/// that was refused or broke off, whose handler's count rose. As before it began, all lanes tell
+/// their state and no token to come is settled, so that another creation may begin.
 pub fn creation_keeps_promise()
     ensures { CreationKeepsPromise }
+{}
+
+/// A creation begins where no operation of its number is in progress.
+pub fn creation_starts()
+    ensures { CreationStarts }
+{}
+
+/// A creation goes on with each entry of its operation that is written, until its end.
+pub fn creation_goes_on()
+    ensures { CreationGoesOn }
+{}
+
+/// A run of a creation that ends leaves its stack in a status in which a creation ends.
+pub fn creation_ends()
+    ensures { CreationEnds }
+{}
+
+/// What may follow in a creation can be written.
+pub fn creation_is_proper()
+    ensures { CreationIsProper }
+{}
+
+/// The answer to an open call may follow.
+pub fn answer_follows()
+    ensures { AnswerFollows }
+{}
+
+/// A call that is written down is open.
+pub fn intent_opens()
+    ensures { IntentOpens }
 {}

@@ -6,6 +6,7 @@ mod bad;
 mod calls;
 mod cause;
 mod done;
+mod dues;
 mod end;
 mod entries;
 mod failing;
@@ -14,8 +15,10 @@ mod found;
 mod lanes;
 mod laws;
 mod next;
+mod preparing;
 mod repeats;
 mod starts;
+mod stepping;
 mod text;
 
 pub use bad::{BadAt, first_bad};
@@ -24,14 +27,22 @@ pub use calls::{
 };
 pub use cause::{Failure, are_all_done, failure_of};
 pub use done::{done_paths, is_among};
+pub use dues::{Dues, due};
+pub use end::failed_paths;
 pub use failing::{difference_to, first_failing};
 pub use forward::{Wants, is_free, wants_at};
 pub use found::{Found, current_at, finding_at, is_held_right, wanted_at};
 pub use lanes::{first_home, fits_lane};
 pub use laws::{
-    begins_right, create_ends_whole, create_goes_on, created_is_whole, creation_begins,
-    creation_keeps_promise, intent_stays_right, opening_stays_right, outcome_stays_right,
+    answer_follows, begins_right, create_ends_whole, create_goes_on, created_is_whole,
+    creation_begins, creation_ends, creation_finds_nothing, creation_goes_on, creation_is_proper,
+    creation_keeps_promise, creation_starts, intent_opens, intent_stays_right, opening_stays_right,
+    outcome_stays_right,
 };
-pub use next::{Home, Homes, Next, next_step};
+pub use next::{Home, Homes, Next, next_step, stack_of_operation};
+pub use preparing::{Order, PrepareFault, StackFault, Wish, prepare};
 pub use starts::starts_of;
+pub use stepping::{
+    Start, Starts, is_creation, next_in_creation, plan_before, plan_now, schemas_of,
+};
 pub use text::plan_text;

@@ -70,7 +70,7 @@ pub enum Next {
 }
 
 /// The call of an open token, once more.
-fn again(alloc: Global, pending: &Pending) -> Result<Next, AllocError>
+pub fn again(alloc: Global, pending: &Pending) -> Result<Next, AllocError>
     ensures { IfOk result (λ n. n ≡ next.Step pending.now.path pending.now.lane pending.now.token pending.now.request true) }
 {
     let path = pending.path.try_clone(alloc)?;
@@ -86,7 +86,7 @@ fn again(alloc: Global, pending: &Pending) -> Result<Next, AllocError>
 }
 
 /// A resource is kept.
-fn kept(alloc: Global, held: &Held) -> Result<Next, AllocError>
+pub(crate) fn kept(alloc: Global, held: &Held) -> Result<Next, AllocError>
     ensures { IfOk result (λ n. n ≡ next.Keep held.now.path held.now.physical why.Retained) }
 {
     let path = held.path.try_clone(alloc)?;
@@ -136,7 +136,7 @@ fn take_back(alloc: Global, out: &[u64], world: &World, held: &Held) -> Result<N
 
 /// Whether a rollback is at its end: no call is out, and even if none of another stack were out,
 /// none would be repeated and nothing would go.
-fn is_ended(out: &[u64], world: &World, stack: &StackState, needed: &Names) -> bool
+pub(crate) fn is_ended(out: &[u64], world: &World, stack: &StackState, needed: &Names) -> bool
     requires { (r : Held) → is_not_needed stack.now r ≡ not (is_among r.physical needed.now) }
     ensures { result ≡ is_ended out.now world.now stack.now }
 {
@@ -146,7 +146,7 @@ fn is_ended(out: &[u64], world: &World, stack: &StackState, needed: &Names) -> b
 }
 
 /// The end of a rollback, with the paths that failed where not all was taken back.
-fn end_back(alloc: Global, stack: &StackState) -> Result<Next, AllocError>
+pub(crate) fn end_back(alloc: Global, stack: &StackState) -> Result<Next, AllocError>
     ensures { IfOk result (λ n. EndsBack stack.now n) }
 {
     if is_cleared(stack) {

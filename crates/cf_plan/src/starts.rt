@@ -1,7 +1,7 @@
 //! Where the forward phase of an operation may begin, and with which requests.
-ghost use Rattle.std.specs.Prelude.{◌≡◌, [], IfOk, IsTrue, fold};
+ghost use Rattle.std.specs.Prelude.{◌≡◌, [], IfOk, fold};
 ghost use Rattle.cf_plan.specs.Forward.{plan_before, plan_now};
-ghost use Rattle.cf_plan.specs.Done.{AreDone, are_in_order};
+ghost use Rattle.cf_plan.specs.Done.{AreDone};
 ghost use Rattle.cf_plan.specs.Starts.{AreStarts, may_start, starts_by, with_start};
 
 use crate::done::{are_met, is_among};
@@ -30,7 +30,6 @@ fn add_start(
     starts: &mut ByName<Wants>,
     path: &Txt,
 ) -> Result<(), AllocError>
-    requires { IsTrue (are_in_order now.now) }
     ensures { IfOk result (λ _. starts.new ≡ with_start schemas.now stack.now before.now now.now done.now starts.old path.now) }
 {
     if may_start(stack, before, done, path) {
@@ -51,7 +50,6 @@ fn starts_by(
     now: &Plan,
     done: &Names,
 ) -> Result<ByName<Wants>, AllocError>
-    requires { IsTrue (are_in_order now.now) }
     ensures { IfOk result (λ starts. starts ≡ starts_by schemas.now stack.now before.now now.now done.now) }
 {
     let mut starts = ByName::new(alloc);
@@ -90,7 +88,6 @@ pub fn starts_of(
     requires before { before.now ≡ plan_before stack.now }
     requires now { now.now ≡ plan_now stack.now }
     requires done { AreDone stack.now done.now }
-    requires ordered { IsTrue (are_in_order now.now) }
     ensures { IfOk result (λ starts. AreStarts schemas.now stack.now starts) }
 {
     starts_by(alloc, schemas, stack, before, now, done)

@@ -1,0 +1,27 @@
+use Rattle.std.proofs.Common.{ap}
+use Rattle.std.proofs.lemmas.Result.{IfOk-weaker}
+use Rattle.cf_stacks.specs.Status.{Forward, Back, stage_of}
+use Rattle.cf_plan.proofs.Members.{not_both}
+use Rattle.cf_plan.proofs.StepChosen.{rolls_back}
+use Rattle.cf_plan.proofs.stepping.next_on.Goals as goal
+
+pub next_forward-requires : goal.next_forward-requires
+next_forward-requires c = record { creating = c.is_creating.ensures.0 c.if-is_creating.true }
+
+pub next_in_rollback-requires : goal.next_in_rollback-requires
+next_in_rollback-requires c =
+    rolls_back c.args.stack.now c.requires (λ e. not_both c.is_creating.result (c.is_creating.ensures.1 e) c.if-is_creating.false)
+
+pub returns-then-is_creating : goal.returns-then-is_creating
+returns-then-is_creating c =
+    IfOk-weaker c.next_forward.result _ _ (λ n w. (Forward, ap stage_of (c.is_creating.ensures.0 c.if-is_creating.true), w)) c.next_forward.ensures
+
+pub returns-else-is_creating : goal.returns-else-is_creating
+returns-else-is_creating c =
+    IfOk-weaker c.next_in_rollback.result _ _
+    (λ n w. (
+      Back,
+      ap stage_of (rolls_back c.args.stack.now c.requires (λ e. not_both c.is_creating.result (c.is_creating.ensures.1 e) c.if-is_creating.false)),
+      w c.args.schemas.now c.args.name.now,
+    ))
+    c.next_in_rollback.ensures

@@ -1,0 +1,10 @@
+use Rattle.std.proofs.Common.{sym, subst}
+use Rattle.std.proofs.lemmas.Result.{IfOk-weaker}
+use Rattle.cf_plan.specs.Stepping.{AreOpen}
+use Rattle.cf_plan.proofs.StepChosen.{are_open}
+use Rattle.cf_plan.proofs.stepping.open_starts.Goals as goal
+
+pub returns : goal.returns
+returns c =
+    IfOk-weaker c.listed.result _ _
+    (λ l w. subst (AreOpen c.args.schemas.now c.args.stack.now) (sym w.0) (are_open c.args.schemas.now c.args.stack.now _ w.1 c.in_ok-starts.ensures)) c.listed.ensures

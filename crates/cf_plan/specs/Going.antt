@@ -1,0 +1,87 @@
+-- How a creation goes on: what each entry of its operation leaves of it (this project's own).
+use Rattle.std.specs.Prelude.{◌≡◌, ℕ, Bool, true, false, List, [], ◌∷◌, ◌++◌, Some, None, IsTrue}
+use Rattle.cf_tree.specs.declared.request.Request.{Request}
+use Rattle.cf_tree.specs.declared.source.Source.{Source}
+use Rattle.cf_schema.specs.declared.described.Schema.{Schema}
+use Rattle.cf_entry.specs.Entry.{IsProper}
+use Rattle.cf_entry.specs.declared.entry.Entry.{Entry}
+use Rattle.cf_entry.specs.declared.entry.Entry.TheVariants as entry
+use Rattle.cf_entry.specs.declared.entry.Begun.TheVariants as begin
+use Rattle.cf_entry.specs.declared.entry.Reply.{Reply}
+use Rattle.cf_entry.specs.declared.status.Status.{Status}
+use Rattle.cf_entry.specs.declared.status.Status.TheVariants as status
+use Rattle.cf_stacks.specs.declared.held.Pending.{Pending}
+use Rattle.cf_stacks.specs.declared.state.StackState.{StackState}
+use Rattle.cf_stacks.specs.declared.state.World.{World}
+use Rattle.cf_stacks.specs.Words.{stack_at, stack_of_operation}
+use Rattle.cf_stacks.specs.Fold.{fold_of, world_after}
+use Rattle.cf_plan.specs.Forward.{In}
+use Rattle.cf_plan.specs.Stepping.{Creates}
+use Rattle.cf_plan.specs.Follow.{MayFollow, IsCounted}
+use Rattle.cf_plan.specs.Run.{Told, IsDone, IsOwn, Runs, open_call}
+
+-- the creation of this number is in progress on the stack of this name
+pub record IsUnderWay (number : ℕ) (name : List ℕ) (x : World) : Type 0 where
+  pub stack : StackState
+  pub going : stack_of_operation number x ≡ Some (name, stack)
+  pub here : stack_at name x ≡ Some stack
+  pub creates : Creates stack
+
+-- the statuses in which a creation ends
+abbrev pub ends_creation : Status → Bool
+ends_creation status.CreateComplete = true
+ends_creation status.RollbackComplete = true
+ends_creation status.RollbackFailed = true
+ends_creation _ = false
+
+-- the creation of this number has ended on the stack of this name
+pub record IsOver (number : ℕ) (name : List ℕ) (x : World) : Type 0 where
+  pub stack : StackState
+  pub here : stack_at name x ≡ Some stack
+  pub number_is : stack.operation ≡ number
+  pub none_going : stack_of_operation number x ≡ None
+  pub ended : IsTrue (ends_creation stack.status)
+
+-- what an entry of a creation leaves of it
+abbrev pub Leaves : ℕ → List ℕ → Entry → World → Type 0
+Leaves number name (entry.Done n state failed) y = IsOver number name y
+Leaves number name _ y = IsUnderWay number name y
+
+-- a creation begins where no operation of its number is in progress
+abbrev pub CreationStarts : Type 0
+CreationStarts =
+    (x : World) (number : ℕ) (name : List ℕ) (source : Source) → stack_of_operation number x ≡ None
+    → IsUnderWay number name (world_after x (entry.Begin number name (begin.Create source)))
+
+-- it goes on with each of its entries, until its end
+abbrev pub CreationGoesOn : Type 0
+CreationGoesOn =
+    (schemas : List Schema) (names : List (List ℕ)) (x : World) (told told' : Told) (counts counts' : List ℕ) (number : ℕ) (name : List ℕ) (e : Entry)
+    → IsUnderWay number name x → IsOwn number e → IsDone schemas names x told told' counts counts' e → Leaves number name e (world_after x e)
+
+-- a run of a creation that ends leaves its stack in a status in which a creation ends
+abbrev pub CreationEnds : Type 0
+CreationEnds =
+    (schemas : List Schema) (names : List (List ℕ)) (x : World) (told told' : Told) (counts counts' : List ℕ) (number : ℕ) (name : List ℕ)
+    (es : List Entry) (state : Status) (failed : List (List ℕ)) → IsUnderWay number name x
+    → Runs schemas names x told counts (es ++ entry.Done number state failed ∷ []) told' counts'
+    → ((e : Entry) → In e (es ++ entry.Done number state failed ∷ []) → IsOwn number e)
+    → IsOver number name (fold_of x (es ++ entry.Done number state failed ∷ []))
+
+-- what may follow in a creation can be written
+abbrev pub CreationIsProper : Type 0
+CreationIsProper =
+    (schemas : List Schema) (x : World) (out : List ℕ) (number : ℕ) (name : List ℕ) (e : Entry)
+    → IsUnderWay number name x → IsOwn number e → MayFollow schemas x out e → IsProper e
+
+-- the answer to an open call may follow
+abbrev pub AnswerFollows : Type 0
+AnswerFollows =
+    (schemas : List Schema) (x : World) (number token : ℕ) (p : Pending) (answer : Reply) (before after : ℕ)
+    → open_call number token x ≡ Some p → IsCounted answer before after → MayFollow schemas x (token ∷ []) (entry.Outcome number token answer before after)
+
+-- a call that is written down is open
+abbrev pub IntentOpens : Type 0
+IntentOpens =
+    (x : World) (number : ℕ) (name : List ℕ) (token : ℕ) (lane path : List ℕ) (r : Request) → IsUnderWay number name x
+    → (p : Pending) × (open_call number token (world_after x (entry.Intent number token lane path r)) ≡ Some p)

@@ -1,0 +1,661 @@
+//! All steps that may follow in a creation.
+ghost use Rattle.std.specs.Prelude.{◌≡◌, ◌↔◌, ◌≤◌, ◌+◌, ◌==◌, ◌&&◌, ◌||◌, ℕ, nat_lt, List, [], ◌∷◌, Some, true, false, not, length, insert, IfOk, IsTrue};
+ghost use Rattle.cf_graph.specs.Inserted.{insert_by};
+ghost use Rattle.cf_graph.specs.Needs.{is_among};
+ghost use Rattle.cf_entry.specs.declared.status.Status.TheVariants as status;
+ghost use Rattle.cf_entry.specs.declared.turn.Cause.{Cause};
+ghost use Rattle.cf_entry.specs.declared.turn.Phase.TheVariants as phase;
+ghost use Rattle.cf_stacks.specs.declared.held.Held.{Held};
+ghost use Rattle.cf_stacks.specs.Status.{Forward, Back};
+ghost use Rattle.cf_plan.specs.declared.next.Next.TheVariants as next;
+ghost use Rattle.cf_plan.specs.Forward.{AllDone, HasFailed, IsCause};
+ghost use Rattle.cf_schema.specs.declared.described.Schema.{Schema};
+ghost use Rattle.cf_plan.specs.Follow.{is_not_needed, waits_for_repeats};
+ghost use Rattle.cf_plan.specs.Chosen.{is_sooner, place_of};
+ghost use Rattle.cf_plan.specs.Taking.{AreTerms};
+ghost use Rattle.cf_plan.specs.Stepping.{AreOpen, Creates, IsCreation};
+ghost use Rattle.cf_plan.specs.Due.{AreDue, AreDueIn, AreDueOn, goes, is_step_before, stays, with_call, with_call_on, with_calls_on, with_create, with_due, with_gone, with_going, with_goings, with_repeat, with_repeats, with_starts};
+
+use crate::back::{is_home_of, is_kept, needed};
+use crate::cause::{Failure, failure_of};
+use crate::done::{done_paths, is_among};
+use crate::entries::is_untried;
+use crate::lanes::first_home;
+use crate::next::{Next, again, end_back, is_ended, kept, stack_of_operation};
+use crate::repeats::{is_free, may_repeat, none_out, waits_for_repeats};
+use crate::stepping::{
+    Starts, is_all_done, is_creating, is_over, open_starts, place_in_path, plan_before, plan_now,
+    terms_for,
+};
+use cf_entry::{Cause, Phase, Status};
+use cf_schema::Schemas;
+use cf_stacks::{Held, Pending, StackState, Terms, World};
+use cf_tree::{ByName, Listing, Names, Request, TryClone, Txt};
+use std::alloc::{AllocError, Global};
+
+/// Steps, in the order of steps.
+pub type Dues = Listing<Next>;
+
+/// Repeats come first, then new calls and what is kept, then a phase or the end.
+fn rank_of(step: &Next) -> u8
+    ensures { result ≡ (place_of step.now).rank }
+{
+    match step {
+        Next::Step { repeated: true, .. } => 0,
+        Next::Step {
+            repeated: false,
+            ..
+        } => 1,
+        Next::Keep { .. } => 1,
+        Next::Turn { .. } => 2,
+        Next::End { .. } => 2,
+        Next::Wait => 3,
+    }
+}
+
+/// The token by which a step has its place.
+fn token_of(step: &Next) -> u64
+    ensures { result ≡ (place_of step.now).token }
+{
+    match step {
+        Next::Step {
+            token,
+            repeated: true,
+            ..
+        } => *token,
+        Next::Step {
+            repeated: false,
+            ..
+        } => 0,
+        Next::Keep { .. } => 0,
+        Next::Turn { .. } => 0,
+        Next::End { .. } => 0,
+        Next::Wait => 0,
+    }
+}
+
+/// The path by which a step has its place.
+fn path_of(step: &Next) -> &str
+    ensures { result.now ≡ (place_of step.now).path }
+{
+    match step {
+        Next::Step { repeated: true, .. } => "",
+        Next::Step {
+            path,
+            repeated: false,
+            ..
+        } => path.as_str(),
+        Next::Keep { path, .. } => path.as_str(),
+        Next::Turn { .. } => "",
+        Next::End { .. } => "",
+        Next::Wait => "",
+    }
+}
+
+/// The physical id by which a step has its place.
+fn physical_of(step: &Next) -> &str
+    ensures { result.now ≡ (place_of step.now).physical }
+{
+    match step {
+        Next::Step { repeated: true, .. } => "",
+        Next::Step {
+            request,
+            repeated: false,
+            ..
+        } => place_in_path(request),
+        Next::Keep { physical, .. } => physical.as_str(),
+        Next::Turn { .. } => "",
+        Next::End { .. } => "",
+        Next::Wait => "",
+    }
+}
+
+/// Whether one step stands before another by path, and then by physical id.
+fn is_sooner(a: &Next, b: &Next) -> bool
+    ensures { result ≡ is_sooner ((place_of a.now).path, (place_of a.now).physical) ((place_of b.now).path, (place_of b.now).physical) }
+{
+    path_of(a) < path_of(b) || (path_of(a) == path_of(b) && physical_of(a) < physical_of(b))
+}
+
+/// Whether one of two steps of the same rank stands before the other.
+fn is_before_in_rank(a: &Next, b: &Next) -> bool
+    ensures { result ≡ (nat_lt (place_of a.now).token (place_of b.now).token
+        || ((place_of a.now).token == (place_of b.now).token
+        && is_sooner ((place_of a.now).path, (place_of a.now).physical) ((place_of b.now).path, (place_of b.now).physical))) }
+{
+    token_of(a) < token_of(b) || (token_of(a) == token_of(b) && is_sooner(a, b))
+}
+
+/// Whether one step stands before another in the order of steps.
+fn is_step_before(a: &Next, b: &Next) -> bool
+    ensures { result ≡ is_step_before a.now b.now }
+{
+    rank_of(a) < rank_of(b) || (rank_of(a) == rank_of(b) && is_before_in_rank(a, b))
+}
+
+/// Whether a step keeps its place before one that joins.
+fn stays(step: &Next, joining: &Next) -> bool
+    ensures { result ≡ stays step.now joining.now }
+{
+    !is_step_before(joining, step)
+}
+
+/// Where a step joins others: behind each before which it does not stand.
+#[tactic(auto, using(cf_stacks::proofs::Joins::behind_next, cf_stacks::proofs::Joins::behind_here, cf_stacks::proofs::Joins::behind_all))]
+fn place_for(dues: &[Next], due: &Next) -> usize
+    ensures within { result ≤ length dues.now }
+    ensures place { insert_by stays dues.now due.now ≡ insert dues.now result due.now }
+{
+    for (at, other) in dues.iter().enumerate() {
+        if !stays(other, due) {
+            return at;
+        }
+    }
+    dues.len()
+}
+
+/// Puts a step in its place. After an error the steps are as they were.
+fn add_due(dues: &mut Dues, due: Next) -> Result<(), AllocError>
+    ensures { IfOk result (λ _. dues.new ≡ with_due dues.old due) }
+{
+    let at = place_for(dues.as_slice(), &due);
+    dues.insert(at, due)
+}
+
+/// Adds the call of an open token, where it may be made again. After an error nothing is said of
+/// the steps.
+fn add_repeat(
+    alloc: Global,
+    dues: &mut Dues,
+    out: &[u64],
+    stack: &StackState,
+    pending: &Pending,
+) -> Result<(), AllocError>
+    ensures { IfOk result (λ _. dues.new ≡ with_repeat out.now stack.now dues.old pending.now) }
+{
+    if may_repeat(out, stack, pending) {
+        let step = again(alloc, pending)?;
+        add_due(dues, step)
+    } else {
+        Ok(())
+    }
+}
+
+/// Adds every repeat. After an error nothing is said of the steps.
+fn add_repeats(
+    alloc: Global,
+    dues: &mut Dues,
+    out: &[u64],
+    stack: &StackState,
+) -> Result<(), AllocError>
+    ensures { IfOk result (λ _. dues.new ≡ with_repeats out.now stack.now dues.old) }
+{
+    for pending in stack.tokens.as_slice() {
+        add_repeat(alloc, dues, out, stack, pending)?;
+    }
+    Ok(())
+}
+
+/// Every repeat.
+fn repeats(alloc: Global, out: &[u64], stack: &StackState) -> Result<Dues, AllocError>
+    ensures { IfOk result (λ dues. dues ≡ with_repeats out.now stack.now []) }
+{
+    let mut dues = Dues::new(alloc);
+    add_repeats(alloc, &mut dues, out, stack)?;
+    Ok(dues)
+}
+
+/// A new call, under the next token. Where no token is left, this is an error too.
+fn call(
+    alloc: Global,
+    world: &World,
+    path: &Txt,
+    lane: &str,
+    request: &Request,
+) -> Result<Next, AllocError>
+    ensures { IfOk result (λ n. n ≡ next.Step path.now lane.now (world.now.token + 1) request.now false) }
+{
+    let Some(token) = world.token.checked_add(1) else {
+        return Err(AllocError);
+    };
+    Ok(Next::Step {
+        path: path.try_clone(alloc)?,
+        lane: Txt::from_str(alloc, lane)?,
+        token,
+        request: request.try_clone(alloc)?,
+        repeated: false,
+    })
+}
+
+/// Adds a call on the resource of a physical id on one lane, where that is at home and the id names
+/// it. After an error nothing is said of the steps.
+fn add_call_on(
+    alloc: Global,
+    dues: &mut Dues,
+    out: &[u64],
+    world: &World,
+    path: &Txt,
+    request: &Request,
+    physical: &Txt,
+    lane: &(Txt, Txt),
+) -> Result<(), AllocError>
+    ensures { IfOk result (λ _. dues.new ≡ with_call_on out.now world.now path.now request.now physical.now dues.old lane.now) }
+{
+    if is_home_of(out, world, physical, lane) {
+        let step = call(alloc, world, path, lane.0.as_str(), request)?;
+        add_due(dues, step)
+    } else {
+        Ok(())
+    }
+}
+
+/// The same on each lane. After an error nothing is said of the steps.
+fn add_calls_on(
+    alloc: Global,
+    dues: &mut Dues,
+    out: &[u64],
+    world: &World,
+    path: &Txt,
+    request: &Request,
+    physical: &Txt,
+) -> Result<(), AllocError>
+    ensures { IfOk result (λ _. dues.new ≡ with_calls_on out.now world.now path.now request.now physical.now dues.old) }
+{
+    for lane in world.lanes.as_slice() {
+        add_call_on(alloc, dues, out, world, path, request, physical, lane)?;
+    }
+    Ok(())
+}
+
+/// Adds a create, where a lane of its type is at home. After an error nothing is said of the steps.
+#[tactic(auto, using(crate::proofs::AtHome::lane_told))]
+fn add_create(
+    alloc: Global,
+    dues: &mut Dues,
+    out: &[u64],
+    world: &World,
+    path: &Txt,
+    request: &Request,
+    kind: &Txt,
+) -> Result<(), AllocError>
+    ensures { IfOk result (λ _. dues.new ≡ with_create out.now world.now path.now request.now kind.now dues.old) }
+{
+    if first_home(out, world, kind).is_some() {
+        let step = call(alloc, world, path, "", request)?;
+        add_due(dues, step)
+    } else {
+        Ok(())
+    }
+}
+
+/// Adds a new call, where a lane at home can take it. After an error nothing is said of the steps.
+fn add_call(
+    alloc: Global,
+    dues: &mut Dues,
+    out: &[u64],
+    world: &World,
+    path: &Txt,
+    request: &Request,
+) -> Result<(), AllocError>
+    ensures { IfOk result (λ _. dues.new ≡ with_call out.now world.now path.now dues.old request.now) }
+{
+    match request {
+        Request::Create { kind, props: _ } => add_create(
+            alloc, dues, out, world, path, request, kind,
+        ),
+        Request::Update { physical, props: _ } => add_calls_on(
+            alloc, dues, out, world, path, request, physical,
+        ),
+        Request::Delete { physical } => add_calls_on(
+            alloc, dues, out, world, path, request, physical,
+        ),
+    }
+}
+
+/// Adds the calls that may begin. After an error nothing is said of the steps.
+fn add_starts(
+    alloc: Global,
+    dues: &mut Dues,
+    out: &[u64],
+    world: &World,
+    starts: &Starts,
+) -> Result<(), AllocError>
+    ensures { IfOk result (λ _. dues.new ≡ with_starts out.now world.now starts.now dues.old) }
+{
+    for start in starts.as_slice() {
+        add_call(alloc, dues, out, world, &start.path, &start.request)?;
+    }
+    Ok(())
+}
+
+/// Every repeat, and the calls that may begin.
+fn repeats_and_starts(
+    alloc: Global,
+    world: &World,
+    stack: &StackState,
+    out: &[u64],
+    starts: &Starts,
+) -> Result<Dues, AllocError>
+    ensures { IfOk result (λ dues. dues ≡ with_starts out.now world.now starts.now (with_repeats out.now stack.now [])) }
+{
+    let mut dues = repeats(alloc, out, stack)?;
+    add_starts(alloc, &mut dues, out, world, starts)?;
+    Ok(dues)
+}
+
+/// Steps that one more joins.
+fn joined_by(mut dues: Dues, due: Next) -> Result<Dues, AllocError>
+    ensures { IfOk result (λ all. all ≡ with_due dues due) }
+{
+    add_due(&mut dues, due)?;
+    Ok(dues)
+}
+
+/// The steps of a create that has not failed.
+fn dues_going(
+    alloc: Global,
+    schemas: &Schemas,
+    name: &Txt,
+    world: &World,
+    stack: &StackState,
+    out: &[u64],
+    starts: &Starts,
+    is_done: bool,
+) -> Result<Dues, AllocError>
+    requires creating { stack.now.status ≡ status.CreateInProgress }
+    requires going { ¬ HasFailed schemas.now name.now world.now stack.now }
+    requires listed { AreOpen schemas.now stack.now starts.now }
+    requires done { IsTrue is_done ↔ AllDone stack.now }
+    ensures { IfOk result (λ dues. AreDueIn schemas.now name.now world.now out.now stack.now Forward dues) }
+{
+    let dues = repeats_and_starts(alloc, world, stack, out, starts)?;
+    if is_over(out, stack, is_done) {
+        let end = Next::End {
+            status: Status::CreateComplete,
+            failed: Names::new(alloc),
+        };
+        joined_by(dues, end)
+    } else {
+        Ok(dues)
+    }
+}
+
+/// The step that turns a create back.
+fn turn(alloc: Global, cause: Cause) -> Result<Dues, AllocError>
+    ensures { IfOk result (λ dues. dues ≡ next.Turn phase.Back (Some cause) ∷ []) }
+{
+    let mut dues = Dues::new(alloc);
+    dues.push(Next::Turn {
+        phase: Phase::Back,
+        cause: Some(cause),
+    })?;
+    Ok(dues)
+}
+
+/// The one step of a create that has failed, once none of its calls is out: to turn back.
+fn dues_failed(
+    alloc: Global,
+    schemas: &Schemas,
+    name: &Txt,
+    world: &World,
+    stack: &StackState,
+    out: &[u64],
+    cause: Cause,
+) -> Result<Dues, AllocError>
+    requires creating { stack.now.status ≡ status.CreateInProgress }
+    requires failed { HasFailed schemas.now name.now world.now stack.now }
+    requires cause { IsCause schemas.now name.now world.now stack.now cause }
+    ensures { IfOk result (λ dues. AreDueIn schemas.now name.now world.now out.now stack.now Forward dues) }
+{
+    if none_out(out, stack) {
+        turn(alloc, cause)
+    } else {
+        Ok(Dues::new(alloc))
+    }
+}
+
+/// A create that has failed for no cause that can be told has no step.
+fn dues_untold(
+    alloc: Global,
+    schemas: &Schemas,
+    name: &Txt,
+    world: &World,
+    stack: &StackState,
+    out: &[u64],
+) -> Dues
+    requires creating { stack.now.status ≡ status.CreateInProgress }
+    requires failed { HasFailed schemas.now name.now world.now stack.now }
+    requires untold { (c : Cause) → IsCause schemas.now name.now world.now stack.now c → ⊥ }
+    ensures { AreDueIn schemas.now name.now world.now out.now stack.now Forward result }
+{
+    Dues::new(alloc)
+}
+
+/// The steps of a create.
+fn dues_forward(
+    alloc: Global,
+    schemas: &Schemas,
+    name: &Txt,
+    world: &World,
+    stack: &StackState,
+    out: &[u64],
+) -> Result<Dues, AllocError>
+    requires creating { stack.now.status ≡ status.CreateInProgress }
+    ensures { IfOk result (λ dues. AreDueIn schemas.now name.now world.now out.now stack.now Forward dues) }
+{
+    let before = plan_before(alloc, stack)?;
+    let now = plan_now(alloc, stack)?;
+    let done = done_paths(alloc, stack, &before, &now)?;
+    match failure_of(alloc, schemas, name, world, stack, &before, &now, &done)? {
+        Failure::Because { cause } => dues_failed(alloc, schemas, name, world, stack, out, cause),
+        Failure::Untold => Ok(dues_untold(alloc, schemas, name, world, stack, out)),
+        Failure::Nothing => {
+            let starts = open_starts(alloc, schemas, stack, &before, &now, &done)?;
+            let is_done = is_all_done(stack, &before, &done);
+            dues_going(alloc, schemas, name, world, stack, out, &starts, is_done)
+        }
+    }
+}
+
+/// Whether a made resource goes: nothing needs it, no deletion of it was begun, and no call at its
+/// path is open.
+fn goes(stack: &StackState, needed: &Names, held: &Held) -> bool
+    requires { (r : Held) → is_not_needed stack.now r ≡ not (is_among r.physical needed.now) }
+    ensures { result ≡ goes stack.now held.now }
+{
+    !is_among(&held.physical, needed)
+        && is_untried(stack, &held.physical)
+        && is_free(&held.path, stack)
+}
+
+/// Adds how a resource goes: it is kept, or deleted. After an error nothing is said of the steps.
+fn add_gone(
+    alloc: Global,
+    dues: &mut Dues,
+    out: &[u64],
+    world: &World,
+    held: &Held,
+) -> Result<(), AllocError>
+    ensures { IfOk result (λ _. dues.new ≡ with_gone out.now world.now dues.old held.now) }
+{
+    if is_kept(held) {
+        let step = kept(alloc, held)?;
+        return add_due(dues, step);
+    }
+    let request = Request::Delete {
+        physical: held.physical.try_clone(alloc)?,
+    };
+    add_call(alloc, dues, out, world, &held.path, &request)
+}
+
+/// Adds a made resource, where it goes. After an error nothing is said of the steps.
+fn add_going(
+    alloc: Global,
+    dues: &mut Dues,
+    out: &[u64],
+    world: &World,
+    stack: &StackState,
+    needed: &Names,
+    held: &Held,
+) -> Result<(), AllocError>
+    requires { (r : Held) → is_not_needed stack.now r ≡ not (is_among r.physical needed.now) }
+    ensures { IfOk result (λ _. dues.new ≡ with_going out.now world.now stack.now dues.old held.now) }
+{
+    if goes(stack, needed, held) {
+        add_gone(alloc, dues, out, world, held)
+    } else {
+        Ok(())
+    }
+}
+
+/// Adds each made resource that goes. After an error nothing is said of the steps.
+fn add_goings(
+    alloc: Global,
+    dues: &mut Dues,
+    out: &[u64],
+    world: &World,
+    stack: &StackState,
+    needed: &Names,
+) -> Result<(), AllocError>
+    requires { (r : Held) → is_not_needed stack.now r ≡ not (is_among r.physical needed.now) }
+    ensures { IfOk result (λ _. dues.new ≡ with_goings out.now world.now stack.now dues.old) }
+{
+    for held in stack.made.as_slice() {
+        add_going(alloc, dues, out, world, stack, needed, held)?;
+    }
+    Ok(())
+}
+
+/// The steps of a rollback that waits for repeats.
+fn dues_waiting(
+    alloc: Global,
+    world: &World,
+    stack: &StackState,
+    out: &[u64],
+) -> Result<Dues, AllocError>
+    requires rolling { stack.now.status ≡ status.RollbackInProgress }
+    requires waits { waits_for_repeats Back out.now stack.now ≡ true }
+    ensures { IfOk result (λ dues. (schemas : List Schema) (name : List ℕ) → AreDueIn schemas name world.now out.now stack.now Back dues) }
+{
+    repeats(alloc, out, stack)
+}
+
+/// Every resource that goes.
+fn goings(
+    alloc: Global,
+    world: &World,
+    stack: &StackState,
+    out: &[u64],
+    needed: &Names,
+) -> Result<Dues, AllocError>
+    requires { (r : Held) → is_not_needed stack.now r ≡ not (is_among r.physical needed.now) }
+    ensures { IfOk result (λ dues. dues ≡ with_goings out.now world.now stack.now []) }
+{
+    let mut dues = Dues::new(alloc);
+    add_goings(alloc, &mut dues, out, world, stack, needed)?;
+    Ok(dues)
+}
+
+/// The steps of a rollback that waits for no repeat.
+fn dues_to_go(
+    alloc: Global,
+    world: &World,
+    stack: &StackState,
+    out: &[u64],
+    needed: &Names,
+) -> Result<Dues, AllocError>
+    requires rolling { stack.now.status ≡ status.RollbackInProgress }
+    requires waits { waits_for_repeats Back out.now stack.now ≡ false }
+    requires needed { (r : Held) → is_not_needed stack.now r ≡ not (is_among r.physical needed.now) }
+    ensures { IfOk result (λ dues. (schemas : List Schema) (name : List ℕ) → AreDueIn schemas name world.now out.now stack.now Back dues) }
+{
+    let dues = goings(alloc, world, stack, out, needed)?;
+    if is_ended(out, world, stack, needed) {
+        let end = end_back(alloc, stack)?;
+        joined_by(dues, end)
+    } else {
+        Ok(dues)
+    }
+}
+
+/// The steps of the rollback of a creation. The terms are those of each path of what is made, and of
+/// what is being created.
+fn dues_back(
+    alloc: Global,
+    world: &World,
+    stack: &StackState,
+    out: &[u64],
+    terms: &ByName<Terms>,
+) -> Result<Dues, AllocError>
+    requires rolling { stack.now.status ≡ status.RollbackInProgress }
+    requires terms { AreTerms terms.now stack.now }
+    ensures { IfOk result (λ dues. (schemas : List Schema) (name : List ℕ) → AreDueIn schemas name world.now out.now stack.now Back dues) }
+{
+    if waits_for_repeats(out, stack) {
+        return dues_waiting(alloc, world, stack, out);
+    }
+    let needed = needed(alloc, stack, terms)?;
+    dues_to_go(alloc, world, stack, out, &needed)
+}
+
+/// The steps of a creation that is taken back.
+fn dues_in_rollback(
+    alloc: Global,
+    world: &World,
+    stack: &StackState,
+    out: &[u64],
+) -> Result<Dues, AllocError>
+    requires { stack.now.status ≡ status.RollbackInProgress }
+    ensures { IfOk result (λ dues. (schemas : List Schema) (name : List ℕ) → AreDueIn schemas name world.now out.now stack.now Back dues) }
+{
+    let terms = terms_for(alloc, stack)?;
+    dues_back(alloc, world, stack, out, &terms)
+}
+
+/// The steps of a creation on its stack.
+fn dues_on(
+    alloc: Global,
+    schemas: &Schemas,
+    name: &Txt,
+    world: &World,
+    stack: &StackState,
+    out: &[u64],
+) -> Result<Dues, AllocError>
+    requires { Creates stack.now }
+    ensures { IfOk result (λ dues. AreDueOn schemas.now name.now world.now out.now stack.now dues) }
+{
+    if is_creating(stack) {
+        dues_forward(alloc, schemas, name, world, stack, out)
+    } else {
+        dues_in_rollback(alloc, world, stack, out)
+    }
+}
+
+/// All steps that may follow in a creation, the operation of this number, while the leases of these
+/// tokens are out: every repeat, every new call, every resource to keep, and a phase or the end, in
+/// the order of steps. A create is listed once, with an empty lane name, where a lane of its type is
+/// at home; any other new call on each lane at home that its physical id names. A repeat is listed
+/// whether its lane is at home or not.
+///
+/// `out` are open tokens; the schemas have one for each type of the lanes of the last opening and of
+/// each resource.
+///
+/// # Errors
+///
+/// It comes where memory is lacking, and where a new call may begin and no token is left.
+pub fn due(
+    alloc: Global,
+    world: &World,
+    number: u64,
+    out: &[u64],
+    schemas: &Schemas,
+) -> Result<Dues, AllocError>
+    requires { IsCreation world.now number }
+    ensures { IfOk result (λ dues. AreDue schemas.now world.now out.now number dues) }
+{
+    match stack_of_operation(world, number) {
+        Some(going) => dues_on(alloc, schemas, &going.0, world, &going.1, out),
+        // The operation is in progress.
+        None => unreachable!(),
+    }
+}

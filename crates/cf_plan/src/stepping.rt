@@ -1,0 +1,569 @@
+//! The next step of a creation, or of its rollback.
+ghost use Rattle.std.specs.Prelude.{◌≡◌, ◌↔◌, ◌++◌, ℕ, List, [], false, IfOk, IsTrue, Some, None, option_map};
+ghost use Rattle.std.specs.Option.{option_copied};
+ghost use Rattle.cf_tree.specs.Keys.{ascends};
+ghost use Rattle.cf_entry.specs.declared.entry.Entry.{Entry};
+ghost use Rattle.cf_entry.specs.declared.status.Status.TheVariants as status;
+ghost use Rattle.cf_entry.specs.declared.turn.Cause.{Cause};
+ghost use Rattle.cf_desired.specs.Plan.{no_plan};
+ghost use Rattle.cf_schema.specs.declared.described.Schema.{Schema};
+ghost use Rattle.cf_stacks.specs.Status.{Forward, Back};
+ghost use Rattle.cf_stacks.specs.Fold.{terms_at};
+ghost use Rattle.cf_plan.specs.declared.next.Next.TheVariants as next;
+ghost use Rattle.cf_plan.specs.Forward.{plan_before, plan_now, AllDone, HasFailed, IsCause};
+ghost use Rattle.cf_plan.specs.Done.{AreDone};
+ghost use Rattle.cf_plan.specs.Chosen.{IsChosen, IsNext, entry_of, leases_of};
+ghost use Rattle.cf_plan.specs.Follow.{MayFollow};
+ghost use Rattle.cf_plan.specs.Taking.{AreTerms, better, better_if, first_by, is_token_before, is_repeat_home};
+ghost use Rattle.cf_plan.specs.Stepping.{schemas_of, Creates, IsCreation, IsChosenOn, start_of, starts_at, starts_in, with_terms, terms_asked, AreOpen, lane_for, is_start_home, place_in_path, is_start_before, is_over, Begins, Waits};
+
+use crate::back::{first_repeat, home_of};
+use crate::cause::{Failure, are_all_done, failure_of};
+use crate::done::done_paths;
+use crate::forward::Wants;
+use crate::lanes::first_home;
+use crate::next::{Homes, Next, again, leases_of, next_back, stack_of_operation};
+use crate::repeats::{none_out, waits_for_repeats};
+use crate::starts::starts_of;
+use cf_desired::Plan;
+use cf_entry::{Cause, Phase, Status};
+use cf_schema::Schemas;
+use cf_stacks::{StackState, Terms, World, seen_in, seen_now};
+use cf_tree::{ByName, Listing, Names, Request, TryClone, Txt};
+use std::alloc::{AllocError, Global};
+
+/// A request that may begin, with its path.
+#[derive(Drop)]
+pub struct Start {
+    pub path: Txt,
+    pub request: Request,
+}
+
+/// Requests that may begin.
+pub type Starts = Listing<Start>;
+
+/// The schemas of the lanes that are handed in, one of each type.
+pub fn schemas_of(alloc: Global, homes: &Homes) -> Result<Schemas, AllocError>
+    ensures { IfOk result (λ schemas. schemas ≡ schemas_of homes.now) }
+{
+    let mut schemas = Schemas::new(alloc);
+    for home in homes.as_slice() {
+        schemas.add(home.schema.try_clone(alloc)?)?;
+    }
+    Ok(schemas)
+}
+
+/// The plan of no source.
+fn no_plan(alloc: Global) -> Plan
+    ensures { result ≡ no_plan 0 0 [] }
+{
+    Plan {
+        wanted: Listing::new(alloc),
+        outputs: Listing::new(alloc),
+        nested: Listing::new(alloc),
+        unmade: Names::new(alloc),
+        exports: Listing::new(alloc),
+        flaws: Listing::new(alloc),
+        templates: 0,
+        members: 0,
+    }
+}
+
+/// What the source of a stack's operation wants over what was held before.
+pub fn plan_before(alloc: Global, stack: &StackState) -> Result<Plan, AllocError>
+    ensures { IfOk result (λ plan. plan ≡ plan_before stack.now) }
+{
+    let seen = seen_in(alloc, &stack.before)?;
+    match &stack.going {
+        Some(going) => going.plan(alloc, &seen),
+        None => Ok(no_plan(alloc)),
+    }
+}
+
+/// What it wants over the resources of now.
+pub fn plan_now(alloc: Global, stack: &StackState) -> Result<Plan, AllocError>
+    ensures { IfOk result (λ plan. plan ≡ plan_now stack.now) }
+{
+    let seen = seen_now(alloc, stack)?;
+    match &stack.going {
+        Some(going) => going.plan(alloc, &seen),
+        None => Ok(no_plan(alloc)),
+    }
+}
+
+/// The policies and needs that the source of the operation gives a path.
+fn terms_at(alloc: Global, stack: &StackState, path: &Txt) -> Result<Terms, AllocError>
+    ensures { IfOk result (λ terms. terms ≡ terms_at path.now stack.now) }
+{
+    match &stack.going {
+        Some(going) => going.terms(alloc, path),
+        None => Ok(Terms::usual(alloc)),
+    }
+}
+
+/// Adds the terms of a path. After an error nothing is said of the map.
+fn add_terms(
+    alloc: Global,
+    stack: &StackState,
+    terms: &mut ByName<Terms>,
+    path: &Txt,
+) -> Result<(), AllocError>
+    ensures { IfOk result (λ _. terms.new ≡ with_terms stack.now terms.old path.now) }
+{
+    let given = terms_at(alloc, stack, path)?;
+    terms.insert(path.try_clone(alloc)?, given)
+}
+
+/// The terms of each path of what is made, and of each open call.
+fn terms_asked(alloc: Global, stack: &StackState) -> Result<ByName<Terms>, AllocError>
+    ensures { IfOk result (λ terms. terms ≡ terms_asked stack.now) }
+{
+    let mut terms = ByName::new(alloc);
+    for held in stack.made.as_slice() {
+        add_terms(alloc, stack, &mut terms, &held.path)?;
+    }
+    for pending in stack.tokens.as_slice() {
+        add_terms(alloc, stack, &mut terms, &pending.path)?;
+    }
+    Ok(terms)
+}
+
+/// The terms of each path of what is made, and of what is being created.
+pub(crate) fn terms_for(alloc: Global, stack: &StackState) -> Result<ByName<Terms>, AllocError>
+    ensures { IfOk result (λ terms. AreTerms terms stack.now) }
+{
+    terms_asked(alloc, stack)
+}
+
+/// Adds a request, where there is one. After an error nothing is said of the list.
+fn push_start(
+    alloc: Global,
+    list: &mut Starts,
+    path: &Txt,
+    request: &Option<Request>,
+) -> Result<(), AllocError>
+    ensures { IfOk result (λ _. list.new ≡ list.old ++ start_of path.now request.now) }
+{
+    match request {
+        Some(request) => {
+            let path = path.try_clone(alloc)?;
+            let request = request.try_clone(alloc)?;
+            list.push(Start { path, request })
+        }
+        None => Ok(()),
+    }
+}
+
+/// Adds what a path wants. After an error nothing is said of the list.
+fn push_starts(alloc: Global, list: &mut Starts, entry: &(Txt, Wants)) -> Result<(), AllocError>
+    ensures { IfOk result (λ _. list.new ≡ list.old ++ starts_at entry.now) }
+{
+    push_start(alloc, list, &entry.0, &entry.1.create)?;
+    push_start(alloc, list, &entry.0, &entry.1.update)
+}
+
+/// All that paths want, with the paths.
+fn listed(alloc: Global, starts: &ByName<Wants>) -> Result<Starts, AllocError>
+    ensures { IfOk result (λ list. (list ≡ starts_in starts.now) × IsTrue (ascends starts.now)) }
+{
+    let mut list = Starts::new(alloc);
+    for entry in starts.as_slice() {
+        push_starts(alloc, &mut list, entry)?;
+    }
+    Ok(list)
+}
+
+/// The requests that may begin while the forward phase has not failed.
+pub(crate) fn open_starts(
+    alloc: Global,
+    schemas: &Schemas,
+    stack: &StackState,
+    before: &Plan,
+    now: &Plan,
+    done: &Names,
+) -> Result<Starts, AllocError>
+    requires before { before.now ≡ plan_before stack.now }
+    requires now { now.now ≡ plan_now stack.now }
+    requires done { AreDone stack.now done.now }
+    ensures { IfOk result (λ starts. AreOpen schemas.now stack.now starts) }
+{
+    let starts = starts_of(alloc, schemas, stack, before, now, done)?;
+    listed(alloc, &starts)
+}
+
+/// The lane at home that takes a request, with its type.
+#[tactic(auto, using(crate::proofs::AtHome::lane_named))]
+fn lane_for<'a>(out: &[u64], world: &'a World, request: &Request) -> Option<&'a (Txt, Txt)>
+    ensures { option_map (λ l. l.now.0) result ≡ lane_for out.now world.now request.now }
+{
+    match request {
+        Request::Create { kind, props: _ } => first_home(out, world, kind),
+        Request::Update { physical, props: _ } => home_of(out, world, physical),
+        Request::Delete { physical } => home_of(out, world, physical),
+    }
+}
+
+/// Whether a lane at home can take a request.
+#[tactic(auto, using(crate::proofs::AtHome::lane_told))]
+fn is_start_home(out: &[u64], world: &World, start: &Start) -> bool
+    ensures { result ≡ is_start_home out.now world.now start.now }
+{
+    lane_for(out, world, &start.request).is_some()
+}
+
+/// The physical id that a request names; a create names none.
+pub(crate) fn place_in_path(request: &Request) -> &str
+    ensures { result.now ≡ place_in_path request.now }
+{
+    match request {
+        Request::Create { kind: _, props: _ } => "",
+        Request::Update { physical, props: _ } => physical.as_str(),
+        Request::Delete { physical } => physical.as_str(),
+    }
+}
+
+/// Whether one request stands before another: by path, and then by physical id.
+fn is_start_before(start: &Start, other: &Start) -> bool
+    ensures { result ≡ is_start_before start.now other.now }
+{
+    let place = place_in_path(&start.request);
+    let other_place = place_in_path(&other.request);
+    start.path < other.path || (start.path == other.path && place < other_place)
+}
+
+/// The one of two requests that stands before the other.
+fn better_start<'a>(best: Option<&'a Start>, start: &'a Start) -> Option<&'a Start>
+    ensures { option_copied result ≡ better is_start_before (option_copied best.entry) start.now }
+{
+    match best {
+        Some(other) => {
+            if is_start_before(start, other) {
+                Some(start)
+            } else {
+                Some(other)
+            }
+        }
+        None => Some(start),
+    }
+}
+
+/// The first of the requests that a lane at home can take, once one more is seen.
+fn better_at_home<'a>(
+    out: &[u64],
+    world: &World,
+    best: Option<&'a Start>,
+    start: &'a Start,
+) -> Option<&'a Start>
+    ensures { option_copied result ≡ better_if is_start_before (is_start_home out.now world.now) (option_copied best.entry) start.now }
+{
+    if is_start_home(out, world, start) {
+        better_start(best, start)
+    } else {
+        best
+    }
+}
+
+/// The first request that a lane at home can take.
+fn first_start<'a>(out: &[u64], world: &World, starts: &'a Starts) -> Option<&'a Start>
+    ensures { option_copied result ≡ first_by is_start_before (is_start_home out.now world.now) starts.now }
+{
+    let mut best = None;
+    for start in starts.as_slice() {
+        best = better_at_home(out, world, best, start);
+    }
+    best
+}
+
+/// A new call on a lane.
+fn begun(alloc: Global, start: &Start, lane: &Txt, token: u64) -> Result<Next, AllocError>
+    ensures { IfOk result (λ n. n ≡ next.Step start.now.path lane.now token start.now.request false) }
+{
+    let path = start.path.try_clone(alloc)?;
+    let lane = lane.try_clone(alloc)?;
+    let request = start.request.try_clone(alloc)?;
+    Ok(Next::Step {
+        path,
+        lane,
+        token,
+        request,
+        repeated: false,
+    })
+}
+
+/// A request begins on its lane. Where no token is left, this is an error too.
+fn begin(alloc: Global, out: &[u64], world: &World, start: &Start) -> Result<Next, AllocError>
+    requires { IsTrue (is_start_home out.now world.now start.now) }
+    ensures { IfOk result (λ n. Begins out.now world.now start.now n) }
+{
+    match (
+        lane_for(out, world, &start.request),
+        world.token.checked_add(1),
+    ) {
+        (Some(lane), Some(token)) => begun(alloc, start, &lane.0, token),
+        // A lane at home can take it.
+        (None, _) => unreachable!(),
+        (_, None) => Err(AllocError),
+    }
+}
+
+/// Nothing can be done before a lease comes home; where none is out, that is an error.
+fn waits(out: &[u64]) -> Result<Next, AllocError>
+    ensures { IfOk result (λ n. Waits out.now n) }
+{
+    if out.is_empty() {
+        Err(AllocError)
+    } else {
+        Ok(Next::Wait)
+    }
+}
+
+/// Whether all is done, no call is out, and none would be made again even if no lease were out.
+pub(crate) fn is_over(out: &[u64], stack: &StackState, is_done: bool) -> bool
+    ensures { result ≡ is_over out.now stack.now is_done }
+{
+    is_done && none_out(out, stack) && !waits_for_repeats(&[], stack)
+}
+
+/// What comes where nothing may begin: the end, or to wait.
+fn ends_or_waits(
+    alloc: Global,
+    schemas: &Schemas,
+    name: &Txt,
+    world: &World,
+    stack: &StackState,
+    out: &[u64],
+    starts: &Starts,
+    is_done: bool,
+) -> Result<Next, AllocError>
+    requires creating { stack.now.status ≡ status.CreateInProgress }
+    requires going { ¬ HasFailed schemas.now name.now world.now stack.now }
+    requires may_begin { AreOpen schemas.now stack.now starts.now }
+    requires no_repeat { first_by is_token_before (is_repeat_home out.now world.now stack.now) stack.now.tokens ≡ None }
+    requires no_start { first_by is_start_before (is_start_home out.now world.now) starts.now ≡ None }
+    requires done { IsTrue is_done ↔ AllDone stack.now }
+    ensures { IfOk result (λ n. IsChosen schemas.now name.now world.now out.now stack.now Forward n) }
+{
+    if is_over(out, stack, is_done) {
+        Ok(Next::End {
+            status: Status::CreateComplete,
+            failed: Names::new(alloc),
+        })
+    } else {
+        waits(out)
+    }
+}
+
+/// The next new call of a create that has not failed and of which no call is to be made again, or
+/// its end.
+fn next_start(
+    alloc: Global,
+    schemas: &Schemas,
+    name: &Txt,
+    world: &World,
+    stack: &StackState,
+    out: &[u64],
+    starts: &Starts,
+    is_done: bool,
+) -> Result<Next, AllocError>
+    requires creating { stack.now.status ≡ status.CreateInProgress }
+    requires going { ¬ HasFailed schemas.now name.now world.now stack.now }
+    requires may_begin { AreOpen schemas.now stack.now starts.now }
+    requires no_repeat { first_by is_token_before (is_repeat_home out.now world.now stack.now) stack.now.tokens ≡ None }
+    requires done { IsTrue is_done ↔ AllDone stack.now }
+    ensures { IfOk result (λ n. IsChosen schemas.now name.now world.now out.now stack.now Forward n) }
+{
+    match first_start(out, world, starts) {
+        Some(start) => begin(alloc, out, world, start),
+        None => ends_or_waits(alloc, schemas, name, world, stack, out, starts, is_done),
+    }
+}
+
+/// The next step of a create that has not failed: a call that is made again, else a new one, else
+/// the end.
+fn next_going(
+    alloc: Global,
+    schemas: &Schemas,
+    name: &Txt,
+    world: &World,
+    stack: &StackState,
+    out: &[u64],
+    starts: &Starts,
+    is_done: bool,
+) -> Result<Next, AllocError>
+    requires creating { stack.now.status ≡ status.CreateInProgress }
+    requires going { ¬ HasFailed schemas.now name.now world.now stack.now }
+    requires may_begin { AreOpen schemas.now stack.now starts.now }
+    requires done { IsTrue is_done ↔ AllDone stack.now }
+    ensures { IfOk result (λ n. IsChosen schemas.now name.now world.now out.now stack.now Forward n) }
+{
+    match first_repeat(out, world, stack) {
+        Some(pending) => again(alloc, pending),
+        None => next_start(alloc, schemas, name, world, stack, out, starts, is_done),
+    }
+}
+
+/// A create that has failed turns back, once none of its calls is out.
+fn turns_back(
+    schemas: &Schemas,
+    name: &Txt,
+    world: &World,
+    stack: &StackState,
+    out: &[u64],
+    cause: Cause,
+) -> Result<Next, AllocError>
+    requires creating { stack.now.status ≡ status.CreateInProgress }
+    requires failed { HasFailed schemas.now name.now world.now stack.now }
+    requires cause { IsCause schemas.now name.now world.now stack.now cause }
+    ensures { IfOk result (λ n. IsChosen schemas.now name.now world.now out.now stack.now Forward n) }
+{
+    if none_out(out, stack) {
+        Ok(Next::Turn {
+            phase: Phase::Back,
+            cause: Some(cause),
+        })
+    } else {
+        waits(out)
+    }
+}
+
+/// A create that has failed for no cause that can be told waits.
+fn stays(
+    schemas: &Schemas,
+    name: &Txt,
+    world: &World,
+    stack: &StackState,
+    out: &[u64],
+) -> Result<Next, AllocError>
+    requires creating { stack.now.status ≡ status.CreateInProgress }
+    requires failed { HasFailed schemas.now name.now world.now stack.now }
+    requires untold { (c : Cause) → IsCause schemas.now name.now world.now stack.now c → ⊥ }
+    ensures { IfOk result (λ n. IsChosen schemas.now name.now world.now out.now stack.now Forward n) }
+{
+    waits(out)
+}
+
+/// The next step of a create, while the leases of these tokens are out.
+fn next_forward(
+    alloc: Global,
+    schemas: &Schemas,
+    name: &Txt,
+    world: &World,
+    stack: &StackState,
+    out: &[u64],
+) -> Result<Next, AllocError>
+    requires creating { stack.now.status ≡ status.CreateInProgress }
+    ensures { IfOk result (λ n. IsChosen schemas.now name.now world.now out.now stack.now Forward n) }
+{
+    let before = plan_before(alloc, stack)?;
+    let now = plan_now(alloc, stack)?;
+    let done = done_paths(alloc, stack, &before, &now)?;
+    match failure_of(alloc, schemas, name, world, stack, &before, &now, &done)? {
+        Failure::Because { cause } => turns_back(schemas, name, world, stack, out, cause),
+        Failure::Untold => stays(schemas, name, world, stack, out),
+        Failure::Nothing => {
+            let starts = open_starts(alloc, schemas, stack, &before, &now, &done)?;
+            let is_done = is_all_done(stack, &before, &done);
+            next_going(alloc, schemas, name, world, stack, out, &starts, is_done)
+        }
+    }
+}
+
+/// Whether all paths of the operation's template are done.
+pub(crate) fn is_all_done(stack: &StackState, before: &Plan, done: &Names) -> bool
+    requires before { before.now ≡ plan_before stack.now }
+    requires done { AreDone stack.now done.now }
+    ensures { IsTrue result ↔ AllDone stack.now }
+{
+    are_all_done(before, done)
+}
+
+/// Whether a create is in progress.
+pub(crate) fn is_creating(stack: &StackState) -> bool
+    ensures { IsTrue result ↔ (stack.now.status ≡ status.CreateInProgress) }
+{
+    match stack.status {
+        Status::CreateInProgress => true,
+        _ => false,
+    }
+}
+
+/// The next step of a creation that is taken back.
+fn next_in_rollback(
+    alloc: Global,
+    world: &World,
+    stack: &StackState,
+    out: &[u64],
+) -> Result<Next, AllocError>
+    requires { stack.now.status ≡ status.RollbackInProgress }
+    ensures { IfOk result (λ n. (schemas : List Schema) (name : List ℕ) → IsChosen schemas name world.now out.now stack.now Back n) }
+{
+    let terms = terms_for(alloc, stack)?;
+    next_back(alloc, world, stack, out, &terms)
+}
+
+/// The next step of a creation on its stack.
+fn next_on(
+    alloc: Global,
+    schemas: &Schemas,
+    name: &Txt,
+    world: &World,
+    stack: &StackState,
+    out: &[u64],
+) -> Result<Next, AllocError>
+    requires { Creates stack.now }
+    ensures { IfOk result (λ n. IsChosenOn schemas.now name.now world.now out.now stack.now n) }
+{
+    if is_creating(stack) {
+        next_forward(alloc, schemas, name, world, stack, out)
+    } else {
+        next_in_rollback(alloc, world, stack, out)
+    }
+}
+
+/// Whether a stack's creation is in progress or is taken back.
+fn creates(stack: &StackState) -> bool
+    ensures { IsTrue result ↔ Creates stack.now }
+{
+    match stack.status {
+        Status::CreateInProgress => true,
+        Status::RollbackInProgress => true,
+        _ => false,
+    }
+}
+
+/// Whether the operation of a number is a creation in progress, or its rollback.
+pub fn is_creation(world: &World, number: u64) -> bool
+    ensures { IsTrue result ↔ IsCreation world.now number }
+{
+    match stack_of_operation(world, number) {
+        Some(going) => creates(&going.1),
+        None => false,
+    }
+}
+
+/// The one step that comes next in a creation, the operation of this number: of those that may start
+/// the first in the order of steps, a create on the first lane at home of its type. The lanes that
+/// are handed in tell which leases are out, and have a schema for each type.
+///
+/// # Errors
+///
+/// It comes where memory is lacking, where no token is left, and where no step may start and no
+/// lease is out. That the last never happens is not promised.
+pub fn next_in_creation(
+    alloc: Global,
+    world: &World,
+    number: u64,
+    homes: &Homes,
+) -> Result<Next, AllocError>
+    requires { IsCreation world.now number }
+    ensures chosen { IfOk result (λ n. IsNext (schemas_of homes.now) world.now (leases_of homes.now) number n) }
+    ensures may_follow { IfOk result (λ n. (e : Entry) → entry_of number n ≡ Some e → MayFollow (schemas_of homes.now) world.now (leases_of homes.now) e) }
+{
+    let out = leases_of(alloc, homes)?;
+    let schemas = schemas_of(alloc, homes)?;
+    match stack_of_operation(world, number) {
+        Some(going) => next_on(alloc, &schemas, &going.0, world, &going.1, out.as_slice()),
+        // The operation is in progress.
+        None => unreachable!(),
+    }
+}
