@@ -1,0 +1,5 @@
+pub mod Line
+pub mod Words
+pub mod Exit
+pub mod Report
+pub mod Print

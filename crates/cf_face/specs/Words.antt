@@ -1,0 +1,94 @@
+-- What the words of a command line ask for: the table of commands (this project's own).
+use Rattle.std.specs.Prelude.{ℕ, ◌==◌, ◌&&◌, ◌||◌, ◌+◌, ◌-◌, ◌*◌, Bool, true, false, if◌then◌else◌, List, [], ◌∷◌, length, sum_by, nat_le, nat_lt, Option, None, Some, is_some, option_map, option_and_then, codes}
+use Rattle.std.specs.List.{list_all}
+use Rattle.std.specs.Str.{bytes_eq}
+use Rattle.std.specs.Int.{is_in_range}
+use Rattle.std.specs.Char.{is_ascii_alphabetic, is_ascii_alphanumeric}
+use Rattle.cf_funcs.specs.Pieces.{cut_at}
+use Rattle.cf_tree.specs.Keys.{put, value_at}
+use Rattle.cf_template.specs.Words.{is_name}
+use Rattle.cf_face.specs.declared.words.Command.{Command}
+use Rattle.cf_face.specs.declared.words.Command.TheVariants as command
+
+-- a letter, digit or `-` (45)
+abbrev pub is_name_byte : ℕ → Bool
+is_name_byte b = is_ascii_alphanumeric b || b == 45
+
+-- the name of a stack: a letter, then letters, digits and `-`, at most 128 (CloudFormation API, CreateStack, StackName)
+abbrev pub is_stack_name : List ℕ → Bool
+is_stack_name [] = false
+is_stack_name (b ∷ bytes) = is_ascii_alphabetic b && (list_all is_name_byte bytes && nat_le (length (b ∷ bytes)) 128)
+
+-- the name of a template: 1 to 128 bytes (this project's own)
+abbrev pub is_template_name : List ℕ → Bool
+is_template_name name = nat_le 1 (length name) && nat_le (length name) 128
+
+-- what a word gives for a parameter: NAME=VALUE, cut at the first `=`; the name is 1 to 255 letters and digits (this project's own)
+abbrev pub named_setting : List ℕ × List ℕ → Option (List ℕ × List ℕ)
+named_setting cut = if is_name cut.0 then Some cut else None
+
+abbrev pub setting_of : List ℕ → Option (List ℕ × List ℕ)
+setting_of word = option_and_then named_setting (cut_at (codes "=") word)
+
+-- what words give, put among what others gave; a word that is no setting, or a name that is given twice, makes them none
+abbrev pub given_beside : List (List ℕ) → List (List ℕ × List ℕ) → Option (List (List ℕ × List ℕ))
+given_beside [] given = Some given
+given_beside (word ∷ words) given =
+    option_and_then (λ s. if is_some (value_at s.0 given) then None else given_beside words (put s.0 s.1 given)) (setting_of word)
+
+-- what words give for parameters, by name
+abbrev pub given_of : List (List ℕ) → Option (List (List ℕ × List ℕ))
+given_of words = given_beside words []
+
+-- `deploy STACK TEMPLATE NAME=VALUE ..`
+abbrev pub deploy_of : List (List ℕ) → Option Command
+deploy_of (stack ∷ template ∷ settings) =
+    if is_stack_name stack && is_template_name template then option_map (command.Deploy stack template) (given_of settings) else None
+deploy_of _ = None
+
+-- `describe STACK`
+abbrev pub describe_of : List (List ℕ) → Option Command
+describe_of (stack ∷ []) = if is_stack_name stack then Some (command.Describe stack) else None
+describe_of _ = None
+
+-- `validate TEMPLATE`
+abbrev pub validate_of : List (List ℕ) → Option Command
+validate_of (template ∷ []) = if is_template_name template then Some (command.Validate template) else None
+validate_of _ = None
+
+-- the command that the words ask for, by the first of them; None where no row of the table fits
+abbrev pub command_of : List (List ℕ) → Option Command
+command_of [] = None
+command_of (word ∷ words) =
+    if bytes_eq (codes "deploy") word then deploy_of words
+    else (if bytes_eq (codes "describe") word then describe_of words
+    else (if bytes_eq (codes "validate") word then validate_of words else None))
+
+-- whether a command changes a stack, and so drives handlers
+abbrev pub drives : Command → Bool
+drives (command.Deploy stack template given) = true
+drives (command.Describe stack) = false
+drives (command.Validate template) = false
+
+-- the number of workers that a word names: a decimal number from 1 to 64 without a leading zero, of one digit
+-- or two (this project's own)
+abbrev pub workers_of : List ℕ → Option ℕ
+workers_of (one ∷ []) = if is_in_range 49 57 one then Some (one - 48) else None
+workers_of (ten ∷ one ∷ []) =
+    let number = 10 * (ten - 48) + (one - 48) in
+    if is_in_range 49 57 ten && (is_in_range 48 57 one && nat_le number 64) then Some number else None
+workers_of _ = None
+
+-- the words have fewer than 2 ^ 30 bytes together (this project's own)
+abbrev pub are_short : List (List ℕ) → Bool
+are_short words = nat_lt (sum_by length words) 1073741824
+
+-- a folder is named, a number of workers is, and all the words are short
+abbrev pub is_in_form : List ℕ → List ℕ → List (List ℕ) → Bool
+is_in_form home workers words = nat_lt 0 (length home) && (is_some (workers_of workers) && are_short words)
+
+-- whether the program's whole command line is one of those that it knows: `--help`, `--version`, or HOME WORKERS WORD ..
+abbrev pub is_command_line : List (List ℕ) → Bool
+is_command_line [] = false
+is_command_line (word ∷ []) = bytes_eq (codes "--help") word || bytes_eq (codes "--version") word
+is_command_line (home ∷ workers ∷ rest) = is_in_form home workers (home ∷ workers ∷ rest)

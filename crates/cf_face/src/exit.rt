@@ -1,0 +1,221 @@
+//! How a command ended.
+
+ghost use Rattle.std.specs.Prelude.{◌≡◌, ◌++◌, [], ◌∷◌, codes, decimal, IfOk, string_bytes};
+ghost use Rattle.cf_plan.specs.FlawText.{flaw_text};
+ghost use Rattle.cf_face.specs.Line.{spaced};
+ghost use Rattle.cf_face.specs.Exit.{number_of, name_of, refusal_words, stack_words, field_words, exit_line};
+
+use crate::cause::push_cause;
+use crate::fault_words::push_unread;
+use crate::line::{push_named, push_number, push_text, push_texts, push_word};
+use cf_desired::Flaw;
+use cf_entry::{Cause, Status};
+use cf_plan::plan_text;
+use cf_template::TemplateFault;
+use cf_tree::{Names, NoMemory, Txt};
+use std::alloc::Global;
+
+/// How a command ended.
+#[derive(Debug, Drop, PartialEq, Eq)]
+pub enum Exit {
+    /// The command did what it says, and its report was printed.
+    Done,
+    /// The words fit no command.
+    BadWords,
+    /// The template was refused before anything was done.
+    TemplateRefused { fault: Refusal },
+    /// The stack was refused before anything was done.
+    StackRefused { fault: StackFault },
+    /// The operation went no further for this cause, and all that it had done was taken back.
+    RolledBack { cause: Cause },
+    /// What the operation had done was not all taken back: the paths whose calls failed.
+    Failed { blamed: Names },
+    /// The library of templates failed.
+    LibraryFault,
+    /// The disk failed.
+    DiskFault,
+    /// The report could not be printed.
+    SinkFault,
+    /// Memory was not there.
+    NoMemory,
+    /// The disk's bytes are no journal's from this offset on.
+    NotAJournal { offset: u64 },
+    /// A lane that the journal names was not handed in.
+    LaneMissing { name: Txt },
+    /// Two lanes have this name.
+    LaneTwice { name: Txt },
+    /// The journal's length and the bytes that the next entry needs pass the disk's room.
+    Full { length: u64, need: u64, room: u64 },
+}
+
+/// Why a template was refused.
+#[derive(Debug, Drop, PartialEq, Eq)]
+pub enum Refusal {
+    /// The bytes under this name were not read as a template.
+    Read { name: Txt, fault: TemplateFault },
+    /// The template under this name holds something that is not made yet.
+    NotYet { name: Txt },
+    /// No desired resources came of it.
+    Plan { fault: Flaw },
+    /// No lane has the type of the resource at this path.
+    UnknownType { path: Txt, name: Txt },
+}
+
+/// Why a stack was refused.
+#[derive(Debug, Drop, PartialEq, Eq)]
+pub enum StackFault {
+    /// There is no stack of the name.
+    NoStack,
+    /// No operation of the kind begins from this status.
+    WrongStatus { status: Status },
+}
+
+impl Exit {
+    /// The number of the exit, which is the status of the process.
+    pub fn number(&self) -> u8
+        ensures { result ≡ number_of self.now }
+    {
+        match self {
+            Exit::Done => 0,
+            Exit::BadWords => 1,
+            Exit::TemplateRefused { .. } => 2,
+            Exit::StackRefused { .. } => 3,
+            Exit::RolledBack { .. } => 4,
+            Exit::Failed { .. } => 5,
+            Exit::LibraryFault => 6,
+            Exit::DiskFault => 7,
+            Exit::SinkFault => 8,
+            Exit::NoMemory => 9,
+            Exit::NotAJournal { .. } => 10,
+            Exit::LaneMissing { .. } | Exit::LaneTwice { .. } => 11,
+            Exit::Full { .. } => 14,
+        }
+    }
+
+    /// The name of the exit.
+    pub fn name(&self) -> &'static str
+        ensures { result.now ≡ name_of self.now }
+    {
+        match self {
+            Exit::Done => "Done",
+            Exit::BadWords => "BadWords",
+            Exit::TemplateRefused { .. } => "TemplateRefused",
+            Exit::StackRefused { .. } => "StackRefused",
+            Exit::RolledBack { .. } => "RolledBack",
+            Exit::Failed { .. } => "Failed",
+            Exit::LibraryFault => "LibraryFault",
+            Exit::DiskFault => "DiskFault",
+            Exit::SinkFault => "SinkFault",
+            Exit::NoMemory => "NoMemory",
+            Exit::NotAJournal { .. } => "NotAJournal",
+            Exit::LaneMissing { .. } => "LaneMissing",
+            Exit::LaneTwice { .. } => "LaneTwice",
+            Exit::Full { .. } => "Full",
+        }
+    }
+
+    // Adds the fields, each after a space.
+    fn push_fields(&self, alloc: Global, line: &mut String) -> Result<(), NoMemory>
+        ensures { IfOk result (λ _. string_bytes line.new ≡ string_bytes line.old ++ spaced (field_words self.now)) }
+    {
+        match self {
+            Exit::TemplateRefused { fault } => fault.push_to(alloc, line),
+            Exit::StackRefused { fault } => fault.push_to(line),
+            Exit::RolledBack { cause } => push_cause(alloc, line, cause),
+            Exit::Failed { blamed } => push_texts(alloc, line, blamed.as_slice()),
+            Exit::NotAJournal { offset } => push_number(alloc, line, *offset),
+            Exit::LaneMissing { name } => push_text(alloc, line, name),
+            Exit::LaneTwice { name } => push_text(alloc, line, name),
+            Exit::Full { length, need, room } => push_sizes(alloc, line, *length, *need, *room),
+            Exit::Done
+            | Exit::BadWords
+            | Exit::LibraryFault
+            | Exit::DiskFault
+            | Exit::SinkFault
+            | Exit::NoMemory => Ok(()),
+        }
+    }
+
+    /// Adds the line of the exit: `exit`, its number, its name and its fields, texts and lists of texts
+    /// as compact JSON, inner variants by name and then their fields, and a line feed.
+    ///
+    /// # Errors
+    ///
+    /// Only for want of memory.
+    pub fn push_line(&self, alloc: Global, text: &mut String) -> Result<(), NoMemory>
+        ensures { IfOk result (λ _. string_bytes text.new ≡ string_bytes text.old ++ exit_line self.now) }
+    {
+        text.push_str("exit")?;
+        push_number(alloc, text, u64::from(self.number()))?;
+        push_word(text, self.name())?;
+        self.push_fields(alloc, text)?;
+        text.push('\n')?;
+        Ok(())
+    }
+}
+
+impl Refusal {
+    // Adds the name of the variant and its fields, each after a space.
+    fn push_to(&self, alloc: Global, line: &mut String) -> Result<(), NoMemory>
+        ensures { IfOk result (λ _. string_bytes line.new ≡ string_bytes line.old ++ spaced (refusal_words self.now)) }
+    {
+        match self {
+            Refusal::Read { name, fault } => {
+                push_word(line, "Read")?;
+                push_text(alloc, line, name)?;
+                push_unread(alloc, line, fault)
+            }
+            Refusal::NotYet { name } => push_named(alloc, line, "NotYet", name),
+            Refusal::Plan { fault } => push_plan(alloc, line, fault),
+            Refusal::UnknownType { path, name } => {
+                push_word(line, "UnknownType")?;
+                push_text(alloc, line, path)?;
+                push_text(alloc, line, name)?;
+                Ok(())
+            }
+        }
+    }
+}
+
+impl StackFault {
+    // Adds the name of the variant and its field, each after a space.
+    fn push_to(&self, line: &mut String) -> Result<(), NoMemory>
+        ensures { IfOk result (λ _. string_bytes line.new ≡ string_bytes line.old ++ spaced (stack_words self.now)) }
+    {
+        match self {
+            StackFault::NoStack => push_word(line, "NoStack"),
+            StackFault::WrongStatus { status } => {
+                push_word(line, "WrongStatus")?;
+                push_word(line, status.name())?;
+                Ok(())
+            }
+        }
+    }
+}
+
+// Adds `Plan` and how the flaw is told, each after a space.
+fn push_plan(alloc: Global, line: &mut String, flaw: &Flaw) -> Result<(), NoMemory>
+    ensures { IfOk result (λ _. string_bytes line.new ≡ string_bytes line.old ++ spaced (codes "Plan" ∷ flaw_text flaw.now ∷ [])) }
+{
+    let told = plan_text(alloc, flaw)?;
+    push_word(line, "Plan")?;
+    push_word(line, told.as_str())?;
+    Ok(())
+}
+
+// Adds three sizes, each after a space.
+fn push_sizes(
+    alloc: Global,
+    line: &mut String,
+    length: u64,
+    need: u64,
+    room: u64,
+) -> Result<(), NoMemory>
+    ensures { IfOk result (λ _. string_bytes line.new
+        ≡ string_bytes line.old ++ spaced (decimal length ∷ decimal need ∷ decimal room ∷ [])) }
+{
+    push_number(alloc, line, length)?;
+    push_number(alloc, line, need)?;
+    push_number(alloc, line, room)?;
+    Ok(())
+}

@@ -1,0 +1,18 @@
+//! What the engine reads and says: the words of a command line, how a command ended, and reports on stacks. Nothing here
+//! knows of a run.
+#![tactic(auto)]
+
+mod cause;
+mod exit;
+mod fault_words;
+mod line;
+mod parameters;
+mod print;
+mod rows;
+mod telling;
+mod words;
+
+pub use exit::{Exit, Refusal, StackFault};
+pub use print::{print_exit, print_text, put};
+pub use telling::report;
+pub use words::{Choice, Command, read_words, read_workers};

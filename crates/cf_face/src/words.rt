@@ -1,0 +1,231 @@
+//! The words of a command line.
+
+ghost use Rattle.std.specs.Prelude.{◌≡◌, IfOk, codes, option_map};
+ghost use Rattle.std.specs.Char.{is_ascii_alphanumeric};
+ghost use Rattle.std.specs.List.{list_all};
+ghost use Rattle.cf_funcs.specs.Pieces.{cut_at};
+ghost use Rattle.cf_template.specs.Words.{is_name};
+ghost use Rattle.cf_face.specs.declared.words.Command.TheVariants.{Deploy};
+ghost use Rattle.cf_face.specs.Words.{command_of, drives, workers_of, deploy_of, describe_of, validate_of, setting_of, given_of, is_stack_name, is_template_name, is_name_byte};
+
+use cf_tree::{NoMemory, Pairs, Txt};
+use std::alloc::Global;
+
+/// The longest name of a parameter, in bytes.
+const LONGEST_NAME: usize = 255;
+
+/// A template by its name in the library, and what is given for its parameters.
+#[derive(Drop)]
+pub struct Choice {
+    pub template: Txt,
+    pub given: Pairs,
+}
+
+/// What a command line asks for.
+#[derive(Drop)]
+pub enum Command {
+    /// `deploy STACK TEMPLATE NAME=VALUE ..`: bring the stack to what the template says.
+    Deploy {
+        stack: Txt,
+        template: Txt,
+        given: Pairs,
+    },
+    /// `describe STACK`: report on the stack.
+    Describe {
+        stack: Txt,
+    },
+    /// `validate TEMPLATE`: say whether the template can be read.
+    Validate {
+        template: Txt,
+    },
+}
+
+impl Command {
+    /// Whether the command changes a stack, and so drives handlers.
+    pub fn drives(&self) -> bool
+        ensures { result ≡ drives self.now }
+    {
+        match self {
+            Command::Deploy { .. } => true,
+            Command::Describe { .. } | Command::Validate { .. } => false,
+        }
+    }
+}
+
+/// The command that the words ask for, and None exactly where no row of the table of commands fits.
+///
+/// A stack's name is a letter, then letters, digits and `-`, at most 128 of them. A template's name has
+/// 1 to 128 bytes. What is given for a parameter is cut at the first `=`: the name before it has 1 to 255 letters and
+/// digits and stands once, the value behind it may be empty.
+///
+/// # Errors
+///
+/// Only for want of memory.
+pub fn read_words(alloc: Global, words: &[Txt]) -> Result<Option<Command>, NoMemory>
+    ensures { IfOk result (λ command. command ≡ command_of words.now) }
+{
+    let Some((word, rest)) = words.split_first() else {
+        return Ok(None);
+    };
+    if word.is("deploy") {
+        return read_deploy(alloc, rest);
+    }
+    if word.is("describe") {
+        return read_describe(alloc, rest);
+    }
+    if word.is("validate") {
+        return read_validate(alloc, rest);
+    }
+    Ok(None)
+}
+
+/// The number of workers that a word names, and None exactly where the word is no decimal number from 1 to
+/// 64 without a leading zero. It takes no memory.
+pub fn read_workers(word: &Txt) -> Option<u32>
+    ensures { result ≡ workers_of word.now }
+{
+    match word.as_str().as_bytes() {
+        [one] if b'1' <= *one && *one <= b'9' => Some(u32::from(*one - b'0')),
+        [ten, one] if b'1' <= *ten && *ten <= b'9' && one.is_ascii_digit() => {
+            let number = 10 * u32::from(*ten - b'0') + u32::from(*one - b'0');
+            if number <= 64 { Some(number) } else { None }
+        }
+        _ => None,
+    }
+}
+
+// The words after `deploy`.
+fn read_deploy(alloc: Global, words: &[Txt]) -> Result<Option<Command>, NoMemory>
+    ensures { IfOk result (λ command. command ≡ deploy_of words.now) }
+{
+    let Some((stack, rest)) = words.split_first() else {
+        return Ok(None);
+    };
+    let Some((template, settings)) = rest.split_first() else {
+        return Ok(None);
+    };
+    if is_stack_name(stack.as_str()) && is_template_name(template.as_str()) {
+        deployment(alloc, stack, template, settings)
+    } else {
+        Ok(None)
+    }
+}
+
+// The deployment of a stack from a template, if the other words give parameters.
+fn deployment(
+    alloc: Global,
+    stack: &Txt,
+    template: &Txt,
+    settings: &[Txt],
+) -> Result<Option<Command>, NoMemory>
+    ensures { IfOk result (λ command. command ≡ option_map (Deploy stack.now template.now) (given_of settings.now)) }
+{
+    match read_given(alloc, settings)? {
+        Some(given) => Ok(Some(Command::Deploy {
+            stack: stack.try_clone(alloc)?,
+            template: template.try_clone(alloc)?,
+            given,
+        })),
+        None => Ok(None),
+    }
+}
+
+// What the words give for parameters, by name.
+fn read_given(alloc: Global, words: &[Txt]) -> Result<Option<Pairs>, NoMemory>
+    ensures { IfOk result (λ given. given ≡ given_of words.now) }
+{
+    let mut given = Pairs::new(alloc);
+    for word in words {
+        match setting(word.as_str()) {
+            Some((name, value)) => {
+                if given.get(name).is_some() {
+                    return Ok(None);
+                }
+                given.insert(Txt::from_str(alloc, name)?, Txt::from_str(alloc, value)?)?;
+            }
+            None => return Ok(None),
+        }
+    }
+    Ok(Some(given))
+}
+
+// The name and the value that a word gives for a parameter.
+fn setting(word: &str) -> Option<(&str, &str)>
+    ensures { option_map (λ s. (s.0.now, s.1.now)) result ≡ setting_of word.now }
+{
+    match cut(word) {
+        Some((name, value)) if is_parameter_name(name) => Some((name, value)),
+        _ => None,
+    }
+}
+
+// What stands before the first `=`, and what follows it.
+fn cut(word: &str) -> Option<(&str, &str)>
+    ensures { option_map (λ c. (c.0.now, c.1.now)) result ≡ cut_at (codes "=") word.now }
+{
+    word.split_once("=")
+}
+
+fn is_parameter_name(name: &str) -> bool
+    ensures { result ≡ is_name name.now }
+{
+    !name.is_empty() && name.len() <= LONGEST_NAME && are_alphanumeric(name.as_bytes())
+}
+
+fn are_alphanumeric(bytes: &[u8]) -> bool
+    ensures { result ≡ list_all is_ascii_alphanumeric bytes.now }
+{
+    bytes.iter().all(|b| b.is_ascii_alphanumeric())
+}
+
+// The words after `describe`.
+fn read_describe(alloc: Global, words: &[Txt]) -> Result<Option<Command>, NoMemory>
+    ensures { IfOk result (λ command. command ≡ describe_of words.now) }
+{
+    match words {
+        [stack] if is_stack_name(stack.as_str()) => {
+            let stack = stack.try_clone(alloc)?;
+            Ok(Some(Command::Describe { stack }))
+        }
+        _ => Ok(None),
+    }
+}
+
+// The words after `validate`.
+fn read_validate(alloc: Global, words: &[Txt]) -> Result<Option<Command>, NoMemory>
+    ensures { IfOk result (λ command. command ≡ validate_of words.now) }
+{
+    match words {
+        [template] if is_template_name(template.as_str()) => {
+            let template = template.try_clone(alloc)?;
+            Ok(Some(Command::Validate { template }))
+        }
+        _ => Ok(None),
+    }
+}
+
+fn is_stack_name(name: &str) -> bool
+    ensures { result ≡ is_stack_name name.now }
+{
+    let bytes = name.as_bytes();
+    match bytes.split_first() {
+        Some((first, rest)) => {
+            first.is_ascii_alphabetic() && are_name_bytes(rest) && bytes.len() <= 128
+        }
+        None => false,
+    }
+}
+
+fn are_name_bytes(bytes: &[u8]) -> bool
+    ensures { result ≡ list_all is_name_byte bytes.now }
+{
+    bytes
+        .iter()
+        .all(|b| b.is_ascii_alphanumeric() || *b == b'-')
+}
+
+fn is_template_name(name: &str) -> bool
+    ensures { result ≡ is_template_name name.now }
+{
+    1 <= name.len() && name.len() <= 128
+}
