@@ -1,19 +1,25 @@
-//! The journal of a run, and its entries.
+//! The journal of a run, its entries, and the world that they leave.
 ghost use Rattle.std.specs.Prelude.{◌≡◌, ◌≤◌, ◌<◌, OnOk, length, vec_len, vec_capacity};
 ghost use Rattle.cf_tree.specs.SizeOf.{capped};
 ghost use Rattle.cf_entry.specs.Entry.{IsProper, spelling_of};
-ghost use Rattle.cf_journal.specs.Record.{spare_of};
-ghost use Rattle.cf_engine.specs.Book.{IsOpen, AppendTells};
+ghost use Rattle.cf_stacks.specs.Changing.{IsFlatEntry};
+ghost use Rattle.cf_stacks.specs.Fold.{world_after};
+ghost use Rattle.cf_journal.specs.Record.{Stands, spare_of};
+ghost use Rattle.cf_engine.specs.Book.{IsOpen, Holds, AppendTells, world_of};
 
 use cf_disk::Disk;
 use cf_entry::{Entry, entry_size};
 use cf_journal::{AppendFault, Journal};
+use cf_stacks::{StepFault, World};
+use std::alloc::Global;
 
 /// A journal that is open for more entries, with those that it has.
 #[derive(Drop)]
 pub struct Book {
     pub journal: Journal,
     pub entries: Vec<Entry>,
+    /// What the entries leave.
+    pub world: World,
 }
 
 /// Why a run can't go on.
@@ -27,30 +33,44 @@ pub enum Halt {
     NoMemory,
 }
 
-/// Appends an entry to the journal of the disk and to the book's entries.
+/// Appends an entry to the journal of the disk and to the book's entries, and steps the world over it.
 ///
-/// After `Full` and `NoMemory` neither has changed. After `DiskFault` the disk has the entry or not, and the journal
-/// must be recovered again.
-pub fn append<D: Disk>(book: &mut Book, disk: &mut D, entry: Entry) -> Result<(), Halt>
+/// After `Full` and `NoMemory` the disk has its old entries. After `DiskFault` it has the entry or not, and the journal
+/// must be recovered again. After each of these nothing is said of the world.
+pub fn append<D: Disk>(
+    alloc: Global,
+    book: &mut Book,
+    disk: &mut D,
+    entry: Entry,
+) -> Result<(), Halt>
     requires open { IsOpen D.tells D.seen D.may_leave D.room_of book.old disk.old }
     requires proper { IsProper entry }
+    requires flat { IsFlatEntry entry }
     ensures open { OnOk result (IsOpen D.tells D.seen D.may_leave D.room_of book.new disk.new) }
     ensures room { D.room_of disk.new ≡ D.room_of disk.old }
     ensures count { D.count disk.old ≤ D.count disk.new }
     ensures tells { AppendTells D.tells (D.seen disk.new) (D.room_of disk.old) (D.count disk.old) (D.count disk.new) book.old.entries.items book.new.entries.items entry result }
 {
-    match (
-        book.entries.reserve(1),
-        book.journal.reserve(entry_size(&entry)),
-    ) {
-        (Ok(()), Ok(())) => write(book, disk, entry),
-        _ => Err(Halt::NoMemory),
+    // The world is stepped first, so that want of memory leaves the disk as it was.
+    match book.world.step(alloc, &entry) {
+        Ok(()) => match (
+            book.entries.reserve(1),
+            book.journal.reserve(entry_size(&entry)),
+        ) {
+            (Ok(()), Ok(())) => write(book, disk, entry),
+            _ => Err(Halt::NoMemory),
+        },
+        Err(StepFault::NoMemory) => Err(Halt::NoMemory),
+        Err(StepFault::Nested) => unreachable!(),
     }
 }
 
-/// Appends an entry for which there is memory.
+/// Appends an entry for which there is memory, over which the world is stepped already.
+#[tactic(auto, using(crate::proofs::Books::world_more))]
 fn write<D: Disk>(book: &mut Book, disk: &mut D, entry: Entry) -> Result<(), Halt>
-    requires open { IsOpen D.tells D.seen D.may_leave D.room_of book.old disk.old }
+    requires stands { Stands D.tells D.seen D.may_leave D.room_of book.old.journal disk.old }
+    requires holds { Holds D.tells (D.seen disk.old) book.old.entries.items }
+    requires stepped { book.old.world ≡ world_after (world_of book.old.entries.items) entry }
     requires proper { IsProper entry }
     requires memory { vec_len book.old.entries < vec_capacity book.old.entries }
     requires spare { capped (length (spelling_of entry)) ≤ spare_of book.old.journal }

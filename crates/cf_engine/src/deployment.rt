@@ -1,40 +1,35 @@
-//! A deployment over an open journal: the stack is new, its template is read, and its resources are made.
-ghost use Rattle.std.specs.Prelude.{◌≡◌, ◌≤◌, ◌<◌, find, map, None, Some, length, IfOk, IfErr, OnOk};
-ghost use Rattle.cf_engine.specs.declared.exit.Exit.TheVariants.{StackRefused};
-ghost use Rattle.cf_engine.specs.declared.exit.StackFault.TheVariants.{WrongStatus};
-ghost use Rattle.cf_engine.specs.Lanes.{kinds_of, is_unknown};
-ghost use Rattle.cf_engine.specs.Refusals.{RefusesAs};
-ghost use Rattle.cf_engine.specs.Book.{IsOpen};
-ghost use Rattle.cf_engine.specs.Stack.{stack_of};
-ghost use Rattle.cf_engine.specs.Deployment.{FetchesAs, StopsAs, ReadAs, DeploysAs};
+//! A deployment over an open journal: the stack is new, its template is read and tested, and it is created.
+ghost use Rattle.std.specs.Prelude.{◌≡◌, ◌≤◌, map, None, OnOk};
+ghost use Rattle.cf_face.specs.declared.exit.Exit.TheVariants.{StackRefused};
+ghost use Rattle.cf_face.specs.declared.exit.StackFault.TheVariants.{WrongStatus};
+ghost use Rattle.cf_plan.specs.Going.{IsOver};
+ghost use Rattle.cf_engine.specs.Book.{IsOpen, world_of};
+ghost use Rattle.cf_engine.specs.Lanes.{kinds_of, one_of_each};
+ghost use Rattle.cf_engine.specs.Creating.{next_number};
+ghost use Rattle.cf_engine.specs.Deployment.{DeploysAs, FetchesAs, barred, barring};
 
 use crate::book::Book;
-use crate::cause::{Cause, Reason};
-use crate::course::RunEnd;
-use crate::create::first_unknown;
-use crate::exit::{Exit, StackFault};
-use crate::make::make;
-use crate::numbers::{Numbered, next_of};
+use crate::creating::create;
 use crate::opening::exit_of;
-use crate::planning::planned;
-use crate::refusals::{missing, unknown};
-use crate::stack::{Stack, stack_of};
-use crate::words::Choice;
+use crate::planning::examine;
+use crate::refusals::missing;
 use cf_disk::Disk;
-use cf_entry::Entry;
+use cf_entry::Status;
+use cf_face::{Choice, Exit, StackFault};
 use cf_handler::Handler;
 use cf_io::{FetchFault, Library};
-use cf_tree::{NoMemory, Planned, Plans, Txt};
+use cf_tree::{Source, Txt};
 use std::alloc::Global;
 
-/// The bytes of the template, and what it wants of a new stack with this name and number.
-fn fetch<L: Library>(
+/// The source of a new stack of this name, by the operation of this number, from the template that the library holds.
+fn fetch<L: Library, H: Handler>(
     alloc: Global,
     library: &mut L,
+    lanes: &[H],
     choice: &Choice,
     stack: &Txt,
     number: u64,
-) -> Result<(Vec<u8>, Plans), Exit>
+) -> Result<Source, Exit>
     ensures same { L.texts library.new ≡ L.texts library.old }
     ensures faults { L.count library.old ≤ L.count library.new }
     ensures misses { L.missed library.old ≤ L.missed library.new }
@@ -45,99 +40,37 @@ fn fetch<L: Library>(
       misses = L.missed library.old;
       misses' = L.missed library.new;
     })
-        choice.now stack.now number result }
+        (kinds_of (map H.schema_of lanes.now)) choice.now stack.now number result }
 {
     match library.fetch(choice.template.as_str()) {
-        Ok(Some(bytes)) => match planned(alloc, choice, stack, number, bytes.as_slice()) {
-            Ok(resources) => Ok((bytes, resources)),
-            Err(exit) => Err(exit),
-        },
+        Ok(Some(bytes)) => examine(alloc, lanes, choice, stack, number, bytes),
         Ok(None) => Err(missing(alloc, &choice.template)),
         Err(FetchFault::Failed) => Err(Exit::LibraryFault),
         Err(FetchFault::NoMemory) => Err(Exit::NoMemory),
     }
 }
 
-/// The exit of a run that stopped at a place for a reason.
-fn unrolled(alloc: Global, resources: &[Planned], at: usize, reason: Reason) -> Exit
-    requires { at < length resources.now }
-    ensures { StopsAs resources.now at reason result }
+/// The status of a stack that is there.
+fn barred(status: Status) -> Option<Status>
+    ensures { result ≡ barred status }
 {
-    match resources[at].name.try_clone(alloc) {
-        Ok(path) => Exit::Unrolled {
-            cause: Cause::Handler { path, reason },
-        },
-        Err(_) => Exit::NoMemory,
+    match status {
+        Status::DeleteComplete | Status::ReviewInProgress => None,
+        _ => Some(status),
     }
 }
 
-/// The stack that the entries leave, of which there is one.
-fn made_stack(alloc: Global, name: &Txt, entries: &[Entry]) -> Result<Stack, Exit>
-    requires { (st : Stack) × (stack_of name.now entries.now ≡ Some st) }
-    ensures made { IfOk result (λ st. stack_of name.now entries.now ≡ Some st) }
-    ensures memory { IfErr result (λ e. e ≡ Exit.NoMemory) }
+/// The status of the stack of the name, where there is one.
+fn barring(stack: &Txt, book: &Book) -> Option<Status>
+    ensures { result ≡ barring stack.now book.now.world }
 {
-    match stack_of(alloc, name, entries) {
-        Ok(Some(stack)) => Ok(stack),
-        Ok(None) => unreachable!(),
-        Err(NoMemory) => Err(Exit::NoMemory),
+    match book.world.stacks.get(stack.as_str()) {
+        Some(found) => barred(found.status),
+        None => None,
     }
 }
 
-/// Deploys a stack from a template that was read.
-fn deploy_read<D: Disk, H: Handler>(
-    alloc: Global,
-    book: &mut Book,
-    disk: &mut D,
-    lanes: &mut Vec<H>,
-    stack: &Txt,
-    choice: &Choice,
-    bytes: Vec<u8>,
-    resources: Plans,
-) -> Result<Stack, Exit>
-    requires open { IsOpen D.tells D.seen D.may_leave D.room_of book.old disk.old }
-    ensures names { map H.label lanes.new.items ≡ map H.label lanes.old.items }
-    ensures schemas { map H.schema_of lanes.new.items ≡ map H.schema_of lanes.old.items }
-    ensures room { D.room_of disk.new ≡ D.room_of disk.old }
-    ensures lasts { OnOk result (IsOpen D.tells D.seen D.may_leave D.room_of book.new disk.new) }
-    ensures count { D.count disk.old ≤ D.count disk.new }
-    ensures tells { ReadAs (record {
-      names = map H.label lanes.old.items;
-      kinds = kinds_of (map H.schema_of lanes.old.items);
-      told = map H.told lanes.old.items;
-      told' = map H.told lanes.new.items;
-      counts = map H.count lanes.old.items;
-      counts' = map H.count lanes.new.items;
-      tells = D.tells;
-      bytes' = D.seen disk.new;
-      room = D.room_of disk.old;
-      faults = D.count disk.old;
-      faults' = D.count disk.new;
-      entries = book.old.entries.items;
-      entries' = book.new.entries.items;
-    })
-        stack.now choice.now bytes.items resources result }
-{
-    if let Some(resource) = first_unknown(lanes.as_slice(), resources.as_slice()) {
-        return Err(unknown(alloc, resource));
-    }
-    match make(
-        alloc,
-        book,
-        disk,
-        lanes,
-        stack,
-        choice,
-        bytes,
-        resources.as_slice(),
-    ) {
-        RunEnd::Done => made_stack(alloc, stack, book.entries.as_slice()),
-        RunEnd::Failed { at, reason } => Err(unrolled(alloc, resources.as_slice(), at, reason)),
-        RunEnd::Halted(halt) => Err(exit_of(halt)),
-    }
-}
-
-/// Deploys a stack of a name that has none.
+/// Creates a stack of a name that has none.
 fn deploy_new<L: Library, D: Disk, H: Handler>(
     alloc: Global,
     book: &mut Book,
@@ -146,15 +79,16 @@ fn deploy_new<L: Library, D: Disk, H: Handler>(
     lanes: &mut Vec<H>,
     stack: &Txt,
     choice: &Choice,
-) -> Result<Stack, Exit>
+) -> Result<(), Exit>
     requires open { IsOpen D.tells D.seen D.may_leave D.room_of book.old disk.old }
-    requires new { stack_of stack.now book.old.entries.items ≡ None }
+    requires free { barring stack.now (world_of book.old.entries.items) ≡ None }
     ensures same { L.texts library.new ≡ L.texts library.old }
     ensures faults { L.count library.old ≤ L.count library.new }
     ensures names { map H.label lanes.new.items ≡ map H.label lanes.old.items }
     ensures schemas { map H.schema_of lanes.new.items ≡ map H.schema_of lanes.old.items }
     ensures room { D.room_of disk.new ≡ D.room_of disk.old }
-    ensures lasts { OnOk result (IsOpen D.tells D.seen D.may_leave D.room_of book.new disk.new) }
+    ensures open { OnOk result (IsOpen D.tells D.seen D.may_leave D.room_of book.new disk.new) }
+    ensures over { OnOk result (IsOver (next_number book.old.entries.items) stack.now (world_of book.new.entries.items)) }
     ensures count { D.count disk.old ≤ D.count disk.new }
     ensures tells { DeploysAs (record {
       texts = L.texts library.old;
@@ -163,9 +97,10 @@ fn deploy_new<L: Library, D: Disk, H: Handler>(
       misses = L.missed library.old;
       misses' = L.missed library.new;
     })
+        (kinds_of (map H.schema_of lanes.old.items))
         (record {
           names = map H.label lanes.old.items;
-          kinds = kinds_of (map H.schema_of lanes.old.items);
+          schemas = one_of_each (map H.schema_of lanes.old.items);
           told = map H.told lanes.old.items;
           told' = map H.told lanes.new.items;
           counts = map H.count lanes.old.items;
@@ -180,32 +115,34 @@ fn deploy_new<L: Library, D: Disk, H: Handler>(
         })
         stack.now choice.now result }
 {
-    let number = next_of(Numbered::Operations, book.entries.as_slice());
-    match fetch(alloc, library, choice, stack, number) {
-        Ok((bytes, resources)) => {
-            deploy_read(alloc, book, disk, lanes, stack, choice, bytes, resources)
-        }
+    let Some(number) = book.world.operation.checked_add(1) else {
+        return Err(Exit::NoMemory);
+    };
+    match fetch(alloc, library, lanes.as_slice(), choice, stack, number) {
+        Ok(source) => match create(alloc, book, disk, lanes, stack, source) {
+            Ok(()) => Ok(()),
+            Err(halt) => Err(exit_of(halt)),
+        },
         Err(exit) => Err(exit),
     }
 }
 
-/// The exit where there is a stack of the name.
-fn taken(found: Stack) -> Exit
-    ensures { result ≡ StackRefused (WrongStatus found.status) }
+/// The exit where a stack of the name is there.
+fn wrong_status(status: Status) -> Exit
+    ensures { result ≡ StackRefused (WrongStatus status) }
 {
     Exit::StackRefused {
-        fault: StackFault::WrongStatus {
-            status: found.status,
-        },
+        fault: StackFault::WrongStatus { status },
     }
 }
 
-/// Deploys a stack over an open journal: the stack that the journal's entries then leave, or the exit.
+/// Deploys a stack over an open journal: its operation is driven to its end.
 ///
-/// `WrongStatus` comes exactly where there is a stack of the name. Then come `LibraryFault` and `TemplateRefused`, as in
-/// the library and among the lanes' types; nothing is written and no lane is called before them. `Unrolled` names the
-/// resource that was refused or is in doubt; those before it are live and the operation is in progress. After `Full`,
-/// `DiskFault` and `NoMemory` some resources may be live.
+/// # Errors
+///
+/// `WrongStatus` comes exactly where there is a stack of the name that is neither deleted nor under review. Then come
+/// `LibraryFault` and `TemplateRefused`, as in the library and among the lanes' types; nothing is written and no lane is
+/// called before them. After `Full`, `DiskFault` and `NoMemory` the operation may be in progress.
 pub fn deploy_in<L: Library, D: Disk, H: Handler>(
     alloc: Global,
     book: &mut Book,
@@ -214,14 +151,15 @@ pub fn deploy_in<L: Library, D: Disk, H: Handler>(
     lanes: &mut Vec<H>,
     stack: &Txt,
     choice: &Choice,
-) -> Result<Stack, Exit>
+) -> Result<(), Exit>
     requires open { IsOpen D.tells D.seen D.may_leave D.room_of book.old disk.old }
     ensures same { L.texts library.new ≡ L.texts library.old }
     ensures faults { L.count library.old ≤ L.count library.new }
     ensures names { map H.label lanes.new.items ≡ map H.label lanes.old.items }
     ensures schemas { map H.schema_of lanes.new.items ≡ map H.schema_of lanes.old.items }
     ensures room { D.room_of disk.new ≡ D.room_of disk.old }
-    ensures lasts { OnOk result (IsOpen D.tells D.seen D.may_leave D.room_of book.new disk.new) }
+    ensures open { OnOk result (IsOpen D.tells D.seen D.may_leave D.room_of book.new disk.new) }
+    ensures over { OnOk result (IsOver (next_number book.old.entries.items) stack.now (world_of book.new.entries.items)) }
     ensures count { D.count disk.old ≤ D.count disk.new }
     ensures tells { DeploysAs (record {
       texts = L.texts library.old;
@@ -230,9 +168,10 @@ pub fn deploy_in<L: Library, D: Disk, H: Handler>(
       misses = L.missed library.old;
       misses' = L.missed library.new;
     })
+        (kinds_of (map H.schema_of lanes.old.items))
         (record {
           names = map H.label lanes.old.items;
-          kinds = kinds_of (map H.schema_of lanes.old.items);
+          schemas = one_of_each (map H.schema_of lanes.old.items);
           told = map H.told lanes.old.items;
           told' = map H.told lanes.new.items;
           counts = map H.count lanes.old.items;
@@ -247,9 +186,8 @@ pub fn deploy_in<L: Library, D: Disk, H: Handler>(
         })
         stack.now choice.now result }
 {
-    match stack_of(alloc, stack, book.entries.as_slice()) {
-        Ok(None) => deploy_new(alloc, book, disk, library, lanes, stack, choice),
-        Ok(Some(found)) => Err(taken(found)),
-        Err(NoMemory) => Err(Exit::NoMemory),
+    match barring(stack, book) {
+        None => deploy_new(alloc, book, disk, library, lanes, stack, choice),
+        Some(status) => Err(wrong_status(status)),
     }
 }

@@ -1,12 +1,10 @@
 //! The entries that runs leave on the disk, against frames that were made by hand of the format's page: a gate, the
 //! length of the body in four bytes, and the body.
-ghost use Rattle.std.specs.Prelude.{IsTrue};
-ghost use Rattle.cf_fake.specs.Refusable.{may_break};
 
-use crate::tests::{TWO, broken_lane, disk_of, one_lane, run_line};
+use crate::tests::{TWO, broken, new_disk, one_lane, run_line, sound};
 use cf_disk::{FuseDisk, MemoryDisk};
 use cf_fake::Break;
-use cf_tree::{Code, Listing, NoMemory};
+use cf_tree::{Code, NoMemory};
 use std::alloc::Global;
 use std::test::Fail;
 
@@ -42,9 +40,21 @@ const ENDED: &[u8; 19] =
 const REFUSED_B: &[u8; 40] =
     b"\x01\x00\x00\x00#\x05\x00\x00\x00\x00\x00\x00\x00\x01\x00\x00\x00\x00\x00\x00\x00\x02\x02\x09\x00\x00\x00\x00\x00\x00\x00\x00\x00\x00\x00\x00\x00\x00\x00\x01";
 
-// The outcome of the call 1: it is in doubt, and the count of faults rose to 1.
-const DOUBTED_A: &[u8; 39] =
-    b"\x01\x00\x00\x00\"\x05\x00\x00\x00\x00\x00\x00\x00\x01\x00\x00\x00\x00\x00\x00\x00\x01\x03\x00\x00\x00\x00\x00\x00\x00\x00\x00\x00\x00\x00\x00\x00\x00\x01";
+// The turn of the operation 1 back, since `B` was refused with ServiceLimitExceeded.
+const TURNED: &[u8; 23] =
+    b"\x01\x00\x00\x00\x12\x06\x00\x00\x00\x00\x00\x00\x00\x01\x03\x01\x01\x00\x00\x00\x01B\x09";
+
+// The intent of the call 3, which deletes `f1:1` at the path `A`.
+const ASKED_TO_DELETE_A: &[u8; 42] =
+    b"\x01\x00\x00\x00%\x04\x00\x00\x00\x00\x00\x00\x00\x01\x00\x00\x00\x00\x00\x00\x00\x03\x00\x00\x00\x02f1\x00\x00\x00\x01A\x03\x00\x00\x00\x04f1:1";
+
+// Its outcome: a success without attributes, by a lane that has counted one fault before.
+const DELETED_A: &[u8; 51] =
+    b"\x01\x00\x00\x00.\x05\x00\x00\x00\x00\x00\x00\x00\x01\x00\x00\x00\x00\x00\x00\x00\x03\x01\x00\x00\x00\x04f1:1\x00\x00\x00\x00\x00\x00\x00\x00\x00\x00\x00\x01\x00\x00\x00\x00\x00\x00\x00\x01";
+
+// The end of the operation 1 in ROLLBACK_COMPLETE.
+const TAKEN_BACK: &[u8; 19] =
+    b"\x01\x00\x00\x00\x0e\x07\x00\x00\x00\x00\x00\x00\x00\x01\x04\x00\x00\x00\x00";
 
 // Whether a disk holds a journal of just these frames: it begins with them, and no further frame counts.
 fn holds(disk: &MemoryDisk, frames: &[u8]) -> bool {
@@ -54,28 +64,12 @@ fn holds(disk: &MemoryDisk, frames: &[u8]) -> bool {
 
 // Whether a run that is stopped behind so many calls of its disk leaves these frames.
 fn leaves(alloc: Global, calls: u64, frames: &[u8]) -> Result<bool, NoMemory> {
-    let fuse = FuseDisk::new(disk_of(alloc, &[], 65_536)?, calls);
-    let lanes = one_lane(alloc, Listing::new(alloc))?;
+    let fuse = FuseDisk::new(new_disk(alloc)?, calls);
+    let lanes = one_lane(alloc, sound(alloc))?;
     let cut = "exit 7 DiskFault\n";
     let ran = run_line(alloc, "deploy app x", TWO, fuse, lanes, cut)?;
     let disk = ran.disk.into_disk();
     Ok(ran.is_wanted && holds(&disk, frames))
-}
-
-// Whether a run whose call of this number is broken leaves these frames.
-fn leaves_broken(
-    alloc: Global,
-    call: u64,
-    break_: Break,
-    wanted: &str,
-    frames: &[u8],
-) -> Result<bool, NoMemory>
-    requires { IsTrue (may_break break_) }
-{
-    let disk = disk_of(alloc, &[], 65_536)?;
-    let lanes = broken_lane(alloc, call, break_)?;
-    let ran = run_line(alloc, "deploy app x", TWO, disk, lanes, wanted)?;
-    Ok(ran.is_wanted && holds(&ran.disk, frames))
 }
 
 // Opening a new journal takes 8 calls. Each entry takes 4, and its gate is opened by the third of them.
@@ -99,25 +93,26 @@ fn a_stopped_run_leaves_the_first_of_its_entries(rt: HostRuntime) -> Result<(), 
     Ok(())
 }
 
-// Nothing is written behind a call that was no success.
+// A creation that is taken back is written down as it goes, each call with its intent and its outcome.
 #[test]
-fn a_broken_call_is_the_last_that_is_written(rt: HostRuntime) -> Result<(), Fail> {
+fn a_creation_that_is_taken_back_is_written_down(rt: HostRuntime) -> Result<(), Fail> {
     let alloc = rt.alloc();
+    let refused = broken(alloc, 2, Break::Refuse(Code::ServiceLimitExceeded))?;
+    let lanes = one_lane(alloc, refused)?;
+    let disk = new_disk(alloc)?;
+    let wanted =
+        "stack app ROLLBACK_COMPLETE 1\nexit 4 RolledBack Handler \"B\" ServiceLimitExceeded\n";
+    let ran = run_line(alloc, "deploy app x", TWO, disk, lanes, wanted)?;
+    assert!(rt; ran.is_wanted);
     let mut frames = Vec::from_slice(alloc, b"\x01CFSTACK1")?;
-    frames.extend_from_slice(OPENED)?;
-    frames.extend_from_slice(BEGUN)?;
-    frames.extend_from_slice(ASKED_FOR_A)?;
-    let mut doubted = Vec::from_slice(alloc, frames.as_slice())?;
-    doubted.extend_from_slice(DOUBTED_A)?;
-    for break_ in [Break::FaultBefore, Break::FaultAfter] {
-        let wanted = "exit 15 Unrolled Handler \"A\" Fault\n";
-        assert!(rt; leaves_broken(alloc, 1, break_, wanted, doubted.as_slice())?);
+    let made: [&[u8]; 6] = [OPENED, BEGUN, ASKED_FOR_A, MADE_A, ASKED_FOR_B, REFUSED_B];
+    let taken: [&[u8]; 4] = [TURNED, ASKED_TO_DELETE_A, DELETED_A, TAKEN_BACK];
+    for frame in made.iter() {
+        frames.extend_from_slice(frame)?;
     }
-    frames.extend_from_slice(MADE_A)?;
-    frames.extend_from_slice(ASKED_FOR_B)?;
-    frames.extend_from_slice(REFUSED_B)?;
-    let refused = Break::Refuse(Code::ServiceLimitExceeded);
-    let wanted = "exit 15 Unrolled Handler \"B\" ServiceLimitExceeded\n";
-    assert!(rt; leaves_broken(alloc, 2, refused, wanted, frames.as_slice())?);
+    for frame in taken.iter() {
+        frames.extend_from_slice(frame)?;
+    }
+    assert!(rt; holds(&ran.disk, frames.as_slice()));
     Ok(())
 }

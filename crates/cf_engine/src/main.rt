@@ -2,31 +2,27 @@
 #![tactic(auto)]
 
 mod book;
-mod cause;
-mod course;
-mod create;
+mod creating;
 mod deployment;
-mod exit;
-mod fault_words;
+mod drive;
+#[cfg(test)]
+mod journal_lines;
 #[cfg(test)]
 mod journal_tests;
 #[cfg(test)]
 mod lane_tests;
-mod line;
-mod make;
 mod meeting;
 mod not_yet;
-mod numbers;
 mod opening;
+#[cfg(test)]
+mod order_tests;
 mod planning;
-mod print;
-mod pseudo;
 #[cfg(test)]
 mod reading_tests;
 mod refusals;
-mod report;
+#[cfg(test)]
+mod rollback_tests;
 mod schemas;
-mod stack;
 mod telling;
 #[cfg(test)]
 mod tests;
@@ -34,22 +30,19 @@ mod top;
 #[cfg(test)]
 mod top_tests;
 mod validation;
-mod words;
 
 ghost use Rattle.std.specs.Prelude.{◌≡◌, ◌++◌, ◌∷◌, [], ◌&&◌, ℕ, List, IsTrue, false, true, IfOk, IfErr, codes, length, map, nat_lt, string_bytes};
 ghost use Rattle.cf_handler.specs.Name.{is_lane_name};
 ghost use Rattle.cf_engine.specs.Lanes.{unused};
-ghost use Rattle.cf_engine.specs.Exit.{exit_line};
-ghost use Rattle.cf_engine.specs.Print.{PrintTells};
-ghost use Rattle.cf_engine.specs.Words.{are_short, is_in_form, is_command_line};
+ghost use Rattle.cf_face.specs.Exit.{exit_line};
+ghost use Rattle.cf_face.specs.Print.{PrintTells};
+ghost use Rattle.cf_face.specs.Words.{are_short, is_in_form, is_command_line};
 ghost use Rattle.cf_engine.specs.Answer.{IsRun, IsWordless, program_names, program_schemas};
-ghost use Rattle.cf_engine.specs.declared.exit.Exit.TheVariants.{BadWords};
+ghost use Rattle.cf_face.specs.declared.exit.Exit.TheVariants.{BadWords};
 
-use crate::exit::Exit;
-use crate::print::{print_exit, print_text};
 use crate::top::{Ended, cfstack};
-use crate::words::read_workers;
 use cf_disk::{Disk, MemoryDisk};
+use cf_face::{Exit, print_exit, print_text, read_workers};
 use cf_fake::MemoryHandler;
 use cf_handler::{Handler, file_schema, record_schema};
 use cf_io::{FolderLibrary, Sink, StdoutSink};
@@ -87,6 +80,8 @@ const USAGE: &str = "usage: cfstack HOME WORKERS WORD ..\
 \n   1 BadWords         the command line says nothing that is known\
 \n   2 TemplateRefused  no template, or one that can't be made; nothing was made\
 \n   3 StackRefused     no such stack, or one that is there already; nothing was made\
+\n   4 RolledBack       the stack could not be made; all that was made is deleted again\
+\n   5 Failed           the stack could not be made, and not all that was made is deleted\
 \n   6 LibraryFault     the templates can't be read\
 \n   7 DiskFault        the journal can't be read or written\
 \n   8 SinkFault        the report can't be printed\
@@ -94,8 +89,7 @@ const USAGE: &str = "usage: cfstack HOME WORKERS WORD ..\
 \n  10 NotAJournal      the disk holds something else than a journal\
 \n  11 LaneMissing      a lane that the journal needs is not there\
 \n  11 LaneTwice        two lanes have one name\
-\n  14 Full             the journal has no room for its next entry\
-\n  15 Unrolled         a resource was refused or is in doubt; those before it are live\n";
+\n  14 Full             the journal has no room for its next entry\n";
 
 fn main(rt: HostRuntime) -> ExitCode {
     let mut out = StdoutSink::new(io::writer(&rt));

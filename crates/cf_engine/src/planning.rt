@@ -1,216 +1,170 @@
-//! What a template with given parameters wants of a new stack.
-ghost use Rattle.std.specs.Prelude.{◌≡◌, [], IfOk, map, filter, Some, Ok, Err};
-ghost use Rattle.cf_eval.specs.Env.{scope_in};
-ghost use Rattle.cf_eval.specs.Outcome.{got, fault, each};
-ghost use Rattle.cf_eval.specs.declared.fault.EvalWhy.TheVariants.{UnknownName};
-ghost use Rattle.cf_graph.specs.Needs.{is_made};
-ghost use Rattle.cf_desired.specs.Plan.{resource_place};
-ghost use Rattle.cf_engine.specs.Planning.{condition_stop, planned_as, resource_found, wanted_found, piece_of, plan_of, planned_from, planned_of};
-ghost use Rattle.cf_engine.specs.Sure.{AreSet, IsKnown};
-ghost use Rattle.cf_engine.specs.Planned.{FoundAs, StopsBy, PlansAs, PlannedAs};
+//! The source of a new stack, which is refused where its template can't be made.
+ghost use Rattle.std.specs.Prelude.{◌≡◌, [], filter, fold, map, IfOk, None, Ok, Some};
+ghost use Rattle.std.specs.Option.{option_copied};
+ghost use Rattle.cf_graph.specs.Needs.{is_among};
+ghost use Rattle.cf_template.specs.Whole.{template_of};
+ghost use Rattle.cf_desired.specs.Plan.{plan_of};
+ghost use Rattle.cf_desired.specs.Templates.{IsFlat};
+ghost use Rattle.cf_stacks.specs.Fold.{source_for};
+ghost use Rattle.cf_engine.specs.Lanes.{kinds_of};
+ghost use Rattle.cf_engine.specs.Refusals.{TestsAs, first_unknown, is_unknown, plan_refusal, refusal_of, sooner, source_of, template_refusal};
 
-use crate::exit::{DesiredFault, Exit};
 use crate::not_yet::is_not_yet;
-use crate::pseudo::pseudo_of;
-use crate::refusals::{not_yet, unbound, unplanned, unread, unvalued};
-use crate::words::Choice;
-use cf_eval::{Env, EvalFault, EvalWhy, conditions, eval_props};
-use cf_param::{Given, Piece, bind};
+use crate::refusals::{flawed, not_yet, unknown, unread};
+use cf_desired::{Plan, Seen, Wanted, plan, templates_of};
+use cf_face::{Choice, Exit};
+use cf_handler::Handler;
 use cf_template::read_template;
-use cf_tree::{
-    Bound, ByName, CondMap, Dict, NoMemory, Pairs, Planned, Plans, Res, Template, Txt, Verdict,
-};
+use cf_tree::{Bytes, Pairs, Source, Template, Texts, Txt};
 use std::alloc::{AllocError, Global};
 
-/// What the bytes of a template want of a new stack with this name and number: its resources with evaluated properties.
+/// The source of a new stack of this name, by the operation of this number, from the bytes that were found under the
+/// template's name.
+///
+/// # Errors
 ///
 /// `TemplateRefused` comes with the first of these: why the bytes are no template; `NotYet` where the template holds what
-/// is not made yet; why its parameters are not bound; the first fault of its conditions and then of its resources.
-pub fn planned(
+/// is not made yet; the first flaw of its plan; the first resource, by path, whose type no lane has.
+pub fn examine<H: Handler>(
     alloc: Global,
+    lanes: &[H],
     choice: &Choice,
     stack: &Txt,
     number: u64,
-    bytes: &[u8],
-) -> Result<Plans, Exit>
-    ensures { PlannedAs (planned_of choice.now stack.now number bytes.now) result }
+    bytes: Vec<u8>,
+) -> Result<Source, Exit>
+    ensures { TestsAs (refusal_of (kinds_of (map H.schema_of lanes.now)) choice.now stack.now number (Some bytes.items))
+        (λ source. source ≡ source_of stack.now choice.now bytes.items) result }
 {
-    match read_template(alloc, bytes) {
-        Ok(template) => planned_from(alloc, choice, stack, number, &template),
+    match read_template(alloc, bytes.as_slice()) {
+        Ok(template) => examine_template(alloc, lanes, choice, stack, number, bytes, &template),
         Err(fault) => Err(unread(alloc, &choice.template, fault)),
     }
 }
 
-fn planned_from(
+/// The same of bytes that were read.
+fn examine_template<H: Handler>(
     alloc: Global,
+    lanes: &[H],
     choice: &Choice,
     stack: &Txt,
     number: u64,
+    bytes: Vec<u8>,
     template: &Template,
-) -> Result<Plans, Exit>
-    ensures { PlannedAs (planned_from choice.now stack.now number (Ok template.now)) result }
+) -> Result<Source, Exit>
+    requires { template_of bytes.items ≡ Ok template.now }
+    ensures { TestsAs (template_refusal (kinds_of (map H.schema_of lanes.now)) choice.now stack.now number bytes.items (Ok template.now))
+        (λ source. source ≡ source_of stack.now choice.now bytes.items) result }
 {
-    match is_not_yet(alloc, template) {
-        Ok(true) => Err(not_yet(alloc, &choice.template)),
-        Ok(false) => match plan(alloc, template, &choice.given, stack, number) {
-            Ok(plans) => Ok(plans),
-            Err(fault) => Err(unplanned(fault)),
+    if is_not_yet(template) {
+        return Err(not_yet(alloc, &choice.template));
+    }
+    match source_of(alloc, stack, choice, bytes) {
+        Ok(source) => examine_source(alloc, lanes, source, number),
+        Err(_) => Err(Exit::NoMemory),
+    }
+}
+
+/// A source, after a test of what it wants by the operation of this number.
+fn examine_source<H: Handler>(
+    alloc: Global,
+    lanes: &[H],
+    source: Source,
+    number: u64,
+) -> Result<Source, Exit>
+    requires flat { IsFlat source }
+    requires written { source.number ≡ 0 }
+    ensures { TestsAs (plan_refusal (kinds_of (map H.schema_of lanes.now)) (plan_of (source_for source.stack number source) []))
+        (λ s. s ≡ source) result }
+{
+    let mut source = source;
+    source.number = number;
+    match first_plan(alloc, &source) {
+        Ok(plan) => match test_plan(alloc, lanes, &plan) {
+            Ok(()) => {
+                source.number = 0;
+                Ok(source)
+            }
+            Err(exit) => Err(exit),
         },
         Err(_) => Err(Exit::NoMemory),
     }
 }
 
-/// The plan of a template: its parameters bound, then its conditions and its resources.
-fn plan(
+/// What a choice of a template rests on; it is written without the number of its operation.
+fn source_of(
     alloc: Global,
-    template: &Template,
-    given: &Pairs,
     stack: &Txt,
-    number: u64,
-) -> Result<Plans, DesiredFault>
-    ensures { PlansAs (plan_of template.now given.now stack.now number) result }
+    choice: &Choice,
+    bytes: Vec<u8>,
+) -> Result<Source, AllocError>
+    ensures { IfOk result (λ source. source ≡ source_of stack.now choice.now bytes.items) }
 {
-    let Ok(given) = pieces_of(alloc, given) else {
-        return Err(DesiredFault::NoMemory);
-    };
-    match bind(alloc, template, &given) {
-        Ok(bound) => wanted(alloc, template, &bound, stack, number),
-        Err(fault) => Err(unbound(alloc, fault)),
+    let mut texts = Texts::new(alloc);
+    texts.insert(choice.template.try_clone(alloc)?, Bytes::from_vec(bytes))?;
+    Ok(Source {
+        root: choice.template.try_clone(alloc)?,
+        texts,
+        given: choice.given.try_clone(alloc)?,
+        imports: Pairs::new(alloc),
+        stack: stack.try_clone(alloc)?,
+        number: 0,
+    })
+}
+
+/// What a source wants before anything is made.
+fn first_plan(alloc: Global, source: &Source) -> Result<Plan, AllocError>
+    requires { IsFlat source.now }
+    ensures { IfOk result (λ p. p ≡ plan_of source.now []) }
+{
+    let templates = templates_of(alloc, source)?;
+    plan(alloc, source, &templates, &Seen::new(alloc))
+}
+
+/// Refuses a plan for its first flaw, and else for the first resource, by path, whose type no lane has.
+fn test_plan<H: Handler>(alloc: Global, lanes: &[H], plan: &Plan) -> Result<(), Exit>
+    ensures { TestsAs (plan_refusal (kinds_of (map H.schema_of lanes.now)) plan.now) (λ _. Unit {0}) result }
+{
+    match plan.flaws.as_slice().first() {
+        Some(flaw) => Err(flawed(alloc, flaw)),
+        None => match first_unknown(lanes, plan.wanted.as_slice()) {
+            Some(wanted) => Err(unknown(alloc, wanted)),
+            None => Ok(()),
+        },
     }
 }
 
-/// The given texts, as binding takes them.
-#[tactic(auto, using(crate::proofs::Given::pieces_ascend))]
-fn pieces_of(alloc: Global, given: &Pairs) -> Result<Given, AllocError>
-    ensures { IfOk result (λ pieces. pieces ≡ map piece_of given.now) }
+/// The first resource, by path, whose type no lane has.
+fn first_unknown<'a, H: Handler>(lanes: &[H], wanted: &'a [Wanted]) -> Option<&'a Wanted>
+    ensures { option_copied result ≡ first_unknown (kinds_of (map H.schema_of lanes.now)) wanted.now }
 {
-    let mut pieces = Vec::new(alloc);
-    for pair in given.as_slice() {
-        let text = pair.1.try_clone(alloc)?;
-        pieces.push((pair.0.try_clone(alloc)?, Piece::Text(text)))?;
-    }
-    Ok(Given::from_names(ByName::from_vec(pieces)))
-}
-
-/// What the conditions and resources of a template come to.
-fn wanted(
-    alloc: Global,
-    template: &Template,
-    bound: &Bound,
-    stack: &Txt,
-    number: u64,
-) -> Result<Plans, DesiredFault>
-    requires { AreSet bound.now }
-    ensures { FoundAs (wanted_found template.now bound.now stack.now number) result }
-{
-    let (Ok(pseudo), Ok(root)) = (pseudo_of(alloc, stack, number), Txt::from_str(alloc, "")) else {
-        return Err(DesiredFault::NoMemory);
-    };
-    match conditions(alloc, template, bound, &pseudo, &root) {
-        Ok(conds) => resources(
-            alloc,
-            template,
-            &Env {
-                bound,
-                mappings: &template.mappings,
-                conds: &conds,
-                seen: &ByName::new(alloc),
-                imports: &Pairs::new(alloc),
-                pseudo: &pseudo,
-                stack: &root,
-            },
-        ),
-        Err(fault) => Err(unvalued(fault)),
-    }
-}
-
-/// The resources whose condition is not false, one after another, up to the first fault.
-#[tactic(auto, using(cf_eval::proofs::Each::each_is))]
-fn resources(alloc: Global, template: &Template, env: &Env) -> Result<Plans, DesiredFault>
-    requires root { env.now.stack.now ≡ [] }
-    requires known { IsKnown (scope_in env.now) }
-    ensures { FoundAs (each (map (resource_found (scope_in env.now) env.now.conds.now) (filter (is_made env.now.conds.now) template.now.resources))) result }
-{
-    let mut plans = Plans::new(alloc);
-    for resource in template.resources.as_slice() {
-        if is_made(env.conds, resource) {
-            match resource_plan(alloc, resource, env) {
-                Ok(planned) => plans.push(planned)?,
-                Err(fault) => return Err(fault),
-            }
+    let mut first = None;
+    for one in wanted {
+        if !has_type(lanes, &one.kind) {
+            first = Some(sooner(first, one));
         }
     }
-    Ok(plans)
+    first
 }
 
-/// Whether a resource has no condition, or one that is not false.
-fn is_made(conds: &CondMap, resource: &Res) -> bool
-    ensures { result ≡ is_made conds.now resource.now }
+/// Whether a lane has the type.
+fn has_type<H: Handler>(lanes: &[H], kind: &Txt) -> bool
+    ensures { result ≡ is_among kind.now (kinds_of (map H.schema_of lanes.now)) }
 {
-    match &resource.condition {
-        Some(name) => !matches!(conds.get(name.as_str()), Some(Verdict::False)),
-        None => true,
+    for lane in lanes.iter() {
+        if *kind == lane.schema().kind {
+            return true;
+        }
     }
+    false
 }
 
-/// What a resource is to be.
-fn resource_plan(alloc: Global, resource: &Res, env: &Env) -> Result<Planned, DesiredFault>
-    requires root { env.now.stack.now ≡ [] }
-    requires known { IsKnown (scope_in env.now) }
-    ensures { FoundAs (resource_found (scope_in env.now) env.now.conds.now resource.now) result }
+/// The one of two resources that comes first by path; the earlier one where both have one path.
+fn sooner<'a>(first: Option<&'a Wanted>, one: &'a Wanted) -> &'a Wanted
+    ensures { Some result.now ≡ sooner (option_copied first.entry) one.now }
 {
-    if let Err(fault) = test_condition(alloc, env.conds, resource) {
-        return Err(fault);
-    }
-    match eval_props(alloc, &resource.props, env) {
-        Ok(Some(props)) => named(alloc, resource, props),
-        // Nothing is Later where every parameter is given as a text.
-        Ok(None) => unreachable!(),
-        Err(fault) => Err(unvalued(fault)),
-    }
-}
-
-/// Refuses a condition that the resource names and nobody declares.
-fn test_condition(alloc: Global, conds: &CondMap, resource: &Res) -> Result<(), DesiredFault>
-    ensures { StopsBy (condition_stop conds.now resource.now) result }
-{
-    match &resource.condition {
-        Some(name) if conds.get(name.as_str()).is_none() => Err(undeclared(alloc, resource)),
-        _ => Ok(()),
-    }
-}
-
-fn undeclared(alloc: Global, resource: &Res) -> DesiredFault
-    ensures { StopsBy (Some (fault UnknownName (resource_place resource.now.name))) (Err result) }
-{
-    match (place_of(alloc, &resource.name), Txt::from_str(alloc, "")) {
-        (Ok(at), Ok(stack)) => DesiredFault::Eval {
-            fault: EvalFault::Bad {
-                why: EvalWhy::UnknownName,
-                stack,
-                at,
-            },
-        },
-        _ => DesiredFault::NoMemory,
-    }
-}
-
-/// The place of a resource's condition.
-fn place_of(alloc: Global, id: &Txt) -> Result<Txt, AllocError>
-    ensures { IfOk result (λ place. place ≡ resource_place id.now) }
-{
-    let id = id.as_str();
-    Ok(Txt::new(format!(in alloc; "/Resources/{id}/Condition")?))
-}
-
-fn named(alloc: Global, resource: &Res, props: Dict) -> Result<Planned, DesiredFault>
-    ensures { FoundAs (got (planned_as resource.now props)) result }
-{
-    match (
-        resource.name.try_clone(alloc),
-        resource.kind.try_clone(alloc),
-    ) {
-        (Ok(name), Ok(kind)) => Ok(Planned { name, kind, props }),
-        _ => Err(DesiredFault::NoMemory),
+    match first {
+        Some(first) if one.path >= first.path => first,
+        _ => one,
     }
 }

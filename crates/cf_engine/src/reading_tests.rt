@@ -1,13 +1,14 @@
 //! What the top calls say of templates, their parameters, conditions and functions.
 ghost use Rattle.std.specs.Prelude.{◌≡◌, IfOk, IfSome};
 
-use crate::tests::one_lane;
+use crate::journal_lines::calls_of;
+use crate::tests::{new_disk, sound, two_lanes};
 use crate::top::{Ended, cfstack};
 use cf_disk::{Disk, MemoryDisk};
 use cf_entry::{Begun, Entry};
 use cf_io::{MemoryLibrary, MemorySink};
 use cf_journal::recover;
-use cf_tree::{Dict, Listing, NoMemory, Pairs, Request, Txt, Val};
+use cf_tree::{NoMemory, Pairs, Txt};
 use std::alloc::Global;
 use std::test::Fail;
 
@@ -15,27 +16,60 @@ use std::test::Fail;
 const NUMBER: &str = "{\"Parameters\":{\"N\":{\"Type\":\"Number\",\"MinValue\":\"1.5\"}},\
     \"Resources\":{\"A\":{\"Type\":\"Local::Files::File\",\"Properties\":{\"Path\":\"a\",\"Content\":\"x\"}}}}";
 
-// The same number, a resource of a type that no lane has, and an output.
-const OUTPUT: &str = "{\"Parameters\":{\"N\":{\"Type\":\"Number\"}},\
-    \"Resources\":{\"A\":{\"Type\":\"No::Such\"}},\"Outputs\":{\"O\":{\"Value\":\"x\"}}}";
+// The same number, a resource of a type that no lane has, and an output with an export.
+const EXPORTED: &str = "{\"Parameters\":{\"N\":{\"Type\":\"Number\"}},\
+    \"Resources\":{\"A\":{\"Type\":\"No::Such\"}},\
+    \"Outputs\":{\"O\":{\"Value\":\"x\",\"Export\":{\"Name\":\"e\"}}}}";
 
-// The same without the output, and without the number.
-const TYPED: &str =
-    "{\"Parameters\":{\"N\":{\"Type\":\"Number\"}},\"Resources\":{\"A\":{\"Type\":\"No::Such\"}}}";
+// The same without the export, and without the number.
+const TYPED: &str = "{\"Parameters\":{\"N\":{\"Type\":\"Number\"}},\
+    \"Resources\":{\"A\":{\"Type\":\"No::Such\"}},\"Outputs\":{\"O\":{\"Value\":\"x\"}}}";
 
 const UNTYPED: &str = "{\"Resources\":{\"A\":{\"Type\":\"No::Such\"}}}";
 
-// A reference to a resource in the branch that is not taken.
+// A reference to a resource whose condition is false, in the branch that is not taken.
 const GONE: &str = "{\"Conditions\":{\"No\":{\"Fn::Equals\":[\"a\",\"b\"]}},\"Resources\":{\
     \"Gone\":{\"Type\":\"Local::Files::File\",\"Condition\":\"No\",\"Properties\":{\"Path\":\"g\",\"Content\":\"g\"}},\
     \"A\":{\"Type\":\"Local::Files::File\",\"Properties\":{\"Path\":\"a\",\
     \"Content\":{\"Fn::If\":[\"No\",{\"Ref\":\"Gone\"},\"a\"]}}}}}";
+
+// The same reference outside of the choice.
+const NOT_MADE: &str = "{\"Conditions\":{\"No\":{\"Fn::Equals\":[\"a\",\"b\"]}},\"Resources\":{\
+    \"Gone\":{\"Type\":\"Local::Files::File\",\"Condition\":\"No\",\"Properties\":{\"Path\":\"g\",\"Content\":\"g\"}},\
+    \"A\":{\"Type\":\"Local::Files::File\",\"Properties\":{\"Path\":\"a\",\"Content\":{\"Ref\":\"Gone\"}}}}}";
 
 // A resource whose condition is false, of a type that no lane has.
 const UNMADE: &str = "{\"Conditions\":{\"No\":{\"Fn::Equals\":[\"a\",\"b\"]}},\"Resources\":{\
     \"Gone\":{\"Type\":\"No::Such\",\"Condition\":\"No\",\"Properties\":{\"X\":{\"Ref\":\"Nobody\"}}},\
     \"A\":{\"Type\":\"Local::Files::File\",\"Properties\":{\"Path\":\"a\",\
     \"Content\":{\"Fn::If\":[\"No\",{\"Ref\":\"Nobody\"},\"a\"]}}}}}";
+
+// Two resources that need each other.
+const CYCLE: &str = "{\"Resources\":{\
+    \"A\":{\"Type\":\"Local::Files::File\",\"DependsOn\":\"B\",\"Properties\":{\"Path\":\"a\",\"Content\":\"x\"}},\
+    \"B\":{\"Type\":\"Local::Files::File\",\"Properties\":{\"Path\":\"b\",\"Content\":{\"Fn::Sub\":\"${A}\"}}}}}";
+
+// A small site: files, records that refer to them, and an output.
+const SITE: &str = "{\"AWSTemplateFormatVersion\":\"2010-09-09\",\
+    \"Description\":\"A small site\",\
+    \"Parameters\":{\
+    \"Stage\":{\"Type\":\"String\",\"Default\":\"test\",\"AllowedValues\":[\"test\",\"prod\"]},\
+    \"Hosts\":{\"Type\":\"CommaDelimitedList\",\"Default\":\"alpha, beta\"}},\
+    \"Mappings\":{\"Sizes\":{\"test\":{\"Depth\":2},\"prod\":{\"Depth\":8}}},\
+    \"Conditions\":{\"IsProd\":{\"Fn::Equals\":[{\"Ref\":\"Stage\"},\"prod\"]}},\
+    \"Resources\":{\
+    \"Conf\":{\"Type\":\"Local::Files::File\",\"Properties\":{\
+    \"Path\":{\"Fn::Sub\":\"${AWS::StackName}.conf\"},\
+    \"Content\":{\"Fn::Join\":[\"\\n\",[{\"Fn::Sub\":\"stage=${Stage}\"},\
+    {\"Fn::Sub\":[\"depth=${D}\",{\"D\":{\"Fn::FindInMap\":[\"Sizes\",{\"Ref\":\"Stage\"},\"Depth\"]}}]}]]}}},\
+    \"Home\":{\"Type\":\"Local::Files::File\",\"DependsOn\":\"Conf\",\"Properties\":{\
+    \"Path\":\"home.txt\",\"Content\":{\"Fn::Select\":[1,{\"Ref\":\"Hosts\"}]}}},\
+    \"Audit\":{\"Type\":\"Local::Files::File\",\"Condition\":\"IsProd\",\
+    \"Properties\":{\"Path\":\"audit.txt\",\"Content\":\"on\"}},\
+    \"Main\":{\"Type\":\"Local::Records::Record\",\"Properties\":{\"Key\":\"main\",\"Value\":{\"Ref\":\"Conf\"}}},\
+    \"Size\":{\"Type\":\"Local::Records::Record\",\"Properties\":{\
+    \"Key\":\"size\",\"Value\":{\"Fn::Sub\":\"${Conf.Length}/${Home.Length}\"}}}},\
+    \"Outputs\":{\"Total\":{\"Value\":{\"Fn::GetAtt\":[\"Size\",\"Value\"]}}}}";
 
 // Parameters of each kind, one of them hidden, mappings, conditions and functions.
 const PAGE: &str = "{\"Parameters\":{\
@@ -64,14 +98,7 @@ fn library_of(alloc: Global, text: &str) -> Result<MemoryLibrary, NoMemory> {
     MemoryLibrary::new(alloc, texts.as_slice(), [].as_slice())
 }
 
-// A new disk.
-fn disk_of(alloc: Global) -> Result<MemoryDisk, NoMemory>
-    ensures { IfOk result (λ disk. ⟦<MemoryDisk as Disk>⟧.room_of disk ≡ 65536) }
-{
-    MemoryDisk::new(alloc, &[], 65_536, &[], 1_000, 100_000)
-}
-
-// The disk behind what a line says over a template, a new disk and the lane `f1`, if it prints this.
+// The disk behind what a line says over a template, a new disk and the lanes `f1` and `r1`, if it prints this.
 fn ran(
     alloc: Global,
     line: &str,
@@ -86,7 +113,7 @@ fn ran(
     }
     let mut library = library_of(alloc, template)?;
     let mut out = MemorySink::new(alloc, [].as_slice())?;
-    let lanes = one_lane(alloc, Listing::new(alloc))?;
+    let lanes = two_lanes(alloc, sound(alloc), sound(alloc))?;
     let Ended {
         exit: _,
         disk,
@@ -97,7 +124,7 @@ fn ran(
         1,
         &mut library,
         &mut out,
-        disk_of(alloc)?,
+        new_disk(alloc)?,
         lanes,
     );
     Ok(if out.bytes() == wanted.as_bytes() {
@@ -122,7 +149,8 @@ fn templates_are_validated(rt: HostRuntime) -> Result<(), Fail> {
             "exit 0 Done\n",
         ),
         ("validate t", GONE, "exit 0 Done\n"),
-        ("validate t", OUTPUT, "exit 0 Done\n"),
+        ("validate t", EXPORTED, "exit 0 Done\n"),
+        ("validate t", CYCLE, "exit 0 Done\n"),
         (
             "validate other",
             GONE,
@@ -151,7 +179,7 @@ fn templates_are_refused_in_order(rt: HostRuntime) -> Result<(), Fail> {
             "{\"Resources\":{\"A\":{\"Type\":\"T\",\"Properties\":{\"P\":\"{{resolve:ssm:x}}\"}}}}",
             "exit 2 TemplateRefused Read \"t\" Unsupported \"/Resources/A/Properties/P\" \"{{resolve:\"\n",
         ),
-        (OUTPUT, "exit 2 TemplateRefused NotYet \"t\"\n"),
+        (EXPORTED, "exit 2 TemplateRefused NotYet \"t\"\n"),
         (
             TYPED,
             "exit 2 TemplateRefused Plan Bind \"\" Missing \"N\"\n",
@@ -160,22 +188,17 @@ fn templates_are_refused_in_order(rt: HostRuntime) -> Result<(), Fail> {
             UNTYPED,
             "exit 2 TemplateRefused UnknownType \"A\" \"No::Such\"\n",
         ),
-        (GONE, "exit 2 TemplateRefused NotYet \"t\"\n"),
         (
-            "{\"Resources\":{\"A\":{\"Type\":\"T\"},\"B\":{\"Type\":\"T\",\"DependsOn\":\"A\"}}}",
-            "exit 2 TemplateRefused NotYet \"t\"\n",
+            CYCLE,
+            "exit 2 TemplateRefused Plan Graph \"\" Circular [\"A\",\"B\"]\n",
         ),
         (
-            "{\"Resources\":{\"A\":{\"Type\":\"T\",\"DeletionPolicy\":\"RetainExceptOnCreate\"}}}",
-            "exit 2 TemplateRefused NotYet \"t\"\n",
+            "{\"Resources\":{\"A\":{\"Type\":\"T\",\"DependsOn\":[\"A\",\"Z\"]}}}",
+            "exit 2 TemplateRefused Plan Graph \"\" UnknownDependency \"A\" \"Z\"\n",
         ),
         (
-            "{\"Resources\":{\"A\":{\"Type\":\"AWS::CloudFormation::Stack\"}}}",
-            "exit 2 TemplateRefused NotYet \"t\"\n",
-        ),
-        (
-            "{\"Resources\":{\"A\":{\"Type\":\"T\",\"Properties\":{\"P\":{\"Fn::Sub\":\"${A.Id}\"}}}}}",
-            "exit 2 TemplateRefused NotYet \"t\"\n",
+            NOT_MADE,
+            "exit 2 TemplateRefused Plan Eval Bad NotMade \"\" \"/Resources/A/Properties/Content\"\n",
         ),
         (
             "{\"Resources\":{\"A\":{\"Type\":\"T\",\"Properties\":{\"P\":{\"Ref\":\"Nobody\"}}}}}",
@@ -187,7 +210,7 @@ fn templates_are_refused_in_order(rt: HostRuntime) -> Result<(), Fail> {
         ),
         (
             "{\"Resources\":{\"A\":{\"Type\":\"Local::Files::File\",\"Properties\":{\"Path\":\"a\",\"Content\":1}}}}",
-            "exit 15 Unrolled Handler \"A\" InvalidRequest\n",
+            "stack s ROLLBACK_COMPLETE 1\nexit 4 RolledBack Handler \"A\" InvalidRequest\n",
         ),
     ];
     for (template, wanted) in cases {
@@ -196,6 +219,45 @@ fn templates_are_refused_in_order(rt: HostRuntime) -> Result<(), Fail> {
             "at {template}"
         );
     }
+    Ok(())
+}
+
+// What is not made yet is refused wherever it stands, also in a branch that is not taken.
+#[test]
+fn templates_that_are_not_made_yet(rt: HostRuntime) -> Result<(), Fail> {
+    let alloc = rt.alloc();
+    let cases = [
+        "{\"Resources\":{\"A\":{\"Type\":\"T\",\"DeletionPolicy\":\"Retain\"}}}",
+        "{\"Resources\":{\"A\":{\"Type\":\"T\",\"DeletionPolicy\":\"RetainExceptOnCreate\"}}}",
+        "{\"Resources\":{\"A\":{\"Type\":\"T\",\"UpdateReplacePolicy\":\"Retain\"}}}",
+        "{\"Resources\":{\"A\":{\"Type\":\"AWS::CloudFormation::Stack\"}}}",
+        "{\"Resources\":{\"A\":{\"Type\":\"T\",\"Properties\":{\"P\":{\"Fn::ImportValue\":\"e\"}}}}}",
+        "{\"Resources\":{\"A\":{\"Type\":\"T\"}},\"Outputs\":{\"O\":{\"Value\":{\"Fn::ImportValue\":\"e\"}}}}",
+        "{\"Conditions\":{\"C\":{\"Fn::Equals\":[{\"Fn::ImportValue\":\"e\"},\"a\"]}},\"Resources\":{\"A\":{\"Type\":\"T\"}}}",
+        "{\"Conditions\":{\"No\":{\"Fn::Equals\":[\"a\",\"b\"]}},\"Resources\":{\"A\":{\"Type\":\"T\",\"Properties\":{\
+        \"P\":{\"Fn::If\":[\"No\",{\"Fn::ImportValue\":\"e\"},\"a\"]}}}}}",
+    ];
+    let wanted = "exit 2 TemplateRefused NotYet \"t\"\n";
+    for template in cases {
+        assert!(rt;
+            ran(alloc, "deploy s t", template, wanted)?.is_some(),
+            "at {template}"
+        );
+    }
+    Ok(())
+}
+
+// The policy `Delete` is what happens anyway.
+#[test]
+fn a_policy_that_deletes_asks_for_nothing(rt: HostRuntime) -> Result<(), Fail> {
+    let alloc = rt.alloc();
+    let template =
+        "{\"Resources\":{\"A\":{\"Type\":\"Local::Files::File\",\"DeletionPolicy\":\"Delete\",\
+        \"UpdateReplacePolicy\":\"Delete\",\"Properties\":{\"Path\":\"a\",\"Content\":\"x\"}}}}";
+    let wanted = "stack s CREATE_COMPLETE 1\n\
+        resource A Local::Files::File f1:1 CREATE_COMPLETE\n\
+        exit 0 Done\n";
+    assert!(rt; ran(alloc, "deploy s t", template, wanted)?.is_some());
     Ok(())
 }
 
@@ -245,28 +307,6 @@ fn parameters_are_bound_and_told(rt: HostRuntime) -> Result<(), Fail> {
     Ok(())
 }
 
-// Whether a property is this text.
-fn has_text(props: &Dict, name: &str, text: &str) -> bool {
-    match props.get(name) {
-        Some(Val::Text(value)) => value.is(text),
-        _ => false,
-    }
-}
-
-// Whether an entry asks for a resource of this name with this content.
-fn asks_for(entry: &Entry, name: &str, content: &str) -> bool {
-    match entry {
-        Entry::Intent {
-            number: _,
-            token: _,
-            lane: _,
-            path,
-            request: Request::Create { kind: _, props },
-        } => path.is(name) && has_text(props, "Content", content),
-        _ => false,
-    }
-}
-
 // Whether an entry begins a creation for which just this is given.
 fn is_given(entry: &Entry, name: &str, value: &str) -> bool {
     match entry {
@@ -286,7 +326,27 @@ fn gives(given: &Pairs, name: &str, value: &str) -> bool {
     }
 }
 
-// What is given stands in the beginning, and the resources are made with their evaluated properties.
+// What is given stands in the beginning.
+#[test]
+fn what_is_given_is_kept(rt: HostRuntime) -> Result<(), Fail> {
+    let alloc = rt.alloc();
+    let wanted = "stack s CREATE_COMPLETE 1\n\
+        parameter N \"1.5\"\n\
+        resource A Local::Files::File f1:1 CREATE_COMPLETE\n\
+        exit 0 Done\n";
+    let mut disk = ran(alloc, "deploy s t N=1.5", NUMBER, wanted)?.ok_or("another report")?;
+    let (_, entries) = recover(alloc, &mut disk)?;
+    let mut found: u32 = 0;
+    for entry in entries.as_slice() {
+        if is_given(entry, "N", "1.5") {
+            found = found.saturating_add(1);
+        }
+    }
+    assert!(rt; found == 1);
+    Ok(())
+}
+
+// The resources are made with their evaluated properties.
 #[test]
 fn a_page_is_made_as_it_is_evaluated(rt: HostRuntime) -> Result<(), Fail> {
     let alloc = rt.alloc();
@@ -298,18 +358,52 @@ fn a_page_is_made_as_it_is_evaluated(rt: HostRuntime) -> Result<(), Fail> {
         resource Page Local::Files::File f1:2 CREATE_COMPLETE\n\
         exit 0 Done\n";
     let mut disk = ran(alloc, "deploy page t Stage=prod", PAGE, wanted)?.ok_or("another report")?;
-    let (_, entries) = recover(alloc, &mut disk)?;
-    let content = "stage=prod;depth=8;beta;quiet;\
-        arn:aws:cloudformation:us-east-1:123456789012:stack/page/1";
-    let mut found: u32 = 0;
-    for entry in entries.as_slice() {
-        if is_given(entry, "Stage", "prod")
-            || asks_for(entry, "Audit", "aGVsbG8=")
-            || asks_for(entry, "Page", content)
-        {
-            found = found.saturating_add(1);
-        }
-    }
-    assert!(rt; found == 3);
+    let calls = calls_of(alloc, &mut disk)?;
+    assert_eq!(rt;
+        calls.as_str(),
+        "ask 1 f1 Audit create Content=aGVsbG8= Path=audit.txt\n\
+        ask 2 f1 Page create Content=stage=prod;depth=8;beta;quiet;\
+        arn:aws:cloudformation:us-east-1:123456789012:stack/page/1 Path=page.conf\n"
+    );
+    Ok(())
+}
+
+// Resources are evaluated over the ids and attributes of those that they need.
+#[test]
+fn a_site_is_made_along_its_needs(rt: HostRuntime) -> Result<(), Fail> {
+    let alloc = rt.alloc();
+    let wanted = "stack site CREATE_COMPLETE 1\n\
+        parameter Hosts [\"alpha\",\"beta\"]\n\
+        parameter Stage \"prod\"\n\
+        resource Audit Local::Files::File f1:1 CREATE_COMPLETE\n\
+        resource Conf Local::Files::File f1:2 CREATE_COMPLETE\n\
+        resource Home Local::Files::File f1:3 CREATE_COMPLETE\n\
+        resource Main Local::Records::Record r1:4 CREATE_COMPLETE\n\
+        resource Size Local::Records::Record r1:5 CREATE_COMPLETE\n\
+        output Total \"18/4\"\n\
+        exit 0 Done\n";
+    let mut disk = ran(alloc, "deploy site t Stage=prod", SITE, wanted)?.ok_or("another report")?;
+    let calls = calls_of(alloc, &mut disk)?;
+    assert_eq!(rt;
+        calls.as_str(),
+        "ask 1 f1 Audit create Content=on Path=audit.txt\n\
+        ask 2 f1 Conf create Content=stage=prod\ndepth=8 Path=site.conf\n\
+        ask 3 f1 Home create Content=beta Path=home.txt\n\
+        ask 4 r1 Main create Key=main Value=f1:2\n\
+        ask 5 r1 Size create Key=size Value=18/4\n"
+    );
+    Ok(())
+}
+
+// A resource whose condition is false is not made, and a branch that is not taken may refer to it.
+#[test]
+fn what_a_condition_leaves_out(rt: HostRuntime) -> Result<(), Fail> {
+    let alloc = rt.alloc();
+    let wanted = "stack s CREATE_COMPLETE 1\n\
+        resource A Local::Files::File f1:1 CREATE_COMPLETE\n\
+        exit 0 Done\n";
+    let mut disk = ran(alloc, "deploy s t", GONE, wanted)?.ok_or("another report")?;
+    let calls = calls_of(alloc, &mut disk)?;
+    assert_eq!(rt; calls.as_str(), "ask 1 f1 A create Content=a Path=a\n");
     Ok(())
 }

@@ -1,14 +1,12 @@
 //! The exits of templates that are refused.
-ghost use Rattle.cf_engine.specs.declared.exit.Refusal.TheVariants.{Read, NotYet, Plan, UnknownType};
-ghost use Rattle.cf_engine.specs.declared.exit.DesiredFault.TheVariants.{TemplateMissing};
-ghost use Rattle.cf_engine.specs.Refusals.{RefusesAs};
-ghost use Rattle.cf_engine.specs.Planned.{UnreadAs, UnboundAs, UnvaluedAs, UnplannedAs};
+ghost use Rattle.cf_desired.specs.declared.flaw.Flaw.TheVariants.{TemplateMissing};
+ghost use Rattle.cf_face.specs.declared.exit.Refusal.TheVariants.{Read, NotYet, Plan, UnknownType};
+ghost use Rattle.cf_engine.specs.Refusals.{RefusesAs, UnreadAs};
 
-use crate::exit::{DesiredFault, Exit, Refusal};
-use cf_eval::EvalFault;
-use cf_param::BindFault;
+use cf_desired::{Flaw, Wanted};
+use cf_face::{Exit, Refusal};
 use cf_template::TemplateFault;
-use cf_tree::{Planned, Txt};
+use cf_tree::{TryClone, Txt};
 use std::alloc::Global;
 
 /// The exit where the library holds no template of the name.
@@ -18,7 +16,7 @@ pub fn missing(alloc: Global, name: &Txt) -> Exit
     match name.try_clone(alloc) {
         Ok(name) => Exit::TemplateRefused {
             fault: Refusal::Plan {
-                fault: DesiredFault::TemplateMissing { name },
+                fault: Flaw::TemplateMissing { name },
             },
         },
         Err(_) => Exit::NoMemory,
@@ -50,49 +48,23 @@ pub fn not_yet(alloc: Global, name: &Txt) -> Exit
     }
 }
 
-/// The fault of a plan whose parameters were not bound.
-pub fn unbound(alloc: Global, fault: BindFault) -> DesiredFault
-    ensures { UnboundAs fault result }
+/// The exit where the plan of the template has a flaw.
+pub fn flawed(alloc: Global, flaw: &Flaw) -> Exit
+    ensures { RefusesAs (Plan flaw.now) result }
 {
-    match (fault, Txt::from_str(alloc, "")) {
-        (BindFault::NoMemory, _) => DesiredFault::NoMemory,
-        (fault, Ok(at)) => DesiredFault::Bind { at, fault },
-        (_, Err(_)) => DesiredFault::NoMemory,
-    }
-}
-
-/// The fault of a plan in which an evaluation has one.
-pub fn unvalued(fault: EvalFault) -> DesiredFault
-    ensures { UnvaluedAs fault result }
-{
-    match fault {
-        EvalFault::NoMemory => DesiredFault::NoMemory,
-        EvalFault::Bad { why, stack, at } => DesiredFault::Eval {
-            fault: EvalFault::Bad { why, stack, at },
-        },
-    }
-}
-
-/// The exit where no plan came of the template.
-pub fn unplanned(fault: DesiredFault) -> Exit
-    ensures { UnplannedAs fault result }
-{
-    match fault {
-        DesiredFault::NoMemory => Exit::NoMemory,
-        fault => Exit::TemplateRefused {
+    match flaw.try_clone(alloc) {
+        Ok(fault) => Exit::TemplateRefused {
             fault: Refusal::Plan { fault },
         },
+        Err(_) => Exit::NoMemory,
     }
 }
 
-/// The exit where a resource's type has no lane.
-pub fn unknown(alloc: Global, resource: &Planned) -> Exit
-    ensures { RefusesAs (UnknownType resource.now.name resource.now.kind) result }
+/// The exit where no lane has a resource's type.
+pub fn unknown(alloc: Global, wanted: &Wanted) -> Exit
+    ensures { RefusesAs (UnknownType wanted.now.path wanted.now.kind) result }
 {
-    match (
-        resource.name.try_clone(alloc),
-        resource.kind.try_clone(alloc),
-    ) {
+    match (wanted.path.try_clone(alloc), wanted.kind.try_clone(alloc)) {
         (Ok(path), Ok(name)) => Exit::TemplateRefused {
             fault: Refusal::UnknownType { path, name },
         },

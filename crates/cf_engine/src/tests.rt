@@ -3,26 +3,31 @@ ghost use Rattle.std.specs.Prelude.{◌≡◌, ◌≤◌, ◌^◌, length, IfOk,
 ghost use Rattle.cf_handler.specs.Name.{is_lane_name};
 ghost use Rattle.cf_fake.specs.Refusable.{may_break};
 
-use crate::exit::Exit;
 use crate::top::{Ended, cfstack};
 use cf_disk::{Disk, FuseDisk, MemoryDisk};
+use cf_face::Exit;
 use cf_fake::{Break, MemoryHandler, Plan, Planned};
 use cf_handler::{file_schema, record_schema};
 use cf_io::{MemoryLibrary, MemorySink};
-use cf_tree::{Code, Listing, NoMemory, Txt};
+use cf_tree::{Listing, NoMemory, Txt};
 use std::alloc::Global;
 use std::test::Fail;
 
-// One resource.
+/// One resource.
 pub(crate) const ONE: &str = "{\"Resources\":{\
     \"Web\":{\"Type\":\"Local::Files::File\",\"Properties\":{\"Path\":\"web.txt\",\"Content\":\"hello\"}}}}";
 
-// Two resources, not in order.
+/// Two resources, not in order.
 pub(crate) const TWO: &str = "{\"Resources\":{\
     \"B\":{\"Type\":\"Local::Files::File\",\"Properties\":{\"Content\":\"y\",\"Path\":\"b\"}},\
     \"A\":{\"Type\":\"Local::Files::File\",\"Properties\":{\"Path\":\"a\",\"Content\":\"x\"}}}}";
 
-// What a command left, and whether it printed what was wanted.
+/// What is told of `ONE` once it is made.
+const ONE_MADE: &str = "stack app CREATE_COMPLETE 1\n\
+    resource Web Local::Files::File f1:1 CREATE_COMPLETE\n\
+    exit 0 Done\n";
+
+/// What a command left, and whether it printed what was wanted.
 #[derive(Drop)]
 pub(crate) struct Ran<D> {
     pub(crate) is_wanted: bool,
@@ -30,7 +35,7 @@ pub(crate) struct Ran<D> {
     pub(crate) lanes: Vec<MemoryHandler>,
 }
 
-// The words of a line.
+/// The words of a line.
 pub(crate) fn words_of(alloc: Global, line: &str) -> Result<Vec<Txt>, NoMemory> {
     let mut words = Vec::new(alloc);
     for word in line.split_ascii_whitespace() {
@@ -39,7 +44,7 @@ pub(crate) fn words_of(alloc: Global, line: &str) -> Result<Vec<Txt>, NoMemory> 
     Ok(words)
 }
 
-// A library that holds a text under the name `x`.
+/// A library that holds a text under the name `x`.
 pub(crate) fn library_of(alloc: Global, text: &str) -> Result<MemoryLibrary, NoMemory> {
     let mut texts = Vec::new(alloc);
     let name = Txt::from_str(alloc, "x")?;
@@ -47,7 +52,7 @@ pub(crate) fn library_of(alloc: Global, text: &str) -> Result<MemoryLibrary, NoM
     MemoryLibrary::new(alloc, texts.as_slice(), [].as_slice())
 }
 
-// A disk that holds these bytes.
+/// A disk that holds these bytes.
 pub(crate) fn disk_of(alloc: Global, bytes: &[u8], room: u64) -> Result<MemoryDisk, NoMemory>
     requires { length bytes.now ≤ room }
     ensures { IfOk result (λ disk. ⟦<MemoryDisk as Disk>⟧.room_of disk ≡ room) }
@@ -55,41 +60,60 @@ pub(crate) fn disk_of(alloc: Global, bytes: &[u8], room: u64) -> Result<MemoryDi
     MemoryDisk::new(alloc, bytes, room, &[], 1_000, 100_000)
 }
 
-// A lane of files.
+/// A new disk.
+pub(crate) fn new_disk(alloc: Global) -> Result<MemoryDisk, NoMemory>
+    ensures { IfOk result (λ disk. ⟦<MemoryDisk as Disk>⟧.room_of disk ≡ 65536) }
+{
+    disk_of(alloc, &[], 65_536)
+}
+
+/// A lane of files.
 pub(crate) fn files(alloc: Global, name: &str, plan: Plan) -> Result<MemoryHandler, NoMemory>
     requires { IsTrue (is_lane_name name.now) }
 {
     MemoryHandler::new(alloc, name, file_schema(alloc)?, plan)
 }
 
-// A lane of records.
-pub(crate) fn records(alloc: Global, name: &str) -> Result<MemoryHandler, NoMemory>
+/// A lane of records.
+pub(crate) fn records(alloc: Global, name: &str, plan: Plan) -> Result<MemoryHandler, NoMemory>
     requires { IsTrue (is_lane_name name.now) }
 {
-    MemoryHandler::new(alloc, name, record_schema(alloc)?, Listing::new(alloc))
+    MemoryHandler::new(alloc, name, record_schema(alloc)?, plan)
 }
 
-// The one lane `f1`.
+/// No call is broken.
+pub(crate) fn sound(alloc: Global) -> Plan {
+    Listing::new(alloc)
+}
+
+/// The call of this number is broken.
+pub(crate) fn broken(alloc: Global, call: u64, break_: Break) -> Result<Plan, NoMemory>
+    requires { IsTrue (may_break break_) }
+{
+    let mut plan: Plan = Listing::new(alloc);
+    plan.push(Planned { call, break_ })?;
+    Ok(plan)
+}
+
+/// The one lane `f1`.
 pub(crate) fn one_lane(alloc: Global, plan: Plan) -> Result<Vec<MemoryHandler>, NoMemory> {
     let mut lanes = Vec::new(alloc);
     lanes.push(files(alloc, "f1", plan)?)?;
     Ok(lanes)
 }
 
-// The one lane `f1`, of which the call of this number is broken.
-pub(crate) fn broken_lane(
+/// The lane `f1` of files and the lane `r1` of records.
+pub(crate) fn two_lanes(
     alloc: Global,
-    call: u64,
-    break_: Break,
-) -> Result<Vec<MemoryHandler>, NoMemory>
-    requires { IsTrue (may_break break_) }
-{
-    let mut plan: Plan = Listing::new(alloc);
-    plan.push(Planned { call, break_ })?;
-    one_lane(alloc, plan)
+    of_files: Plan,
+    of_records: Plan,
+) -> Result<Vec<MemoryHandler>, NoMemory> {
+    let mut lanes = one_lane(alloc, of_files)?;
+    lanes.push(records(alloc, "r1", of_records)?)?;
+    Ok(lanes)
 }
 
-// Does what the line says over a library that holds a template under `x`.
+/// Does what the line says over a library that holds a template under `x`.
 pub(crate) fn run_line<D: Disk + Drop + Send>(
     alloc: Global,
     line: &str,
@@ -132,8 +156,8 @@ fn a_stack_is_made_and_described(rt: HostRuntime) -> Result<(), Fail> {
         resource A Local::Files::File f1:1 CREATE_COMPLETE\n\
         resource B Local::Files::File f1:2 CREATE_COMPLETE\n\
         exit 0 Done\n";
-    let disk = disk_of(alloc, &[], 65_536)?;
-    let lanes = one_lane(alloc, Listing::new(alloc))?;
+    let disk = new_disk(alloc)?;
+    let lanes = one_lane(alloc, sound(alloc))?;
     let Ran {
         is_wanted,
         disk,
@@ -153,26 +177,43 @@ fn a_stack_is_made_and_described(rt: HostRuntime) -> Result<(), Fail> {
 }
 
 #[test]
+fn a_second_stack_goes_on_with_numbers_and_tokens(rt: HostRuntime) -> Result<(), Fail> {
+    let alloc = rt.alloc();
+    let disk = new_disk(alloc)?;
+    let lanes = one_lane(alloc, sound(alloc))?;
+    let first = run_line(alloc, "deploy app x", ONE, disk, lanes, ONE_MADE)?;
+    assert!(rt; first.is_wanted);
+    let wanted = "stack other CREATE_COMPLETE 2\n\
+        resource A Local::Files::File f1:2 CREATE_COMPLETE\n\
+        resource B Local::Files::File f1:3 CREATE_COMPLETE\n\
+        exit 0 Done\n";
+    let line = "deploy other x";
+    let second = run_line(alloc, line, TWO, first.disk, first.lanes, wanted)?;
+    assert!(rt; second.is_wanted);
+    Ok(())
+}
+
+#[test]
 fn the_first_lane_of_a_type_makes_its_resources(rt: HostRuntime) -> Result<(), Fail> {
     let alloc = rt.alloc();
     let wanted = "stack app CREATE_COMPLETE 1\n\
         resource Web Local::Files::File f2:1 CREATE_COMPLETE\n\
         exit 0 Done\n";
     let mut lanes = Vec::new(alloc);
-    lanes.push(files(alloc, "f2", Listing::new(alloc))?)?;
-    lanes.push(files(alloc, "f1", Listing::new(alloc))?)?;
+    lanes.push(files(alloc, "f2", sound(alloc))?)?;
+    lanes.push(files(alloc, "f1", sound(alloc))?)?;
     assert!(rt; refuses(alloc, &[], 65_536, lanes, wanted)?);
     Ok(())
 }
 
-// Whether the words of a line print this over a library whose first fetch fails.
+/// Whether the words of a line print this over a library whose first fetch fails.
 fn prints_without_library(alloc: Global, line: &str, wanted: &str) -> Result<bool, NoMemory> {
     let words = words_of(alloc, line)?;
     let texts = Vec::new(alloc);
     let mut library = MemoryLibrary::new(alloc, texts.as_slice(), [1].as_slice())?;
     let mut out = MemorySink::new(alloc, [].as_slice())?;
-    let disk = disk_of(alloc, &[], 65_536)?;
-    let lanes = one_lane(alloc, Listing::new(alloc))?;
+    let disk = new_disk(alloc)?;
+    let lanes = one_lane(alloc, sound(alloc))?;
     let Ended {
         exit: _,
         disk: _,
@@ -195,11 +236,12 @@ fn a_library_that_fails_comes_behind_bad_words_and_before_refusals(
 ) -> Result<(), Fail> {
     let alloc = rt.alloc();
     assert!(rt; prints_without_library(alloc, "deploy app x", "exit 6 LibraryFault\n")?);
+    assert!(rt; prints_without_library(alloc, "validate x", "exit 6 LibraryFault\n")?);
     assert!(rt; prints_without_library(alloc, "deploy", "exit 1 BadWords\n")?);
     Ok(())
 }
 
-// Whether a deployment of one resource over a new disk prints this.
+/// Whether a deployment of one resource over a disk with these bytes prints this.
 fn refuses(
     alloc: Global,
     bytes: &[u8],
@@ -219,9 +261,9 @@ fn refuses(
 #[test]
 fn disks_and_lanes_that_are_refused(rt: HostRuntime) -> Result<(), Fail> {
     let alloc = rt.alloc();
-    let lanes = one_lane(alloc, Listing::new(alloc))?;
+    let lanes = one_lane(alloc, sound(alloc))?;
     assert!(rt; refuses(alloc, &[], 20, lanes, "exit 14 Full 10 46 20\n")?);
-    let lanes = one_lane(alloc, Listing::new(alloc))?;
+    let lanes = one_lane(alloc, sound(alloc))?;
     assert!(rt;
         refuses(
             alloc,
@@ -231,59 +273,34 @@ fn disks_and_lanes_that_are_refused(rt: HostRuntime) -> Result<(), Fail> {
             "exit 10 NotAJournal 1\n"
         )?
     );
-    let mut lanes = one_lane(alloc, Listing::new(alloc))?;
-    lanes.push(records(alloc, "f1")?)?;
+    let mut lanes = one_lane(alloc, sound(alloc))?;
+    lanes.push(records(alloc, "f1", sound(alloc))?)?;
     assert!(rt; refuses(alloc, &[], 65_536, lanes, "exit 11 LaneTwice \"f1\"\n")?);
     Ok(())
 }
 
-// A lane is missing where none of its name and type is handed in.
+/// A lane is missing where none of its name and type is handed in.
 #[test]
 fn a_lane_that_the_journal_needs_is_missing(rt: HostRuntime) -> Result<(), Fail> {
     let alloc = rt.alloc();
-    let wanted = "stack app CREATE_COMPLETE 1\n\
-        resource Web Local::Files::File f1:1 CREATE_COMPLETE\n\
-        exit 0 Done\n";
-    let disk = disk_of(alloc, &[], 65_536)?;
-    let lanes = one_lane(alloc, Listing::new(alloc))?;
-    let first = run_line(alloc, "deploy app x", ONE, disk, lanes, wanted)?;
+    let disk = new_disk(alloc)?;
+    let lanes = one_lane(alloc, sound(alloc))?;
+    let first = run_line(alloc, "deploy app x", ONE, disk, lanes, ONE_MADE)?;
     assert!(rt; first.is_wanted);
     let mut lanes = Vec::new(alloc);
-    lanes.push(records(alloc, "f1")?)?;
+    lanes.push(records(alloc, "f1", sound(alloc))?)?;
     let missing = "exit 11 LaneMissing \"f1\"\n";
     let second = run_line(alloc, "deploy other x", ONE, first.disk, lanes, missing)?;
     assert!(rt; second.is_wanted);
     Ok(())
 }
 
-// Whether a deployment of two resources, of which the call of this number is broken, prints this; and then leaves the
-// stack in progress.
-fn stops(alloc: Global, call: u64, break_: Break, wanted: &str) -> Result<bool, NoMemory>
-    requires { IsTrue (may_break break_) }
-{
-    let disk = disk_of(alloc, &[], 65_536)?;
-    let lanes = broken_lane(alloc, call, break_)?;
-    let first = run_line(alloc, "deploy app x", TWO, disk, lanes, wanted)?;
-    let going = "stack app CREATE_IN_PROGRESS 1\nexit 0 Done\n";
-    let second = run_line(alloc, "describe app", TWO, first.disk, first.lanes, going)?;
-    let again = "exit 3 StackRefused WrongStatus CREATE_IN_PROGRESS\n";
-    let third = run_line(alloc, "deploy app x", TWO, second.disk, second.lanes, again)?;
-    Ok(first.is_wanted && second.is_wanted && third.is_wanted)
-}
-
-#[test]
-fn a_broken_creation_stops_the_run(rt: HostRuntime) -> Result<(), Fail> {
-    let alloc = rt.alloc();
-    let refused = Break::Refuse(Code::ServiceLimitExceeded);
-    let limit = "exit 15 Unrolled Handler \"B\" ServiceLimitExceeded\n";
-    assert!(rt; stops(alloc, 2, refused, limit)?);
-    let limit = "exit 15 Unrolled Handler \"A\" ServiceLimitExceeded\n";
-    assert!(rt; stops(alloc, 1, refused, limit)?);
-    for break_ in [Break::FaultBefore, Break::FaultAfter] {
-        assert!(rt; stops(alloc, 1, break_, "exit 15 Unrolled Handler \"A\" Fault\n")?);
-        assert!(rt; stops(alloc, 2, break_, "exit 15 Unrolled Handler \"B\" Fault\n")?);
-    }
-    Ok(())
+/// Whether a line over a template, a new disk and the lane `f1` prints this.
+fn prints(alloc: Global, line: &str, template: &str, wanted: &str) -> Result<bool, NoMemory> {
+    let disk = new_disk(alloc)?;
+    let lanes = one_lane(alloc, sound(alloc))?;
+    let ran = run_line(alloc, line, template, disk, lanes, wanted)?;
+    Ok(ran.is_wanted)
 }
 
 #[test]
@@ -309,23 +326,20 @@ fn words_and_templates_that_are_refused(rt: HostRuntime) -> Result<(), Fail> {
         ),
     ];
     for (line, template, wanted) in cases {
-        let disk = disk_of(alloc, &[], 65_536)?;
-        let lanes = one_lane(alloc, Listing::new(alloc))?;
-        let ran = run_line(alloc, line, template, disk, lanes, wanted)?;
-        assert!(rt; ran.is_wanted, "at {line}");
+        assert!(rt; prints(alloc, line, template, wanted)?, "at {line}");
     }
     Ok(())
 }
 
-// A sink that fails leaves the stack complete.
+/// A sink that fails leaves the stack complete.
 #[test]
 fn a_sink_that_fails_at_the_report(rt: HostRuntime) -> Result<(), Fail> {
     let alloc = rt.alloc();
     let words = words_of(alloc, "deploy app x")?;
     let mut library = library_of(alloc, ONE)?;
     let mut out = MemorySink::new(alloc, [1].as_slice())?;
-    let disk = disk_of(alloc, &[], 65_536)?;
-    let lanes = one_lane(alloc, Listing::new(alloc))?;
+    let disk = new_disk(alloc)?;
+    let lanes = one_lane(alloc, sound(alloc))?;
     let Ended { exit, disk, lanes } = cfstack(
         alloc,
         words.as_slice(),
@@ -336,18 +350,15 @@ fn a_sink_that_fails_at_the_report(rt: HostRuntime) -> Result<(), Fail> {
         lanes,
     );
     assert!(rt; exit == Exit::SinkFault);
-    let wanted = "stack app CREATE_COMPLETE 1\n\
-        resource Web Local::Files::File f1:1 CREATE_COMPLETE\n\
-        exit 0 Done\n";
-    let ran = run_line(alloc, "describe app", ONE, disk, lanes, wanted)?;
+    let ran = run_line(alloc, "describe app", ONE, disk, lanes, ONE_MADE)?;
     assert!(rt; ran.is_wanted);
     Ok(())
 }
 
-// Whether a run that is stopped behind so many calls of its disk leaves a stack that this is told of.
+/// Whether a run that is stopped behind so many calls of its disk leaves a stack that this is told of.
 fn is_left(alloc: Global, calls: u64, wanted: &str) -> Result<bool, NoMemory> {
-    let fuse = FuseDisk::new(disk_of(alloc, &[], 65_536)?, calls);
-    let lanes = one_lane(alloc, Listing::new(alloc))?;
+    let fuse = FuseDisk::new(new_disk(alloc)?, calls);
+    let lanes = one_lane(alloc, sound(alloc))?;
     let cut = "exit 7 DiskFault\n";
     let first = run_line(alloc, "deploy app x", ONE, fuse, lanes, cut)?;
     let disk = first.disk.into_disk();
@@ -355,7 +366,7 @@ fn is_left(alloc: Global, calls: u64, wanted: &str) -> Result<bool, NoMemory> {
     Ok(first.is_wanted && second.is_wanted)
 }
 
-// Opening a new journal takes 8 calls and each of the five entries 4; an entry stands from its third call on.
+/// Opening a new journal takes 8 calls and each of the five entries 4; an entry stands from its third call on.
 #[test]
 fn a_run_is_stopped_at_each_call_of_its_disk(rt: HostRuntime) -> Result<(), Fail> {
     let alloc = rt.alloc();
@@ -369,9 +380,38 @@ fn a_run_is_stopped_at_each_call_of_its_disk(rt: HostRuntime) -> Result<(), Fail
     for calls in 15..27 {
         assert!(rt; is_left(alloc, calls, going)?, "at {calls}");
     }
-    let complete = "stack app CREATE_COMPLETE 1\n\
-        resource Web Local::Files::File f1:1 CREATE_COMPLETE\n\
+    assert!(rt; is_left(alloc, 27, ONE_MADE)?);
+    Ok(())
+}
+
+/// Whether a deployment of two resources over a disk of this room prints this, and then leaves a stack of which this is
+/// told.
+fn is_full(alloc: Global, room: u64, wanted: &str, left: &str) -> Result<bool, NoMemory>
+    requires least { 16 ≤ room }
+    requires most { room ≤ 2 ^ 32 }
+{
+    let disk = disk_of(alloc, &[], room)?;
+    let lanes = one_lane(alloc, sound(alloc))?;
+    let first = run_line(alloc, "deploy app x", TWO, disk, lanes, wanted)?;
+    let line = "describe app";
+    let second = run_line(alloc, line, TWO, first.disk, first.lanes, left)?;
+    Ok(first.is_wanted && second.is_wanted)
+}
+
+/// The opening needs 46 bytes, the beginning 216, the intents 91 and the outcomes 116 each, and the end 19.
+#[test]
+fn a_journal_that_is_full(rt: HostRuntime) -> Result<(), Fail> {
+    let alloc = rt.alloc();
+    let none = "exit 3 StackRefused NoStack\n";
+    assert!(rt; is_full(alloc, 271, "exit 14 Full 56 216 271\n", none)?);
+    let going = "stack app CREATE_IN_PROGRESS 1\nexit 0 Done\n";
+    assert!(rt; is_full(alloc, 272, "exit 14 Full 272 91 272\n", going)?);
+    assert!(rt; is_full(alloc, 478, "exit 14 Full 363 116 478\n", going)?);
+    assert!(rt; is_full(alloc, 704, "exit 14 Full 686 19 704\n", going)?);
+    let made = "stack app CREATE_COMPLETE 1\n\
+        resource A Local::Files::File f1:1 CREATE_COMPLETE\n\
+        resource B Local::Files::File f1:2 CREATE_COMPLETE\n\
         exit 0 Done\n";
-    assert!(rt; is_left(alloc, 27, complete)?);
+    assert!(rt; is_full(alloc, 705, made, made)?);
     Ok(())
 }

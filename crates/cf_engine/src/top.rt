@@ -1,19 +1,17 @@
 //! The top calls.
 ghost use Rattle.std.specs.Prelude.{◌≡◌, ◌≤◌, ◌^◌, IfOk, IsTrue, map, false};
 ghost use Rattle.cf_journal.specs.Record.{Keeps};
-ghost use Rattle.cf_engine.specs.Lanes.{kinds_of};
-ghost use Rattle.cf_engine.specs.Alone.{AloneTells, IsAnswered, LastsWhereDone, deploy_words};
-ghost use Rattle.cf_engine.specs.Words.{command_of};
+ghost use Rattle.cf_engine.specs.Alone.{AloneTells, IsAnswered, LastsWhereOver, deploy_words};
+ghost use Rattle.cf_face.specs.Words.{command_of};
 ghost use Rattle.cf_engine.specs.Answer.{AnswerTells, is_asking, RanAs};
 
-use crate::exit::Exit;
-use crate::meeting::{deploy_on, describe_on};
-use crate::print::print_exit;
+use crate::meeting::deploy_on;
+use crate::opening::open;
 use crate::schemas::schemas_of;
-use crate::telling::tell;
+use crate::telling::{describe, tell_over};
 use crate::validation::validate;
-use crate::words::{Choice, Command, read_words};
 use cf_disk::Disk;
+use cf_face::{Choice, Command, Exit, print_exit, read_words};
 use cf_handler::Handler;
 use cf_io::{Library, Sink};
 use cf_schema::Schemas;
@@ -59,7 +57,7 @@ fn run_words<L: Library, K: Sink, D: Disk, H: Handler>(
     ensures names { map H.label lanes.new.items ≡ map H.label lanes.old.items }
     ensures schemas { map H.schema_of lanes.new.items ≡ map H.schema_of lanes.old.items }
     ensures room { D.room_of disk.new ≡ D.room_of disk.old }
-    ensures lasts { LastsWhereDone result D.tells (D.seen disk.new) (D.may_leave disk.new) }
+    ensures lasts { LastsWhereOver result D.tells (D.seen disk.new) (D.may_leave disk.new) }
     ensures tells { AloneTells (record {
       shelf = record {
         texts = L.texts library.old;
@@ -69,7 +67,7 @@ fn run_words<L: Library, K: Sink, D: Disk, H: Handler>(
         misses' = L.missed library.new;
       };
       names = map H.label lanes.old.items;
-      kinds = kinds_of (map H.schema_of lanes.old.items);
+      schemas = map H.schema_of lanes.old.items;
       told = map H.told lanes.old.items;
       told' = map H.told lanes.new.items;
       counts = map H.count lanes.old.items;
@@ -86,8 +84,10 @@ fn run_words<L: Library, K: Sink, D: Disk, H: Handler>(
 {
     match read_deployment(alloc, words) {
         Ok(Some((stack, choice))) => {
-            let outcome = deploy_on(alloc, library, disk, lanes, &stack, &choice);
-            tell(alloc, out, &stack, outcome)
+            match deploy_on(alloc, library, disk, lanes, &stack, &choice) {
+                Ok(book) => tell_over(alloc, out, &stack, &book),
+                Err(exit) => print_exit(alloc, out, exit),
+            }
         }
         Ok(None) => print_exit(alloc, out, Exit::BadWords),
         Err(NoMemory) => print_exit(alloc, out, Exit::NoMemory),
@@ -97,26 +97,29 @@ fn run_words<L: Library, K: Sink, D: Disk, H: Handler>(
 /// Does what the words say over a library of templates, a disk with a journal and lanes of resources, prints its report
 /// and answers its exit. The disk and the lanes come back, the lanes in their order.
 ///
-/// `deploy STACK TEMPLATE NAME=VALUE ..` binds the parameters of the template that the library holds under its name,
-/// decides its conditions, and makes the resources whose condition is not false, with their properties evaluated, in the
-/// byte order of their names, each in the first lane of its type. Its journal gets an opening with the lanes, a beginning
-/// with the template and what is given, an intent before and an outcome after each call, and an end. It prints the stack
-/// that the journal then leaves, with its parameters and the physical ids, and the exit; every other end prints the line
-/// of its exit alone.
+/// `deploy STACK TEMPLATE NAME=VALUE ..` creates the stack from the template that the library holds under its name, with
+/// these values for its parameters. Each resource is made once all that it needs is made, with its properties evaluated
+/// over the ids and attributes that are there by then, in the first lane of its type. Where a call is refused, or breaks
+/// off, or what the template asks for can't be worked out, all that was made is deleted again. The journal gets an opening
+/// with the lanes, a beginning with the template and what is given, an intent before and an outcome after each call, and an
+/// end. It prints the stack that the journal then leaves, and the exit; every other end prints the line of its exit alone.
 ///
-/// The order is: `BadWords` where the words are no such command; the disk is read, `DiskFault` and `NotAJournal`;
-/// `LaneTwice` where two lanes have one name; `LaneMissing` where a resource or an open token is of a lane that is not
-/// handed in; the opening is written, `Full` and `DiskFault`; `WrongStatus` where there
-/// is a stack of the name; `LibraryFault`; `TemplateRefused`: the library holds none, it can't be read, it holds what is
-/// not made yet, its parameters are not bound, a condition or a property has no value, a type has no lane; then the
-/// beginning, the calls and the end. `Unrolled` names
-/// the resource that was refused or is in doubt: those before it are live, and the operation is in progress. `SinkFault`
-/// comes where the report could not be printed, whatever was done. After `Full`, `DiskFault`, `NoMemory` and `SinkFault`
-/// some resources may be live. After each answer the disk has the entries that it had and then the first of those that
-/// the calls made; behind a call that was no success there is none. The lanes keep their names and types, the library
-/// its texts and the disk its room.
+/// The order is: `BadWords` where the words are no such command; the disk is read, `DiskFault`, `NotAJournal`, and `NotYet`
+/// without a name where the journal holds a nested stack; `LaneTwice` where two lanes have one name; `LaneMissing` where a
+/// resource or an open call is of a lane that is not handed in; the opening is written, `Full` and `DiskFault`;
+/// `WrongStatus` where there is a stack of the name that is neither deleted nor under review; `LibraryFault`;
+/// `TemplateRefused`: the library holds none, it can't be read, it holds what is not made yet, its plan has a flaw, a type
+/// has no lane; then the beginning, the calls and the end. `Done` comes where the stack is CREATE_COMPLETE, `RolledBack`
+/// where it is ROLLBACK_COMPLETE, with the cause for which it turned back, and `Failed` where it is ROLLBACK_FAILED, with
+/// the paths whose calls failed. A handler is such a cause only where a call at its path was refused or broke off and the
+/// count of the lane rose. So it is with each of the paths, and there is one at least, where each entry of the journal with
+/// its opening could follow those before it, every lane tells its state, and no token to come is settled. `SinkFault` comes
+/// where the report could not be printed, whatever was done. After `Full`, `DiskFault`, `NoMemory` and `SinkFault` the
+/// operation may be in progress. After each answer the disk has the entries that it had and then those of the operation,
+/// each of which followed in its turn. The lanes keep their names and types, the library its texts and the disk its room.
 ///
-/// After `Done` a crash leaves the journal as it is. The room of the disk is from 16 to 4,294,967,296 bytes.
+/// After `Done`, `RolledBack` and `Failed` a crash leaves the journal as it is. The room of the disk is from 16 to
+/// 4,294,967,296 bytes.
 pub fn alone<L: Library, K: Sink, D: Disk, H: Handler>(
     alloc: Global,
     words: &[Txt],
@@ -131,7 +134,7 @@ pub fn alone<L: Library, K: Sink, D: Disk, H: Handler>(
     ensures names { map H.label result.lanes.items ≡ map H.label lanes.items }
     ensures schemas { map H.schema_of result.lanes.items ≡ map H.schema_of lanes.items }
     ensures room { D.room_of result.disk ≡ D.room_of disk }
-    ensures lasts { LastsWhereDone result.exit D.tells (D.seen result.disk) (D.may_leave result.disk) }
+    ensures lasts { LastsWhereOver result.exit D.tells (D.seen result.disk) (D.may_leave result.disk) }
     ensures answered { IsAnswered (record {
       shelf = record {
         texts = L.texts library.old;
@@ -141,7 +144,7 @@ pub fn alone<L: Library, K: Sink, D: Disk, H: Handler>(
         misses' = L.missed library.new;
       };
       names = map H.label lanes.items;
-      kinds = kinds_of (map H.schema_of lanes.items);
+      schemas = map H.schema_of lanes.items;
       told = map H.told lanes.items;
       told' = map H.told result.lanes.items;
       counts = map H.count lanes.items;
@@ -169,8 +172,8 @@ pub fn alone<L: Library, K: Sink, D: Disk, H: Handler>(
 /// their physical ids; it asks nothing of the library. `validate TEMPLATE` reads the template that the library holds under
 /// its name, and asks nothing of the disk.
 ///
-/// `BadWords` comes where the words are no such command. Of a description then come `DiskFault` and `NotAJournal` as the
-/// disk is read, and `NoStack` where no stack has the name; of a validation `LibraryFault`, and `TemplateRefused` where
+/// `BadWords` comes where the words are no such command. Of a description then come `DiskFault`, `NotAJournal` and `NotYet`
+/// as the disk is read, and `NoStack` where no stack has the name; of a validation `LibraryFault`, and `TemplateRefused` where
 /// the library holds none or it can't be read. No entry is written: after each answer the disk has the entries that it
 /// had, and bytes that are no journal are as they were. The room of the disk is from 16 to 4,294,967,296 bytes.
 pub fn answer<L: Library, K: Sink, D: Disk>(
@@ -202,8 +205,10 @@ pub fn answer<L: Library, K: Sink, D: Disk>(
             print_exit(alloc, out, exit)
         }
         Ok(Some(Command::Describe { stack })) => {
-            let outcome = describe_on(alloc, disk, &stack);
-            tell(alloc, out, &stack, outcome)
+            match open(alloc, disk) {
+                Ok(book) => describe(alloc, out, &stack, &book),
+                Err(exit) => print_exit(alloc, out, exit),
+            }
         }
         Ok(
             Some(
@@ -246,7 +251,7 @@ pub fn cfstack<L: Library, K: Sink, D: Disk + Send, H: Handler + Send>(
     ensures names { map H.label result.lanes.items ≡ map H.label lanes.items }
     ensures schemas { map H.schema_of result.lanes.items ≡ map H.schema_of lanes.items }
     ensures room { D.room_of result.disk ≡ D.room_of disk }
-    ensures lasts { is_asking (command_of words.now) ≡ false → LastsWhereDone result.exit D.tells (D.seen result.disk) (D.may_leave result.disk) }
+    ensures lasts { is_asking (command_of words.now) ≡ false → LastsWhereOver result.exit D.tells (D.seen result.disk) (D.may_leave result.disk) }
     ensures answered { RanAs (record {
       shelf = record {
         texts = L.texts library.old;
@@ -256,7 +261,7 @@ pub fn cfstack<L: Library, K: Sink, D: Disk + Send, H: Handler + Send>(
         misses' = L.missed library.new;
       };
       names = map H.label lanes.items;
-      kinds = kinds_of (map H.schema_of lanes.items);
+      schemas = map H.schema_of lanes.items;
       told = map H.told lanes.items;
       told' = map H.told result.lanes.items;
       counts = map H.count lanes.items;

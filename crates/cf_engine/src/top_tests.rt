@@ -1,15 +1,14 @@
 //! The top calls called directly: their exits, and what comes back.
 ghost use Rattle.std.specs.Prelude.{◌≤◌, length};
 
-use crate::exit::{Exit, StackFault};
-use crate::tests::{ONE, disk_of, files, library_of, one_lane, records, run_line, words_of};
+use crate::tests::{ONE, disk_of, files, library_of, one_lane, records, run_line, sound, words_of};
 use crate::top::{Ended, alone, answer};
-use cf_disk::MemoryDisk;
+use cf_face::{Exit, StackFault};
 use cf_fake::MemoryHandler;
 use cf_handler::Handler;
 use cf_io::MemorySink;
 use cf_schema::Schemas;
-use cf_tree::{Listing, NoMemory};
+use cf_tree::NoMemory;
 use std::alloc::Global;
 use std::test::Fail;
 
@@ -21,7 +20,7 @@ fn alone_ends(alloc: Global, line: &str, bytes: &[u8]) -> Result<Exit, NoMemory>
     let mut library = library_of(alloc, ONE)?;
     let mut out = MemorySink::new(alloc, [].as_slice())?;
     let disk = disk_of(alloc, bytes, 65_536)?;
-    let lanes = one_lane(alloc, Listing::new(alloc))?;
+    let lanes = one_lane(alloc, sound(alloc))?;
     let Ended {
         exit,
         disk: _,
@@ -68,7 +67,7 @@ fn exits_of_the_two_top_calls(rt: HostRuntime) -> Result<(), Fail> {
 // Whether a command leaves a disk that holds no journal as it was, and prints so.
 fn keeps(alloc: Global, line: &str) -> Result<bool, NoMemory> {
     let disk = disk_of(alloc, b"hello world", 65_536)?;
-    let lanes = one_lane(alloc, Listing::new(alloc))?;
+    let lanes = one_lane(alloc, sound(alloc))?;
     let ran = run_line(alloc, line, ONE, disk, lanes, "exit 10 NotAJournal 1\n")?;
     Ok(ran.is_wanted && ran.disk.bytes() == b"hello world".as_slice())
 }
@@ -101,9 +100,9 @@ fn all_lanes_come_back_in_their_order(rt: HostRuntime) -> Result<(), Fail> {
         resource Web Local::Files::File f2:1 CREATE_COMPLETE\n\
         exit 0 Done\n";
     let mut lanes = Vec::new(alloc);
-    lanes.push(records(alloc, "r1")?)?;
-    lanes.push(files(alloc, "f2", Listing::new(alloc))?)?;
-    lanes.push(files(alloc, "f1", Listing::new(alloc))?)?;
+    lanes.push(records(alloc, "r1", sound(alloc))?)?;
+    lanes.push(files(alloc, "f2", sound(alloc))?)?;
+    lanes.push(files(alloc, "f1", sound(alloc))?)?;
     let disk = disk_of(alloc, &[], 65_536)?;
     let ran = run_line(alloc, "deploy app x", ONE, disk, lanes, wanted)?;
     assert!(rt; ran.is_wanted);
@@ -130,7 +129,7 @@ fn resources_are_made_in_the_order_of_their_names(rt: HostRuntime) -> Result<(),
         resource C Local::Files::File f1:3 CREATE_COMPLETE\n\
         exit 0 Done\n";
     let disk = disk_of(alloc, &[], 65_536)?;
-    let lanes = one_lane(alloc, Listing::new(alloc))?;
+    let lanes = one_lane(alloc, sound(alloc))?;
     let ran = run_line(alloc, "deploy app x", THREE, disk, lanes, wanted)?;
     assert!(rt; ran.is_wanted);
     Ok(())

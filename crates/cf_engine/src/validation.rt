@@ -2,8 +2,8 @@
 ghost use Rattle.std.specs.Prelude.{◌≡◌, ◌≤◌};
 ghost use Rattle.cf_engine.specs.Answer.{Validates};
 
-use crate::exit::Exit;
 use crate::refusals::{missing, unread};
+use cf_face::Exit;
 use cf_io::{FetchFault, Library};
 use cf_template::read_template;
 use cf_tree::Txt;

@@ -1,10 +1,7 @@
 use Rattle.std.proofs.Common.{◌≡◌, drop}
 use Rattle.std.specs.List.{list_any}
-use Rattle.cf_tree.specs.Keys.{value_at}
 use Rattle.cf_engine.specs.NotYet.{is_late}
 use Rattle.cf_engine.proofs.not_yet.any_late.Given as goal
 
 abbrev pub invariant-loop-resource : goal.invariant-loop-resource
-invariant-loop-resource l =
-    list_any (is_late (λ name. value_at name l.standing)) l.resource-items
-    ≡ list_any (is_late (λ name. value_at name l.standing)) (drop l.resource-index l.resource-items)
+invariant-loop-resource l = list_any is_late l.resource-items ≡ list_any is_late (drop l.resource-index l.resource-items)

@@ -1,5 +1,5 @@
-use Rattle.std.proofs.Common.{map}
-use Rattle.cf_engine.specs.Lanes.{kinds_of}
+use Rattle.std.proofs.Common.{map, sym, ◌∙◌}
+use Rattle.std.proofs.lemmas.List.{length-map}
 use Rattle.cf_engine.proofs.Lines.{answers_of}
 use Rattle.cf_engine.proofs.top.alone.Goals as goal
 
@@ -15,7 +15,7 @@ returns-clause-answered g c =
         misses' = g.L.Library.missed c.run_words-exit.new.library;
       };
       names = map g.H.Handler.label c.args.lanes.items;
-      kinds = kinds_of (map g.H.Handler.schema_of c.args.lanes.items);
+      schemas = map g.H.Handler.schema_of c.args.lanes.items;
       told = map g.H.Handler.told c.args.lanes.items;
       told' = map g.H.Handler.told c.run_words-exit.new.lanes.items;
       counts = map g.H.Handler.count c.args.lanes.items;
@@ -33,4 +33,5 @@ returns-clause-answered g c =
       faults = g.K.Sink.count c.args.out.now;
       faults' = g.K.Sink.count c.run_words-exit.new.out;
     })
-    c.args.words.now c.run_words-exit.result c.run_words-exit.ensures.tells
+    c.args.words.now c.run_words-exit.result (length-map c.args.lanes.items g.H.Handler.schema_of ∙ sym (length-map c.args.lanes.items g.H.Handler.label), length-map c.args.lanes.items g.H.Handler.told ∙ sym (length-map c.args.lanes.items g.H.Handler.label))
+    c.run_words-exit.ensures.tells
