@@ -16,8 +16,6 @@ mod refusal;
 mod seen;
 mod templates;
 mod terms;
-#[cfg(test)]
-mod tests;
 mod told;
 mod wanted;
 mod whole_plan;

@@ -16,6 +16,3 @@ pub use size::entry_size;
 pub use status::Status;
 pub use take::entry::read_entry;
 pub use turn::{Cause, Phase, Reason, Why};
-
-#[cfg(test)]
-mod tests;

@@ -11,6 +11,3 @@ mod table;
 pub use memory::MemoryHandler;
 pub use plan::Plan;
 pub use planned::{Break, Planned};
-
-#[cfg(test)]
-mod tests;

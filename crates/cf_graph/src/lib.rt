@@ -9,8 +9,6 @@ mod mentions;
 mod needs;
 mod notes;
 mod sequence;
-#[cfg(test)]
-mod tests;
 mod unknown;
 
 pub use fault::GraphFault;

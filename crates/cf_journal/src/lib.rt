@@ -11,6 +11,3 @@ mod reading;
 pub use faults::{AppendFault, RecoverFault};
 pub use journal::Journal;
 pub use reading::recover;
-
-#[cfg(test)]
-mod tests;

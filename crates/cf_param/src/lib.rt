@@ -6,8 +6,6 @@ mod constraints;
 mod fault;
 mod offered;
 mod patterns;
-#[cfg(test)]
-mod tests;
 
 pub use binding::bind;
 pub use fault::BindFault;

@@ -22,10 +22,3 @@ mod words;
 pub use refusal::TemplateFault;
 pub use subs::{SubFault, sub_parts};
 pub use whole::read_template;
-
-#[cfg(test)]
-mod hole_tests;
-#[cfg(test)]
-mod refusal_tests;
-#[cfg(test)]
-mod section_tests;

@@ -2,7 +2,7 @@
 ghost use Rattle.std.specs.Prelude.{IsTrue};
 ghost use Rattle.cf_fake.specs.Refusable.{may_break};
 
-use crate::{Break, MemoryHandler, Plan, Planned};
+use cf_fake::{Break, MemoryHandler, Plan, Planned};
 use cf_handler::{Handler, file_schema, record_schema};
 use cf_tree::{Answer, Code, Dict, Listing, NoMemory, Request, Txt, Val};
 use std::alloc::{AllocError, Global};

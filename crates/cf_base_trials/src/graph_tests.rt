@@ -1,5 +1,5 @@
 //! Orders of work and refusals, with expected values worked out from the rules.
-use crate::{GraphFault, Needs, order};
+use cf_graph::{GraphFault, Needs, order};
 use cf_tree::{
     ByName, CondMap, Expr, ExprDict, ExprNode, Kind, Listing, Names, Param, Part, Parts, Res,
     Template, Txt, Val, Verdict,

@@ -1,5 +1,5 @@
 //! Texts with holes: their parts, and the bad holes.
-use crate::{SubFault, sub_parts};
+use cf_template::{SubFault, sub_parts};
 use cf_tree::Part;
 use std::alloc::Global;
 use std::test::Fail;

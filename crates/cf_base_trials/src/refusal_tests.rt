@@ -1,5 +1,5 @@
 //! Whole templates: what is read, and every refusal with its place.
-use crate::{TemplateFault, read_template};
+use cf_template::{TemplateFault, read_template};
 use std::alloc::Global;
 use std::process::Abort;
 use std::test::Fail;

@@ -1,5 +1,5 @@
 //! What a template holds once it is read.
-use crate::read_template;
+use cf_template::read_template;
 use cf_tree::{
     CondNode, Deletion, Expr, ExprNode, Kind, Out, Param, Replace, Res, Template, Txt, Val,
 };

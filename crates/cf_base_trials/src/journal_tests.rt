@@ -3,9 +3,9 @@ ghost use Rattle.std.specs.Prelude.{◌≡◌, ◌≤◌, ◌^◌, length};
 ghost use Rattle.cf_disk.specs.Memory.{memory_room};
 ghost use Rattle.cf_entry.specs.Entry.{IsProper};
 
-use crate::{AppendFault, RecoverFault, recover};
 use cf_disk::{Disk, FuseDisk, MemoryDisk};
 use cf_entry::{Entry, LaneNames, entry_size};
+use cf_journal::{AppendFault, RecoverFault, recover};
 use cf_tree::{NoMemory, Txt};
 use std::alloc::{AllocError, Global};
 use std::test::Fail;

@@ -1,5 +1,5 @@
 //! Plans of templates, with expected values worked out by hand from the rules.
-use crate::{
+use cf_desired::{
     DesiredFault, Evaluated, Exporting, Flaw, Plan, Seen, SeenAt, Wanted, WantedOutput, WholePlan,
     desired, export_names, is_flat_source, plan, templates_of, terms_at, whole,
 };

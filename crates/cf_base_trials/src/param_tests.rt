@@ -1,5 +1,5 @@
 //! Bindings with expected values taken from the rules.
-use crate::{BindFault, Given, Piece, bind};
+use cf_param::{BindFault, Given, Piece, bind};
 use cf_tree::{Bound, ByName, Kind, Listing, Names, Param, Setting, Template, Txt, Val};
 use std::alloc::{AllocError, Global};
 use std::test::Fail;

@@ -1,5 +1,5 @@
 //! Each call once, on bytes that were put together by hand from the format.
-use crate::*;
+use cf_entry::*;
 use cf_tree::{Code, Request, Val};
 use std::alloc::Global;
 use std::test::Fail;
