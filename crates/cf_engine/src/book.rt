@@ -3,7 +3,7 @@ ghost use Rattle.std.specs.Prelude.{◌≡◌, ◌≤◌, ◌<◌, OnOk, length,
 ghost use Rattle.cf_tree.specs.SizeOf.{capped};
 ghost use Rattle.cf_entry.specs.Entry.{IsProper, spelling_of};
 ghost use Rattle.cf_stacks.specs.Changing.{IsFlatEntry};
-ghost use Rattle.cf_stacks.specs.Fold.{world_after};
+ghost use Rattle.cf_stacks.specs.Room.{HasRoom};
 ghost use Rattle.cf_journal.specs.Record.{Stands, spare_of};
 ghost use Rattle.cf_engine.specs.Book.{IsOpen, Holds, AppendTells, world_of};
 
@@ -11,6 +11,7 @@ use cf_disk::Disk;
 use cf_entry::{Entry, entry_size};
 use cf_journal::{AppendFault, Journal};
 use cf_stacks::{StepFault, World};
+use cf_tree::TryClone;
 use std::alloc::Global;
 
 /// A journal that is open for more entries, with those that it has.
@@ -51,13 +52,14 @@ pub fn append<D: Disk>(
     ensures count { D.count disk.old ≤ D.count disk.new }
     ensures tells { AppendTells D.tells (D.seen disk.new) (D.room_of disk.old) (D.count disk.old) (D.count disk.new) book.old.entries.items book.new.entries.items entry result }
 {
-    // The world is stepped first, so that want of memory leaves the disk as it was.
-    match book.world.step(alloc, &entry) {
+    // All memory is taken first, so that want of it leaves the disk as it was.
+    match book.world.room_for(alloc, &entry) {
         Ok(()) => match (
+            entry.try_clone(alloc),
             book.entries.reserve(1),
             book.journal.reserve(entry_size(&entry)),
         ) {
-            (Ok(()), Ok(())) => write(book, disk, entry),
+            (Ok(copy), Ok(()), Ok(())) => write(book, disk, entry, copy),
             _ => Err(Halt::NoMemory),
         },
         Err(StepFault::NoMemory) => Err(Halt::NoMemory),
@@ -65,13 +67,15 @@ pub fn append<D: Disk>(
     }
 }
 
-/// Appends an entry for which there is memory, over which the world is stepped already.
+/// Appends an entry for which there is memory and room in the world; with a copy of it for the book.
 #[tactic(auto, using(crate::proofs::Books::world_more))]
-fn write<D: Disk>(book: &mut Book, disk: &mut D, entry: Entry) -> Result<(), Halt>
+fn write<D: Disk>(book: &mut Book, disk: &mut D, entry: Entry, copy: Entry) -> Result<(), Halt>
     requires stands { Stands D.tells D.seen D.may_leave D.room_of book.old.journal disk.old }
     requires holds { Holds D.tells (D.seen disk.old) book.old.entries.items }
-    requires stepped { book.old.world ≡ world_after (world_of book.old.entries.items) entry }
+    requires world { book.old.world ≡ record (world_of book.old.entries.items) { ready = book.old.world.ready } }
+    requires stepped { HasRoom book.old.world entry }
     requires proper { IsProper entry }
+    requires copied { copy ≡ entry }
     requires memory { vec_len book.old.entries < vec_capacity book.old.entries }
     requires spare { capped (length (spelling_of entry)) ≤ spare_of book.old.journal }
     ensures open { OnOk result (IsOpen D.tells D.seen D.may_leave D.room_of book.new disk.new) }
@@ -81,7 +85,8 @@ fn write<D: Disk>(book: &mut Book, disk: &mut D, entry: Entry) -> Result<(), Hal
 {
     match book.journal.append(disk, &entry) {
         Ok(()) => {
-            book.entries.push_reserved(entry);
+            book.entries.push_reserved(copy);
+            book.world.step(entry);
             Ok(())
         }
         Err(AppendFault::Full { length, need, room }) => Err(Halt::Full { length, need, room }),

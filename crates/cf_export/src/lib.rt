@@ -6,7 +6,8 @@ ghost use Rattle.std.specs.List.{list_any};
 ghost use Rattle.std.specs.Str.{bytes_eq};
 ghost use Rattle.cf_export.specs.Export.{holds_name, pins_name};
 
-use cf_tree::{Listing, Txt};
+use cf_tree::{Listing, TryClone, Txt};
+use std::alloc::{AllocError, Global};
 
 /// An exported output of a stack (User Guide, exporting stack output values): its name is that of one stack alone.
 #[derive(Drop, PartialEq, Eq)]
@@ -54,4 +55,34 @@ pub fn pinned(pins: &Pins, name: &Txt, except: &Txt) -> bool
     pins.as_slice()
         .iter()
         .any(|pin| pin.name == *name && pin.stack != *except)
+}
+
+impl TryClone for Export {
+    fn try_clone(&self, alloc: Global) -> Result<Export, AllocError> {
+        let name = self.name.try_clone(alloc)?;
+        let value = self.value.try_clone(alloc)?;
+        let stack = self.stack.try_clone(alloc)?;
+        Ok(Export { name, value, stack })
+    }
+}
+
+impl TryClone for Pin {
+    fn try_clone(&self, alloc: Global) -> Result<Pin, AllocError> {
+        let stack = self.stack.try_clone(alloc)?;
+        let name = self.name.try_clone(alloc)?;
+        Ok(Pin { stack, name })
+    }
+}
+
+impl TryClone for Output {
+    fn try_clone(&self, alloc: Global) -> Result<Output, AllocError> {
+        let name = self.name.try_clone(alloc)?;
+        let value = self.value.try_clone(alloc)?;
+        let export = self.export.try_clone(alloc)?;
+        Ok(Output {
+            name,
+            value,
+            export,
+        })
+    }
 }

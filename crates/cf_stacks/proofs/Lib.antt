@@ -4,3 +4,4 @@ pub mod Putting
 pub mod Over
 pub mod Folding
 pub mod Termed
+pub mod Bare

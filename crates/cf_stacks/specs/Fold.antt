@@ -51,7 +51,7 @@ use Rattle.cf_stacks.specs.Operation.{calls_in, rollback_of}
 
 -- the empty world, and a stack of which nothing is known
 abbrev pub empty_world : World
-empty_world = record { stacks = []; exports = []; pins = []; claims = []; lanes = []; epoch = 0; operation = 0; set = 0; token = 0; place = 0 }
+empty_world = record { stacks = []; exports = []; pins = []; claims = []; lanes = []; epoch = 0; operation = 0; set = 0; token = 0; place = 0; ready = None }
 
 abbrev pub no_stack : StackState
 no_stack = record {
@@ -433,9 +433,13 @@ exports_turned name _ s exports = exports
 abbrev pub on_stack : ℕ → ℕ → Entry → (StackState → StackState) → World → World
 on_stack place number e change x = record x { stacks = where_going number (λ s. heard place e s (change s)) x.stacks }
 
--- the entry counts, whichever stack it is of and also where it is of none
+-- no room is made for an entry
+abbrev pub bare : World → World
+bare x = record x { ready = None }
+
+-- the entry counts, whichever stack it is of and also where it is of none; room that was made is used up
 abbrev pub counted : World → World
-counted x = record x { place = x.place + 1 }
+counted x = record x { place = x.place + 1; ready = None }
 
 abbrev pub phase_over : List ℕ → Phase → StackState → World → World
 phase_over name p s x = record x { pins = pins_turned name p s x.pins; exports = exports_turned name p s x.exports }

@@ -4,3 +4,4 @@ pub mod Operation
 pub mod Event
 pub mod Fold
 pub mod Changing
+pub mod Room

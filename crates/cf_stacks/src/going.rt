@@ -13,24 +13,33 @@ use cf_export::Outputs;
 use cf_tree::{Listing, Names, Source, Templates, TryClone, Txt};
 use std::alloc::{AllocError, Global};
 use std::marker::Model;
+use std::sync::Arc;
 
-/// A source with its templates, which are read once. Its root template holds no nested stack.
+/// A source with its templates.
 #[derive(Drop)]
-pub struct Going {
+struct Read {
     source: Source,
     templates: Templates,
+}
+
+/// A source with its templates, which are read once and shared by its copies. Its root template
+/// holds no nested stack.
+#[derive(Drop)]
+pub struct Going {
+    read: Arc<Read>,
 }
 
 impl Model for Going {
     ghost use Rattle.std.specs.Prelude.{◌≡◌};
     ghost use Rattle.cf_tree.specs.declared.source.Source.{Source};
     ghost use Rattle.cf_desired.specs.Templates.{IsFlat, templates_of};
+    ghost use Rattle.std.specs.Arc.{arc_value};
 
     ghost Value = { Source };
 
-    ghost view = { λ g. g.source };
+    ghost view = { λ g. (arc_value g.read).source };
 
-    ghost invariant = { λ g. IsFlat g.source × (g.templates ≡ templates_of g.source) };
+    ghost invariant = { λ g. IsFlat (arc_value g.read).source × ((arc_value g.read).templates ≡ templates_of (arc_value g.read).source) };
 }
 
 impl Going {
@@ -44,7 +53,8 @@ impl Going {
     {
         let templates = templates_of(alloc, &source)?;
         if is_flat_source(&source, &templates) {
-            Ok(Going { source, templates })
+            let read = Arc::new(alloc, Read { source, templates })?;
+            Ok(Going { read })
         } else {
             Err(StepFault::Nested)
         }
@@ -54,14 +64,14 @@ impl Going {
     pub fn source(&self) -> &Source
         ensures { result.now ≡ self.now }
     {
-        &self.source
+        &self.read.source
     }
 
     /// What it wants, over what is seen.
     pub fn plan(&self, alloc: Global, seen: &Seen) -> Result<Plan, AllocError>
         ensures { IfOk result (λ plan. plan ≡ plan_of self.now seen.now) }
     {
-        plan(alloc, &self.source, &self.templates, seen)
+        plan(alloc, &self.read.source, &self.read.templates, seen)
     }
 
     /// The policies and needs that it gives a path; they don't rest on what is seen.
@@ -69,7 +79,7 @@ impl Going {
     pub fn terms(&self, alloc: Global, path: &Txt) -> Result<Terms, AllocError>
         ensures { IfOk result (λ terms. (seen : Seen) → terms ≡ terms_of (wanted_at path.now (plan_of self.now seen))) }
     {
-        match terms_at(alloc, &self.source, &self.templates, path)? {
+        match terms_at(alloc, &self.read.source, &self.read.templates, path)? {
             Some(terms) => Ok(Terms {
                 needs: terms.needs,
                 deletion: terms.deletion,
@@ -96,6 +106,13 @@ impl Going {
     {
         let plan = self.plan(alloc, seen)?;
         names_in(alloc, &plan)
+    }
+}
+
+impl TryClone for Going {
+    fn try_clone(&self, _alloc: Global) -> Result<Going, AllocError> {
+        let read = self.read.clone()?;
+        Ok(Going { read })
     }
 }
 

@@ -6,6 +6,7 @@ mod beginning;
 mod begun;
 mod changes;
 mod completing;
+mod copies;
 mod ending;
 mod events;
 mod fault;
@@ -14,6 +15,7 @@ mod held;
 mod outcomes;
 mod own;
 mod pinned;
+mod room;
 mod seen;
 mod state;
 mod statuses;
@@ -29,6 +31,7 @@ pub use held::{
     Abandoned, GivenUp, Held, HeldStatus, Helds, KeptSet, KeptSets, Leftover, Leftovers, Pending,
     Pendings,
 };
+pub use room::Ready;
 pub use seen::{seen_in, seen_now};
 pub use state::{StackState, Stacks, World};
 pub use terms::Terms;

@@ -4,6 +4,7 @@ ghost use Rattle.std.specs.Option.{option_copied};
 
 use crate::going::Going;
 use crate::held::{Abandoned, Helds, KeptSets, Leftovers, Pendings};
+use crate::room::Ready;
 use cf_entry::{Entries, LaneNames, Status};
 use cf_export::{Exports, Outputs, Pins};
 use cf_tree::{ByName, Names, Source};
@@ -57,6 +58,8 @@ pub struct World {
     pub token: u64,
     /// How many entries there were.
     pub place: u64,
+    /// The room for the next entry, where it was made.
+    pub ready: Option<Ready>,
 }
 
 impl World {

@@ -111,6 +111,7 @@ impl World {
             set: 0,
             token: 0,
             place: 0,
+            ready: None,
         }
     }
 
@@ -257,15 +258,14 @@ impl World {
         Ok(())
     }
 
-    /// The world after one more entry.
+    /// The world after one more entry, whatever room was made. After an error nothing is said of the world.
     ///
     /// # Errors
     ///
     /// `Nested` comes exactly where the entry begins a creation or an update by a source whose root
     /// template holds a nested stack; `NoMemory` also where the number of entries passes 64 bits.
-    /// After an error nothing is said of the world.
     #[tactic(auto, using(crate::proofs::Over::place_kept))]
-    pub fn step(&mut self, alloc: Global, entry: &Entry) -> Result<(), StepFault>
+    pub(crate) fn advance(&mut self, alloc: Global, entry: &Entry) -> Result<(), StepFault>
         ensures world { IfOk result (λ _. self.new ≡ world_after self.old entry.now) }
         ensures nested { TellsNested (IsFlatEntry entry.now) result }
     {
@@ -273,6 +273,7 @@ impl World {
             Some(place) => {
                 self.change(alloc, place, entry)?;
                 self.place = place;
+                self.ready = None;
                 Ok(())
             }
             None => Err(StepFault::NoMemory),
@@ -293,7 +294,7 @@ pub fn fold(alloc: Global, entries: &Entries) -> Result<World, StepFault>
 {
     let mut world = World::new(alloc);
     for entry in entries.as_slice() {
-        world.step(alloc, entry)?;
+        world.advance(alloc, entry)?;
     }
     Ok(world)
 }

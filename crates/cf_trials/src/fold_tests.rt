@@ -360,7 +360,69 @@ fn a_rollback_fails(rt: HostRuntime) -> Result<(), Fail> {
 fn a_nested_stack_is_not_stepped_over(rt: HostRuntime) -> Result<(), Fail> {
     let alloc = rt.alloc();
     let mut world = World::new(alloc);
-    let refused = world.step(alloc, &begin(alloc, "s", NESTED)?);
+    let refused = world.room_for(alloc, &begin(alloc, "s", NESTED)?);
     assert!(rt; matches!(refused, Err(StepFault::Nested)));
+    Ok(())
+}
+
+/// The world that these entries leave, with the room for each made before it.
+fn step_over(alloc: Global, entries: Entries) -> Result<World, StepFault> {
+    let mut world = World::new(alloc);
+    for entry in entries.into_vec() {
+        world.room_for(alloc, &entry)?;
+        world.step(entry);
+    }
+    Ok(world)
+}
+
+#[test]
+fn a_stack_is_made_step_by_step(rt: HostRuntime) -> Result<(), Fail> {
+    let alloc = rt.alloc();
+    let mut entries = half(alloc)?;
+    entries.push(succeeded(alloc, 2, "r1:1")?)?;
+    entries.push(ended(alloc, Status::CreateComplete))?;
+    match step_over(alloc, entries) {
+        Ok(world) => {
+            assert_eq!(rt;
+                shown_in(alloc, &world, "s")?.as_str(),
+                "CREATE_COMPLETE held: A f1:1 CREATE_COMPLETE Retain; B r1:1 CREATE_COMPLETE Delete A; made: open: outputs: Id f1:1 id"
+            );
+            assert_eq!(rt;
+                shared(alloc, &world)?.as_str(),
+                "7 1 1 2 pins: s other claims: exports: s id f1:1"
+            );
+        }
+        Err(_) => assert!(rt; false),
+    }
+    Ok(())
+}
+
+#[test]
+fn a_creation_is_rolled_back_step_by_step(rt: HostRuntime) -> Result<(), Fail> {
+    let alloc = rt.alloc();
+    let mut entries = back(alloc)?;
+    entries.push(succeeded(alloc, 3, "f1:1")?)?;
+    entries.push(ended(alloc, Status::RollbackComplete))?;
+    match step_over(alloc, entries) {
+        Ok(world) => assert_eq!(rt;
+            shown_in(alloc, &world, "s")?.as_str(),
+            "ROLLBACK_COMPLETE held: made: open: outputs:"
+        ),
+        Err(_) => assert!(rt; false),
+    }
+    Ok(())
+}
+
+#[test]
+fn room_changes_nothing(rt: HostRuntime) -> Result<(), Fail> {
+    let alloc = rt.alloc();
+    let mut world = World::new(alloc);
+    let made = world.room_for(alloc, &begin(alloc, "s", TWO)?);
+    assert!(rt; matches!(made, Ok(())));
+    assert_eq!(rt; shown_in(alloc, &world, "s")?.as_str(), "none");
+    assert_eq!(rt;
+        shared(alloc, &world)?.as_str(),
+        "0 0 0 0 pins: claims: exports:"
+    );
     Ok(())
 }

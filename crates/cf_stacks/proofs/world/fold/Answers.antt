@@ -8,7 +8,7 @@ use Rattle.cf_stacks.proofs.world.fold.Goals as goal
 
 pub loop-entry-preserved : goal.loop-entry-preserved
 loop-entry-preserved c = record {
-  so_far = fold_next c.loop-entry.world c.step.new.self c.args.entries.now c.loop-entry.entry-index (c.loop-entry.entry-index + 1) c.entry-item.result (omega arith) (search rules) (c.in_ok-step.ensures.world ∙ ap (λ e. world_after c.loop-entry.world e) c.entry-item.is ∙ ap (λ es. world_after c.loop-entry.world (get_or es c.loop-entry.entry-index c.entry-item.result)) c.as_slice-entry-items.ensures) ∙ c.loop-entry.invariant.so_far;
+  so_far = fold_next c.loop-entry.world c.advance.new.self c.args.entries.now c.loop-entry.entry-index (c.loop-entry.entry-index + 1) c.entry-item.result (omega arith) (search rules) (c.in_ok-advance.ensures.world ∙ ap (λ e. world_after c.loop-entry.world e) c.entry-item.is ∙ ap (λ es. world_after c.loop-entry.world (get_or es c.loop-entry.entry-index c.entry-item.result)) c.as_slice-entry-items.ensures) ∙ c.loop-entry.invariant.so_far;
   flat = All-more IsFlatEntry c.args.entries.now c.loop-entry.entry-index c.entry-item.result (search rules) c.loop-entry.invariant.flat (search rules);
 }
 
