@@ -1,5 +1,5 @@
 -- The first resource: a stack of one file.
-use Rattle.std.specs.Prelude.{◌≡◌, List, [], ◌∷◌, codes, Some, false}
+use Rattle.std.specs.Prelude.{◌≡◌, List, [], ◌∷◌, codes, Some, None, false}
 use Rattle.cf_tree.specs.declared.request.Request.TheVariants as request
 use Rattle.cf_tree.specs.declared.source.Source.{Source}
 use Rattle.cf_tree.specs.declared.template.Deletion.TheVariants as deletion
@@ -90,6 +90,7 @@ world =
       set = 0;
       token = 1;
       place = 5;
+      ready = None;
     }
 
 abbrev pub Leaves : Type 0
