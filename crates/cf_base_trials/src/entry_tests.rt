@@ -2,6 +2,7 @@
 use cf_entry::*;
 use cf_tree::{Code, Request, Val};
 use std::alloc::Global;
+use std::process::Abort;
 use std::test::Fail;
 
 // The epoch 1, and the lane f1 of the type Local::Files::File.
@@ -56,20 +57,6 @@ fn is_written(alloc: Global, entry: &Entry, bytes: &[u8]) -> Result<bool, Fail> 
     Ok(written.as_slice() == bytes)
 }
 
-/// Whether these bytes are an entry, and are written again as they were.
-fn is_kept(alloc: Global, bytes: &[u8]) -> Result<bool, Fail> {
-    match read_entry(alloc, bytes) {
-        Ok(Some(entry)) => is_written(alloc, &entry, bytes),
-        _ => Ok(false),
-    }
-}
-
-#[test]
-fn an_opening(rt: HostRuntime) -> Result<(), Fail> {
-    assert!(rt; is_kept(rt.alloc(), OPENED)?);
-    Ok(())
-}
-
 fn tells_source(entry: &Entry) -> bool {
     match entry {
         Entry::Begin {
@@ -79,32 +66,6 @@ fn tells_source(entry: &Entry) -> bool {
         } => source.stack.is("site") && source.number == 0,
         _ => false,
     }
-}
-
-fn creation_is_read(alloc: Global) -> bool {
-    match read_entry(alloc, BEGIN) {
-        Ok(Some(entry)) => tells_source(&entry),
-        _ => false,
-    }
-}
-
-#[test]
-fn a_creation(rt: HostRuntime) -> Result<(), Fail> {
-    assert!(rt; is_kept(rt.alloc(), BEGIN)?);
-    assert!(rt; creation_is_read(rt.alloc()));
-    Ok(())
-}
-
-#[test]
-fn a_rollback_that_goes_on(rt: HostRuntime) -> Result<(), Fail> {
-    assert!(rt; is_kept(rt.alloc(), CONTINUE)?);
-    Ok(())
-}
-
-#[test]
-fn a_leftover(rt: HostRuntime) -> Result<(), Fail> {
-    assert!(rt; is_kept(rt.alloc(), KEPT)?);
-    Ok(())
 }
 
 fn asks_for_list(entry: &Entry) -> bool {
@@ -118,26 +79,6 @@ fn asks_for_list(entry: &Entry) -> bool {
         } => matches!(props.get("Key"), Some(Val::List(_))),
         _ => false,
     }
-}
-
-fn intent_is_read(alloc: Global) -> bool {
-    match read_entry(alloc, INTENT) {
-        Ok(Some(entry)) => asks_for_list(&entry),
-        _ => false,
-    }
-}
-
-#[test]
-fn an_intent(rt: HostRuntime) -> Result<(), Fail> {
-    assert!(rt; is_kept(rt.alloc(), INTENT)?);
-    assert!(rt; intent_is_read(rt.alloc()));
-    Ok(())
-}
-
-#[test]
-fn an_outcome(rt: HostRuntime) -> Result<(), Fail> {
-    assert!(rt; is_kept(rt.alloc(), OUTCOME)?);
-    Ok(())
 }
 
 fn is_not_found(entry: &Entry) -> bool {
@@ -155,26 +96,6 @@ fn is_not_found(entry: &Entry) -> bool {
     )
 }
 
-fn refusal_is_read(alloc: Global) -> bool {
-    match read_entry(alloc, REFUSED) {
-        Ok(Some(entry)) => is_not_found(&entry),
-        _ => false,
-    }
-}
-
-#[test]
-fn a_refusal(rt: HostRuntime) -> Result<(), Fail> {
-    assert!(rt; is_kept(rt.alloc(), REFUSED)?);
-    assert!(rt; refusal_is_read(rt.alloc()));
-    Ok(())
-}
-
-#[test]
-fn a_turn(rt: HostRuntime) -> Result<(), Fail> {
-    assert!(rt; is_kept(rt.alloc(), BACK)?);
-    Ok(())
-}
-
 fn has_failed(entry: &Entry) -> bool {
     matches!(
         entry,
@@ -186,60 +107,126 @@ fn has_failed(entry: &Entry) -> bool {
     )
 }
 
-fn end_is_read(alloc: Global) -> bool {
-    match read_entry(alloc, DONE) {
-        Ok(Some(entry)) => has_failed(&entry),
-        _ => false,
+/// What an entry holds.
+fn word_of(entry: &Entry) -> &'static str {
+    if tells_source(entry) {
+        "the creation of site"
+    } else if asks_for_list(entry) {
+        "a list is asked for"
+    } else if is_not_found(entry) {
+        "not found"
+    } else if has_failed(entry) {
+        "the deletion failed"
+    } else {
+        "another entry"
     }
+}
+
+/// What an entry holds that is written again as it was.
+fn told_of(alloc: Global, entry: &Entry, bytes: &[u8]) -> Result<&'static str, Fail> {
+    if is_written(alloc, entry, bytes)? {
+        Ok(word_of(entry))
+    } else {
+        Ok("other bytes")
+    }
+}
+
+/// What is read.
+fn told(alloc: Global, bytes: &[u8]) -> Result<&'static str, Fail> {
+    match read_entry(alloc, bytes)? {
+        Some(entry) => {
+            let told = told_of(alloc, &entry, bytes);
+            drop(entry);
+            told
+        }
+        None => Ok("no entry"),
+    }
+}
+
+fn is_told(rt: &impl Abort, alloc: Global, bytes: &[u8], wanted: &str) -> Result<(), Fail> {
+    assert_eq!(rt; told(alloc, bytes)?, wanted);
+    Ok(())
+}
+
+#[test]
+fn an_opening(rt: HostRuntime) -> Result<(), Fail> {
+    is_told(&rt, rt.alloc(), OPENED, "another entry")
+}
+
+#[test]
+fn a_creation(rt: HostRuntime) -> Result<(), Fail> {
+    is_told(&rt, rt.alloc(), BEGIN, "the creation of site")
+}
+
+#[test]
+fn a_rollback_that_goes_on(rt: HostRuntime) -> Result<(), Fail> {
+    is_told(&rt, rt.alloc(), CONTINUE, "another entry")
+}
+
+#[test]
+fn a_leftover(rt: HostRuntime) -> Result<(), Fail> {
+    is_told(&rt, rt.alloc(), KEPT, "another entry")
+}
+
+#[test]
+fn an_intent(rt: HostRuntime) -> Result<(), Fail> {
+    is_told(&rt, rt.alloc(), INTENT, "a list is asked for")
+}
+
+#[test]
+fn an_outcome(rt: HostRuntime) -> Result<(), Fail> {
+    is_told(&rt, rt.alloc(), OUTCOME, "another entry")
+}
+
+#[test]
+fn a_refusal(rt: HostRuntime) -> Result<(), Fail> {
+    is_told(&rt, rt.alloc(), REFUSED, "not found")
+}
+
+#[test]
+fn a_turn(rt: HostRuntime) -> Result<(), Fail> {
+    is_told(&rt, rt.alloc(), BACK, "another entry")
 }
 
 #[test]
 fn an_end(rt: HostRuntime) -> Result<(), Fail> {
-    assert!(rt; is_kept(rt.alloc(), DONE)?);
-    assert!(rt; end_is_read(rt.alloc()));
-    Ok(())
+    is_told(&rt, rt.alloc(), DONE, "the deletion failed")
 }
 
 #[test]
 fn a_change_set(rt: HostRuntime) -> Result<(), Fail> {
-    assert!(rt; is_kept(rt.alloc(), CHANGE_SET)?);
-    Ok(())
+    is_told(&rt, rt.alloc(), CHANGE_SET, "another entry")
 }
 
 #[test]
 fn a_policy_has_no_name(rt: HostRuntime) -> Result<(), Fail> {
-    assert!(rt; is_kept(rt.alloc(), POLICY)?);
+    is_told(&rt, rt.alloc(), POLICY, "another entry")?;
     // The deletion policy in the place of the property V.
     let mut bytes = *CHANGE_SET;
     bytes[54] = 2;
-    assert!(rt; is_no_entry(rt.alloc(), &bytes)?);
-    Ok(())
-}
-
-fn is_no_entry(alloc: Global, bytes: &[u8]) -> Result<bool, Fail> {
-    Ok(read_entry(alloc, bytes)?.is_none())
+    is_told(&rt, rt.alloc(), &bytes, "no entry")
 }
 
 #[test]
 fn bytes_behind_an_entry(rt: HostRuntime) -> Result<(), Fail> {
-    assert!(rt; is_no_entry(rt.alloc(), b"\x07\0\0\0\0\0\0\0\x02\x0f\0\0\0\0\0")?);
-    Ok(())
+    let bytes = b"\x07\0\0\0\0\0\0\0\x02\x0f\0\0\0\0\0";
+    is_told(&rt, rt.alloc(), bytes, "no entry")
 }
 
 #[test]
 fn a_kind_that_no_entry_has(rt: HostRuntime) -> Result<(), Fail> {
-    assert!(rt; is_no_entry(rt.alloc(), b"\x09")?);
-    Ok(())
+    let bytes = b"\x09";
+    is_told(&rt, rt.alloc(), bytes, "no entry")
 }
 
 #[test]
 fn an_end_that_is_in_progress(rt: HostRuntime) -> Result<(), Fail> {
-    assert!(rt; is_no_entry(rt.alloc(), b"\x07\0\0\0\0\0\0\0\x02\x0d\0\0\0\0")?);
-    Ok(())
+    let bytes = b"\x07\0\0\0\0\0\0\0\x02\x0d\0\0\0\0";
+    is_told(&rt, rt.alloc(), bytes, "no entry")
 }
 
 #[test]
 fn a_cause_where_nothing_turns_back(rt: HostRuntime) -> Result<(), Fail> {
-    assert!(rt; is_no_entry(rt.alloc(), b"\x06\0\0\0\0\0\0\0\x01\x02\x01\x02\0\0\0\0")?);
-    Ok(())
+    let bytes = b"\x06\0\0\0\0\0\0\0\x01\x02\x01\x02\0\0\0\0";
+    is_told(&rt, rt.alloc(), bytes, "no entry")
 }

@@ -5,27 +5,55 @@ use cf_tree::{
     Template, Txt, Val, Verdict,
 };
 use std::alloc::{AllocError, Global};
+use std::process::Abort;
 use std::test::Fail;
+
+const THING: &str = "Local::Test::Thing";
 
 fn text(alloc: Global, text: &str) -> Result<Txt, AllocError> {
     Txt::from_str(alloc, text)
 }
 
-/// A resource whose `DependsOn` has these names.
-fn resource(alloc: Global, name: &str, depends: &[&str]) -> Result<Res, AllocError> {
+fn names_of(alloc: Global, texts: &[&str]) -> Result<Names, AllocError> {
     let mut names = Names::new(alloc);
-    for other in depends {
+    for other in texts {
         names.push(text(alloc, other)?)?;
     }
+    Ok(names)
+}
+
+/// What a resource has, but for its name and its type.
+#[derive(Drop)]
+struct Parted {
+    props: ExprDict,
+    depends: Names,
+    condition: Option<Txt>,
+}
+
+fn resource_of(alloc: Global, name: &str, kind: &str, parted: Parted) -> Result<Res, AllocError> {
+    let name = text(alloc, name)?;
+    let kind = text(alloc, kind)?;
     Ok(Res {
-        name: text(alloc, name)?,
-        kind: text(alloc, "Local::Test::Thing")?,
-        props: ExprDict::new(alloc),
-        depends: names,
-        condition: None,
+        name,
+        kind,
+        props: parted.props,
+        depends: parted.depends,
+        condition: parted.condition,
         deletion: None,
         replace: None,
     })
+}
+
+/// A resource whose `DependsOn` has these names.
+fn resource(alloc: Global, name: &str, depends: &[&str]) -> Result<Res, AllocError> {
+    let depends = names_of(alloc, depends)?;
+    let props = ExprDict::new(alloc);
+    let parted = Parted {
+        props,
+        depends,
+        condition: None,
+    };
+    resource_of(alloc, name, THING, parted)
 }
 
 fn expr(alloc: Global, node: ExprNode) -> Result<Expr, AllocError> {
@@ -36,10 +64,10 @@ fn reference(alloc: Global, name: &str) -> Result<Expr, AllocError> {
     expr(alloc, ExprNode::Ref(text(alloc, name)?))
 }
 
-/// A template of these resources, without parameters.
-fn template(alloc: Global, resources: Vec<Res>) -> Template {
+/// A template of these parameters and resources.
+fn template(alloc: Global, params: Listing<Param>, resources: Vec<Res>) -> Template {
     Template {
-        params: Listing::new(alloc),
+        params,
         mappings: ByName::new(alloc),
         conds: ByName::new(alloc),
         resources: Listing::from_vec(resources),
@@ -47,13 +75,13 @@ fn template(alloc: Global, resources: Vec<Res>) -> Template {
     }
 }
 
-/// A template of resources with what the `DependsOn` of each has.
-fn depending(alloc: Global, rows: &[(&str, &[&str])]) -> Result<Template, AllocError> {
+/// Resources with what the `DependsOn` of each has.
+fn depending(alloc: Global, rows: &[(&str, &[&str])]) -> Result<Vec<Res>, AllocError> {
     let mut resources = Vec::new(alloc);
     for row in rows {
         resources.push(resource(alloc, row.0, row.1)?)?;
     }
-    Ok(template(alloc, resources))
+    Ok(resources)
 }
 
 /// The conditions `Yes` and `No`.
@@ -72,125 +100,186 @@ fn add_names(line: &mut String, names: &Names) -> Result<(), AllocError> {
     Ok(())
 }
 
-fn add_order(line: &mut String, needs: &Needs) -> Result<(), AllocError> {
+fn add_needs(line: &mut String, name: &str, names: &Names) -> Result<(), AllocError> {
+    line.push_str(name)?;
+    line.push_str(":")?;
+    add_names(line, names)?;
+    line.push_str("; ")
+}
+
+fn in_order(alloc: Global, needs: &Needs) -> Result<String, AllocError> {
+    let mut line = String::new(alloc);
     for (name, names) in needs.iter() {
-        line.push_str(name.as_str())?;
-        line.push_str(":")?;
-        add_names(line, names)?;
-        line.push_str("; ")?;
+        add_needs(&mut line, name.as_str(), names)?;
     }
-    Ok(())
+    Ok(line)
+}
+
+fn circular(alloc: Global, cycle: &Names) -> Result<String, AllocError> {
+    let mut line = String::from_str(alloc, "circular")?;
+    add_names(&mut line, cycle)?;
+    Ok(line)
+}
+
+fn refused(alloc: Global, fault: &GraphFault) -> Result<String, AllocError> {
+    match fault {
+        GraphFault::Circular { cycle } => circular(alloc, cycle),
+        GraphFault::UnknownDependency { from, name } => {
+            Ok(format!(in alloc; "unknown {} {}", from.as_str(), name.as_str())?)
+        }
+        GraphFault::NoMemory => String::from_str(alloc, "no memory"),
+    }
 }
 
 /// The order as `A: B C; `, or the refusal.
 fn told(alloc: Global, template: &Template) -> Result<String, AllocError> {
     let conds = conditions(alloc)?;
-    let mut line = String::new(alloc);
     match order(alloc, template, &conds) {
-        Ok(needs) => add_order(&mut line, &needs)?,
-        Err(GraphFault::Circular { cycle }) => {
-            line.push_str("circular")?;
-            add_names(&mut line, &cycle)?;
-        }
-        Err(GraphFault::UnknownDependency { from, name }) => {
-            line.push_str("unknown ")?;
-            line.push_str(from.as_str())?;
-            line.push_str(" ")?;
-            line.push_str(name.as_str())?;
-        }
-        Err(GraphFault::NoMemory) => line.push_str("no memory")?,
+        Ok(needs) => in_order(alloc, &needs),
+        Err(fault) => refused(alloc, &fault),
     }
-    Ok(line)
 }
 
-fn told_of(alloc: Global, rows: &[(&str, &[&str])]) -> Result<String, AllocError> {
-    let template = depending(alloc, rows)?;
+/// What is told of a template of these resources, without parameters.
+fn told_of(alloc: Global, resources: Vec<Res>) -> Result<String, AllocError> {
+    let template = template(alloc, Listing::new(alloc), resources);
     told(alloc, &template)
 }
 
-/// The resource with one property.
-fn with_property(alloc: Global, made: Res, property: &str, value: Expr) -> Result<Res, AllocError> {
-    let mut made = made;
-    made.props.insert(text(alloc, property)?, value)?;
-    Ok(made)
+/// Rows of resources with what the `DependsOn` of each has, and what is told of the resources.
+fn is_told(
+    rt: &impl Abort,
+    alloc: Global,
+    rows: &[(&str, &[&str])],
+    wanted: &str,
+) -> Result<(), Fail> {
+    let line = told_of(alloc, depending(alloc, rows)?)?;
+    assert_eq!(rt; line.as_str(), wanted);
+    Ok(())
 }
 
 #[test]
 fn each_stands_behind_its_needs(rt: HostRuntime) -> Result<(), Fail> {
-    let alloc = rt.alloc();
-    let chain = told_of(alloc, &[("A", &["C"]), ("B", &[]), ("C", &["B"])])?;
-    assert_eq!(rt; chain.as_str(), "B:; C: B; A: C; ");
-    let fan = told_of(alloc, &[("A", &["B"]), ("B", &[]), ("C", &["B"])])?;
-    assert_eq!(rt; fan.as_str(), "B:; A: B; C: B; ");
-    let joined = told_of(alloc, &[("A", &["C", "B"]), ("B", &[]), ("C", &[])])?;
-    assert_eq!(rt; joined.as_str(), "B:; C:; A: B C; ");
-    let twice = told_of(alloc, &[("A", &["B", "B"]), ("B", &[])])?;
-    assert_eq!(rt; twice.as_str(), "B:; A: B; ");
-    let none = told_of(alloc, &[])?;
-    assert_eq!(rt; none.as_str(), "");
+    let rows: [(&[(&str, &[&str])], &str); 5] = [
+        (
+            &[("A", &["C"]), ("B", &[]), ("C", &["B"])],
+            "B:; C: B; A: C; ",
+        ),
+        (
+            &[("A", &["B"]), ("B", &[]), ("C", &["B"])],
+            "B:; A: B; C: B; ",
+        ),
+        (
+            &[("A", &["C", "B"]), ("B", &[]), ("C", &[])],
+            "B:; C:; A: B C; ",
+        ),
+        (&[("A", &["B", "B"]), ("B", &[])], "B:; A: B; "),
+        (&[], ""),
+    ];
+    for (resources, wanted) in rows {
+        is_told(&rt, rt.alloc(), resources, wanted)?;
+    }
     Ok(())
 }
 
 #[test]
 fn the_least_of_the_ready_comes_next(rt: HostRuntime) -> Result<(), Fail> {
-    let alloc = rt.alloc();
     // A is ready as soon as B has come, and stands before C and D.
-    let line = told_of(alloc, &[("A", &["B"]), ("B", &[]), ("C", &[]), ("D", &[])])?;
-    assert_eq!(rt; line.as_str(), "B:; A: B; C:; D:; ");
-    Ok(())
+    is_told(
+        &rt,
+        rt.alloc(),
+        &[("A", &["B"]), ("B", &[]), ("C", &[]), ("D", &[])],
+        "B:; A: B; C:; D:; ",
+    )
 }
 
 #[test]
 fn an_unknown_dependency_is_told_before_a_cycle(rt: HostRuntime) -> Result<(), Fail> {
-    let alloc = rt.alloc();
-    let line = told_of(
-        alloc,
+    is_told(
+        &rt,
+        rt.alloc(),
         &[
             ("A", &["B"]),
             ("B", &["A"]),
             ("C", &["A", "Z", "Y"]),
             ("D", &["X"]),
         ],
-    )?;
-    assert_eq!(rt; line.as_str(), "unknown C Z");
-    Ok(())
+        "unknown C Z",
+    )
 }
 
 #[test]
 fn the_least_shortest_cycle_is_told(rt: HostRuntime) -> Result<(), Fail> {
-    let alloc = rt.alloc();
-    let one = told_of(alloc, &[("A", &["A"])])?;
-    assert_eq!(rt; one.as_str(), "circular A");
-    let two = told_of(alloc, &[("A", &["B"]), ("B", &["A"])])?;
-    assert_eq!(rt; two.as_str(), "circular A B");
-    let longer = told_of(alloc, &[("A", &["B", "C"]), ("B", &["C"]), ("C", &["A"])])?;
-    assert_eq!(rt; longer.as_str(), "circular A C");
-    // A leads to a cycle and lies on none.
-    let beside = told_of(alloc, &[("A", &["B"]), ("B", &["C"]), ("C", &["B"])])?;
-    assert_eq!(rt; beside.as_str(), "circular B C");
-    let equal = told_of(alloc, &[("A", &["C", "B"]), ("B", &["A"]), ("C", &["A"])])?;
-    assert_eq!(rt; equal.as_str(), "circular A B");
+    let rows: [(&[(&str, &[&str])], &str); 5] = [
+        (&[("A", &["A"])], "circular A"),
+        (&[("A", &["B"]), ("B", &["A"])], "circular A B"),
+        (
+            &[("A", &["B", "C"]), ("B", &["C"]), ("C", &["A"])],
+            "circular A C",
+        ),
+        // A leads to a cycle and lies on none.
+        (
+            &[("A", &["B"]), ("B", &["C"]), ("C", &["B"])],
+            "circular B C",
+        ),
+        (
+            &[("A", &["C", "B"]), ("B", &["A"]), ("C", &["A"])],
+            "circular A B",
+        ),
+    ];
+    for (resources, wanted) in rows {
+        is_told(&rt, rt.alloc(), resources, wanted)?;
+    }
     Ok(())
+}
+
+/// A resource with a condition.
+fn conditional(
+    alloc: Global,
+    name: &str,
+    depends: &[&str],
+    condition: &str,
+) -> Result<Res, AllocError> {
+    let depends = names_of(alloc, depends)?;
+    let condition = Some(text(alloc, condition)?);
+    let props = ExprDict::new(alloc);
+    let parted = Parted {
+        props,
+        depends,
+        condition,
+    };
+    resource_of(alloc, name, THING, parted)
+}
+
+fn put(alloc: Global, props: &mut ExprDict, name: &str, value: Expr) -> Result<(), AllocError> {
+    let name = text(alloc, name)?;
+    props.insert(name, value)
+}
+
+/// `C` depends on `B` and refers to `A`.
+fn user_of_unmade(alloc: Global) -> Result<Res, AllocError> {
+    let mut props = ExprDict::new(alloc);
+    put(alloc, &mut props, "P", reference(alloc, "A")?)?;
+    let depends = names_of(alloc, &["B"])?;
+    let parted = Parted {
+        props,
+        depends,
+        condition: None,
+    };
+    resource_of(alloc, "C", THING, parted)
+}
+
+fn partly_made(alloc: Global) -> Result<Vec<Res>, AllocError> {
+    let mut resources = Vec::new(alloc);
+    resources.push(conditional(alloc, "A", &[], "No")?)?;
+    resources.push(conditional(alloc, "B", &["A"], "Yes")?)?;
+    resources.push(user_of_unmade(alloc)?)?;
+    Ok(resources)
 }
 
 #[test]
 fn what_is_not_made_is_not_needed(rt: HostRuntime) -> Result<(), Fail> {
-    let alloc = rt.alloc();
-    let mut unmade = resource(alloc, "A", &[])?;
-    unmade.condition = Some(text(alloc, "No")?);
-    let mut made = resource(alloc, "B", &["A"])?;
-    made.condition = Some(text(alloc, "Yes")?);
-    let user = with_property(
-        alloc,
-        resource(alloc, "C", &["B"])?,
-        "P",
-        reference(alloc, "A")?,
-    )?;
-    let mut resources = Vec::new(alloc);
-    resources.push(unmade)?;
-    resources.push(made)?;
-    resources.push(user)?;
-    let line = told(alloc, &template(alloc, resources))?;
+    let line = told_of(rt.alloc(), partly_made(rt.alloc())?)?;
     assert_eq!(rt; line.as_str(), "B:; C: B; ");
     Ok(())
 }
@@ -206,44 +295,65 @@ fn choice(alloc: Global, yes: &str, no: &str) -> Result<Expr, AllocError> {
 /// The attribute `Id` of a resource.
 fn attribute(alloc: Global, of: &str) -> Result<Expr, AllocError> {
     let name = expr(alloc, ExprNode::Lit(Val::Text(text(alloc, "Id")?)))?;
-    let id = text(alloc, of)?;
     let attribute = Box::new(alloc, name)?;
+    let id = text(alloc, of)?;
     expr(alloc, ExprNode::GetAtt { id, attribute })
 }
 
-/// A text with one hole, and a map that fills another.
-fn holes(alloc: Global, hole: &str, own: &str, value: Expr) -> Result<Expr, AllocError> {
+/// The parts of a text of two holes.
+fn two_holes(alloc: Global, hole: &str, own: &str) -> Result<Parts, AllocError> {
     let mut parts = Parts::new(alloc);
     parts.push(Part::Name(text(alloc, hole)?))?;
     parts.push(Part::Name(text(alloc, own)?))?;
+    Ok(parts)
+}
+
+/// A text with one hole, and a map that fills another with a reference.
+fn holes(alloc: Global, hole: &str, own: &str, other: &str) -> Result<Expr, AllocError> {
     let mut map = ExprDict::new(alloc);
-    map.insert(text(alloc, own)?, value)?;
+    put(alloc, &mut map, own, reference(alloc, other)?)?;
+    let parts = two_holes(alloc, hole, own)?;
     expr(alloc, ExprNode::Sub { parts, map })
+}
+
+/// Of the choice A is taken and B is not; F is what the function's own map fills.
+fn referring(alloc: Global) -> Result<ExprDict, AllocError> {
+    let mut props = ExprDict::new(alloc);
+    put(alloc, &mut props, "P", choice(alloc, "A", "B")?)?;
+    put(alloc, &mut props, "Q", attribute(alloc, "C")?)?;
+    put(alloc, &mut props, "R", holes(alloc, "D.Id", "F", "E")?)?;
+    Ok(props)
+}
+
+fn user_of_all(alloc: Global) -> Result<Res, AllocError> {
+    let props = referring(alloc)?;
+    let depends = Names::new(alloc);
+    let parted = Parted {
+        props,
+        depends,
+        condition: None,
+    };
+    resource_of(alloc, "0", THING, parted)
+}
+
+fn user_and_used(alloc: Global) -> Result<Vec<Res>, AllocError> {
+    let mut resources = Vec::new(alloc);
+    resources.push(user_of_all(alloc)?)?;
+    for name in &["A", "B", "C", "D", "E", "F"] {
+        resources.push(resource(alloc, name, &[])?)?;
+    }
+    Ok(resources)
 }
 
 #[test]
 fn references_are_needs_where_they_are_evaluated(rt: HostRuntime) -> Result<(), Fail> {
-    let alloc = rt.alloc();
-    let mut resources = Vec::new(alloc);
-    // Of the choice A is taken and B is not; F is what the function's own map fills.
-    let user = with_property(
-        alloc,
-        resource(alloc, "0", &[])?,
-        "P",
-        choice(alloc, "A", "B")?,
-    )?;
-    let user = with_property(alloc, user, "Q", attribute(alloc, "C")?)?;
-    let filled = holes(alloc, "D.Id", "F", reference(alloc, "E")?)?;
-    resources.push(with_property(alloc, user, "R", filled)?)?;
-    for name in &["A", "B", "C", "D", "E", "F"] {
-        resources.push(resource(alloc, name, &[])?)?;
-    }
-    let line = told(alloc, &template(alloc, resources))?;
+    let line = told_of(rt.alloc(), user_and_used(rt.alloc())?)?;
     assert_eq!(rt; line.as_str(), "A:; B:; C:; D:; E:; 0: A C D E; F:; ");
     Ok(())
 }
 
 /// How a resource names another one.
+#[derive(Clone, Copy)]
 enum Naming {
     Depends,
     Ref,
@@ -252,41 +362,147 @@ enum Naming {
     /// By `Ref`, in the branch that is taken or in the one that is not.
     Taken,
     Untaken,
+    /// By `Ref`, in the property of this name.
+    Tags,
+    Parameters,
 }
 
 /// The value of a property that names a resource.
-fn value_naming(alloc: Global, how: &Naming, other: &str) -> Result<Expr, AllocError> {
+fn value_naming(alloc: Global, how: Naming, other: &str) -> Result<Expr, AllocError> {
     match how {
         Naming::Attribute => attribute(alloc, other),
-        Naming::Hole => {
-            let own = reference(alloc, "Free")?;
-            holes(alloc, other, "Own", own)
-        }
+        Naming::Hole => holes(alloc, other, "Own", "Free"),
         Naming::Taken => choice(alloc, other, "Free"),
         Naming::Untaken => choice(alloc, "Free", other),
         _ => reference(alloc, other),
     }
 }
 
-/// The resource, naming one more. Properties stand by the name of the one that is named.
-fn named_by(alloc: Global, made: Res, how: &Naming, other: &str) -> Result<Res, AllocError> {
-    match how {
-        Naming::Depends => {
-            let mut made = made;
-            made.depends.push(text(alloc, other)?)?;
-            Ok(made)
-        }
-        _ => {
-            let value = value_naming(alloc, how, other)?;
-            with_property(alloc, made, other, value)
+/// One property more, which names a resource. It has that resource's name, but for those of a nested stack.
+fn name_one(
+    alloc: Global,
+    props: &mut ExprDict,
+    how: Naming,
+    other: &str,
+) -> Result<(), AllocError> {
+    let value = value_naming(alloc, how, other)?;
+    let property = match how {
+        Naming::Tags => "Tags",
+        Naming::Parameters => "Parameters",
+        _ => other,
+    };
+    put(alloc, props, property, value)
+}
+
+fn props_of(alloc: Global, namings: &[(Naming, &str)]) -> Result<ExprDict, AllocError> {
+    let mut props = ExprDict::new(alloc);
+    for naming in namings {
+        match naming.0 {
+            Naming::Depends => {}
+            how => name_one(alloc, &mut props, how, naming.1)?,
         }
     }
+    Ok(props)
+}
+
+fn depends_of(alloc: Global, namings: &[(Naming, &str)]) -> Result<Names, AllocError> {
+    let mut depends = Names::new(alloc);
+    for naming in namings {
+        match naming.0 {
+            Naming::Depends => depends.push(text(alloc, naming.1)?)?,
+            _ => {}
+        }
+    }
+    Ok(depends)
+}
+
+/// `18` is not made.
+fn condition_of(alloc: Global, name: &str) -> Result<Option<Txt>, AllocError> {
+    match name {
+        "18" => Ok(Some(text(alloc, "No")?)),
+        _ => Ok(None),
+    }
+}
+
+/// `27` is a nested stack.
+fn kind_of(name: &str) -> &'static str {
+    match name {
+        "27" => "AWS::CloudFormation::Stack",
+        _ => THING,
+    }
+}
+
+/// A resource that names others so.
+fn resource_naming(
+    alloc: Global,
+    name: &str,
+    namings: &[(Naming, &str)],
+) -> Result<Res, AllocError> {
+    let props = props_of(alloc, namings)?;
+    let depends = depends_of(alloc, namings)?;
+    let condition = condition_of(alloc, name)?;
+    let parted = Parted {
+        props,
+        depends,
+        condition,
+    };
+    resource_of(alloc, name, kind_of(name), parted)
+}
+
+/// `27` has a tag, which is not evaluated, and a parameter, which is.
+const THIRTY: [(&str, &[(Naming, &str)]); 30] = [
+    ("01", &[(Naming::Depends, "30")]),
+    ("02", &[(Naming::Ref, "01")]),
+    ("03", &[(Naming::Attribute, "05")]),
+    ("04", &[]),
+    ("05", &[(Naming::Hole, "04")]),
+    ("06", &[(Naming::Untaken, "29")]),
+    ("07", &[(Naming::Taken, "10")]),
+    ("08", &[(Naming::Depends, "07"), (Naming::Ref, "06")]),
+    ("09", &[(Naming::Ref, "28")]),
+    ("10", &[(Naming::Attribute, "28")]),
+    ("11", &[(Naming::Depends, "12")]),
+    ("12", &[(Naming::Depends, "13")]),
+    ("13", &[]),
+    ("14", &[(Naming::Ref, "11"), (Naming::Attribute, "13")]),
+    ("15", &[]),
+    ("16", &[(Naming::Hole, "15"), (Naming::Hole, "04")]),
+    ("17", &[(Naming::Depends, "18")]),
+    ("18", &[(Naming::Ref, "01")]),
+    ("19", &[(Naming::Untaken, "18")]),
+    ("20", &[]),
+    ("21", &[(Naming::Ref, "20")]),
+    ("22", &[(Naming::Attribute, "21")]),
+    ("23", &[(Naming::Taken, "22")]),
+    ("24", &[(Naming::Ref, "23"), (Naming::Depends, "20")]),
+    ("25", &[(Naming::Depends, "26")]),
+    ("26", &[]),
+    (
+        "27",
+        &[
+            (Naming::Depends, "25"),
+            (Naming::Tags, "29"),
+            (Naming::Parameters, "26"),
+        ],
+    ),
+    ("28", &[]),
+    ("29", &[(Naming::Depends, "27")]),
+    ("30", &[]),
+];
+
+fn all_naming(alloc: Global, rows: &[(&str, &[(Naming, &str)])]) -> Result<Vec<Res>, AllocError> {
+    let mut resources = Vec::new(alloc);
+    for row in rows {
+        resources.push(resource_naming(alloc, row.0, row.1)?)?;
+    }
+    Ok(resources)
 }
 
 /// A parameter of type String.
 fn parameter(alloc: Global, name: &str) -> Result<Param, AllocError> {
+    let name = text(alloc, name)?;
     Ok(Param {
-        name: text(alloc, name)?,
+        name,
         kind: Kind::Text,
         default: None,
         allowed: None,
@@ -301,112 +517,18 @@ fn parameter(alloc: Global, name: &str) -> Result<Param, AllocError> {
     })
 }
 
-/// Adds a resource that names others so.
-fn add(
-    alloc: Global,
-    resources: &mut Vec<Res>,
-    name: &str,
-    namings: &[(Naming, &str)],
-) -> Result<(), AllocError> {
-    let mut made = resource(alloc, name, &[])?;
-    for naming in namings {
-        made = named_by(alloc, made, &naming.0, naming.1)?;
-    }
-    resources.push(made)?;
-    Ok(())
-}
-
-/// The resources `01` to `10`.
-fn add_first_ten(alloc: Global, resources: &mut Vec<Res>) -> Result<(), AllocError> {
-    add(alloc, resources, "01", &[(Naming::Depends, "30")])?;
-    add(alloc, resources, "02", &[(Naming::Ref, "01")])?;
-    add(alloc, resources, "03", &[(Naming::Attribute, "05")])?;
-    add(alloc, resources, "04", &[])?;
-    add(alloc, resources, "05", &[(Naming::Hole, "04")])?;
-    add(alloc, resources, "06", &[(Naming::Untaken, "29")])?;
-    add(alloc, resources, "07", &[(Naming::Taken, "10")])?;
-    add(
-        alloc,
-        resources,
-        "08",
-        &[(Naming::Depends, "07"), (Naming::Ref, "06")],
-    )?;
-    add(alloc, resources, "09", &[(Naming::Ref, "28")])?;
-    add(alloc, resources, "10", &[(Naming::Attribute, "28")])
-}
-
-/// The resources `11` to `20`.
-fn add_second_ten(alloc: Global, resources: &mut Vec<Res>) -> Result<(), AllocError> {
-    add(alloc, resources, "11", &[(Naming::Depends, "12")])?;
-    add(alloc, resources, "12", &[(Naming::Depends, "13")])?;
-    add(alloc, resources, "13", &[])?;
-    add(
-        alloc,
-        resources,
-        "14",
-        &[(Naming::Ref, "11"), (Naming::Attribute, "13")],
-    )?;
-    add(alloc, resources, "15", &[])?;
-    add(
-        alloc,
-        resources,
-        "16",
-        &[(Naming::Hole, "15"), (Naming::Hole, "04")],
-    )?;
-    add(alloc, resources, "17", &[(Naming::Depends, "18")])?;
-    add(alloc, resources, "18", &[(Naming::Ref, "01")])?;
-    add(alloc, resources, "19", &[(Naming::Untaken, "18")])?;
-    add(alloc, resources, "20", &[])
-}
-
-/// The resources `21` to `30`.
-fn add_third_ten(alloc: Global, resources: &mut Vec<Res>) -> Result<(), AllocError> {
-    add(alloc, resources, "21", &[(Naming::Ref, "20")])?;
-    add(alloc, resources, "22", &[(Naming::Attribute, "21")])?;
-    add(alloc, resources, "23", &[(Naming::Taken, "22")])?;
-    add(
-        alloc,
-        resources,
-        "24",
-        &[(Naming::Ref, "23"), (Naming::Depends, "20")],
-    )?;
-    add(alloc, resources, "25", &[(Naming::Depends, "26")])?;
-    add(alloc, resources, "26", &[])?;
-    add(alloc, resources, "27", &[(Naming::Depends, "25")])?;
-    add(alloc, resources, "28", &[])?;
-    add(alloc, resources, "29", &[(Naming::Depends, "27")])?;
-    add(alloc, resources, "30", &[])
-}
-
-/// The template of thirty: `18` has the condition `No`, `27` is a nested stack, and `28` is the name of a parameter too.
-fn thirty(alloc: Global) -> Result<Template, AllocError> {
-    let mut resources = Vec::new(alloc);
-    add_first_ten(alloc, &mut resources)?;
-    add_second_ten(alloc, &mut resources)?;
-    add_third_ten(alloc, &mut resources)?;
-    let mut made = Vec::new(alloc);
-    for resource in resources {
-        made.push(singled_out(alloc, resource)?)?;
-    }
+/// `28` is the name of a parameter too.
+fn parameters(alloc: Global) -> Result<Listing<Param>, AllocError> {
     let mut params = Listing::new(alloc);
     params.push(parameter(alloc, "28")?)?;
-    let mut template = template(alloc, made);
-    template.params = params;
-    Ok(template)
+    Ok(params)
 }
 
-/// `18` is not made; `27` is a nested stack with a tag, which is not evaluated, and a parameter, which is.
-fn singled_out(alloc: Global, made: Res) -> Result<Res, AllocError> {
-    let mut made = made;
-    if made.name.is("18") {
-        made.condition = Some(text(alloc, "No")?);
-    }
-    if made.name.is("27") {
-        made.kind = text(alloc, "AWS::CloudFormation::Stack")?;
-        made = with_property(alloc, made, "Tags", reference(alloc, "29")?)?;
-        return with_property(alloc, made, "Parameters", reference(alloc, "26")?);
-    }
-    Ok(made)
+fn told_of_naming(alloc: Global, rows: &[(&str, &[(Naming, &str)])]) -> Result<String, AllocError> {
+    let params = parameters(alloc)?;
+    let resources = all_naming(alloc, rows)?;
+    let template = template(alloc, params, resources);
+    told(alloc, &template)
 }
 
 /// `04`, `06`, `09` (the parameter hides `28`), `13`, `15`, `17` (`18` is not made), `19` (which names `18` in a branch
@@ -414,9 +536,7 @@ fn singled_out(alloc: Global, made: Res) -> Result<Res, AllocError> {
 /// come as soon as `04` has, while `01`, `02`, `07`, `08` and `10` wait for `28` and `30`.
 #[test]
 fn thirty_resources_come_in_order(rt: HostRuntime) -> Result<(), Fail> {
-    let alloc = rt.alloc();
-    let template = thirty(alloc)?;
-    let line = told(alloc, &template)?;
+    let line = told_of_naming(rt.alloc(), &THIRTY)?;
     assert_eq!(rt;
         line.as_str(),
         "04:; 05: 04; 03: 05; 06:; 09:; 13:; 12: 13; 11: 12; 14: 11 13; 15:; 16: 04 15; 17:; 19:; 20:; 21: 20; 22: 21; 23: 22; 24: 20 23; 26:; 25: 26; 27: 25 26; 28:; 10: 28; 07: 10; 08: 06 07; 29: 27; 30:; 01: 30; 02: 01; "

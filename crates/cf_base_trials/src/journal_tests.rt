@@ -1,5 +1,5 @@
 //! The worked example, the refusals with their offsets, and a run that is stopped at each call of its disk.
-ghost use Rattle.std.specs.Prelude.{◌≡◌, ◌≤◌, ◌^◌, length};
+ghost use Rattle.std.specs.Prelude.{◌≡◌, ◌≤◌, ◌^◌};
 ghost use Rattle.cf_disk.specs.Memory.{memory_room};
 ghost use Rattle.cf_entry.specs.Entry.{IsProper};
 
@@ -8,6 +8,7 @@ use cf_entry::{Entry, LaneNames, entry_size};
 use cf_journal::{AppendFault, RecoverFault, recover};
 use cf_tree::{NoMemory, Txt};
 use std::alloc::{AllocError, Global};
+use std::process::Abort;
 use std::test::Fail;
 
 // The head, and one entry: the opening of the epoch 1 with the lane f1 of the type Local::Files::File.
@@ -23,8 +24,28 @@ fn lanes(alloc: Global) -> Result<LaneNames, AllocError> {
     Ok(lanes)
 }
 
+// What the append of an entry answers.
+#[derive(Clone, Copy, Debug, PartialEq, Eq)]
+enum Told {
+    Done,
+    Full { length: u64, need: u64, room: u64 },
+    Fault,
+    // The opening of the epoch 1 has another size than 41.
+    OtherSize,
+    // The bytes are more than the disk has room for, or no disk has that room.
+    NoDisk,
+}
+
+fn told_by(answer: Result<(), AppendFault>) -> Told {
+    match answer {
+        Ok(()) => Told::Done,
+        Err(AppendFault::Full { length, need, room }) => Told::Full { length, need, room },
+        Err(AppendFault::DiskFault) => Told::Fault,
+    }
+}
+
 // What the append of an entry answers, once the journal is recovered.
-fn append_to<D: Disk>(alloc: Global, disk: &mut D, entry: &Entry) -> Result<(), AppendFault>
+fn append_to<D: Disk>(alloc: Global, disk: &mut D, entry: &Entry) -> Told
     requires least { 16 ≤ D.room_of disk.old }
     requires most { D.room_of disk.old ≤ 2 ^ 32 }
     requires proper { IsProper entry.now }
@@ -32,73 +53,163 @@ fn append_to<D: Disk>(alloc: Global, disk: &mut D, entry: &Entry) -> Result<(), 
 {
     match recover(alloc, disk) {
         Ok((mut journal, _entries)) => match journal.reserve(entry_size(entry)) {
-            Ok(()) => journal.append(disk, entry),
-            Err(_) => Err(AppendFault::DiskFault),
+            Ok(()) => told_by(journal.append(disk, entry)),
+            Err(_) => Told::Fault,
         },
-        Err(_) => Err(AppendFault::DiskFault),
+        Err(_) => Told::Fault,
     }
 }
 
-// What the append of the opening answers on a disk that can note so many calls and bytes.
-fn append_opening(
-    alloc: Global,
-    bytes: &[u8],
+// The append of the opening. A check of the entry's going is short where `drop` has it.
+fn append_opening<D: Disk>(alloc: Global, disk: &mut D) -> Result<Told, AllocError>
+    requires least { 16 ≤ D.room_of disk.old }
+    requires most { D.room_of disk.old ≤ 2 ^ 32 }
+    ensures { D.room_of disk.new ≡ D.room_of disk.old }
+{
+    let lanes = lanes(alloc)?;
+    let entry = Entry::Opened { epoch: 1, lanes };
+    let told = append_to(alloc, disk, &entry);
+    let size = entry_size(&entry);
+    drop(entry);
+    if size == 41 {
+        Ok(told)
+    } else {
+        Ok(Told::OtherSize)
+    }
+}
+
+// What an append answers, and whether the disk then holds the one entry.
+#[derive(Clone, Copy)]
+struct Appended {
+    told: Told,
+    is_one: bool,
+}
+
+fn append_on(alloc: Global, disk: MemoryDisk) -> Result<Appended, AllocError>
+    requires least { 16 ≤ memory_room disk }
+    requires most { memory_room disk ≤ 2 ^ 32 }
+{
+    let mut disk = disk;
+    match append_opening(alloc, &mut disk) {
+        Ok(told) => Ok(Appended {
+            told,
+            is_one: disk.bytes() == ONE_ENTRY.as_slice(),
+        }),
+        Err(failed) => Err(failed),
+    }
+}
+
+// A disk of these bytes that can note so many calls and bytes, and what the append of the opening answers there.
+#[derive(Clone, Copy)]
+struct Trial {
+    bytes: &'static [u8],
     room: u64,
     calls: u64,
     written: u64,
-) -> Result<Result<(), AppendFault>, NoMemory>
-    requires bytes { length bytes.now ≤ room }
-    requires least { 16 ≤ room }
-    requires most { room ≤ 2 ^ 32 }
-{
-    let mut disk = MemoryDisk::new(alloc, bytes, room, &[], calls, written)?;
-    let lanes = lanes(alloc)?;
-    let entry = Entry::Opened { epoch: 1, lanes };
-    Ok(append_to(alloc, &mut disk, &entry))
+    told: Told,
 }
 
-#[test]
-fn an_append_is_four_calls_and_47_bytes(rt: HostRuntime) -> Result<(), Fail> {
-    let alloc = rt.alloc();
-    // Recovering takes a sync, the length and a read.
-    assert_eq!(rt; append_opening(alloc, ONE_ENTRY, 200, 7, 47)?, Ok(()));
-    assert_eq!(rt;
-        append_opening(alloc, ONE_ENTRY, 200, 6, 47)?,
-        Err(AppendFault::DiskFault)
-    );
-    assert_eq!(rt;
-        append_opening(alloc, ONE_ENTRY, 200, 7, 46)?,
-        Err(AppendFault::DiskFault)
-    );
+fn tried(alloc: Global, trial: &Trial) -> Result<Appended, NoMemory> {
+    let Trial {
+        bytes,
+        room,
+        calls,
+        written,
+        told: _,
+    } = *trial;
+    if room < 16 || room > 1 << 32 || bytes.len() as u64 > room {
+        return Ok(Appended {
+            told: Told::NoDisk,
+            is_one: false,
+        });
+    }
+    let disk = MemoryDisk::new(alloc, bytes, room, &[], calls, written)?;
+    Ok(append_on(alloc, disk)?)
+}
+
+fn are_told(rt: &impl Abort, alloc: Global, trials: &[Trial]) -> Result<(), Fail> {
+    for trial in trials {
+        assert_eq!(rt; tried(alloc, trial)?.told, trial.told);
+    }
     Ok(())
 }
 
-// Whether a new journal of 56 bytes' room holds the one entry after its append.
-fn holds_one_entry(alloc: Global) -> Result<bool, NoMemory> {
-    let mut disk = MemoryDisk::new(alloc, &[], 56, &[], 40, 200)?;
-    let lanes = lanes(alloc)?;
-    let entry = Entry::Opened { epoch: 1, lanes };
-    let answer = append_to(alloc, &mut disk, &entry);
-    Ok(entry_size(&entry) == 41 && answer == Ok(()) && disk.bytes() == ONE_ENTRY.as_slice())
+// Recovering takes a sync, the length and a read.
+const CALLS: [Trial; 3] = [
+    Trial {
+        bytes: ONE_ENTRY,
+        room: 200,
+        calls: 7,
+        written: 47,
+        told: Told::Done,
+    },
+    Trial {
+        bytes: ONE_ENTRY,
+        room: 200,
+        calls: 6,
+        written: 47,
+        told: Told::Fault,
+    },
+    Trial {
+        bytes: ONE_ENTRY,
+        room: 200,
+        calls: 7,
+        written: 46,
+        told: Told::Fault,
+    },
+];
+
+#[test]
+fn an_append_is_four_calls_and_47_bytes(rt: HostRuntime) -> Result<(), Fail> {
+    are_told(&rt, rt.alloc(), &CALLS)
 }
+
+// A new journal holds the one entry.
+const FIRST: Trial = Trial {
+    bytes: &[],
+    room: 56,
+    calls: 40,
+    written: 200,
+    told: Told::Done,
+};
+
+const ROOMS: [Trial; 4] = [
+    FIRST,
+    Trial {
+        bytes: &[],
+        room: 55,
+        calls: 40,
+        written: 200,
+        told: Told::Full {
+            length: 10,
+            need: 46,
+            room: 55,
+        },
+    },
+    Trial {
+        bytes: ONE_ENTRY,
+        room: 101,
+        calls: 40,
+        written: 200,
+        told: Told::Full {
+            length: 56,
+            need: 46,
+            room: 101,
+        },
+    },
+    Trial {
+        bytes: ONE_ENTRY,
+        room: 102,
+        calls: 40,
+        written: 200,
+        told: Told::Done,
+    },
+];
 
 #[test]
 fn the_first_entry_needs_46_bytes(rt: HostRuntime) -> Result<(), Fail> {
-    let alloc = rt.alloc();
-    assert!(rt; holds_one_entry(alloc)?);
-    let full = AppendFault::Full {
-        length: 10,
-        need: 46,
-        room: 55,
-    };
-    assert_eq!(rt; append_opening(alloc, &[], 55, 40, 200)?, Err(full));
-    let full = AppendFault::Full {
-        length: 56,
-        need: 46,
-        room: 101,
-    };
-    assert_eq!(rt; append_opening(alloc, ONE_ENTRY, 101, 40, 200)?, Err(full));
-    assert_eq!(rt; append_opening(alloc, ONE_ENTRY, 102, 40, 200)?, Ok(()));
+    are_told(&rt, rt.alloc(), &ROOMS)?;
+    assert!(rt; tried(rt.alloc(), &FIRST)?.is_one);
     Ok(())
 }
 
@@ -121,82 +232,103 @@ fn found_on(alloc: Global, disk: &mut MemoryDisk) -> Found
     }
 }
 
-fn found_in(alloc: Global, bytes: &[u8]) -> Result<Found, NoMemory>
-    requires { length bytes.now ≤ 200 }
-{
+fn found_in(alloc: Global, bytes: &[u8]) -> Result<Found, NoMemory> {
+    if bytes.len() > 200 {
+        return Ok(Found::Nothing);
+    }
     let mut disk = MemoryDisk::new(alloc, bytes, 200, &[], 40, 200)?;
     Ok(found_on(alloc, &mut disk))
 }
 
-#[test]
-fn what_is_no_journal_is_refused(rt: HostRuntime) -> Result<(), Fail> {
-    let alloc = rt.alloc();
-    assert_eq!(rt; found_in(alloc, b"hello world")?, Found::NoJournal(1));
-    assert_eq!(rt; found_in(alloc, b"\x07CFST")?, Found::NoJournal(1));
-    // The first gate is missing, or the next one.
-    assert_eq!(rt; found_in(alloc, b"\x01CFSTACK1")?, Found::NoJournal(9));
-    assert_eq!(rt; found_in(alloc, &ONE_ENTRY[..55])?, Found::NoJournal(9));
-    // Neither a lone kind nor no bytes at all are an entry.
-    assert_eq!(rt;
-        found_in(alloc, b"\x01CFSTACK1\x01\x00\x00\x00\x01\x03\x00")?,
-        Found::NoJournal(9)
-    );
-    assert_eq!(rt;
-        found_in(alloc, b"\x01CFSTACK1\x01\x00\x00\x00\x00\x00")?,
-        Found::NoJournal(9)
-    );
-    // Behind an entry an open gate has no frame.
-    let mut bytes = *ONE_ENTRY;
-    bytes[55] = 1;
-    assert_eq!(rt; found_in(alloc, &bytes)?, Found::NoJournal(55));
+fn is_found(rt: &impl Abort, alloc: Global, bytes: &[u8], wanted: Found) -> Result<(), Fail> {
+    assert_eq!(rt; found_in(alloc, bytes)?, wanted);
     Ok(())
 }
 
+const NO_JOURNALS: [(&[u8], u64); 5] = [
+    (b"hello world", 1),
+    (b"\x07CFST", 1),
+    // The first gate is missing.
+    (b"\x01CFSTACK1", 9),
+    // Neither a lone kind nor no bytes at all are an entry.
+    (b"\x01CFSTACK1\x01\x00\x00\x00\x01\x03\x00", 9),
+    (b"\x01CFSTACK1\x01\x00\x00\x00\x00\x00", 9),
+];
+
+#[test]
+fn what_is_no_journal_is_refused(rt: HostRuntime) -> Result<(), Fail> {
+    for (bytes, offset) in &NO_JOURNALS {
+        is_found(&rt, rt.alloc(), bytes, Found::NoJournal(*offset))?;
+    }
+    // The next gate is missing.
+    is_found(&rt, rt.alloc(), &ONE_ENTRY[..55], Found::NoJournal(9))?;
+    // Behind an entry an open gate has no frame.
+    let mut bytes = *ONE_ENTRY;
+    bytes[55] = 1;
+    is_found(&rt, rt.alloc(), &bytes, Found::NoJournal(55))
+}
+
+const CLOSED: [(&[u8], usize); 5] = [
+    (ONE_ENTRY, 1),
+    (b"\x01CFSTACK1\x02\x01\x01", 0),
+    (b"\x00CFSTACK2\x01", 0),
+    (b"\x07CFSTACK1\x01", 0),
+    (b"\x01", 0),
+];
+
 #[test]
 fn a_closed_gate_ends_the_journal(rt: HostRuntime) -> Result<(), Fail> {
-    let alloc = rt.alloc();
-    assert_eq!(rt; found_in(alloc, ONE_ENTRY)?, Found::Entries(1));
-    assert_eq!(rt;
-        found_in(alloc, b"\x01CFSTACK1\x02\x01\x01")?,
-        Found::Entries(0)
-    );
-    assert_eq!(rt; found_in(alloc, b"\x00CFSTACK2\x01")?, Found::Entries(0));
-    assert_eq!(rt; found_in(alloc, b"\x07CFSTACK1\x01")?, Found::Entries(0));
-    assert_eq!(rt; found_in(alloc, b"\x01")?, Found::Entries(0));
+    for (bytes, entries) in &CLOSED {
+        is_found(&rt, rt.alloc(), bytes, Found::Entries(*entries))?;
+    }
     Ok(())
 }
 
 // What is found after an append that stops at a call of the disk.
-fn found_after(alloc: Global, bytes: &[u8], calls: u64) -> Result<Found, NoMemory>
-    requires { length bytes.now ≤ 200 }
+fn found_behind(alloc: Global, disk: MemoryDisk, calls: u64) -> Result<Found, AllocError>
+    requires least { 16 ≤ memory_room disk }
+    requires most { memory_room disk ≤ 2 ^ 32 }
 {
-    let disk = MemoryDisk::new(alloc, bytes, 200, &[], 60, 200)?;
     let mut fuse = FuseDisk::new(disk, calls);
-    let lanes = lanes(alloc)?;
-    let entry = Entry::Opened { epoch: 1, lanes };
-    let _ = append_to(alloc, &mut fuse, &entry);
-    let mut disk = fuse.into_disk();
-    Ok(found_on(alloc, &mut disk))
+    match append_opening(alloc, &mut fuse) {
+        Ok(_) => {
+            let mut disk = fuse.into_disk();
+            Ok(found_on(alloc, &mut disk))
+        }
+        Err(failed) => Err(failed),
+    }
+}
+
+fn found_after(alloc: Global, bytes: &[u8], calls: u64) -> Result<Found, NoMemory> {
+    if bytes.len() > 200 {
+        return Ok(Found::Nothing);
+    }
+    let disk = MemoryDisk::new(alloc, bytes, 200, &[], 60, 200)?;
+    Ok(found_behind(alloc, disk, calls)?)
+}
+
+fn is_found_after(
+    rt: &impl Abort,
+    alloc: Global,
+    bytes: &[u8],
+    calls: u64,
+    entries: usize,
+) -> Result<(), Fail> {
+    assert_eq!(rt; found_after(alloc, bytes, calls)?, Found::Entries(entries));
+    Ok(())
 }
 
 #[test]
 fn a_stop_leaves_the_old_entries_or_the_new_one_too(rt: HostRuntime) -> Result<(), Fail> {
-    let alloc = rt.alloc();
     // A sync, the length, a read, the making by four writes and four syncs, and the append by two of each. What a read
     // gives has the entry from the last write on.
     for calls in 0..16 {
         let entries = if calls < 14 { 0 } else { 1 };
-        assert_eq!(rt;
-            found_after(alloc, b"\x07CFSTACK1\x01\x00", calls)?,
-            Found::Entries(entries)
-        );
+        is_found_after(&rt, rt.alloc(), b"\x07CFSTACK1\x01\x00", calls, entries)?;
     }
     for calls in 0..8 {
         let entries = if calls < 6 { 1 } else { 2 };
-        assert_eq!(rt;
-            found_after(alloc, ONE_ENTRY, calls)?,
-            Found::Entries(entries)
-        );
+        is_found_after(&rt, rt.alloc(), ONE_ENTRY, calls, entries)?;
     }
     Ok(())
 }

@@ -2,67 +2,103 @@
 use cf_param::{BindFault, Given, Piece, bind};
 use cf_tree::{Bound, ByName, Kind, Listing, Names, Param, Setting, Template, Txt, Val};
 use std::alloc::{AllocError, Global};
+use std::process::Abort;
 use std::test::Fail;
 
-fn named(alloc: Global) -> Result<Txt, AllocError> {
-    Txt::from_str(alloc, "N")
+/// What a parameter `N` has to be.
+#[derive(Clone, Copy)]
+struct Rule {
+    kind: Kind,
+    pattern: Option<&'static str>,
+    allowed: Option<&'static str>,
+    min_length: Option<u64>,
+    max_length: Option<u64>,
+    min_value: Option<i128>,
+    max_value: Option<i128>,
 }
 
-/// A parameter `N` without constraints.
-fn plain(alloc: Global, kind: Kind) -> Result<Param, AllocError> {
-    let name = named(alloc)?;
-    Ok(Param {
-        name,
+/// A rule without constraints.
+fn plain(kind: Kind) -> Rule {
+    Rule {
         kind,
-        default: None,
-        allowed: None,
         pattern: None,
+        allowed: None,
         min_length: None,
         max_length: None,
         min_value: None,
         max_value: None,
+    }
+}
+
+fn with_pattern(pattern: &'static str) -> Rule {
+    let mut rule = plain(Kind::Text);
+    rule.pattern = Some(pattern);
+    rule
+}
+
+fn with_values(least: Option<i128>, most: Option<i128>) -> Rule {
+    let mut rule = plain(Kind::Number);
+    rule.min_value = least;
+    rule.max_value = most;
+    rule
+}
+
+fn with_lengths(least: Option<u64>, most: Option<u64>) -> Rule {
+    let mut rule = plain(Kind::Text);
+    rule.min_length = least;
+    rule.max_length = most;
+    rule
+}
+
+fn with_allowed(text: &'static str) -> Rule {
+    let mut rule = plain(Kind::Commas);
+    rule.allowed = Some(text);
+    rule
+}
+
+fn pattern_of(alloc: Global, pattern: Option<&'static str>) -> Result<Option<Txt>, AllocError> {
+    match pattern {
+        Some(text) => Ok(Some(Txt::from_str(alloc, text)?)),
+        None => Ok(None),
+    }
+}
+
+fn one_name(alloc: Global, text: &str) -> Result<Names, AllocError> {
+    let mut names = Names::new(alloc);
+    names.push(Txt::from_str(alloc, text)?)?;
+    Ok(names)
+}
+
+fn allowed_of(alloc: Global, text: Option<&'static str>) -> Result<Option<Names>, AllocError> {
+    match text {
+        Some(text) => Ok(Some(one_name(alloc, text)?)),
+        None => Ok(None),
+    }
+}
+
+fn param_of(alloc: Global, rule: &Rule) -> Result<Param, AllocError> {
+    let name = Txt::from_str(alloc, "N")?;
+    let pattern = pattern_of(alloc, rule.pattern)?;
+    let allowed = allowed_of(alloc, rule.allowed)?;
+    Ok(Param {
+        name,
+        kind: rule.kind,
+        default: None,
+        allowed,
+        pattern,
+        min_length: rule.min_length,
+        max_length: rule.max_length,
+        min_value: rule.min_value,
+        max_value: rule.max_value,
         no_echo: false,
         description: None,
         constraint: None,
     })
 }
 
-fn with_pattern(alloc: Global, pattern: &str) -> Result<Param, AllocError> {
-    let pattern = Txt::from_str(alloc, pattern)?;
-    let mut param = plain(alloc, Kind::Text)?;
-    param.pattern = Some(pattern);
-    Ok(param)
-}
-
-fn with_values(
-    alloc: Global,
-    least: Option<i128>,
-    most: Option<i128>,
-) -> Result<Param, AllocError> {
-    let mut param = plain(alloc, Kind::Number)?;
-    param.min_value = least;
-    param.max_value = most;
-    Ok(param)
-}
-
-fn with_lengths(alloc: Global, least: Option<u64>, most: Option<u64>) -> Result<Param, AllocError> {
-    let mut param = plain(alloc, Kind::Text)?;
-    param.min_length = least;
-    param.max_length = most;
-    Ok(param)
-}
-
-fn with_allowed(alloc: Global, text: &str) -> Result<Param, AllocError> {
-    let mut allowed = Names::new(alloc);
-    allowed.push(Txt::from_str(alloc, text)?)?;
-    let mut param = plain(alloc, Kind::Commas)?;
-    param.allowed = Some(allowed);
-    Ok(param)
-}
-
-fn template_of(alloc: Global, param: Param) -> Result<Template, AllocError> {
+fn template_of(alloc: Global, rule: &Rule) -> Result<Template, AllocError> {
     let mut params = Listing::new(alloc);
-    params.push(param)?;
+    params.push(param_of(alloc, rule)?)?;
     Ok(Template {
         params,
         mappings: ByName::new(alloc),
@@ -72,171 +108,175 @@ fn template_of(alloc: Global, param: Param) -> Result<Template, AllocError> {
     })
 }
 
-fn given(alloc: Global, name: &str, text: &str) -> Result<Given, AllocError> {
+fn given_of(alloc: Global, name: &str, text: &str) -> Result<Given, AllocError> {
+    let name = Txt::from_str(alloc, name)?;
+    let text = Txt::from_str(alloc, text)?;
     let mut pieces = ByName::new(alloc);
-    pieces.insert(
-        Txt::from_str(alloc, name)?,
-        Piece::Text(Txt::from_str(alloc, text)?),
-    )?;
+    pieces.insert(name, Piece::Text(text))?;
     Ok(Given::from_names(pieces))
 }
 
-/// What a text binds a template's one parameter to.
-fn bound(alloc: Global, param: Param, text: &str) -> Result<Result<Bound, BindFault>, AllocError> {
-    let template = template_of(alloc, param)?;
-    let given = given(alloc, "N", text)?;
-    Ok(bind(alloc, &template, &given))
+/// A fault: what it is, and of what name.
+fn spelled(alloc: Global, fault: &BindFault) -> Result<String, AllocError> {
+    let (what, name) = match fault {
+        BindFault::Undeclared { name } => ("Undeclared", name.as_str()),
+        BindFault::Missing { name } => ("Missing", name.as_str()),
+        BindFault::NotANumber { name } => ("NotANumber", name.as_str()),
+        BindFault::TooShort { name } => ("TooShort", name.as_str()),
+        BindFault::TooLong { name } => ("TooLong", name.as_str()),
+        BindFault::TooSmall { name } => ("TooSmall", name.as_str()),
+        BindFault::TooLarge { name } => ("TooLarge", name.as_str()),
+        BindFault::NotAllowed { name } => ("NotAllowed", name.as_str()),
+        BindFault::NoMatch { name } => ("NoMatch", name.as_str()),
+        BindFault::BadPattern { name } => ("BadPattern", name.as_str()),
+        BindFault::NoMemory => ("NoMemory", ""),
+    };
+    Ok(format!(in alloc; "{what} {name}")?)
 }
 
-/// Why a text is refused.
-fn refusal(alloc: Global, param: Param, text: &str) -> Result<Option<BindFault>, AllocError> {
-    Ok(bound(alloc, param, text)?.err())
-}
-
-fn is_text(bound: &Bound, text: &str) -> bool {
+/// A value: its text, or the two of a pair.
+fn written(alloc: Global, bound: &Bound) -> Result<String, AllocError> {
     match bound.get("N") {
-        Some(Setting::Value(Val::Text(value))) => value.is(text),
-        _ => false,
-    }
-}
-
-fn is_pair(bound: &Bound, one: &str, two: &str) -> bool {
-    match bound.get("N") {
+        Some(Setting::Value(Val::Text(value))) => String::from_str(alloc, value.as_str()),
         Some(Setting::Value(Val::List(values))) => match values.as_slice() {
-            [Val::Text(first), Val::Text(second)] => first.is(one) && second.is(two),
-            _ => false,
+            [Val::Text(first), Val::Text(second)] => {
+                Ok(format!(in alloc; "{}|{}", first.as_str(), second.as_str())?)
+            }
+            _ => String::from_str(alloc, "no pair"),
         },
-        _ => false,
+        _ => String::from_str(alloc, "neither"),
     }
+}
+
+/// What is given binds a template's one parameter to this, or is refused so.
+fn told(alloc: Global, template: &Template, given: &Given) -> Result<String, AllocError> {
+    match bind(alloc, template, given) {
+        Ok(bound) => written(alloc, &bound),
+        Err(fault) => spelled(alloc, &fault),
+    }
+}
+
+fn told_of(alloc: Global, rule: &Rule, name: &str, text: &str) -> Result<String, AllocError> {
+    let given = given_of(alloc, name, text)?;
+    let template = template_of(alloc, rule)?;
+    told(alloc, &template, &given)
+}
+
+fn told_of_nothing(alloc: Global, rule: &Rule) -> Result<String, AllocError> {
+    let template = template_of(alloc, rule)?;
+    told(alloc, &template, &Given::new(alloc))
+}
+
+/// A text given for `N` binds it to this, or is refused so.
+fn is_told(
+    rt: &impl Abort,
+    alloc: Global,
+    rule: Rule,
+    text: &str,
+    wanted: &str,
+) -> Result<(), Fail> {
+    assert_eq!(rt; told_of(alloc, &rule, "N", text)?.as_str(), wanted);
+    Ok(())
 }
 
 #[test]
 fn a_number_keeps_its_text(rt: HostRuntime) -> Result<(), Fail> {
-    let param = with_values(rt.alloc(), Some(1_500_000_000), Some(1_500_000_000))?;
-    let bound = bound(rt.alloc(), param, "1.50")??;
-    assert!(rt; is_text(&bound, "1.50"));
-    Ok(())
+    let rule = with_values(Some(1_500_000_000), Some(1_500_000_000));
+    is_told(&rt, rt.alloc(), rule, "1.50", "1.50")
 }
 
 #[test]
 fn a_number_below_its_least(rt: HostRuntime) -> Result<(), Fail> {
-    let param = with_values(rt.alloc(), Some(1_500_000_000), None)?;
-    let name = named(rt.alloc())?;
-    assert_eq!(rt;
-        refusal(rt.alloc(), param, "1.499999999")?,
-        Some(BindFault::TooSmall { name })
-    );
-    Ok(())
+    let rule = with_values(Some(1_500_000_000), None);
+    is_told(&rt, rt.alloc(), rule, "1.499999999", "TooSmall N")
 }
 
 #[test]
 fn a_number_above_its_most(rt: HostRuntime) -> Result<(), Fail> {
-    let param = with_values(rt.alloc(), None, Some(1_500_000_000))?;
-    let name = named(rt.alloc())?;
-    assert_eq!(rt;
-        refusal(rt.alloc(), param, "1.500000001")?,
-        Some(BindFault::TooLarge { name })
-    );
-    Ok(())
+    let rule = with_values(None, Some(1_500_000_000));
+    is_told(&rt, rt.alloc(), rule, "1.500000001", "TooLarge N")
 }
 
 #[test]
 fn no_number(rt: HostRuntime) -> Result<(), Fail> {
-    let param = plain(rt.alloc(), Kind::Numbers)?;
-    let name = named(rt.alloc())?;
-    assert_eq!(rt;
-        refusal(rt.alloc(), param, "1, 2.")?,
-        Some(BindFault::NotANumber { name })
-    );
-    Ok(())
+    is_told(
+        &rt,
+        rt.alloc(),
+        plain(Kind::Numbers),
+        "1, 2.",
+        "NotANumber N",
+    )
 }
 
 #[test]
 fn a_length_counts_characters(rt: HostRuntime) -> Result<(), Fail> {
-    let param = with_lengths(rt.alloc(), Some(2), None)?;
-    let name = named(rt.alloc())?;
-    assert_eq!(rt;
-        refusal(rt.alloc(), param, "é")?,
-        Some(BindFault::TooShort { name })
-    );
-    Ok(())
+    is_told(
+        &rt,
+        rt.alloc(),
+        with_lengths(Some(2), None),
+        "é",
+        "TooShort N",
+    )
 }
 
 #[test]
 fn a_text_above_its_length(rt: HostRuntime) -> Result<(), Fail> {
-    let param = with_lengths(rt.alloc(), None, Some(3))?;
-    let name = named(rt.alloc())?;
-    assert_eq!(rt;
-        refusal(rt.alloc(), param, "abcd")?,
-        Some(BindFault::TooLong { name })
-    );
-    Ok(())
+    is_told(
+        &rt,
+        rt.alloc(),
+        with_lengths(None, Some(3)),
+        "abcd",
+        "TooLong N",
+    )
 }
 
 #[test]
 fn a_pattern_is_anchored(rt: HostRuntime) -> Result<(), Fail> {
-    let param = with_pattern(rt.alloc(), "a")?;
-    let name = named(rt.alloc())?;
-    assert_eq!(rt;
-        refusal(rt.alloc(), param, "ab")?,
-        Some(BindFault::NoMatch { name })
-    );
-    Ok(())
+    is_told(&rt, rt.alloc(), with_pattern("a"), "ab", "NoMatch N")
 }
 
 #[test]
 fn a_pattern_of_two_forms(rt: HostRuntime) -> Result<(), Fail> {
-    let param = with_pattern(rt.alloc(), "a|ab")?;
-    let bound = bound(rt.alloc(), param, "ab")??;
-    assert!(rt; is_text(&bound, "ab"));
-    Ok(())
+    is_told(&rt, rt.alloc(), with_pattern("a|ab"), "ab", "ab")
 }
 
 #[test]
 fn no_pattern(rt: HostRuntime) -> Result<(), Fail> {
-    let param = with_pattern(rt.alloc(), "(")?;
-    let name = named(rt.alloc())?;
-    assert_eq!(rt;
-        refusal(rt.alloc(), param, "ab")?,
-        Some(BindFault::BadPattern { name })
-    );
-    Ok(())
+    is_told(&rt, rt.alloc(), with_pattern("("), "ab", "BadPattern N")
 }
 
 #[test]
 fn a_list_is_cut_at_commas(rt: HostRuntime) -> Result<(), Fail> {
-    let param = plain(rt.alloc(), Kind::Commas)?;
-    let bound = bound(rt.alloc(), param, "alpha, beta")??;
-    assert!(rt; is_pair(&bound, "alpha", "beta"));
-    Ok(())
+    is_told(
+        &rt,
+        rt.alloc(),
+        plain(Kind::Commas),
+        "alpha, beta",
+        "alpha|beta",
+    )
 }
 
 #[test]
 fn a_member_is_not_allowed(rt: HostRuntime) -> Result<(), Fail> {
-    let param = with_allowed(rt.alloc(), "alpha")?;
-    let name = named(rt.alloc())?;
-    assert_eq!(rt;
-        refusal(rt.alloc(), param, "alpha, beta")?,
-        Some(BindFault::NotAllowed { name })
-    );
-    Ok(())
+    is_told(
+        &rt,
+        rt.alloc(),
+        with_allowed("alpha"),
+        "alpha, beta",
+        "NotAllowed N",
+    )
 }
 
 #[test]
 fn nothing_is_given(rt: HostRuntime) -> Result<(), Fail> {
-    let template = template_of(rt.alloc(), plain(rt.alloc(), Kind::Text)?)?;
-    let fault = bind(rt.alloc(), &template, &Given::new(rt.alloc())).err();
-    let name = named(rt.alloc())?;
-    assert_eq!(rt; fault, Some(BindFault::Missing { name }));
+    let told = told_of_nothing(rt.alloc(), &plain(Kind::Text))?;
+    assert_eq!(rt; told.as_str(), "Missing N");
     Ok(())
 }
 
 #[test]
 fn a_given_name_is_not_declared(rt: HostRuntime) -> Result<(), Fail> {
-    let template = template_of(rt.alloc(), plain(rt.alloc(), Kind::Text)?)?;
-    let given = given(rt.alloc(), "M", "m")?;
-    let fault = bind(rt.alloc(), &template, &given).err();
-    let name = Txt::from_str(rt.alloc(), "M")?;
-    assert_eq!(rt; fault, Some(BindFault::Undeclared { name }));
+    let told = told_of(rt.alloc(), &plain(Kind::Text), "M", "m")?;
+    assert_eq!(rt; told.as_str(), "Undeclared M");
     Ok(())
 }

@@ -1,45 +1,86 @@
 //! Whole templates: what is read, and every refusal with its place.
 use cf_template::{TemplateFault, read_template};
+use cf_tree::Txt;
 use std::alloc::Global;
 use std::process::Abort;
 use std::test::Fail;
 
+fn placed(alloc: Global, what: &str, place: &Txt) -> Result<String, Fail> {
+    Ok(format!(in alloc; "{what} {}", place.as_str())?)
+}
+
+fn counted(alloc: Global, what: &str, count: u64) -> Result<String, Fail> {
+    Ok(format!(in alloc; "{what} {count}")?)
+}
+
+fn too_many(alloc: Global, what: &Txt, count: u64) -> Result<String, Fail> {
+    Ok(format!(in alloc; "TooMany {} {count}", what.as_str())?)
+}
+
+fn unsupported(alloc: Global, path: &Txt, name: &Txt) -> Result<String, Fail> {
+    Ok(format!(in alloc; "Unsupported {} {}", path.as_str(), name.as_str())?)
+}
+
+fn word(alloc: Global, what: &str) -> Result<String, Fail> {
+    Ok(String::from_str(alloc, what)?)
+}
+
 /// The fault in words: its name, then its place, its name or its count.
 fn spelled(alloc: Global, fault: &TemplateFault) -> Result<String, Fail> {
-    let text = match fault {
-        TemplateFault::NotJson => String::from_str(alloc, "NotJson")?,
-        TemplateFault::TooLong { length } => format!(in alloc; "TooLong {length}")?,
-        TemplateFault::WrongShape { path } => format!(in alloc; "WrongShape {}", path.as_str())?,
-        TemplateFault::UnknownSection { name } => format!(in alloc;
-            "UnknownSection {}",
-            name.as_str()
-        )?,
-        TemplateFault::BadVersion => String::from_str(alloc, "BadVersion")?,
-        TemplateFault::NullValue { path } => format!(in alloc; "NullValue {}", path.as_str())?,
-        TemplateFault::BadNumber { path } => format!(in alloc; "BadNumber {}", path.as_str())?,
-        TemplateFault::BadName { path } => format!(in alloc; "BadName {}", path.as_str())?,
-        TemplateFault::TooMany { what, count } => format!(in alloc;
-            "TooMany {} {count}",
-            what.as_str()
-        )?,
-        TemplateFault::UnknownFunction { path } => format!(in alloc;
-            "UnknownFunction {}",
-            path.as_str()
-        )?,
-        TemplateFault::Unsupported { path, name } => {
-            format!(in alloc; "Unsupported {} {}", path.as_str(), name.as_str())?
-        }
-        TemplateFault::NoMemory => String::from_str(alloc, "NoMemory")?,
-    };
-    Ok(text)
+    match fault {
+        TemplateFault::NotJson => word(alloc, "NotJson"),
+        TemplateFault::TooLong { length } => counted(alloc, "TooLong", *length),
+        TemplateFault::WrongShape { path } => placed(alloc, "WrongShape", path),
+        TemplateFault::UnknownSection { name } => placed(alloc, "UnknownSection", name),
+        TemplateFault::BadVersion => word(alloc, "BadVersion"),
+        TemplateFault::NullValue { path } => placed(alloc, "NullValue", path),
+        TemplateFault::BadNumber { path } => placed(alloc, "BadNumber", path),
+        TemplateFault::BadName { path } => placed(alloc, "BadName", path),
+        TemplateFault::TooMany { what, count } => too_many(alloc, what, *count),
+        TemplateFault::UnknownFunction { path } => placed(alloc, "UnknownFunction", path),
+        TemplateFault::Unsupported { path, name } => unsupported(alloc, path, name),
+        TemplateFault::NoMemory => word(alloc, "NoMemory"),
+    }
 }
 
 /// What reading answers, in words.
-fn told(alloc: Global, text: &str) -> Result<String, Fail> {
-    match read_template(alloc, text.as_bytes()) {
-        Ok(_) => Ok(String::from_str(alloc, "read")?),
-        Err(fault) => spelled(alloc, &fault),
+fn told(alloc: Global, bytes: &[u8]) -> Result<String, Fail> {
+    match read_template(alloc, bytes) {
+        Ok(template) => {
+            drop(template);
+            word(alloc, "read")
+        }
+        Err(fault) => {
+            let words = spelled(alloc, &fault);
+            drop(fault);
+            words
+        }
     }
+}
+
+/// What is told of these bytes.
+fn is_told(rt: &impl Abort, alloc: Global, bytes: &[u8], wanted: &str) -> Result<(), Fail> {
+    assert_eq!(rt; told(alloc, bytes)?.as_str(), wanted);
+    Ok(())
+}
+
+/// What is told of a text, which a failure shows.
+fn text_is_told(rt: &impl Abort, alloc: Global, text: &str, wanted: &str) -> Result<(), Fail> {
+    assert_eq!(rt; told(alloc, text.as_bytes())?.as_str(), wanted, "{text}");
+    Ok(())
+}
+
+/// What is told of a template of which this is a piece.
+fn piece_is_told(
+    rt: &impl Abort,
+    alloc: Global,
+    head: &str,
+    piece: &str,
+    tail: &str,
+    wanted: &str,
+) -> Result<(), Fail> {
+    let text = format!(in alloc; "{head}{piece}{tail}")?;
+    text_is_told(rt, alloc, text.as_str(), wanted)
 }
 
 /// Each row is a piece of a template, and what is told of the template.
@@ -51,8 +92,7 @@ fn are_told(
     tail: &str,
 ) -> Result<(), Fail> {
     for (piece, wanted) in rows {
-        let text = format!(in alloc; "{head}{piece}{tail}")?;
-        assert_eq!(rt; told(alloc, text.as_str())?.as_str(), *wanted, "{text}");
+        piece_is_told(rt, alloc, head, piece, tail, wanted)?;
     }
     Ok(())
 }
@@ -666,33 +706,58 @@ fn repeated(alloc: Global, piece: &str, times: usize) -> Result<String, Fail> {
     Ok(text)
 }
 
+/// So many copies of a piece, and then so many of an end.
+fn long_text(
+    alloc: Global,
+    piece: &str,
+    times: usize,
+    end: &str,
+    ends: usize,
+) -> Result<String, Fail> {
+    let last = repeated(alloc, end, ends)?;
+    let mut text = repeated(alloc, piece, times)?;
+    text.push_str(last.as_str())?;
+    Ok(text)
+}
+
+fn long_is_told(
+    rt: &impl Abort,
+    alloc: Global,
+    row: (&str, usize, &str, usize),
+    wanted: &str,
+) -> Result<(), Fail> {
+    let text = long_text(alloc, row.0, row.1, row.2, row.3)?;
+    is_told(rt, alloc, text.as_bytes(), wanted)
+}
+
 #[test]
 fn long_and_deep_texts_are_refused(rt: HostRuntime) -> Result<(), Fail> {
-    for (piece, times, end, ends, wanted) in [
-        (" ", 1_048_577, "", 0, "TooLong 1048577"),
-        (" ", 1_048_577, "{", 1, "TooLong 1048578"),
-        (" ", 1_048_576, "", 0, "NotJson"),
-        ("[", 128, "]", 128, "NotJson"),
-        ("[", 127, "]", 127, "WrongShape "),
+    for (row, wanted) in [
+        ((" ", 1_048_577, "", 0), "TooLong 1048577"),
+        ((" ", 1_048_577, "{", 1), "TooLong 1048578"),
+        ((" ", 1_048_576, "", 0), "NotJson"),
+        (("[", 128, "]", 128), "NotJson"),
+        (("[", 127, "]", 127), "WrongShape "),
     ] {
-        let mut text = repeated(rt.alloc(), piece, times)?;
-        text.push_str(repeated(rt.alloc(), end, ends)?.as_str())?;
-        assert_eq!(rt; told(rt.alloc(), text.as_str())?.as_str(), wanted);
+        long_is_told(&rt, rt.alloc(), row, wanted)?;
     }
     Ok(())
 }
 
 #[test]
 fn bytes_that_are_no_text_are_refused(rt: HostRuntime) -> Result<(), Fail> {
-    for bytes in [
-        &b"\"\xff\""[..],
-        &b"{\"Resources\":{\"A\":{\"Type\":\"\xc3\"}}}"[..],
-    ] {
-        match read_template(rt.alloc(), bytes) {
-            Ok(_) => assert!(rt; false, "a template"),
-            Err(fault) => assert_eq!(rt; spelled(rt.alloc(), &fault)?.as_str(), "NotJson"),
-        }
-    }
+    is_told(&rt, rt.alloc(), b"\"\xff\"", "NotJson")?;
+    is_told(
+        &rt,
+        rt.alloc(),
+        b"{\"Resources\":{\"A\":{\"Type\":\"\xc3\"}}}",
+        "NotJson",
+    )
+}
+
+fn add_number(alloc: Global, text: &mut String, number: u32) -> Result<(), Fail> {
+    let member = format!(in alloc; ",\"a{number}\":1")?;
+    text.push_str(member.as_str())?;
     Ok(())
 }
 
@@ -700,10 +765,21 @@ fn bytes_that_are_no_text_are_refused(rt: HostRuntime) -> Result<(), Fail> {
 fn crowded(alloc: Global, section: &str, count: u32) -> Result<String, Fail> {
     let mut text = format!(in alloc; "{{\"{section}\":{{\"a\":1")?;
     for number in 1..count {
-        text.push_str(format!(in alloc; ",\"a{number}\":1")?.as_str())?;
+        add_number(alloc, &mut text, number)?;
     }
     text.push_str("}}")?;
     Ok(text)
+}
+
+fn crowd_is_told(
+    rt: &impl Abort,
+    alloc: Global,
+    section: &str,
+    count: u32,
+    wanted: &str,
+) -> Result<(), Fail> {
+    let text = crowded(alloc, section, count)?;
+    is_told(rt, alloc, text.as_bytes(), wanted)
 }
 
 #[test]
@@ -717,8 +793,7 @@ fn crowded_sections_are_refused(rt: HostRuntime) -> Result<(), Fail> {
         ("Resources", 500, "WrongShape /Resources/a"),
         ("Resources", 501, "TooMany Resources 501"),
     ] {
-        let text = crowded(rt.alloc(), section, count)?;
-        assert_eq!(rt; told(rt.alloc(), text.as_str())?.as_str(), wanted);
+        crowd_is_told(&rt, rt.alloc(), section, count, wanted)?;
     }
     Ok(())
 }
@@ -734,17 +809,24 @@ const SECTIONS: [(&str, &str); 7] = [
     ("Resources", "WrongShape /Resources"),
 ];
 
+/// Two sections in the order in which they stand in the text.
+fn pair_is_told(
+    rt: &impl Abort,
+    alloc: Global,
+    first: &str,
+    second: &str,
+    wanted: &str,
+) -> Result<(), Fail> {
+    let text = format!(in alloc; "{{\"{first}\":1,\"{second}\":2}}")?;
+    text_is_told(rt, alloc, text.as_str(), wanted)
+}
+
 #[test]
 fn sections_are_refused_in_their_order(rt: HostRuntime) -> Result<(), Fail> {
     for (i, (first, wanted)) in SECTIONS.iter().enumerate() {
         for (j, (second, other)) in SECTIONS.iter().enumerate() {
-            let text = format!(in rt.alloc(); "{{\"{first}\":1,\"{second}\":2}}")?;
             let earlier = if i < j { wanted } else { other };
-            assert_eq!(rt;
-                told(rt.alloc(), text.as_str())?.as_str(),
-                *earlier,
-                "{text}"
-            );
+            pair_is_told(&rt, rt.alloc(), first, second, earlier)?;
         }
     }
     Ok(())

@@ -3,6 +3,7 @@ use cf_template::read_template;
 use cf_tree::{
     CondNode, Deletion, Expr, ExprNode, Kind, Out, Param, Replace, Res, Template, Txt, Val,
 };
+use std::alloc::{AllocError, Global};
 use std::process::Abort;
 use std::test::Fail;
 
@@ -140,33 +141,61 @@ fn conditions_are_kept(rt: &impl Abort, template: &Template) {
     }
 }
 
+/// The template that is read, if there is one.
+fn template_in(alloc: Global, text: &str) -> Option<Template> {
+    match read_template(alloc, text.as_bytes()) {
+        Ok(template) => Some(template),
+        Err(fault) => {
+            drop(fault);
+            None
+        }
+    }
+}
+
 #[test]
 fn each_section_is_read(rt: HostRuntime) -> Result<(), Fail> {
-    match read_template(rt.alloc(), WHOLE.as_bytes()) {
-        Ok(template) => {
+    match template_in(rt.alloc(), WHOLE) {
+        Some(template) => {
             sections_are_kept(&rt, &template);
             mappings_are_kept(&rt, &template);
             conditions_are_kept(&rt, &template);
+            drop(template);
         }
-        Err(_) => assert!(rt; false, "no template"),
+        None => assert!(rt; false, "no template"),
     }
     Ok(())
+}
+
+fn add_name(line: &mut String, name: &Txt) -> Result<(), AllocError> {
+    line.push_str(name.as_str())?;
+    line.push(' ')
+}
+
+fn names_of(alloc: Global, template: &Template) -> Result<String, AllocError> {
+    let mut names = String::new(alloc);
+    for resource in template.resources.as_slice() {
+        add_name(&mut names, &resource.name)?;
+    }
+    Ok(names)
+}
+
+/// The names of the resources, as they stand in the template that is read.
+fn names_in(alloc: Global, text: &str) -> Result<String, AllocError> {
+    match template_in(alloc, text) {
+        Some(template) => {
+            let names = names_of(alloc, &template);
+            drop(template);
+            names
+        }
+        None => String::from_str(alloc, "no template"),
+    }
 }
 
 #[test]
 fn resources_come_in_byte_order(rt: HostRuntime) -> Result<(), Fail> {
     let text =
         r#"{"Resources":{"b":{"Type":"T"},"B":{"Type":"T"},"A1":{"Type":"T"},"A":{"Type":"T"}}}"#;
-    let mut names = String::new(rt.alloc());
-    match read_template(rt.alloc(), text.as_bytes()) {
-        Ok(template) => {
-            for resource in template.resources.as_slice() {
-                names.push_str(resource.name.as_str())?;
-                names.push(' ')?;
-            }
-        }
-        Err(_) => assert!(rt; false, "no template"),
-    }
+    let names = names_in(rt.alloc(), text)?;
     assert_eq!(rt; names.as_str(), "A A1 B b ");
     Ok(())
 }
@@ -205,35 +234,50 @@ fn property_is(rt: &impl Abort, template: &Template, wanted: &str) {
     }
 }
 
+fn form_is_read(rt: &impl Abort, alloc: Global, text: &str, wanted: &str) {
+    match template_in(alloc, text) {
+        Some(template) => {
+            property_is(rt, &template, wanted);
+            drop(template);
+        }
+        None => assert!(rt; false, "{text}"),
+    }
+}
+
+fn value_is_read(rt: &impl Abort, alloc: Global, value: &str, wanted: &str) -> Result<(), Fail> {
+    let text = format!(in alloc;
+        "{{\"Parameters\":{{\"P\":{{\"Type\":\"String\"}}}},\"Resources\":{{\"A\":{{\"Type\":\"T\",\"Properties\":{{\"x\":{value}}}}}}}}}"
+    )?;
+    form_is_read(rt, alloc, text.as_str(), wanted);
+    Ok(())
+}
+
+/// Values of a property, and the form of each.
+const FORMS: [(&str, &str); 15] = [
+    (r#""t""#, "text"),
+    ("-9223372036854775808", "number"),
+    ("false", "truth"),
+    (r#"[1,["a"],{}]"#, "list"),
+    (r#"{"Refs":1,"Fn:X":{}}"#, "map"),
+    (r#"{"Ref":"AWS::NoValue"}"#, "Ref"),
+    (r#"{"Fn::GetAtt":["B",{"Ref":"P"}]}"#, "GetAtt"),
+    (r#"{"Fn::Sub":["${a}${!b}",{"a":{"Ref":"P"}}]}"#, "Sub"),
+    (r#"{"Fn::Join":["",{"Ref":"P"}]}"#, "Join"),
+    (r#"{"Fn::Select":[{"Ref":"P"},["a"]]}"#, "Select"),
+    (r#"{"Fn::Split":[",",{"Ref":"P"}]}"#, "Split"),
+    (r#"{"Fn::If":["C",[],{"Ref":"AWS::NoValue"}]}"#, "If"),
+    (
+        r#"{"Fn::FindInMap":[{"Ref":"P"},{"Ref":"AWS::Region"},{"Fn::FindInMap":["a","b","c"]}]}"#,
+        "FindInMap",
+    ),
+    (r#"{"Fn::ImportValue":{"Fn::Sub":"a"}}"#, "ImportValue"),
+    (r#"{"Fn::Base64":{"Fn::Base64":"a"}}"#, "Base64"),
+];
+
 #[test]
 fn each_form_of_a_value_is_read(rt: HostRuntime) -> Result<(), Fail> {
-    for (value, wanted) in [
-        (r#""t""#, "text"),
-        ("-9223372036854775808", "number"),
-        ("false", "truth"),
-        (r#"[1,["a"],{}]"#, "list"),
-        (r#"{"Refs":1,"Fn:X":{}}"#, "map"),
-        (r#"{"Ref":"AWS::NoValue"}"#, "Ref"),
-        (r#"{"Fn::GetAtt":["B",{"Ref":"P"}]}"#, "GetAtt"),
-        (r#"{"Fn::Sub":["${a}${!b}",{"a":{"Ref":"P"}}]}"#, "Sub"),
-        (r#"{"Fn::Join":["",{"Ref":"P"}]}"#, "Join"),
-        (r#"{"Fn::Select":[{"Ref":"P"},["a"]]}"#, "Select"),
-        (r#"{"Fn::Split":[",",{"Ref":"P"}]}"#, "Split"),
-        (r#"{"Fn::If":["C",[],{"Ref":"AWS::NoValue"}]}"#, "If"),
-        (
-            r#"{"Fn::FindInMap":[{"Ref":"P"},{"Ref":"AWS::Region"},{"Fn::FindInMap":["a","b","c"]}]}"#,
-            "FindInMap",
-        ),
-        (r#"{"Fn::ImportValue":{"Fn::Sub":"a"}}"#, "ImportValue"),
-        (r#"{"Fn::Base64":{"Fn::Base64":"a"}}"#, "Base64"),
-    ] {
-        let text = format!(in rt.alloc();
-            "{{\"Parameters\":{{\"P\":{{\"Type\":\"String\"}}}},\"Resources\":{{\"A\":{{\"Type\":\"T\",\"Properties\":{{\"x\":{value}}}}}}}}}"
-        )?;
-        match read_template(rt.alloc(), text.as_bytes()) {
-            Ok(template) => property_is(&rt, &template, wanted),
-            Err(_) => assert!(rt; false, "{text}"),
-        }
+    for (value, wanted) in &FORMS {
+        value_is_read(&rt, rt.alloc(), value, wanted)?;
     }
     Ok(())
 }
