@@ -143,7 +143,7 @@ fn are_told(
     Ok(())
 }
 
-/// Each call on a new lane, and the faults behind them.
+/// Each call on a new lane, and the faults behind them. `drop` keeps the check short: a lane let go in place makes it long.
 fn play(
     rt: &impl Abort,
     alloc: Global,

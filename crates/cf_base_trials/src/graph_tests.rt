@@ -524,9 +524,13 @@ fn parameters(alloc: Global) -> Result<Listing<Param>, AllocError> {
     Ok(params)
 }
 
-fn told_of_naming(alloc: Global, rows: &[(&str, &[(Naming, &str)])]) -> Result<String, AllocError> {
+fn thirty(alloc: Global) -> Result<Vec<Res>, AllocError> {
+    all_naming(alloc, &THIRTY)
+}
+
+fn told_of_thirty(alloc: Global) -> Result<String, AllocError> {
     let params = parameters(alloc)?;
-    let resources = all_naming(alloc, rows)?;
+    let resources = thirty(alloc)?;
     let template = template(alloc, params, resources);
     told(alloc, &template)
 }
@@ -536,7 +540,7 @@ fn told_of_naming(alloc: Global, rows: &[(&str, &[(Naming, &str)])]) -> Result<S
 /// come as soon as `04` has, while `01`, `02`, `07`, `08` and `10` wait for `28` and `30`.
 #[test]
 fn thirty_resources_come_in_order(rt: HostRuntime) -> Result<(), Fail> {
-    let line = told_of_naming(rt.alloc(), &THIRTY)?;
+    let line = told_of_thirty(rt.alloc())?;
     assert_eq!(rt;
         line.as_str(),
         "04:; 05: 04; 03: 05; 06:; 09:; 13:; 12: 13; 11: 12; 14: 11 13; 15:; 16: 04 15; 17:; 19:; 20:; 21: 20; 22: 21; 23: 22; 24: 20 23; 26:; 25: 26; 27: 25 26; 28:; 10: 28; 07: 10; 08: 06 07; 29: 27; 30:; 01: 30; 02: 01; "

@@ -60,7 +60,7 @@ fn append_to<D: Disk>(alloc: Global, disk: &mut D, entry: &Entry) -> Told
     }
 }
 
-// The append of the opening. A check of the entry's going is short where `drop` has it.
+// The append of the opening. `drop` keeps the check short: an entry let go in place takes a minute of it.
 fn append_opening<D: Disk>(alloc: Global, disk: &mut D) -> Result<Told, AllocError>
     requires least { 16 ≤ D.room_of disk.old }
     requires most { D.room_of disk.old ≤ 2 ^ 32 }
