@@ -13,10 +13,13 @@ pub fold_append : (x : World) (es fs : List Entry) → fold_of x (es ++ fs) ≡ 
 fold_append x [] fs = refl
 fold_append x (e ∷ es) fs = fold_append (world_after x e) es fs
 
--- one entry more, stepped over by the world with the room for it
-pub world_more : (w v : World) (es more : List Entry) (e : Entry) → v ≡ record (world_of es) { ready = v.ready } → w ≡ world_after v e → more ≡ es ++ e ∷ [] → w ≡ world_of more
-world_more w v es more e r s m =
-    s ∙ ap (λ x. world_after x e) r ∙ room_counts_not (world_of es) v.ready e ∙ sym (fold_append empty_world es (e ∷ [])) ∙ ap world_of (sym m)
+-- one entry more
+pub world_more : (w : World) (es more : List Entry) (e : Entry) → w ≡ world_after (world_of es) e → more ≡ es ++ e ∷ [] → w ≡ world_of more
+world_more w es more e s m = s ∙ sym (fold_append empty_world es (e ∷ [])) ∙ ap world_of (sym m)
+
+-- the same of a world that has made room for it
+pub world_stepped : (w v : World) (es more : List Entry) (e : Entry) → v ≡ record (world_of es) { ready = v.ready } → w ≡ world_after v e → more ≡ es ++ e ∷ [] → w ≡ world_of more
+world_stepped w v es more e r s m = world_more w es more e (s ∙ ap {A = World} (λ x. world_after x e) r ∙ room_counts_not (world_of es) v.ready e) m
 
 -- faults of a disk that rose later rose since an earlier moment
 pub faulted_since : {before now after : ℕ} → before ≤ now → HasFaulted now after → HasFaulted before after

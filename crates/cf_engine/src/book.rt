@@ -68,7 +68,6 @@ pub fn append<D: Disk>(
 }
 
 /// Appends an entry for which there is memory and room in the world; with a copy of it for the book.
-#[tactic(auto, using(crate::proofs::Books::world_more))]
 fn write<D: Disk>(book: &mut Book, disk: &mut D, entry: Entry, copy: Entry) -> Result<(), Halt>
     requires stands { Stands D.tells D.seen D.may_leave D.room_of book.old.journal disk.old }
     requires holds { Holds D.tells (D.seen disk.old) book.old.entries.items }
