@@ -1,13 +1,13 @@
 //! All steps that may follow in creations, with expected values worked out from the rules.
-use cf_entry::{Begun, Cause, Entries, Entry, LaneNames, Phase, Reason, Reply, Why};
+use crate::samples::{Deed, FILE, write};
+use cf_entry::{Cause, Entries, Reason};
 use cf_plan::{Dues, Next, due, is_creation};
 use cf_schema::Schemas;
 use cf_stacks::{World, fold};
-use cf_tree::{Bytes, Code, Dict, Pairs, Request, Source, Texts, Txt};
+use cf_tree::{Code, Request};
 use std::alloc::{AllocError, Global};
+use std::process::Abort;
 use std::test::Fail;
-
-const FILE: &str = "Local::Files::File";
 
 // Three files, none of which needs another.
 const THREE: &str = "{\"Resources\":{\
@@ -21,94 +21,6 @@ const NEEDED: &str = "{\"Resources\":{\
     \"C\":{\"Type\":\"Local::Files::File\",\"DeletionPolicy\":\"Retain\",\"Properties\":{\"Path\":\"c\"}},\
     \"D\":{\"Type\":\"Local::Files::File\",\"Properties\":{\"Path\":\"d\"}},\
     \"A\":{\"Type\":\"Local::Files::File\",\"Properties\":{\"Path\":\"a\"}}}}";
-
-fn text(alloc: Global, text: &str) -> Result<Txt, AllocError> {
-    Txt::from_str(alloc, text)
-}
-
-/// A source of one template.
-fn source(alloc: Global, template: &str) -> Result<Source, AllocError> {
-    let mut texts = Texts::new(alloc);
-    let bytes = Bytes::from_vec(Vec::from_slice(alloc, template.as_bytes())?);
-    texts.insert(text(alloc, "one")?, bytes)?;
-    Ok(Source {
-        root: text(alloc, "one")?,
-        texts,
-        given: Pairs::new(alloc),
-        imports: Pairs::new(alloc),
-        stack: text(alloc, "")?,
-        number: 0,
-    })
-}
-
-/// The lanes `f1` and `f2` of files are opened, and the creation of `s` begins.
-fn begun(alloc: Global, template: &str) -> Result<Entries, AllocError> {
-    let mut lanes = LaneNames::new(alloc);
-    lanes.push((text(alloc, "f1")?, text(alloc, FILE)?))?;
-    lanes.push((text(alloc, "f2")?, text(alloc, FILE)?))?;
-    let source = source(alloc, template)?;
-    let mut entries = Entries::new(alloc);
-    entries.push(Entry::Opened { epoch: 1, lanes })?;
-    entries.push(Entry::Begin {
-        number: 1,
-        stack: text(alloc, "s")?,
-        kind: Begun::Create { source },
-    })?;
-    Ok(entries)
-}
-
-/// The create of a path is written down.
-fn create(alloc: Global, token: u64, lane: &str, path: &str) -> Result<Entry, AllocError> {
-    Ok(Entry::Intent {
-        number: 1,
-        token,
-        lane: text(alloc, lane)?,
-        path: text(alloc, path)?,
-        request: Request::Create {
-            kind: text(alloc, FILE)?,
-            props: Dict::new(alloc),
-        },
-    })
-}
-
-fn answered(token: u64, answer: Reply) -> Entry {
-    Entry::Outcome {
-        number: 1,
-        token,
-        answer,
-        before: 0,
-        after: 1,
-    }
-}
-
-fn succeeded(alloc: Global, token: u64, physical: &str) -> Result<Entry, AllocError> {
-    let answer = Reply::Success {
-        physical: text(alloc, physical)?,
-        attrs: Dict::new(alloc),
-    };
-    Ok(answered(token, answer))
-}
-
-fn refused(token: u64) -> Entry {
-    answered(
-        token,
-        Reply::Failed {
-            code: Code::AccessDenied,
-        },
-    )
-}
-
-/// The creation turns back for the refusal at a path.
-fn turned(alloc: Global, path: &str) -> Result<Entry, AllocError> {
-    Ok(Entry::Phase {
-        number: 1,
-        phase: Phase::Back,
-        cause: Some(Cause::Handler {
-            path: text(alloc, path)?,
-            reason: Reason::Code(Code::AccessDenied),
-        }),
-    })
-}
 
 fn action(request: &Request) -> &'static str {
     match request {
@@ -185,109 +97,131 @@ fn due_line(alloc: Global, world: &World, out: &[u64]) -> Result<String, AllocEr
     }
     let schemas = Schemas::new(alloc);
     let dues = due(alloc, world, 1, out, &schemas)?;
-    lines_of(alloc, &dues)
+    let lines = lines_of(alloc, &dues);
+    drop(dues);
+    lines
 }
 
 /// The same in the world that entries leave.
 fn told(alloc: Global, entries: &Entries, out: &[u64]) -> Result<String, AllocError> {
     match fold(alloc, entries) {
-        Ok(world) => due_line(alloc, &world, out),
+        Ok(world) => {
+            let line = due_line(alloc, &world, out);
+            drop(world);
+            line
+        }
         Err(_) => String::from_str(alloc, "no world"),
     }
 }
 
-#[test]
-fn each_free_path_may_be_created(rt: HostRuntime) -> Result<(), Fail> {
-    let alloc = rt.alloc();
-    let mut entries = begun(alloc, THREE)?;
-    let line = told(alloc, &entries, &[])?;
-    assert_eq!(rt;
-        line.as_str(),
-        "create A [] 1; create B [] 1; create C [] 1; "
-    );
-    entries.push(create(alloc, 1, "f2", "B")?)?;
-    let line = told(alloc, &entries, &[1])?;
-    assert_eq!(rt; line.as_str(), "create A [] 2; create C [] 2; ");
-    entries.push(create(alloc, 2, "f1", "A")?)?;
-    let line = told(alloc, &entries, &[1, 2])?;
-    assert_eq!(rt; line.as_str(), "");
-    let line = told(alloc, &entries, &[2])?;
-    assert_eq!(rt; line.as_str(), "again create B [f2] 1; create C [] 3; ");
-    let line = told(alloc, &entries, &[])?;
-    assert_eq!(rt;
-        line.as_str(),
-        "again create B [f2] 1; again create A [f1] 2; create C [] 3; "
-    );
+fn is_told(
+    rt: &impl Abort,
+    alloc: Global,
+    entries: &Entries,
+    out: &[u64],
+    line: &str,
+) -> Result<(), Fail> {
+    assert_eq!(rt; told(alloc, entries, out)?.as_str(), line);
     Ok(())
 }
+
+/// A row of a trial: deeds that are written down, or the steps that follow while these tokens are out.
+#[derive(Clone, Copy)]
+enum Row {
+    Write(&'static [Deed]),
+    Told(&'static [u64], &'static str),
+}
+
+fn are_told(
+    rt: &impl Abort,
+    alloc: Global,
+    entries: &mut Entries,
+    rows: &[Row],
+) -> Result<(), Fail> {
+    for row in rows {
+        match *row {
+            Row::Write(deeds) => write(alloc, entries, deeds, 1)?,
+            Row::Told(out, line) => is_told(rt, alloc, entries, out, line)?,
+        }
+    }
+    Ok(())
+}
+
+fn play(rt: &impl Abort, alloc: Global, rows: &[Row]) -> Result<(), Fail> {
+    let mut entries = Entries::new(alloc);
+    let played = are_told(rt, alloc, &mut entries, rows);
+    drop(entries);
+    played
+}
+
+/// The lanes `f1` and `f2` of files.
+const LANES: [(&str, &str); 2] = [("f1", FILE), ("f2", FILE)];
+
+static FREE: [Row; 8] = [
+    Row::Write(&[Deed::Open(&LANES), Deed::Begin(THREE, &[])]),
+    Row::Told(&[], "create A [] 1; create B [] 1; create C [] 1; "),
+    Row::Write(&[Deed::Create(1, "f2", "B", FILE)]),
+    Row::Told(&[1], "create A [] 2; create C [] 2; "),
+    Row::Write(&[Deed::Create(2, "f1", "A", FILE)]),
+    Row::Told(&[1, 2], ""),
+    Row::Told(&[2], "again create B [f2] 1; create C [] 3; "),
+    Row::Told(
+        &[],
+        "again create B [f2] 1; again create A [f1] 2; create C [] 3; ",
+    ),
+];
+
+#[test]
+fn each_free_path_may_be_created(rt: HostRuntime) -> Result<(), Fail> {
+    play(&rt, rt.alloc(), &FREE)
+}
+
+static ENDED: [Row; 4] = [
+    Row::Write(&[
+        Deed::Open(&LANES),
+        Deed::Begin(THREE, &[]),
+        Deed::Create(1, "f1", "A", FILE),
+        Deed::Succeed(1, "f1:1"),
+        Deed::Create(2, "f2", "B", FILE),
+        Deed::Succeed(2, "f2:1"),
+        Deed::Create(3, "f1", "C", FILE),
+    ]),
+    Row::Told(&[3], ""),
+    Row::Write(&[Deed::Succeed(3, "f1:2")]),
+    Row::Told(&[], "CREATE_COMPLETE; "),
+];
 
 #[test]
 fn a_create_ends_or_turns_back(rt: HostRuntime) -> Result<(), Fail> {
-    let alloc = rt.alloc();
-    let mut entries = begun(alloc, THREE)?;
-    entries.push(create(alloc, 1, "f1", "A")?)?;
-    entries.push(succeeded(alloc, 1, "f1:1")?)?;
-    entries.push(create(alloc, 2, "f2", "B")?)?;
-    entries.push(succeeded(alloc, 2, "f2:1")?)?;
-    entries.push(create(alloc, 3, "f1", "C")?)?;
-    let line = told(alloc, &entries, &[3])?;
-    assert_eq!(rt; line.as_str(), "");
-    entries.push(succeeded(alloc, 3, "f1:2")?)?;
-    let line = told(alloc, &entries, &[])?;
-    assert_eq!(rt; line.as_str(), "CREATE_COMPLETE; ");
-    Ok(())
+    play(&rt, rt.alloc(), &ENDED)
 }
+
+static TAKEN_BACK: [Row; 12] = [
+    Row::Write(&[
+        Deed::Open(&LANES),
+        Deed::Begin(NEEDED, &[]),
+        Deed::Create(1, "f1", "A", FILE),
+        Deed::Succeed(1, "f1:1"),
+        Deed::Create(2, "f2", "B", FILE),
+        Deed::Succeed(2, "f2:1"),
+        Deed::Create(3, "f1", "C", FILE),
+        Deed::Create(4, "f2", "D", FILE),
+        Deed::Refuse(4, Code::AccessDenied),
+    ]),
+    Row::Told(&[3], ""),
+    Row::Write(&[Deed::Succeed(3, "f1:2")]),
+    Row::Told(&[], "turn D AccessDenied; "),
+    Row::Write(&[Deed::Turn("D")]),
+    Row::Told(&[], "delete B [f2] 5; keep C f1:2; "),
+    Row::Write(&[Deed::Keep("C", "f1:2"), Deed::Delete(5, "f2", "B", "f2:1")]),
+    Row::Told(&[5], ""),
+    Row::Write(&[Deed::Succeed(5, "f2:1")]),
+    Row::Told(&[], "delete A [f1] 6; "),
+    Row::Write(&[Deed::Delete(6, "f1", "A", "f1:1"), Deed::Succeed(6, "f1:1")]),
+    Row::Told(&[], "ROLLBACK_COMPLETE; "),
+];
 
 #[test]
 fn a_rollback_takes_back_what_nothing_needs(rt: HostRuntime) -> Result<(), Fail> {
-    let alloc = rt.alloc();
-    let mut entries = begun(alloc, NEEDED)?;
-    entries.push(create(alloc, 1, "f1", "A")?)?;
-    entries.push(succeeded(alloc, 1, "f1:1")?)?;
-    entries.push(create(alloc, 2, "f2", "B")?)?;
-    entries.push(succeeded(alloc, 2, "f2:1")?)?;
-    entries.push(create(alloc, 3, "f1", "C")?)?;
-    entries.push(create(alloc, 4, "f2", "D")?)?;
-    entries.push(refused(4))?;
-    let line = told(alloc, &entries, &[3])?;
-    assert_eq!(rt; line.as_str(), "");
-    entries.push(succeeded(alloc, 3, "f1:2")?)?;
-    let line = told(alloc, &entries, &[])?;
-    assert_eq!(rt; line.as_str(), "turn D AccessDenied; ");
-    entries.push(turned(alloc, "D")?)?;
-    let line = told(alloc, &entries, &[])?;
-    assert_eq!(rt; line.as_str(), "delete B [f2] 5; keep C f1:2; ");
-    entries.push(Entry::Kept {
-        number: 1,
-        path: text(alloc, "C")?,
-        physical: text(alloc, "f1:2")?,
-        why: Why::Retained,
-    })?;
-    entries.push(Entry::Intent {
-        number: 1,
-        token: 5,
-        lane: text(alloc, "f2")?,
-        path: text(alloc, "B")?,
-        request: Request::Delete {
-            physical: text(alloc, "f2:1")?,
-        },
-    })?;
-    let line = told(alloc, &entries, &[5])?;
-    assert_eq!(rt; line.as_str(), "");
-    entries.push(succeeded(alloc, 5, "f2:1")?)?;
-    let line = told(alloc, &entries, &[])?;
-    assert_eq!(rt; line.as_str(), "delete A [f1] 6; ");
-    entries.push(Entry::Intent {
-        number: 1,
-        token: 6,
-        lane: text(alloc, "f1")?,
-        path: text(alloc, "A")?,
-        request: Request::Delete {
-            physical: text(alloc, "f1:1")?,
-        },
-    })?;
-    entries.push(succeeded(alloc, 6, "f1:1")?)?;
-    let line = told(alloc, &entries, &[])?;
-    assert_eq!(rt; line.as_str(), "ROLLBACK_COMPLETE; ");
-    Ok(())
+    play(&rt, rt.alloc(), &TAKEN_BACK)
 }

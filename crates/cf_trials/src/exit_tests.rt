@@ -8,191 +8,180 @@ use cf_param::BindFault;
 use cf_template::TemplateFault;
 use cf_tree::{Code, Names, NoMemory, Txt};
 use std::alloc::Global;
+use std::process::Abort;
 use std::test::Fail;
 
-// Whether the line of an exit is this text.
+// Whether the line of an exit is this text. `drop` keeps the check short: an exit let go in place makes it long.
 fn prints(alloc: Global, exit: Exit, line: &str) -> Result<bool, NoMemory> {
     let mut text = String::new(alloc);
-    exit.push_line(alloc, &mut text)?;
+    let pushed = exit.push_line(alloc, &mut text);
+    drop(exit);
+    pushed?;
     Ok(text.as_str() == line)
+}
+
+fn is_printed(rt: &impl Abort, alloc: Global, exit: Exit, line: &str) -> Result<(), Fail> {
+    assert!(rt; prints(alloc, exit, line)?, "at {line}");
+    Ok(())
+}
+
+fn lane_twice(alloc: Global) -> Result<Exit, NoMemory> {
+    let name = Txt::from_str(alloc, "f1")?;
+    Ok(Exit::LaneTwice { name })
 }
 
 #[test]
 fn lines_of_exits(rt: HostRuntime) -> Result<(), Fail> {
     let alloc = rt.alloc();
-    assert!(rt; prints(alloc, Exit::Done, "exit 0 Done\n")?);
-    assert!(rt; prints(alloc, Exit::BadWords, "exit 1 BadWords\n")?);
-    assert!(rt; prints(alloc, Exit::LibraryFault, "exit 6 LibraryFault\n")?);
-    assert!(rt; prints(alloc, Exit::SinkFault, "exit 8 SinkFault\n")?);
-    assert!(rt; prints(alloc, Exit::NoMemory, "exit 9 NoMemory\n")?);
-    assert!(rt;
-        prints(
-            alloc,
-            Exit::NotAJournal { offset: 1 },
-            "exit 10 NotAJournal 1\n"
-        )?
-    );
-    let name = Txt::from_str(alloc, "f1")?;
-    assert!(rt;
-        prints(
-            alloc,
-            Exit::LaneTwice { name },
-            "exit 11 LaneTwice \"f1\"\n"
-        )?
-    );
+    is_printed(&rt, alloc, Exit::Done, "exit 0 Done\n")?;
+    is_printed(&rt, alloc, Exit::BadWords, "exit 1 BadWords\n")?;
+    is_printed(&rt, alloc, Exit::LibraryFault, "exit 6 LibraryFault\n")?;
+    is_printed(&rt, alloc, Exit::SinkFault, "exit 8 SinkFault\n")?;
+    is_printed(&rt, alloc, Exit::NoMemory, "exit 9 NoMemory\n")?;
+    let exit = Exit::NotAJournal { offset: 1 };
+    is_printed(&rt, alloc, exit, "exit 10 NotAJournal 1\n")?;
+    is_printed(&rt, alloc, lane_twice(alloc)?, "exit 11 LaneTwice \"f1\"\n")?;
     let full = Exit::Full {
         length: 10,
         need: 46,
         room: 20,
     };
-    assert!(rt; prints(alloc, full, "exit 14 Full 10 46 20\n")?);
-    Ok(())
+    is_printed(&rt, alloc, full, "exit 14 Full 10 46 20\n")
 }
 
 #[test]
 fn lines_of_stacks_that_are_refused(rt: HostRuntime) -> Result<(), Fail> {
-    let alloc = rt.alloc();
     let fault = StackFault::WrongStatus {
         status: Status::CreateInProgress,
     };
-    assert!(rt;
-        prints(
-            alloc,
-            Exit::StackRefused { fault },
-            "exit 3 StackRefused WrongStatus CREATE_IN_PROGRESS\n"
-        )?
-    );
+    let line = "exit 3 StackRefused WrongStatus CREATE_IN_PROGRESS\n";
+    is_printed(&rt, rt.alloc(), Exit::StackRefused { fault }, line)?;
     let fault = StackFault::NoStack;
-    assert!(rt;
-        prints(
-            alloc,
-            Exit::StackRefused { fault },
-            "exit 3 StackRefused NoStack\n"
-        )?
-    );
-    Ok(())
+    let line = "exit 3 StackRefused NoStack\n";
+    is_printed(&rt, rt.alloc(), Exit::StackRefused { fault }, line)
+}
+
+fn handler(alloc: Global, reason: Reason) -> Result<Exit, NoMemory> {
+    let path = Txt::from_str(alloc, "B")?;
+    let cause = Cause::Handler { path, reason };
+    Ok(Exit::RolledBack { cause })
+}
+
+fn planning(alloc: Global, fault: &str) -> Result<Exit, NoMemory> {
+    let fault = Txt::from_str(alloc, fault)?;
+    let cause = Cause::Plan { fault };
+    Ok(Exit::RolledBack { cause })
+}
+
+fn exporting(alloc: Global) -> Result<Exit, NoMemory> {
+    let name = Txt::from_str(alloc, "site-total")?;
+    let cause = Cause::Export { name };
+    Ok(Exit::RolledBack { cause })
 }
 
 #[test]
 fn lines_of_operations_that_went_back(rt: HostRuntime) -> Result<(), Fail> {
     let alloc = rt.alloc();
-    let refused = Cause::Handler {
-        path: Txt::from_str(alloc, "B")?,
-        reason: Reason::Code(Code::ServiceLimitExceeded),
-    };
-    let broken = Cause::Handler {
-        path: Txt::from_str(alloc, "B")?,
-        reason: Reason::Fault,
-    };
-    let fault = Txt::from_str(
+    let refused = handler(alloc, Reason::Code(Code::ServiceLimitExceeded))?;
+    let line = "exit 4 RolledBack Handler \"B\" ServiceLimitExceeded\n";
+    is_printed(&rt, alloc, refused, line)?;
+    let broken = handler(alloc, Reason::Fault)?;
+    let line = "exit 4 RolledBack Handler \"B\" Fault\n";
+    is_printed(&rt, alloc, broken, line)?;
+    let flawed = planning(
         alloc,
         "Eval Bad IndexOutside \"\" \"/Resources/B/Properties/Value\"",
     )?;
-    let name = Txt::from_str(alloc, "site-total")?;
-    let cases = [
-        (refused, "Handler \"B\" ServiceLimitExceeded\n"),
-        (broken, "Handler \"B\" Fault\n"),
-        (
-            Cause::Plan { fault },
-            "Plan Eval Bad IndexOutside \"\" \"/Resources/B/Properties/Value\"\n",
-        ),
-        (Cause::Export { name }, "Export \"site-total\"\n"),
-    ];
-    for (cause, words) in cases {
-        let line = format!(in alloc; "exit 4 RolledBack {words}")?;
-        assert!(rt;
-            prints(alloc, Exit::RolledBack { cause }, line.as_str())?,
-            "at {words}"
-        );
-    }
-    Ok(())
+    let line =
+        "exit 4 RolledBack Plan Eval Bad IndexOutside \"\" \"/Resources/B/Properties/Value\"\n";
+    is_printed(&rt, alloc, flawed, line)?;
+    let line = "exit 4 RolledBack Export \"site-total\"\n";
+    is_printed(&rt, alloc, exporting(alloc)?, line)
+}
+
+fn two_names(alloc: Global) -> Result<Names, NoMemory> {
+    let mut names = Names::new(alloc);
+    names.push(Txt::from_str(alloc, "A")?)?;
+    names.push(Txt::from_str(alloc, "B")?)?;
+    Ok(names)
+}
+
+fn failed(alloc: Global) -> Result<Exit, NoMemory> {
+    let blamed = two_names(alloc)?;
+    Ok(Exit::Failed { blamed })
 }
 
 #[test]
 fn lines_of_operations_that_failed(rt: HostRuntime) -> Result<(), Fail> {
-    let alloc = rt.alloc();
-    let mut blamed = Names::new(alloc);
-    blamed.push(Txt::from_str(alloc, "A")?)?;
-    blamed.push(Txt::from_str(alloc, "B")?)?;
-    assert!(rt;
-        prints(
-            alloc,
-            Exit::Failed { blamed },
-            "exit 5 Failed [\"A\",\"B\"]\n"
-        )?
-    );
-    Ok(())
+    let line = "exit 5 Failed [\"A\",\"B\"]\n";
+    is_printed(&rt, rt.alloc(), failed(rt.alloc())?, line)
+}
+
+fn wrong_shape(alloc: Global) -> Result<Exit, NoMemory> {
+    let name = Txt::from_str(alloc, "none")?;
+    let path = Txt::from_str(alloc, "/Resources")?;
+    let fault = TemplateFault::WrongShape { path };
+    let fault = Refusal::Read { name, fault };
+    Ok(Exit::TemplateRefused { fault })
+}
+
+fn unknown_type(alloc: Global) -> Result<Exit, NoMemory> {
+    let path = Txt::from_str(alloc, "A")?;
+    let name = Txt::from_str(alloc, "No::Such")?;
+    let fault = Refusal::UnknownType { path, name };
+    Ok(Exit::TemplateRefused { fault })
 }
 
 #[test]
 fn lines_of_refusals(rt: HostRuntime) -> Result<(), Fail> {
-    let alloc = rt.alloc();
-    let path = Txt::from_str(alloc, "/Resources")?;
-    let fault = Refusal::Read {
-        name: Txt::from_str(alloc, "none")?,
-        fault: TemplateFault::WrongShape { path },
-    };
-    assert!(rt;
-        prints(
-            alloc,
-            Exit::TemplateRefused { fault },
-            "exit 2 TemplateRefused Read \"none\" WrongShape \"/Resources\"\n"
-        )?
-    );
-    let path = Txt::from_str(alloc, "A")?;
-    let fault = Refusal::UnknownType {
-        path,
-        name: Txt::from_str(alloc, "No::Such")?,
-    };
-    assert!(rt;
-        prints(
-            alloc,
-            Exit::TemplateRefused { fault },
-            "exit 2 TemplateRefused UnknownType \"A\" \"No::Such\"\n"
-        )?
-    );
-    Ok(())
+    let line = "exit 2 TemplateRefused Read \"none\" WrongShape \"/Resources\"\n";
+    is_printed(&rt, rt.alloc(), wrong_shape(rt.alloc())?, line)?;
+    let line = "exit 2 TemplateRefused UnknownType \"A\" \"No::Such\"\n";
+    is_printed(&rt, rt.alloc(), unknown_type(rt.alloc())?, line)
 }
 
-// Whether a flaw of a template is told by these words.
-fn tells(alloc: Global, flaw: Flaw, words: &str) -> Result<bool, NoMemory> {
+// Whether the line of a template that is refused for a flaw is this text.
+fn is_told(rt: &impl Abort, alloc: Global, flaw: Flaw, line: &str) -> Result<(), Fail> {
     let fault = Refusal::Plan { fault: flaw };
-    let line = format!(in alloc; "exit 2 TemplateRefused Plan {words}\n")?;
-    prints(alloc, Exit::TemplateRefused { fault }, line.as_str())
+    is_printed(rt, alloc, Exit::TemplateRefused { fault }, line)
+}
+
+fn missing_template(alloc: Global) -> Result<Flaw, NoMemory> {
+    let name = Txt::from_str(alloc, "x")?;
+    Ok(Flaw::TemplateMissing { name })
+}
+
+fn circle(alloc: Global) -> Result<Flaw, NoMemory> {
+    let at = Txt::from_str(alloc, "")?;
+    let cycle = two_names(alloc)?;
+    let fault = GraphFault::Circular { cycle };
+    Ok(Flaw::Graph { at, fault })
+}
+
+fn too_small(alloc: Global) -> Result<Flaw, NoMemory> {
+    let at = Txt::from_str(alloc, "")?;
+    let name = Txt::from_str(alloc, "N")?;
+    let fault = BindFault::TooSmall { name };
+    Ok(Flaw::Bind { at, fault })
+}
+
+fn dynamic_condition(alloc: Global) -> Result<Flaw, NoMemory> {
+    let path = Txt::from_str(alloc, "Child")?;
+    let name = Txt::from_str(alloc, "C")?;
+    Ok(Flaw::DynamicCondition { path, name })
 }
 
 #[test]
 fn lines_of_flaws(rt: HostRuntime) -> Result<(), Fail> {
     let alloc = rt.alloc();
-    let name = Txt::from_str(alloc, "x")?;
-    assert!(rt;
-        tells(
-            alloc,
-            Flaw::TemplateMissing { name },
-            "TemplateMissing \"x\""
-        )?
-    );
-    let mut cycle = Names::new(alloc);
-    cycle.push(Txt::from_str(alloc, "A")?)?;
-    cycle.push(Txt::from_str(alloc, "B")?)?;
-    let flaw = Flaw::Graph {
-        at: Txt::from_str(alloc, "")?,
-        fault: GraphFault::Circular { cycle },
-    };
-    assert!(rt; tells(alloc, flaw, "Graph \"\" Circular [\"A\",\"B\"]")?);
-    let flaw = Flaw::Bind {
-        at: Txt::from_str(alloc, "")?,
-        fault: BindFault::TooSmall {
-            name: Txt::from_str(alloc, "N")?,
-        },
-    };
-    assert!(rt; tells(alloc, flaw, "Bind \"\" TooSmall \"N\"")?);
-    let flaw = Flaw::DynamicCondition {
-        path: Txt::from_str(alloc, "Child")?,
-        name: Txt::from_str(alloc, "C")?,
-    };
-    assert!(rt; tells(alloc, flaw, "DynamicCondition \"Child\" \"C\"")?);
-    Ok(())
+    let line = "exit 2 TemplateRefused Plan TemplateMissing \"x\"\n";
+    is_told(&rt, alloc, missing_template(alloc)?, line)?;
+    let line = "exit 2 TemplateRefused Plan Graph \"\" Circular [\"A\",\"B\"]\n";
+    is_told(&rt, alloc, circle(alloc)?, line)?;
+    let line = "exit 2 TemplateRefused Plan Bind \"\" TooSmall \"N\"\n";
+    is_told(&rt, alloc, too_small(alloc)?, line)?;
+    let line = "exit 2 TemplateRefused Plan DynamicCondition \"Child\" \"C\"\n";
+    is_told(&rt, alloc, dynamic_condition(alloc)?, line)
 }
 
 #[test]

@@ -1,9 +1,11 @@
 //! Worlds that whole operations leave, with values worked out from the rules.
-use cf_entry::{Begun, Cause, Entries, Entry, LaneNames, Phase, Reason, Reply, Status};
+use crate::samples::{Deed, FILE, RECORD, add_names, add_word, entry_of, write};
+use cf_entry::{Entries, Entry, Status};
 use cf_export::{Exports, Outputs, Pins};
-use cf_stacks::{HeldStatus, Helds, StackState, StepFault, World, fold};
-use cf_tree::{Bytes, Code, Deletion, Dict, Names, Pairs, Request, Source, Texts, Txt};
+use cf_stacks::{Held, HeldStatus, Helds, StackState, StepFault, World, fold};
+use cf_tree::{Code, Deletion};
 use std::alloc::{AllocError, Global};
+use std::process::Abort;
 use std::test::Fail;
 
 // A is kept when it goes, and B needs it and refers to it; the id of A is an output, which is exported.
@@ -15,136 +17,6 @@ const TWO: &str = "{\"Resources\":{\
 // A nested stack.
 const NESTED: &str = "{\"Resources\":{\"N\":{\"Type\":\"AWS::CloudFormation::Stack\",\
     \"Properties\":{\"TemplateURL\":\"in\"}}}}";
-
-fn text(alloc: Global, text: &str) -> Result<Txt, AllocError> {
-    Txt::from_str(alloc, text)
-}
-
-/// A source of one template, which used the import of `other`.
-fn source(alloc: Global, template: &str) -> Result<Source, AllocError> {
-    let mut texts = Texts::new(alloc);
-    let bytes = Bytes::from_vec(Vec::from_slice(alloc, template.as_bytes())?);
-    texts.insert(text(alloc, "one")?, bytes)?;
-    let mut imports = Pairs::new(alloc);
-    imports.insert(text(alloc, "other")?, text(alloc, "v")?)?;
-    Ok(Source {
-        root: text(alloc, "one")?,
-        texts,
-        given: Pairs::new(alloc),
-        imports,
-        stack: text(alloc, "")?,
-        number: 0,
-    })
-}
-
-fn opened(alloc: Global) -> Result<Entry, AllocError> {
-    let mut lanes = LaneNames::new(alloc);
-    lanes.push((text(alloc, "f1")?, text(alloc, "Local::Files::File")?))?;
-    Ok(Entry::Opened { epoch: 1, lanes })
-}
-
-fn begin(alloc: Global, stack: &str, template: &str) -> Result<Entry, AllocError> {
-    let source = source(alloc, template)?;
-    Ok(Entry::Begin {
-        number: 1,
-        stack: text(alloc, stack)?,
-        kind: Begun::Create { source },
-    })
-}
-
-fn intent(
-    alloc: Global,
-    token: u64,
-    lane: &str,
-    path: &str,
-    request: Request,
-) -> Result<Entry, AllocError> {
-    Ok(Entry::Intent {
-        number: 1,
-        token,
-        lane: text(alloc, lane)?,
-        path: text(alloc, path)?,
-        request,
-    })
-}
-
-fn create(alloc: Global, token: u64, path: &str, kind: &str) -> Result<Entry, AllocError> {
-    let request = Request::Create {
-        kind: text(alloc, kind)?,
-        props: Dict::new(alloc),
-    };
-    intent(alloc, token, "f1", path, request)
-}
-
-fn delete(alloc: Global, token: u64, path: &str, physical: &str) -> Result<Entry, AllocError> {
-    let request = Request::Delete {
-        physical: text(alloc, physical)?,
-    };
-    intent(alloc, token, "f1", path, request)
-}
-
-fn answered(token: u64, answer: Reply) -> Entry {
-    Entry::Outcome {
-        number: 1,
-        token,
-        answer,
-        before: 0,
-        after: 0,
-    }
-}
-
-fn succeeded(alloc: Global, token: u64, physical: &str) -> Result<Entry, AllocError> {
-    let answer = Reply::Success {
-        physical: text(alloc, physical)?,
-        attrs: Dict::new(alloc),
-    };
-    Ok(answered(token, answer))
-}
-
-fn failed(token: u64, code: Code) -> Entry {
-    answered(token, Reply::Failed { code })
-}
-
-fn turned(alloc: Global, path: &str) -> Result<Entry, AllocError> {
-    let reason = Reason::Code(Code::AccessDenied);
-    let cause = Cause::Handler {
-        path: text(alloc, path)?,
-        reason,
-    };
-    Ok(Entry::Phase {
-        number: 1,
-        phase: Phase::Back,
-        cause: Some(cause),
-    })
-}
-
-fn ended(alloc: Global, status: Status) -> Entry {
-    Entry::Done {
-        number: 1,
-        status,
-        failed: Names::new(alloc),
-    }
-}
-
-/// The stack `s` is made: `A` comes to `f1:1`.
-fn half(alloc: Global) -> Result<Entries, AllocError> {
-    let mut entries = Entries::new(alloc);
-    entries.push(opened(alloc)?)?;
-    entries.push(begin(alloc, "s", TWO)?)?;
-    entries.push(create(alloc, 1, "A", "Local::Files::File")?)?;
-    entries.push(succeeded(alloc, 1, "f1:1")?)?;
-    entries.push(create(alloc, 2, "B", "Local::Records::Record")?)?;
-    Ok(entries)
-}
-
-/// `B` is refused, and the deletion of `A` begins.
-fn back(alloc: Global) -> Result<Entries, AllocError> {
-    let mut entries = half(alloc)?;
-    entries.push(failed(2, Code::AccessDenied))?;
-    entries.push(turned(alloc, "B")?)?;
-    entries.push(delete(alloc, 3, "A", "f1:1")?)?;
-    Ok(entries)
-}
 
 fn status_name(status: HeldStatus) -> &'static str {
     match status {
@@ -163,24 +35,21 @@ fn policy_name(deletion: Deletion) -> &'static str {
     }
 }
 
-fn add_word(line: &mut String, word: &str) -> Result<(), AllocError> {
-    line.push_str(" ")?;
-    line.push_str(word)
+fn add_resource(line: &mut String, held: &Held) -> Result<(), AllocError> {
+    add_word(line, held.path.as_str())?;
+    add_word(line, held.physical.as_str())?;
+    add_word(line, status_name(held.status))?;
+    add_word(line, policy_name(held.deletion))?;
+    add_names(line, &held.needs)?;
+    if held.superseded {
+        add_word(line, "superseded")?;
+    }
+    line.push_str(";")
 }
 
 fn add_resources(line: &mut String, helds: &Helds) -> Result<(), AllocError> {
     for held in helds.as_slice() {
-        add_word(line, held.path.as_str())?;
-        add_word(line, held.physical.as_str())?;
-        add_word(line, status_name(held.status))?;
-        add_word(line, policy_name(held.deletion))?;
-        for need in held.needs.as_slice() {
-            add_word(line, need.as_str())?;
-        }
-        if held.superseded {
-            add_word(line, "superseded")?;
-        }
-        line.push_str(";")?;
+        add_resource(line, held)?;
     }
     Ok(())
 }
@@ -266,162 +135,265 @@ fn events(alloc: Global, world: &World, name: &str) -> Result<String, AllocError
     Ok(line)
 }
 
+/// What is asked of a world: what the stack `s` is, what all share, or the lines of `events` of `s`.
+#[derive(Clone, Copy)]
+enum Asked {
+    Stack,
+    Shared,
+    Events,
+}
+
+fn line_in(alloc: Global, world: &World, asked: Asked) -> Result<String, AllocError> {
+    match asked {
+        Asked::Stack => shown_in(alloc, world, "s"),
+        Asked::Shared => shared(alloc, world),
+        Asked::Events => events(alloc, world, "s"),
+    }
+}
+
+fn fold_all(alloc: Global, entries: &Entries, asked: Asked) -> Result<String, AllocError> {
+    match fold(alloc, entries) {
+        Ok(world) => {
+            let line = line_in(alloc, &world, asked);
+            drop(world);
+            line
+        }
+        Err(_) => String::from_str(alloc, "no world"),
+    }
+}
+
+/// What is told of the world that deeds leave.
+fn told(alloc: Global, deeds: &[Deed], asked: Asked) -> Result<String, AllocError> {
+    let mut entries = Entries::new(alloc);
+    match write(alloc, &mut entries, deeds, 0) {
+        Ok(()) => {
+            let line = fold_all(alloc, &entries, asked);
+            drop(entries);
+            line
+        }
+        Err(failed) => {
+            drop(entries);
+            Err(failed)
+        }
+    }
+}
+
+fn is_told(
+    rt: &impl Abort,
+    alloc: Global,
+    deeds: &[Deed],
+    asked: Asked,
+    line: &str,
+) -> Result<(), Fail> {
+    assert_eq!(rt; told(alloc, deeds, asked)?.as_str(), line);
+    Ok(())
+}
+
+/// The lane `f1` of files.
+const LANES: [(&str, &str); 1] = [("f1", FILE)];
+
+/// The template uses the import of `other`.
+const IMPORTS: [(&str, &str); 1] = [("other", "v")];
+
+/// The stack `s` is made: `A` comes to `f1:1`.
+static HALF: [Deed; 5] = [
+    Deed::Open(&LANES),
+    Deed::Begin(TWO, &IMPORTS),
+    Deed::Create(1, "f1", "A", FILE),
+    Deed::Succeed(1, "f1:1"),
+    Deed::Create(2, "f1", "B", RECORD),
+];
+
+/// All of it is made.
+static WHOLE: [Deed; 7] = [
+    Deed::Open(&LANES),
+    Deed::Begin(TWO, &IMPORTS),
+    Deed::Create(1, "f1", "A", FILE),
+    Deed::Succeed(1, "f1:1"),
+    Deed::Create(2, "f1", "B", RECORD),
+    Deed::Succeed(2, "r1:1"),
+    Deed::End(Status::CreateComplete),
+];
+
+/// `B` is refused, and `A` is deleted.
+static BACK: [Deed; 10] = [
+    Deed::Open(&LANES),
+    Deed::Begin(TWO, &IMPORTS),
+    Deed::Create(1, "f1", "A", FILE),
+    Deed::Succeed(1, "f1:1"),
+    Deed::Create(2, "f1", "B", RECORD),
+    Deed::Refuse(2, Code::AccessDenied),
+    Deed::Turn("B"),
+    Deed::Delete(3, "f1", "A", "f1:1"),
+    Deed::Succeed(3, "f1:1"),
+    Deed::End(Status::RollbackComplete),
+];
+
+/// `B` is refused, and the deletion of `A` too.
+static STUCK: [Deed; 10] = [
+    Deed::Open(&LANES),
+    Deed::Begin(TWO, &IMPORTS),
+    Deed::Create(1, "f1", "A", FILE),
+    Deed::Succeed(1, "f1:1"),
+    Deed::Create(2, "f1", "B", RECORD),
+    Deed::Refuse(2, Code::AccessDenied),
+    Deed::Turn("B"),
+    Deed::Delete(3, "f1", "A", "f1:1"),
+    Deed::Refuse(3, Code::AccessDenied),
+    Deed::End(Status::RollbackFailed),
+];
+
+fn whole() -> &'static [Deed] {
+    &WHOLE
+}
+
+fn back() -> &'static [Deed] {
+    &BACK
+}
+
+fn half() -> &'static [Deed] {
+    &HALF
+}
+
+fn stuck() -> &'static [Deed] {
+    &STUCK
+}
+
+const MADE: &str =
+    "CREATE_COMPLETE held: A f1:1 CREATE_COMPLETE Retain; B r1:1 CREATE_COMPLETE Delete A; made: open: outputs: Id f1:1 id";
+
+const MADE_SHARED: &str = "7 1 1 2 pins: s other claims: exports: s id f1:1";
+
+const TAKEN_BACK: &str = "ROLLBACK_COMPLETE held: made: open: outputs:";
+
 #[test]
 fn a_stack_is_made(rt: HostRuntime) -> Result<(), Fail> {
-    let alloc = rt.alloc();
-    let mut entries = half(alloc)?;
-    entries.push(succeeded(alloc, 2, "r1:1")?)?;
-    entries.push(ended(alloc, Status::CreateComplete))?;
-    match fold(alloc, &entries) {
-        Ok(world) => {
-            assert_eq!(rt;
-                shown_in(alloc, &world, "s")?.as_str(),
-                "CREATE_COMPLETE held: A f1:1 CREATE_COMPLETE Retain; B r1:1 CREATE_COMPLETE Delete A; made: open: outputs: Id f1:1 id"
-            );
-            assert_eq!(rt;
-                shared(alloc, &world)?.as_str(),
-                "7 1 1 2 pins: s other claims: exports: s id f1:1"
-            );
-            assert_eq!(rt;
-                events(alloc, &world, "s")?.as_str(),
-                "|event 2 - CREATE_IN_PROGRESS|event 3 A CREATE_IN_PROGRESS|event 4 A CREATE_COMPLETE|event 5 B CREATE_IN_PROGRESS|event 6 B CREATE_COMPLETE|event 7 - CREATE_COMPLETE"
-            );
-        }
-        Err(_) => assert!(rt; false),
-    }
-    Ok(())
+    is_told(&rt, rt.alloc(), whole(), Asked::Stack, MADE)?;
+    is_told(&rt, rt.alloc(), whole(), Asked::Shared, MADE_SHARED)?;
+    let line =
+        "|event 2 - CREATE_IN_PROGRESS|event 3 A CREATE_IN_PROGRESS|event 4 A CREATE_COMPLETE|event 5 B CREATE_IN_PROGRESS|event 6 B CREATE_COMPLETE|event 7 - CREATE_COMPLETE";
+    is_told(&rt, rt.alloc(), whole(), Asked::Events, line)
 }
 
 #[test]
 fn a_stack_is_being_made(rt: HostRuntime) -> Result<(), Fail> {
-    let alloc = rt.alloc();
-    let entries = half(alloc)?;
-    match fold(alloc, &entries) {
-        Ok(world) => {
-            assert_eq!(rt;
-                shown_in(alloc, &world, "s")?.as_str(),
-                "CREATE_IN_PROGRESS held: made: A f1:1 CREATE_COMPLETE Retain; open: B outputs:"
-            );
-            assert_eq!(rt;
-                shared(alloc, &world)?.as_str(),
-                "5 1 1 2 pins: s other claims: s id exports:"
-            );
-        }
-        Err(_) => assert!(rt; false),
-    }
-    Ok(())
+    let line = "CREATE_IN_PROGRESS held: made: A f1:1 CREATE_COMPLETE Retain; open: B outputs:";
+    is_told(&rt, rt.alloc(), half(), Asked::Stack, line)?;
+    let line = "5 1 1 2 pins: s other claims: s id exports:";
+    is_told(&rt, rt.alloc(), half(), Asked::Shared, line)
 }
 
 #[test]
 fn a_creation_is_rolled_back(rt: HostRuntime) -> Result<(), Fail> {
-    let alloc = rt.alloc();
-    let mut entries = back(alloc)?;
-    entries.push(succeeded(alloc, 3, "f1:1")?)?;
-    entries.push(ended(alloc, Status::RollbackComplete))?;
-    match fold(alloc, &entries) {
-        Ok(world) => {
-            assert_eq!(rt;
-                shown_in(alloc, &world, "s")?.as_str(),
-                "ROLLBACK_COMPLETE held: made: open: outputs:"
-            );
-            assert_eq!(rt;
-                shared(alloc, &world)?.as_str(),
-                "10 1 1 3 pins: claims: exports:"
-            );
-        }
-        Err(_) => assert!(rt; false),
-    }
-    Ok(())
+    is_told(&rt, rt.alloc(), back(), Asked::Stack, TAKEN_BACK)?;
+    let line = "10 1 1 3 pins: claims: exports:";
+    is_told(&rt, rt.alloc(), back(), Asked::Shared, line)
 }
 
 #[test]
 fn a_rollback_fails(rt: HostRuntime) -> Result<(), Fail> {
-    let alloc = rt.alloc();
-    let mut entries = back(alloc)?;
-    entries.push(failed(3, Code::AccessDenied))?;
-    entries.push(ended(alloc, Status::RollbackFailed))?;
-    match fold(alloc, &entries) {
-        Ok(world) => {
-            assert_eq!(rt;
-                shown_in(alloc, &world, "s")?.as_str(),
-                "ROLLBACK_FAILED held: A f1:1 DELETE_FAILED Retain; made: open: outputs:"
-            );
-            assert_eq!(rt;
-                shared(alloc, &world)?.as_str(),
-                "10 1 1 3 pins: s other claims: exports:"
-            );
-        }
-        Err(_) => assert!(rt; false),
-    }
-    Ok(())
+    let line = "ROLLBACK_FAILED held: A f1:1 DELETE_FAILED Retain; made: open: outputs:";
+    is_told(&rt, rt.alloc(), stuck(), Asked::Stack, line)?;
+    let line = "10 1 1 3 pins: s other claims: exports:";
+    is_told(&rt, rt.alloc(), stuck(), Asked::Shared, line)
+}
+
+/// Makes the room for a deed.
+fn make_room(alloc: Global, world: &mut World, deed: &Deed) -> Result<(), StepFault> {
+    let entry = entry_of(alloc, deed, 0)?;
+    let made = world.room_for(alloc, &entry);
+    drop(entry);
+    made
+}
+
+fn is_refused_as_nested(alloc: Global, deed: &Deed) -> bool {
+    let mut world = World::new(alloc);
+    let refused = make_room(alloc, &mut world, deed);
+    drop(world);
+    matches!(refused, Err(StepFault::Nested))
 }
 
 #[test]
 fn a_nested_stack_is_not_stepped_over(rt: HostRuntime) -> Result<(), Fail> {
-    let alloc = rt.alloc();
-    let mut world = World::new(alloc);
-    let refused = world.room_for(alloc, &begin(alloc, "s", NESTED)?);
-    assert!(rt; matches!(refused, Err(StepFault::Nested)));
+    let deed = Deed::Begin(NESTED, &IMPORTS);
+    assert!(rt; is_refused_as_nested(rt.alloc(), &deed));
     Ok(())
 }
 
-/// The world that these entries leave, with the room for each made before it.
-fn step_over(alloc: Global, entries: Entries) -> Result<World, StepFault> {
-    let mut world = World::new(alloc);
-    for entry in entries.into_vec() {
-        world.room_for(alloc, &entry)?;
-        world.step(entry);
+/// Steps over an entry, with the room for it made before.
+fn step_over(alloc: Global, world: &mut World, entry: Entry) -> Result<(), StepFault> {
+    match world.room_for(alloc, &entry) {
+        Ok(()) => {
+            world.step(entry);
+            Ok(())
+        }
+        Err(fault) => {
+            drop(entry);
+            Err(fault)
+        }
     }
-    Ok(world)
+}
+
+fn step_over_each(alloc: Global, world: &mut World, deeds: &[Deed]) -> Result<(), StepFault> {
+    for deed in deeds {
+        step_over(alloc, world, entry_of(alloc, deed, 0)?)?;
+    }
+    Ok(())
+}
+
+/// What is told of the world that deeds leave step by step.
+fn told_stepped(alloc: Global, deeds: &[Deed], asked: Asked) -> Result<String, AllocError> {
+    let mut world = World::new(alloc);
+    let line = match step_over_each(alloc, &mut world, deeds) {
+        Ok(()) => line_in(alloc, &world, asked),
+        Err(_) => String::from_str(alloc, "no world"),
+    };
+    drop(world);
+    line
+}
+
+fn is_told_stepped(
+    rt: &impl Abort,
+    alloc: Global,
+    deeds: &[Deed],
+    asked: Asked,
+    line: &str,
+) -> Result<(), Fail> {
+    assert_eq!(rt; told_stepped(alloc, deeds, asked)?.as_str(), line);
+    Ok(())
 }
 
 #[test]
 fn a_stack_is_made_step_by_step(rt: HostRuntime) -> Result<(), Fail> {
-    let alloc = rt.alloc();
-    let mut entries = half(alloc)?;
-    entries.push(succeeded(alloc, 2, "r1:1")?)?;
-    entries.push(ended(alloc, Status::CreateComplete))?;
-    match step_over(alloc, entries) {
-        Ok(world) => {
-            assert_eq!(rt;
-                shown_in(alloc, &world, "s")?.as_str(),
-                "CREATE_COMPLETE held: A f1:1 CREATE_COMPLETE Retain; B r1:1 CREATE_COMPLETE Delete A; made: open: outputs: Id f1:1 id"
-            );
-            assert_eq!(rt;
-                shared(alloc, &world)?.as_str(),
-                "7 1 1 2 pins: s other claims: exports: s id f1:1"
-            );
-        }
-        Err(_) => assert!(rt; false),
-    }
-    Ok(())
+    is_told_stepped(&rt, rt.alloc(), whole(), Asked::Stack, MADE)?;
+    is_told_stepped(&rt, rt.alloc(), whole(), Asked::Shared, MADE_SHARED)
 }
 
 #[test]
 fn a_creation_is_rolled_back_step_by_step(rt: HostRuntime) -> Result<(), Fail> {
-    let alloc = rt.alloc();
-    let mut entries = back(alloc)?;
-    entries.push(succeeded(alloc, 3, "f1:1")?)?;
-    entries.push(ended(alloc, Status::RollbackComplete))?;
-    match step_over(alloc, entries) {
-        Ok(world) => assert_eq!(rt;
-            shown_in(alloc, &world, "s")?.as_str(),
-            "ROLLBACK_COMPLETE held: made: open: outputs:"
-        ),
-        Err(_) => assert!(rt; false),
-    }
-    Ok(())
+    is_told_stepped(&rt, rt.alloc(), back(), Asked::Stack, TAKEN_BACK)
+}
+
+/// What is told of a world where room was made for a deed.
+fn told_with_room(alloc: Global, deed: &Deed, asked: Asked) -> Result<String, AllocError> {
+    let mut world = World::new(alloc);
+    let line = match make_room(alloc, &mut world, deed) {
+        Ok(()) => line_in(alloc, &world, asked),
+        Err(_) => String::from_str(alloc, "no room"),
+    };
+    drop(world);
+    line
 }
 
 #[test]
 fn room_changes_nothing(rt: HostRuntime) -> Result<(), Fail> {
-    let alloc = rt.alloc();
-    let mut world = World::new(alloc);
-    let made = world.room_for(alloc, &begin(alloc, "s", TWO)?);
-    assert!(rt; matches!(made, Ok(())));
-    assert_eq!(rt; shown_in(alloc, &world, "s")?.as_str(), "none");
+    let deed = Deed::Begin(TWO, &IMPORTS);
     assert_eq!(rt;
-        shared(alloc, &world)?.as_str(),
+        told_with_room(rt.alloc(), &deed, Asked::Stack)?.as_str(),
+        "none"
+    );
+    assert_eq!(rt;
+        told_with_room(rt.alloc(), &deed, Asked::Shared)?.as_str(),
         "0 0 0 0 pins: claims: exports:"
     );
     Ok(())

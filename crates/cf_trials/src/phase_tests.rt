@@ -1,18 +1,17 @@
 //! What is done in the forward phase of a creation, what may begin and what has failed, with expected values worked out from
 //! the rules.
 use crate::samples::{
-    add_names, add_props, add_word, begun, cause_line, create, create_with, make, refuse, succeed,
-    text,
+    Deed, FILE, RECORD, add_names, add_props, add_word, cause_line, text, world_of,
 };
-use cf_entry::Entries;
 use cf_plan::{
     Failure, Found, Wants, done_paths, failure_of, finding_at, is_held_right, plan_before,
     plan_now, starts_of, wants_at,
 };
 use cf_schema::Schemas;
-use cf_stacks::{StackState, World, fold};
-use cf_tree::{ByName, Code, Dict, Request, Txt, Val};
+use cf_stacks::{StackState, World};
+use cf_tree::{ByName, Code, Names, Request, Txt};
 use std::alloc::{AllocError, Global};
+use std::process::Abort;
 use std::test::Fail;
 
 // A file and a record, of which the record refers to the file and stands before it.
@@ -37,7 +36,8 @@ const LATE_FAULT: &str = r#"{"Resources":{"A":{"Type":"Local::Files::File"}},
     "Outputs":{"O":{"Value":{"Fn::Select":[2,{"Fn::Split":[":",{"Ref":"A"}]}]}}}}"#;
 
 /// What is asked of a stack.
-enum Asked<'a> {
+#[derive(Clone, Copy)]
+enum Asked {
     /// The paths that are done.
     Done,
     /// The requests that may begin.
@@ -45,20 +45,33 @@ enum Asked<'a> {
     /// Whether the phase has failed, and why.
     Failure,
     /// What is intended at a path.
-    Wants(&'a str),
+    Wants(&'static str),
     /// What the properties of a path come to.
-    Finding(&'a str),
+    Finding(&'static str),
     /// Whether what was made at a path is what the template wants.
-    Right(&'a str),
+    Right(&'static str),
 }
 
+fn names_line(alloc: Global, names: Result<Names, AllocError>) -> Result<String, AllocError> {
+    let names = names?;
+    let mut line = String::new(alloc);
+    add_names(&mut line, &names)?;
+    Ok(line)
+}
+
+// Plans are let go by `drop`: let go in place they make the check long.
 fn done_line(alloc: Global, stack: &StackState) -> Result<String, AllocError> {
     let before = plan_before(alloc, stack)?;
-    let now = plan_now(alloc, stack)?;
-    let done = done_paths(alloc, stack, &before, &now)?;
-    let mut line = String::new(alloc);
-    add_names(&mut line, &done)?;
-    Ok(line)
+    let line = match plan_now(alloc, stack) {
+        Ok(now) => {
+            let done = done_paths(alloc, stack, &before, &now);
+            drop(now);
+            names_line(alloc, done)
+        }
+        Err(failed) => Err(failed),
+    };
+    drop(before);
+    line
 }
 
 fn add_request(line: &mut String, path: &Txt, request: &Option<Request>) -> Result<(), AllocError> {
@@ -78,24 +91,47 @@ fn add_wants(line: &mut String, path: &Txt, wants: &Wants) -> Result<(), AllocEr
     add_request(line, path, &wants.update)
 }
 
-fn requests_line(alloc: Global, starts: &ByName<Wants>) -> Result<String, AllocError> {
-    let mut line = String::new(alloc);
+fn add_starts(line: &mut String, starts: &ByName<Wants>) -> Result<(), AllocError> {
     for start in starts.as_slice() {
-        add_wants(&mut line, &start.0, &start.1)?;
+        add_wants(line, &start.0, &start.1)?;
     }
+    Ok(())
+}
+
+fn requests_line(
+    alloc: Global,
+    starts: Result<ByName<Wants>, AllocError>,
+) -> Result<String, AllocError> {
+    let starts = starts?;
+    let mut line = String::new(alloc);
+    let added = add_starts(&mut line, &starts);
+    drop(starts);
+    added?;
     Ok(line)
 }
 
 fn starts_line(alloc: Global, stack: &StackState) -> Result<String, AllocError> {
-    let schemas = Schemas::new(alloc);
     let before = plan_before(alloc, stack)?;
-    let now = plan_now(alloc, stack)?;
-    let done = done_paths(alloc, stack, &before, &now)?;
-    let starts = starts_of(alloc, &schemas, stack, &before, &now, &done)?;
-    requests_line(alloc, &starts)
+    let line = match plan_now(alloc, stack) {
+        Ok(now) => {
+            let line = match done_paths(alloc, stack, &before, &now) {
+                Ok(done) => {
+                    let schemas = Schemas::new(alloc);
+                    let starts = starts_of(alloc, &schemas, stack, &before, &now, &done);
+                    requests_line(alloc, starts)
+                }
+                Err(failed) => Err(failed),
+            };
+            drop(now);
+            line
+        }
+        Err(failed) => Err(failed),
+    };
+    drop(before);
+    line
 }
 
-fn failed_line(alloc: Global, failure: &Failure) -> Result<String, AllocError> {
+fn cause_of(alloc: Global, failure: &Failure) -> Result<String, AllocError> {
     match failure {
         Failure::Nothing => String::from_str(alloc, "nothing"),
         Failure::Because { cause } => cause_line(alloc, cause),
@@ -103,24 +139,57 @@ fn failed_line(alloc: Global, failure: &Failure) -> Result<String, AllocError> {
     }
 }
 
+fn failed_line(alloc: Global, failure: Result<Failure, AllocError>) -> Result<String, AllocError> {
+    let failure = failure?;
+    let line = cause_of(alloc, &failure);
+    drop(failure);
+    line
+}
+
 fn failure_line(alloc: Global, world: &World, stack: &StackState) -> Result<String, AllocError> {
     let name = text(alloc, "s")?;
-    let schemas = Schemas::new(alloc);
     let before = plan_before(alloc, stack)?;
-    let now = plan_now(alloc, stack)?;
-    let done = done_paths(alloc, stack, &before, &now)?;
-    let failure = failure_of(alloc, &schemas, &name, world, stack, &before, &now, &done)?;
-    failed_line(alloc, &failure)
+    let line = match plan_now(alloc, stack) {
+        Ok(now) => {
+            let line = match done_paths(alloc, stack, &before, &now) {
+                Ok(done) => {
+                    let schemas = Schemas::new(alloc);
+                    failed_line(
+                        alloc,
+                        failure_of(alloc, &schemas, &name, world, stack, &before, &now, &done),
+                    )
+                }
+                Err(failed) => Err(failed),
+            };
+            drop(now);
+            line
+        }
+        Err(failed) => Err(failed),
+    };
+    drop(before);
+    line
+}
+
+fn wanted_line(
+    alloc: Global,
+    path: &Txt,
+    wants: Result<Wants, AllocError>,
+) -> Result<String, AllocError> {
+    let wants = wants?;
+    let mut line = String::new(alloc);
+    let added = add_wants(&mut line, path, &wants);
+    drop(wants);
+    added?;
+    Ok(line)
 }
 
 fn wants_line(alloc: Global, stack: &StackState, path: &str) -> Result<String, AllocError> {
     let path = text(alloc, path)?;
-    let schemas = Schemas::new(alloc);
     let now = plan_now(alloc, stack)?;
-    let wants = wants_at(alloc, &schemas, stack, &now, &path)?;
-    let mut line = String::new(alloc);
-    add_wants(&mut line, &path, &wants)?;
-    Ok(line)
+    let schemas = Schemas::new(alloc);
+    let wants = wants_at(alloc, &schemas, stack, &now, &path);
+    drop(now);
+    wanted_line(alloc, &path, wants)
 }
 
 fn found_line(alloc: Global, found: &Found) -> Result<String, AllocError> {
@@ -139,14 +208,20 @@ fn found_line(alloc: Global, found: &Found) -> Result<String, AllocError> {
 fn finding_line(alloc: Global, stack: &StackState, path: &str) -> Result<String, AllocError> {
     let path = text(alloc, path)?;
     let now = plan_now(alloc, stack)?;
-    let found = finding_at(alloc, &now, &path)?;
-    found_line(alloc, &found)
+    let line = match finding_at(alloc, &now, &path) {
+        Ok(found) => found_line(alloc, &found),
+        Err(failed) => Err(failed),
+    };
+    drop(now);
+    line
 }
 
 fn right_line(alloc: Global, stack: &StackState, path: &str) -> Result<String, AllocError> {
     let path = text(alloc, path)?;
     let now = plan_now(alloc, stack)?;
-    let right = is_held_right(alloc, &now, &stack.made, &path)?;
+    let right = is_held_right(alloc, &now, &stack.made, &path);
+    drop(now);
+    let right = right?;
     String::from_str(alloc, if right { "right" } else { "wrong" })
 }
 
@@ -166,169 +241,142 @@ fn line_for(
     }
 }
 
-/// What is asked of the stack `s` in the world that entries leave.
-fn told(alloc: Global, entries: &Entries, asked: &Asked) -> Result<String, AllocError> {
-    match fold(alloc, entries) {
-        Ok(world) => match world.stacks.get("s") {
-            Some(stack) => line_for(alloc, &world, stack, asked),
-            None => String::from_str(alloc, "no stack"),
-        },
-        Err(_) => String::from_str(alloc, "no world"),
+/// What is asked of the stack `s` in a world.
+fn line_in(alloc: Global, world: &World, asked: &Asked) -> Result<String, AllocError> {
+    match world.stacks.get("s") {
+        Some(stack) => line_for(alloc, world, stack, asked),
+        None => String::from_str(alloc, "no stack"),
     }
 }
 
-/// B of the two was made, as `f1:1`.
-fn half_made(alloc: Global) -> Result<Entries, AllocError> {
-    let mut entries = begun(alloc, TWO)?;
-    make(alloc, &mut entries, 1, "f1", "B", "f1:1")?;
-    Ok(entries)
+/// The same in the world that deeds leave.
+fn told(
+    alloc: Global,
+    template: &'static str,
+    deeds: &[Deed],
+    asked: &Asked,
+) -> Result<String, AllocError> {
+    match world_of(alloc, template, deeds)? {
+        Some(world) => {
+            let line = line_in(alloc, &world, asked);
+            drop(world);
+            line
+        }
+        None => String::from_str(alloc, "no world"),
+    }
 }
+
+fn is_told(
+    rt: &impl Abort,
+    alloc: Global,
+    template: &'static str,
+    deeds: &[Deed],
+    asked: Asked,
+    line: &str,
+) -> Result<(), Fail> {
+    assert_eq!(rt; told(alloc, template, deeds, &asked)?.as_str(), line);
+    Ok(())
+}
+
+/// B was made, as `f1:1`.
+static HALF_MADE: [Deed; 2] = [Deed::Create(1, "f1", "B", FILE), Deed::Succeed(1, "f1:1")];
+
+static MADE: [Deed; 4] = [
+    Deed::Create(1, "f1", "B", FILE),
+    Deed::Succeed(1, "f1:1"),
+    Deed::Create(2, "r1", "A", RECORD),
+    Deed::Succeed(2, "r1:2"),
+];
 
 #[test]
 fn what_was_made_is_done(rt: HostRuntime) -> Result<(), Fail> {
-    let alloc = rt.alloc();
-    let mut entries = half_made(alloc)?;
-    let line = told(alloc, &entries, &Asked::Done)?;
-    assert_eq!(rt; line.as_str(), " B");
-    make(alloc, &mut entries, 2, "r1", "A", "r1:2")?;
-    let line = told(alloc, &entries, &Asked::Done)?;
-    assert_eq!(rt; line.as_str(), " B A");
-    Ok(())
+    is_told(&rt, rt.alloc(), TWO, &HALF_MADE, Asked::Done, " B")?;
+    is_told(&rt, rt.alloc(), TWO, &MADE, Asked::Done, " B A")
 }
 
 #[test]
 fn what_needs_nothing_may_begin(rt: HostRuntime) -> Result<(), Fail> {
-    let alloc = rt.alloc();
-    let entries = begun(alloc, TWO)?;
-    let line = told(alloc, &entries, &Asked::Starts)?;
-    assert_eq!(rt; line.as_str(), " create B Path b");
-    Ok(())
+    is_told(&rt, rt.alloc(), TWO, &[], Asked::Starts, " create B Path b")
 }
+
+static BEGUN: [Deed; 1] = [Deed::Create(1, "f1", "B", FILE)];
 
 #[test]
 fn what_has_begun_does_not_begin_again(rt: HostRuntime) -> Result<(), Fail> {
-    let alloc = rt.alloc();
-    let mut entries = begun(alloc, TWO)?;
-    create(alloc, &mut entries, 1, "f1", "B")?;
-    let line = told(alloc, &entries, &Asked::Starts)?;
-    assert_eq!(rt; line.as_str(), "");
-    Ok(())
+    is_told(&rt, rt.alloc(), TWO, &BEGUN, Asked::Starts, "")
 }
 
 #[test]
 fn what_it_needs_is_seen_as_it_was_made(rt: HostRuntime) -> Result<(), Fail> {
-    let alloc = rt.alloc();
-    let entries = half_made(alloc)?;
-    let line = told(alloc, &entries, &Asked::Starts)?;
-    assert_eq!(rt; line.as_str(), " create A Key f1:1");
-    Ok(())
+    let line = " create A Key f1:1";
+    is_told(&rt, rt.alloc(), TWO, &HALF_MADE, Asked::Starts, line)
 }
 
 #[test]
 fn what_is_free_may_begin_all_at_once(rt: HostRuntime) -> Result<(), Fail> {
-    let alloc = rt.alloc();
-    let entries = begun(alloc, THREE)?;
-    let line = told(alloc, &entries, &Asked::Starts)?;
-    assert_eq!(rt; line.as_str(), " create A create B create C");
-    Ok(())
+    let line = " create A create B create C";
+    is_told(&rt, rt.alloc(), THREE, &[], Asked::Starts, line)
 }
 
 #[test]
 fn a_creation_that_goes_on_has_not_failed(rt: HostRuntime) -> Result<(), Fail> {
-    let alloc = rt.alloc();
-    let entries = half_made(alloc)?;
-    let line = told(alloc, &entries, &Asked::Failure)?;
-    assert_eq!(rt; line.as_str(), "nothing");
-    Ok(())
+    is_told(&rt, rt.alloc(), TWO, &HALF_MADE, Asked::Failure, "nothing")
 }
+
+static REFUSED: [Deed; 4] = [
+    Deed::Create(1, "f1", "B", FILE),
+    Deed::Succeed(1, "f1:1"),
+    Deed::Create(2, "r1", "A", RECORD),
+    Deed::Refuse(2, Code::ServiceLimitExceeded),
+];
 
 #[test]
 fn a_refusal_fails_the_creation(rt: HostRuntime) -> Result<(), Fail> {
-    let alloc = rt.alloc();
-    let mut entries = half_made(alloc)?;
-    create(alloc, &mut entries, 2, "r1", "A")?;
-    refuse(&mut entries, 2, Code::ServiceLimitExceeded)?;
-    let line = told(alloc, &entries, &Asked::Failure)?;
-    assert_eq!(rt; line.as_str(), "A ServiceLimitExceeded");
-    Ok(())
+    let line = "A ServiceLimitExceeded";
+    is_told(&rt, rt.alloc(), TWO, &REFUSED, Asked::Failure, line)
 }
 
 #[test]
 fn a_fault_fails_the_creation_once_what_it_needs_is_done(rt: HostRuntime) -> Result<(), Fail> {
-    let alloc = rt.alloc();
-    let mut entries = begun(alloc, FAULT)?;
-    let line = told(alloc, &entries, &Asked::Failure)?;
-    assert_eq!(rt; line.as_str(), "nothing");
-    make(alloc, &mut entries, 1, "f1", "B", "f1:1")?;
-    let line = told(alloc, &entries, &Asked::Failure)?;
-    assert_eq!(rt;
-        line.as_str(),
-        "Eval Bad IndexOutside \"\" \"/Resources/A/Properties/Key\""
-    );
-    Ok(())
+    is_told(&rt, rt.alloc(), FAULT, &[], Asked::Failure, "nothing")?;
+    let line = "Eval Bad IndexOutside \"\" \"/Resources/A/Properties/Key\"";
+    is_told(&rt, rt.alloc(), FAULT, &HALF_MADE, Asked::Failure, line)
 }
+
+static ONE_MADE: [Deed; 2] = [Deed::Create(1, "f1", "A", FILE), Deed::Succeed(1, "f1:1")];
 
 #[test]
 fn an_output_fails_the_creation_once_all_is_done(rt: HostRuntime) -> Result<(), Fail> {
-    let alloc = rt.alloc();
-    let mut entries = begun(alloc, LATE_FAULT)?;
-    let line = told(alloc, &entries, &Asked::Failure)?;
-    assert_eq!(rt; line.as_str(), "nothing");
-    make(alloc, &mut entries, 1, "f1", "A", "f1:1")?;
-    let line = told(alloc, &entries, &Asked::Failure)?;
-    assert_eq!(rt;
-        line.as_str(),
-        "Eval Bad IndexOutside \"\" \"/Outputs/O/Value\""
-    );
-    Ok(())
+    is_told(&rt, rt.alloc(), LATE_FAULT, &[], Asked::Failure, "nothing")?;
+    let line = "Eval Bad IndexOutside \"\" \"/Outputs/O/Value\"";
+    is_told(&rt, rt.alloc(), LATE_FAULT, &ONE_MADE, Asked::Failure, line)
 }
 
 #[test]
 fn a_create_is_intended_once_its_properties_are_known(rt: HostRuntime) -> Result<(), Fail> {
-    let alloc = rt.alloc();
-    let entries = begun(alloc, TWO)?;
-    let line = told(alloc, &entries, &Asked::Wants("A"))?;
-    assert_eq!(rt; line.as_str(), "");
-    let line = told(alloc, &entries, &Asked::Wants("B"))?;
-    assert_eq!(rt; line.as_str(), " create B Path b");
-    Ok(())
+    is_told(&rt, rt.alloc(), TWO, &[], Asked::Wants("A"), "")?;
+    let line = " create B Path b";
+    is_told(&rt, rt.alloc(), TWO, &[], Asked::Wants("B"), line)
 }
 
 #[test]
 fn properties_are_known_once_what_they_refer_to_is_made(rt: HostRuntime) -> Result<(), Fail> {
-    let alloc = rt.alloc();
-    let mut entries = begun(alloc, FAULT)?;
-    let line = told(alloc, &entries, &Asked::Finding("A"))?;
-    assert_eq!(rt; line.as_str(), " later");
-    make(alloc, &mut entries, 1, "f1", "B", "f1:1")?;
-    let line = told(alloc, &entries, &Asked::Finding("A"))?;
-    assert_eq!(rt; line.as_str(), " bad");
-    let entries = half_made(alloc)?;
-    let line = told(alloc, &entries, &Asked::Finding("A"))?;
-    assert_eq!(rt; line.as_str(), " Local::Records::Record Key f1:1");
-    Ok(())
+    let asked = Asked::Finding("A");
+    is_told(&rt, rt.alloc(), FAULT, &[], asked, " later")?;
+    is_told(&rt, rt.alloc(), FAULT, &HALF_MADE, asked, " bad")?;
+    let line = " Local::Records::Record Key f1:1";
+    is_told(&rt, rt.alloc(), TWO, &HALF_MADE, asked, line)
 }
 
-/// B of the two was made with this path.
-fn made_with(alloc: Global, path: &str) -> Result<Entries, AllocError> {
-    let name = text(alloc, "Path")?;
-    let value = Val::Text(text(alloc, path)?);
-    let mut props = Dict::new(alloc);
-    props.insert(name, value)?;
-    let mut entries = begun(alloc, TWO)?;
-    create_with(alloc, &mut entries, 1, "f1", "B", props)?;
-    succeed(alloc, &mut entries, 1, "f1:1")?;
-    Ok(entries)
-}
+/// B was made with the path that the template has.
+static AS_WANTED: [Deed; 2] = [Deed::CreateAt(1, "f1", "B", "b"), Deed::Succeed(1, "f1:1")];
+
+/// B was made with another path.
+static OTHERWISE: [Deed; 2] = [Deed::CreateAt(1, "f1", "B", "c"), Deed::Succeed(1, "f1:1")];
 
 #[test]
 fn what_was_made_as_it_is_wanted_is_right(rt: HostRuntime) -> Result<(), Fail> {
-    let alloc = rt.alloc();
-    let entries = made_with(alloc, "b")?;
-    let line = told(alloc, &entries, &Asked::Right("B"))?;
-    assert_eq!(rt; line.as_str(), "right");
-    let entries = made_with(alloc, "c")?;
-    let line = told(alloc, &entries, &Asked::Right("B"))?;
-    assert_eq!(rt; line.as_str(), "wrong");
-    Ok(())
+    let asked = Asked::Right("B");
+    is_told(&rt, rt.alloc(), TWO, &AS_WANTED, asked, "right")?;
+    is_told(&rt, rt.alloc(), TWO, &OTHERWISE, asked, "wrong")
 }

@@ -1,14 +1,13 @@
 //! Orders and refusals of wishes, with expected values worked out from the rules.
+use crate::samples::{Deed, FILE, source, text, write};
 use cf_desired::{is_flat_source, templates_of};
-use cf_entry::{Begun, Entries, Entry, LaneNames};
+use cf_entry::{Begun, Entries, Entry};
 use cf_plan::{Order, PrepareFault, StackFault, Wish, plan_text, prepare};
 use cf_schema::Schemas;
 use cf_stacks::{World, fold};
-use cf_tree::{Bytes, Pairs, Source, Texts, Txt};
 use std::alloc::{AllocError, Global};
+use std::process::Abort;
 use std::test::Fail;
-
-const FILE: &str = "Local::Files::File";
 
 // A file.
 const ONE: &str = "{\"Resources\":{\
@@ -25,40 +24,6 @@ const UNKNOWN: &str = "{\"Resources\":{\
     \"C\":{\"Type\":\"Local::Other::Thing\",\"Properties\":{}},\
     \"A\":{\"Type\":\"Local::Files::File\",\"Properties\":{\"Path\":\"a\"}},\
     \"B\":{\"Type\":\"Local::Other::Part\",\"Properties\":{\"Key\":{\"Ref\":\"C\"}}}}}";
-
-fn text(alloc: Global, text: &str) -> Result<Txt, AllocError> {
-    Txt::from_str(alloc, text)
-}
-
-/// A source of one template.
-fn source(alloc: Global, template: &str) -> Result<Source, AllocError> {
-    let mut texts = Texts::new(alloc);
-    let bytes = Bytes::from_vec(Vec::from_slice(alloc, template.as_bytes())?);
-    texts.insert(text(alloc, "one")?, bytes)?;
-    Ok(Source {
-        root: text(alloc, "one")?,
-        texts,
-        given: Pairs::new(alloc),
-        imports: Pairs::new(alloc),
-        stack: text(alloc, "")?,
-        number: 0,
-    })
-}
-
-/// The lane `f1` of files is opened, and the creation of `s` begins.
-fn begun(alloc: Global) -> Result<Entries, AllocError> {
-    let mut lanes = LaneNames::new(alloc);
-    lanes.push((text(alloc, "f1")?, text(alloc, FILE)?))?;
-    let source = source(alloc, ONE)?;
-    let mut entries = Entries::new(alloc);
-    entries.push(Entry::Opened { epoch: 1, lanes })?;
-    entries.push(Entry::Begin {
-        number: 1,
-        stack: text(alloc, "s")?,
-        kind: Begun::Create { source },
-    })?;
-    Ok(entries)
-}
 
 /// An order as a line: its number, its stack and the root of its source.
 fn order_line(alloc: Global, order: &Order) -> Result<String, AllocError> {
@@ -95,6 +60,41 @@ fn fault_line(alloc: Global, fault: &PrepareFault) -> Result<String, AllocError>
     }
 }
 
+/// A wish for a stack of one template.
+fn wish(alloc: Global, stack: &str, template: &str) -> Result<Wish, AllocError> {
+    let stack = text(alloc, stack)?;
+    let source = source(alloc, template, &[])?;
+    Ok(Wish { stack, source })
+}
+
+fn line_of(alloc: Global, answer: Result<Order, PrepareFault>) -> Result<String, AllocError> {
+    match answer {
+        Ok(order) => {
+            let line = order_line(alloc, &order);
+            drop(order);
+            line
+        }
+        Err(fault) => {
+            let line = fault_line(alloc, &fault);
+            drop(fault);
+            line
+        }
+    }
+}
+
+/// What comes of a wish, as a line.
+fn line_for(alloc: Global, world: &World, wish: &Wish) -> Result<String, AllocError> {
+    let templates = templates_of(alloc, &wish.source)?;
+    let line = if is_flat_source(&wish.source, &templates) {
+        let schemas = Schemas::new(alloc);
+        line_of(alloc, prepare(alloc, world, wish, &templates, &schemas))
+    } else {
+        String::from_str(alloc, "nested")
+    };
+    drop(templates);
+    line
+}
+
 /// What comes of a wish for a stack of one template, as a line.
 fn wish_line(
     alloc: Global,
@@ -102,46 +102,63 @@ fn wish_line(
     stack: &str,
     template: &str,
 ) -> Result<String, AllocError> {
-    let wish = Wish {
-        stack: text(alloc, stack)?,
-        source: source(alloc, template)?,
-    };
-    let templates = templates_of(alloc, &wish.source)?;
-    if !is_flat_source(&wish.source, &templates) {
-        return String::from_str(alloc, "nested");
-    }
-    let schemas = Schemas::new(alloc);
-    match prepare(alloc, world, &wish, &templates, &schemas) {
-        Ok(order) => order_line(alloc, &order),
-        Err(fault) => fault_line(alloc, &fault),
+    let wish = wish(alloc, stack, template)?;
+    let line = line_for(alloc, world, &wish);
+    drop(wish);
+    line
+}
+
+/// The lane `f1` of files is opened, and the creation of `s` begins.
+static BEGUN: [Deed; 2] = [Deed::Open(&[("f1", FILE)]), Deed::Begin(ONE, &[])];
+
+/// The world where the creation of `s` has begun.
+fn world(alloc: Global) -> Result<Option<World>, AllocError> {
+    let mut entries = Entries::new(alloc);
+    match write(alloc, &mut entries, &BEGUN, 1) {
+        Ok(()) => {
+            let world = fold(alloc, &entries);
+            drop(entries);
+            Ok(world.ok())
+        }
+        Err(failed) => {
+            drop(entries);
+            Err(failed)
+        }
     }
 }
 
-/// The same in the world where the creation of `s` has begun.
+/// What comes of a wish for a stack of one template in that world, as a line.
 fn told(alloc: Global, stack: &str, template: &str) -> Result<String, AllocError> {
-    let entries = begun(alloc)?;
-    match fold(alloc, &entries) {
-        Ok(world) => wish_line(alloc, &world, stack, template),
-        Err(_) => String::from_str(alloc, "no world"),
+    match world(alloc)? {
+        Some(world) => {
+            let line = wish_line(alloc, &world, stack, template);
+            drop(world);
+            line
+        }
+        None => String::from_str(alloc, "no world"),
     }
+}
+
+fn is_told(
+    rt: &impl Abort,
+    alloc: Global,
+    stack: &str,
+    template: &str,
+    line: &str,
+) -> Result<(), Fail> {
+    assert_eq!(rt; told(alloc, stack, template)?.as_str(), line);
+    Ok(())
 }
 
 #[test]
 fn a_create_is_ordered(rt: HostRuntime) -> Result<(), Fail> {
-    let alloc = rt.alloc();
-    let line = told(alloc, "t", ONE)?;
-    assert_eq!(rt; line.as_str(), "create 2 t one");
-    Ok(())
+    is_told(&rt, rt.alloc(), "t", ONE, "create 2 t one")
 }
 
 #[test]
 fn refusals_come_in_their_order(rt: HostRuntime) -> Result<(), Fail> {
-    let alloc = rt.alloc();
-    let line = told(alloc, "s", CYCLE)?;
-    assert_eq!(rt; line.as_str(), "CREATE_IN_PROGRESS");
-    let line = told(alloc, "t", CYCLE)?;
-    assert_eq!(rt; line.as_str(), "Graph \"\" Circular [\"A\",\"B\"]");
-    let line = told(alloc, "t", UNKNOWN)?;
-    assert_eq!(rt; line.as_str(), "B Local::Other::Part");
-    Ok(())
+    is_told(&rt, rt.alloc(), "s", CYCLE, "CREATE_IN_PROGRESS")?;
+    let line = "Graph \"\" Circular [\"A\",\"B\"]";
+    is_told(&rt, rt.alloc(), "t", CYCLE, line)?;
+    is_told(&rt, rt.alloc(), "t", UNKNOWN, "B Local::Other::Part")
 }

@@ -12,8 +12,35 @@ use std::test::Fail;
 const TEMPLATE: &str =
     "{\"Parameters\":{\"Hosts\":{\"Type\":\"CommaDelimitedList\",\"Default\":\"alpha, beta\"},\"Key\":{\"Type\":\"String\",\"NoEcho\":true},\"Stage\":{\"Type\":\"String\"}},\"Resources\":{\"A\":{\"Type\":\"T\"}}}";
 
-/// A stack of this status, which its first operation created, the last one too, and which holds these resources.
-fn stack(alloc: Global, status: Status, held: Helds) -> StackState {
+/// What a stack is made of, as far as a report tells it.
+struct Parts {
+    held: Helds,
+    leftovers: Leftovers,
+    source: Option<Source>,
+    outputs: Outputs,
+    entries: Entries,
+}
+
+/// No parts but these resources.
+fn holding(alloc: Global, held: Helds) -> Parts {
+    Parts {
+        held,
+        leftovers: Leftovers::new(alloc),
+        source: None,
+        outputs: Outputs::new(alloc),
+        entries: Entries::new(alloc),
+    }
+}
+
+/// A stack of this status, which its first operation created, the last one too, and which is made of these parts.
+fn stack_of(alloc: Global, status: Status, parts: Parts) -> StackState {
+    let Parts {
+        held,
+        leftovers,
+        source,
+        outputs,
+        entries,
+    } = parts;
     StackState {
         status,
         number: 1,
@@ -21,16 +48,21 @@ fn stack(alloc: Global, status: Status, held: Helds) -> StackState {
         held,
         before: Helds::new(alloc),
         made: Helds::new(alloc),
-        leftovers: Leftovers::new(alloc),
+        leftovers,
         tokens: Pendings::new(alloc),
         abandoned: Abandoned::new(alloc),
-        source: None,
+        source,
         going: None,
-        outputs: Outputs::new(alloc),
+        outputs,
         sets: KeptSets::new(alloc),
         events: Names::new(alloc),
-        entries: Entries::new(alloc),
+        entries,
     }
+}
+
+/// A stack that is made of these resources alone.
+fn stack(alloc: Global, status: Status, held: Helds) -> StackState {
+    stack_of(alloc, status, holding(alloc, held))
 }
 
 /// A file that a stack holds.
@@ -112,14 +144,22 @@ fn source(alloc: Global) -> Result<Source, NoMemory> {
 }
 
 /// The report on a stack of this name.
-fn told(alloc: Global, name: &str, stack: &StackState, exit: &Exit) -> Result<String, NoMemory> {
+fn told_of(alloc: Global, name: &str, stack: &StackState, exit: &Exit) -> Result<String, NoMemory> {
     let name = Txt::from_str(alloc, name)?;
     report(alloc, &name, stack, exit)
 }
 
+/// The same, and the stack and the exit go. `drop` keeps the check short.
+fn told(alloc: Global, name: &str, stack: StackState, exit: Exit) -> Result<String, NoMemory> {
+    let told = told_of(alloc, name, &stack, &exit);
+    drop(stack);
+    drop(exit);
+    told
+}
+
 /// The report on a stack after a command that did what it says.
 fn told_done(alloc: Global, name: &str, stack: StackState) -> Result<String, NoMemory> {
-    told(alloc, name, &stack, &Exit::Done)
+    told(alloc, name, stack, Exit::Done)
 }
 
 #[test]
@@ -158,7 +198,7 @@ fn a_creation_in_progress(rt: HostRuntime) -> Result<(), Fail> {
 fn told_back(alloc: Global, cause: Cause) -> Result<String, NoMemory> {
     let stack = stack(alloc, Status::RollbackComplete, Helds::new(alloc));
     let exit = Exit::RolledBack { cause };
-    told(alloc, "s", &stack, &exit)
+    told(alloc, "s", stack, exit)
 }
 
 #[test]
@@ -173,10 +213,11 @@ fn a_creation_that_was_taken_back(rt: HostRuntime) -> Result<(), Fail> {
     Ok(())
 }
 
-/// The end of an operation in which `A` and `B` failed, and behind it the opening of another command.
-fn end_and_opening(alloc: Global) -> Result<Entries, NoMemory> {
-    let failed = two_names(alloc)?;
-    let mut entries = Entries::new(alloc);
+fn add_end_and_opening(
+    alloc: Global,
+    entries: &mut Entries,
+    failed: Names,
+) -> Result<(), NoMemory> {
     entries.push(Entry::Done {
         number: 1,
         status: Status::RollbackFailed,
@@ -186,7 +227,20 @@ fn end_and_opening(alloc: Global) -> Result<Entries, NoMemory> {
         epoch: 2,
         lanes: LaneNames::new(alloc),
     })?;
-    Ok(entries)
+    Ok(())
+}
+
+/// The end of an operation in which `A` and `B` failed, and behind it the opening of another command.
+fn end_and_opening(alloc: Global) -> Result<Entries, NoMemory> {
+    let failed = two_names(alloc)?;
+    let mut entries = Entries::new(alloc);
+    match add_end_and_opening(alloc, &mut entries, failed) {
+        Ok(()) => Ok(entries),
+        Err(refused) => {
+            drop(entries);
+            Err(refused)
+        }
+    }
 }
 
 /// The report on a stack that holds these resources, and of which not all was taken back.
@@ -196,18 +250,28 @@ fn told_failed(
     entries: Entries,
     blamed: Names,
 ) -> Result<String, NoMemory> {
-    let mut stack = stack(alloc, Status::RollbackFailed, held);
-    stack.entries = entries;
+    let parts = Parts {
+        held,
+        leftovers: Leftovers::new(alloc),
+        source: None,
+        outputs: Outputs::new(alloc),
+        entries,
+    };
+    let stack = stack_of(alloc, Status::RollbackFailed, parts);
     let exit = Exit::Failed { blamed };
-    told(alloc, "s", &stack, &exit)
+    told(alloc, "s", stack, exit)
+}
+
+fn told_not_back(alloc: Global) -> Result<String, NoMemory> {
+    let blamed = two_names(alloc)?;
+    let held = one_file(alloc, "A", HeldStatus::DeleteFailed)?;
+    let entries = end_and_opening(alloc)?;
+    told_failed(alloc, held, entries, blamed)
 }
 
 #[test]
 fn a_creation_that_could_not_be_taken_back(rt: HostRuntime) -> Result<(), Fail> {
-    let held = one_file(rt.alloc(), "A", HeldStatus::DeleteFailed)?;
-    let entries = end_and_opening(rt.alloc())?;
-    let blamed = two_names(rt.alloc())?;
-    let text = told_failed(rt.alloc(), held, entries, blamed)?;
+    let text = told_not_back(rt.alloc())?;
     assert_eq!(rt;
         text.as_str(),
         "stack s ROLLBACK_FAILED 1\nresource A Local::Files::File f1:1 DELETE_FAILED\nfailed A\nfailed B\nexit 5 Failed [\"A\",\"B\"]\n"
@@ -263,17 +327,26 @@ fn two_outputs(alloc: Global) -> Result<Outputs, NoMemory> {
 
 /// The report on a stack that was made from this source and has these outputs.
 fn told_whole(alloc: Global, source: Source, outputs: Outputs) -> Result<String, NoMemory> {
-    let mut stack = stack(alloc, Status::CreateComplete, Helds::new(alloc));
-    stack.source = Some(source);
-    stack.outputs = outputs;
+    let parts = Parts {
+        held: Helds::new(alloc),
+        leftovers: Leftovers::new(alloc),
+        source: Some(source),
+        outputs,
+        entries: Entries::new(alloc),
+    };
+    let stack = stack_of(alloc, Status::CreateComplete, parts);
     told_done(alloc, "site", stack)
+}
+
+fn told_source(alloc: Global) -> Result<String, NoMemory> {
+    let outputs = two_outputs(alloc)?;
+    let source = source(alloc)?;
+    told_whole(alloc, source, outputs)
 }
 
 #[test]
 fn parameters_and_outputs(rt: HostRuntime) -> Result<(), Fail> {
-    let source = source(rt.alloc())?;
-    let outputs = two_outputs(rt.alloc())?;
-    let text = told_whole(rt.alloc(), source, outputs)?;
+    let text = told_source(rt.alloc())?;
     assert_eq!(rt;
         text.as_str(),
         "stack site CREATE_COMPLETE 1\nparameter Hosts [\"alpha\",\"beta\"]\nparameter Key \"****\"\nparameter Stage \"prod\"\noutput Plain \"a\\\"b\"\noutput Total \"18/4\" export \"site-total\"\nexit 0 Done\n"
@@ -307,8 +380,14 @@ fn three_leftovers(alloc: Global) -> Result<Leftovers, NoMemory> {
 
 /// The report on a stack that was deleted and left this over.
 fn told_deleted(alloc: Global, leftovers: Leftovers) -> Result<String, NoMemory> {
-    let mut stack = stack(alloc, Status::DeleteComplete, Helds::new(alloc));
-    stack.leftovers = leftovers;
+    let parts = Parts {
+        held: Helds::new(alloc),
+        leftovers,
+        source: None,
+        outputs: Outputs::new(alloc),
+        entries: Entries::new(alloc),
+    };
+    let stack = stack_of(alloc, Status::DeleteComplete, parts);
     told_done(alloc, "site", stack)
 }
 

@@ -1,14 +1,49 @@
 //! Journals of creations, the lanes that they work on, and steps as lines, for the tests.
-use cf_entry::{Begun, Cause, Entries, Entry, LaneNames, Phase, Reason, Reply, Status};
+//!
+//! A journal stands as a table of short deeds. A value that owns much is let go by `drop`: let go in place it makes the
+//! check long.
+use cf_entry::{Begun, Cause, Entries, Entry, LaneNames, Phase, Reason, Reply, Status, Why};
 use cf_plan::{Home, Homes, Next, is_creation, next_in_creation};
 use cf_schema::Schema;
 use cf_stacks::{World, fold};
 use cf_tree::{Bytes, Code, Dict, Names, Pairs, Request, Source, Texts, Txt, Val};
 use std::alloc::{AllocError, Global};
+use std::process::Abort;
+use std::test::Fail;
 
 pub const FILE: &str = "Local::Files::File";
 
 pub const RECORD: &str = "Local::Records::Record";
+
+/// An entry in short. Calls are told by their token, their lane and their path.
+#[derive(Clone, Copy)]
+pub enum Deed {
+    /// Lanes of these names and types are opened.
+    Open(&'static [(&'static str, &'static str)]),
+    /// The creation of `s` begins from a template, which uses these imports.
+    Begin(&'static str, &'static [(&'static str, &'static str)]),
+    /// A create of this type is written down.
+    Create(u64, &'static str, &'static str, &'static str),
+    /// The create of a file with this property `Path` is written down.
+    CreateAt(u64, &'static str, &'static str, &'static str),
+    /// The deletion of a resource of this id is written down.
+    Delete(u64, &'static str, &'static str, &'static str),
+    /// The call of a token succeeds on the resource of this id.
+    Succeed(u64, &'static str),
+    /// The call of a token is refused with a code.
+    Refuse(u64, Code),
+    /// The call of a token breaks off.
+    Doubt(u64),
+    /// The creation turns back, for a refusal at a path.
+    Turn(&'static str),
+    /// A path's resource of this id is kept.
+    Keep(&'static str, &'static str),
+    /// The operation ends.
+    End(Status),
+}
+
+/// The lanes `f1` and `f2` of files and `r1` of records.
+pub const LANES: [(&str, &str); 3] = [("f1", FILE), ("r1", RECORD), ("f2", FILE)];
 
 pub fn text(alloc: Global, text: &str) -> Result<Txt, AllocError> {
     Txt::from_str(alloc, text)
@@ -23,45 +58,53 @@ fn texts(alloc: Global, template: &str) -> Result<Texts, AllocError> {
     Ok(texts)
 }
 
-/// A source of one template.
-fn source(alloc: Global, template: &str) -> Result<Source, AllocError> {
-    let texts = texts(alloc, template)?;
+fn pairs(alloc: Global, rows: &[(&str, &str)]) -> Result<Pairs, AllocError> {
+    let mut pairs = Pairs::new(alloc);
+    for row in rows {
+        pairs.insert(text(alloc, row.0)?, text(alloc, row.1)?)?;
+    }
+    Ok(pairs)
+}
+
+/// A source of one template, which uses these imports.
+pub fn source(
+    alloc: Global,
+    template: &str,
+    imports: &[(&str, &str)],
+) -> Result<Source, AllocError> {
     let root = text(alloc, "one")?;
     let stack = text(alloc, "")?;
+    let imports = pairs(alloc, imports)?;
+    let texts = texts(alloc, template)?;
     Ok(Source {
         root,
         texts,
         given: Pairs::new(alloc),
-        imports: Pairs::new(alloc),
+        imports,
         stack,
         number: 0,
     })
 }
 
-fn add_lane(
-    alloc: Global,
-    lanes: &mut LaneNames,
-    name: &str,
-    kind: &str,
-) -> Result<(), AllocError> {
-    let name = text(alloc, name)?;
-    let kind = text(alloc, kind)?;
-    lanes.push((name, kind))
+fn lane_names(alloc: Global, rows: &[(&str, &str)]) -> Result<LaneNames, AllocError> {
+    let mut lanes = LaneNames::new(alloc);
+    for row in rows {
+        let name = text(alloc, row.0)?;
+        let kind = text(alloc, row.1)?;
+        lanes.push((name, kind))?;
+    }
+    Ok(lanes)
 }
 
-/// The lanes `f1` and `f2` of files and `r1` of records are opened.
-fn opened(alloc: Global) -> Result<Entry, AllocError> {
-    let mut lanes = LaneNames::new(alloc);
-    add_lane(alloc, &mut lanes, "f1", FILE)?;
-    add_lane(alloc, &mut lanes, "r1", RECORD)?;
-    add_lane(alloc, &mut lanes, "f2", FILE)?;
+fn opened(alloc: Global, rows: &[(&str, &str)]) -> Result<Entry, AllocError> {
+    let lanes = lane_names(alloc, rows)?;
     Ok(Entry::Opened { epoch: 1, lanes })
 }
 
 /// The creation of `s` begins, as operation 1.
-fn begin(alloc: Global, template: &str) -> Result<Entry, AllocError> {
+fn begun(alloc: Global, template: &str, imports: &[(&str, &str)]) -> Result<Entry, AllocError> {
     let stack = text(alloc, "s")?;
-    let source = source(alloc, template)?;
+    let source = source(alloc, template, imports)?;
     Ok(Entry::Begin {
         number: 1,
         stack,
@@ -69,153 +112,175 @@ fn begin(alloc: Global, template: &str) -> Result<Entry, AllocError> {
     })
 }
 
-/// A journal in which the creation of `s` has begun.
-pub fn begun(alloc: Global, template: &str) -> Result<Entries, AllocError> {
-    let mut entries = Entries::new(alloc);
-    entries.push(opened(alloc)?)?;
-    entries.push(begin(alloc, template)?)?;
-    Ok(entries)
+fn create_of(alloc: Global, kind: &str) -> Result<Request, AllocError> {
+    let kind = text(alloc, kind)?;
+    let props = Dict::new(alloc);
+    Ok(Request::Create { kind, props })
 }
 
-/// The lanes are opened anew.
-pub fn reopen(alloc: Global, entries: &mut Entries) -> Result<(), AllocError> {
-    entries.push(opened(alloc)?)
+fn path_of(alloc: Global, path: &str) -> Result<Dict, AllocError> {
+    let name = text(alloc, "Path")?;
+    let value = Val::Text(text(alloc, path)?);
+    let mut props = Dict::new(alloc);
+    props.insert(name, value)?;
+    Ok(props)
 }
 
-/// A request is written down.
-fn intend(
+fn create_at(alloc: Global, path: &str) -> Result<Request, AllocError> {
+    let kind = text(alloc, FILE)?;
+    let props = path_of(alloc, path)?;
+    Ok(Request::Create { kind, props })
+}
+
+fn delete_of(alloc: Global, physical: &str) -> Result<Request, AllocError> {
+    let physical = text(alloc, physical)?;
+    Ok(Request::Delete { physical })
+}
+
+/// A request that is written down, on a lane and at a path.
+fn intended(
     alloc: Global,
-    entries: &mut Entries,
     token: u64,
     lane: &str,
     path: &str,
     request: Request,
-) -> Result<(), AllocError> {
-    let lane = text(alloc, lane)?;
-    let path = text(alloc, path)?;
-    entries.push(Entry::Intent {
+) -> Result<Entry, AllocError> {
+    match two_texts(alloc, lane, path) {
+        Ok((lane, path)) => Ok(Entry::Intent {
+            number: 1,
+            token,
+            lane,
+            path,
+            request,
+        }),
+        Err(failed) => {
+            drop(request);
+            Err(failed)
+        }
+    }
+}
+
+fn two_texts(alloc: Global, one: &str, two: &str) -> Result<(Txt, Txt), AllocError> {
+    let one = text(alloc, one)?;
+    let two = text(alloc, two)?;
+    Ok((one, two))
+}
+
+fn answered(token: u64, answer: Reply, after: u64) -> Entry {
+    Entry::Outcome {
         number: 1,
         token,
-        lane,
-        path,
-        request,
+        answer,
+        before: 0,
+        after,
+    }
+}
+
+fn succeeded(alloc: Global, token: u64, physical: &str, after: u64) -> Result<Entry, AllocError> {
+    let physical = text(alloc, physical)?;
+    let attrs = Dict::new(alloc);
+    Ok(answered(token, Reply::Success { physical, attrs }, after))
+}
+
+fn turned(alloc: Global, path: &str) -> Result<Entry, AllocError> {
+    let path = text(alloc, path)?;
+    let reason = Reason::Code(Code::AccessDenied);
+    Ok(Entry::Phase {
+        number: 1,
+        phase: Phase::Back,
+        cause: Some(Cause::Handler { path, reason }),
     })
+}
+
+fn kept(alloc: Global, path: &str, physical: &str) -> Result<Entry, AllocError> {
+    let (path, physical) = two_texts(alloc, path, physical)?;
+    Ok(Entry::Kept {
+        number: 1,
+        path,
+        physical,
+        why: Why::Retained,
+    })
+}
+
+fn ended(alloc: Global, status: Status) -> Entry {
+    Entry::Done {
+        number: 1,
+        status,
+        failed: Names::new(alloc),
+    }
+}
+
+/// The entry of a deed, and the count of an outcome's lane after it.
+pub fn entry_of(alloc: Global, deed: &Deed, after: u64) -> Result<Entry, AllocError> {
+    match *deed {
+        Deed::Open(lanes) => opened(alloc, lanes),
+        Deed::Begin(template, imports) => begun(alloc, template, imports),
+        Deed::Create(token, lane, path, kind) => {
+            intended(alloc, token, lane, path, create_of(alloc, kind)?)
+        }
+        Deed::CreateAt(token, lane, path, at) => {
+            intended(alloc, token, lane, path, create_at(alloc, at)?)
+        }
+        Deed::Delete(token, lane, path, physical) => {
+            intended(alloc, token, lane, path, delete_of(alloc, physical)?)
+        }
+        Deed::Succeed(token, physical) => succeeded(alloc, token, physical, after),
+        Deed::Refuse(token, code) => Ok(answered(token, Reply::Failed { code }, after)),
+        Deed::Doubt(token) => Ok(answered(token, Reply::Doubt, after)),
+        Deed::Turn(path) => turned(alloc, path),
+        Deed::Keep(path, physical) => kept(alloc, path, physical),
+        Deed::End(status) => Ok(ended(alloc, status)),
+    }
+}
+
+/// Writes deeds behind a journal.
+pub fn write(
+    alloc: Global,
+    entries: &mut Entries,
+    deeds: &[Deed],
+    after: u64,
+) -> Result<(), AllocError> {
+    for deed in deeds {
+        entries.push(entry_of(alloc, deed, after)?)?;
+    }
+    Ok(())
+}
+
+/// Writes a journal in which the creation of `s` begins on the lanes, and these deeds.
+pub fn begin(
+    alloc: Global,
+    entries: &mut Entries,
+    template: &'static str,
+    deeds: &[Deed],
+) -> Result<(), AllocError> {
+    entries.push(opened(alloc, &LANES)?)?;
+    entries.push(begun(alloc, template, &[])?)?;
+    write(alloc, entries, deeds, 1)
+}
+
+/// The world that such a journal leaves.
+pub fn world_of(
+    alloc: Global,
+    template: &'static str,
+    deeds: &[Deed],
+) -> Result<Option<World>, AllocError> {
+    let mut entries = Entries::new(alloc);
+    match begin(alloc, &mut entries, template, deeds) {
+        Ok(()) => {
+            let world = fold(alloc, &entries);
+            drop(entries);
+            Ok(world.ok())
+        }
+        Err(failed) => {
+            drop(entries);
+            Err(failed)
+        }
+    }
 }
 
 /// The type of a lane's resources.
 fn kind_of(lane: &str) -> &'static str {
     if lane == "r1" { RECORD } else { FILE }
-}
-
-/// The create of a path with these properties is written down.
-pub fn create_with(
-    alloc: Global,
-    entries: &mut Entries,
-    token: u64,
-    lane: &str,
-    path: &str,
-    props: Dict,
-) -> Result<(), AllocError> {
-    let kind = text(alloc, kind_of(lane))?;
-    intend(
-        alloc,
-        entries,
-        token,
-        lane,
-        path,
-        Request::Create { kind, props },
-    )
-}
-
-/// The create of a path is written down.
-pub fn create(
-    alloc: Global,
-    entries: &mut Entries,
-    token: u64,
-    lane: &str,
-    path: &str,
-) -> Result<(), AllocError> {
-    create_with(alloc, entries, token, lane, path, Dict::new(alloc))
-}
-
-/// The deletion of a resource is written down.
-pub fn delete(
-    alloc: Global,
-    entries: &mut Entries,
-    token: u64,
-    lane: &str,
-    path: &str,
-    physical: &str,
-) -> Result<(), AllocError> {
-    let physical = text(alloc, physical)?;
-    intend(
-        alloc,
-        entries,
-        token,
-        lane,
-        path,
-        Request::Delete { physical },
-    )
-}
-
-/// A token is answered.
-fn answer(entries: &mut Entries, token: u64, answer: Reply) -> Result<(), AllocError> {
-    entries.push(Entry::Outcome {
-        number: 1,
-        token,
-        answer,
-        before: 0,
-        after: 1,
-    })
-}
-
-/// The call of a token succeeds on the resource of this id.
-pub fn succeed(
-    alloc: Global,
-    entries: &mut Entries,
-    token: u64,
-    physical: &str,
-) -> Result<(), AllocError> {
-    let physical = text(alloc, physical)?;
-    let attrs = Dict::new(alloc);
-    answer(entries, token, Reply::Success { physical, attrs })
-}
-
-/// The call of a token is refused with a code.
-pub fn refuse(entries: &mut Entries, token: u64, code: Code) -> Result<(), AllocError> {
-    answer(entries, token, Reply::Failed { code })
-}
-
-/// The call of a token breaks off so many times.
-pub fn doubt(entries: &mut Entries, token: u64, times: u64) -> Result<(), AllocError> {
-    for _ in 0..times {
-        answer(entries, token, Reply::Doubt)?;
-    }
-    Ok(())
-}
-
-/// A path is created, and comes to the resource of this id.
-pub fn make(
-    alloc: Global,
-    entries: &mut Entries,
-    token: u64,
-    lane: &str,
-    path: &str,
-    physical: &str,
-) -> Result<(), AllocError> {
-    create(alloc, entries, token, lane, path)?;
-    succeed(alloc, entries, token, physical)
-}
-
-/// The creation turns back, for a refusal at a path.
-pub fn turn(alloc: Global, entries: &mut Entries, path: &str) -> Result<(), AllocError> {
-    let path = text(alloc, path)?;
-    let reason = Reason::Code(Code::AccessDenied);
-    entries.push(Entry::Phase {
-        number: 1,
-        phase: Phase::Back,
-        cause: Some(Cause::Handler { path, reason }),
-    })
 }
 
 /// A schema of a type, which says nothing of properties.
@@ -238,8 +303,9 @@ fn add_home(
     name: &str,
     out: Option<u64>,
 ) -> Result<(), AllocError> {
-    let schema = schema(alloc, kind_of(name))?;
+    let kind = kind_of(name);
     let name = text(alloc, name)?;
+    let schema = schema(alloc, kind)?;
     homes.push(Home { name, schema, out })
 }
 
@@ -394,23 +460,56 @@ fn next_line(alloc: Global, world: &World, homes: &Homes) -> Result<String, Allo
         return String::from_str(alloc, "no creation");
     }
     let next = next_in_creation(alloc, world, 1, homes)?;
-    line_of(alloc, &next)
+    let line = line_of(alloc, &next);
+    drop(next);
+    line
 }
 
-/// The step that comes next in the world that entries leave, while `f1` is out under this token.
-pub fn next_while(
+/// The step that comes next in a world, while `f1` is out under this token.
+fn next_in(alloc: Global, world: &World, out: Option<u64>) -> Result<String, AllocError> {
+    let homes = homes(alloc, out)?;
+    let line = next_line(alloc, world, &homes);
+    drop(homes);
+    line
+}
+
+/// The same in the world that deeds leave.
+fn told(
     alloc: Global,
-    entries: &Entries,
+    template: &'static str,
+    deeds: &[Deed],
     out: Option<u64>,
 ) -> Result<String, AllocError> {
-    let homes = homes(alloc, out)?;
-    match fold(alloc, entries) {
-        Ok(world) => next_line(alloc, &world, &homes),
-        Err(_) => String::from_str(alloc, "no world"),
+    match world_of(alloc, template, deeds)? {
+        Some(world) => {
+            let line = next_in(alloc, &world, out);
+            drop(world);
+            line
+        }
+        None => String::from_str(alloc, "no world"),
     }
 }
 
+/// Whether this is the step that comes next, while `f1` is out under this token.
+pub fn is_next_while(
+    rt: &impl Abort,
+    alloc: Global,
+    template: &'static str,
+    deeds: &[Deed],
+    out: Option<u64>,
+    line: &str,
+) -> Result<(), Fail> {
+    assert_eq!(rt; told(alloc, template, deeds, out)?.as_str(), line);
+    Ok(())
+}
+
 /// The same, while all lanes are at home.
-pub fn next(alloc: Global, entries: &Entries) -> Result<String, AllocError> {
-    next_while(alloc, entries, None)
+pub fn is_next(
+    rt: &impl Abort,
+    alloc: Global,
+    template: &'static str,
+    deeds: &[Deed],
+    line: &str,
+) -> Result<(), Fail> {
+    is_next_while(rt, alloc, template, deeds, None, line)
 }
