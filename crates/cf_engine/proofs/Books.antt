@@ -3,7 +3,7 @@ use Rattle.std.proofs.Common.{◌≡◌, inl, inr, Bool, ℕ, suc, ◌≤◌, �
 use Rattle.std.proofs.lemmas.Bool.Decides.{leb_tells}
 use Rattle.cf_entry.specs.declared.entry.Entry.{Entry}
 use Rattle.cf_stacks.specs.declared.state.World.{World}
-use Rattle.cf_stacks.specs.Fold.{empty_world, fold_of, world_after}
+use Rattle.cf_stacks.specs.Fold.{bare, empty_world, fold_of, world_after}
 use Rattle.cf_stacks.proofs.Bare.{room_counts_not}
 use Rattle.cf_engine.specs.declared.book.Halt.{Halt}
 use Rattle.cf_engine.specs.declared.book.Halt.TheVariants as halt
@@ -17,9 +17,9 @@ fold_append x (e ∷ es) fs = fold_append (world_after x e) es fs
 pub world_more : (w : World) (es more : List Entry) (e : Entry) → w ≡ world_after (world_of es) e → more ≡ es ++ e ∷ [] → w ≡ world_of more
 world_more w es more e s m = s ∙ sym (fold_append empty_world es (e ∷ [])) ∙ ap world_of (sym m)
 
--- the same of a world that has made room for it
-pub world_stepped : (w v : World) (es more : List Entry) (e : Entry) → v ≡ record (world_of es) { ready = v.ready } → w ≡ world_after v e → more ≡ es ++ e ∷ [] → w ≡ world_of more
-world_stepped w v es more e r s m = world_more w es more e (s ∙ ap {A = World} (λ x. world_after x e) r ∙ room_counts_not (world_of es) v.ready e) m
+-- the same of a world that had made room for it, and then gave up what room was left
+pub world_stepped : (v u w : World) (es more : List Entry) (e : Entry) → v ≡ record (world_of es) { ready = v.ready; rooms = v.rooms } → bare u ≡ world_after v e → w ≡ bare u → more ≡ es ++ e ∷ [] → w ≡ world_of more
+world_stepped v u w es more e r s b m = world_more w es more e (b ∙ s ∙ ap {A = World} (λ x. world_after x e) r ∙ room_counts_not (world_of es) v.ready v.rooms e) m
 
 -- faults of a disk that rose later rose since an earlier moment
 pub faulted_since : {before now after : ℕ} → before ≤ now → HasFaulted now after → HasFaulted before after

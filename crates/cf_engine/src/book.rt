@@ -59,7 +59,7 @@ pub fn append<D: Disk>(
             book.entries.reserve(1),
             book.journal.reserve(entry_size(&entry)),
         ) {
-            (Ok(copy), Ok(()), Ok(())) => write(book, disk, entry, copy),
+            (Ok(copy), Ok(()), Ok(())) => write(alloc, book, disk, entry, copy),
             _ => Err(Halt::NoMemory),
         },
         Err(StepFault::NoMemory) => Err(Halt::NoMemory),
@@ -67,12 +67,19 @@ pub fn append<D: Disk>(
     }
 }
 
-/// Appends an entry for which there is memory and room in the world; with a copy of it for the book.
-fn write<D: Disk>(book: &mut Book, disk: &mut D, entry: Entry, copy: Entry) -> Result<(), Halt>
+/// Appends an entry for which there is memory and room in the world; with a copy of it for the book. A run makes one call at a time
+/// and asks for the room of its outcome when the answer is there, so that no room is kept over it.
+fn write<D: Disk>(
+    alloc: Global,
+    book: &mut Book,
+    disk: &mut D,
+    entry: Entry,
+    copy: Entry,
+) -> Result<(), Halt>
     requires stands { Stands D.tells D.seen D.may_leave D.room_of book.old.journal disk.old }
     requires holds { Holds D.tells (D.seen disk.old) book.old.entries.items }
-    requires world { book.old.world ≡ record (world_of book.old.entries.items) { ready = book.old.world.ready } }
-    requires stepped { HasRoom book.old.world entry }
+    requires world { book.old.world ≡ record (world_of book.old.entries.items) { ready = book.old.world.ready; rooms = book.old.world.rooms } }
+    requires made { HasRoom book.old.world entry }
     requires proper { IsProper entry }
     requires copied { copy ≡ entry }
     requires memory { vec_len book.old.entries < vec_capacity book.old.entries }
@@ -86,6 +93,7 @@ fn write<D: Disk>(book: &mut Book, disk: &mut D, entry: Entry, copy: Entry) -> R
         Ok(()) => {
             book.entries.push_reserved(copy);
             book.world.step(entry);
+            book.world.give_up_rooms(alloc);
             Ok(())
         }
         Err(AppendFault::Full { length, need, room }) => Err(Halt::Full { length, need, room }),

@@ -91,6 +91,7 @@ world =
       token = 1;
       place = 5;
       ready = None;
+      rooms = [];
     }
 
 abbrev pub Leaves : Type 0

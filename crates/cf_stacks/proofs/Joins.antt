@@ -1,5 +1,5 @@
 -- A member joins a list behind those that stand before it: how far one has looked, and where it goes.
-use Rattle.std.proofs.Common.{◌≡◌, ℕ, zero, suc, ◌<◌, ◌≤◌, Bool, true, false, List, [], ◌∷◌, ◌++◌, length, take, drop, get_or, insert, refl, ap, sym, ◌∙◌, arith, cond, if◌then◌else◌}
+use Rattle.std.proofs.Common.{◌≡◌, ℕ, zero, suc, ◌<◌, Bool, true, false, List, [], ◌∷◌, ◌++◌, length, take, drop, get_or, insert, refl, ap, arith}
 use Rattle.cf_graph.specs.Inserted.{insert_by}
 
 module _ {A : Type 0} (is_before : A → A → Bool) (a : A) where

@@ -5,3 +5,13 @@ pub mod Over
 pub mod Folding
 pub mod Termed
 pub mod Bare
+pub mod Kept
+pub mod Grown
+pub mod Shortness
+pub mod OnlyPlace
+pub mod Laid
+pub mod Promised
+pub mod Lasting
+pub mod Making
+pub mod Stepped
+pub mod Readied

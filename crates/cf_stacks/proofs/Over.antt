@@ -1,5 +1,5 @@
 -- What a phase and an end leave of the lists that all stacks share, and how operations begin.
-use Rattle.std.proofs.Common.{◌≡◌, ℕ, ◌+◌, Bool, true, false, List, [], ◌∷◌, Option, Some, None, refl, ap, is_some}
+use Rattle.std.proofs.Common.{◌≡◌, ℕ, true, false, List, [], Option, Some, None, refl, is_some}
 use Rattle.std.specs.Option.{option_map_or}
 use Rattle.cf_tree.specs.Keys.{value_at}
 use Rattle.cf_export.specs.declared.Pin.{Pin}

@@ -1,8 +1,7 @@
 -- What an entry changes of the stack that it is of, and how operations begin, as the calls tell it.
-use Rattle.std.specs.Prelude.{◌≡◌, ⊤, ℕ, Bool, true, List, [], ◌∷◌, ◌++◌, Option, Result, Ok, Err, All, is_some}
+use Rattle.std.specs.Prelude.{⊤, ℕ, Bool, true, List, [], ◌∷◌, ◌++◌, Result, Ok, Err, is_some}
 use Rattle.std.specs.Option.{option_map_or}
 use Rattle.cf_tree.specs.Keys.{value_at}
-use Rattle.cf_tree.specs.declared.source.Source.{Source}
 use Rattle.cf_export.specs.declared.Pin.{Pin}
 use Rattle.cf_entry.specs.declared.entry.Entry.{Entry}
 use Rattle.cf_entry.specs.declared.entry.Entry.TheVariants as entry
@@ -12,9 +11,7 @@ use Rattle.cf_desired.specs.Templates.{IsFlat}
 use Rattle.cf_desired.specs.Whole.{export_names_of}
 use Rattle.cf_stacks.specs.declared.fault.StepFault.{StepFault}
 use Rattle.cf_stacks.specs.declared.fault.StepFault.TheVariants as refused
-use Rattle.cf_stacks.specs.declared.held.Pending.{Pending}
 use Rattle.cf_stacks.specs.declared.state.StackState.{StackState}
-use Rattle.cf_stacks.specs.declared.state.World.{World}
 use Rattle.cf_stacks.specs.Words.{pending_of, where_going}
 use Rattle.cf_stacks.specs.Fold.{ended, heard, keeping, replied, turning, repinned, seen_in}
 

@@ -31,9 +31,7 @@ use Rattle.cf_stacks.specs.declared.held.Leftover.{Leftover}
 use Rattle.cf_stacks.specs.declared.held.Pending.{Pending}
 use Rattle.cf_stacks.specs.declared.held.GivenUp.{GivenUp}
 use Rattle.cf_stacks.specs.declared.held.KeptSet.{KeptSet}
-use Rattle.cf_tree.specs.declared.template.Deletion.{Deletion}
 use Rattle.cf_tree.specs.declared.template.Deletion.TheVariants as deletion
-use Rattle.cf_tree.specs.declared.template.Replace.{Replace}
 use Rattle.cf_tree.specs.declared.template.Replace.TheVariants as replace
 use Rattle.cf_stacks.specs.declared.terms.Terms.{Terms}
 use Rattle.cf_stacks.specs.declared.state.StackState.{StackState}
@@ -51,7 +49,7 @@ use Rattle.cf_stacks.specs.Operation.{calls_in, rollback_of}
 
 -- the empty world, and a stack of which nothing is known
 abbrev pub empty_world : World
-empty_world = record { stacks = []; exports = []; pins = []; claims = []; lanes = []; epoch = 0; operation = 0; set = 0; token = 0; place = 0; ready = None }
+empty_world = record { stacks = []; exports = []; pins = []; claims = []; lanes = []; epoch = 0; operation = 0; set = 0; token = 0; place = 0; ready = None; rooms = [] }
 
 abbrev pub no_stack : StackState
 no_stack = record {
@@ -435,11 +433,11 @@ on_stack place number e change x = record x { stacks = where_going number (λ s.
 
 -- no room is made for an entry
 abbrev pub bare : World → World
-bare x = record x { ready = None }
+bare x = record x { ready = None; rooms = [] }
 
--- the entry counts, whichever stack it is of and also where it is of none; room that was made is used up
+-- the entry counts, whichever stack it is of and also where it is of none; what room is left is no part of what it leaves
 abbrev pub counted : World → World
-counted x = record x { place = x.place + 1; ready = None }
+counted x = record x { place = x.place + 1; ready = None; rooms = [] }
 
 abbrev pub phase_over : List ℕ → Phase → StackState → World → World
 phase_over name p s x = record x { pins = pins_turned name p s x.pins; exports = exports_turned name p s x.exports }

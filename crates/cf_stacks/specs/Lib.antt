@@ -4,4 +4,7 @@ pub mod Operation
 pub mod Event
 pub mod Fold
 pub mod Changing
+pub mod Growing
+pub mod Telling
+pub mod Awaiting
 pub mod Room

@@ -6,6 +6,7 @@ ghost use Rattle.cf_graph.specs.Needs.{is_among};
 ghost use Rattle.cf_stacks.specs.Words.{is_create, where_physical, without, id_named, without_token, is_on, is_create_at, has_token, pending_of, has_physical};
 ghost use Rattle.cf_stacks.specs.Fold.{updating, marked, doubtful, skipped_in, as_before, given_up, lost_create, is_named_by};
 
+use crate::attrs::Attrs;
 use crate::held::{GivenUp, Held, HeldStatus, Helds, Leftover, Pending, Pendings};
 use cf_entry::Why;
 use cf_tree::{Dict, Names, Request, TryClone, Txt};
@@ -36,7 +37,7 @@ fn renew(alloc: Global, held: &mut Held, props: &Dict, attrs: &Dict) -> Result<(
     ensures { IfOk result (λ _. held.new ≡ updating held.old.physical props.now attrs.now held.old) }
 {
     held.props = props.try_clone(alloc)?;
-    held.attrs = attrs.try_clone(alloc)?;
+    held.attrs = Attrs::new(attrs.try_clone(alloc)?);
     held.status = HeldStatus::UpdateComplete;
     held.unsure = false;
     Ok(())

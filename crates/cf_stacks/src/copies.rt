@@ -2,6 +2,7 @@
 ghost use Rattle.std.specs.Prelude.{◌≡◌, IfOk};
 ghost use Rattle.cf_stacks.specs.Fold.{bare};
 
+use crate::awaited::AnswerRooms;
 use crate::going::Going;
 use crate::held::{GivenUp, KeptSet, Leftover, Pending};
 use crate::state::{StackState, World};
@@ -113,6 +114,7 @@ impl World {
             token: self.token,
             place: self.place,
             ready: None,
+            rooms: AnswerRooms::new(alloc),
         })
     }
 }

@@ -12,7 +12,7 @@ use cf_tree::{Code, Request, Txt};
 use std::alloc::{AllocError, Global};
 
 /// What a request does to a resource.
-fn action_name(request: &Request) -> &'static str
+pub(crate) fn action_name(request: &Request) -> &'static str
     ensures { result.now ≡ action_name request.now }
 {
     match request {

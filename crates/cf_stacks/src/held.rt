@@ -1,6 +1,7 @@
 //! What a stack holds, and what is open or left over.
 ghost use Rattle.std.specs.Prelude.{◌≡◌, IfOk};
 
+use crate::attrs::Attrs;
 use cf_entry::Why;
 use cf_tree::{Deletion, Dict, Listing, Names, Replace, Request, Rows, Source, TryClone, Txt};
 use std::alloc::{AllocError, Global};
@@ -21,7 +22,7 @@ pub struct Held {
     pub kind: Txt,
     pub physical: Txt,
     pub props: Dict,
-    pub attrs: Dict,
+    pub attrs: Attrs,
     /// The paths that it needs.
     pub needs: Names,
     pub deletion: Deletion,

@@ -1,7 +1,11 @@
 //! What a journal's entries leave of each stack: the types, the calls that read them, and in `specs/` the fold.
 #![tactic(auto)]
 
+mod answered;
 mod answers;
+mod attrs;
+mod awaited;
+mod awaiting;
 mod beginning;
 mod begun;
 mod changes;
@@ -12,6 +16,8 @@ mod events;
 mod fault;
 mod going;
 mod held;
+mod lines;
+mod longer;
 mod outcomes;
 mod own;
 mod pinned;
@@ -24,6 +30,8 @@ mod terms;
 mod told;
 mod world;
 
+pub use attrs::Attrs;
+pub use awaited::{AnswerParts, AnswerRoom, AnswerRooms, ResourceParts, StackParts};
 pub use cf_export::{Output, Outputs};
 pub use fault::StepFault;
 pub use going::Going;
@@ -31,7 +39,8 @@ pub use held::{
     Abandoned, GivenUp, Held, HeldStatus, Helds, KeptSet, KeptSets, Leftover, Leftovers, Pending,
     Pendings,
 };
-pub use room::Ready;
+pub use longer::Longer;
+pub use room::{Ready, awaited_has_room};
 pub use seen::{seen_in, seen_now};
 pub use state::{StackState, Stacks, World};
 pub use terms::Terms;

@@ -12,7 +12,7 @@ use std::alloc::{AllocError, Global};
 
 impl StackState {
     /// The policies and needs that the source of the operation gives a path.
-    fn terms_at(&self, alloc: Global, path: &Txt) -> Result<Terms, AllocError>
+    pub(crate) fn terms_at(&self, alloc: Global, path: &Txt) -> Result<Terms, AllocError>
         ensures { IfOk result (λ terms. terms ≡ terms_at path.now self.now) }
     {
         match &self.going {

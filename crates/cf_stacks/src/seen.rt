@@ -18,7 +18,7 @@ fn see(alloc: Global, seen: &mut Seen, held: &Held) -> Result<(), AllocError>
     }
     let path = held.path.try_clone(alloc)?;
     let physical = held.physical.try_clone(alloc)?;
-    let attrs = held.attrs.try_clone(alloc)?;
+    let attrs = held.attrs.dict(alloc)?;
     let shown = SeenAt {
         physical: Some(physical),
         attrs: Some(attrs),

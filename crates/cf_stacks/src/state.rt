@@ -2,6 +2,7 @@
 ghost use Rattle.std.specs.Prelude.{◌≡◌};
 ghost use Rattle.std.specs.Option.{option_copied};
 
+use crate::awaited::AnswerRooms;
 use crate::going::Going;
 use crate::held::{Abandoned, Helds, KeptSets, Leftovers, Pendings};
 use crate::room::Ready;
@@ -60,6 +61,8 @@ pub struct World {
     pub place: u64,
     /// The room for the next entry, where it was made.
     pub ready: Option<Ready>,
+    /// The rooms for the outcomes of calls.
+    pub rooms: AnswerRooms,
 }
 
 impl World {

@@ -9,6 +9,7 @@ ghost use Rattle.cf_stacks.specs.Status.{turned};
 ghost use Rattle.cf_stacks.specs.Words.{current_at, pending_of, is_create_at, has_physical};
 
 use crate::answers::answer;
+use crate::attrs::Attrs;
 use crate::changes::{close, creates_at, give_up_on, given_up, mark, pending_with, remove};
 use crate::held::{Abandoned, Held, HeldStatus, Helds, Leftover, Pending, Pendings};
 use crate::own::is_restore;
@@ -22,7 +23,7 @@ use std::alloc::{AllocError, Global};
 use std::mem;
 
 /// Closes a token unless its answer is a doubt.
-fn close_answered(tokens: &mut Pendings, token: u64, answer: &Reply)
+pub(crate) fn close_answered(tokens: &mut Pendings, token: u64, answer: &Reply)
     ensures { tokens.new ≡ still_open token answer.now tokens.old }
 {
     match answer {
@@ -100,7 +101,7 @@ pub fn current_at<'a>(helds: &'a Helds, path: &Txt) -> Option<&'a Held>
 }
 
 /// The status of a resource that is made at a path, beside what is held.
-fn status_made(held: &Helds, path: &Txt) -> HeldStatus
+pub(crate) fn status_made(held: &Helds, path: &Txt) -> HeldStatus
     ensures { result ≡ status_made (current_at path.now held.now) }
 {
     match current_at(held, path) {
@@ -110,23 +111,21 @@ fn status_made(held: &Helds, path: &Txt) -> HeldStatus
 }
 
 /// A resource that was made.
-fn resource(
+pub(crate) fn resource(
     alloc: Global,
     path: &Txt,
     kind: &Txt,
-    physical: &Txt,
+    physical: Txt,
     props: &Dict,
-    attrs: &Dict,
+    attrs: Attrs,
     status: HeldStatus,
     terms: Terms,
 ) -> Result<Held, AllocError>
-    ensures { IfOk result (λ h. h ≡ made_of path.now kind.now physical.now props.now attrs.now status terms) }
+    ensures { IfOk result (λ h. h ≡ made_of path.now kind.now physical props.now attrs status terms) }
 {
     let path = path.try_clone(alloc)?;
     let kind = kind.try_clone(alloc)?;
-    let physical = physical.try_clone(alloc)?;
     let props = props.try_clone(alloc)?;
-    let attrs = attrs.try_clone(alloc)?;
     Ok(Held {
         path,
         kind,
@@ -175,6 +174,8 @@ fn respond(
     match (&pending.request, reply) {
         (Request::Create { kind, props }, Reply::Success { physical, attrs }) => {
             let status = status_made(held, &pending.path);
+            let physical = physical.try_clone(alloc)?;
+            let attrs = Attrs::new(attrs.try_clone(alloc)?);
             let new = resource(
                 alloc,
                 &pending.path,

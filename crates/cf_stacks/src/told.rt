@@ -35,7 +35,7 @@ fn pending(
 }
 
 /// Whether the operation of a number is in progress on a stack.
-fn is_going(stack: &StackState, number: u64) -> bool
+pub(crate) fn is_going(stack: &StackState, number: u64) -> bool
     ensures { result ≡ is_going number stack.now }
 {
     stack.operation == number && is_in_progress(stack.status)

@@ -7,6 +7,7 @@ ghost use Rattle.cf_stacks.specs.Changing.{IsFlatEntry, Steps, TellsNested, told
 ghost use Rattle.cf_stacks.specs.Fold.{changed_by, done_over, empty_world, exports_ended, exports_turned, fold_of, joined, no_stack, over, phase_over, pins_ended, pins_turned, repinned, set_on, source_for, world_after};
 ghost use Rattle.cf_stacks.specs.Words.{is_going, stack_of_operation};
 
+use crate::awaited::AnswerRooms;
 use crate::beginning::source_for;
 use crate::ending::{export_ended, export_turned, pin_ended, pin_turned};
 use crate::fault::StepFault;
@@ -112,6 +113,7 @@ impl World {
             token: 0,
             place: 0,
             ready: None,
+            rooms: AnswerRooms::new(alloc),
         }
     }
 
@@ -274,6 +276,7 @@ impl World {
                 self.change(alloc, place, entry)?;
                 self.place = place;
                 self.ready = None;
+                self.rooms = AnswerRooms::new(alloc);
                 Ok(())
             }
             None => Err(StepFault::NoMemory),

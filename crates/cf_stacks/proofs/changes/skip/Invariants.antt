@@ -1,4 +1,4 @@
-use Rattle.std.proofs.Common.{◌≡◌, map, if◌then◌else◌}
+use Rattle.std.proofs.Common.{◌≡◌, map}
 use Rattle.cf_tree.proofs.Changed.{half_changed}
 use Rattle.cf_stacks.specs.declared.held.Held.{Held}
 use Rattle.cf_stacks.specs.Fold.{skipped_in}

@@ -1,6 +1,6 @@
 use Rattle.std.proofs.Common.{◌≡◌, fold, filter, map, take}
 use Rattle.cf_graph.specs.Inserted.{insert_by}
-use Rattle.cf_stacks.specs.Fold.{is_before, is_export_before, not_pin_of, not_export_of, export_by, pin_of, pin_also}
+use Rattle.cf_stacks.specs.Fold.{is_before, not_pin_of, pin_of}
 use Rattle.cf_stacks.proofs.pinned.repin.Given as goal
 
 abbrev pub invariant-loop-name : goal.invariant-loop-name

@@ -1,4 +1,4 @@
-use Rattle.std.proofs.Common.{rules, ◌≡◌, arith, ◌+◌, All, get_or, take, length, sym, ◌∙◌, ap}
+use Rattle.std.proofs.Common.{rules, arith, ◌+◌, get_or, sym, ◌∙◌, ap}
 use Rattle.std.proofs.lemmas.List.{take_all}
 use Rattle.std.proofs.lemmas.List.Elements.{All-more, All-same}
 use Rattle.cf_stacks.proofs.Folding.{fold_next}
