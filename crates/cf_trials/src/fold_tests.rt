@@ -137,13 +137,13 @@ fn events(alloc: Global, world: &World, name: &str) -> Result<String, AllocError
 
 /// What is asked of a world: what the stack `s` is, what all share, or the lines of `events` of `s`.
 #[derive(Clone, Copy)]
-enum Asked {
+pub enum Asked {
     Stack,
     Shared,
     Events,
 }
 
-fn line_in(alloc: Global, world: &World, asked: Asked) -> Result<String, AllocError> {
+pub fn line_in(alloc: Global, world: &World, asked: Asked) -> Result<String, AllocError> {
     match asked {
         Asked::Stack => shown_in(alloc, world, "s"),
         Asked::Shared => shared(alloc, world),

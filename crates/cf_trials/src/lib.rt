@@ -24,6 +24,8 @@ mod report_tests;
 #[cfg(test)]
 mod rollback_tests;
 #[cfg(test)]
+mod room_tests;
+#[cfg(test)]
 mod samples;
 #[cfg(test)]
 mod words_tests;

@@ -2,8 +2,8 @@
 use cf_entry::{Cause, Entries, Entry, LaneNames, Reason, Status, Why};
 use cf_face::{Exit, report};
 use cf_stacks::{
-    Abandoned, Held, HeldStatus, Helds, KeptSets, Leftover, Leftovers, Output, Outputs, Pendings,
-    StackState,
+    Abandoned, Attrs, Held, HeldStatus, Helds, KeptSets, Leftover, Leftovers, Output, Outputs,
+    Pendings, StackState,
 };
 use cf_tree::{Bytes, Code, Deletion, Dict, Names, NoMemory, Pairs, Replace, Source, Texts, Txt};
 use std::alloc::Global;
@@ -81,7 +81,7 @@ fn file(
         kind,
         physical,
         props: Dict::new(alloc),
-        attrs: Dict::new(alloc),
+        attrs: Attrs::new(Dict::new(alloc)),
         needs: Names::new(alloc),
         deletion: Deletion::Delete,
         replace: Replace::Delete,
