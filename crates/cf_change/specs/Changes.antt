@@ -23,8 +23,7 @@ use Rattle.cf_tree.specs.declared.template.Deletion.{Deletion}
 use Rattle.cf_tree.specs.declared.template.Deletion.TheVariants as deletion
 use Rattle.cf_tree.specs.declared.template.Replace.{Replace}
 use Rattle.cf_tree.specs.declared.template.Replace.TheVariants as replace
-use Rattle.cf_graph.specs.Needs.{is_among}
-use Rattle.cf_graph.specs.Inserted.{insert_by}
+use Rattle.cf_tree.specs.Lists.{is_among, insert_by}
 use Rattle.cf_export.specs.declared.Output.{Output}
 use Rattle.cf_schema.specs.declared.described.Schema.{Schema}
 use Rattle.cf_schema.specs.Kinds.{found}

@@ -19,11 +19,11 @@ use Rattle.cf_param.specs.Binding.{fault_of, parts_of, breach_of, value_of, sett
 use Rattle.cf_eval.specs.Scope.{held_at}
 use Rattle.cf_eval.specs.ScopeOf.{verdict_of}
 use Rattle.cf_eval.specs.ScopeOf as held
-use Rattle.cf_eval.proofs.Noting.{put_here, put_else}
 use Rattle.cf_desired.specs.Plan.{verdict_from, first_later, later_one, fault_name, bound_despite}
 use Rattle.cf_desired.proofs.StaysSure.{IsSure}
 use Rattle.cf_desired.proofs.StaysSeen.{value_put}
 use Rattle.cf_tree.specs.Named.{found}
+use Rattle.cf_tree.proofs.Lookups.{put_here, put_else}
 use Rattle.std.specs.Prelude.{IfOk, zero, suc}
 
 -- no parameter is bound to Later

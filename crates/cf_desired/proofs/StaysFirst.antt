@@ -20,9 +20,10 @@ use Rattle.cf_tree.specs.declared.bound.Verdict.{Verdict}
 use Rattle.cf_tree.specs.declared.source.Source.{Source}
 use Rattle.cf_tree.specs.declared.template.Res.{Res}
 use Rattle.cf_tree.specs.declared.template.Template.{Template}
+use Rattle.cf_tree.specs.Lists.{is_among}
 use Rattle.cf_eval.specs.Outcome.{Outcome, got, later, bad}
 use Rattle.cf_eval.specs.Env.{conditions_of}
-use Rattle.cf_graph.specs.Needs.{Tangle, is_among, needs_of}
+use Rattle.cf_graph.specs.Needs.{Tangle, needs_of}
 use Rattle.cf_param.specs.Binding.{binding_of}
 use Rattle.cf_param.specs.declared.fault.BindFault.{BindFault}
 use Rattle.cf_desired.specs.Names.{path_in, pseudo_of}

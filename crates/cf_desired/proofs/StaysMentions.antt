@@ -13,6 +13,7 @@ use Rattle.cf_tree.specs.declared.bound.Verdict.TheVariants as verdict
 use Rattle.cf_tree.specs.declared.parts.Part.{Part}
 use Rattle.cf_tree.specs.declared.parts.Part.TheVariants.{Plain, Name}
 use Rattle.cf_tree.specs.declared.template.Template.{Template}
+use Rattle.cf_tree.specs.Lists.{is_among}
 use Rattle.cf_eval.specs.declared.env.Sight.{Sight}
 use Rattle.cf_eval.specs.declared.fault.EvalWhy.TheVariants.{UnknownName}
 use Rattle.cf_eval.specs.Outcome.{got, later, bad, on_got, both, each}
@@ -23,7 +24,7 @@ use Rattle.cf_eval.specs.Functions.{or_fault, id_of, attribute_of, setting_found
 use Rattle.cf_eval.specs.Value.{form_found, node_found, forms_found, fields_found, blamed, list_found, dict_found}
 use Rattle.cf_eval.specs.Env.{plain}
 use Rattle.cf_graph.specs.Mentions.{Mention, by_ref, by_attribute, hole, holes_in, keys_of, taken, mentions_of, node_mentions, forms_mentions, fields_mentions}
-use Rattle.cf_graph.specs.Needs.{is_true, is_among, holds_in, is_evaluated}
+use Rattle.cf_graph.specs.Needs.{is_true, holds_in, is_evaluated}
 use Rattle.cf_desired.specs.Evaluate.{resource_scope, value_in, with_prop, props_in}
 
 module _

@@ -12,8 +12,9 @@ use Rattle.cf_tree.specs.declared.bound.Verdict.{Verdict}
 use Rattle.cf_tree.specs.declared.template.Res.{Res}
 use Rattle.cf_tree.specs.declared.template.Template.{Template}
 use Rattle.cf_tree.proofs.Lookups.{value_below}
+use Rattle.cf_tree.specs.Lists.{is_among}
 use Rattle.cf_template.proofs.Ordered.{under_names, AreOrdered}
-use Rattle.cf_graph.specs.Needs.{is_made, is_among, referred_to, needs_in, all_needs, is_next, ordered, unknown_dependency, cycle_of, order_of, unless_unknown, needs_of}
+use Rattle.cf_graph.specs.Needs.{is_made, referred_to, needs_in, all_needs, is_next, ordered, unknown_dependency, cycle_of, order_of, unless_unknown, needs_of}
 use Rattle.cf_desired.specs.Plan.{put_name, in_order}
 use Rattle.cf_desired.proofs.StaysSeen.{value_put}
 

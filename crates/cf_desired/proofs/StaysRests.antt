@@ -16,6 +16,7 @@ use Rattle.cf_tree.specs.declared.template.Res.{Res}
 use Rattle.cf_tree.specs.declared.template.Template.{Template}
 use Rattle.cf_tree.specs.declared.template.Deletion.TheVariants as deletion
 use Rattle.cf_tree.specs.declared.template.Replace.TheVariants as replace
+use Rattle.cf_tree.specs.Lists.{is_among}
 use Rattle.cf_template.specs.Whole.{template_of}
 use Rattle.cf_template.specs.declared.refusal.TemplateFault.{TemplateFault}
 use Rattle.std.specs.List.{cons_option}
@@ -23,7 +24,7 @@ use Rattle.cf_template.proofs.Ordered.{AreOrdered, template_ordered}
 use Rattle.cf_eval.specs.Outcome.{Outcome, got, later, bad}
 use Rattle.cf_eval.specs.Env.{conditions_of}
 use Rattle.cf_graph.specs.Mentions.{Mention, by_ref, by_attribute, fields_mentions}
-use Rattle.cf_graph.specs.Needs.{Tangle, is_parameter, meant, is_among, holds_in, evaluated_props, referred_to, needs_in, needs_of}
+use Rattle.cf_graph.specs.Needs.{Tangle, is_parameter, meant, holds_in, evaluated_props, referred_to, needs_in, needs_of}
 use Rattle.cf_param.specs.Binding.{binding_of}
 use Rattle.cf_param.specs.declared.fault.BindFault.{BindFault}
 use Rattle.cf_desired.specs.Names.{path_in, pseudo_of}

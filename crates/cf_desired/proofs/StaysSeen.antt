@@ -9,13 +9,13 @@ use Rattle.cf_tree.specs.Keys.{value_at, put}
 use Rattle.cf_tree.specs.declared.bound.Setting.{Setting}
 use Rattle.cf_tree.specs.declared.bound.Verdict.{Verdict}
 use Rattle.cf_tree.specs.declared.template.Template.{Template}
+use Rattle.cf_tree.proofs.Lookups.{put_here, put_else}
 use Rattle.cf_eval.specs.declared.env.Sight.{Sight}
 use Rattle.cf_eval.specs.declared.env.Sight.TheVariants as sight
 use Rattle.cf_eval.specs.declared.env.OutputSight.{OutputSight}
 use Rattle.cf_eval.specs.declared.env.OutputSight.TheVariants as output
 use Rattle.cf_eval.specs.Outcome.{Outcome, got, later, bad}
 use Rattle.cf_eval.specs.Knows.{Keeps, KeepsSetting, KeepsOutput, KeepsSight, KeepsOutcome, KnowsMore}
-use Rattle.cf_eval.proofs.Noting.{put_here, put_else}
 use Rattle.cf_desired.specs.Evaluate.{resource_scope}
 use Rattle.cf_desired.specs.declared.seen.SeenAt.{SeenAt}
 use Rattle.cf_desired.specs.Plan.{Seen, seen_as}

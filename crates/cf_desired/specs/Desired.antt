@@ -1,7 +1,7 @@
 -- What a source wants as one answer: its plan where it has no flaw, and else the first one (the order of refusals is this project's own).
 use Rattle.std.specs.Prelude.{◌≡◌, [], Some, option_map, Result, Ok, Err, ⊤}
+use Rattle.cf_tree.specs.Lists.{first_in}
 use Rattle.cf_eval.specs.declared.fault.EvalFault.TheVariants.{Bad}
-use Rattle.cf_graph.specs.Needs.{first_in}
 use Rattle.cf_desired.specs.declared.refusal.DesiredFault.{DesiredFault}
 use Rattle.cf_desired.specs.declared.refusal.DesiredFault.TheVariants as fault
 use Rattle.cf_desired.specs.declared.flaw.Flaw.{Flaw}

@@ -1,6 +1,7 @@
 pub mod Props
 pub mod Names
 pub mod Flaw
+pub mod FlawText
 pub mod Evaluate
 pub mod Plan
 pub mod Templates

@@ -29,12 +29,13 @@ use Rattle.cf_eval.specs.Outcome.{Outcome, Stop, got, later, bad, fault, on_got}
 use Rattle.cf_eval.specs.Scope.{Scope}
 use Rattle.cf_eval.specs.Texts.{text_of}
 use Rattle.cf_eval.specs.Env.{conditions_of}
-use Rattle.cf_graph.specs.Needs.{Tangle, needs_of, is_made, is_false, is_among}
+use Rattle.cf_graph.specs.Needs.{Tangle, needs_of, is_made, is_false}
 use Rattle.cf_param.specs.declared.offered.Piece.{Piece}
 use Rattle.cf_param.specs.declared.offered.Piece.TheVariants.{Text, Later}
 use Rattle.cf_param.specs.declared.fault.BindFault.{BindFault}
 use Rattle.cf_param.specs.declared.fault.BindFault.TheVariants as unbound
 use Rattle.cf_tree.specs.declared.template.Param.{Param}
+use Rattle.cf_tree.specs.Lists.{is_among}
 use Rattle.cf_param.specs.Binding.{binding_of}
 use Rattle.cf_desired.specs.Names.{path_in, name_in, stack_id, pseudo_of}
 use Rattle.cf_desired.specs.Flaw.{tangled_as}

@@ -7,8 +7,8 @@ use Rattle.std.specs.Str.{bytes_eq}
 use Rattle.cf_tree.specs.Datum.{Data}
 use Rattle.cf_tree.specs.Keys.{value_at}
 use Rattle.cf_tree.specs.declared.source.Source.{Source}
+use Rattle.cf_tree.specs.Lists.{is_among}
 use Rattle.cf_eval.specs.Knows.{Keeps}
-use Rattle.cf_graph.specs.Needs.{is_among}
 use Rattle.cf_desired.specs.declared.flaw.Flaw.{Flaw}
 use Rattle.cf_desired.specs.declared.flaw.Flaw.TheVariants as flaw
 use Rattle.cf_desired.specs.declared.wanted.Evaluated.TheVariants.{Flawed as flawed, Known as evaluated}

@@ -2,7 +2,6 @@
 ghost use Rattle.std.specs.Prelude.{◌≡◌, [], ◌∷◌, IfOk, true, is_some, map, fold};
 ghost use Rattle.std.specs.Option.{option_copied, option_map_or};
 ghost use Rattle.cf_tree.specs.Keys.{value_at};
-ghost use Rattle.cf_graph.specs.Needs.{is_made};
 ghost use Rattle.cf_desired.specs.Plan.{joined_to, not_made, put_name, resource_place, seen_as};
 ghost use Rattle.cf_desired.specs.Flat.{begun, joined, member_joined, paths_of, resource_evaluated, wanted_in};
 
@@ -12,8 +11,8 @@ use crate::seen::SeenAt;
 use crate::told::properties;
 use crate::wanted::{Evaluated, Plan, Wanted};
 use cf_eval::{EvalWhy, Sight};
-use cf_graph::Needs;
-use cf_tree::{ByName, CondMap, Deletion, Names, Replace, Res, Template, TryClone, Txt, Verdict};
+use cf_graph::{Needs, is_made};
+use cf_tree::{ByName, CondMap, Deletion, Names, Replace, Res, Template, TryClone, Txt};
 use std::alloc::{AllocError, Global};
 
 /// How far the resources of a root template have come: the plan so far, what is seen of each resource, and the paths that
@@ -61,16 +60,6 @@ fn not_made(
         }
     }
     Ok(sights)
-}
-
-/// Whether a resource has no condition, or one that is not false.
-fn is_made(conds: &CondMap, resource: &Res) -> bool
-    ensures { result ≡ is_made conds.now resource.now }
-{
-    match &resource.condition {
-        Some(name) => !matches!(conds.get(name.as_str()), Some(Verdict::False)),
-        None => true,
-    }
 }
 
 /// The course with the resource of a logical id, and with what it needs.

@@ -1,6 +1,6 @@
 //! What a source wants, as one answer.
 ghost use Rattle.std.specs.Prelude.{◌≡◌, IfOk, option_map};
-ghost use Rattle.cf_graph.specs.Needs.{first_in};
+ghost use Rattle.cf_tree.specs.Lists.{first_in};
 ghost use Rattle.cf_desired.specs.Desired.{Desires, fault_of};
 ghost use Rattle.cf_desired.specs.Plan.{plan_of};
 ghost use Rattle.cf_desired.specs.Templates.{IsFlat, templates_of};

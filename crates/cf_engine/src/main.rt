@@ -1,52 +1,22 @@
 //! A stack engine on one machine: `cfstack HOME WORKERS WORD ..`.
 #![tactic(auto)]
 
-mod book;
-mod creating;
-mod deployment;
-mod drive;
-#[cfg(test)]
-mod journal_lines;
-#[cfg(test)]
-mod journal_tests;
-#[cfg(test)]
-mod lane_tests;
-mod meeting;
-mod not_yet;
-mod opening;
-#[cfg(test)]
-mod order_tests;
-mod planning;
-#[cfg(test)]
-mod reading_tests;
-mod refusals;
-#[cfg(test)]
-mod rollback_tests;
-mod schemas;
-mod telling;
-#[cfg(test)]
-mod tests;
-mod top;
-#[cfg(test)]
-mod top_tests;
-mod validation;
-
 ghost use Rattle.std.specs.Prelude.{◌≡◌, ◌++◌, ◌∷◌, [], ◌&&◌, ℕ, List, IsTrue, false, true, IfOk, IfErr, codes, length, map, nat_lt, string_bytes};
 ghost use Rattle.cf_handler.specs.Name.{is_lane_name};
-ghost use Rattle.cf_engine.specs.Lanes.{unused};
+ghost use Rattle.cf_top.specs.Lanes.{unused};
 ghost use Rattle.cf_face.specs.Exit.{exit_line};
 ghost use Rattle.cf_face.specs.Print.{PrintTells};
 ghost use Rattle.cf_face.specs.Words.{are_short, is_in_form, is_command_line};
-ghost use Rattle.cf_engine.specs.Answer.{IsRun, IsWordless, program_names, program_schemas};
+ghost use Rattle.cf_engine.specs.Program.{IsRun, IsWordless, program_names, program_schemas};
 ghost use Rattle.cf_face.specs.declared.exit.Exit.TheVariants.{BadWords};
 
-use crate::top::{Ended, cfstack};
 use cf_disk::{Disk, MemoryDisk};
 use cf_face::{Exit, print_exit, print_text, read_workers};
 use cf_fake::MemoryHandler;
 use cf_handler::{Handler, file_schema, record_schema};
 use cf_io::{FolderLibrary, Sink, StdoutSink};
 use cf_schema::Schema;
+pub use cf_top::{Ended, alone, answer, cfstack};
 use cf_tree::{Listing, NoMemory, Txt};
 use std::alloc::Global;
 use std::io::ErrorKind;

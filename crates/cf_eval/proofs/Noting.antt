@@ -1,15 +1,11 @@
 -- A condition that is noted is right, whatever else is under way.
 use Rattle.std.proofs.Common.{◌≡◌, ◌≢◌, ℕ, zero, suc, ◌+◌, ◌<◌, ◌≤◌, List, [], ◌∷◌, ◌++◌, length, Bool, true, false, ◌||◌, Option, Some, None, refl, sym, ap, subst, ◌∙◌, true≢false, arith}
 use Rattle.std.specs.Prelude.{cond, option_map, is_some, IsSome}
-use Rattle.std.specs.List.{list_any}
-use Rattle.std.specs.Ordering.{nat_cmp, match_ordering}
 use Rattle.std.specs.Str.{bytes_eq}
-use Rattle.std.specs.declared.cmp.Ordering.{Ordering}
-use Rattle.std.specs.declared.cmp.Ordering.TheVariants.{Less, Equal, Greater}
-use Rattle.std.specs.Cmp.Lexicographic.{slice_cmp, texts_ties}
 use Rattle.std.proofs.lemmas.Slice.Eq.{bytes_eq-Decides}
 use Rattle.cf_tree.specs.Keys.{value_at, put}
 use Rattle.cf_tree.specs.Tests.{Test}
+use Rattle.cf_tree.proofs.Lookups.{put_here, put_else}
 use Rattle.cf_tree.specs.declared.bound.Verdict.{Verdict}
 use Rattle.cf_tree.specs.declared.bound.Verdict.TheVariants as verdict
 use Rattle.cf_eval.specs.declared.fault.EvalWhy.TheVariants.{UnknownName, CircularCondition}
@@ -24,46 +20,6 @@ use Rattle.cf_eval.specs.declared.fault.Stop.TheVariants as stop
 use Rattle.cf_eval.specs.declared.fault.EvalWhy.{EvalWhy}
 use Rattle.cf_eval.specs.Deciding.{left_of, open_of, Apart, IsRight, IsSettled, IsNoted, Extends}
 use Rattle.cf_eval.proofs.Agreeing.{Agrees, Asks, asks_test, test_agrees}
-
--- look-ups after a name is put in
-same_key : (k l : List ℕ) → slice_cmp nat_cmp k l ≡ Equal → bytes_eq k l ≡ true
-same_key k l e = texts_ties k l ∙ rw e refl
-
-other_less : (k l : List ℕ) → slice_cmp nat_cmp k l ≡ Less → bytes_eq k l ≡ false
-other_less k l e = texts_ties k l ∙ rw e refl
-
-other_greater : (k l : List ℕ) → slice_cmp nat_cmp k l ≡ Greater → bytes_eq k l ≡ false
-other_greater k l e = texts_ties k l ∙ rw e refl
-
-itself_key : (k : List ℕ) → bytes_eq k k ≡ true
-itself_key k = (bytes_eq-Decides k k).1 refl
-
-module _ {X : Type 0} where
-  put_here_by : (k : List ℕ) (v : X) (p : List ℕ × X) (ps : List (List ℕ × X)) (o : Ordering) → slice_cmp nat_cmp k p.0 ≡ o → value_at k (put k v ps) ≡ Some v
-      → value_at k (match_ordering o ((k, v) ∷ p ∷ ps) ((p.0, v) ∷ ps) (p ∷ put k v ps)) ≡ Some v
-  put_here_by k v p ps Less e h = rw (itself_key k) refl
-  put_here_by k v p ps Equal e h = rw (same_key k p.0 e) refl
-  put_here_by k v p ps Greater e h = rw (other_greater k p.0 e) h
-
-  pub put_here : (k : List ℕ) (v : X) (ps : List (List ℕ × X)) → value_at k (put k v ps) ≡ Some v
-  put_here k v [] = rw (itself_key k) refl
-  put_here k v (p ∷ ps) = put_here_by k v p ps (slice_cmp nat_cmp k p.0) refl (put_here k v ps)
-
-  chosen : (b c : Bool) (x y z : Option X) → b ≡ c → y ≡ z → cond b x y ≡ cond c x z
-  chosen b c x y z h k = λ i. cond (h i) x (k i)
-
-  put_else_by : (m k : List ℕ) (v : X) (p : List ℕ × X) (ps : List (List ℕ × X)) (o : Ordering) → slice_cmp nat_cmp k p.0 ≡ o → bytes_eq m k ≡ false → value_at m (put k v ps) ≡ value_at m ps
-      → value_at m (match_ordering o ((k, v) ∷ p ∷ ps) ((p.0, v) ∷ ps) (p ∷ put k v ps)) ≡ value_at m (p ∷ ps)
-  put_else_by m k v p ps Less e n h = rw n refl
-  put_else_by m k v p ps Equal e n h =
-      let same : k ≡ p.0 = (bytes_eq-Decides k p.0).0 (same_key k p.0 e) in
-      let other : bytes_eq m p.0 ≡ false = subst (λ l. bytes_eq m l ≡ false) same n in
-      rw other refl
-  put_else_by m k v p ps Greater e n h = ap (λ o. cond (bytes_eq m p.0) (Some p.1) o) h
-
-  pub put_else : (m k : List ℕ) (v : X) (ps : List (List ℕ × X)) → bytes_eq m k ≡ false → value_at m (put k v ps) ≡ value_at m ps
-  put_else m k v [] n = rw n refl
-  put_else m k v (p ∷ ps) n = put_else_by m k v p ps (slice_cmp nat_cmp k p.0) refl n (put_else m k v ps n)
 
 -- one more name that is under way
 or_first : (a b : Bool) → a ≡ true → (a || b) ≡ true
@@ -225,7 +181,7 @@ module _ (s : Scope) (conds : List (List ℕ × Test)) where
   apart_leave under done name apart m h = apart m (stays_entered m name under h)
 
   pub entered_fresh : (under : List (List ℕ)) (done : List (List ℕ × Verdict)) (name : List ℕ) → Apart (under ++ name ∷ []) done → value_at name done ≡ None
-  entered_fresh under done name apart = apart name (entered name name under ∙ or_second (is_one_of name under) _ (itself_key name))
+  entered_fresh under done name apart = apart name (entered name name under ∙ or_second (is_one_of name under) _ ((bytes_eq-Decides name name).1 refl))
 
   pub right_nothing : IsRight s conds []
   right_nothing m v h = let no : ⊥ = cc in absurd no

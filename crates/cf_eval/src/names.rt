@@ -1,6 +1,5 @@
 //! What names stand for: `Ref`, `Fn::GetAtt`, the names of conditions, mappings and imports.
-ghost use Rattle.std.specs.Prelude.{◌≡◌, codes, option_map};
-ghost use Rattle.cf_funcs.specs.Pieces.{cut_at};
+ghost use Rattle.std.specs.Prelude.{◌≡◌};
 ghost use Rattle.cf_eval.specs.Functions.{ref_found, resource_ref, id_of, attribute_of, attribute_in, get_att_found, output_found, mapped, under_key, under_second, import_found, find_found, pseudo_ref, why_not, imported, name_found};
 ghost use Rattle.cf_eval.specs.Outcome.{bad, fault};
 ghost use Rattle.cf_eval.specs.declared.fault.EvalWhy.TheVariants.{UnknownAttribute};
@@ -12,6 +11,7 @@ use crate::fault::{EvalWhy, Stop};
 use crate::got::Got;
 use crate::scope::{Beyond, Scope};
 use crate::texts::{as_text, wanted_text};
+use cf_funcs::cut;
 use cf_tree::{ByName, Dict, Names, Setting, Txt, Val};
 use std::alloc::Global;
 
@@ -283,15 +283,8 @@ fn under_second(alloc: Global, at: &Txt, values: &Dict, second: &Txt) -> Result<
 pub(crate) fn named(alloc: Global, scope: &Scope, at: &Txt, name: &Txt) -> Result<Got, Stop>
     ensures { Gives (name_found (scope_of scope.now) at.now name.now) result }
 {
-    match cut(name.as_str()) {
+    match cut(name.as_str(), ".") {
         Some((id, attr)) => attribute(alloc, &scope.beyond, at, id, attr),
         None => reference(alloc, scope, at, name),
     }
-}
-
-/// What stands before the first dot, and what follows it.
-fn cut(name: &str) -> Option<(&str, &str)>
-    ensures { option_map (λ c. (c.0.now, c.1.now)) result ≡ cut_at (codes ".") name.now }
-{
-    name.split_once(".")
 }

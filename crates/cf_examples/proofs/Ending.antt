@@ -4,6 +4,7 @@ use Rattle.std.specs.Prelude.{not}
 use Rattle.std.specs.List.{list_all, list_any}
 use Rattle.cf_tree.specs.declared.request.Request.{Request}
 use Rattle.cf_tree.specs.declared.request.Request.TheVariants as request
+use Rattle.cf_tree.specs.Lists.{is_among}
 use Rattle.cf_schema.specs.declared.described.Schema.{Schema}
 use Rattle.cf_entry.specs.declared.entry.Entry.{Entry}
 use Rattle.cf_entry.specs.declared.entry.Entry.TheVariants as entry
@@ -19,7 +20,6 @@ use Rattle.cf_stacks.specs.declared.state.StackState.{StackState}
 use Rattle.cf_stacks.specs.declared.state.World.{World}
 use Rattle.cf_stacks.specs.Status.{Stage, Forward, Clean, Back, BackClean, Gone, stage_of}
 use Rattle.cf_stacks.specs.Words.{resources_of, is_create_at}
-use Rattle.cf_graph.specs.Needs.{is_among}
 use Rattle.cf_stacks.specs.Operation.{was_updated, was_restored, was_skipped, named_paths}
 use Rattle.cf_plan.specs.Forward.{In, AllDone, HasFailed}
 use Rattle.cf_plan.specs.Follow.{IntendsDeletion, IntendsRestore, IsToRestore, MayDelete, MayKeep, MayTurn, MayStep, MayRepeat, IsAtEnd, may_repeat, is_untried, has_refused_restore, has_restore, cleaned_in, is_not_needed}

@@ -9,7 +9,7 @@ use Rattle.cf_tree.specs.declared.code.Code.TheVariants as code
 use Rattle.cf_entry.specs.declared.entry.Reply.TheVariants as reply
 use Rattle.cf_stacks.specs.declared.held.HeldStatus.TheVariants as held
 use Rattle.cf_stacks.specs.Operation.{Call, Response}
-use Rattle.cf_examples.proofs.RollbackFailed as unblamed
+use Rattle.cf_examples.specs.RollbackFailed as unblamed
 use Rattle.cf_examples.proofs.Retained as deleted
 use Rattle.cf_examples.proofs.Skipped as unskipped
 use Rattle.cf_examples.proofs.LostCreation as undeleted
@@ -18,7 +18,8 @@ use Rattle.cf_desired.specs.Plan.{Seen}
 use Rattle.cf_desired.specs.Whole.{Right, Whole}
 use Rattle.cf_stacks.specs.declared.held.Held.{Held}
 use Rattle.cf_stacks.specs.Words.{current_at}
-use Rattle.cf_stacks.specs.Fold.{source_for}
+use Rattle.cf_stacks.specs.declared.state.StackState.{StackState}
+use Rattle.cf_stacks.specs.Fold.{empty_world, fold_of, known_stack, source_for}
 use Rattle.cf_plan.specs.Forward.{In, here, there}
 use Rattle.cf_plan.specs.Ends.{IsLive, Sees, right_at, IsWholeLive, IsComplete, IsRestored, IsCleared, IsBlamedFor, IsBlamed}
 use Rattle.cf_examples.specs.Given.{file, note, file_props, file_attrs, note_props, note_attrs}
@@ -27,9 +28,9 @@ use Rattle.cf_examples.specs.Ends.{files_replaced, notes_replaced, files_restore
 use Rattle.cf_examples.proofs.Computing.{computing}
 use Rattle.cf_examples.proofs.Standing.{held_there, wanted_there}
 use Rattle.cf_examples.proofs.Lists.{some_is, in_none, only, either}
-use Rattle.cf_examples.proofs.Replacement.{arrives_16, world_16, stack_16_app}
+use Rattle.cf_examples.proofs.Replacement.{until_16, world_16, stack_16_app}
 use Rattle.cf_examples.proofs.LateEffect as late
-use Rattle.cf_examples.proofs.RolledBack as rolled
+use Rattle.cf_examples.specs.RolledBack as rolled
 
 -- The replacement: what is seen, and the whole map.
 abbrev seen : Seen
@@ -107,7 +108,7 @@ complete = record {
 }
 
 pub replacement_is_complete : ReplacementIsComplete
-replacement_is_complete = subst (λ x. IsPromised (codes "app") x lanes_replaced) (sym arrives_16) complete
+replacement_is_complete = subst (λ x. IsPromised (codes "app") x lanes_replaced) (sym until_16.arrives) complete
 
 -- The late effect: what was there is back.
 abbrev a_before : Held
@@ -128,10 +129,14 @@ restored = record {
 }
 
 pub late_effect_is_restored : LateEffectIsRestored
-late_effect_is_restored = subst (λ x. IsPromised (codes "s") x lanes_restored) (sym late.arrives_16) restored
+late_effect_is_restored = subst (λ x. IsPromised (codes "s") x lanes_restored) (sym late.until_16.arrives) restored
 
 -- what the creation made is gone, and nothing was there before
-nothing_back : IsRestored rolled.stack_10_s []
+abbrev stack_rolled_back : StackState
+stack_rolled_back = known_stack (codes "s") (fold_of empty_world rolled.run)
+
+nothing_back : IsRestored stack_rolled_back []
+unfolding computing
 nothing_back = record {
   settled = record { none_open = refl; none_made = refl };
   held = λ b i. absurd (in_none i);
@@ -140,13 +145,14 @@ nothing_back = record {
 }
 
 pub rollback_is_restored : RollbackIsRestored
-rollback_is_restored = subst (λ x. IsPromised (codes "s") x []) (sym rolled.arrives_10) (nothing_back, refl)
+unfolding computing
+rollback_is_restored = (nothing_back, refl)
 
 cleared : IsCleared deleted.stack_12_s
 cleared = record { settled = record { none_open = refl; none_made = refl }; none_held = refl }
 
 pub deletion_is_cleared : DeletionIsCleared
-deletion_is_cleared = subst (λ x. IsPromised (codes "s") x []) (sym deleted.arrives_12) cleared
+deletion_is_cleared = subst (λ x. IsPromised (codes "s") x []) (sym deleted.until_12.arrives) cleared
 
 abbrev is_none : List (List ℕ) → Bool
 is_none [] = false
@@ -165,16 +171,21 @@ abbrev call_3 : Call
 call_3 = record { number = 1; token = 3; lane = codes "f1"; path = codes "A"; request = request.Delete (codes "f1:1") }
 
 -- who is blamed: each path has a refused call of the operation, and the count rose
-blamed : IsBlamed unblamed.stack_10_s.entries 1 (codes "A" ∷ codes "B" ∷ [])
+abbrev stack_unblamed : StackState
+stack_unblamed = known_stack (codes "s") (fold_of empty_world unblamed.run)
+
+blamed : IsBlamed stack_unblamed.entries 1 (codes "A" ∷ codes "B" ∷ [])
+unfolding computing
 blamed = record {
   some = λ e. true≢false (ap is_none e);
-  each = λ path i. either (IsBlamedFor unblamed.stack_10_s.entries 1) {a = codes "A"} {b = codes "B"}
+  each = λ path i. either (IsBlamedFor stack_unblamed.entries 1) {a = codes "A"} {b = codes "B"}
       (record { reply = reply_3; call = call_3; of_call = refl; at_path = refl; stands = there (there here); failed = refl; rose = λ _. lit≤ tt })
       (record { reply = reply_2; call = call_2; of_call = refl; at_path = refl; stands = there here; failed = refl; rose = λ _. lit≤ tt }) path i;
 }
 
 pub failures_are_blamed : FailuresAreBlamed
-failures_are_blamed = subst (λ x. IsPromised (codes "s") x []) (sym unblamed.arrives_10) blamed
+unfolding computing
+failures_are_blamed = blamed
 
 -- the update stayed in doubt, and so did the creation in the deletion of its stack
 abbrev reply_doubted : Response
@@ -190,7 +201,7 @@ doubted = record {
 }
 
 pub failed_rollback_is_blamed : FailedRollbackIsBlamed
-failed_rollback_is_blamed = subst (λ x. IsPromised (codes "s") x []) (sym unskipped.arrives_15) doubted
+failed_rollback_is_blamed = subst (λ x. IsPromised (codes "s") x []) (sym unskipped.until_15.arrives) doubted
 
 abbrev reply_lost : Response
 reply_lost = record { token = 1; answer = reply.Doubt; before = 6; after = 7 }
@@ -205,4 +216,4 @@ lost = record {
 }
 
 pub failed_deletion_is_blamed : FailedDeletionIsBlamed
-failed_deletion_is_blamed = subst (λ x. IsPromised (codes "s") x []) (sym undeleted.arrives_16) lost
+failed_deletion_is_blamed = subst (λ x. IsPromised (codes "s") x []) (sym undeleted.until_16.arrives) lost

@@ -6,6 +6,7 @@ use Rattle.std.specs.Option.{option_map_or}
 use Rattle.cf_tree.specs.Datum.{Data, text}
 use Rattle.cf_tree.specs.Same.{same_data}
 use Rattle.cf_tree.specs.Keys.{bytes_lt, value_at}
+use Rattle.cf_tree.specs.Lists.{first_in}
 use Rattle.cf_schema.specs.declared.described.Schema.{Schema}
 use Rattle.cf_stacks.specs.declared.held.Held.{Held}
 use Rattle.cf_stacks.specs.declared.state.StackState.{StackState}
@@ -14,7 +15,6 @@ use Rattle.cf_stacks.specs.Words.{current_at}
 use Rattle.cf_desired.specs.declared.flaw.Flaw.{Flaw}
 use Rattle.cf_desired.specs.declared.wanted.Inner.{Inner}
 use Rattle.cf_export.specs.declared.Export.{Export}
-use Rattle.cf_graph.specs.Needs.{first_in}
 use Rattle.cf_plan.specs.Forward.{IsDone, is_made, is_updated, is_right, Finding, Bad, Later, Known, evaluated_at, was_updated_at, wanted_paths, plan_now, first_failing, lost_exports, HasFailed, IsBadPath, IsBadOutput}
 use Rattle.cf_examples.proofs.Lists.{each_passes}
 

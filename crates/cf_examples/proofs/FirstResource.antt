@@ -8,12 +8,12 @@ use Rattle.cf_stacks.specs.Status.{Forward}
 use Rattle.cf_plan.specs.Forward.{here, HasFailed, IsReady, AllDone, IsDone, is_made}
 use Rattle.cf_plan.specs.Follow.{MayFollow}
 use Rattle.cf_examples.specs.Given.{schemas}
-use Rattle.cf_examples.specs.FirstResource.{opened, begun, intended, answered, done, web, Leaves, Legal, broken, again, RetriedUnderAnotherToken, DoubtIsLegal, run, world, same_again, UpdatedThoughTheSame}
+use Rattle.cf_examples.specs.FirstResource.{opened, begun, intended, answered, done, web, Leaves, Legal, run, world, same_again, UpdatedThoughTheSame}
 use Rattle.cf_examples.proofs.Computing.{computing}
 use Rattle.cf_examples.proofs.Lists.{in_none, only}
 use Rattle.cf_examples.proofs.Failing.{not_failed, not_done_new}
 use Rattle.cf_examples.proofs.Ending.{end_of_create}
-use Rattle.cf_examples.proofs.Refusing.{follows_on, refused_at}
+use Rattle.cf_examples.proofs.Refusing.{refused_at}
 use Rattle.cf_examples.proofs.Beginning.{no_imports}
 
 pub leaves : Leaves
@@ -99,21 +99,6 @@ ends = (codes "app", app_at world_4, Forward, refl, refl, (refl, end_of_create s
 pub legal : Legal
 unfolding computing
 legal = (([], opens), (([], begins), (([], intends), ((1 ∷ [], answers), (([], ends), tt)))))
-
-may_not_try_again : (out : List ℕ) → MayFollow schemas (world_after world_3 broken) out again → ⊥
-unfolding computing
-may_not_try_again out may = let m = follows_on schemas 1 (world_after world_3 broken) out again (codes "app", app_at (world_after world_3 broken)) Forward refl refl may in true≢false (sym m.free)
-
-pub another_token : RetriedUnderAnotherToken
-another_token = refused_at (world_after world_3 broken) (opened ∷ begun ∷ intended ∷ broken ∷ []) again refl may_not_try_again
-
-breaks : MayFollow schemas world_3 (1 ∷ []) broken
-unfolding computing
-breaks = (codes "app", app_at world_3, Forward, refl, refl, (refl, refl, (lit≤ tt, λ _. lit≤ tt)))
-
-pub doubt_is_legal : DoubtIsLegal
-unfolding computing
-doubt_is_legal = (([], opens), (([], begins), (([], intends), ((1 ∷ [], breaks), tt))))
 
 may_not_update : (out : List ℕ) → MayFollow schemas world out same_again → ⊥
 unfolding computing

@@ -1,18 +1,17 @@
 -- An update breaks off three times, and acts late: the first repeat on the way back meets it, and what was there is given back.
-use Rattle.std.proofs.Common.{◌≡◌, refl, List, [], ◌∷◌, ◌++◌, Some, false, inl, inr, ap, lit≤}
-use Rattle.std.specs.Prelude.{codes}
+use Rattle.std.proofs.Common.{◌≡◌, refl, [], ◌∷◌, ◌++◌, Some, false, inl, inr, ap, lit≤}
+use Rattle.std.specs.Prelude.{codes, take, drop}
 use Rattle.cf_tree.specs.declared.request.Request.TheVariants as request
 use Rattle.cf_entry.specs.declared.turn.Reason.TheVariants as reason
-use Rattle.cf_entry.specs.declared.entry.Entry.{Entry}
 use Rattle.cf_stacks.specs.declared.held.Held.{Held}
 use Rattle.cf_stacks.specs.declared.state.World.{World}
 use Rattle.cf_stacks.specs.declared.state.StackState.{StackState}
-use Rattle.cf_stacks.specs.Fold.{empty_world, world_after, source_for}
+use Rattle.cf_stacks.specs.Fold.{empty_world, world_after, source_for, no_stack}
 use Rattle.cf_stacks.specs.Status.{Forward, Back, BackClean}
 use Rattle.cf_schema.specs.declared.changed.Difference.TheVariants.{Same, Update, Replace}
 use Rattle.cf_plan.specs.Forward.{here, HasFailed, IsReady, AllDone, IsDone, is_made}
 use Rattle.cf_plan.specs.Follow.{MayFollow}
-use Rattle.cf_examples.specs.Given.{schemas, file, file_props, file_attrs}
+use Rattle.cf_examples.specs.Given.{schemas, file, file_props, file_attrs, lane_pair, report_of}
 use Rattle.cf_examples.proofs.Computing.{computing}
 use Rattle.cf_examples.proofs.Lists.{in_none, only}
 use Rattle.cf_examples.proofs.Failing.{not_failed, not_done_new, not_done_other, same_at}
@@ -21,11 +20,9 @@ use Rattle.cf_tree.specs.declared.template.Deletion.TheVariants as deletion
 use Rattle.cf_tree.specs.declared.template.Replace.TheVariants as replace
 use Rattle.cf_entry.specs.declared.status.Status.TheVariants as status
 use Rattle.cf_stacks.specs.declared.held.HeldStatus.TheVariants as held
-use Rattle.cf_stacks.specs.Fold.{fold_of, no_stack}
-use Rattle.cf_examples.specs.Given.{lane_pair, report_of}
-use Rattle.cf_examples.proofs.Refusing.{legal_step, fold_step}
+use Rattle.cf_examples.proofs.Refusing.{IsRun, ended, step, joined}
 use Rattle.cf_examples.proofs.Beginning.{no_imports}
-use Rattle.cf_examples.specs.LateEffect.{first, second, opened, begun, intended, made, created, updating, intended_change, broken_once, broken_twice, broken_thrice, turned, repeated, intended_restore, restored, cleaning, rolled_back, Legal, Shows}
+use Rattle.cf_examples.specs.LateEffect.{first, second, opened, begun, intended, made, created, updating, intended_change, broken_once, broken_twice, broken_thrice, turned, repeated, intended_restore, restored, cleaning, rolled_back, Legal, Shows, run}
 
 abbrev pub world_0 : World
 world_0 = empty_world
@@ -284,62 +281,38 @@ pub leads_16 : world_after world_15 rolled_back ≡ world_16
 unfolding computing
 leads_16 = refl
 
-abbrev rest_16 : List Entry
-rest_16 = []
+pub until_3 : IsRun empty_world (take 3 run) world_3
+unfolding computing
+until_3 =
+    step world_1 [] may_opened leads_1
+    (step world_2 [] may_begun leads_2
+    (step world_3 [] may_intended leads_3 ended))
 
-abbrev rest_15 : List Entry
-rest_15 = rolled_back ∷ rest_16
+pub until_11 : IsRun empty_world (take 11 run) world_11
+unfolding computing
+until_11 =
+    joined (take 8 (drop 3 run)) until_3
+    (step world_4 (1 ∷ []) may_made leads_4
+    (step world_5 [] may_created leads_5
+    (step world_6 [] may_updating leads_6
+    (step world_7 [] may_intended_change leads_7
+    (step world_8 (2 ∷ []) may_broken_once leads_8
+    (step world_9 (2 ∷ []) may_broken_twice leads_9
+    (step world_10 (2 ∷ []) may_broken_thrice leads_10
+    (step world_11 [] may_turned leads_11 ended))))))))
 
-abbrev rest_14 : List Entry
-rest_14 = cleaning ∷ rest_15
-
-abbrev rest_13 : List Entry
-rest_13 = restored ∷ rest_14
-
-abbrev rest_12 : List Entry
-rest_12 = intended_restore ∷ rest_13
-
-abbrev rest_11 : List Entry
-rest_11 = repeated ∷ rest_12
-
-abbrev rest_10 : List Entry
-rest_10 = turned ∷ rest_11
-
-abbrev rest_9 : List Entry
-rest_9 = broken_thrice ∷ rest_10
-
-abbrev rest_8 : List Entry
-rest_8 = broken_twice ∷ rest_9
-
-abbrev rest_7 : List Entry
-rest_7 = broken_once ∷ rest_8
-
-abbrev rest_6 : List Entry
-rest_6 = intended_change ∷ rest_7
-
-abbrev rest_5 : List Entry
-rest_5 = updating ∷ rest_6
-
-abbrev rest_4 : List Entry
-rest_4 = created ∷ rest_5
-
-abbrev rest_3 : List Entry
-rest_3 = made ∷ rest_4
-
-abbrev rest_2 : List Entry
-rest_2 = intended ∷ rest_3
-
-abbrev rest_1 : List Entry
-rest_1 = begun ∷ rest_2
-
-abbrev rest_0 : List Entry
-rest_0 = opened ∷ rest_1
+pub until_16 : IsRun empty_world run world_16
+unfolding computing
+until_16 =
+    joined (drop 11 run) until_11
+    (step world_12 (2 ∷ []) may_repeated leads_12
+    (step world_13 [] may_intended_restore leads_13
+    (step world_14 (3 ∷ []) may_restored leads_14
+    (step world_15 [] may_cleaning leads_15
+    (step world_16 [] may_rolled_back leads_16 ended)))))
 
 pub legal : Legal
-legal = legal_step world_0 world_1 opened rest_1 [] may_opened leads_1 (legal_step world_1 world_2 begun rest_2 [] may_begun leads_2 (legal_step world_2 world_3 intended rest_3 [] may_intended leads_3 (legal_step world_3 world_4 made rest_4 (1 ∷ []) may_made leads_4 (legal_step world_4 world_5 created rest_5 [] may_created leads_5 (legal_step world_5 world_6 updating rest_6 [] may_updating leads_6 (legal_step world_6 world_7 intended_change rest_7 [] may_intended_change leads_7 (legal_step world_7 world_8 broken_once rest_8 (2 ∷ []) may_broken_once leads_8 (legal_step world_8 world_9 broken_twice rest_9 (2 ∷ []) may_broken_twice leads_9 (legal_step world_9 world_10 broken_thrice rest_10 (2 ∷ []) may_broken_thrice leads_10 (legal_step world_10 world_11 turned rest_11 [] may_turned leads_11 (legal_step world_11 world_12 repeated rest_12 (2 ∷ []) may_repeated leads_12 (legal_step world_12 world_13 intended_restore rest_13 [] may_intended_restore leads_13 (legal_step world_13 world_14 restored rest_14 (3 ∷ []) may_restored leads_14 (legal_step world_14 world_15 cleaning rest_15 [] may_cleaning leads_15 (legal_step world_15 world_16 rolled_back rest_16 [] may_rolled_back leads_16 (tt))))))))))))))))
-
-pub arrives_16 : fold_of empty_world (opened ∷ begun ∷ intended ∷ made ∷ created ∷ updating ∷ intended_change ∷ broken_once ∷ broken_twice ∷ broken_thrice ∷ turned ∷ repeated ∷ intended_restore ∷ restored ∷ cleaning ∷ rolled_back ∷ []) ≡ world_16
-arrives_16 = fold_step world_0 world_1 opened (begun ∷ intended ∷ made ∷ created ∷ updating ∷ intended_change ∷ broken_once ∷ broken_twice ∷ broken_thrice ∷ turned ∷ repeated ∷ intended_restore ∷ restored ∷ cleaning ∷ rolled_back ∷ []) leads_1 (fold_step world_1 world_2 begun (intended ∷ made ∷ created ∷ updating ∷ intended_change ∷ broken_once ∷ broken_twice ∷ broken_thrice ∷ turned ∷ repeated ∷ intended_restore ∷ restored ∷ cleaning ∷ rolled_back ∷ []) leads_2 (fold_step world_2 world_3 intended (made ∷ created ∷ updating ∷ intended_change ∷ broken_once ∷ broken_twice ∷ broken_thrice ∷ turned ∷ repeated ∷ intended_restore ∷ restored ∷ cleaning ∷ rolled_back ∷ []) leads_3 (fold_step world_3 world_4 made (created ∷ updating ∷ intended_change ∷ broken_once ∷ broken_twice ∷ broken_thrice ∷ turned ∷ repeated ∷ intended_restore ∷ restored ∷ cleaning ∷ rolled_back ∷ []) leads_4 (fold_step world_4 world_5 created (updating ∷ intended_change ∷ broken_once ∷ broken_twice ∷ broken_thrice ∷ turned ∷ repeated ∷ intended_restore ∷ restored ∷ cleaning ∷ rolled_back ∷ []) leads_5 (fold_step world_5 world_6 updating (intended_change ∷ broken_once ∷ broken_twice ∷ broken_thrice ∷ turned ∷ repeated ∷ intended_restore ∷ restored ∷ cleaning ∷ rolled_back ∷ []) leads_6 (fold_step world_6 world_7 intended_change (broken_once ∷ broken_twice ∷ broken_thrice ∷ turned ∷ repeated ∷ intended_restore ∷ restored ∷ cleaning ∷ rolled_back ∷ []) leads_7 (fold_step world_7 world_8 broken_once (broken_twice ∷ broken_thrice ∷ turned ∷ repeated ∷ intended_restore ∷ restored ∷ cleaning ∷ rolled_back ∷ []) leads_8 (fold_step world_8 world_9 broken_twice (broken_thrice ∷ turned ∷ repeated ∷ intended_restore ∷ restored ∷ cleaning ∷ rolled_back ∷ []) leads_9 (fold_step world_9 world_10 broken_thrice (turned ∷ repeated ∷ intended_restore ∷ restored ∷ cleaning ∷ rolled_back ∷ []) leads_10 (fold_step world_10 world_11 turned (repeated ∷ intended_restore ∷ restored ∷ cleaning ∷ rolled_back ∷ []) leads_11 (fold_step world_11 world_12 repeated (intended_restore ∷ restored ∷ cleaning ∷ rolled_back ∷ []) leads_12 (fold_step world_12 world_13 intended_restore (restored ∷ cleaning ∷ rolled_back ∷ []) leads_13 (fold_step world_13 world_14 restored (cleaning ∷ rolled_back ∷ []) leads_14 (fold_step world_14 world_15 cleaning (rolled_back ∷ []) leads_15 (fold_step world_15 world_16 rolled_back ([]) leads_16 (refl))))))))))))))))
+legal = until_16.legal
 
 pub report_0 : Shows
-report_0 = ap (report_of (codes "s")) arrives_16
+report_0 = ap (report_of (codes "s")) until_16.arrives

@@ -7,12 +7,8 @@ pub mod Refusing
 pub mod Beginning
 pub mod FirstResource
 pub mod Replacement
-pub mod IndexOutside
 pub mod TakenName
 pub mod FaultRepeated
-pub mod RolledBack
-pub mod RollbackFailed
-pub mod Blamed
 pub mod NotUpdatable
 pub mod LateEffect
 pub mod Skipped
@@ -22,7 +18,6 @@ pub mod Pinned
 pub mod Site
 pub mod SiteKept
 pub mod MadeAndTakenBack
-pub mod KeptInRollback
 pub mod RestoreRefused
 pub mod LostCreation
 pub mod Undeleted

@@ -1,18 +1,17 @@
 -- An update makes a resource and is refused at another: what it made is deleted in the cleanup of the rollback, and not before.
 use Rattle.std.proofs.Common.{◌≡◌, refl, List, [], ◌∷◌, ◌++◌, Some, false, ℕ, inl, inr, ap, lit≤}
-use Rattle.std.specs.Prelude.{codes}
+use Rattle.std.specs.Prelude.{codes, take, drop}
 use Rattle.cf_tree.specs.declared.request.Request.TheVariants as request
 use Rattle.cf_tree.specs.declared.code.Code.TheVariants as code
 use Rattle.cf_entry.specs.declared.turn.Reason.TheVariants as reason
-use Rattle.cf_entry.specs.declared.entry.Entry.{Entry}
 use Rattle.cf_stacks.specs.declared.held.Held.{Held}
 use Rattle.cf_stacks.specs.declared.state.World.{World}
 use Rattle.cf_stacks.specs.declared.state.StackState.{StackState}
-use Rattle.cf_stacks.specs.Fold.{empty_world, world_after, source_for}
+use Rattle.cf_stacks.specs.Fold.{empty_world, source_for, no_stack}
 use Rattle.cf_stacks.specs.Status.{Forward, Back, BackClean}
 use Rattle.cf_plan.specs.Forward.{here, there, HasFailed, IsReady, AllDone, IsDone, is_made}
 use Rattle.cf_plan.specs.Follow.{MayFollow}
-use Rattle.cf_examples.specs.Given.{schemas, file, note, file_props, note_props, file_attrs}
+use Rattle.cf_examples.specs.Given.{schemas, file, note, file_props, note_props, file_attrs, lane_pair, report_of}
 use Rattle.cf_examples.proofs.Computing.{computing}
 use Rattle.cf_examples.proofs.Lists.{in_none, only}
 use Rattle.cf_examples.proofs.Failing.{not_failed, not_done_new, not_done_other, same_at}
@@ -22,11 +21,9 @@ use Rattle.cf_tree.specs.declared.template.Replace.TheVariants as replace
 use Rattle.cf_entry.specs.declared.entry.Entry.TheVariants as entry
 use Rattle.cf_entry.specs.declared.status.Status.TheVariants as status
 use Rattle.cf_stacks.specs.declared.held.HeldStatus.TheVariants as held
-use Rattle.cf_stacks.specs.Fold.{fold_of, no_stack}
-use Rattle.cf_examples.specs.Given.{lane_pair, report_of}
-use Rattle.cf_examples.proofs.Refusing.{follows_on, legal_step, fold_step, refused_at}
+use Rattle.cf_examples.proofs.Refusing.{follows_on, refused_at, IsRun, ended, step, joined}
 use Rattle.cf_examples.proofs.Beginning.{no_imports}
-use Rattle.cf_examples.specs.MadeAndTakenBack.{first, second, opened, begun, intended, made, created, updating, intended_new, made_new, intended_other, refused, turned, cleaning, intended_deletion, deleted, rolled_back, Legal, Shows, DeletedInTheRollback}
+use Rattle.cf_examples.specs.MadeAndTakenBack.{first, second, opened, begun, intended, made, created, updating, intended_new, made_new, intended_other, refused, turned, cleaning, intended_deletion, deleted, rolled_back, Legal, Shows, DeletedInTheRollback, run}
 
 abbrev world_0 : World
 world_0 = empty_world
@@ -38,10 +35,6 @@ may_opened = (refl, refl, λ name s e. absurd (cc))
 abbrev world_1 : World
 world_1 = record world_0 { lanes = (lane_pair (codes "f1") file ∷ lane_pair (codes "r1") note ∷ []); epoch = 1; place = 1 }
 
-leads_1 : world_after world_0 opened ≡ world_1
-unfolding computing
-leads_1 = refl
-
 may_begun : MayFollow schemas world_1 [] begun
 unfolding computing
 may_begun = (refl, refl, record { no_flaw = refl; known_types = refl; same_types = refl; imports = no_imports _ _ _ _ refl refl; free = refl; not_in_use = refl; changing = inl refl })
@@ -51,10 +44,6 @@ stack_2_s = record no_stack { status = status.CreateInProgress; number = 1; oper
 
 abbrev world_2 : World
 world_2 = record world_1 { stacks = (((codes "s"), stack_2_s) ∷ []); operation = 1; place = 2 }
-
-leads_2 : world_after world_1 begun ≡ world_2
-unfolding computing
-leads_2 = refl
 
 sound_2 : ¬ HasFailed schemas (codes "s") world_2 stack_2_s
 unfolding computing
@@ -74,10 +63,6 @@ stack_3_s = record stack_2_s { tokens = (record { token = 1; path = (codes "A");
 abbrev world_3 : World
 world_3 = record world_2 { stacks = (((codes "s"), stack_3_s) ∷ []); token = 1; place = 3 }
 
-leads_3 : world_after world_2 intended ≡ world_3
-unfolding computing
-leads_3 = refl
-
 may_made : MayFollow schemas world_3 (1 ∷ []) made
 unfolding computing
 may_made = ((codes "s"), stack_3_s, Forward, refl, refl, (refl, refl, lit≤ tt))
@@ -90,10 +75,6 @@ stack_4_s = record stack_3_s { made = (a_1 ∷ []); tokens = []; events = stack_
 
 abbrev world_4 : World
 world_4 = record world_3 { stacks = (((codes "s"), stack_4_s) ∷ []); place = 4 }
-
-leads_4 : world_after world_3 made ≡ world_4
-unfolding computing
-leads_4 = refl
 
 all_done_4 : AllDone stack_4_s
 unfolding computing
@@ -113,10 +94,6 @@ stack_5_s = record stack_4_s { status = status.CreateComplete; held = (a_1 ∷ [
 abbrev world_5 : World
 world_5 = record world_4 { stacks = (((codes "s"), stack_5_s) ∷ []); place = 5 }
 
-leads_5 : world_after world_4 created ≡ world_5
-unfolding computing
-leads_5 = refl
-
 may_updating : MayFollow schemas world_5 [] updating
 unfolding computing
 may_updating = (refl, refl, record { no_flaw = refl; known_types = refl; same_types = refl; imports = no_imports _ _ _ _ refl refl; free = refl; not_in_use = refl; changing = inr (inl refl) })
@@ -126,10 +103,6 @@ stack_6_s = record stack_5_s { status = status.UpdateInProgress; operation = 2; 
 
 abbrev world_6 : World
 world_6 = record world_5 { stacks = (((codes "s"), stack_6_s) ∷ []); operation = 2; place = 6 }
-
-leads_6 : world_after world_5 updating ≡ world_6
-unfolding computing
-leads_6 = refl
 
 sound_6 : ¬ HasFailed schemas (codes "s") world_6 stack_6_s
 unfolding computing
@@ -149,10 +122,6 @@ stack_7_s = record stack_6_s { tokens = (record { token = 2; path = (codes "A");
 abbrev world_7 : World
 world_7 = record world_6 { stacks = (((codes "s"), stack_7_s) ∷ []); token = 2; place = 7 }
 
-leads_7 : world_after world_6 intended_new ≡ world_7
-unfolding computing
-leads_7 = refl
-
 may_made_new : MayFollow schemas world_7 (2 ∷ []) made_new
 unfolding computing
 may_made_new = ((codes "s"), stack_7_s, Forward, refl, refl, (refl, refl, lit≤ tt))
@@ -165,10 +134,6 @@ stack_8_s = record stack_7_s { made = (a_2 ∷ []); tokens = []; events = stack_
 
 abbrev world_8 : World
 world_8 = record world_7 { stacks = (((codes "s"), stack_8_s) ∷ []); place = 8 }
-
-leads_8 : world_after world_7 made_new ≡ world_8
-unfolding computing
-leads_8 = refl
 
 sound_8 : ¬ HasFailed schemas (codes "s") world_8 stack_8_s
 unfolding computing
@@ -188,10 +153,6 @@ stack_9_s = record stack_8_s { tokens = (record { token = 3; path = (codes "B");
 abbrev world_9 : World
 world_9 = record world_8 { stacks = (((codes "s"), stack_9_s) ∷ []); token = 3; place = 9 }
 
-leads_9 : world_after world_8 intended_other ≡ world_9
-unfolding computing
-leads_9 = refl
-
 may_refused : MayFollow schemas world_9 (3 ∷ []) refused
 unfolding computing
 may_refused = ((codes "s"), stack_9_s, Forward, refl, refl, (refl, refl, (lit≤ tt, λ _. lit≤ tt)))
@@ -201,10 +162,6 @@ stack_10_s = record stack_9_s { tokens = []; events = stack_9_s.events ++ (codes
 
 abbrev world_10 : World
 world_10 = record world_9 { stacks = (((codes "s"), stack_10_s) ∷ []); place = 10 }
-
-leads_10 : world_after world_9 refused ≡ world_10
-unfolding computing
-leads_10 = refl
 
 may_turned : MayFollow schemas world_10 [] turned
 unfolding computing
@@ -216,10 +173,6 @@ stack_11_s = record stack_10_s { status = status.UpdateRollbackInProgress; event
 abbrev world_11 : World
 world_11 = record world_10 { stacks = (((codes "s"), stack_11_s) ∷ []); place = 11 }
 
-leads_11 : world_after world_10 turned ≡ world_11
-unfolding computing
-leads_11 = refl
-
 may_cleaning : MayFollow schemas world_11 [] cleaning
 unfolding computing
 may_cleaning = ((codes "s"), stack_11_s, Back, refl, refl, (refl, (refl, refl, nothing_to_restore stack_11_s refl, refl)))
@@ -229,10 +182,6 @@ stack_12_s = record stack_11_s { status = status.UpdateRollbackCompleteCleanupIn
 
 abbrev world_12 : World
 world_12 = record world_11 { stacks = (((codes "s"), stack_12_s) ∷ []); place = 12 }
-
-leads_12 : world_after world_11 cleaning ≡ world_12
-unfolding computing
-leads_12 = refl
 
 may_intended_deletion : MayFollow schemas world_12 [] intended_deletion
 unfolding computing
@@ -244,10 +193,6 @@ stack_13_s = record stack_12_s { tokens = (record { token = 4; path = (codes "A"
 abbrev world_13 : World
 world_13 = record world_12 { stacks = (((codes "s"), stack_13_s) ∷ []); token = 4; place = 13 }
 
-leads_13 : world_after world_12 intended_deletion ≡ world_13
-unfolding computing
-leads_13 = refl
-
 may_deleted : MayFollow schemas world_13 (4 ∷ []) deleted
 unfolding computing
 may_deleted = ((codes "s"), stack_13_s, BackClean, refl, refl, (refl, refl, lit≤ tt))
@@ -257,10 +202,6 @@ stack_14_s = record stack_13_s { made = []; tokens = []; events = stack_13_s.eve
 
 abbrev world_14 : World
 world_14 = record world_13 { stacks = (((codes "s"), stack_14_s) ∷ []); place = 14 }
-
-leads_14 : world_after world_13 deleted ≡ world_14
-unfolding computing
-leads_14 = refl
 
 may_rolled_back : MayFollow schemas world_14 [] rolled_back
 unfolding computing
@@ -272,73 +213,39 @@ stack_15_s = record stack_14_s { status = status.UpdateRollbackComplete; events 
 abbrev world_15 : World
 world_15 = record world_14 { stacks = (((codes "s"), stack_15_s) ∷ []); place = 15 }
 
-leads_15 : world_after world_14 rolled_back ≡ world_15
+pub until_11 : IsRun empty_world (take 11 run) world_11
 unfolding computing
-leads_15 = refl
+until_11 =
+    step world_1 [] may_opened refl
+    (step world_2 [] may_begun refl
+    (step world_3 [] may_intended refl
+    (step world_4 (1 ∷ []) may_made refl
+    (step world_5 [] may_created refl
+    (step world_6 [] may_updating refl
+    (step world_7 [] may_intended_new refl
+    (step world_8 (2 ∷ []) may_made_new refl
+    (step world_9 [] may_intended_other refl
+    (step world_10 (3 ∷ []) may_refused refl
+    (step world_11 [] may_turned refl ended))))))))))
 
-abbrev rest_15 : List Entry
-rest_15 = []
-
-abbrev rest_14 : List Entry
-rest_14 = rolled_back ∷ rest_15
-
-abbrev rest_13 : List Entry
-rest_13 = deleted ∷ rest_14
-
-abbrev rest_12 : List Entry
-rest_12 = intended_deletion ∷ rest_13
-
-abbrev rest_11 : List Entry
-rest_11 = cleaning ∷ rest_12
-
-abbrev rest_10 : List Entry
-rest_10 = turned ∷ rest_11
-
-abbrev rest_9 : List Entry
-rest_9 = refused ∷ rest_10
-
-abbrev rest_8 : List Entry
-rest_8 = intended_other ∷ rest_9
-
-abbrev rest_7 : List Entry
-rest_7 = made_new ∷ rest_8
-
-abbrev rest_6 : List Entry
-rest_6 = intended_new ∷ rest_7
-
-abbrev rest_5 : List Entry
-rest_5 = updating ∷ rest_6
-
-abbrev rest_4 : List Entry
-rest_4 = created ∷ rest_5
-
-abbrev rest_3 : List Entry
-rest_3 = made ∷ rest_4
-
-abbrev rest_2 : List Entry
-rest_2 = intended ∷ rest_3
-
-abbrev rest_1 : List Entry
-rest_1 = begun ∷ rest_2
-
-abbrev rest_0 : List Entry
-rest_0 = opened ∷ rest_1
+pub until_15 : IsRun empty_world run world_15
+unfolding computing
+until_15 =
+    joined (drop 11 run) until_11
+    (step world_12 [] may_cleaning refl
+    (step world_13 [] may_intended_deletion refl
+    (step world_14 (4 ∷ []) may_deleted refl
+    (step world_15 [] may_rolled_back refl ended))))
 
 pub legal : Legal
-legal = legal_step world_0 world_1 opened rest_1 [] may_opened leads_1 (legal_step world_1 world_2 begun rest_2 [] may_begun leads_2 (legal_step world_2 world_3 intended rest_3 [] may_intended leads_3 (legal_step world_3 world_4 made rest_4 (1 ∷ []) may_made leads_4 (legal_step world_4 world_5 created rest_5 [] may_created leads_5 (legal_step world_5 world_6 updating rest_6 [] may_updating leads_6 (legal_step world_6 world_7 intended_new rest_7 [] may_intended_new leads_7 (legal_step world_7 world_8 made_new rest_8 (2 ∷ []) may_made_new leads_8 (legal_step world_8 world_9 intended_other rest_9 [] may_intended_other leads_9 (legal_step world_9 world_10 refused rest_10 (3 ∷ []) may_refused leads_10 (legal_step world_10 world_11 turned rest_11 [] may_turned leads_11 (legal_step world_11 world_12 cleaning rest_12 [] may_cleaning leads_12 (legal_step world_12 world_13 intended_deletion rest_13 [] may_intended_deletion leads_13 (legal_step world_13 world_14 deleted rest_14 (4 ∷ []) may_deleted leads_14 (legal_step world_14 world_15 rolled_back rest_15 [] may_rolled_back leads_15 (tt)))))))))))))))
-
-arrives_11 : fold_of empty_world (opened ∷ begun ∷ intended ∷ made ∷ created ∷ updating ∷ intended_new ∷ made_new ∷ intended_other ∷ refused ∷ turned ∷ []) ≡ world_11
-arrives_11 = fold_step world_0 world_1 opened (begun ∷ intended ∷ made ∷ created ∷ updating ∷ intended_new ∷ made_new ∷ intended_other ∷ refused ∷ turned ∷ []) leads_1 (fold_step world_1 world_2 begun (intended ∷ made ∷ created ∷ updating ∷ intended_new ∷ made_new ∷ intended_other ∷ refused ∷ turned ∷ []) leads_2 (fold_step world_2 world_3 intended (made ∷ created ∷ updating ∷ intended_new ∷ made_new ∷ intended_other ∷ refused ∷ turned ∷ []) leads_3 (fold_step world_3 world_4 made (created ∷ updating ∷ intended_new ∷ made_new ∷ intended_other ∷ refused ∷ turned ∷ []) leads_4 (fold_step world_4 world_5 created (updating ∷ intended_new ∷ made_new ∷ intended_other ∷ refused ∷ turned ∷ []) leads_5 (fold_step world_5 world_6 updating (intended_new ∷ made_new ∷ intended_other ∷ refused ∷ turned ∷ []) leads_6 (fold_step world_6 world_7 intended_new (made_new ∷ intended_other ∷ refused ∷ turned ∷ []) leads_7 (fold_step world_7 world_8 made_new (intended_other ∷ refused ∷ turned ∷ []) leads_8 (fold_step world_8 world_9 intended_other (refused ∷ turned ∷ []) leads_9 (fold_step world_9 world_10 refused (turned ∷ []) leads_10 (fold_step world_10 world_11 turned ([]) leads_11 (refl)))))))))))
-
-arrives_15 : fold_of empty_world (opened ∷ begun ∷ intended ∷ made ∷ created ∷ updating ∷ intended_new ∷ made_new ∷ intended_other ∷ refused ∷ turned ∷ cleaning ∷ intended_deletion ∷ deleted ∷ rolled_back ∷ []) ≡ world_15
-arrives_15 = fold_step world_0 world_1 opened (begun ∷ intended ∷ made ∷ created ∷ updating ∷ intended_new ∷ made_new ∷ intended_other ∷ refused ∷ turned ∷ cleaning ∷ intended_deletion ∷ deleted ∷ rolled_back ∷ []) leads_1 (fold_step world_1 world_2 begun (intended ∷ made ∷ created ∷ updating ∷ intended_new ∷ made_new ∷ intended_other ∷ refused ∷ turned ∷ cleaning ∷ intended_deletion ∷ deleted ∷ rolled_back ∷ []) leads_2 (fold_step world_2 world_3 intended (made ∷ created ∷ updating ∷ intended_new ∷ made_new ∷ intended_other ∷ refused ∷ turned ∷ cleaning ∷ intended_deletion ∷ deleted ∷ rolled_back ∷ []) leads_3 (fold_step world_3 world_4 made (created ∷ updating ∷ intended_new ∷ made_new ∷ intended_other ∷ refused ∷ turned ∷ cleaning ∷ intended_deletion ∷ deleted ∷ rolled_back ∷ []) leads_4 (fold_step world_4 world_5 created (updating ∷ intended_new ∷ made_new ∷ intended_other ∷ refused ∷ turned ∷ cleaning ∷ intended_deletion ∷ deleted ∷ rolled_back ∷ []) leads_5 (fold_step world_5 world_6 updating (intended_new ∷ made_new ∷ intended_other ∷ refused ∷ turned ∷ cleaning ∷ intended_deletion ∷ deleted ∷ rolled_back ∷ []) leads_6 (fold_step world_6 world_7 intended_new (made_new ∷ intended_other ∷ refused ∷ turned ∷ cleaning ∷ intended_deletion ∷ deleted ∷ rolled_back ∷ []) leads_7 (fold_step world_7 world_8 made_new (intended_other ∷ refused ∷ turned ∷ cleaning ∷ intended_deletion ∷ deleted ∷ rolled_back ∷ []) leads_8 (fold_step world_8 world_9 intended_other (refused ∷ turned ∷ cleaning ∷ intended_deletion ∷ deleted ∷ rolled_back ∷ []) leads_9 (fold_step world_9 world_10 refused (turned ∷ cleaning ∷ intended_deletion ∷ deleted ∷ rolled_back ∷ []) leads_10 (fold_step world_10 world_11 turned (cleaning ∷ intended_deletion ∷ deleted ∷ rolled_back ∷ []) leads_11 (fold_step world_11 world_12 cleaning (intended_deletion ∷ deleted ∷ rolled_back ∷ []) leads_12 (fold_step world_12 world_13 intended_deletion (deleted ∷ rolled_back ∷ []) leads_13 (fold_step world_13 world_14 deleted (rolled_back ∷ []) leads_14 (fold_step world_14 world_15 rolled_back ([]) leads_15 (refl)))))))))))))))
+legal = until_15.legal
 
 pub report_0 : Shows
-report_0 = ap (report_of (codes "s")) arrives_15
+report_0 = ap (report_of (codes "s")) until_15.arrives
 
 may_not_0 : (out : List ℕ) → MayFollow schemas world_11 out (entry.Intent 2 4 (codes "f1") (codes "A") (request.Delete (codes "f1:2"))) → ⊥
 unfolding computing
 may_not_0 = λ out may. let m = follows_on schemas 2 world_11 out (entry.Intent 2 4 (codes "f1") (codes "A") (request.Delete (codes "f1:2"))) ((codes "s"), stack_11_s) Back refl refl may in elim m.chosen [ inl d ↦ (let e : status.UpdateRollbackInProgress ≡ status.RollbackInProgress = d.1.0 in cc) | inr d ↦ d ]
 
 pub refused_0 : DeletedInTheRollback
-refused_0 = refused_at world_11 (opened ∷ begun ∷ intended ∷ made ∷ created ∷ updating ∷ intended_new ∷ made_new ∷ intended_other ∷ refused ∷ turned ∷ []) (entry.Intent 2 4 (codes "f1") (codes "A") (request.Delete (codes "f1:2"))) arrives_11 may_not_0
+refused_0 = refused_at world_11 (take 11 run) (entry.Intent 2 4 (codes "f1") (codes "A") (request.Delete (codes "f1:2"))) until_11.arrives may_not_0

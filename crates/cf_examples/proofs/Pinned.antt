@@ -1,18 +1,17 @@
 -- A stack exports the length of a file, and another one imports it: an update that would change the length is taken back.
 use Rattle.std.proofs.Common.{◌≡◌, refl, List, [], ◌∷◌, ◌++◌, Some, None, false, ℕ, inl, inr, ap, lit≤, true≢false}
-use Rattle.std.specs.Prelude.{codes, length}
+use Rattle.std.specs.Prelude.{codes, length, take, drop}
 use Rattle.cf_desired.specs.declared.wanted.Plan.{Plan}
 use Rattle.cf_tree.specs.declared.request.Request.TheVariants as request
-use Rattle.cf_entry.specs.declared.entry.Entry.{Entry}
 use Rattle.cf_stacks.specs.declared.held.Held.{Held}
 use Rattle.cf_stacks.specs.declared.state.World.{World}
 use Rattle.cf_stacks.specs.declared.state.StackState.{StackState}
-use Rattle.cf_stacks.specs.Fold.{empty_world, world_after, source_for}
+use Rattle.cf_stacks.specs.Fold.{empty_world, source_for, no_stack}
 use Rattle.cf_stacks.specs.Status.{Forward, Back, BackClean}
 use Rattle.cf_schema.specs.declared.changed.Difference.TheVariants.{Same, Update, Replace}
 use Rattle.cf_plan.specs.Forward.{here, HasFailed, IsReady, AllDone, IsDone, is_made, is_updated}
 use Rattle.cf_plan.specs.Follow.{MayFollow}
-use Rattle.cf_examples.specs.Given.{schemas, file, note, file_props, note_props, file_attrs, note_attrs}
+use Rattle.cf_examples.specs.Given.{schemas, file, note, file_props, note_props, file_attrs, note_attrs, lane_pair, report_of}
 use Rattle.cf_examples.proofs.Computing.{computing}
 use Rattle.cf_examples.proofs.Lists.{in_none, only}
 use Rattle.cf_examples.proofs.Failing.{not_failed, not_done_new, not_done_other, no_bad, no_bad_output, same_at}
@@ -24,11 +23,9 @@ use Rattle.cf_entry.specs.declared.entry.Begun.TheVariants as begin
 use Rattle.cf_entry.specs.declared.status.Status.TheVariants as status
 use Rattle.cf_entry.specs.declared.turn.Phase.TheVariants as phase
 use Rattle.cf_stacks.specs.declared.held.HeldStatus.TheVariants as held
-use Rattle.cf_stacks.specs.Fold.{fold_of, no_stack}
-use Rattle.cf_examples.specs.Given.{lane_pair, report_of}
-use Rattle.cf_examples.proofs.Refusing.{follows_on, legal_step, fold_step, refused_at}
+use Rattle.cf_examples.proofs.Refusing.{follows_on, refused_at, IsRun, ended, step, joined}
 use Rattle.cf_examples.proofs.Beginning.{no_imports, one_import}
-use Rattle.cf_examples.specs.Pinned.{first, second, importing, opened, begun, intended_file, made_file, created, begun_user, intended_record, made_record, created_user, updating, intended_change, changed, turned, intended_restore, restored, cleaning, rolled_back, Legal, Shows, ChangedThoughPinned, DeletedThoughPinned}
+use Rattle.cf_examples.specs.Pinned.{first, second, importing, opened, begun, intended_file, made_file, created, begun_user, intended_record, made_record, created_user, updating, intended_change, changed, turned, intended_restore, restored, cleaning, rolled_back, Legal, Shows, ChangedThoughPinned, DeletedThoughPinned, run}
 
 abbrev world_0 : World
 world_0 = empty_world
@@ -40,10 +37,6 @@ may_opened = (refl, refl, λ name s e. absurd (cc))
 abbrev world_1 : World
 world_1 = record world_0 { lanes = (lane_pair (codes "f1") file ∷ lane_pair (codes "r1") note ∷ []); epoch = 1; place = 1 }
 
-leads_1 : world_after world_0 opened ≡ world_1
-unfolding computing
-leads_1 = refl
-
 may_begun : MayFollow schemas world_1 [] begun
 unfolding computing
 may_begun = (refl, refl, record { no_flaw = refl; known_types = refl; same_types = refl; imports = no_imports _ _ _ _ refl refl; free = refl; not_in_use = refl; changing = inl refl })
@@ -53,10 +46,6 @@ stack_2_site = record no_stack { status = status.CreateInProgress; number = 1; o
 
 abbrev world_2 : World
 world_2 = record world_1 { stacks = (((codes "site"), stack_2_site) ∷ []); claims = (record { stack = (codes "site"); name = (codes "site-total") } ∷ []); operation = 1; place = 2 }
-
-leads_2 : world_after world_1 begun ≡ world_2
-unfolding computing
-leads_2 = refl
 
 sound_2 : ¬ HasFailed schemas (codes "site") world_2 stack_2_site
 unfolding computing
@@ -76,10 +65,6 @@ stack_3_site = record stack_2_site { tokens = (record { token = 1; path = (codes
 abbrev world_3 : World
 world_3 = record world_2 { stacks = (((codes "site"), stack_3_site) ∷ []); token = 1; place = 3 }
 
-leads_3 : world_after world_2 intended_file ≡ world_3
-unfolding computing
-leads_3 = refl
-
 may_made_file : MayFollow schemas world_3 (1 ∷ []) made_file
 unfolding computing
 may_made_file = ((codes "site"), stack_3_site, Forward, refl, refl, (refl, refl, lit≤ tt))
@@ -92,10 +77,6 @@ stack_4_site = record stack_3_site { made = (a_1 ∷ []); tokens = []; events = 
 
 abbrev world_4 : World
 world_4 = record world_3 { stacks = (((codes "site"), stack_4_site) ∷ []); place = 4 }
-
-leads_4 : world_after world_3 made_file ≡ world_4
-unfolding computing
-leads_4 = refl
 
 all_done_4 : AllDone stack_4_site
 unfolding computing
@@ -115,10 +96,6 @@ stack_5_site = record stack_4_site { status = status.CreateComplete; held = (a_1
 abbrev world_5 : World
 world_5 = record world_4 { stacks = (((codes "site"), stack_5_site) ∷ []); exports = (record { name = (codes "site-total"); value = (codes "2"); stack = (codes "site") } ∷ []); claims = []; place = 5 }
 
-leads_5 : world_after world_4 created ≡ world_5
-unfolding computing
-leads_5 = refl
-
 may_begun_user : MayFollow schemas world_5 [] begun_user
 unfolding computing
 may_begun_user = (refl, refl, record { no_flaw = refl; known_types = refl; same_types = refl; imports = one_import _ _ _ _ (codes "site-total") (codes "2") refl refl refl (λ e. let z : 1 ≡ 0 = ap (λ (p : Plan). length p.flaws) e in cc); free = refl; not_in_use = refl; changing = inl refl })
@@ -131,10 +108,6 @@ stack_6_user = record no_stack { status = status.CreateInProgress; number = 2; o
 
 abbrev world_6 : World
 world_6 = record world_5 { stacks = (((codes "site"), stack_6_site) ∷ ((codes "user"), stack_6_user) ∷ []); pins = (record { stack = (codes "user"); name = (codes "site-total") } ∷ []); operation = 2; place = 6 }
-
-leads_6 : world_after world_5 begun_user ≡ world_6
-unfolding computing
-leads_6 = refl
 
 sound_6 : ¬ HasFailed schemas (codes "user") world_6 stack_6_user
 unfolding computing
@@ -157,10 +130,6 @@ stack_7_user = record stack_6_user { tokens = (record { token = 2; path = (codes
 abbrev world_7 : World
 world_7 = record world_6 { stacks = (((codes "site"), stack_7_site) ∷ ((codes "user"), stack_7_user) ∷ []); token = 2; place = 7 }
 
-leads_7 : world_after world_6 intended_record ≡ world_7
-unfolding computing
-leads_7 = refl
-
 may_made_record : MayFollow schemas world_7 (2 ∷ []) made_record
 unfolding computing
 may_made_record = ((codes "user"), stack_7_user, Forward, refl, refl, (refl, refl, lit≤ tt))
@@ -176,10 +145,6 @@ stack_8_user = record stack_7_user { made = (u_1 ∷ []); tokens = []; events = 
 
 abbrev world_8 : World
 world_8 = record world_7 { stacks = (((codes "site"), stack_8_site) ∷ ((codes "user"), stack_8_user) ∷ []); place = 8 }
-
-leads_8 : world_after world_7 made_record ≡ world_8
-unfolding computing
-leads_8 = refl
 
 all_done_8 : AllDone stack_8_user
 unfolding computing
@@ -202,10 +167,6 @@ stack_9_user = record stack_8_user { status = status.CreateComplete; held = (u_1
 abbrev world_9 : World
 world_9 = record world_8 { stacks = (((codes "site"), stack_9_site) ∷ ((codes "user"), stack_9_user) ∷ []); place = 9 }
 
-leads_9 : world_after world_8 created_user ≡ world_9
-unfolding computing
-leads_9 = refl
-
 may_updating : MayFollow schemas world_9 [] updating
 unfolding computing
 may_updating = (refl, refl, record { no_flaw = refl; known_types = refl; same_types = refl; imports = no_imports _ _ _ _ refl refl; free = refl; not_in_use = refl; changing = inr (inl refl) })
@@ -218,10 +179,6 @@ stack_10_user = stack_9_user
 
 abbrev world_10 : World
 world_10 = record world_9 { stacks = (((codes "site"), stack_10_site) ∷ ((codes "user"), stack_10_user) ∷ []); claims = (record { stack = (codes "site"); name = (codes "site-total") } ∷ []); operation = 3; place = 10 }
-
-leads_10 : world_after world_9 updating ≡ world_10
-unfolding computing
-leads_10 = refl
 
 sound_10 : ¬ HasFailed schemas (codes "site") world_10 stack_10_site
 unfolding computing
@@ -244,10 +201,6 @@ stack_11_user = stack_10_user
 abbrev world_11 : World
 world_11 = record world_10 { stacks = (((codes "site"), stack_11_site) ∷ ((codes "user"), stack_11_user) ∷ []); token = 3; place = 11 }
 
-leads_11 : world_after world_10 intended_change ≡ world_11
-unfolding computing
-leads_11 = refl
-
 may_changed : MayFollow schemas world_11 (3 ∷ []) changed
 unfolding computing
 may_changed = ((codes "site"), stack_11_site, Forward, refl, refl, (refl, refl, lit≤ tt))
@@ -263,10 +216,6 @@ stack_12_user = stack_11_user
 
 abbrev world_12 : World
 world_12 = record world_11 { stacks = (((codes "site"), stack_12_site) ∷ ((codes "user"), stack_12_user) ∷ []); place = 12 }
-
-leads_12 : world_after world_11 changed ≡ world_12
-unfolding computing
-leads_12 = refl
 
 all_done_12 : AllDone stack_12_site
 unfolding computing
@@ -285,10 +234,6 @@ stack_13_user = stack_12_user
 abbrev world_13 : World
 world_13 = record world_12 { stacks = (((codes "site"), stack_13_site) ∷ ((codes "user"), stack_13_user) ∷ []); place = 13 }
 
-leads_13 : world_after world_12 turned ≡ world_13
-unfolding computing
-leads_13 = refl
-
 may_intended_restore : MayFollow schemas world_13 [] intended_restore
 unfolding computing
 may_intended_restore = ((codes "site"), stack_13_site, Back, refl, refl, record { next = refl; free = refl; home = refl; fits = ((codes "1", refl), refl); no_repeat = refl; chosen = inr (refl, _, (here, refl, refl, refl), refl, refl, refl, refl) })
@@ -301,10 +246,6 @@ stack_14_user = stack_13_user
 
 abbrev world_14 : World
 world_14 = record world_13 { stacks = (((codes "site"), stack_14_site) ∷ ((codes "user"), stack_14_user) ∷ []); token = 4; place = 14 }
-
-leads_14 : world_after world_13 intended_restore ≡ world_14
-unfolding computing
-leads_14 = refl
 
 may_restored : MayFollow schemas world_14 (4 ∷ []) restored
 unfolding computing
@@ -322,10 +263,6 @@ stack_15_user = stack_14_user
 abbrev world_15 : World
 world_15 = record world_14 { stacks = (((codes "site"), stack_15_site) ∷ ((codes "user"), stack_15_user) ∷ []); place = 15 }
 
-leads_15 : world_after world_14 restored ≡ world_15
-unfolding computing
-leads_15 = refl
-
 may_cleaning : MayFollow schemas world_15 [] cleaning
 unfolding computing
 may_cleaning = ((codes "site"), stack_15_site, Back, refl, refl, (refl, (refl, refl, nothing_to_restore stack_15_site refl, refl)))
@@ -338,10 +275,6 @@ stack_16_user = stack_15_user
 
 abbrev world_16 : World
 world_16 = record world_15 { stacks = (((codes "site"), stack_16_site) ∷ ((codes "user"), stack_16_user) ∷ []); place = 16 }
-
-leads_16 : world_after world_15 cleaning ≡ world_16
-unfolding computing
-leads_16 = refl
 
 may_rolled_back : MayFollow schemas world_16 [] rolled_back
 unfolding computing
@@ -356,86 +289,48 @@ stack_17_user = stack_16_user
 abbrev world_17 : World
 world_17 = record world_16 { stacks = (((codes "site"), stack_17_site) ∷ ((codes "user"), stack_17_user) ∷ []); claims = []; place = 17 }
 
-leads_17 : world_after world_16 rolled_back ≡ world_17
+pub until_12 : IsRun empty_world (take 12 run) world_12
 unfolding computing
-leads_17 = refl
+until_12 =
+    step world_1 [] may_opened refl
+    (step world_2 [] may_begun refl
+    (step world_3 [] may_intended_file refl
+    (step world_4 (1 ∷ []) may_made_file refl
+    (step world_5 [] may_created refl
+    (step world_6 [] may_begun_user refl
+    (step world_7 [] may_intended_record refl
+    (step world_8 (2 ∷ []) may_made_record refl
+    (step world_9 [] may_created_user refl
+    (step world_10 [] may_updating refl
+    (step world_11 [] may_intended_change refl
+    (step world_12 (3 ∷ []) may_changed refl ended)))))))))))
 
-abbrev rest_17 : List Entry
-rest_17 = []
-
-abbrev rest_16 : List Entry
-rest_16 = rolled_back ∷ rest_17
-
-abbrev rest_15 : List Entry
-rest_15 = cleaning ∷ rest_16
-
-abbrev rest_14 : List Entry
-rest_14 = restored ∷ rest_15
-
-abbrev rest_13 : List Entry
-rest_13 = intended_restore ∷ rest_14
-
-abbrev rest_12 : List Entry
-rest_12 = turned ∷ rest_13
-
-abbrev rest_11 : List Entry
-rest_11 = changed ∷ rest_12
-
-abbrev rest_10 : List Entry
-rest_10 = intended_change ∷ rest_11
-
-abbrev rest_9 : List Entry
-rest_9 = updating ∷ rest_10
-
-abbrev rest_8 : List Entry
-rest_8 = created_user ∷ rest_9
-
-abbrev rest_7 : List Entry
-rest_7 = made_record ∷ rest_8
-
-abbrev rest_6 : List Entry
-rest_6 = intended_record ∷ rest_7
-
-abbrev rest_5 : List Entry
-rest_5 = begun_user ∷ rest_6
-
-abbrev rest_4 : List Entry
-rest_4 = created ∷ rest_5
-
-abbrev rest_3 : List Entry
-rest_3 = made_file ∷ rest_4
-
-abbrev rest_2 : List Entry
-rest_2 = intended_file ∷ rest_3
-
-abbrev rest_1 : List Entry
-rest_1 = begun ∷ rest_2
-
-abbrev rest_0 : List Entry
-rest_0 = opened ∷ rest_1
+pub until_17 : IsRun empty_world run world_17
+unfolding computing
+until_17 =
+    joined (drop 12 run) until_12
+    (step world_13 [] may_turned refl
+    (step world_14 [] may_intended_restore refl
+    (step world_15 (4 ∷ []) may_restored refl
+    (step world_16 [] may_cleaning refl
+    (step world_17 [] may_rolled_back refl ended)))))
 
 pub legal : Legal
-legal = legal_step world_0 world_1 opened rest_1 [] may_opened leads_1 (legal_step world_1 world_2 begun rest_2 [] may_begun leads_2 (legal_step world_2 world_3 intended_file rest_3 [] may_intended_file leads_3 (legal_step world_3 world_4 made_file rest_4 (1 ∷ []) may_made_file leads_4 (legal_step world_4 world_5 created rest_5 [] may_created leads_5 (legal_step world_5 world_6 begun_user rest_6 [] may_begun_user leads_6 (legal_step world_6 world_7 intended_record rest_7 [] may_intended_record leads_7 (legal_step world_7 world_8 made_record rest_8 (2 ∷ []) may_made_record leads_8 (legal_step world_8 world_9 created_user rest_9 [] may_created_user leads_9 (legal_step world_9 world_10 updating rest_10 [] may_updating leads_10 (legal_step world_10 world_11 intended_change rest_11 [] may_intended_change leads_11 (legal_step world_11 world_12 changed rest_12 (3 ∷ []) may_changed leads_12 (legal_step world_12 world_13 turned rest_13 [] may_turned leads_13 (legal_step world_13 world_14 intended_restore rest_14 [] may_intended_restore leads_14 (legal_step world_14 world_15 restored rest_15 (4 ∷ []) may_restored leads_15 (legal_step world_15 world_16 cleaning rest_16 [] may_cleaning leads_16 (legal_step world_16 world_17 rolled_back rest_17 [] may_rolled_back leads_17 (tt)))))))))))))))))
-
-arrives_12 : fold_of empty_world (opened ∷ begun ∷ intended_file ∷ made_file ∷ created ∷ begun_user ∷ intended_record ∷ made_record ∷ created_user ∷ updating ∷ intended_change ∷ changed ∷ []) ≡ world_12
-arrives_12 = fold_step world_0 world_1 opened (begun ∷ intended_file ∷ made_file ∷ created ∷ begun_user ∷ intended_record ∷ made_record ∷ created_user ∷ updating ∷ intended_change ∷ changed ∷ []) leads_1 (fold_step world_1 world_2 begun (intended_file ∷ made_file ∷ created ∷ begun_user ∷ intended_record ∷ made_record ∷ created_user ∷ updating ∷ intended_change ∷ changed ∷ []) leads_2 (fold_step world_2 world_3 intended_file (made_file ∷ created ∷ begun_user ∷ intended_record ∷ made_record ∷ created_user ∷ updating ∷ intended_change ∷ changed ∷ []) leads_3 (fold_step world_3 world_4 made_file (created ∷ begun_user ∷ intended_record ∷ made_record ∷ created_user ∷ updating ∷ intended_change ∷ changed ∷ []) leads_4 (fold_step world_4 world_5 created (begun_user ∷ intended_record ∷ made_record ∷ created_user ∷ updating ∷ intended_change ∷ changed ∷ []) leads_5 (fold_step world_5 world_6 begun_user (intended_record ∷ made_record ∷ created_user ∷ updating ∷ intended_change ∷ changed ∷ []) leads_6 (fold_step world_6 world_7 intended_record (made_record ∷ created_user ∷ updating ∷ intended_change ∷ changed ∷ []) leads_7 (fold_step world_7 world_8 made_record (created_user ∷ updating ∷ intended_change ∷ changed ∷ []) leads_8 (fold_step world_8 world_9 created_user (updating ∷ intended_change ∷ changed ∷ []) leads_9 (fold_step world_9 world_10 updating (intended_change ∷ changed ∷ []) leads_10 (fold_step world_10 world_11 intended_change (changed ∷ []) leads_11 (fold_step world_11 world_12 changed ([]) leads_12 (refl))))))))))))
-
-arrives_17 : fold_of empty_world (opened ∷ begun ∷ intended_file ∷ made_file ∷ created ∷ begun_user ∷ intended_record ∷ made_record ∷ created_user ∷ updating ∷ intended_change ∷ changed ∷ turned ∷ intended_restore ∷ restored ∷ cleaning ∷ rolled_back ∷ []) ≡ world_17
-arrives_17 = fold_step world_0 world_1 opened (begun ∷ intended_file ∷ made_file ∷ created ∷ begun_user ∷ intended_record ∷ made_record ∷ created_user ∷ updating ∷ intended_change ∷ changed ∷ turned ∷ intended_restore ∷ restored ∷ cleaning ∷ rolled_back ∷ []) leads_1 (fold_step world_1 world_2 begun (intended_file ∷ made_file ∷ created ∷ begun_user ∷ intended_record ∷ made_record ∷ created_user ∷ updating ∷ intended_change ∷ changed ∷ turned ∷ intended_restore ∷ restored ∷ cleaning ∷ rolled_back ∷ []) leads_2 (fold_step world_2 world_3 intended_file (made_file ∷ created ∷ begun_user ∷ intended_record ∷ made_record ∷ created_user ∷ updating ∷ intended_change ∷ changed ∷ turned ∷ intended_restore ∷ restored ∷ cleaning ∷ rolled_back ∷ []) leads_3 (fold_step world_3 world_4 made_file (created ∷ begun_user ∷ intended_record ∷ made_record ∷ created_user ∷ updating ∷ intended_change ∷ changed ∷ turned ∷ intended_restore ∷ restored ∷ cleaning ∷ rolled_back ∷ []) leads_4 (fold_step world_4 world_5 created (begun_user ∷ intended_record ∷ made_record ∷ created_user ∷ updating ∷ intended_change ∷ changed ∷ turned ∷ intended_restore ∷ restored ∷ cleaning ∷ rolled_back ∷ []) leads_5 (fold_step world_5 world_6 begun_user (intended_record ∷ made_record ∷ created_user ∷ updating ∷ intended_change ∷ changed ∷ turned ∷ intended_restore ∷ restored ∷ cleaning ∷ rolled_back ∷ []) leads_6 (fold_step world_6 world_7 intended_record (made_record ∷ created_user ∷ updating ∷ intended_change ∷ changed ∷ turned ∷ intended_restore ∷ restored ∷ cleaning ∷ rolled_back ∷ []) leads_7 (fold_step world_7 world_8 made_record (created_user ∷ updating ∷ intended_change ∷ changed ∷ turned ∷ intended_restore ∷ restored ∷ cleaning ∷ rolled_back ∷ []) leads_8 (fold_step world_8 world_9 created_user (updating ∷ intended_change ∷ changed ∷ turned ∷ intended_restore ∷ restored ∷ cleaning ∷ rolled_back ∷ []) leads_9 (fold_step world_9 world_10 updating (intended_change ∷ changed ∷ turned ∷ intended_restore ∷ restored ∷ cleaning ∷ rolled_back ∷ []) leads_10 (fold_step world_10 world_11 intended_change (changed ∷ turned ∷ intended_restore ∷ restored ∷ cleaning ∷ rolled_back ∷ []) leads_11 (fold_step world_11 world_12 changed (turned ∷ intended_restore ∷ restored ∷ cleaning ∷ rolled_back ∷ []) leads_12 (fold_step world_12 world_13 turned (intended_restore ∷ restored ∷ cleaning ∷ rolled_back ∷ []) leads_13 (fold_step world_13 world_14 intended_restore (restored ∷ cleaning ∷ rolled_back ∷ []) leads_14 (fold_step world_14 world_15 restored (cleaning ∷ rolled_back ∷ []) leads_15 (fold_step world_15 world_16 cleaning (rolled_back ∷ []) leads_16 (fold_step world_16 world_17 rolled_back ([]) leads_17 (refl)))))))))))))))))
+legal = until_17.legal
 
 pub report_0 : Shows
-report_0 = ap (report_of (codes "site")) arrives_17
+report_0 = ap (report_of (codes "site")) until_17.arrives
 
 may_not_0 : (out : List ℕ) → MayFollow schemas world_12 out (entry.Phase 3 phase.Clean None) → ⊥
 unfolding computing
 may_not_0 = λ out may. let m = follows_on schemas 3 world_12 out (entry.Phase 3 phase.Clean None) ((codes "site"), stack_12_site) Forward refl refl may in m.1.1 (inr (inr (inr (codes "site-total", (all_done_12, refl)))))
 
 pub refused_0 : ChangedThoughPinned
-refused_0 = refused_at world_12 (opened ∷ begun ∷ intended_file ∷ made_file ∷ created ∷ begun_user ∷ intended_record ∷ made_record ∷ created_user ∷ updating ∷ intended_change ∷ changed ∷ []) (entry.Phase 3 phase.Clean None) arrives_12 may_not_0
+refused_0 = refused_at world_12 (take 12 run) (entry.Phase 3 phase.Clean None) until_12.arrives may_not_0
 
 may_not_1 : (out : List ℕ) → MayFollow schemas world_17 out (entry.Begin 4 (codes "site") (begin.Delete [])) → ⊥
 unfolding computing
 may_not_1 = λ out may. true≢false may.2.2
 
 pub refused_1 : DeletedThoughPinned
-refused_1 = refused_at world_17 (opened ∷ begun ∷ intended_file ∷ made_file ∷ created ∷ begun_user ∷ intended_record ∷ made_record ∷ created_user ∷ updating ∷ intended_change ∷ changed ∷ turned ∷ intended_restore ∷ restored ∷ cleaning ∷ rolled_back ∷ []) (entry.Begin 4 (codes "site") (begin.Delete [])) arrives_17 may_not_1
+refused_1 = refused_at world_17 run (entry.Begin 4 (codes "site") (begin.Delete [])) until_17.arrives may_not_1

@@ -5,6 +5,7 @@ use Rattle.std.specs.List.{list_all, list_any}
 use Rattle.std.specs.Option.{option_map_or}
 use Rattle.std.specs.Str.{bytes_eq}
 use Rattle.std.proofs.lemmas.Slice.Eq.{bytes_eq-Decides}
+use Rattle.cf_tree.specs.Lists.{is_among}
 use Rattle.cf_stacks.specs.declared.held.Held.{Held}
 use Rattle.cf_stacks.specs.Operation.{Call, Response, call_of, replies_in, own_of, refusals_of}
 use Rattle.cf_plan.specs.Forward.{In, here}
@@ -16,7 +17,6 @@ use Rattle.cf_entry.specs.declared.entry.Entry.{Entry}
 use Rattle.cf_stacks.specs.declared.state.StackState.{StackState}
 use Rattle.cf_stacks.specs.declared.state.World.{World}
 use Rattle.cf_stacks.specs.Status.{Stage, stage_of}
-use Rattle.cf_graph.specs.Needs.{is_among}
 use Rattle.cf_stacks.specs.Words.{stack_of_operation, resources_of}
 use Rattle.cf_plan.specs.Follow.{MayFollow, IsLegal, MayFollowIn, MayFollowOn, is_failed_path, is_bad_last, last_at, has_path}
 
@@ -84,12 +84,17 @@ are_failed s failed only_these all_these p = (each_passes (is_failed_path s) fai
     told : is_failed_path s p ≡ true → In p failed
     told e = among_in p failed (right (is_failed_path s p) (is_among p failed) e (each_passes (is_told_right s failed) (candidates s) p only_these (failed_is_candidate s p e)))
 
--- Step by step: each entry may follow a world and leads to the next one.
-pub legal_step : (x y : World) (e : Entry) (es : List Entry) (out : List ℕ) → MayFollow schemas x out e → world_after x e ≡ y → IsLegal schemas y es → IsLegal schemas x (e ∷ es)
-legal_step x y e es out may leads rest = ((out, may), subst (λ z. IsLegal schemas z es) (sym leads) rest)
+-- A list of entries is legal in one world and leads to another. It is made step by step: each entry may follow its world and
+-- leads to the next one.
+pub record IsRun (x : World) (es : List Entry) (y : World) : Type 0 where
+  pub legal : IsLegal schemas x es
+  pub arrives : fold_of x es ≡ y
 
-pub fold_step : (x y : World) (e : Entry) (es : List Entry) {z : World} → world_after x e ≡ y → fold_of y es ≡ z → fold_of x (e ∷ es) ≡ z
-fold_step x y e es {z} leads rest = ap (λ w. fold_of w es) leads ∙ rest
+pub ended : {x : World} → IsRun x [] x
+ended = record { legal = tt; arrives = refl }
+
+pub step : {x z : World} {e : Entry} {es : List Entry} (y : World) (out : List ℕ) → MayFollow schemas x out e → world_after x e ≡ y → IsRun y es z → IsRun x (e ∷ es) z
+step {es = es} y out may leads rest = record { legal = ((out, may), subst (λ w. IsLegal schemas w es) (sym leads) rest.legal); arrives = ap (λ w. fold_of w es) leads ∙ rest.arrives }
 
 -- entries behind others, and one entry more
 pub fold_joined : (x : World) (es rest : List Entry) {y z : World} → fold_of x es ≡ y → fold_of y rest ≡ z → fold_of x (es ++ rest) ≡ z
@@ -102,6 +107,16 @@ fold_more x es e arrives leads = fold_joined x es (e ∷ []) arrives leads
 pub legal_joined : (x : World) (es rest : List Entry) → IsLegal schemas x es → IsLegal schemas (fold_of x es) rest → IsLegal schemas x (es ++ rest)
 legal_joined x [] rest before behind = behind
 legal_joined x (e ∷ es) rest before behind = (before.0, legal_joined (world_after x e) es rest before.1 behind)
+
+-- one run behind another, and an entry that may follow behind a run
+pub joined : {x y z : World} {es : List Entry} (rest : List Entry) → IsRun x es y → IsRun y rest z → IsRun x (es ++ rest) z
+joined {x = x} {es = es} rest before behind = record {
+  legal = legal_joined x es rest before.legal (subst (λ w. IsLegal schemas w rest) (sym before.arrives) behind.legal);
+  arrives = fold_joined x es rest before.arrives behind.arrives;
+}
+
+pub followed : {x y : World} {es : List Entry} (e : Entry) → IsRun x es y → (out : List ℕ) → MayFollow schemas y out e → IsLegal schemas x (es ++ e ∷ [])
+followed {x = x} {es = es} e before out may = legal_joined x es (e ∷ []) before.legal (subst (λ w. IsLegal schemas w (e ∷ [])) (sym before.arrives) ((out, may), tt))
 
 -- what stands at the front of a legal list is legal
 pub legal_front : (x : World) (es rest : List Entry) → IsLegal schemas x (es ++ rest) → IsLegal schemas x es

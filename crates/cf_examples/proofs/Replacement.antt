@@ -1,17 +1,16 @@
 -- A file is replaced: the record that refers to it is updated to the new id, and the old file is deleted in the cleanup (worked in the order of the calls).
 use Rattle.std.proofs.Common.{◌≡◌, refl, List, [], ◌∷◌, ◌++◌, Some, None, true, false, ℕ, inl, inr, ap, lit≤, true≢false}
-use Rattle.std.specs.Prelude.{codes}
+use Rattle.std.specs.Prelude.{codes, take, drop}
 use Rattle.cf_tree.specs.declared.request.Request.TheVariants as request
-use Rattle.cf_entry.specs.declared.entry.Entry.{Entry}
 use Rattle.cf_stacks.specs.declared.held.Held.{Held}
 use Rattle.cf_stacks.specs.declared.state.World.{World}
 use Rattle.cf_stacks.specs.declared.state.StackState.{StackState}
-use Rattle.cf_stacks.specs.Fold.{empty_world, world_after, source_for}
+use Rattle.cf_stacks.specs.Fold.{empty_world, source_for, no_stack}
 use Rattle.cf_stacks.specs.Status.{Forward, Clean}
 use Rattle.cf_schema.specs.declared.changed.Difference.TheVariants.{Same, Update, Replace}
 use Rattle.cf_plan.specs.Forward.{here, there, HasFailed, IsReady, AllDone, IsDone, is_made, is_updated}
 use Rattle.cf_plan.specs.Follow.{MayFollow}
-use Rattle.cf_examples.specs.Given.{schemas, file, note, file_props, note_props, file_attrs, note_attrs}
+use Rattle.cf_examples.specs.Given.{schemas, file, note, file_props, note_props, file_attrs, note_attrs, lane_pair, report_of}
 use Rattle.cf_examples.proofs.Computing.{computing}
 use Rattle.cf_examples.proofs.Lists.{in_none, only, either}
 use Rattle.cf_examples.proofs.Failing.{not_failed, not_done_new, not_done_other, same_at, known_props}
@@ -23,11 +22,9 @@ use Rattle.cf_entry.specs.declared.entry.Reply.TheVariants as reply
 use Rattle.cf_entry.specs.declared.status.Status.TheVariants as status
 use Rattle.cf_entry.specs.declared.turn.Phase.TheVariants as phase
 use Rattle.cf_stacks.specs.declared.held.HeldStatus.TheVariants as held
-use Rattle.cf_stacks.specs.Fold.{fold_of, no_stack}
-use Rattle.cf_examples.specs.Given.{lane_pair, report_of}
-use Rattle.cf_examples.proofs.Refusing.{follows_on, follows_none, legal_step, fold_step, refused_at}
+use Rattle.cf_examples.proofs.Refusing.{follows_on, follows_none, refused_at, IsRun, ended, step, joined, followed}
 use Rattle.cf_examples.proofs.Beginning.{no_imports}
-use Rattle.cf_examples.specs.Replacement.{first, second, opened, begun, intended_web, made_web, intended_ptr, made_ptr, created, updating, intended_new, made_new, intended_change, changed_ptr, cleaning, intended_deletion, deleted, updated, Legal, Shows, third, updating_both, until_replaced, gets, NewIdIsLegal, CleanedTooEarly, DeletedBeforeCleanup, OldIdEvaluated, EndedUnderAnotherNumber, AnsweredUnderAnotherNumber}
+use Rattle.cf_examples.specs.Replacement.{first, second, opened, begun, intended_web, made_web, intended_ptr, made_ptr, created, updating, intended_new, made_new, intended_change, changed_ptr, cleaning, intended_deletion, deleted, updated, Legal, Shows, third, updating_both, until_replaced, gets, NewIdIsLegal, CleanedTooEarly, DeletedBeforeCleanup, OldIdEvaluated, EndedUnderAnotherNumber, AnsweredUnderAnotherNumber, run}
 
 abbrev world_0 : World
 world_0 = empty_world
@@ -39,10 +36,6 @@ may_opened = (refl, refl, λ name s e. absurd (cc))
 abbrev world_1 : World
 world_1 = record world_0 { lanes = (lane_pair (codes "f1") file ∷ lane_pair (codes "r1") note ∷ []); epoch = 1; place = 1 }
 
-leads_1 : world_after world_0 opened ≡ world_1
-unfolding computing
-leads_1 = refl
-
 may_begun : MayFollow schemas world_1 [] begun
 unfolding computing
 may_begun = (refl, refl, record { no_flaw = refl; known_types = refl; same_types = refl; imports = no_imports _ _ _ _ refl refl; free = refl; not_in_use = refl; changing = inl refl })
@@ -52,10 +45,6 @@ stack_2_app = record no_stack { status = status.CreateInProgress; number = 1; op
 
 abbrev world_2 : World
 world_2 = record world_1 { stacks = (((codes "app"), stack_2_app) ∷ []); operation = 1; place = 2 }
-
-leads_2 : world_after world_1 begun ≡ world_2
-unfolding computing
-leads_2 = refl
 
 sound_2 : ¬ HasFailed schemas (codes "app") world_2 stack_2_app
 unfolding computing
@@ -75,10 +64,6 @@ stack_3_app = record stack_2_app { tokens = (record { token = 1; path = (codes "
 abbrev world_3 : World
 world_3 = record world_2 { stacks = (((codes "app"), stack_3_app) ∷ []); token = 1; place = 3 }
 
-leads_3 : world_after world_2 intended_web ≡ world_3
-unfolding computing
-leads_3 = refl
-
 may_made_web : MayFollow schemas world_3 (1 ∷ []) made_web
 unfolding computing
 may_made_web = ((codes "app"), stack_3_app, Forward, refl, refl, (refl, refl, lit≤ tt))
@@ -91,10 +76,6 @@ stack_4_app = record stack_3_app { made = (web_1 ∷ []); tokens = []; events = 
 
 abbrev world_4 : World
 world_4 = record world_3 { stacks = (((codes "app"), stack_4_app) ∷ []); place = 4 }
-
-leads_4 : world_after world_3 made_web ≡ world_4
-unfolding computing
-leads_4 = refl
 
 sound_4 : ¬ HasFailed schemas (codes "app") world_4 stack_4_app
 unfolding computing
@@ -114,10 +95,6 @@ stack_5_app = record stack_4_app { tokens = (record { token = 2; path = (codes "
 abbrev world_5 : World
 world_5 = record world_4 { stacks = (((codes "app"), stack_5_app) ∷ []); token = 2; place = 5 }
 
-leads_5 : world_after world_4 intended_ptr ≡ world_5
-unfolding computing
-leads_5 = refl
-
 may_made_ptr : MayFollow schemas world_5 (2 ∷ []) made_ptr
 unfolding computing
 may_made_ptr = ((codes "app"), stack_5_app, Forward, refl, refl, (refl, refl, lit≤ tt))
@@ -130,10 +107,6 @@ stack_6_app = record stack_5_app { made = (web_1 ∷ ptr_1 ∷ []); tokens = [];
 
 abbrev world_6 : World
 world_6 = record world_5 { stacks = (((codes "app"), stack_6_app) ∷ []); place = 6 }
-
-leads_6 : world_after world_5 made_ptr ≡ world_6
-unfolding computing
-leads_6 = refl
 
 all_done_6 : AllDone stack_6_app
 unfolding computing
@@ -153,10 +126,6 @@ stack_7_app = record stack_6_app { status = status.CreateComplete; held = (web_1
 abbrev world_7 : World
 world_7 = record world_6 { stacks = (((codes "app"), stack_7_app) ∷ []); place = 7 }
 
-leads_7 : world_after world_6 created ≡ world_7
-unfolding computing
-leads_7 = refl
-
 may_updating : MayFollow schemas world_7 [] updating
 unfolding computing
 may_updating = (refl, refl, record { no_flaw = refl; known_types = refl; same_types = refl; imports = no_imports _ _ _ _ refl refl; free = refl; not_in_use = refl; changing = inr (inl refl) })
@@ -166,10 +135,6 @@ stack_8_app = record stack_7_app { status = status.UpdateInProgress; operation =
 
 abbrev world_8 : World
 world_8 = record world_7 { stacks = (((codes "app"), stack_8_app) ∷ []); operation = 2; place = 8 }
-
-leads_8 : world_after world_7 updating ≡ world_8
-unfolding computing
-leads_8 = refl
 
 sound_8 : ¬ HasFailed schemas (codes "app") world_8 stack_8_app
 unfolding computing
@@ -189,10 +154,6 @@ stack_9_app = record stack_8_app { tokens = (record { token = 3; path = (codes "
 abbrev world_9 : World
 world_9 = record world_8 { stacks = (((codes "app"), stack_9_app) ∷ []); token = 3; place = 9 }
 
-leads_9 : world_after world_8 intended_new ≡ world_9
-unfolding computing
-leads_9 = refl
-
 may_made_new : MayFollow schemas world_9 (3 ∷ []) made_new
 unfolding computing
 may_made_new = ((codes "app"), stack_9_app, Forward, refl, refl, (refl, refl, lit≤ tt))
@@ -205,10 +166,6 @@ stack_10_app = record stack_9_app { made = (web_2 ∷ []); tokens = []; events =
 
 abbrev world_10 : World
 world_10 = record world_9 { stacks = (((codes "app"), stack_10_app) ∷ []); place = 10 }
-
-leads_10 : world_after world_9 made_new ≡ world_10
-unfolding computing
-leads_10 = refl
 
 sound_10 : ¬ HasFailed schemas (codes "app") world_10 stack_10_app
 unfolding computing
@@ -228,10 +185,6 @@ stack_11_app = record stack_10_app { tokens = (record { token = 4; path = (codes
 abbrev world_11 : World
 world_11 = record world_10 { stacks = (((codes "app"), stack_11_app) ∷ []); token = 4; place = 11 }
 
-leads_11 : world_after world_10 intended_change ≡ world_11
-unfolding computing
-leads_11 = refl
-
 may_changed_ptr : MayFollow schemas world_11 (4 ∷ []) changed_ptr
 unfolding computing
 may_changed_ptr = ((codes "app"), stack_11_app, Forward, refl, refl, (refl, refl, lit≤ tt))
@@ -244,10 +197,6 @@ stack_12_app = record stack_11_app { held = (web_1 ∷ ptr_2 ∷ []); tokens = [
 
 abbrev world_12 : World
 world_12 = record world_11 { stacks = (((codes "app"), stack_12_app) ∷ []); place = 12 }
-
-leads_12 : world_after world_11 changed_ptr ≡ world_12
-unfolding computing
-leads_12 = refl
 
 all_done_12 : AllDone stack_12_app
 unfolding computing
@@ -270,10 +219,6 @@ stack_13_app = record stack_12_app { status = status.UpdateCompleteCleanupInProg
 abbrev world_13 : World
 world_13 = record world_12 { stacks = (((codes "app"), stack_13_app) ∷ []); place = 13 }
 
-leads_13 : world_after world_12 cleaning ≡ world_13
-unfolding computing
-leads_13 = refl
-
 may_intended_deletion : MayFollow schemas world_13 [] intended_deletion
 unfolding computing
 may_intended_deletion = ((codes "app"), stack_13_app, Clean, refl, refl, record { next = refl; free = refl; home = refl; fits = ((codes "1", refl), refl); no_repeat = refl; chosen = (_, (here, refl, refl), refl, refl, refl) })
@@ -283,10 +228,6 @@ stack_14_app = record stack_13_app { tokens = (record { token = 5; path = (codes
 
 abbrev world_14 : World
 world_14 = record world_13 { stacks = (((codes "app"), stack_14_app) ∷ []); token = 5; place = 14 }
-
-leads_14 : world_after world_13 intended_deletion ≡ world_14
-unfolding computing
-leads_14 = refl
 
 may_deleted : MayFollow schemas world_14 (5 ∷ []) deleted
 unfolding computing
@@ -298,10 +239,6 @@ stack_15_app = record stack_14_app { held = (ptr_2 ∷ web_2 ∷ []); tokens = [
 abbrev world_15 : World
 world_15 = record world_14 { stacks = (((codes "app"), stack_15_app) ∷ []); place = 15 }
 
-leads_15 : world_after world_14 deleted ≡ world_15
-unfolding computing
-leads_15 = refl
-
 may_updated : MayFollow schemas world_15 [] updated
 unfolding computing
 may_updated = ((codes "app"), stack_15_app, Clean, refl, refl, (refl, end_of_clean schemas (codes "app") world_15 stack_15_app refl refl refl refl, tt, refl))
@@ -312,92 +249,65 @@ stack_16_app = record stack_15_app { status = status.UpdateComplete; events = st
 abbrev pub world_16 : World
 world_16 = record world_15 { stacks = (((codes "app"), stack_16_app) ∷ []); place = 16 }
 
-leads_16 : world_after world_15 updated ≡ world_16
+pub until_7 : IsRun empty_world (take 7 run) world_7
 unfolding computing
-leads_16 = refl
+until_7 =
+    step world_1 [] may_opened refl
+    (step world_2 [] may_begun refl
+    (step world_3 [] may_intended_web refl
+    (step world_4 (1 ∷ []) may_made_web refl
+    (step world_5 [] may_intended_ptr refl
+    (step world_6 (2 ∷ []) may_made_ptr refl
+    (step world_7 [] may_created refl ended))))))
 
-abbrev rest_16 : List Entry
-rest_16 = []
+pub until_10 : IsRun empty_world (take 10 run) world_10
+unfolding computing
+until_10 =
+    joined (take 3 (drop 7 run)) until_7
+    (step world_8 [] may_updating refl
+    (step world_9 [] may_intended_new refl
+    (step world_10 (3 ∷ []) may_made_new refl ended)))
 
-abbrev rest_15 : List Entry
-rest_15 = updated ∷ rest_16
+pub until_11 : IsRun empty_world (take 11 run) world_11
+unfolding computing
+until_11 =
+    joined (take 1 (drop 10 run)) until_10
+    (step world_11 [] may_intended_change refl ended)
 
-abbrev rest_14 : List Entry
-rest_14 = deleted ∷ rest_15
+pub until_15 : IsRun empty_world (take 15 run) world_15
+unfolding computing
+until_15 =
+    joined (take 4 (drop 11 run)) until_11
+    (step world_12 (4 ∷ []) may_changed_ptr refl
+    (step world_13 [] may_cleaning refl
+    (step world_14 [] may_intended_deletion refl
+    (step world_15 (5 ∷ []) may_deleted refl ended))))
 
-abbrev rest_13 : List Entry
-rest_13 = intended_deletion ∷ rest_14
-
-abbrev rest_12 : List Entry
-rest_12 = cleaning ∷ rest_13
-
-abbrev rest_11 : List Entry
-rest_11 = changed_ptr ∷ rest_12
-
-abbrev rest_10 : List Entry
-rest_10 = intended_change ∷ rest_11
-
-abbrev rest_9 : List Entry
-rest_9 = made_new ∷ rest_10
-
-abbrev rest_8 : List Entry
-rest_8 = intended_new ∷ rest_9
-
-abbrev rest_7 : List Entry
-rest_7 = updating ∷ rest_8
-
-abbrev rest_6 : List Entry
-rest_6 = created ∷ rest_7
-
-abbrev rest_5 : List Entry
-rest_5 = made_ptr ∷ rest_6
-
-abbrev rest_4 : List Entry
-rest_4 = intended_ptr ∷ rest_5
-
-abbrev rest_3 : List Entry
-rest_3 = made_web ∷ rest_4
-
-abbrev rest_2 : List Entry
-rest_2 = intended_web ∷ rest_3
-
-abbrev rest_1 : List Entry
-rest_1 = begun ∷ rest_2
-
-abbrev rest_0 : List Entry
-rest_0 = opened ∷ rest_1
+pub until_16 : IsRun empty_world run world_16
+unfolding computing
+until_16 =
+    joined (drop 15 run) until_15
+    (step world_16 [] may_updated refl ended)
 
 pub legal : Legal
-legal = legal_step world_0 world_1 opened rest_1 [] may_opened leads_1 (legal_step world_1 world_2 begun rest_2 [] may_begun leads_2 (legal_step world_2 world_3 intended_web rest_3 [] may_intended_web leads_3 (legal_step world_3 world_4 made_web rest_4 (1 ∷ []) may_made_web leads_4 (legal_step world_4 world_5 intended_ptr rest_5 [] may_intended_ptr leads_5 (legal_step world_5 world_6 made_ptr rest_6 (2 ∷ []) may_made_ptr leads_6 (legal_step world_6 world_7 created rest_7 [] may_created leads_7 (legal_step world_7 world_8 updating rest_8 [] may_updating leads_8 (legal_step world_8 world_9 intended_new rest_9 [] may_intended_new leads_9 (legal_step world_9 world_10 made_new rest_10 (3 ∷ []) may_made_new leads_10 (legal_step world_10 world_11 intended_change rest_11 [] may_intended_change leads_11 (legal_step world_11 world_12 changed_ptr rest_12 (4 ∷ []) may_changed_ptr leads_12 (legal_step world_12 world_13 cleaning rest_13 [] may_cleaning leads_13 (legal_step world_13 world_14 intended_deletion rest_14 [] may_intended_deletion leads_14 (legal_step world_14 world_15 deleted rest_15 (5 ∷ []) may_deleted leads_15 (legal_step world_15 world_16 updated rest_16 [] may_updated leads_16 (tt))))))))))))))))
-
-arrives_10 : fold_of empty_world (opened ∷ begun ∷ intended_web ∷ made_web ∷ intended_ptr ∷ made_ptr ∷ created ∷ updating ∷ intended_new ∷ made_new ∷ []) ≡ world_10
-arrives_10 = fold_step world_0 world_1 opened (begun ∷ intended_web ∷ made_web ∷ intended_ptr ∷ made_ptr ∷ created ∷ updating ∷ intended_new ∷ made_new ∷ []) leads_1 (fold_step world_1 world_2 begun (intended_web ∷ made_web ∷ intended_ptr ∷ made_ptr ∷ created ∷ updating ∷ intended_new ∷ made_new ∷ []) leads_2 (fold_step world_2 world_3 intended_web (made_web ∷ intended_ptr ∷ made_ptr ∷ created ∷ updating ∷ intended_new ∷ made_new ∷ []) leads_3 (fold_step world_3 world_4 made_web (intended_ptr ∷ made_ptr ∷ created ∷ updating ∷ intended_new ∷ made_new ∷ []) leads_4 (fold_step world_4 world_5 intended_ptr (made_ptr ∷ created ∷ updating ∷ intended_new ∷ made_new ∷ []) leads_5 (fold_step world_5 world_6 made_ptr (created ∷ updating ∷ intended_new ∷ made_new ∷ []) leads_6 (fold_step world_6 world_7 created (updating ∷ intended_new ∷ made_new ∷ []) leads_7 (fold_step world_7 world_8 updating (intended_new ∷ made_new ∷ []) leads_8 (fold_step world_8 world_9 intended_new (made_new ∷ []) leads_9 (fold_step world_9 world_10 made_new ([]) leads_10 (refl))))))))))
-
-arrives_11 : fold_of empty_world (opened ∷ begun ∷ intended_web ∷ made_web ∷ intended_ptr ∷ made_ptr ∷ created ∷ updating ∷ intended_new ∷ made_new ∷ intended_change ∷ []) ≡ world_11
-arrives_11 = fold_step world_0 world_1 opened (begun ∷ intended_web ∷ made_web ∷ intended_ptr ∷ made_ptr ∷ created ∷ updating ∷ intended_new ∷ made_new ∷ intended_change ∷ []) leads_1 (fold_step world_1 world_2 begun (intended_web ∷ made_web ∷ intended_ptr ∷ made_ptr ∷ created ∷ updating ∷ intended_new ∷ made_new ∷ intended_change ∷ []) leads_2 (fold_step world_2 world_3 intended_web (made_web ∷ intended_ptr ∷ made_ptr ∷ created ∷ updating ∷ intended_new ∷ made_new ∷ intended_change ∷ []) leads_3 (fold_step world_3 world_4 made_web (intended_ptr ∷ made_ptr ∷ created ∷ updating ∷ intended_new ∷ made_new ∷ intended_change ∷ []) leads_4 (fold_step world_4 world_5 intended_ptr (made_ptr ∷ created ∷ updating ∷ intended_new ∷ made_new ∷ intended_change ∷ []) leads_5 (fold_step world_5 world_6 made_ptr (created ∷ updating ∷ intended_new ∷ made_new ∷ intended_change ∷ []) leads_6 (fold_step world_6 world_7 created (updating ∷ intended_new ∷ made_new ∷ intended_change ∷ []) leads_7 (fold_step world_7 world_8 updating (intended_new ∷ made_new ∷ intended_change ∷ []) leads_8 (fold_step world_8 world_9 intended_new (made_new ∷ intended_change ∷ []) leads_9 (fold_step world_9 world_10 made_new (intended_change ∷ []) leads_10 (fold_step world_10 world_11 intended_change ([]) leads_11 (refl)))))))))))
-
-arrives_15 : fold_of empty_world (opened ∷ begun ∷ intended_web ∷ made_web ∷ intended_ptr ∷ made_ptr ∷ created ∷ updating ∷ intended_new ∷ made_new ∷ intended_change ∷ changed_ptr ∷ cleaning ∷ intended_deletion ∷ deleted ∷ []) ≡ world_15
-arrives_15 = fold_step world_0 world_1 opened (begun ∷ intended_web ∷ made_web ∷ intended_ptr ∷ made_ptr ∷ created ∷ updating ∷ intended_new ∷ made_new ∷ intended_change ∷ changed_ptr ∷ cleaning ∷ intended_deletion ∷ deleted ∷ []) leads_1 (fold_step world_1 world_2 begun (intended_web ∷ made_web ∷ intended_ptr ∷ made_ptr ∷ created ∷ updating ∷ intended_new ∷ made_new ∷ intended_change ∷ changed_ptr ∷ cleaning ∷ intended_deletion ∷ deleted ∷ []) leads_2 (fold_step world_2 world_3 intended_web (made_web ∷ intended_ptr ∷ made_ptr ∷ created ∷ updating ∷ intended_new ∷ made_new ∷ intended_change ∷ changed_ptr ∷ cleaning ∷ intended_deletion ∷ deleted ∷ []) leads_3 (fold_step world_3 world_4 made_web (intended_ptr ∷ made_ptr ∷ created ∷ updating ∷ intended_new ∷ made_new ∷ intended_change ∷ changed_ptr ∷ cleaning ∷ intended_deletion ∷ deleted ∷ []) leads_4 (fold_step world_4 world_5 intended_ptr (made_ptr ∷ created ∷ updating ∷ intended_new ∷ made_new ∷ intended_change ∷ changed_ptr ∷ cleaning ∷ intended_deletion ∷ deleted ∷ []) leads_5 (fold_step world_5 world_6 made_ptr (created ∷ updating ∷ intended_new ∷ made_new ∷ intended_change ∷ changed_ptr ∷ cleaning ∷ intended_deletion ∷ deleted ∷ []) leads_6 (fold_step world_6 world_7 created (updating ∷ intended_new ∷ made_new ∷ intended_change ∷ changed_ptr ∷ cleaning ∷ intended_deletion ∷ deleted ∷ []) leads_7 (fold_step world_7 world_8 updating (intended_new ∷ made_new ∷ intended_change ∷ changed_ptr ∷ cleaning ∷ intended_deletion ∷ deleted ∷ []) leads_8 (fold_step world_8 world_9 intended_new (made_new ∷ intended_change ∷ changed_ptr ∷ cleaning ∷ intended_deletion ∷ deleted ∷ []) leads_9 (fold_step world_9 world_10 made_new (intended_change ∷ changed_ptr ∷ cleaning ∷ intended_deletion ∷ deleted ∷ []) leads_10 (fold_step world_10 world_11 intended_change (changed_ptr ∷ cleaning ∷ intended_deletion ∷ deleted ∷ []) leads_11 (fold_step world_11 world_12 changed_ptr (cleaning ∷ intended_deletion ∷ deleted ∷ []) leads_12 (fold_step world_12 world_13 cleaning (intended_deletion ∷ deleted ∷ []) leads_13 (fold_step world_13 world_14 intended_deletion (deleted ∷ []) leads_14 (fold_step world_14 world_15 deleted ([]) leads_15 (refl)))))))))))))))
-
-pub arrives_16 : fold_of empty_world (opened ∷ begun ∷ intended_web ∷ made_web ∷ intended_ptr ∷ made_ptr ∷ created ∷ updating ∷ intended_new ∷ made_new ∷ intended_change ∷ changed_ptr ∷ cleaning ∷ intended_deletion ∷ deleted ∷ updated ∷ []) ≡ world_16
-arrives_16 = fold_step world_0 world_1 opened (begun ∷ intended_web ∷ made_web ∷ intended_ptr ∷ made_ptr ∷ created ∷ updating ∷ intended_new ∷ made_new ∷ intended_change ∷ changed_ptr ∷ cleaning ∷ intended_deletion ∷ deleted ∷ updated ∷ []) leads_1 (fold_step world_1 world_2 begun (intended_web ∷ made_web ∷ intended_ptr ∷ made_ptr ∷ created ∷ updating ∷ intended_new ∷ made_new ∷ intended_change ∷ changed_ptr ∷ cleaning ∷ intended_deletion ∷ deleted ∷ updated ∷ []) leads_2 (fold_step world_2 world_3 intended_web (made_web ∷ intended_ptr ∷ made_ptr ∷ created ∷ updating ∷ intended_new ∷ made_new ∷ intended_change ∷ changed_ptr ∷ cleaning ∷ intended_deletion ∷ deleted ∷ updated ∷ []) leads_3 (fold_step world_3 world_4 made_web (intended_ptr ∷ made_ptr ∷ created ∷ updating ∷ intended_new ∷ made_new ∷ intended_change ∷ changed_ptr ∷ cleaning ∷ intended_deletion ∷ deleted ∷ updated ∷ []) leads_4 (fold_step world_4 world_5 intended_ptr (made_ptr ∷ created ∷ updating ∷ intended_new ∷ made_new ∷ intended_change ∷ changed_ptr ∷ cleaning ∷ intended_deletion ∷ deleted ∷ updated ∷ []) leads_5 (fold_step world_5 world_6 made_ptr (created ∷ updating ∷ intended_new ∷ made_new ∷ intended_change ∷ changed_ptr ∷ cleaning ∷ intended_deletion ∷ deleted ∷ updated ∷ []) leads_6 (fold_step world_6 world_7 created (updating ∷ intended_new ∷ made_new ∷ intended_change ∷ changed_ptr ∷ cleaning ∷ intended_deletion ∷ deleted ∷ updated ∷ []) leads_7 (fold_step world_7 world_8 updating (intended_new ∷ made_new ∷ intended_change ∷ changed_ptr ∷ cleaning ∷ intended_deletion ∷ deleted ∷ updated ∷ []) leads_8 (fold_step world_8 world_9 intended_new (made_new ∷ intended_change ∷ changed_ptr ∷ cleaning ∷ intended_deletion ∷ deleted ∷ updated ∷ []) leads_9 (fold_step world_9 world_10 made_new (intended_change ∷ changed_ptr ∷ cleaning ∷ intended_deletion ∷ deleted ∷ updated ∷ []) leads_10 (fold_step world_10 world_11 intended_change (changed_ptr ∷ cleaning ∷ intended_deletion ∷ deleted ∷ updated ∷ []) leads_11 (fold_step world_11 world_12 changed_ptr (cleaning ∷ intended_deletion ∷ deleted ∷ updated ∷ []) leads_12 (fold_step world_12 world_13 cleaning (intended_deletion ∷ deleted ∷ updated ∷ []) leads_13 (fold_step world_13 world_14 intended_deletion (deleted ∷ updated ∷ []) leads_14 (fold_step world_14 world_15 deleted (updated ∷ []) leads_15 (fold_step world_15 world_16 updated ([]) leads_16 (refl))))))))))))))))
+legal = until_16.legal
 
 pub report_0 : Shows
-report_0 = ap (report_of (codes "app")) arrives_16
+report_0 = ap (report_of (codes "app")) until_16.arrives
 
 may_not_0 : (out : List ℕ) → MayFollow schemas world_10 out (entry.Phase 2 phase.Clean None) → ⊥
 unfolding computing
 may_not_0 = λ out may. let m = follows_on schemas 2 world_10 out (entry.Phase 2 phase.Clean None) ((codes "app"), stack_10_app) Forward refl refl may in (not_done_other (codes "Ptr") stack_10_app (same_at (codes "Value") (codes "f1:1")) _ note (note_props (codes "p") (codes "f1:3")) refl refl refl refl refl refl) (m.1.2 (codes "Ptr") (there here))
 
 pub refused_0 : CleanedTooEarly
-refused_0 = refused_at world_10 (opened ∷ begun ∷ intended_web ∷ made_web ∷ intended_ptr ∷ made_ptr ∷ created ∷ updating ∷ intended_new ∷ made_new ∷ []) (entry.Phase 2 phase.Clean None) arrives_10 may_not_0
+refused_0 = refused_at world_10 (take 10 run) (entry.Phase 2 phase.Clean None) until_10.arrives may_not_0
 
 may_not_1 : (out : List ℕ) → MayFollow schemas world_10 out (entry.Intent 2 4 (codes "f1") (codes "Web") (request.Delete (codes "f1:1"))) → ⊥
 unfolding computing
 may_not_1 = λ out may. let m = follows_on schemas 2 world_10 out (entry.Intent 2 4 (codes "f1") (codes "Web") (request.Delete (codes "f1:1"))) ((codes "app"), stack_10_app) Forward refl refl may in m.chosen.3
 
 pub refused_1 : DeletedBeforeCleanup
-refused_1 = refused_at world_10 (opened ∷ begun ∷ intended_web ∷ made_web ∷ intended_ptr ∷ made_ptr ∷ created ∷ updating ∷ intended_new ∷ made_new ∷ []) (entry.Intent 2 4 (codes "f1") (codes "Web") (request.Delete (codes "f1:1"))) arrives_10 may_not_1
+refused_1 = refused_at world_10 (take 10 run) (entry.Intent 2 4 (codes "f1") (codes "Web") (request.Delete (codes "f1:1"))) until_10.arrives may_not_1
 
 -- The record changes otherwise too.
 may_updating_both : MayFollow schemas world_7 [] updating_both
@@ -409,10 +319,6 @@ stack_b8_app = record stack_7_app { status = status.UpdateInProgress; operation 
 
 abbrev world_b8 : World
 world_b8 = record world_7 { stacks = (((codes "app"), stack_b8_app) ∷ []); operation = 2; place = 8 }
-
-leads_b8 : world_after world_7 updating_both ≡ world_b8
-unfolding computing
-leads_b8 = refl
 
 sound_b8 : ¬ HasFailed schemas (codes "app") world_b8 stack_b8_app
 unfolding computing
@@ -432,10 +338,6 @@ stack_b9_app = record stack_b8_app { tokens = (record { token = 3; path = (codes
 abbrev world_b9 : World
 world_b9 = record world_b8 { stacks = (((codes "app"), stack_b9_app) ∷ []); token = 3; place = 9 }
 
-leads_b9 : world_after world_b8 intended_new ≡ world_b9
-unfolding computing
-leads_b9 = refl
-
 may_b_made_new : MayFollow schemas world_b9 (3 ∷ []) made_new
 unfolding computing
 may_b_made_new = ((codes "app"), stack_b9_app, Forward, refl, refl, (refl, refl, lit≤ tt))
@@ -445,10 +347,6 @@ stack_b10_app = record stack_b9_app { made = (web_2 ∷ []); tokens = []; events
 
 abbrev world_b10 : World
 world_b10 = record world_b9 { stacks = (((codes "app"), stack_b10_app) ∷ []); place = 10 }
-
-leads_b10 : world_after world_b9 made_new ≡ world_b10
-unfolding computing
-leads_b10 = refl
 
 sound_b10 : ¬ HasFailed schemas (codes "app") world_b10 stack_b10_app
 unfolding computing
@@ -462,29 +360,34 @@ may_gets : MayFollow schemas world_b10 [] (gets (codes "f1:3"))
 unfolding computing
 may_gets = ((codes "app"), stack_b10_app, Forward, refl, refl, record { next = refl; free = refl; home = refl; fits = ((codes "2", refl), refl); no_repeat = refl; chosen = (sound_b10, ready_b10_Ptr, not_done_other (codes "Ptr") stack_b10_app (same_at (codes "Value") (codes "f1:1")) _ _ _ refl refl refl refl refl refl, (_, refl, refl, refl, ((λ e. let z : Update ≡ Replace = e in cc), inr (λ e. let z : Update ≡ Same = e in cc)), refl)) })
 
-pub new_id_is_legal : NewIdIsLegal
-new_id_is_legal = legal_step world_0 world_1 opened (begun ∷ intended_web ∷ made_web ∷ intended_ptr ∷ made_ptr ∷ created ∷ updating_both ∷ intended_new ∷ made_new ∷ gets (codes "f1:3") ∷ []) [] may_opened leads_1 (legal_step world_1 world_2 begun (intended_web ∷ made_web ∷ intended_ptr ∷ made_ptr ∷ created ∷ updating_both ∷ intended_new ∷ made_new ∷ gets (codes "f1:3") ∷ []) [] may_begun leads_2 (legal_step world_2 world_3 intended_web (made_web ∷ intended_ptr ∷ made_ptr ∷ created ∷ updating_both ∷ intended_new ∷ made_new ∷ gets (codes "f1:3") ∷ []) [] may_intended_web leads_3 (legal_step world_3 world_4 made_web (intended_ptr ∷ made_ptr ∷ created ∷ updating_both ∷ intended_new ∷ made_new ∷ gets (codes "f1:3") ∷ []) (1 ∷ []) may_made_web leads_4 (legal_step world_4 world_5 intended_ptr (made_ptr ∷ created ∷ updating_both ∷ intended_new ∷ made_new ∷ gets (codes "f1:3") ∷ []) [] may_intended_ptr leads_5 (legal_step world_5 world_6 made_ptr (created ∷ updating_both ∷ intended_new ∷ made_new ∷ gets (codes "f1:3") ∷ []) (2 ∷ []) may_made_ptr leads_6 (legal_step world_6 world_7 created (updating_both ∷ intended_new ∷ made_new ∷ gets (codes "f1:3") ∷ []) [] may_created leads_7 (legal_step world_7 world_b8 updating_both (intended_new ∷ made_new ∷ gets (codes "f1:3") ∷ []) [] may_updating_both leads_b8 (legal_step world_b8 world_b9 intended_new (made_new ∷ gets (codes "f1:3") ∷ []) [] may_b_intended_new leads_b9 (legal_step world_b9 world_b10 made_new (gets (codes "f1:3") ∷ []) (3 ∷ []) may_b_made_new leads_b10 ((([], may_gets), tt)))))))))))
+pub until_b10 : IsRun empty_world until_replaced world_b10
+unfolding computing
+until_b10 =
+    joined (drop 7 until_replaced) until_7
+    (step world_b8 [] may_updating_both refl
+    (step world_b9 [] may_b_intended_new refl
+    (step world_b10 (3 ∷ []) may_b_made_new refl ended)))
 
-arrives_b10 : fold_of empty_world (opened ∷ begun ∷ intended_web ∷ made_web ∷ intended_ptr ∷ made_ptr ∷ created ∷ updating_both ∷ intended_new ∷ made_new ∷ []) ≡ world_b10
-arrives_b10 = fold_step world_0 world_1 opened (begun ∷ intended_web ∷ made_web ∷ intended_ptr ∷ made_ptr ∷ created ∷ updating_both ∷ intended_new ∷ made_new ∷ []) leads_1 (fold_step world_1 world_2 begun (intended_web ∷ made_web ∷ intended_ptr ∷ made_ptr ∷ created ∷ updating_both ∷ intended_new ∷ made_new ∷ []) leads_2 (fold_step world_2 world_3 intended_web (made_web ∷ intended_ptr ∷ made_ptr ∷ created ∷ updating_both ∷ intended_new ∷ made_new ∷ []) leads_3 (fold_step world_3 world_4 made_web (intended_ptr ∷ made_ptr ∷ created ∷ updating_both ∷ intended_new ∷ made_new ∷ []) leads_4 (fold_step world_4 world_5 intended_ptr (made_ptr ∷ created ∷ updating_both ∷ intended_new ∷ made_new ∷ []) leads_5 (fold_step world_5 world_6 made_ptr (created ∷ updating_both ∷ intended_new ∷ made_new ∷ []) leads_6 (fold_step world_6 world_7 created (updating_both ∷ intended_new ∷ made_new ∷ []) leads_7 (fold_step world_7 world_b8 updating_both (intended_new ∷ made_new ∷ []) leads_b8 (fold_step world_b8 world_b9 intended_new (made_new ∷ []) leads_b9 (fold_step world_b9 world_b10 made_new ([]) leads_b10 (refl))))))))))
+pub new_id_is_legal : NewIdIsLegal
+new_id_is_legal = followed (gets (codes "f1:3")) until_b10 [] may_gets
 
 may_not_2 : (out : List ℕ) → MayFollow schemas world_b10 out (gets (codes "f1:1")) → ⊥
 unfolding computing
 may_not_2 = λ out may. let m = follows_on schemas 2 world_b10 out (gets (codes "f1:1")) ((codes "app"), stack_b10_app) Forward refl refl may in true≢false (ap (same_at (codes "Value") (codes "at f1:3")) (known_props m.chosen.3.3))
 
 pub refused_2 : OldIdEvaluated
-refused_2 = refused_at world_b10 until_replaced (gets (codes "f1:1")) arrives_b10 may_not_2
+refused_2 = refused_at world_b10 until_replaced (gets (codes "f1:1")) until_b10.arrives may_not_2
 
 may_not_3 : (out : List ℕ) → MayFollow schemas world_15 out (entry.Done 1 status.UpdateComplete []) → ⊥
 unfolding computing
 may_not_3 = λ out may. follows_none schemas 1 world_15 out (entry.Done 1 status.UpdateComplete []) refl may
 
 pub refused_3 : EndedUnderAnotherNumber
-refused_3 = refused_at world_15 (opened ∷ begun ∷ intended_web ∷ made_web ∷ intended_ptr ∷ made_ptr ∷ created ∷ updating ∷ intended_new ∷ made_new ∷ intended_change ∷ changed_ptr ∷ cleaning ∷ intended_deletion ∷ deleted ∷ []) (entry.Done 1 status.UpdateComplete []) arrives_15 may_not_3
+refused_3 = refused_at world_15 (take 15 run) (entry.Done 1 status.UpdateComplete []) until_15.arrives may_not_3
 
 may_not_4 : (out : List ℕ) → MayFollow schemas world_11 out (entry.Outcome 1 4 (reply.Success (codes "r1:2") (note_attrs (codes "r1:2") 4 (codes "p") (codes "f1:3"))) 0 0) → ⊥
 unfolding computing
 may_not_4 = λ out may. follows_none schemas 1 world_11 out (entry.Outcome 1 4 (reply.Success (codes "r1:2") (note_attrs (codes "r1:2") 4 (codes "p") (codes "f1:3"))) 0 0) refl may
 
 pub refused_4 : AnsweredUnderAnotherNumber
-refused_4 = refused_at world_11 (opened ∷ begun ∷ intended_web ∷ made_web ∷ intended_ptr ∷ made_ptr ∷ created ∷ updating ∷ intended_new ∷ made_new ∷ intended_change ∷ []) (entry.Outcome 1 4 (reply.Success (codes "r1:2") (note_attrs (codes "r1:2") 4 (codes "p") (codes "f1:3"))) 0 0) arrives_11 may_not_4
+refused_4 = refused_at world_11 (take 11 run) (entry.Outcome 1 4 (reply.Success (codes "r1:2") (note_attrs (codes "r1:2") 4 (codes "p") (codes "f1:3"))) 0 0) until_11.arrives may_not_4

@@ -1,213 +1,40 @@
 -- An update is refused at its second resource, and so is the restore of the first: a continued rollback skips it.
-use Rattle.std.proofs.Common.{◌≡◌, refl, List, [], ◌∷◌, ◌++◌, Some, true, false, inl, inr, ap, lit≤, true≢false}
-use Rattle.std.specs.Prelude.{codes}
+use Rattle.std.proofs.Common.{◌≡◌, refl, [], ◌∷◌, ◌++◌, true, false, inl, inr, ap, lit≤, true≢false}
+use Rattle.std.specs.Prelude.{codes, take, drop}
 use Rattle.cf_tree.specs.declared.request.Request.TheVariants as request
 use Rattle.cf_tree.specs.declared.code.Code.TheVariants as code
 use Rattle.cf_entry.specs.declared.turn.Reason.TheVariants as reason
-use Rattle.cf_entry.specs.declared.entry.Entry.{Entry}
 use Rattle.cf_stacks.specs.declared.held.Held.{Held}
 use Rattle.cf_stacks.specs.declared.state.World.{World}
 use Rattle.cf_stacks.specs.declared.state.StackState.{StackState}
-use Rattle.cf_stacks.specs.Fold.{empty_world, world_after, source_for}
+use Rattle.cf_stacks.specs.Fold.{empty_world}
 use Rattle.cf_stacks.specs.Status.{Forward, Back, BackClean}
 use Rattle.cf_schema.specs.declared.changed.Difference.TheVariants.{Same, Update, Replace}
-use Rattle.cf_plan.specs.Forward.{here, there, HasFailed, IsReady, AllDone, IsDone, is_made, is_updated}
+use Rattle.cf_plan.specs.Forward.{here, there, HasFailed, IsReady, IsDone, is_updated}
 use Rattle.cf_plan.specs.Follow.{MayFollow, IsNamedLane}
-use Rattle.cf_examples.specs.Given.{schemas, file, note, file_props, note_props, file_attrs, note_attrs}
+use Rattle.cf_examples.specs.Given.{schemas, file, note, file_props, note_props, file_attrs, lane_pair, report_of}
 use Rattle.cf_examples.proofs.Computing.{computing}
 use Rattle.cf_examples.proofs.Lists.{in_none, only, either}
-use Rattle.cf_examples.proofs.Failing.{not_failed, not_done_new, not_done_other, same_at}
-use Rattle.cf_examples.proofs.Ending.{end_of_create, end_of_back_clean, end_of_undoing, nothing_to_restore}
+use Rattle.cf_examples.proofs.Failing.{not_failed, not_done_other, same_at}
+use Rattle.cf_examples.proofs.Ending.{end_of_back_clean, end_of_undoing, nothing_to_restore}
 use Rattle.cf_tree.specs.declared.template.Deletion.TheVariants as deletion
 use Rattle.cf_tree.specs.declared.template.Replace.TheVariants as replace
 use Rattle.cf_entry.specs.declared.status.Status.TheVariants as status
 use Rattle.cf_stacks.specs.declared.held.HeldStatus.TheVariants as held
-use Rattle.cf_stacks.specs.Fold.{fold_of, no_stack}
-use Rattle.cf_examples.specs.Given.{lane_pair, report_of}
-use Rattle.cf_examples.proofs.Refusing.{are_failed, legal_step, fold_step}
-use Rattle.cf_examples.proofs.Beginning.{no_imports, opens_one}
-use Rattle.cf_examples.specs.RestoreRefused.{first, second, opened, begun, intended_a, made_a, intended_b, made_b, created, updating, intended_change, changed, intended_other, refused, turned, intended_restore, unrestored, failed, opened_again, continued, cleaning, rolled_back, Legal, Fails, Shows}
-
-abbrev world_0 : World
-world_0 = empty_world
-
-may_opened : MayFollow schemas world_0 [] opened
-unfolding computing
-may_opened = (refl, refl, λ name s e. absurd (cc))
-
-abbrev world_1 : World
-world_1 = record world_0 { lanes = (lane_pair (codes "f1") file ∷ lane_pair (codes "r1") note ∷ []); epoch = 1; place = 1 }
-
-leads_1 : world_after world_0 opened ≡ world_1
-unfolding computing
-leads_1 = refl
-
-may_begun : MayFollow schemas world_1 [] begun
-unfolding computing
-may_begun = (refl, refl, record { no_flaw = refl; known_types = refl; same_types = refl; imports = no_imports _ _ _ _ refl refl; free = refl; not_in_use = refl; changing = inl refl })
-
-abbrev stack_2_s : StackState
-stack_2_s = record no_stack { status = status.CreateInProgress; number = 1; operation = 1; going = Some (source_for (codes "s") 1 first); events = ((codes "event 2 - CREATE_IN_PROGRESS") ∷ []); entries = (begun ∷ []) }
-
-abbrev world_2 : World
-world_2 = record world_1 { stacks = (((codes "s"), stack_2_s) ∷ []); operation = 1; place = 2 }
-
-leads_2 : world_after world_1 begun ≡ world_2
-unfolding computing
-leads_2 = refl
-
-sound_2 : ¬ HasFailed schemas (codes "s") world_2 stack_2_s
-unfolding computing
-sound_2 = not_failed schemas (codes "s") world_2 stack_2_s (record { calls = refl; paths = refl; inner = refl; flaws = refl; exports = refl })
-
-ready_2_A : IsReady stack_2_s (codes "A")
-unfolding computing
-ready_2_A = (here, λ q i. absurd (in_none i))
-
-may_intended_a : MayFollow schemas world_2 [] intended_a
-unfolding computing
-may_intended_a = ((codes "s"), stack_2_s, Forward, refl, refl, record { next = refl; free = refl; home = refl; fits = refl; no_repeat = refl; chosen = (sound_2, ready_2_A, not_done_new (codes "A") stack_2_s refl refl refl, (refl, tt)) })
-
-abbrev stack_3_s : StackState
-stack_3_s = record stack_2_s { tokens = (record { token = 1; path = (codes "A"); lane = (codes "f1"); request = (request.Create file (file_props (codes "a") (codes "x"))) } ∷ []); events = stack_2_s.events ++ (codes "event 3 A CREATE_IN_PROGRESS") ∷ []; entries = stack_2_s.entries ++ intended_a ∷ [] }
-
-abbrev world_3 : World
-world_3 = record world_2 { stacks = (((codes "s"), stack_3_s) ∷ []); token = 1; place = 3 }
-
-leads_3 : world_after world_2 intended_a ≡ world_3
-unfolding computing
-leads_3 = refl
-
-may_made_a : MayFollow schemas world_3 (1 ∷ []) made_a
-unfolding computing
-may_made_a = ((codes "s"), stack_3_s, Forward, refl, refl, (refl, refl, lit≤ tt))
-
-abbrev a_1 : Held
-a_1 = record { path = (codes "A"); kind = file; physical = (codes "f1:1"); props = (file_props (codes "a") (codes "x")); attrs = (file_attrs (codes "f1:1") 1 (codes "a") (codes "x")); needs = []; deletion = deletion.Delete; replace = replace.Delete; status = held.CreateComplete; unsure = false; superseded = false }
-
-abbrev stack_4_s : StackState
-stack_4_s = record stack_3_s { made = (a_1 ∷ []); tokens = []; events = stack_3_s.events ++ (codes "event 4 A CREATE_COMPLETE") ∷ []; entries = stack_3_s.entries ++ made_a ∷ [] }
-
-abbrev world_4 : World
-world_4 = record world_3 { stacks = (((codes "s"), stack_4_s) ∷ []); place = 4 }
-
-leads_4 : world_after world_3 made_a ≡ world_4
-unfolding computing
-leads_4 = refl
-
-sound_4 : ¬ HasFailed schemas (codes "s") world_4 stack_4_s
-unfolding computing
-sound_4 = not_failed schemas (codes "s") world_4 stack_4_s (record { calls = refl; paths = refl; inner = refl; flaws = refl; exports = refl })
-
-ready_4_B : IsReady stack_4_s (codes "B")
-unfolding computing
-ready_4_B = (there here, λ q i. only (IsDone stack_4_s) (is_made _ refl) q i)
-
-may_intended_b : MayFollow schemas world_4 [] intended_b
-unfolding computing
-may_intended_b = ((codes "s"), stack_4_s, Forward, refl, refl, record { next = refl; free = refl; home = refl; fits = refl; no_repeat = refl; chosen = (sound_4, ready_4_B, not_done_new (codes "B") stack_4_s refl refl refl, (refl, tt)) })
-
-abbrev stack_5_s : StackState
-stack_5_s = record stack_4_s { tokens = (record { token = 2; path = (codes "B"); lane = (codes "r1"); request = (request.Create note (note_props (codes "b") (codes "u"))) } ∷ []); events = stack_4_s.events ++ (codes "event 5 B CREATE_IN_PROGRESS") ∷ []; entries = stack_4_s.entries ++ intended_b ∷ [] }
-
-abbrev world_5 : World
-world_5 = record world_4 { stacks = (((codes "s"), stack_5_s) ∷ []); token = 2; place = 5 }
-
-leads_5 : world_after world_4 intended_b ≡ world_5
-unfolding computing
-leads_5 = refl
-
-may_made_b : MayFollow schemas world_5 (2 ∷ []) made_b
-unfolding computing
-may_made_b = ((codes "s"), stack_5_s, Forward, refl, refl, (refl, refl, lit≤ tt))
-
-abbrev b_1 : Held
-b_1 = record { path = (codes "B"); kind = note; physical = (codes "r1:2"); props = (note_props (codes "b") (codes "u")); attrs = (note_attrs (codes "r1:2") 1 (codes "b") (codes "u")); needs = ((codes "A") ∷ []); deletion = deletion.Delete; replace = replace.Delete; status = held.CreateComplete; unsure = false; superseded = false }
-
-abbrev stack_6_s : StackState
-stack_6_s = record stack_5_s { made = (a_1 ∷ b_1 ∷ []); tokens = []; events = stack_5_s.events ++ (codes "event 6 B CREATE_COMPLETE") ∷ []; entries = stack_5_s.entries ++ made_b ∷ [] }
-
-abbrev world_6 : World
-world_6 = record world_5 { stacks = (((codes "s"), stack_6_s) ∷ []); place = 6 }
-
-leads_6 : world_after world_5 made_b ≡ world_6
-unfolding computing
-leads_6 = refl
-
-all_done_6 : AllDone stack_6_s
-unfolding computing
-all_done_6 = λ p i. either (IsDone stack_6_s) (is_made _ refl) (is_made _ refl) p i
-
-sound_6 : ¬ HasFailed schemas (codes "s") world_6 stack_6_s
-unfolding computing
-sound_6 = not_failed schemas (codes "s") world_6 stack_6_s (record { calls = refl; paths = refl; inner = refl; flaws = refl; exports = refl })
-
-may_created : MayFollow schemas world_6 [] created
-unfolding computing
-may_created = ((codes "s"), stack_6_s, Forward, refl, refl, (refl, end_of_create schemas (codes "s") world_6 stack_6_s refl all_done_6 sound_6 refl, (sound_6, all_done_6), refl))
-
-abbrev stack_7_s : StackState
-stack_7_s = record stack_6_s { status = status.CreateComplete; held = (a_1 ∷ b_1 ∷ []); made = []; source = Some (source_for (codes "s") 1 first); events = stack_6_s.events ++ (codes "event 7 - CREATE_COMPLETE") ∷ []; entries = stack_6_s.entries ++ created ∷ [] }
-
-abbrev world_7 : World
-world_7 = record world_6 { stacks = (((codes "s"), stack_7_s) ∷ []); place = 7 }
-
-leads_7 : world_after world_6 created ≡ world_7
-unfolding computing
-leads_7 = refl
-
-may_updating : MayFollow schemas world_7 [] updating
-unfolding computing
-may_updating = (refl, refl, record { no_flaw = refl; known_types = refl; same_types = refl; imports = no_imports _ _ _ _ refl refl; free = refl; not_in_use = refl; changing = inr (inl refl) })
-
-abbrev stack_8_s : StackState
-stack_8_s = record stack_7_s { status = status.UpdateInProgress; operation = 2; before = (a_1 ∷ b_1 ∷ []); going = Some (source_for (codes "s") 1 second); events = stack_7_s.events ++ (codes "event 8 - UPDATE_IN_PROGRESS") ∷ []; entries = (updating ∷ []) }
-
-abbrev world_8 : World
-world_8 = record world_7 { stacks = (((codes "s"), stack_8_s) ∷ []); operation = 2; place = 8 }
-
-leads_8 : world_after world_7 updating ≡ world_8
-unfolding computing
-leads_8 = refl
-
-sound_8 : ¬ HasFailed schemas (codes "s") world_8 stack_8_s
-unfolding computing
-sound_8 = not_failed schemas (codes "s") world_8 stack_8_s (record { calls = refl; paths = refl; inner = refl; flaws = refl; exports = refl })
-
-ready_8_A : IsReady stack_8_s (codes "A")
-unfolding computing
-ready_8_A = (here, λ q i. absurd (in_none i))
-
-may_intended_change : MayFollow schemas world_8 [] intended_change
-unfolding computing
-may_intended_change = ((codes "s"), stack_8_s, Forward, refl, refl, record { next = refl; free = refl; home = refl; fits = ((codes "1", refl), refl); no_repeat = refl; chosen = (sound_8, ready_8_A, not_done_other (codes "A") stack_8_s (same_at (codes "Content") (codes "x")) _ _ _ refl refl refl refl refl refl, (_, refl, refl, refl, ((λ e. let z : Update ≡ Replace = e in cc), inr (λ e. let z : Update ≡ Same = e in cc)), refl)) })
-
-abbrev stack_9_s : StackState
-stack_9_s = record stack_8_s { tokens = (record { token = 3; path = (codes "A"); lane = (codes "f1"); request = (request.Update (codes "f1:1") (file_props (codes "a") (codes "y"))) } ∷ []); events = stack_8_s.events ++ (codes "event 9 A UPDATE_IN_PROGRESS") ∷ []; entries = stack_8_s.entries ++ intended_change ∷ [] }
-
-abbrev world_9 : World
-world_9 = record world_8 { stacks = (((codes "s"), stack_9_s) ∷ []); token = 3; place = 9 }
-
-leads_9 : world_after world_8 intended_change ≡ world_9
-unfolding computing
-leads_9 = refl
+use Rattle.cf_examples.proofs.Refusing.{are_failed, IsRun, ended, step, joined}
+use Rattle.cf_examples.proofs.Beginning.{opens_one}
+use Rattle.cf_examples.specs.RestoreRefused.{changed, intended_other, refused, turned, intended_restore, unrestored, failed, opened_again, continued, cleaning, rolled_back, Legal, Fails, Shows, run}
+use Rattle.cf_examples.proofs.FaultRepeated.{until_9, a_2, b_1, stack_9_s, world_9}
 
 may_changed : MayFollow schemas world_9 (3 ∷ []) changed
 unfolding computing
 may_changed = ((codes "s"), stack_9_s, Forward, refl, refl, (refl, refl, lit≤ tt))
-
-abbrev a_2 : Held
-a_2 = record { path = (codes "A"); kind = file; physical = (codes "f1:1"); props = (file_props (codes "a") (codes "y")); attrs = (file_attrs (codes "f1:1") 1 (codes "a") (codes "y")); needs = []; deletion = deletion.Delete; replace = replace.Delete; status = held.UpdateComplete; unsure = false; superseded = false }
 
 abbrev stack_10_s : StackState
 stack_10_s = record stack_9_s { held = (a_2 ∷ b_1 ∷ []); tokens = []; events = stack_9_s.events ++ (codes "event 10 A UPDATE_COMPLETE") ∷ []; entries = stack_9_s.entries ++ changed ∷ [] }
 
 abbrev world_10 : World
 world_10 = record world_9 { stacks = (((codes "s"), stack_10_s) ∷ []); place = 10 }
-
-leads_10 : world_after world_9 changed ≡ world_10
-unfolding computing
-leads_10 = refl
 
 sound_10 : ¬ HasFailed schemas (codes "s") world_10 stack_10_s
 unfolding computing
@@ -227,10 +54,6 @@ stack_11_s = record stack_10_s { tokens = (record { token = 4; path = (codes "B"
 abbrev world_11 : World
 world_11 = record world_10 { stacks = (((codes "s"), stack_11_s) ∷ []); token = 4; place = 11 }
 
-leads_11 : world_after world_10 intended_other ≡ world_11
-unfolding computing
-leads_11 = refl
-
 may_refused : MayFollow schemas world_11 (4 ∷ []) refused
 unfolding computing
 may_refused = ((codes "s"), stack_11_s, Forward, refl, refl, (refl, refl, (lit≤ tt, λ _. lit≤ tt)))
@@ -240,10 +63,6 @@ stack_12_s = record stack_11_s { tokens = []; events = stack_11_s.events ++ (cod
 
 abbrev world_12 : World
 world_12 = record world_11 { stacks = (((codes "s"), stack_12_s) ∷ []); place = 12 }
-
-leads_12 : world_after world_11 refused ≡ world_12
-unfolding computing
-leads_12 = refl
 
 may_turned : MayFollow schemas world_12 [] turned
 unfolding computing
@@ -255,10 +74,6 @@ stack_13_s = record stack_12_s { status = status.UpdateRollbackInProgress; event
 abbrev world_13 : World
 world_13 = record world_12 { stacks = (((codes "s"), stack_13_s) ∷ []); place = 13 }
 
-leads_13 : world_after world_12 turned ≡ world_13
-unfolding computing
-leads_13 = refl
-
 may_intended_restore : MayFollow schemas world_13 [] intended_restore
 unfolding computing
 may_intended_restore = ((codes "s"), stack_13_s, Back, refl, refl, record { next = refl; free = refl; home = refl; fits = ((codes "1", refl), refl); no_repeat = refl; chosen = inr (refl, _, (here, refl, refl, refl), refl, refl, refl, refl) })
@@ -268,10 +83,6 @@ stack_14_s = record stack_13_s { tokens = (record { token = 5; path = (codes "A"
 
 abbrev world_14 : World
 world_14 = record world_13 { stacks = (((codes "s"), stack_14_s) ∷ []); token = 5; place = 14 }
-
-leads_14 : world_after world_13 intended_restore ≡ world_14
-unfolding computing
-leads_14 = refl
 
 may_unrestored : MayFollow schemas world_14 (5 ∷ []) unrestored
 unfolding computing
@@ -286,10 +97,6 @@ stack_15_s = record stack_14_s { held = (a_3 ∷ b_1 ∷ []); tokens = []; event
 abbrev world_15 : World
 world_15 = record world_14 { stacks = (((codes "s"), stack_15_s) ∷ []); place = 15 }
 
-leads_15 : world_after world_14 unrestored ≡ world_15
-unfolding computing
-leads_15 = refl
-
 may_failed : MayFollow schemas world_15 [] failed
 unfolding computing
 may_failed = ((codes "s"), stack_15_s, Back, refl, refl, (refl, end_of_undoing schemas (codes "s") world_15 stack_15_s refl refl (λ e f. true≢false f) refl, tt, (refl, are_failed stack_15_s ((codes "A") ∷ (codes "B") ∷ []) refl refl)))
@@ -300,10 +107,6 @@ stack_16_s = record stack_15_s { status = status.UpdateRollbackFailed; events = 
 abbrev world_16 : World
 world_16 = record world_15 { stacks = (((codes "s"), stack_16_s) ∷ []); place = 16 }
 
-leads_16 : world_after world_15 failed ≡ world_16
-unfolding computing
-leads_16 = refl
-
 may_opened_again : MayFollow schemas world_16 [] opened_again
 unfolding computing
 may_opened_again = (refl, refl, opens_one _ world_16 (codes "s") stack_16_s refl ((λ h i. either (λ (g : Held). IsNamedLane (lane_pair (codes "f1") file ∷ lane_pair (codes "r1") note ∷ []) g.physical g.kind) (lane_pair (codes "f1") file, here, (codes "1", refl), refl) (lane_pair (codes "r1") note, there here, (codes "2", refl), refl) h i), (λ p i. absurd (in_none i))))
@@ -313,10 +116,6 @@ stack_17_s = record stack_16_s { entries = stack_16_s.entries ++ opened_again �
 
 abbrev world_17 : World
 world_17 = record world_16 { stacks = (((codes "s"), stack_17_s) ∷ []); epoch = 2; place = 17 }
-
-leads_17 : world_after world_16 opened_again ≡ world_17
-unfolding computing
-leads_17 = refl
 
 may_continued : MayFollow schemas world_17 [] continued
 unfolding computing
@@ -331,10 +130,6 @@ stack_18_s = record stack_17_s { status = status.UpdateRollbackInProgress; opera
 abbrev world_18 : World
 world_18 = record world_17 { stacks = (((codes "s"), stack_18_s) ∷ []); operation = 3; place = 18 }
 
-leads_18 : world_after world_17 continued ≡ world_18
-unfolding computing
-leads_18 = refl
-
 may_cleaning : MayFollow schemas world_18 [] cleaning
 unfolding computing
 may_cleaning = ((codes "s"), stack_18_s, Back, refl, refl, (refl, (refl, refl, nothing_to_restore stack_18_s refl, refl)))
@@ -344,10 +139,6 @@ stack_19_s = record stack_18_s { status = status.UpdateRollbackCompleteCleanupIn
 
 abbrev world_19 : World
 world_19 = record world_18 { stacks = (((codes "s"), stack_19_s) ∷ []); place = 19 }
-
-leads_19 : world_after world_18 cleaning ≡ world_19
-unfolding computing
-leads_19 = refl
 
 may_rolled_back : MayFollow schemas world_19 [] rolled_back
 unfolding computing
@@ -359,84 +150,32 @@ stack_20_s = record stack_19_s { status = status.UpdateRollbackComplete; events 
 abbrev world_20 : World
 world_20 = record world_19 { stacks = (((codes "s"), stack_20_s) ∷ []); place = 20 }
 
-leads_20 : world_after world_19 rolled_back ≡ world_20
+pub until_16 : IsRun empty_world (take 16 run) world_16
 unfolding computing
-leads_20 = refl
+until_16 =
+    joined (take 7 (drop 9 run)) until_9
+    (step world_10 (3 ∷ []) may_changed refl
+    (step world_11 [] may_intended_other refl
+    (step world_12 (4 ∷ []) may_refused refl
+    (step world_13 [] may_turned refl
+    (step world_14 [] may_intended_restore refl
+    (step world_15 (5 ∷ []) may_unrestored refl
+    (step world_16 [] may_failed refl ended)))))))
 
-abbrev rest_20 : List Entry
-rest_20 = []
-
-abbrev rest_19 : List Entry
-rest_19 = rolled_back ∷ rest_20
-
-abbrev rest_18 : List Entry
-rest_18 = cleaning ∷ rest_19
-
-abbrev rest_17 : List Entry
-rest_17 = continued ∷ rest_18
-
-abbrev rest_16 : List Entry
-rest_16 = opened_again ∷ rest_17
-
-abbrev rest_15 : List Entry
-rest_15 = failed ∷ rest_16
-
-abbrev rest_14 : List Entry
-rest_14 = unrestored ∷ rest_15
-
-abbrev rest_13 : List Entry
-rest_13 = intended_restore ∷ rest_14
-
-abbrev rest_12 : List Entry
-rest_12 = turned ∷ rest_13
-
-abbrev rest_11 : List Entry
-rest_11 = refused ∷ rest_12
-
-abbrev rest_10 : List Entry
-rest_10 = intended_other ∷ rest_11
-
-abbrev rest_9 : List Entry
-rest_9 = changed ∷ rest_10
-
-abbrev rest_8 : List Entry
-rest_8 = intended_change ∷ rest_9
-
-abbrev rest_7 : List Entry
-rest_7 = updating ∷ rest_8
-
-abbrev rest_6 : List Entry
-rest_6 = created ∷ rest_7
-
-abbrev rest_5 : List Entry
-rest_5 = made_b ∷ rest_6
-
-abbrev rest_4 : List Entry
-rest_4 = intended_b ∷ rest_5
-
-abbrev rest_3 : List Entry
-rest_3 = made_a ∷ rest_4
-
-abbrev rest_2 : List Entry
-rest_2 = intended_a ∷ rest_3
-
-abbrev rest_1 : List Entry
-rest_1 = begun ∷ rest_2
-
-abbrev rest_0 : List Entry
-rest_0 = opened ∷ rest_1
+pub until_20 : IsRun empty_world run world_20
+unfolding computing
+until_20 =
+    joined (drop 16 run) until_16
+    (step world_17 [] may_opened_again refl
+    (step world_18 [] may_continued refl
+    (step world_19 [] may_cleaning refl
+    (step world_20 [] may_rolled_back refl ended))))
 
 pub legal : Legal
-legal = legal_step world_0 world_1 opened rest_1 [] may_opened leads_1 (legal_step world_1 world_2 begun rest_2 [] may_begun leads_2 (legal_step world_2 world_3 intended_a rest_3 [] may_intended_a leads_3 (legal_step world_3 world_4 made_a rest_4 (1 ∷ []) may_made_a leads_4 (legal_step world_4 world_5 intended_b rest_5 [] may_intended_b leads_5 (legal_step world_5 world_6 made_b rest_6 (2 ∷ []) may_made_b leads_6 (legal_step world_6 world_7 created rest_7 [] may_created leads_7 (legal_step world_7 world_8 updating rest_8 [] may_updating leads_8 (legal_step world_8 world_9 intended_change rest_9 [] may_intended_change leads_9 (legal_step world_9 world_10 changed rest_10 (3 ∷ []) may_changed leads_10 (legal_step world_10 world_11 intended_other rest_11 [] may_intended_other leads_11 (legal_step world_11 world_12 refused rest_12 (4 ∷ []) may_refused leads_12 (legal_step world_12 world_13 turned rest_13 [] may_turned leads_13 (legal_step world_13 world_14 intended_restore rest_14 [] may_intended_restore leads_14 (legal_step world_14 world_15 unrestored rest_15 (5 ∷ []) may_unrestored leads_15 (legal_step world_15 world_16 failed rest_16 [] may_failed leads_16 (legal_step world_16 world_17 opened_again rest_17 [] may_opened_again leads_17 (legal_step world_17 world_18 continued rest_18 [] may_continued leads_18 (legal_step world_18 world_19 cleaning rest_19 [] may_cleaning leads_19 (legal_step world_19 world_20 rolled_back rest_20 [] may_rolled_back leads_20 (tt))))))))))))))))))))
-
-arrives_16 : fold_of empty_world (opened ∷ begun ∷ intended_a ∷ made_a ∷ intended_b ∷ made_b ∷ created ∷ updating ∷ intended_change ∷ changed ∷ intended_other ∷ refused ∷ turned ∷ intended_restore ∷ unrestored ∷ failed ∷ []) ≡ world_16
-arrives_16 = fold_step world_0 world_1 opened (begun ∷ intended_a ∷ made_a ∷ intended_b ∷ made_b ∷ created ∷ updating ∷ intended_change ∷ changed ∷ intended_other ∷ refused ∷ turned ∷ intended_restore ∷ unrestored ∷ failed ∷ []) leads_1 (fold_step world_1 world_2 begun (intended_a ∷ made_a ∷ intended_b ∷ made_b ∷ created ∷ updating ∷ intended_change ∷ changed ∷ intended_other ∷ refused ∷ turned ∷ intended_restore ∷ unrestored ∷ failed ∷ []) leads_2 (fold_step world_2 world_3 intended_a (made_a ∷ intended_b ∷ made_b ∷ created ∷ updating ∷ intended_change ∷ changed ∷ intended_other ∷ refused ∷ turned ∷ intended_restore ∷ unrestored ∷ failed ∷ []) leads_3 (fold_step world_3 world_4 made_a (intended_b ∷ made_b ∷ created ∷ updating ∷ intended_change ∷ changed ∷ intended_other ∷ refused ∷ turned ∷ intended_restore ∷ unrestored ∷ failed ∷ []) leads_4 (fold_step world_4 world_5 intended_b (made_b ∷ created ∷ updating ∷ intended_change ∷ changed ∷ intended_other ∷ refused ∷ turned ∷ intended_restore ∷ unrestored ∷ failed ∷ []) leads_5 (fold_step world_5 world_6 made_b (created ∷ updating ∷ intended_change ∷ changed ∷ intended_other ∷ refused ∷ turned ∷ intended_restore ∷ unrestored ∷ failed ∷ []) leads_6 (fold_step world_6 world_7 created (updating ∷ intended_change ∷ changed ∷ intended_other ∷ refused ∷ turned ∷ intended_restore ∷ unrestored ∷ failed ∷ []) leads_7 (fold_step world_7 world_8 updating (intended_change ∷ changed ∷ intended_other ∷ refused ∷ turned ∷ intended_restore ∷ unrestored ∷ failed ∷ []) leads_8 (fold_step world_8 world_9 intended_change (changed ∷ intended_other ∷ refused ∷ turned ∷ intended_restore ∷ unrestored ∷ failed ∷ []) leads_9 (fold_step world_9 world_10 changed (intended_other ∷ refused ∷ turned ∷ intended_restore ∷ unrestored ∷ failed ∷ []) leads_10 (fold_step world_10 world_11 intended_other (refused ∷ turned ∷ intended_restore ∷ unrestored ∷ failed ∷ []) leads_11 (fold_step world_11 world_12 refused (turned ∷ intended_restore ∷ unrestored ∷ failed ∷ []) leads_12 (fold_step world_12 world_13 turned (intended_restore ∷ unrestored ∷ failed ∷ []) leads_13 (fold_step world_13 world_14 intended_restore (unrestored ∷ failed ∷ []) leads_14 (fold_step world_14 world_15 unrestored (failed ∷ []) leads_15 (fold_step world_15 world_16 failed ([]) leads_16 (refl))))))))))))))))
-
-arrives_20 : fold_of empty_world (opened ∷ begun ∷ intended_a ∷ made_a ∷ intended_b ∷ made_b ∷ created ∷ updating ∷ intended_change ∷ changed ∷ intended_other ∷ refused ∷ turned ∷ intended_restore ∷ unrestored ∷ failed ∷ opened_again ∷ continued ∷ cleaning ∷ rolled_back ∷ []) ≡ world_20
-arrives_20 = fold_step world_0 world_1 opened (begun ∷ intended_a ∷ made_a ∷ intended_b ∷ made_b ∷ created ∷ updating ∷ intended_change ∷ changed ∷ intended_other ∷ refused ∷ turned ∷ intended_restore ∷ unrestored ∷ failed ∷ opened_again ∷ continued ∷ cleaning ∷ rolled_back ∷ []) leads_1 (fold_step world_1 world_2 begun (intended_a ∷ made_a ∷ intended_b ∷ made_b ∷ created ∷ updating ∷ intended_change ∷ changed ∷ intended_other ∷ refused ∷ turned ∷ intended_restore ∷ unrestored ∷ failed ∷ opened_again ∷ continued ∷ cleaning ∷ rolled_back ∷ []) leads_2 (fold_step world_2 world_3 intended_a (made_a ∷ intended_b ∷ made_b ∷ created ∷ updating ∷ intended_change ∷ changed ∷ intended_other ∷ refused ∷ turned ∷ intended_restore ∷ unrestored ∷ failed ∷ opened_again ∷ continued ∷ cleaning ∷ rolled_back ∷ []) leads_3 (fold_step world_3 world_4 made_a (intended_b ∷ made_b ∷ created ∷ updating ∷ intended_change ∷ changed ∷ intended_other ∷ refused ∷ turned ∷ intended_restore ∷ unrestored ∷ failed ∷ opened_again ∷ continued ∷ cleaning ∷ rolled_back ∷ []) leads_4 (fold_step world_4 world_5 intended_b (made_b ∷ created ∷ updating ∷ intended_change ∷ changed ∷ intended_other ∷ refused ∷ turned ∷ intended_restore ∷ unrestored ∷ failed ∷ opened_again ∷ continued ∷ cleaning ∷ rolled_back ∷ []) leads_5 (fold_step world_5 world_6 made_b (created ∷ updating ∷ intended_change ∷ changed ∷ intended_other ∷ refused ∷ turned ∷ intended_restore ∷ unrestored ∷ failed ∷ opened_again ∷ continued ∷ cleaning ∷ rolled_back ∷ []) leads_6 (fold_step world_6 world_7 created (updating ∷ intended_change ∷ changed ∷ intended_other ∷ refused ∷ turned ∷ intended_restore ∷ unrestored ∷ failed ∷ opened_again ∷ continued ∷ cleaning ∷ rolled_back ∷ []) leads_7 (fold_step world_7 world_8 updating (intended_change ∷ changed ∷ intended_other ∷ refused ∷ turned ∷ intended_restore ∷ unrestored ∷ failed ∷ opened_again ∷ continued ∷ cleaning ∷ rolled_back ∷ []) leads_8 (fold_step world_8 world_9 intended_change (changed ∷ intended_other ∷ refused ∷ turned ∷ intended_restore ∷ unrestored ∷ failed ∷ opened_again ∷ continued ∷ cleaning ∷ rolled_back ∷ []) leads_9 (fold_step world_9 world_10 changed (intended_other ∷ refused ∷ turned ∷ intended_restore ∷ unrestored ∷ failed ∷ opened_again ∷ continued ∷ cleaning ∷ rolled_back ∷ []) leads_10 (fold_step world_10 world_11 intended_other (refused ∷ turned ∷ intended_restore ∷ unrestored ∷ failed ∷ opened_again ∷ continued ∷ cleaning ∷ rolled_back ∷ []) leads_11 (fold_step world_11 world_12 refused (turned ∷ intended_restore ∷ unrestored ∷ failed ∷ opened_again ∷ continued ∷ cleaning ∷ rolled_back ∷ []) leads_12 (fold_step world_12 world_13 turned (intended_restore ∷ unrestored ∷ failed ∷ opened_again ∷ continued ∷ cleaning ∷ rolled_back ∷ []) leads_13 (fold_step world_13 world_14 intended_restore (unrestored ∷ failed ∷ opened_again ∷ continued ∷ cleaning ∷ rolled_back ∷ []) leads_14 (fold_step world_14 world_15 unrestored (failed ∷ opened_again ∷ continued ∷ cleaning ∷ rolled_back ∷ []) leads_15 (fold_step world_15 world_16 failed (opened_again ∷ continued ∷ cleaning ∷ rolled_back ∷ []) leads_16 (fold_step world_16 world_17 opened_again (continued ∷ cleaning ∷ rolled_back ∷ []) leads_17 (fold_step world_17 world_18 continued (cleaning ∷ rolled_back ∷ []) leads_18 (fold_step world_18 world_19 cleaning (rolled_back ∷ []) leads_19 (fold_step world_19 world_20 rolled_back ([]) leads_20 (refl))))))))))))))))))))
+legal = until_20.legal
 
 pub report_0 : Fails
-report_0 = ap (report_of (codes "s")) arrives_16
+report_0 = ap (report_of (codes "s")) until_16.arrives
 
 pub report_1 : Shows
-report_1 = ap (report_of (codes "s")) arrives_20
+report_1 = ap (report_of (codes "s")) until_20.arrives

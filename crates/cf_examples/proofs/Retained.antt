@@ -1,18 +1,17 @@
 -- A stack is deleted: what needs the file goes first, and the file is kept by its policy.
 use Rattle.std.proofs.Common.{◌≡◌, refl, List, [], ◌∷◌, ◌++◌, Some, None, false, ℕ, inl, inr, ap, lit≤, true≢false}
-use Rattle.std.specs.Prelude.{codes}
+use Rattle.std.specs.Prelude.{codes, take, drop}
 use Rattle.cf_plan.specs.Between.{is_needed_by_held}
 use Rattle.std.specs.Str.{bytes_eq}
 use Rattle.cf_tree.specs.declared.request.Request.TheVariants as request
-use Rattle.cf_entry.specs.declared.entry.Entry.{Entry}
 use Rattle.cf_stacks.specs.declared.held.Held.{Held}
 use Rattle.cf_stacks.specs.declared.state.World.{World}
 use Rattle.cf_stacks.specs.declared.state.StackState.{StackState}
-use Rattle.cf_stacks.specs.Fold.{empty_world, world_after, source_for}
+use Rattle.cf_stacks.specs.Fold.{empty_world, source_for, no_stack}
 use Rattle.cf_stacks.specs.Status.{Forward, Gone}
 use Rattle.cf_plan.specs.Forward.{here, there, HasFailed, IsReady, AllDone, IsDone, is_made}
 use Rattle.cf_plan.specs.Follow.{MayFollow}
-use Rattle.cf_examples.specs.Given.{schemas, file, note, file_props, note_props, file_attrs, note_attrs}
+use Rattle.cf_examples.specs.Given.{schemas, file, note, file_props, note_props, file_attrs, note_attrs, lane_pair, report_of}
 use Rattle.cf_examples.proofs.Computing.{computing}
 use Rattle.cf_examples.proofs.Lists.{in_none, only, either, not_empty}
 use Rattle.cf_examples.proofs.Failing.{not_failed, not_done_new}
@@ -23,11 +22,9 @@ use Rattle.cf_entry.specs.declared.entry.Entry.TheVariants as entry
 use Rattle.cf_entry.specs.declared.status.Status.TheVariants as status
 use Rattle.cf_entry.specs.declared.turn.Why.TheVariants as why
 use Rattle.cf_stacks.specs.declared.held.HeldStatus.TheVariants as held
-use Rattle.cf_stacks.specs.Fold.{fold_of, no_stack}
-use Rattle.cf_examples.specs.Given.{lane_pair, report_of}
-use Rattle.cf_examples.proofs.Refusing.{follows_on, legal_step, fold_step, refused_at}
+use Rattle.cf_examples.proofs.Refusing.{follows_on, refused_at, IsRun, ended, step, joined}
 use Rattle.cf_examples.proofs.Beginning.{no_imports}
-use Rattle.cf_examples.specs.Retained.{first, opened, begun, intended_a, made_a, intended_b, made_b, created, deleting, intended_deletion, deleted_b, kept, deleted, Legal, Shows, KeptTooEarly}
+use Rattle.cf_examples.specs.Retained.{first, opened, begun, intended_a, made_a, intended_b, made_b, created, deleting, intended_deletion, deleted_b, kept, deleted, Legal, Shows, KeptTooEarly, run}
 
 abbrev world_0 : World
 world_0 = empty_world
@@ -39,10 +36,6 @@ may_opened = (refl, refl, λ name s e. absurd (cc))
 abbrev world_1 : World
 world_1 = record world_0 { lanes = (lane_pair (codes "f1") file ∷ lane_pair (codes "r1") note ∷ []); epoch = 1; place = 1 }
 
-leads_1 : world_after world_0 opened ≡ world_1
-unfolding computing
-leads_1 = refl
-
 may_begun : MayFollow schemas world_1 [] begun
 unfolding computing
 may_begun = (refl, refl, record { no_flaw = refl; known_types = refl; same_types = refl; imports = no_imports _ _ _ _ refl refl; free = refl; not_in_use = refl; changing = inl refl })
@@ -52,10 +45,6 @@ stack_2_s = record no_stack { status = status.CreateInProgress; number = 1; oper
 
 abbrev world_2 : World
 world_2 = record world_1 { stacks = (((codes "s"), stack_2_s) ∷ []); operation = 1; place = 2 }
-
-leads_2 : world_after world_1 begun ≡ world_2
-unfolding computing
-leads_2 = refl
 
 sound_2 : ¬ HasFailed schemas (codes "s") world_2 stack_2_s
 unfolding computing
@@ -75,10 +64,6 @@ stack_3_s = record stack_2_s { tokens = (record { token = 1; path = (codes "A");
 abbrev world_3 : World
 world_3 = record world_2 { stacks = (((codes "s"), stack_3_s) ∷ []); token = 1; place = 3 }
 
-leads_3 : world_after world_2 intended_a ≡ world_3
-unfolding computing
-leads_3 = refl
-
 may_made_a : MayFollow schemas world_3 (1 ∷ []) made_a
 unfolding computing
 may_made_a = ((codes "s"), stack_3_s, Forward, refl, refl, (refl, refl, lit≤ tt))
@@ -91,10 +76,6 @@ stack_4_s = record stack_3_s { made = (a_1 ∷ []); tokens = []; events = stack_
 
 abbrev world_4 : World
 world_4 = record world_3 { stacks = (((codes "s"), stack_4_s) ∷ []); place = 4 }
-
-leads_4 : world_after world_3 made_a ≡ world_4
-unfolding computing
-leads_4 = refl
 
 sound_4 : ¬ HasFailed schemas (codes "s") world_4 stack_4_s
 unfolding computing
@@ -114,10 +95,6 @@ stack_5_s = record stack_4_s { tokens = (record { token = 2; path = (codes "B");
 abbrev world_5 : World
 world_5 = record world_4 { stacks = (((codes "s"), stack_5_s) ∷ []); token = 2; place = 5 }
 
-leads_5 : world_after world_4 intended_b ≡ world_5
-unfolding computing
-leads_5 = refl
-
 may_made_b : MayFollow schemas world_5 (2 ∷ []) made_b
 unfolding computing
 may_made_b = ((codes "s"), stack_5_s, Forward, refl, refl, (refl, refl, lit≤ tt))
@@ -130,10 +107,6 @@ stack_6_s = record stack_5_s { made = (a_1 ∷ b_1 ∷ []); tokens = []; events 
 
 abbrev world_6 : World
 world_6 = record world_5 { stacks = (((codes "s"), stack_6_s) ∷ []); place = 6 }
-
-leads_6 : world_after world_5 made_b ≡ world_6
-unfolding computing
-leads_6 = refl
 
 all_done_6 : AllDone stack_6_s
 unfolding computing
@@ -153,10 +126,6 @@ stack_7_s = record stack_6_s { status = status.CreateComplete; held = (a_1 ∷ b
 abbrev world_7 : World
 world_7 = record world_6 { stacks = (((codes "s"), stack_7_s) ∷ []); place = 7 }
 
-leads_7 : world_after world_6 created ≡ world_7
-unfolding computing
-leads_7 = refl
-
 may_deleting : MayFollow schemas world_7 [] deleting
 unfolding computing
 may_deleting = (refl, refl, (refl, refl, refl))
@@ -166,10 +135,6 @@ stack_8_s = record stack_7_s { status = status.DeleteInProgress; operation = 2; 
 
 abbrev world_8 : World
 world_8 = record world_7 { stacks = (((codes "s"), stack_8_s) ∷ []); operation = 2; place = 8 }
-
-leads_8 : world_after world_7 deleting ≡ world_8
-unfolding computing
-leads_8 = refl
 
 may_intended_deletion : MayFollow schemas world_8 [] intended_deletion
 unfolding computing
@@ -181,10 +146,6 @@ stack_9_s = record stack_8_s { tokens = (record { token = 3; path = (codes "B");
 abbrev world_9 : World
 world_9 = record world_8 { stacks = (((codes "s"), stack_9_s) ∷ []); token = 3; place = 9 }
 
-leads_9 : world_after world_8 intended_deletion ≡ world_9
-unfolding computing
-leads_9 = refl
-
 may_deleted_b : MayFollow schemas world_9 (3 ∷ []) deleted_b
 unfolding computing
 may_deleted_b = ((codes "s"), stack_9_s, Gone, refl, refl, (refl, refl, lit≤ tt))
@@ -194,10 +155,6 @@ stack_10_s = record stack_9_s { held = (a_1 ∷ []); tokens = []; events = stack
 
 abbrev world_10 : World
 world_10 = record world_9 { stacks = (((codes "s"), stack_10_s) ∷ []); place = 10 }
-
-leads_10 : world_after world_9 deleted_b ≡ world_10
-unfolding computing
-leads_10 = refl
 
 may_kept : MayFollow schemas world_10 [] kept
 unfolding computing
@@ -209,10 +166,6 @@ stack_11_s = record stack_10_s { held = []; leftovers = (record { path = (codes 
 abbrev world_11 : World
 world_11 = record world_10 { stacks = (((codes "s"), stack_11_s) ∷ []); place = 11 }
 
-leads_11 : world_after world_10 kept ≡ world_11
-unfolding computing
-leads_11 = refl
-
 may_deleted : MayFollow schemas world_11 [] deleted
 unfolding computing
 may_deleted = ((codes "s"), stack_11_s, Gone, refl, refl, (refl, end_of_deletion schemas (codes "s") world_11 stack_11_s refl refl refl, refl, refl))
@@ -223,64 +176,36 @@ stack_12_s = record stack_11_s { status = status.DeleteComplete; source = None; 
 abbrev world_12 : World
 world_12 = record world_11 { stacks = (((codes "s"), stack_12_s) ∷ []); place = 12 }
 
-leads_12 : world_after world_11 deleted ≡ world_12
+pub until_8 : IsRun empty_world (take 8 run) world_8
 unfolding computing
-leads_12 = refl
+until_8 =
+    step world_1 [] may_opened refl
+    (step world_2 [] may_begun refl
+    (step world_3 [] may_intended_a refl
+    (step world_4 (1 ∷ []) may_made_a refl
+    (step world_5 [] may_intended_b refl
+    (step world_6 (2 ∷ []) may_made_b refl
+    (step world_7 [] may_created refl
+    (step world_8 [] may_deleting refl ended)))))))
 
-abbrev rest_12 : List Entry
-rest_12 = []
-
-abbrev rest_11 : List Entry
-rest_11 = deleted ∷ rest_12
-
-abbrev rest_10 : List Entry
-rest_10 = kept ∷ rest_11
-
-abbrev rest_9 : List Entry
-rest_9 = deleted_b ∷ rest_10
-
-abbrev rest_8 : List Entry
-rest_8 = intended_deletion ∷ rest_9
-
-abbrev rest_7 : List Entry
-rest_7 = deleting ∷ rest_8
-
-abbrev rest_6 : List Entry
-rest_6 = created ∷ rest_7
-
-abbrev rest_5 : List Entry
-rest_5 = made_b ∷ rest_6
-
-abbrev rest_4 : List Entry
-rest_4 = intended_b ∷ rest_5
-
-abbrev rest_3 : List Entry
-rest_3 = made_a ∷ rest_4
-
-abbrev rest_2 : List Entry
-rest_2 = intended_a ∷ rest_3
-
-abbrev rest_1 : List Entry
-rest_1 = begun ∷ rest_2
-
-abbrev rest_0 : List Entry
-rest_0 = opened ∷ rest_1
+pub until_12 : IsRun empty_world run world_12
+unfolding computing
+until_12 =
+    joined (drop 8 run) until_8
+    (step world_9 [] may_intended_deletion refl
+    (step world_10 (3 ∷ []) may_deleted_b refl
+    (step world_11 [] may_kept refl
+    (step world_12 [] may_deleted refl ended))))
 
 pub legal : Legal
-legal = legal_step world_0 world_1 opened rest_1 [] may_opened leads_1 (legal_step world_1 world_2 begun rest_2 [] may_begun leads_2 (legal_step world_2 world_3 intended_a rest_3 [] may_intended_a leads_3 (legal_step world_3 world_4 made_a rest_4 (1 ∷ []) may_made_a leads_4 (legal_step world_4 world_5 intended_b rest_5 [] may_intended_b leads_5 (legal_step world_5 world_6 made_b rest_6 (2 ∷ []) may_made_b leads_6 (legal_step world_6 world_7 created rest_7 [] may_created leads_7 (legal_step world_7 world_8 deleting rest_8 [] may_deleting leads_8 (legal_step world_8 world_9 intended_deletion rest_9 [] may_intended_deletion leads_9 (legal_step world_9 world_10 deleted_b rest_10 (3 ∷ []) may_deleted_b leads_10 (legal_step world_10 world_11 kept rest_11 [] may_kept leads_11 (legal_step world_11 world_12 deleted rest_12 [] may_deleted leads_12 (tt))))))))))))
-
-arrives_8 : fold_of empty_world (opened ∷ begun ∷ intended_a ∷ made_a ∷ intended_b ∷ made_b ∷ created ∷ deleting ∷ []) ≡ world_8
-arrives_8 = fold_step world_0 world_1 opened (begun ∷ intended_a ∷ made_a ∷ intended_b ∷ made_b ∷ created ∷ deleting ∷ []) leads_1 (fold_step world_1 world_2 begun (intended_a ∷ made_a ∷ intended_b ∷ made_b ∷ created ∷ deleting ∷ []) leads_2 (fold_step world_2 world_3 intended_a (made_a ∷ intended_b ∷ made_b ∷ created ∷ deleting ∷ []) leads_3 (fold_step world_3 world_4 made_a (intended_b ∷ made_b ∷ created ∷ deleting ∷ []) leads_4 (fold_step world_4 world_5 intended_b (made_b ∷ created ∷ deleting ∷ []) leads_5 (fold_step world_5 world_6 made_b (created ∷ deleting ∷ []) leads_6 (fold_step world_6 world_7 created (deleting ∷ []) leads_7 (fold_step world_7 world_8 deleting ([]) leads_8 (refl))))))))
-
-pub arrives_12 : fold_of empty_world (opened ∷ begun ∷ intended_a ∷ made_a ∷ intended_b ∷ made_b ∷ created ∷ deleting ∷ intended_deletion ∷ deleted_b ∷ kept ∷ deleted ∷ []) ≡ world_12
-arrives_12 = fold_step world_0 world_1 opened (begun ∷ intended_a ∷ made_a ∷ intended_b ∷ made_b ∷ created ∷ deleting ∷ intended_deletion ∷ deleted_b ∷ kept ∷ deleted ∷ []) leads_1 (fold_step world_1 world_2 begun (intended_a ∷ made_a ∷ intended_b ∷ made_b ∷ created ∷ deleting ∷ intended_deletion ∷ deleted_b ∷ kept ∷ deleted ∷ []) leads_2 (fold_step world_2 world_3 intended_a (made_a ∷ intended_b ∷ made_b ∷ created ∷ deleting ∷ intended_deletion ∷ deleted_b ∷ kept ∷ deleted ∷ []) leads_3 (fold_step world_3 world_4 made_a (intended_b ∷ made_b ∷ created ∷ deleting ∷ intended_deletion ∷ deleted_b ∷ kept ∷ deleted ∷ []) leads_4 (fold_step world_4 world_5 intended_b (made_b ∷ created ∷ deleting ∷ intended_deletion ∷ deleted_b ∷ kept ∷ deleted ∷ []) leads_5 (fold_step world_5 world_6 made_b (created ∷ deleting ∷ intended_deletion ∷ deleted_b ∷ kept ∷ deleted ∷ []) leads_6 (fold_step world_6 world_7 created (deleting ∷ intended_deletion ∷ deleted_b ∷ kept ∷ deleted ∷ []) leads_7 (fold_step world_7 world_8 deleting (intended_deletion ∷ deleted_b ∷ kept ∷ deleted ∷ []) leads_8 (fold_step world_8 world_9 intended_deletion (deleted_b ∷ kept ∷ deleted ∷ []) leads_9 (fold_step world_9 world_10 deleted_b (kept ∷ deleted ∷ []) leads_10 (fold_step world_10 world_11 kept (deleted ∷ []) leads_11 (fold_step world_11 world_12 deleted ([]) leads_12 (refl))))))))))))
+legal = until_12.legal
 
 pub report_0 : Shows
-report_0 = ap (report_of (codes "s")) arrives_12
+report_0 = ap (report_of (codes "s")) until_12.arrives
 
 may_not_0 : (out : List ℕ) → MayFollow schemas world_8 out (entry.Kept 2 (codes "A") (codes "f1:1") why.Retained) → ⊥
 unfolding computing
 may_not_0 = λ out may. let m = follows_on schemas 2 world_8 out (entry.Kept 2 (codes "A") (codes "f1:1") why.Retained) ((codes "s"), stack_8_s) Gone refl refl may in elim m [ inl d ↦ either (λ (h : Held). codes "f1:1" ≡ h.physical → is_needed_by_held stack_8_s h ≡ false → ⊥) (λ e f. true≢false f) (λ e f. true≢false (ap (bytes_eq (codes "f1:1")) e)) d.0 d.1.0 d.5 d.1.2 | inr d ↦ not_empty (codes "f1:1") refl d.1 ]
 
 pub refused_0 : KeptTooEarly
-refused_0 = refused_at world_8 (opened ∷ begun ∷ intended_a ∷ made_a ∷ intended_b ∷ made_b ∷ created ∷ deleting ∷ []) (entry.Kept 2 (codes "A") (codes "f1:1") why.Retained) arrives_8 may_not_0
+refused_0 = refused_at world_8 (take 8 run) (entry.Kept 2 (codes "A") (codes "f1:1") why.Retained) until_8.arrives may_not_0

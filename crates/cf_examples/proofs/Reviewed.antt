@@ -1,16 +1,15 @@
 -- A change set: another path replaces the file, and what refers to it may be replaced.
-use Rattle.std.proofs.Common.{◌≡◌, refl, List, [], ◌∷◌, ◌++◌, Some, true, false, ℕ, inl, inr, sym, ap, lit≤}
-use Rattle.std.specs.Prelude.{codes}
+use Rattle.std.proofs.Common.{refl, List, [], ◌∷◌, ◌++◌, Some, true, false, ℕ, inl, inr, sym, ap, lit≤}
+use Rattle.std.specs.Prelude.{codes, take, drop}
 use Rattle.cf_tree.specs.declared.request.Request.TheVariants as request
-use Rattle.cf_entry.specs.declared.entry.Entry.{Entry}
 use Rattle.cf_stacks.specs.declared.held.Held.{Held}
 use Rattle.cf_stacks.specs.declared.state.World.{World}
 use Rattle.cf_stacks.specs.declared.state.StackState.{StackState}
-use Rattle.cf_stacks.specs.Fold.{empty_world, world_after, source_for}
+use Rattle.cf_stacks.specs.Fold.{empty_world, source_for, no_stack}
 use Rattle.cf_stacks.specs.Status.{Forward, Clean}
 use Rattle.cf_plan.specs.Forward.{here, there, HasFailed, IsReady, AllDone, IsDone, is_made}
 use Rattle.cf_plan.specs.Follow.{MayFollow}
-use Rattle.cf_examples.specs.Given.{schemas, file, note, file_props, note_props, file_attrs, note_attrs}
+use Rattle.cf_examples.specs.Given.{schemas, file, note, file_props, note_props, file_attrs, note_attrs, lane_pair, report_of}
 use Rattle.cf_examples.proofs.Computing.{computing}
 use Rattle.cf_examples.proofs.Lists.{in_none, only, either, not_empty}
 use Rattle.cf_examples.proofs.Failing.{not_failed, not_done_new, not_done_other, same_at}
@@ -20,11 +19,9 @@ use Rattle.cf_tree.specs.declared.template.Replace.TheVariants as replace
 use Rattle.cf_entry.specs.declared.entry.Entry.TheVariants as entry
 use Rattle.cf_entry.specs.declared.status.Status.TheVariants as status
 use Rattle.cf_stacks.specs.declared.held.HeldStatus.TheVariants as held
-use Rattle.cf_stacks.specs.Fold.{fold_of, no_stack}
-use Rattle.cf_examples.specs.Given.{lane_pair, report_of}
-use Rattle.cf_examples.proofs.Refusing.{legal_step, fold_step, refused_at}
+use Rattle.cf_examples.proofs.Refusing.{refused_at, IsRun, ended, step, joined}
 use Rattle.cf_examples.proofs.Beginning.{no_imports}
-use Rattle.cf_examples.specs.Reviewed.{first, second, rows, opened, begun, intended_web, made_web, intended_rec, made_rec, created, reviewed, Legal, Shows, OtherRows, updating, intended_web_new, made_web_new, intended_rec_new, made_rec_new, cleaning, intended_rec_gone, rec_gone, intended_web_gone, web_gone, updated, CarriedOutIsLegal, ShowsCarriedOut}
+use Rattle.cf_examples.specs.Reviewed.{run_carried_out, first, second, rows, opened, begun, intended_web, made_web, intended_rec, made_rec, created, reviewed, Legal, Shows, OtherRows, updating, intended_web_new, made_web_new, intended_rec_new, made_rec_new, cleaning, intended_rec_gone, rec_gone, intended_web_gone, web_gone, updated, CarriedOutIsLegal, ShowsCarriedOut, run}
 
 abbrev world_0 : World
 world_0 = empty_world
@@ -36,10 +33,6 @@ may_opened = (refl, refl, λ name s e. absurd (cc))
 abbrev world_1 : World
 world_1 = record world_0 { lanes = (lane_pair (codes "f1") file ∷ lane_pair (codes "r1") note ∷ []); epoch = 1; place = 1 }
 
-leads_1 : world_after world_0 opened ≡ world_1
-unfolding computing
-leads_1 = refl
-
 may_begun : MayFollow schemas world_1 [] begun
 unfolding computing
 may_begun = (refl, refl, record { no_flaw = refl; known_types = refl; same_types = refl; imports = no_imports _ _ _ _ refl refl; free = refl; not_in_use = refl; changing = inl refl })
@@ -49,10 +42,6 @@ stack_2_app = record no_stack { status = status.CreateInProgress; number = 1; op
 
 abbrev world_2 : World
 world_2 = record world_1 { stacks = (((codes "app"), stack_2_app) ∷ []); operation = 1; place = 2 }
-
-leads_2 : world_after world_1 begun ≡ world_2
-unfolding computing
-leads_2 = refl
 
 sound_2 : ¬ HasFailed schemas (codes "app") world_2 stack_2_app
 unfolding computing
@@ -72,10 +61,6 @@ stack_3_app = record stack_2_app { tokens = (record { token = 1; path = (codes "
 abbrev world_3 : World
 world_3 = record world_2 { stacks = (((codes "app"), stack_3_app) ∷ []); token = 1; place = 3 }
 
-leads_3 : world_after world_2 intended_web ≡ world_3
-unfolding computing
-leads_3 = refl
-
 may_made_web : MayFollow schemas world_3 (1 ∷ []) made_web
 unfolding computing
 may_made_web = ((codes "app"), stack_3_app, Forward, refl, refl, (refl, refl, lit≤ tt))
@@ -88,10 +73,6 @@ stack_4_app = record stack_3_app { made = (web_1 ∷ []); tokens = []; events = 
 
 abbrev world_4 : World
 world_4 = record world_3 { stacks = (((codes "app"), stack_4_app) ∷ []); place = 4 }
-
-leads_4 : world_after world_3 made_web ≡ world_4
-unfolding computing
-leads_4 = refl
 
 sound_4 : ¬ HasFailed schemas (codes "app") world_4 stack_4_app
 unfolding computing
@@ -111,10 +92,6 @@ stack_5_app = record stack_4_app { tokens = (record { token = 2; path = (codes "
 abbrev world_5 : World
 world_5 = record world_4 { stacks = (((codes "app"), stack_5_app) ∷ []); token = 2; place = 5 }
 
-leads_5 : world_after world_4 intended_rec ≡ world_5
-unfolding computing
-leads_5 = refl
-
 may_made_rec : MayFollow schemas world_5 (2 ∷ []) made_rec
 unfolding computing
 may_made_rec = ((codes "app"), stack_5_app, Forward, refl, refl, (refl, refl, lit≤ tt))
@@ -127,10 +104,6 @@ stack_6_app = record stack_5_app { made = (web_1 ∷ rec_1 ∷ []); tokens = [];
 
 abbrev world_6 : World
 world_6 = record world_5 { stacks = (((codes "app"), stack_6_app) ∷ []); place = 6 }
-
-leads_6 : world_after world_5 made_rec ≡ world_6
-unfolding computing
-leads_6 = refl
 
 all_done_6 : AllDone stack_6_app
 unfolding computing
@@ -150,10 +123,6 @@ stack_7_app = record stack_6_app { status = status.CreateComplete; held = (web_1
 abbrev world_7 : World
 world_7 = record world_6 { stacks = (((codes "app"), stack_7_app) ∷ []); place = 7 }
 
-leads_7 : world_after world_6 created ≡ world_7
-unfolding computing
-leads_7 = refl
-
 may_reviewed : MayFollow schemas world_7 [] reviewed
 unfolding computing
 may_reviewed = (refl, refl, record { accepted = record { no_flaw = refl; known_types = refl; same_types = refl; imports = no_imports _ _ _ _ refl refl; free = refl; not_in_use = refl; changing = inr (inl refl) }; changing = inl refl; rows_are = refl; outputs_are = refl })
@@ -164,55 +133,35 @@ stack_8_app = record stack_7_app { sets = (record { number = 1; source = source_
 abbrev world_8 : World
 world_8 = record world_7 { stacks = (((codes "app"), stack_8_app) ∷ []); set = 1; place = 8 }
 
-leads_8 : world_after world_7 reviewed ≡ world_8
+pub until_7 : IsRun empty_world (take 7 run) world_7
 unfolding computing
-leads_8 = refl
+until_7 =
+    step world_1 [] may_opened refl
+    (step world_2 [] may_begun refl
+    (step world_3 [] may_intended_web refl
+    (step world_4 (1 ∷ []) may_made_web refl
+    (step world_5 [] may_intended_rec refl
+    (step world_6 (2 ∷ []) may_made_rec refl
+    (step world_7 [] may_created refl ended))))))
 
-abbrev rest_8 : List Entry
-rest_8 = []
-
-abbrev rest_7 : List Entry
-rest_7 = reviewed ∷ rest_8
-
-abbrev rest_6 : List Entry
-rest_6 = created ∷ rest_7
-
-abbrev rest_5 : List Entry
-rest_5 = made_rec ∷ rest_6
-
-abbrev rest_4 : List Entry
-rest_4 = intended_rec ∷ rest_5
-
-abbrev rest_3 : List Entry
-rest_3 = made_web ∷ rest_4
-
-abbrev rest_2 : List Entry
-rest_2 = intended_web ∷ rest_3
-
-abbrev rest_1 : List Entry
-rest_1 = begun ∷ rest_2
-
-abbrev rest_0 : List Entry
-rest_0 = opened ∷ rest_1
+pub until_8 : IsRun empty_world run world_8
+unfolding computing
+until_8 =
+    joined (drop 7 run) until_7
+    (step world_8 [] may_reviewed refl ended)
 
 pub legal : Legal
-legal = legal_step world_0 world_1 opened rest_1 [] may_opened leads_1 (legal_step world_1 world_2 begun rest_2 [] may_begun leads_2 (legal_step world_2 world_3 intended_web rest_3 [] may_intended_web leads_3 (legal_step world_3 world_4 made_web rest_4 (1 ∷ []) may_made_web leads_4 (legal_step world_4 world_5 intended_rec rest_5 [] may_intended_rec leads_5 (legal_step world_5 world_6 made_rec rest_6 (2 ∷ []) may_made_rec leads_6 (legal_step world_6 world_7 created rest_7 [] may_created leads_7 (legal_step world_7 world_8 reviewed rest_8 [] may_reviewed leads_8 (tt))))))))
-
-arrives_7 : fold_of empty_world (opened ∷ begun ∷ intended_web ∷ made_web ∷ intended_rec ∷ made_rec ∷ created ∷ []) ≡ world_7
-arrives_7 = fold_step world_0 world_1 opened (begun ∷ intended_web ∷ made_web ∷ intended_rec ∷ made_rec ∷ created ∷ []) leads_1 (fold_step world_1 world_2 begun (intended_web ∷ made_web ∷ intended_rec ∷ made_rec ∷ created ∷ []) leads_2 (fold_step world_2 world_3 intended_web (made_web ∷ intended_rec ∷ made_rec ∷ created ∷ []) leads_3 (fold_step world_3 world_4 made_web (intended_rec ∷ made_rec ∷ created ∷ []) leads_4 (fold_step world_4 world_5 intended_rec (made_rec ∷ created ∷ []) leads_5 (fold_step world_5 world_6 made_rec (created ∷ []) leads_6 (fold_step world_6 world_7 created ([]) leads_7 (refl)))))))
-
-arrives_8 : fold_of empty_world (opened ∷ begun ∷ intended_web ∷ made_web ∷ intended_rec ∷ made_rec ∷ created ∷ reviewed ∷ []) ≡ world_8
-arrives_8 = fold_step world_0 world_1 opened (begun ∷ intended_web ∷ made_web ∷ intended_rec ∷ made_rec ∷ created ∷ reviewed ∷ []) leads_1 (fold_step world_1 world_2 begun (intended_web ∷ made_web ∷ intended_rec ∷ made_rec ∷ created ∷ reviewed ∷ []) leads_2 (fold_step world_2 world_3 intended_web (made_web ∷ intended_rec ∷ made_rec ∷ created ∷ reviewed ∷ []) leads_3 (fold_step world_3 world_4 made_web (intended_rec ∷ made_rec ∷ created ∷ reviewed ∷ []) leads_4 (fold_step world_4 world_5 intended_rec (made_rec ∷ created ∷ reviewed ∷ []) leads_5 (fold_step world_5 world_6 made_rec (created ∷ reviewed ∷ []) leads_6 (fold_step world_6 world_7 created (reviewed ∷ []) leads_7 (fold_step world_7 world_8 reviewed ([]) leads_8 (refl))))))))
+legal = until_8.legal
 
 pub report_0 : Shows
-report_0 = ap (report_of (codes "app")) arrives_8
+report_0 = ap (report_of (codes "app")) until_8.arrives
 
 may_not_0 : (out : List ℕ) → MayFollow schemas world_7 out (entry.ChangeSet 1 (codes "app") second [] false) → ⊥
 unfolding computing
 may_not_0 = λ out may. not_empty rows refl (sym may.2.rows_are)
 
 pub refused_0 : OtherRows
-refused_0 = refused_at world_7 (opened ∷ begun ∷ intended_web ∷ made_web ∷ intended_rec ∷ made_rec ∷ created ∷ []) (entry.ChangeSet 1 (codes "app") second [] false) arrives_7 may_not_0
+refused_0 = refused_at world_7 (take 7 run) (entry.ChangeSet 1 (codes "app") second [] false) until_7.arrives may_not_0
 
 may_updating : MayFollow schemas world_8 [] updating
 unfolding computing
@@ -223,10 +172,6 @@ stack_9_app = record stack_8_app { status = status.UpdateInProgress; operation =
 
 abbrev world_9 : World
 world_9 = record world_8 { stacks = (((codes "app"), stack_9_app) ∷ []); operation = 2; place = 9 }
-
-leads_9 : world_after world_8 updating ≡ world_9
-unfolding computing
-leads_9 = refl
 
 sound_9 : ¬ HasFailed schemas (codes "app") world_9 stack_9_app
 unfolding computing
@@ -246,10 +191,6 @@ stack_10_app = record stack_9_app { tokens = (record { token = 3; path = (codes 
 abbrev world_10 : World
 world_10 = record world_9 { stacks = (((codes "app"), stack_10_app) ∷ []); token = 3; place = 10 }
 
-leads_10 : world_after world_9 intended_web_new ≡ world_10
-unfolding computing
-leads_10 = refl
-
 abbrev web_2 : Held
 web_2 = record { path = (codes "Web"); kind = file; physical = (codes "f1:3"); props = (file_props (codes "b") (codes "x")); attrs = (file_attrs (codes "f1:3") 1 (codes "b") (codes "x")); needs = []; deletion = deletion.Delete; replace = replace.Delete; status = held.UpdateComplete; unsure = false; superseded = false }
 
@@ -262,10 +203,6 @@ stack_11_app = record stack_10_app { made = (web_2 ∷ []); tokens = []; events 
 
 abbrev world_11 : World
 world_11 = record world_10 { stacks = (((codes "app"), stack_11_app) ∷ []); place = 11 }
-
-leads_11 : world_after world_10 made_web_new ≡ world_11
-unfolding computing
-leads_11 = refl
 
 sound_11 : ¬ HasFailed schemas (codes "app") world_11 stack_11_app
 unfolding computing
@@ -285,10 +222,6 @@ stack_12_app = record stack_11_app { tokens = (record { token = 4; path = (codes
 abbrev world_12 : World
 world_12 = record world_11 { stacks = (((codes "app"), stack_12_app) ∷ []); token = 4; place = 12 }
 
-leads_12 : world_after world_11 intended_rec_new ≡ world_12
-unfolding computing
-leads_12 = refl
-
 abbrev rec_2 : Held
 rec_2 = record { path = (codes "Rec"); kind = note; physical = (codes "r1:4"); props = (note_props (codes "f1:3") (codes "v")); attrs = (note_attrs (codes "r1:4") 1 (codes "f1:3") (codes "v")); needs = ((codes "Web") ∷ []); deletion = deletion.Delete; replace = replace.Delete; status = held.UpdateComplete; unsure = false; superseded = false }
 
@@ -301,10 +234,6 @@ stack_13_app = record stack_12_app { made = (web_2 ∷ rec_2 ∷ []); tokens = [
 
 abbrev world_13 : World
 world_13 = record world_12 { stacks = (((codes "app"), stack_13_app) ∷ []); place = 13 }
-
-leads_13 : world_after world_12 made_rec_new ≡ world_13
-unfolding computing
-leads_13 = refl
 
 all_done_13 : AllDone stack_13_app
 unfolding computing
@@ -330,10 +259,6 @@ stack_14_app = record stack_13_app { status = status.UpdateCompleteCleanupInProg
 abbrev world_14 : World
 world_14 = record world_13 { stacks = (((codes "app"), stack_14_app) ∷ []); place = 14 }
 
-leads_14 : world_after world_13 cleaning ≡ world_14
-unfolding computing
-leads_14 = refl
-
 may_intended_rec_gone : MayFollow schemas world_14 [] intended_rec_gone
 unfolding computing
 may_intended_rec_gone = ((codes "app"), stack_14_app, Clean, refl, refl, record { next = refl; free = refl; home = refl; fits = ((codes "2", refl), refl); no_repeat = refl; chosen = (_, (there here, refl, refl), refl, refl, refl) })
@@ -343,10 +268,6 @@ stack_15_app = record stack_14_app { tokens = (record { token = 5; path = (codes
 
 abbrev world_15 : World
 world_15 = record world_14 { stacks = (((codes "app"), stack_15_app) ∷ []); token = 5; place = 15 }
-
-leads_15 : world_after world_14 intended_rec_gone ≡ world_15
-unfolding computing
-leads_15 = refl
 
 may_rec_gone : MayFollow schemas world_15 (5 ∷ []) rec_gone
 unfolding computing
@@ -358,10 +279,6 @@ stack_16_app = record stack_15_app { held = (web_3 ∷ web_2 ∷ rec_2 ∷ []); 
 abbrev world_16 : World
 world_16 = record world_15 { stacks = (((codes "app"), stack_16_app) ∷ []); place = 16 }
 
-leads_16 : world_after world_15 rec_gone ≡ world_16
-unfolding computing
-leads_16 = refl
-
 may_intended_web_gone : MayFollow schemas world_16 [] intended_web_gone
 unfolding computing
 may_intended_web_gone = ((codes "app"), stack_16_app, Clean, refl, refl, record { next = refl; free = refl; home = refl; fits = ((codes "1", refl), refl); no_repeat = refl; chosen = (_, (here, refl, refl), refl, refl, refl) })
@@ -371,10 +288,6 @@ stack_17_app = record stack_16_app { tokens = (record { token = 6; path = (codes
 
 abbrev world_17 : World
 world_17 = record world_16 { stacks = (((codes "app"), stack_17_app) ∷ []); token = 6; place = 17 }
-
-leads_17 : world_after world_16 intended_web_gone ≡ world_17
-unfolding computing
-leads_17 = refl
 
 may_web_gone : MayFollow schemas world_17 (6 ∷ []) web_gone
 unfolding computing
@@ -386,10 +299,6 @@ stack_18_app = record stack_17_app { held = (web_2 ∷ rec_2 ∷ []); tokens = [
 abbrev world_18 : World
 world_18 = record world_17 { stacks = (((codes "app"), stack_18_app) ∷ []); place = 18 }
 
-leads_18 : world_after world_17 web_gone ≡ world_18
-unfolding computing
-leads_18 = refl
-
 may_updated : MayFollow schemas world_18 [] updated
 unfolding computing
 may_updated = ((codes "app"), stack_18_app, Clean, refl, refl, (refl, end_of_clean schemas (codes "app") world_18 stack_18_app refl refl refl refl, tt, refl))
@@ -400,15 +309,24 @@ stack_19_app = record stack_18_app { status = status.UpdateComplete; events = st
 abbrev world_19 : World
 world_19 = record world_18 { stacks = (((codes "app"), stack_19_app) ∷ []); place = 19 }
 
-leads_19 : world_after world_18 updated ≡ world_19
+pub until_19 : IsRun empty_world run_carried_out world_19
 unfolding computing
-leads_19 = refl
+until_19 =
+    joined (drop 8 run_carried_out) until_8
+    (step world_9 [] may_updating refl
+    (step world_10 [] may_intended_web_new refl
+    (step world_11 (3 ∷ []) may_made_web_new refl
+    (step world_12 [] may_intended_rec_new refl
+    (step world_13 (4 ∷ []) may_made_rec_new refl
+    (step world_14 [] may_cleaning refl
+    (step world_15 [] may_intended_rec_gone refl
+    (step world_16 (5 ∷ []) may_rec_gone refl
+    (step world_17 [] may_intended_web_gone refl
+    (step world_18 (6 ∷ []) may_web_gone refl
+    (step world_19 [] may_updated refl ended)))))))))))
 
 pub carried_out : CarriedOutIsLegal
-carried_out = legal_step world_0 world_1 opened (begun ∷ intended_web ∷ made_web ∷ intended_rec ∷ made_rec ∷ created ∷ reviewed ∷ updating ∷ intended_web_new ∷ made_web_new ∷ intended_rec_new ∷ made_rec_new ∷ cleaning ∷ intended_rec_gone ∷ rec_gone ∷ intended_web_gone ∷ web_gone ∷ updated ∷ []) [] may_opened leads_1 (legal_step world_1 world_2 begun (intended_web ∷ made_web ∷ intended_rec ∷ made_rec ∷ created ∷ reviewed ∷ updating ∷ intended_web_new ∷ made_web_new ∷ intended_rec_new ∷ made_rec_new ∷ cleaning ∷ intended_rec_gone ∷ rec_gone ∷ intended_web_gone ∷ web_gone ∷ updated ∷ []) [] may_begun leads_2 (legal_step world_2 world_3 intended_web (made_web ∷ intended_rec ∷ made_rec ∷ created ∷ reviewed ∷ updating ∷ intended_web_new ∷ made_web_new ∷ intended_rec_new ∷ made_rec_new ∷ cleaning ∷ intended_rec_gone ∷ rec_gone ∷ intended_web_gone ∷ web_gone ∷ updated ∷ []) [] may_intended_web leads_3 (legal_step world_3 world_4 made_web (intended_rec ∷ made_rec ∷ created ∷ reviewed ∷ updating ∷ intended_web_new ∷ made_web_new ∷ intended_rec_new ∷ made_rec_new ∷ cleaning ∷ intended_rec_gone ∷ rec_gone ∷ intended_web_gone ∷ web_gone ∷ updated ∷ []) (1 ∷ []) may_made_web leads_4 (legal_step world_4 world_5 intended_rec (made_rec ∷ created ∷ reviewed ∷ updating ∷ intended_web_new ∷ made_web_new ∷ intended_rec_new ∷ made_rec_new ∷ cleaning ∷ intended_rec_gone ∷ rec_gone ∷ intended_web_gone ∷ web_gone ∷ updated ∷ []) [] may_intended_rec leads_5 (legal_step world_5 world_6 made_rec (created ∷ reviewed ∷ updating ∷ intended_web_new ∷ made_web_new ∷ intended_rec_new ∷ made_rec_new ∷ cleaning ∷ intended_rec_gone ∷ rec_gone ∷ intended_web_gone ∷ web_gone ∷ updated ∷ []) (2 ∷ []) may_made_rec leads_6 (legal_step world_6 world_7 created (reviewed ∷ updating ∷ intended_web_new ∷ made_web_new ∷ intended_rec_new ∷ made_rec_new ∷ cleaning ∷ intended_rec_gone ∷ rec_gone ∷ intended_web_gone ∷ web_gone ∷ updated ∷ []) [] may_created leads_7 (legal_step world_7 world_8 reviewed (updating ∷ intended_web_new ∷ made_web_new ∷ intended_rec_new ∷ made_rec_new ∷ cleaning ∷ intended_rec_gone ∷ rec_gone ∷ intended_web_gone ∷ web_gone ∷ updated ∷ []) [] may_reviewed leads_8 (legal_step world_8 world_9 updating (intended_web_new ∷ made_web_new ∷ intended_rec_new ∷ made_rec_new ∷ cleaning ∷ intended_rec_gone ∷ rec_gone ∷ intended_web_gone ∷ web_gone ∷ updated ∷ []) [] may_updating leads_9 (legal_step world_9 world_10 intended_web_new (made_web_new ∷ intended_rec_new ∷ made_rec_new ∷ cleaning ∷ intended_rec_gone ∷ rec_gone ∷ intended_web_gone ∷ web_gone ∷ updated ∷ []) [] may_intended_web_new leads_10 (legal_step world_10 world_11 made_web_new (intended_rec_new ∷ made_rec_new ∷ cleaning ∷ intended_rec_gone ∷ rec_gone ∷ intended_web_gone ∷ web_gone ∷ updated ∷ []) (3 ∷ []) may_made_web_new leads_11 (legal_step world_11 world_12 intended_rec_new (made_rec_new ∷ cleaning ∷ intended_rec_gone ∷ rec_gone ∷ intended_web_gone ∷ web_gone ∷ updated ∷ []) [] may_intended_rec_new leads_12 (legal_step world_12 world_13 made_rec_new (cleaning ∷ intended_rec_gone ∷ rec_gone ∷ intended_web_gone ∷ web_gone ∷ updated ∷ []) (4 ∷ []) may_made_rec_new leads_13 (legal_step world_13 world_14 cleaning (intended_rec_gone ∷ rec_gone ∷ intended_web_gone ∷ web_gone ∷ updated ∷ []) [] may_cleaning leads_14 (legal_step world_14 world_15 intended_rec_gone (rec_gone ∷ intended_web_gone ∷ web_gone ∷ updated ∷ []) [] may_intended_rec_gone leads_15 (legal_step world_15 world_16 rec_gone (intended_web_gone ∷ web_gone ∷ updated ∷ []) (5 ∷ []) may_rec_gone leads_16 (legal_step world_16 world_17 intended_web_gone (web_gone ∷ updated ∷ []) [] may_intended_web_gone leads_17 (legal_step world_17 world_18 web_gone (updated ∷ []) (6 ∷ []) may_web_gone leads_18 (legal_step world_18 world_19 updated ([]) [] may_updated leads_19 (tt)))))))))))))))))))
-
-arrives_19 : fold_of empty_world (opened ∷ begun ∷ intended_web ∷ made_web ∷ intended_rec ∷ made_rec ∷ created ∷ reviewed ∷ updating ∷ intended_web_new ∷ made_web_new ∷ intended_rec_new ∷ made_rec_new ∷ cleaning ∷ intended_rec_gone ∷ rec_gone ∷ intended_web_gone ∷ web_gone ∷ updated ∷ []) ≡ world_19
-arrives_19 = fold_step world_0 world_1 opened (begun ∷ intended_web ∷ made_web ∷ intended_rec ∷ made_rec ∷ created ∷ reviewed ∷ updating ∷ intended_web_new ∷ made_web_new ∷ intended_rec_new ∷ made_rec_new ∷ cleaning ∷ intended_rec_gone ∷ rec_gone ∷ intended_web_gone ∷ web_gone ∷ updated ∷ []) leads_1 (fold_step world_1 world_2 begun (intended_web ∷ made_web ∷ intended_rec ∷ made_rec ∷ created ∷ reviewed ∷ updating ∷ intended_web_new ∷ made_web_new ∷ intended_rec_new ∷ made_rec_new ∷ cleaning ∷ intended_rec_gone ∷ rec_gone ∷ intended_web_gone ∷ web_gone ∷ updated ∷ []) leads_2 (fold_step world_2 world_3 intended_web (made_web ∷ intended_rec ∷ made_rec ∷ created ∷ reviewed ∷ updating ∷ intended_web_new ∷ made_web_new ∷ intended_rec_new ∷ made_rec_new ∷ cleaning ∷ intended_rec_gone ∷ rec_gone ∷ intended_web_gone ∷ web_gone ∷ updated ∷ []) leads_3 (fold_step world_3 world_4 made_web (intended_rec ∷ made_rec ∷ created ∷ reviewed ∷ updating ∷ intended_web_new ∷ made_web_new ∷ intended_rec_new ∷ made_rec_new ∷ cleaning ∷ intended_rec_gone ∷ rec_gone ∷ intended_web_gone ∷ web_gone ∷ updated ∷ []) leads_4 (fold_step world_4 world_5 intended_rec (made_rec ∷ created ∷ reviewed ∷ updating ∷ intended_web_new ∷ made_web_new ∷ intended_rec_new ∷ made_rec_new ∷ cleaning ∷ intended_rec_gone ∷ rec_gone ∷ intended_web_gone ∷ web_gone ∷ updated ∷ []) leads_5 (fold_step world_5 world_6 made_rec (created ∷ reviewed ∷ updating ∷ intended_web_new ∷ made_web_new ∷ intended_rec_new ∷ made_rec_new ∷ cleaning ∷ intended_rec_gone ∷ rec_gone ∷ intended_web_gone ∷ web_gone ∷ updated ∷ []) leads_6 (fold_step world_6 world_7 created (reviewed ∷ updating ∷ intended_web_new ∷ made_web_new ∷ intended_rec_new ∷ made_rec_new ∷ cleaning ∷ intended_rec_gone ∷ rec_gone ∷ intended_web_gone ∷ web_gone ∷ updated ∷ []) leads_7 (fold_step world_7 world_8 reviewed (updating ∷ intended_web_new ∷ made_web_new ∷ intended_rec_new ∷ made_rec_new ∷ cleaning ∷ intended_rec_gone ∷ rec_gone ∷ intended_web_gone ∷ web_gone ∷ updated ∷ []) leads_8 (fold_step world_8 world_9 updating (intended_web_new ∷ made_web_new ∷ intended_rec_new ∷ made_rec_new ∷ cleaning ∷ intended_rec_gone ∷ rec_gone ∷ intended_web_gone ∷ web_gone ∷ updated ∷ []) leads_9 (fold_step world_9 world_10 intended_web_new (made_web_new ∷ intended_rec_new ∷ made_rec_new ∷ cleaning ∷ intended_rec_gone ∷ rec_gone ∷ intended_web_gone ∷ web_gone ∷ updated ∷ []) leads_10 (fold_step world_10 world_11 made_web_new (intended_rec_new ∷ made_rec_new ∷ cleaning ∷ intended_rec_gone ∷ rec_gone ∷ intended_web_gone ∷ web_gone ∷ updated ∷ []) leads_11 (fold_step world_11 world_12 intended_rec_new (made_rec_new ∷ cleaning ∷ intended_rec_gone ∷ rec_gone ∷ intended_web_gone ∷ web_gone ∷ updated ∷ []) leads_12 (fold_step world_12 world_13 made_rec_new (cleaning ∷ intended_rec_gone ∷ rec_gone ∷ intended_web_gone ∷ web_gone ∷ updated ∷ []) leads_13 (fold_step world_13 world_14 cleaning (intended_rec_gone ∷ rec_gone ∷ intended_web_gone ∷ web_gone ∷ updated ∷ []) leads_14 (fold_step world_14 world_15 intended_rec_gone (rec_gone ∷ intended_web_gone ∷ web_gone ∷ updated ∷ []) leads_15 (fold_step world_15 world_16 rec_gone (intended_web_gone ∷ web_gone ∷ updated ∷ []) leads_16 (fold_step world_16 world_17 intended_web_gone (web_gone ∷ updated ∷ []) leads_17 (fold_step world_17 world_18 web_gone (updated ∷ []) leads_18 (fold_step world_18 world_19 updated ([]) leads_19 (refl)))))))))))))))))))
+carried_out = until_19.legal
 
 pub report_carried_out : ShowsCarriedOut
-report_carried_out = ap (report_of (codes "app")) arrives_19
+report_carried_out = ap (report_of (codes "app")) until_19.arrives

@@ -1,6 +1,6 @@
 -- A site, a stack that imports its value, and their deletion.
 use Rattle.std.proofs.Common.{◌≡◌, refl, List, [], ◌∷◌, ◌++◌, Some, None, false, ℕ, inl, ap, lit≤, true≢false}
-use Rattle.std.specs.Prelude.{codes, length}
+use Rattle.std.specs.Prelude.{codes, length, take, drop}
 use Rattle.std.specs.Str.{bytes_eq}
 use Rattle.cf_tree.specs.declared.request.Request.TheVariants as request
 use Rattle.cf_tree.specs.declared.template.Deletion.TheVariants as deletion
@@ -14,7 +14,7 @@ use Rattle.cf_stacks.specs.declared.held.Held.{Held}
 use Rattle.cf_stacks.specs.declared.held.HeldStatus.TheVariants as held
 use Rattle.cf_stacks.specs.declared.state.World.{World}
 use Rattle.cf_stacks.specs.declared.state.StackState.{StackState}
-use Rattle.cf_stacks.specs.Fold.{empty_world, world_after, source_for, fold_of, no_stack}
+use Rattle.cf_stacks.specs.Fold.{empty_world, source_for, no_stack}
 use Rattle.cf_stacks.specs.Status.{Forward, Gone}
 use Rattle.cf_plan.specs.Between.{is_needed_by_held}
 use Rattle.cf_plan.specs.Forward.{here, there, HasFailed, IsReady, AllDone, IsDone, is_made}
@@ -24,9 +24,9 @@ use Rattle.cf_examples.proofs.Computing.{computing}
 use Rattle.cf_examples.proofs.Lists.{in_none, only, either, none, more}
 use Rattle.cf_examples.proofs.Failing.{not_failed, not_done_new}
 use Rattle.cf_examples.proofs.Ending.{end_of_create, end_of_deletion}
-use Rattle.cf_examples.proofs.Refusing.{follows_on, legal_step, fold_step, refused_at}
+use Rattle.cf_examples.proofs.Refusing.{follows_on, refused_at, IsRun, ended, step, joined}
 use Rattle.cf_examples.proofs.Beginning.{no_imports, one_import}
-use Rattle.cf_examples.specs.Site.{real, importing, opened, begun, intended_audit, made_audit, intended_conf, made_conf, intended_home, made_home, intended_main, made_main, intended_size, made_size, created, begun_user, intended_use, made_use, created_user, deleting_user, intended_use_gone, use_gone, user_gone, deleting_site, kept_audit, intended_main_gone, main_gone, intended_size_gone, size_gone, intended_home_gone, home_gone, intended_conf_gone, conf_gone, site_gone, until_used, until_going, Legal, ShowsSite, ShowsUser, ShowsSiteGone, ShowsUserGone, DeletedWhileUsed, NeededDeletedFirst, RetainedDeleted}
+use Rattle.cf_examples.specs.Site.{real, importing, opened, begun, intended_audit, made_audit, intended_conf, made_conf, intended_home, made_home, intended_main, made_main, intended_size, made_size, created, begun_user, intended_use, made_use, created_user, deleting_user, intended_use_gone, use_gone, user_gone, deleting_site, kept_audit, intended_main_gone, main_gone, intended_size_gone, size_gone, intended_home_gone, home_gone, intended_conf_gone, conf_gone, site_gone, until_used, until_going, Legal, ShowsSite, ShowsUser, ShowsSiteGone, ShowsUserGone, DeletedWhileUsed, NeededDeletedFirst, RetainedDeleted, run}
 
 abbrev world_0 : World
 world_0 = empty_world
@@ -38,10 +38,6 @@ may_opened = (refl, refl, λ name s e. absurd (cc))
 abbrev world_1 : World
 world_1 = record world_0 { stacks = ([]); lanes = (lane_pair (codes "f1") file ∷ lane_pair (codes "r1") note ∷ []); epoch = 1; place = 1 }
 
-leads_1 : world_after world_0 opened ≡ world_1
-unfolding computing
-leads_1 = refl
-
 may_begun : MayFollow schemas world_1 [] begun
 unfolding computing
 may_begun = (refl, refl, record { no_flaw = refl; known_types = refl; same_types = refl; imports = no_imports _ _ _ _ refl refl; free = refl; not_in_use = refl; changing = inl refl })
@@ -51,10 +47,6 @@ stack_2_site = record no_stack { status = status.CreateInProgress; number = 1; o
 
 abbrev world_2 : World
 world_2 = record world_1 { stacks = (((codes "site"), stack_2_site) ∷ []); claims = (record { stack = (codes "site"); name = (codes "site-total") } ∷ []); operation = 1; place = 2 }
-
-leads_2 : world_after world_1 begun ≡ world_2
-unfolding computing
-leads_2 = refl
 
 sound_2 : ¬ HasFailed schemas (codes "site") world_2 stack_2_site
 unfolding computing
@@ -74,10 +66,6 @@ stack_3_site = record stack_2_site { tokens = (record { token = 1; path = (codes
 abbrev world_3 : World
 world_3 = record world_2 { stacks = (((codes "site"), stack_3_site) ∷ []); token = 1; place = 3 }
 
-leads_3 : world_after world_2 intended_audit ≡ world_3
-unfolding computing
-leads_3 = refl
-
 abbrev pub audit_1 : Held
 audit_1 = record { path = (codes "Audit"); kind = file; physical = (codes "f1:1"); props = (file_props (codes "audit.txt") (codes "on")); attrs = (file_attrs (codes "f1:1") 2 (codes "audit.txt") (codes "on")); needs = []; deletion = deletion.Retain; replace = replace.Delete; status = held.CreateComplete; unsure = false; superseded = false }
 
@@ -90,10 +78,6 @@ stack_4_site = record stack_3_site { made = (audit_1 ∷ []); tokens = []; event
 
 abbrev world_4 : World
 world_4 = record world_3 { stacks = (((codes "site"), stack_4_site) ∷ []); place = 4 }
-
-leads_4 : world_after world_3 made_audit ≡ world_4
-unfolding computing
-leads_4 = refl
 
 sound_4 : ¬ HasFailed schemas (codes "site") world_4 stack_4_site
 unfolding computing
@@ -113,10 +97,6 @@ stack_5_site = record stack_4_site { tokens = (record { token = 2; path = (codes
 abbrev world_5 : World
 world_5 = record world_4 { stacks = (((codes "site"), stack_5_site) ∷ []); token = 2; place = 5 }
 
-leads_5 : world_after world_4 intended_conf ≡ world_5
-unfolding computing
-leads_5 = refl
-
 abbrev pub conf_1 : Held
 conf_1 = record { path = (codes "Conf"); kind = file; physical = (codes "f1:2"); props = (file_props (codes "site.conf") (codes "stage=prod\ndepth=8")); attrs = (file_attrs (codes "f1:2") 18 (codes "site.conf") (codes "stage=prod\ndepth=8")); needs = []; deletion = deletion.Delete; replace = replace.Delete; status = held.CreateComplete; unsure = false; superseded = false }
 
@@ -129,10 +109,6 @@ stack_6_site = record stack_5_site { made = (audit_1 ∷ conf_1 ∷ []); tokens 
 
 abbrev world_6 : World
 world_6 = record world_5 { stacks = (((codes "site"), stack_6_site) ∷ []); place = 6 }
-
-leads_6 : world_after world_5 made_conf ≡ world_6
-unfolding computing
-leads_6 = refl
 
 sound_6 : ¬ HasFailed schemas (codes "site") world_6 stack_6_site
 unfolding computing
@@ -152,10 +128,6 @@ stack_7_site = record stack_6_site { tokens = (record { token = 3; path = (codes
 abbrev world_7 : World
 world_7 = record world_6 { stacks = (((codes "site"), stack_7_site) ∷ []); token = 3; place = 7 }
 
-leads_7 : world_after world_6 intended_home ≡ world_7
-unfolding computing
-leads_7 = refl
-
 abbrev pub home_1 : Held
 home_1 = record { path = (codes "Home"); kind = file; physical = (codes "f1:3"); props = (file_props (codes "home.txt") (codes "beta")); attrs = (file_attrs (codes "f1:3") 4 (codes "home.txt") (codes "beta")); needs = ((codes "Conf") ∷ []); deletion = deletion.Delete; replace = replace.Delete; status = held.CreateComplete; unsure = false; superseded = false }
 
@@ -168,10 +140,6 @@ stack_8_site = record stack_7_site { made = (audit_1 ∷ conf_1 ∷ home_1 ∷ [
 
 abbrev world_8 : World
 world_8 = record world_7 { stacks = (((codes "site"), stack_8_site) ∷ []); place = 8 }
-
-leads_8 : world_after world_7 made_home ≡ world_8
-unfolding computing
-leads_8 = refl
 
 sound_8 : ¬ HasFailed schemas (codes "site") world_8 stack_8_site
 unfolding computing
@@ -191,10 +159,6 @@ stack_9_site = record stack_8_site { tokens = (record { token = 4; path = (codes
 abbrev world_9 : World
 world_9 = record world_8 { stacks = (((codes "site"), stack_9_site) ∷ []); token = 4; place = 9 }
 
-leads_9 : world_after world_8 intended_main ≡ world_9
-unfolding computing
-leads_9 = refl
-
 abbrev pub main_1 : Held
 main_1 = record { path = (codes "Main"); kind = note; physical = (codes "r1:4"); props = (note_props (codes "main") (codes "f1:2")); attrs = (note_attrs (codes "r1:4") 4 (codes "main") (codes "f1:2")); needs = ((codes "Conf") ∷ []); deletion = deletion.Delete; replace = replace.Delete; status = held.CreateComplete; unsure = false; superseded = false }
 
@@ -207,10 +171,6 @@ stack_10_site = record stack_9_site { made = (audit_1 ∷ conf_1 ∷ home_1 ∷ 
 
 abbrev world_10 : World
 world_10 = record world_9 { stacks = (((codes "site"), stack_10_site) ∷ []); place = 10 }
-
-leads_10 : world_after world_9 made_main ≡ world_10
-unfolding computing
-leads_10 = refl
 
 sound_10 : ¬ HasFailed schemas (codes "site") world_10 stack_10_site
 unfolding computing
@@ -230,10 +190,6 @@ stack_11_site = record stack_10_site { tokens = (record { token = 5; path = (cod
 abbrev world_11 : World
 world_11 = record world_10 { stacks = (((codes "site"), stack_11_site) ∷ []); token = 5; place = 11 }
 
-leads_11 : world_after world_10 intended_size ≡ world_11
-unfolding computing
-leads_11 = refl
-
 abbrev pub size_1 : Held
 size_1 = record { path = (codes "Size"); kind = note; physical = (codes "r1:5"); props = (note_props (codes "size") (codes "18/4")); attrs = (note_attrs (codes "r1:5") 4 (codes "size") (codes "18/4")); needs = ((codes "Conf") ∷ (codes "Home") ∷ []); deletion = deletion.Delete; replace = replace.Delete; status = held.CreateComplete; unsure = false; superseded = false }
 
@@ -246,10 +202,6 @@ stack_12_site = record stack_11_site { made = (audit_1 ∷ conf_1 ∷ home_1 ∷
 
 abbrev world_12 : World
 world_12 = record world_11 { stacks = (((codes "site"), stack_12_site) ∷ []); place = 12 }
-
-leads_12 : world_after world_11 made_size ≡ world_12
-unfolding computing
-leads_12 = refl
 
 sound_12 : ¬ HasFailed schemas (codes "site") world_12 stack_12_site
 unfolding computing
@@ -269,10 +221,6 @@ stack_13_site = record stack_12_site { status = status.CreateComplete; held = (a
 abbrev world_13 : World
 world_13 = record world_12 { stacks = (((codes "site"), stack_13_site) ∷ []); exports = (record { name = (codes "site-total"); value = (codes "18/4"); stack = (codes "site") } ∷ []); claims = []; place = 13 }
 
-leads_13 : world_after world_12 created ≡ world_13
-unfolding computing
-leads_13 = refl
-
 may_begun_user : MayFollow schemas world_13 [] begun_user
 unfolding computing
 may_begun_user = (refl, refl, record { no_flaw = refl; known_types = refl; same_types = refl; imports = one_import _ _ _ _ (codes "site-total") (codes "18/4") refl refl refl (λ e. let z : 1 ≡ 0 = ap (λ (p : Plan). length p.flaws) e in cc); free = refl; not_in_use = refl; changing = inl refl })
@@ -282,10 +230,6 @@ stack_14_user = record no_stack { status = status.CreateInProgress; number = 2; 
 
 abbrev world_14 : World
 world_14 = record world_13 { stacks = (((codes "site"), stack_13_site) ∷ ((codes "user"), stack_14_user) ∷ []); pins = (record { stack = (codes "user"); name = (codes "site-total") } ∷ []); operation = 2; place = 14 }
-
-leads_14 : world_after world_13 begun_user ≡ world_14
-unfolding computing
-leads_14 = refl
 
 sound_14 : ¬ HasFailed schemas (codes "user") world_14 stack_14_user
 unfolding computing
@@ -305,10 +249,6 @@ stack_15_user = record stack_14_user { tokens = (record { token = 6; path = (cod
 abbrev world_15 : World
 world_15 = record world_14 { stacks = (((codes "site"), stack_13_site) ∷ ((codes "user"), stack_15_user) ∷ []); token = 6; place = 15 }
 
-leads_15 : world_after world_14 intended_use ≡ world_15
-unfolding computing
-leads_15 = refl
-
 abbrev use_1 : Held
 use_1 = record { path = (codes "Use"); kind = note; physical = (codes "r1:6"); props = (note_props (codes "u") (codes "18/4")); attrs = (note_attrs (codes "r1:6") 4 (codes "u") (codes "18/4")); needs = []; deletion = deletion.Delete; replace = replace.Delete; status = held.CreateComplete; unsure = false; superseded = false }
 
@@ -321,10 +261,6 @@ stack_16_user = record stack_15_user { made = (use_1 ∷ []); tokens = []; event
 
 abbrev world_16 : World
 world_16 = record world_15 { stacks = (((codes "site"), stack_13_site) ∷ ((codes "user"), stack_16_user) ∷ []); place = 16 }
-
-leads_16 : world_after world_15 made_use ≡ world_16
-unfolding computing
-leads_16 = refl
 
 sound_16 : ¬ HasFailed schemas (codes "user") world_16 stack_16_user
 unfolding computing
@@ -344,10 +280,6 @@ stack_17_user = record stack_16_user { status = status.CreateComplete; held = (u
 abbrev pub world_17 : World
 world_17 = record world_16 { stacks = (((codes "site"), stack_13_site) ∷ ((codes "user"), stack_17_user) ∷ []); place = 17 }
 
-leads_17 : world_after world_16 created_user ≡ world_17
-unfolding computing
-leads_17 = refl
-
 may_deleting_user : MayFollow schemas world_17 [] deleting_user
 unfolding computing
 may_deleting_user = (refl, refl, (refl, refl, refl))
@@ -357,10 +289,6 @@ stack_18_user = record stack_17_user { status = status.DeleteInProgress; operati
 
 abbrev world_18 : World
 world_18 = record world_17 { stacks = (((codes "site"), stack_13_site) ∷ ((codes "user"), stack_18_user) ∷ []); operation = 3; place = 18 }
-
-leads_18 : world_after world_17 deleting_user ≡ world_18
-unfolding computing
-leads_18 = refl
 
 may_intended_use_gone : MayFollow schemas world_18 [] intended_use_gone
 unfolding computing
@@ -372,10 +300,6 @@ stack_19_user = record stack_18_user { tokens = (record { token = 7; path = (cod
 abbrev world_19 : World
 world_19 = record world_18 { stacks = (((codes "site"), stack_13_site) ∷ ((codes "user"), stack_19_user) ∷ []); token = 7; place = 19 }
 
-leads_19 : world_after world_18 intended_use_gone ≡ world_19
-unfolding computing
-leads_19 = refl
-
 may_use_gone : MayFollow schemas world_19 (7 ∷ []) use_gone
 unfolding computing
 may_use_gone = ((codes "user"), stack_19_user, Gone, refl, refl, (refl, refl, lit≤ tt))
@@ -385,10 +309,6 @@ stack_20_user = record stack_19_user { held = []; tokens = []; events = stack_19
 
 abbrev world_20 : World
 world_20 = record world_19 { stacks = (((codes "site"), stack_13_site) ∷ ((codes "user"), stack_20_user) ∷ []); place = 20 }
-
-leads_20 : world_after world_19 use_gone ≡ world_20
-unfolding computing
-leads_20 = refl
 
 may_user_gone : MayFollow schemas world_20 [] user_gone
 unfolding computing
@@ -400,10 +320,6 @@ stack_21_user = record stack_20_user { status = status.DeleteComplete; source = 
 abbrev world_21 : World
 world_21 = record world_20 { stacks = (((codes "site"), stack_13_site) ∷ ((codes "user"), stack_21_user) ∷ []); pins = []; place = 21 }
 
-leads_21 : world_after world_20 user_gone ≡ world_21
-unfolding computing
-leads_21 = refl
-
 may_deleting_site : MayFollow schemas world_21 [] deleting_site
 unfolding computing
 may_deleting_site = (refl, refl, (refl, refl, refl))
@@ -413,10 +329,6 @@ stack_22_site = record stack_13_site { status = status.DeleteInProgress; operati
 
 abbrev world_22 : World
 world_22 = record world_21 { stacks = (((codes "site"), stack_22_site) ∷ ((codes "user"), stack_21_user) ∷ []); operation = 4; exports = []; place = 22 }
-
-leads_22 : world_after world_21 deleting_site ≡ world_22
-unfolding computing
-leads_22 = refl
 
 may_kept_audit : MayFollow schemas world_22 [] kept_audit
 unfolding computing
@@ -428,10 +340,6 @@ stack_23_site = record stack_22_site { held = (conf_1 ∷ home_1 ∷ main_1 ∷ 
 abbrev world_23 : World
 world_23 = record world_22 { stacks = (((codes "site"), stack_23_site) ∷ ((codes "user"), stack_21_user) ∷ []); place = 23 }
 
-leads_23 : world_after world_22 kept_audit ≡ world_23
-unfolding computing
-leads_23 = refl
-
 may_intended_main_gone : MayFollow schemas world_23 [] intended_main_gone
 unfolding computing
 may_intended_main_gone = ((codes "site"), stack_23_site, Gone, refl, refl, record { next = refl; free = refl; home = refl; fits = ((codes "4", refl), refl); no_repeat = refl; chosen = (_, (there (there here), refl, refl, refl), refl, refl, refl) })
@@ -441,10 +349,6 @@ stack_24_site = record stack_23_site { tokens = (record { token = 8; path = (cod
 
 abbrev world_24 : World
 world_24 = record world_23 { stacks = (((codes "site"), stack_24_site) ∷ ((codes "user"), stack_21_user) ∷ []); token = 8; place = 24 }
-
-leads_24 : world_after world_23 intended_main_gone ≡ world_24
-unfolding computing
-leads_24 = refl
 
 may_main_gone : MayFollow schemas world_24 (8 ∷ []) main_gone
 unfolding computing
@@ -456,10 +360,6 @@ stack_25_site = record stack_24_site { held = (conf_1 ∷ home_1 ∷ size_1 ∷ 
 abbrev world_25 : World
 world_25 = record world_24 { stacks = (((codes "site"), stack_25_site) ∷ ((codes "user"), stack_21_user) ∷ []); place = 25 }
 
-leads_25 : world_after world_24 main_gone ≡ world_25
-unfolding computing
-leads_25 = refl
-
 may_intended_size_gone : MayFollow schemas world_25 [] intended_size_gone
 unfolding computing
 may_intended_size_gone = ((codes "site"), stack_25_site, Gone, refl, refl, record { next = refl; free = refl; home = refl; fits = ((codes "5", refl), refl); no_repeat = refl; chosen = (_, (there (there here), refl, refl, refl), refl, refl, refl) })
@@ -469,10 +369,6 @@ stack_26_site = record stack_25_site { tokens = (record { token = 9; path = (cod
 
 abbrev world_26 : World
 world_26 = record world_25 { stacks = (((codes "site"), stack_26_site) ∷ ((codes "user"), stack_21_user) ∷ []); token = 9; place = 26 }
-
-leads_26 : world_after world_25 intended_size_gone ≡ world_26
-unfolding computing
-leads_26 = refl
 
 may_size_gone : MayFollow schemas world_26 (9 ∷ []) size_gone
 unfolding computing
@@ -484,10 +380,6 @@ stack_27_site = record stack_26_site { held = (conf_1 ∷ home_1 ∷ []); tokens
 abbrev world_27 : World
 world_27 = record world_26 { stacks = (((codes "site"), stack_27_site) ∷ ((codes "user"), stack_21_user) ∷ []); place = 27 }
 
-leads_27 : world_after world_26 size_gone ≡ world_27
-unfolding computing
-leads_27 = refl
-
 may_intended_home_gone : MayFollow schemas world_27 [] intended_home_gone
 unfolding computing
 may_intended_home_gone = ((codes "site"), stack_27_site, Gone, refl, refl, record { next = refl; free = refl; home = refl; fits = ((codes "3", refl), refl); no_repeat = refl; chosen = (_, (there here, refl, refl, refl), refl, refl, refl) })
@@ -497,10 +389,6 @@ stack_28_site = record stack_27_site { tokens = (record { token = 10; path = (co
 
 abbrev world_28 : World
 world_28 = record world_27 { stacks = (((codes "site"), stack_28_site) ∷ ((codes "user"), stack_21_user) ∷ []); token = 10; place = 28 }
-
-leads_28 : world_after world_27 intended_home_gone ≡ world_28
-unfolding computing
-leads_28 = refl
 
 may_home_gone : MayFollow schemas world_28 (10 ∷ []) home_gone
 unfolding computing
@@ -512,10 +400,6 @@ stack_29_site = record stack_28_site { held = (conf_1 ∷ []); tokens = []; even
 abbrev world_29 : World
 world_29 = record world_28 { stacks = (((codes "site"), stack_29_site) ∷ ((codes "user"), stack_21_user) ∷ []); place = 29 }
 
-leads_29 : world_after world_28 home_gone ≡ world_29
-unfolding computing
-leads_29 = refl
-
 may_intended_conf_gone : MayFollow schemas world_29 [] intended_conf_gone
 unfolding computing
 may_intended_conf_gone = ((codes "site"), stack_29_site, Gone, refl, refl, record { next = refl; free = refl; home = refl; fits = ((codes "2", refl), refl); no_repeat = refl; chosen = (_, (here, refl, refl, refl), refl, refl, refl) })
@@ -525,10 +409,6 @@ stack_30_site = record stack_29_site { tokens = (record { token = 11; path = (co
 
 abbrev world_30 : World
 world_30 = record world_29 { stacks = (((codes "site"), stack_30_site) ∷ ((codes "user"), stack_21_user) ∷ []); token = 11; place = 30 }
-
-leads_30 : world_after world_29 intended_conf_gone ≡ world_30
-unfolding computing
-leads_30 = refl
 
 may_conf_gone : MayFollow schemas world_30 (11 ∷ []) conf_gone
 unfolding computing
@@ -540,10 +420,6 @@ stack_31_site = record stack_30_site { held = []; tokens = []; events = stack_30
 abbrev world_31 : World
 world_31 = record world_30 { stacks = (((codes "site"), stack_31_site) ∷ ((codes "user"), stack_21_user) ∷ []); place = 31 }
 
-leads_31 : world_after world_30 conf_gone ≡ world_31
-unfolding computing
-leads_31 = refl
-
 may_site_gone : MayFollow schemas world_31 [] site_gone
 unfolding computing
 may_site_gone = ((codes "site"), stack_31_site, Gone, refl, refl, (refl, end_of_deletion schemas (codes "site") world_31 stack_31_site refl refl refl, refl, refl))
@@ -554,57 +430,94 @@ stack_32_site = record stack_31_site { status = status.DeleteComplete; source = 
 abbrev world_32 : World
 world_32 = record world_31 { stacks = (((codes "site"), stack_32_site) ∷ ((codes "user"), stack_21_user) ∷ []); place = 32 }
 
-leads_32 : world_after world_31 site_gone ≡ world_32
+pub until_13 : IsRun empty_world (take 13 run) world_13
 unfolding computing
-leads_32 = refl
+until_13 =
+    step world_1 [] may_opened refl
+    (step world_2 [] may_begun refl
+    (step world_3 [] may_intended_audit refl
+    (step world_4 (1 ∷ []) may_made_audit refl
+    (step world_5 [] may_intended_conf refl
+    (step world_6 (2 ∷ []) may_made_conf refl
+    (step world_7 [] may_intended_home refl
+    (step world_8 (3 ∷ []) may_made_home refl
+    (step world_9 [] may_intended_main refl
+    (step world_10 (4 ∷ []) may_made_main refl
+    (step world_11 [] may_intended_size refl
+    (step world_12 (5 ∷ []) may_made_size refl
+    (step world_13 [] may_created refl ended))))))))))))
+
+pub until_17 : IsRun empty_world (take 17 run) world_17
+unfolding computing
+until_17 =
+    joined (take 4 (drop 13 run)) until_13
+    (step world_14 [] may_begun_user refl
+    (step world_15 [] may_intended_use refl
+    (step world_16 (6 ∷ []) may_made_use refl
+    (step world_17 [] may_created_user refl ended))))
+
+pub until_22 : IsRun empty_world (take 22 run) world_22
+unfolding computing
+until_22 =
+    joined (take 5 (drop 17 run)) until_17
+    (step world_18 [] may_deleting_user refl
+    (step world_19 [] may_intended_use_gone refl
+    (step world_20 (7 ∷ []) may_use_gone refl
+    (step world_21 [] may_user_gone refl
+    (step world_22 [] may_deleting_site refl ended)))))
+
+pub until_23 : IsRun empty_world (take 23 run) world_23
+unfolding computing
+until_23 =
+    joined (take 1 (drop 22 run)) until_22
+    (step world_23 [] may_kept_audit refl ended)
+
+pub until_32 : IsRun empty_world run world_32
+unfolding computing
+until_32 =
+    joined (drop 23 run) until_23
+    (step world_24 [] may_intended_main_gone refl
+    (step world_25 (8 ∷ []) may_main_gone refl
+    (step world_26 [] may_intended_size_gone refl
+    (step world_27 (9 ∷ []) may_size_gone refl
+    (step world_28 [] may_intended_home_gone refl
+    (step world_29 (10 ∷ []) may_home_gone refl
+    (step world_30 [] may_intended_conf_gone refl
+    (step world_31 (11 ∷ []) may_conf_gone refl
+    (step world_32 [] may_site_gone refl ended)))))))))
 
 pub legal : Legal
-legal = legal_step world_0 world_1 opened (begun ∷ intended_audit ∷ made_audit ∷ intended_conf ∷ made_conf ∷ intended_home ∷ made_home ∷ intended_main ∷ made_main ∷ intended_size ∷ made_size ∷ created ∷ begun_user ∷ intended_use ∷ made_use ∷ created_user ∷ deleting_user ∷ intended_use_gone ∷ use_gone ∷ user_gone ∷ deleting_site ∷ kept_audit ∷ intended_main_gone ∷ main_gone ∷ intended_size_gone ∷ size_gone ∷ intended_home_gone ∷ home_gone ∷ intended_conf_gone ∷ conf_gone ∷ site_gone ∷ []) [] may_opened leads_1 (legal_step world_1 world_2 begun (intended_audit ∷ made_audit ∷ intended_conf ∷ made_conf ∷ intended_home ∷ made_home ∷ intended_main ∷ made_main ∷ intended_size ∷ made_size ∷ created ∷ begun_user ∷ intended_use ∷ made_use ∷ created_user ∷ deleting_user ∷ intended_use_gone ∷ use_gone ∷ user_gone ∷ deleting_site ∷ kept_audit ∷ intended_main_gone ∷ main_gone ∷ intended_size_gone ∷ size_gone ∷ intended_home_gone ∷ home_gone ∷ intended_conf_gone ∷ conf_gone ∷ site_gone ∷ []) [] may_begun leads_2 (legal_step world_2 world_3 intended_audit (made_audit ∷ intended_conf ∷ made_conf ∷ intended_home ∷ made_home ∷ intended_main ∷ made_main ∷ intended_size ∷ made_size ∷ created ∷ begun_user ∷ intended_use ∷ made_use ∷ created_user ∷ deleting_user ∷ intended_use_gone ∷ use_gone ∷ user_gone ∷ deleting_site ∷ kept_audit ∷ intended_main_gone ∷ main_gone ∷ intended_size_gone ∷ size_gone ∷ intended_home_gone ∷ home_gone ∷ intended_conf_gone ∷ conf_gone ∷ site_gone ∷ []) [] may_intended_audit leads_3 (legal_step world_3 world_4 made_audit (intended_conf ∷ made_conf ∷ intended_home ∷ made_home ∷ intended_main ∷ made_main ∷ intended_size ∷ made_size ∷ created ∷ begun_user ∷ intended_use ∷ made_use ∷ created_user ∷ deleting_user ∷ intended_use_gone ∷ use_gone ∷ user_gone ∷ deleting_site ∷ kept_audit ∷ intended_main_gone ∷ main_gone ∷ intended_size_gone ∷ size_gone ∷ intended_home_gone ∷ home_gone ∷ intended_conf_gone ∷ conf_gone ∷ site_gone ∷ []) (1 ∷ []) may_made_audit leads_4 (legal_step world_4 world_5 intended_conf (made_conf ∷ intended_home ∷ made_home ∷ intended_main ∷ made_main ∷ intended_size ∷ made_size ∷ created ∷ begun_user ∷ intended_use ∷ made_use ∷ created_user ∷ deleting_user ∷ intended_use_gone ∷ use_gone ∷ user_gone ∷ deleting_site ∷ kept_audit ∷ intended_main_gone ∷ main_gone ∷ intended_size_gone ∷ size_gone ∷ intended_home_gone ∷ home_gone ∷ intended_conf_gone ∷ conf_gone ∷ site_gone ∷ []) [] may_intended_conf leads_5 (legal_step world_5 world_6 made_conf (intended_home ∷ made_home ∷ intended_main ∷ made_main ∷ intended_size ∷ made_size ∷ created ∷ begun_user ∷ intended_use ∷ made_use ∷ created_user ∷ deleting_user ∷ intended_use_gone ∷ use_gone ∷ user_gone ∷ deleting_site ∷ kept_audit ∷ intended_main_gone ∷ main_gone ∷ intended_size_gone ∷ size_gone ∷ intended_home_gone ∷ home_gone ∷ intended_conf_gone ∷ conf_gone ∷ site_gone ∷ []) (2 ∷ []) may_made_conf leads_6 (legal_step world_6 world_7 intended_home (made_home ∷ intended_main ∷ made_main ∷ intended_size ∷ made_size ∷ created ∷ begun_user ∷ intended_use ∷ made_use ∷ created_user ∷ deleting_user ∷ intended_use_gone ∷ use_gone ∷ user_gone ∷ deleting_site ∷ kept_audit ∷ intended_main_gone ∷ main_gone ∷ intended_size_gone ∷ size_gone ∷ intended_home_gone ∷ home_gone ∷ intended_conf_gone ∷ conf_gone ∷ site_gone ∷ []) [] may_intended_home leads_7 (legal_step world_7 world_8 made_home (intended_main ∷ made_main ∷ intended_size ∷ made_size ∷ created ∷ begun_user ∷ intended_use ∷ made_use ∷ created_user ∷ deleting_user ∷ intended_use_gone ∷ use_gone ∷ user_gone ∷ deleting_site ∷ kept_audit ∷ intended_main_gone ∷ main_gone ∷ intended_size_gone ∷ size_gone ∷ intended_home_gone ∷ home_gone ∷ intended_conf_gone ∷ conf_gone ∷ site_gone ∷ []) (3 ∷ []) may_made_home leads_8 (legal_step world_8 world_9 intended_main (made_main ∷ intended_size ∷ made_size ∷ created ∷ begun_user ∷ intended_use ∷ made_use ∷ created_user ∷ deleting_user ∷ intended_use_gone ∷ use_gone ∷ user_gone ∷ deleting_site ∷ kept_audit ∷ intended_main_gone ∷ main_gone ∷ intended_size_gone ∷ size_gone ∷ intended_home_gone ∷ home_gone ∷ intended_conf_gone ∷ conf_gone ∷ site_gone ∷ []) [] may_intended_main leads_9 (legal_step world_9 world_10 made_main (intended_size ∷ made_size ∷ created ∷ begun_user ∷ intended_use ∷ made_use ∷ created_user ∷ deleting_user ∷ intended_use_gone ∷ use_gone ∷ user_gone ∷ deleting_site ∷ kept_audit ∷ intended_main_gone ∷ main_gone ∷ intended_size_gone ∷ size_gone ∷ intended_home_gone ∷ home_gone ∷ intended_conf_gone ∷ conf_gone ∷ site_gone ∷ []) (4 ∷ []) may_made_main leads_10 (legal_step world_10 world_11 intended_size (made_size ∷ created ∷ begun_user ∷ intended_use ∷ made_use ∷ created_user ∷ deleting_user ∷ intended_use_gone ∷ use_gone ∷ user_gone ∷ deleting_site ∷ kept_audit ∷ intended_main_gone ∷ main_gone ∷ intended_size_gone ∷ size_gone ∷ intended_home_gone ∷ home_gone ∷ intended_conf_gone ∷ conf_gone ∷ site_gone ∷ []) [] may_intended_size leads_11 (legal_step world_11 world_12 made_size (created ∷ begun_user ∷ intended_use ∷ made_use ∷ created_user ∷ deleting_user ∷ intended_use_gone ∷ use_gone ∷ user_gone ∷ deleting_site ∷ kept_audit ∷ intended_main_gone ∷ main_gone ∷ intended_size_gone ∷ size_gone ∷ intended_home_gone ∷ home_gone ∷ intended_conf_gone ∷ conf_gone ∷ site_gone ∷ []) (5 ∷ []) may_made_size leads_12 (legal_step world_12 world_13 created (begun_user ∷ intended_use ∷ made_use ∷ created_user ∷ deleting_user ∷ intended_use_gone ∷ use_gone ∷ user_gone ∷ deleting_site ∷ kept_audit ∷ intended_main_gone ∷ main_gone ∷ intended_size_gone ∷ size_gone ∷ intended_home_gone ∷ home_gone ∷ intended_conf_gone ∷ conf_gone ∷ site_gone ∷ []) [] may_created leads_13 (legal_step world_13 world_14 begun_user (intended_use ∷ made_use ∷ created_user ∷ deleting_user ∷ intended_use_gone ∷ use_gone ∷ user_gone ∷ deleting_site ∷ kept_audit ∷ intended_main_gone ∷ main_gone ∷ intended_size_gone ∷ size_gone ∷ intended_home_gone ∷ home_gone ∷ intended_conf_gone ∷ conf_gone ∷ site_gone ∷ []) [] may_begun_user leads_14 (legal_step world_14 world_15 intended_use (made_use ∷ created_user ∷ deleting_user ∷ intended_use_gone ∷ use_gone ∷ user_gone ∷ deleting_site ∷ kept_audit ∷ intended_main_gone ∷ main_gone ∷ intended_size_gone ∷ size_gone ∷ intended_home_gone ∷ home_gone ∷ intended_conf_gone ∷ conf_gone ∷ site_gone ∷ []) [] may_intended_use leads_15 (legal_step world_15 world_16 made_use (created_user ∷ deleting_user ∷ intended_use_gone ∷ use_gone ∷ user_gone ∷ deleting_site ∷ kept_audit ∷ intended_main_gone ∷ main_gone ∷ intended_size_gone ∷ size_gone ∷ intended_home_gone ∷ home_gone ∷ intended_conf_gone ∷ conf_gone ∷ site_gone ∷ []) (6 ∷ []) may_made_use leads_16 (legal_step world_16 world_17 created_user (deleting_user ∷ intended_use_gone ∷ use_gone ∷ user_gone ∷ deleting_site ∷ kept_audit ∷ intended_main_gone ∷ main_gone ∷ intended_size_gone ∷ size_gone ∷ intended_home_gone ∷ home_gone ∷ intended_conf_gone ∷ conf_gone ∷ site_gone ∷ []) [] may_created_user leads_17 (legal_step world_17 world_18 deleting_user (intended_use_gone ∷ use_gone ∷ user_gone ∷ deleting_site ∷ kept_audit ∷ intended_main_gone ∷ main_gone ∷ intended_size_gone ∷ size_gone ∷ intended_home_gone ∷ home_gone ∷ intended_conf_gone ∷ conf_gone ∷ site_gone ∷ []) [] may_deleting_user leads_18 (legal_step world_18 world_19 intended_use_gone (use_gone ∷ user_gone ∷ deleting_site ∷ kept_audit ∷ intended_main_gone ∷ main_gone ∷ intended_size_gone ∷ size_gone ∷ intended_home_gone ∷ home_gone ∷ intended_conf_gone ∷ conf_gone ∷ site_gone ∷ []) [] may_intended_use_gone leads_19 (legal_step world_19 world_20 use_gone (user_gone ∷ deleting_site ∷ kept_audit ∷ intended_main_gone ∷ main_gone ∷ intended_size_gone ∷ size_gone ∷ intended_home_gone ∷ home_gone ∷ intended_conf_gone ∷ conf_gone ∷ site_gone ∷ []) (7 ∷ []) may_use_gone leads_20 (legal_step world_20 world_21 user_gone (deleting_site ∷ kept_audit ∷ intended_main_gone ∷ main_gone ∷ intended_size_gone ∷ size_gone ∷ intended_home_gone ∷ home_gone ∷ intended_conf_gone ∷ conf_gone ∷ site_gone ∷ []) [] may_user_gone leads_21 (legal_step world_21 world_22 deleting_site (kept_audit ∷ intended_main_gone ∷ main_gone ∷ intended_size_gone ∷ size_gone ∷ intended_home_gone ∷ home_gone ∷ intended_conf_gone ∷ conf_gone ∷ site_gone ∷ []) [] may_deleting_site leads_22 (legal_step world_22 world_23 kept_audit (intended_main_gone ∷ main_gone ∷ intended_size_gone ∷ size_gone ∷ intended_home_gone ∷ home_gone ∷ intended_conf_gone ∷ conf_gone ∷ site_gone ∷ []) [] may_kept_audit leads_23 (legal_step world_23 world_24 intended_main_gone (main_gone ∷ intended_size_gone ∷ size_gone ∷ intended_home_gone ∷ home_gone ∷ intended_conf_gone ∷ conf_gone ∷ site_gone ∷ []) [] may_intended_main_gone leads_24 (legal_step world_24 world_25 main_gone (intended_size_gone ∷ size_gone ∷ intended_home_gone ∷ home_gone ∷ intended_conf_gone ∷ conf_gone ∷ site_gone ∷ []) (8 ∷ []) may_main_gone leads_25 (legal_step world_25 world_26 intended_size_gone (size_gone ∷ intended_home_gone ∷ home_gone ∷ intended_conf_gone ∷ conf_gone ∷ site_gone ∷ []) [] may_intended_size_gone leads_26 (legal_step world_26 world_27 size_gone (intended_home_gone ∷ home_gone ∷ intended_conf_gone ∷ conf_gone ∷ site_gone ∷ []) (9 ∷ []) may_size_gone leads_27 (legal_step world_27 world_28 intended_home_gone (home_gone ∷ intended_conf_gone ∷ conf_gone ∷ site_gone ∷ []) [] may_intended_home_gone leads_28 (legal_step world_28 world_29 home_gone (intended_conf_gone ∷ conf_gone ∷ site_gone ∷ []) (10 ∷ []) may_home_gone leads_29 (legal_step world_29 world_30 intended_conf_gone (conf_gone ∷ site_gone ∷ []) [] may_intended_conf_gone leads_30 (legal_step world_30 world_31 conf_gone (site_gone ∷ []) (11 ∷ []) may_conf_gone leads_31 (legal_step world_31 world_32 site_gone ([]) [] may_site_gone leads_32 (tt))))))))))))))))))))))))))))))))
-
-arrives_13 : fold_of empty_world (opened ∷ begun ∷ intended_audit ∷ made_audit ∷ intended_conf ∷ made_conf ∷ intended_home ∷ made_home ∷ intended_main ∷ made_main ∷ intended_size ∷ made_size ∷ created ∷ []) ≡ world_13
-arrives_13 = fold_step world_0 world_1 opened (begun ∷ intended_audit ∷ made_audit ∷ intended_conf ∷ made_conf ∷ intended_home ∷ made_home ∷ intended_main ∷ made_main ∷ intended_size ∷ made_size ∷ created ∷ []) leads_1 (fold_step world_1 world_2 begun (intended_audit ∷ made_audit ∷ intended_conf ∷ made_conf ∷ intended_home ∷ made_home ∷ intended_main ∷ made_main ∷ intended_size ∷ made_size ∷ created ∷ []) leads_2 (fold_step world_2 world_3 intended_audit (made_audit ∷ intended_conf ∷ made_conf ∷ intended_home ∷ made_home ∷ intended_main ∷ made_main ∷ intended_size ∷ made_size ∷ created ∷ []) leads_3 (fold_step world_3 world_4 made_audit (intended_conf ∷ made_conf ∷ intended_home ∷ made_home ∷ intended_main ∷ made_main ∷ intended_size ∷ made_size ∷ created ∷ []) leads_4 (fold_step world_4 world_5 intended_conf (made_conf ∷ intended_home ∷ made_home ∷ intended_main ∷ made_main ∷ intended_size ∷ made_size ∷ created ∷ []) leads_5 (fold_step world_5 world_6 made_conf (intended_home ∷ made_home ∷ intended_main ∷ made_main ∷ intended_size ∷ made_size ∷ created ∷ []) leads_6 (fold_step world_6 world_7 intended_home (made_home ∷ intended_main ∷ made_main ∷ intended_size ∷ made_size ∷ created ∷ []) leads_7 (fold_step world_7 world_8 made_home (intended_main ∷ made_main ∷ intended_size ∷ made_size ∷ created ∷ []) leads_8 (fold_step world_8 world_9 intended_main (made_main ∷ intended_size ∷ made_size ∷ created ∷ []) leads_9 (fold_step world_9 world_10 made_main (intended_size ∷ made_size ∷ created ∷ []) leads_10 (fold_step world_10 world_11 intended_size (made_size ∷ created ∷ []) leads_11 (fold_step world_11 world_12 made_size (created ∷ []) leads_12 (fold_step world_12 world_13 created ([]) leads_13 (refl)))))))))))))
-
-pub arrives_17 : fold_of empty_world (opened ∷ begun ∷ intended_audit ∷ made_audit ∷ intended_conf ∷ made_conf ∷ intended_home ∷ made_home ∷ intended_main ∷ made_main ∷ intended_size ∷ made_size ∷ created ∷ begun_user ∷ intended_use ∷ made_use ∷ created_user ∷ []) ≡ world_17
-arrives_17 = fold_step world_0 world_1 opened (begun ∷ intended_audit ∷ made_audit ∷ intended_conf ∷ made_conf ∷ intended_home ∷ made_home ∷ intended_main ∷ made_main ∷ intended_size ∷ made_size ∷ created ∷ begun_user ∷ intended_use ∷ made_use ∷ created_user ∷ []) leads_1 (fold_step world_1 world_2 begun (intended_audit ∷ made_audit ∷ intended_conf ∷ made_conf ∷ intended_home ∷ made_home ∷ intended_main ∷ made_main ∷ intended_size ∷ made_size ∷ created ∷ begun_user ∷ intended_use ∷ made_use ∷ created_user ∷ []) leads_2 (fold_step world_2 world_3 intended_audit (made_audit ∷ intended_conf ∷ made_conf ∷ intended_home ∷ made_home ∷ intended_main ∷ made_main ∷ intended_size ∷ made_size ∷ created ∷ begun_user ∷ intended_use ∷ made_use ∷ created_user ∷ []) leads_3 (fold_step world_3 world_4 made_audit (intended_conf ∷ made_conf ∷ intended_home ∷ made_home ∷ intended_main ∷ made_main ∷ intended_size ∷ made_size ∷ created ∷ begun_user ∷ intended_use ∷ made_use ∷ created_user ∷ []) leads_4 (fold_step world_4 world_5 intended_conf (made_conf ∷ intended_home ∷ made_home ∷ intended_main ∷ made_main ∷ intended_size ∷ made_size ∷ created ∷ begun_user ∷ intended_use ∷ made_use ∷ created_user ∷ []) leads_5 (fold_step world_5 world_6 made_conf (intended_home ∷ made_home ∷ intended_main ∷ made_main ∷ intended_size ∷ made_size ∷ created ∷ begun_user ∷ intended_use ∷ made_use ∷ created_user ∷ []) leads_6 (fold_step world_6 world_7 intended_home (made_home ∷ intended_main ∷ made_main ∷ intended_size ∷ made_size ∷ created ∷ begun_user ∷ intended_use ∷ made_use ∷ created_user ∷ []) leads_7 (fold_step world_7 world_8 made_home (intended_main ∷ made_main ∷ intended_size ∷ made_size ∷ created ∷ begun_user ∷ intended_use ∷ made_use ∷ created_user ∷ []) leads_8 (fold_step world_8 world_9 intended_main (made_main ∷ intended_size ∷ made_size ∷ created ∷ begun_user ∷ intended_use ∷ made_use ∷ created_user ∷ []) leads_9 (fold_step world_9 world_10 made_main (intended_size ∷ made_size ∷ created ∷ begun_user ∷ intended_use ∷ made_use ∷ created_user ∷ []) leads_10 (fold_step world_10 world_11 intended_size (made_size ∷ created ∷ begun_user ∷ intended_use ∷ made_use ∷ created_user ∷ []) leads_11 (fold_step world_11 world_12 made_size (created ∷ begun_user ∷ intended_use ∷ made_use ∷ created_user ∷ []) leads_12 (fold_step world_12 world_13 created (begun_user ∷ intended_use ∷ made_use ∷ created_user ∷ []) leads_13 (fold_step world_13 world_14 begun_user (intended_use ∷ made_use ∷ created_user ∷ []) leads_14 (fold_step world_14 world_15 intended_use (made_use ∷ created_user ∷ []) leads_15 (fold_step world_15 world_16 made_use (created_user ∷ []) leads_16 (fold_step world_16 world_17 created_user ([]) leads_17 (refl)))))))))))))))))
-
-arrives_22 : fold_of empty_world (opened ∷ begun ∷ intended_audit ∷ made_audit ∷ intended_conf ∷ made_conf ∷ intended_home ∷ made_home ∷ intended_main ∷ made_main ∷ intended_size ∷ made_size ∷ created ∷ begun_user ∷ intended_use ∷ made_use ∷ created_user ∷ deleting_user ∷ intended_use_gone ∷ use_gone ∷ user_gone ∷ deleting_site ∷ []) ≡ world_22
-arrives_22 = fold_step world_0 world_1 opened (begun ∷ intended_audit ∷ made_audit ∷ intended_conf ∷ made_conf ∷ intended_home ∷ made_home ∷ intended_main ∷ made_main ∷ intended_size ∷ made_size ∷ created ∷ begun_user ∷ intended_use ∷ made_use ∷ created_user ∷ deleting_user ∷ intended_use_gone ∷ use_gone ∷ user_gone ∷ deleting_site ∷ []) leads_1 (fold_step world_1 world_2 begun (intended_audit ∷ made_audit ∷ intended_conf ∷ made_conf ∷ intended_home ∷ made_home ∷ intended_main ∷ made_main ∷ intended_size ∷ made_size ∷ created ∷ begun_user ∷ intended_use ∷ made_use ∷ created_user ∷ deleting_user ∷ intended_use_gone ∷ use_gone ∷ user_gone ∷ deleting_site ∷ []) leads_2 (fold_step world_2 world_3 intended_audit (made_audit ∷ intended_conf ∷ made_conf ∷ intended_home ∷ made_home ∷ intended_main ∷ made_main ∷ intended_size ∷ made_size ∷ created ∷ begun_user ∷ intended_use ∷ made_use ∷ created_user ∷ deleting_user ∷ intended_use_gone ∷ use_gone ∷ user_gone ∷ deleting_site ∷ []) leads_3 (fold_step world_3 world_4 made_audit (intended_conf ∷ made_conf ∷ intended_home ∷ made_home ∷ intended_main ∷ made_main ∷ intended_size ∷ made_size ∷ created ∷ begun_user ∷ intended_use ∷ made_use ∷ created_user ∷ deleting_user ∷ intended_use_gone ∷ use_gone ∷ user_gone ∷ deleting_site ∷ []) leads_4 (fold_step world_4 world_5 intended_conf (made_conf ∷ intended_home ∷ made_home ∷ intended_main ∷ made_main ∷ intended_size ∷ made_size ∷ created ∷ begun_user ∷ intended_use ∷ made_use ∷ created_user ∷ deleting_user ∷ intended_use_gone ∷ use_gone ∷ user_gone ∷ deleting_site ∷ []) leads_5 (fold_step world_5 world_6 made_conf (intended_home ∷ made_home ∷ intended_main ∷ made_main ∷ intended_size ∷ made_size ∷ created ∷ begun_user ∷ intended_use ∷ made_use ∷ created_user ∷ deleting_user ∷ intended_use_gone ∷ use_gone ∷ user_gone ∷ deleting_site ∷ []) leads_6 (fold_step world_6 world_7 intended_home (made_home ∷ intended_main ∷ made_main ∷ intended_size ∷ made_size ∷ created ∷ begun_user ∷ intended_use ∷ made_use ∷ created_user ∷ deleting_user ∷ intended_use_gone ∷ use_gone ∷ user_gone ∷ deleting_site ∷ []) leads_7 (fold_step world_7 world_8 made_home (intended_main ∷ made_main ∷ intended_size ∷ made_size ∷ created ∷ begun_user ∷ intended_use ∷ made_use ∷ created_user ∷ deleting_user ∷ intended_use_gone ∷ use_gone ∷ user_gone ∷ deleting_site ∷ []) leads_8 (fold_step world_8 world_9 intended_main (made_main ∷ intended_size ∷ made_size ∷ created ∷ begun_user ∷ intended_use ∷ made_use ∷ created_user ∷ deleting_user ∷ intended_use_gone ∷ use_gone ∷ user_gone ∷ deleting_site ∷ []) leads_9 (fold_step world_9 world_10 made_main (intended_size ∷ made_size ∷ created ∷ begun_user ∷ intended_use ∷ made_use ∷ created_user ∷ deleting_user ∷ intended_use_gone ∷ use_gone ∷ user_gone ∷ deleting_site ∷ []) leads_10 (fold_step world_10 world_11 intended_size (made_size ∷ created ∷ begun_user ∷ intended_use ∷ made_use ∷ created_user ∷ deleting_user ∷ intended_use_gone ∷ use_gone ∷ user_gone ∷ deleting_site ∷ []) leads_11 (fold_step world_11 world_12 made_size (created ∷ begun_user ∷ intended_use ∷ made_use ∷ created_user ∷ deleting_user ∷ intended_use_gone ∷ use_gone ∷ user_gone ∷ deleting_site ∷ []) leads_12 (fold_step world_12 world_13 created (begun_user ∷ intended_use ∷ made_use ∷ created_user ∷ deleting_user ∷ intended_use_gone ∷ use_gone ∷ user_gone ∷ deleting_site ∷ []) leads_13 (fold_step world_13 world_14 begun_user (intended_use ∷ made_use ∷ created_user ∷ deleting_user ∷ intended_use_gone ∷ use_gone ∷ user_gone ∷ deleting_site ∷ []) leads_14 (fold_step world_14 world_15 intended_use (made_use ∷ created_user ∷ deleting_user ∷ intended_use_gone ∷ use_gone ∷ user_gone ∷ deleting_site ∷ []) leads_15 (fold_step world_15 world_16 made_use (created_user ∷ deleting_user ∷ intended_use_gone ∷ use_gone ∷ user_gone ∷ deleting_site ∷ []) leads_16 (fold_step world_16 world_17 created_user (deleting_user ∷ intended_use_gone ∷ use_gone ∷ user_gone ∷ deleting_site ∷ []) leads_17 (fold_step world_17 world_18 deleting_user (intended_use_gone ∷ use_gone ∷ user_gone ∷ deleting_site ∷ []) leads_18 (fold_step world_18 world_19 intended_use_gone (use_gone ∷ user_gone ∷ deleting_site ∷ []) leads_19 (fold_step world_19 world_20 use_gone (user_gone ∷ deleting_site ∷ []) leads_20 (fold_step world_20 world_21 user_gone (deleting_site ∷ []) leads_21 (fold_step world_21 world_22 deleting_site ([]) leads_22 (refl))))))))))))))))))))))
-
-arrives_23 : fold_of empty_world (opened ∷ begun ∷ intended_audit ∷ made_audit ∷ intended_conf ∷ made_conf ∷ intended_home ∷ made_home ∷ intended_main ∷ made_main ∷ intended_size ∷ made_size ∷ created ∷ begun_user ∷ intended_use ∷ made_use ∷ created_user ∷ deleting_user ∷ intended_use_gone ∷ use_gone ∷ user_gone ∷ deleting_site ∷ kept_audit ∷ []) ≡ world_23
-arrives_23 = fold_step world_0 world_1 opened (begun ∷ intended_audit ∷ made_audit ∷ intended_conf ∷ made_conf ∷ intended_home ∷ made_home ∷ intended_main ∷ made_main ∷ intended_size ∷ made_size ∷ created ∷ begun_user ∷ intended_use ∷ made_use ∷ created_user ∷ deleting_user ∷ intended_use_gone ∷ use_gone ∷ user_gone ∷ deleting_site ∷ kept_audit ∷ []) leads_1 (fold_step world_1 world_2 begun (intended_audit ∷ made_audit ∷ intended_conf ∷ made_conf ∷ intended_home ∷ made_home ∷ intended_main ∷ made_main ∷ intended_size ∷ made_size ∷ created ∷ begun_user ∷ intended_use ∷ made_use ∷ created_user ∷ deleting_user ∷ intended_use_gone ∷ use_gone ∷ user_gone ∷ deleting_site ∷ kept_audit ∷ []) leads_2 (fold_step world_2 world_3 intended_audit (made_audit ∷ intended_conf ∷ made_conf ∷ intended_home ∷ made_home ∷ intended_main ∷ made_main ∷ intended_size ∷ made_size ∷ created ∷ begun_user ∷ intended_use ∷ made_use ∷ created_user ∷ deleting_user ∷ intended_use_gone ∷ use_gone ∷ user_gone ∷ deleting_site ∷ kept_audit ∷ []) leads_3 (fold_step world_3 world_4 made_audit (intended_conf ∷ made_conf ∷ intended_home ∷ made_home ∷ intended_main ∷ made_main ∷ intended_size ∷ made_size ∷ created ∷ begun_user ∷ intended_use ∷ made_use ∷ created_user ∷ deleting_user ∷ intended_use_gone ∷ use_gone ∷ user_gone ∷ deleting_site ∷ kept_audit ∷ []) leads_4 (fold_step world_4 world_5 intended_conf (made_conf ∷ intended_home ∷ made_home ∷ intended_main ∷ made_main ∷ intended_size ∷ made_size ∷ created ∷ begun_user ∷ intended_use ∷ made_use ∷ created_user ∷ deleting_user ∷ intended_use_gone ∷ use_gone ∷ user_gone ∷ deleting_site ∷ kept_audit ∷ []) leads_5 (fold_step world_5 world_6 made_conf (intended_home ∷ made_home ∷ intended_main ∷ made_main ∷ intended_size ∷ made_size ∷ created ∷ begun_user ∷ intended_use ∷ made_use ∷ created_user ∷ deleting_user ∷ intended_use_gone ∷ use_gone ∷ user_gone ∷ deleting_site ∷ kept_audit ∷ []) leads_6 (fold_step world_6 world_7 intended_home (made_home ∷ intended_main ∷ made_main ∷ intended_size ∷ made_size ∷ created ∷ begun_user ∷ intended_use ∷ made_use ∷ created_user ∷ deleting_user ∷ intended_use_gone ∷ use_gone ∷ user_gone ∷ deleting_site ∷ kept_audit ∷ []) leads_7 (fold_step world_7 world_8 made_home (intended_main ∷ made_main ∷ intended_size ∷ made_size ∷ created ∷ begun_user ∷ intended_use ∷ made_use ∷ created_user ∷ deleting_user ∷ intended_use_gone ∷ use_gone ∷ user_gone ∷ deleting_site ∷ kept_audit ∷ []) leads_8 (fold_step world_8 world_9 intended_main (made_main ∷ intended_size ∷ made_size ∷ created ∷ begun_user ∷ intended_use ∷ made_use ∷ created_user ∷ deleting_user ∷ intended_use_gone ∷ use_gone ∷ user_gone ∷ deleting_site ∷ kept_audit ∷ []) leads_9 (fold_step world_9 world_10 made_main (intended_size ∷ made_size ∷ created ∷ begun_user ∷ intended_use ∷ made_use ∷ created_user ∷ deleting_user ∷ intended_use_gone ∷ use_gone ∷ user_gone ∷ deleting_site ∷ kept_audit ∷ []) leads_10 (fold_step world_10 world_11 intended_size (made_size ∷ created ∷ begun_user ∷ intended_use ∷ made_use ∷ created_user ∷ deleting_user ∷ intended_use_gone ∷ use_gone ∷ user_gone ∷ deleting_site ∷ kept_audit ∷ []) leads_11 (fold_step world_11 world_12 made_size (created ∷ begun_user ∷ intended_use ∷ made_use ∷ created_user ∷ deleting_user ∷ intended_use_gone ∷ use_gone ∷ user_gone ∷ deleting_site ∷ kept_audit ∷ []) leads_12 (fold_step world_12 world_13 created (begun_user ∷ intended_use ∷ made_use ∷ created_user ∷ deleting_user ∷ intended_use_gone ∷ use_gone ∷ user_gone ∷ deleting_site ∷ kept_audit ∷ []) leads_13 (fold_step world_13 world_14 begun_user (intended_use ∷ made_use ∷ created_user ∷ deleting_user ∷ intended_use_gone ∷ use_gone ∷ user_gone ∷ deleting_site ∷ kept_audit ∷ []) leads_14 (fold_step world_14 world_15 intended_use (made_use ∷ created_user ∷ deleting_user ∷ intended_use_gone ∷ use_gone ∷ user_gone ∷ deleting_site ∷ kept_audit ∷ []) leads_15 (fold_step world_15 world_16 made_use (created_user ∷ deleting_user ∷ intended_use_gone ∷ use_gone ∷ user_gone ∷ deleting_site ∷ kept_audit ∷ []) leads_16 (fold_step world_16 world_17 created_user (deleting_user ∷ intended_use_gone ∷ use_gone ∷ user_gone ∷ deleting_site ∷ kept_audit ∷ []) leads_17 (fold_step world_17 world_18 deleting_user (intended_use_gone ∷ use_gone ∷ user_gone ∷ deleting_site ∷ kept_audit ∷ []) leads_18 (fold_step world_18 world_19 intended_use_gone (use_gone ∷ user_gone ∷ deleting_site ∷ kept_audit ∷ []) leads_19 (fold_step world_19 world_20 use_gone (user_gone ∷ deleting_site ∷ kept_audit ∷ []) leads_20 (fold_step world_20 world_21 user_gone (deleting_site ∷ kept_audit ∷ []) leads_21 (fold_step world_21 world_22 deleting_site (kept_audit ∷ []) leads_22 (fold_step world_22 world_23 kept_audit ([]) leads_23 (refl)))))))))))))))))))))))
-
-arrives_32 : fold_of empty_world (opened ∷ begun ∷ intended_audit ∷ made_audit ∷ intended_conf ∷ made_conf ∷ intended_home ∷ made_home ∷ intended_main ∷ made_main ∷ intended_size ∷ made_size ∷ created ∷ begun_user ∷ intended_use ∷ made_use ∷ created_user ∷ deleting_user ∷ intended_use_gone ∷ use_gone ∷ user_gone ∷ deleting_site ∷ kept_audit ∷ intended_main_gone ∷ main_gone ∷ intended_size_gone ∷ size_gone ∷ intended_home_gone ∷ home_gone ∷ intended_conf_gone ∷ conf_gone ∷ site_gone ∷ []) ≡ world_32
-arrives_32 = fold_step world_0 world_1 opened (begun ∷ intended_audit ∷ made_audit ∷ intended_conf ∷ made_conf ∷ intended_home ∷ made_home ∷ intended_main ∷ made_main ∷ intended_size ∷ made_size ∷ created ∷ begun_user ∷ intended_use ∷ made_use ∷ created_user ∷ deleting_user ∷ intended_use_gone ∷ use_gone ∷ user_gone ∷ deleting_site ∷ kept_audit ∷ intended_main_gone ∷ main_gone ∷ intended_size_gone ∷ size_gone ∷ intended_home_gone ∷ home_gone ∷ intended_conf_gone ∷ conf_gone ∷ site_gone ∷ []) leads_1 (fold_step world_1 world_2 begun (intended_audit ∷ made_audit ∷ intended_conf ∷ made_conf ∷ intended_home ∷ made_home ∷ intended_main ∷ made_main ∷ intended_size ∷ made_size ∷ created ∷ begun_user ∷ intended_use ∷ made_use ∷ created_user ∷ deleting_user ∷ intended_use_gone ∷ use_gone ∷ user_gone ∷ deleting_site ∷ kept_audit ∷ intended_main_gone ∷ main_gone ∷ intended_size_gone ∷ size_gone ∷ intended_home_gone ∷ home_gone ∷ intended_conf_gone ∷ conf_gone ∷ site_gone ∷ []) leads_2 (fold_step world_2 world_3 intended_audit (made_audit ∷ intended_conf ∷ made_conf ∷ intended_home ∷ made_home ∷ intended_main ∷ made_main ∷ intended_size ∷ made_size ∷ created ∷ begun_user ∷ intended_use ∷ made_use ∷ created_user ∷ deleting_user ∷ intended_use_gone ∷ use_gone ∷ user_gone ∷ deleting_site ∷ kept_audit ∷ intended_main_gone ∷ main_gone ∷ intended_size_gone ∷ size_gone ∷ intended_home_gone ∷ home_gone ∷ intended_conf_gone ∷ conf_gone ∷ site_gone ∷ []) leads_3 (fold_step world_3 world_4 made_audit (intended_conf ∷ made_conf ∷ intended_home ∷ made_home ∷ intended_main ∷ made_main ∷ intended_size ∷ made_size ∷ created ∷ begun_user ∷ intended_use ∷ made_use ∷ created_user ∷ deleting_user ∷ intended_use_gone ∷ use_gone ∷ user_gone ∷ deleting_site ∷ kept_audit ∷ intended_main_gone ∷ main_gone ∷ intended_size_gone ∷ size_gone ∷ intended_home_gone ∷ home_gone ∷ intended_conf_gone ∷ conf_gone ∷ site_gone ∷ []) leads_4 (fold_step world_4 world_5 intended_conf (made_conf ∷ intended_home ∷ made_home ∷ intended_main ∷ made_main ∷ intended_size ∷ made_size ∷ created ∷ begun_user ∷ intended_use ∷ made_use ∷ created_user ∷ deleting_user ∷ intended_use_gone ∷ use_gone ∷ user_gone ∷ deleting_site ∷ kept_audit ∷ intended_main_gone ∷ main_gone ∷ intended_size_gone ∷ size_gone ∷ intended_home_gone ∷ home_gone ∷ intended_conf_gone ∷ conf_gone ∷ site_gone ∷ []) leads_5 (fold_step world_5 world_6 made_conf (intended_home ∷ made_home ∷ intended_main ∷ made_main ∷ intended_size ∷ made_size ∷ created ∷ begun_user ∷ intended_use ∷ made_use ∷ created_user ∷ deleting_user ∷ intended_use_gone ∷ use_gone ∷ user_gone ∷ deleting_site ∷ kept_audit ∷ intended_main_gone ∷ main_gone ∷ intended_size_gone ∷ size_gone ∷ intended_home_gone ∷ home_gone ∷ intended_conf_gone ∷ conf_gone ∷ site_gone ∷ []) leads_6 (fold_step world_6 world_7 intended_home (made_home ∷ intended_main ∷ made_main ∷ intended_size ∷ made_size ∷ created ∷ begun_user ∷ intended_use ∷ made_use ∷ created_user ∷ deleting_user ∷ intended_use_gone ∷ use_gone ∷ user_gone ∷ deleting_site ∷ kept_audit ∷ intended_main_gone ∷ main_gone ∷ intended_size_gone ∷ size_gone ∷ intended_home_gone ∷ home_gone ∷ intended_conf_gone ∷ conf_gone ∷ site_gone ∷ []) leads_7 (fold_step world_7 world_8 made_home (intended_main ∷ made_main ∷ intended_size ∷ made_size ∷ created ∷ begun_user ∷ intended_use ∷ made_use ∷ created_user ∷ deleting_user ∷ intended_use_gone ∷ use_gone ∷ user_gone ∷ deleting_site ∷ kept_audit ∷ intended_main_gone ∷ main_gone ∷ intended_size_gone ∷ size_gone ∷ intended_home_gone ∷ home_gone ∷ intended_conf_gone ∷ conf_gone ∷ site_gone ∷ []) leads_8 (fold_step world_8 world_9 intended_main (made_main ∷ intended_size ∷ made_size ∷ created ∷ begun_user ∷ intended_use ∷ made_use ∷ created_user ∷ deleting_user ∷ intended_use_gone ∷ use_gone ∷ user_gone ∷ deleting_site ∷ kept_audit ∷ intended_main_gone ∷ main_gone ∷ intended_size_gone ∷ size_gone ∷ intended_home_gone ∷ home_gone ∷ intended_conf_gone ∷ conf_gone ∷ site_gone ∷ []) leads_9 (fold_step world_9 world_10 made_main (intended_size ∷ made_size ∷ created ∷ begun_user ∷ intended_use ∷ made_use ∷ created_user ∷ deleting_user ∷ intended_use_gone ∷ use_gone ∷ user_gone ∷ deleting_site ∷ kept_audit ∷ intended_main_gone ∷ main_gone ∷ intended_size_gone ∷ size_gone ∷ intended_home_gone ∷ home_gone ∷ intended_conf_gone ∷ conf_gone ∷ site_gone ∷ []) leads_10 (fold_step world_10 world_11 intended_size (made_size ∷ created ∷ begun_user ∷ intended_use ∷ made_use ∷ created_user ∷ deleting_user ∷ intended_use_gone ∷ use_gone ∷ user_gone ∷ deleting_site ∷ kept_audit ∷ intended_main_gone ∷ main_gone ∷ intended_size_gone ∷ size_gone ∷ intended_home_gone ∷ home_gone ∷ intended_conf_gone ∷ conf_gone ∷ site_gone ∷ []) leads_11 (fold_step world_11 world_12 made_size (created ∷ begun_user ∷ intended_use ∷ made_use ∷ created_user ∷ deleting_user ∷ intended_use_gone ∷ use_gone ∷ user_gone ∷ deleting_site ∷ kept_audit ∷ intended_main_gone ∷ main_gone ∷ intended_size_gone ∷ size_gone ∷ intended_home_gone ∷ home_gone ∷ intended_conf_gone ∷ conf_gone ∷ site_gone ∷ []) leads_12 (fold_step world_12 world_13 created (begun_user ∷ intended_use ∷ made_use ∷ created_user ∷ deleting_user ∷ intended_use_gone ∷ use_gone ∷ user_gone ∷ deleting_site ∷ kept_audit ∷ intended_main_gone ∷ main_gone ∷ intended_size_gone ∷ size_gone ∷ intended_home_gone ∷ home_gone ∷ intended_conf_gone ∷ conf_gone ∷ site_gone ∷ []) leads_13 (fold_step world_13 world_14 begun_user (intended_use ∷ made_use ∷ created_user ∷ deleting_user ∷ intended_use_gone ∷ use_gone ∷ user_gone ∷ deleting_site ∷ kept_audit ∷ intended_main_gone ∷ main_gone ∷ intended_size_gone ∷ size_gone ∷ intended_home_gone ∷ home_gone ∷ intended_conf_gone ∷ conf_gone ∷ site_gone ∷ []) leads_14 (fold_step world_14 world_15 intended_use (made_use ∷ created_user ∷ deleting_user ∷ intended_use_gone ∷ use_gone ∷ user_gone ∷ deleting_site ∷ kept_audit ∷ intended_main_gone ∷ main_gone ∷ intended_size_gone ∷ size_gone ∷ intended_home_gone ∷ home_gone ∷ intended_conf_gone ∷ conf_gone ∷ site_gone ∷ []) leads_15 (fold_step world_15 world_16 made_use (created_user ∷ deleting_user ∷ intended_use_gone ∷ use_gone ∷ user_gone ∷ deleting_site ∷ kept_audit ∷ intended_main_gone ∷ main_gone ∷ intended_size_gone ∷ size_gone ∷ intended_home_gone ∷ home_gone ∷ intended_conf_gone ∷ conf_gone ∷ site_gone ∷ []) leads_16 (fold_step world_16 world_17 created_user (deleting_user ∷ intended_use_gone ∷ use_gone ∷ user_gone ∷ deleting_site ∷ kept_audit ∷ intended_main_gone ∷ main_gone ∷ intended_size_gone ∷ size_gone ∷ intended_home_gone ∷ home_gone ∷ intended_conf_gone ∷ conf_gone ∷ site_gone ∷ []) leads_17 (fold_step world_17 world_18 deleting_user (intended_use_gone ∷ use_gone ∷ user_gone ∷ deleting_site ∷ kept_audit ∷ intended_main_gone ∷ main_gone ∷ intended_size_gone ∷ size_gone ∷ intended_home_gone ∷ home_gone ∷ intended_conf_gone ∷ conf_gone ∷ site_gone ∷ []) leads_18 (fold_step world_18 world_19 intended_use_gone (use_gone ∷ user_gone ∷ deleting_site ∷ kept_audit ∷ intended_main_gone ∷ main_gone ∷ intended_size_gone ∷ size_gone ∷ intended_home_gone ∷ home_gone ∷ intended_conf_gone ∷ conf_gone ∷ site_gone ∷ []) leads_19 (fold_step world_19 world_20 use_gone (user_gone ∷ deleting_site ∷ kept_audit ∷ intended_main_gone ∷ main_gone ∷ intended_size_gone ∷ size_gone ∷ intended_home_gone ∷ home_gone ∷ intended_conf_gone ∷ conf_gone ∷ site_gone ∷ []) leads_20 (fold_step world_20 world_21 user_gone (deleting_site ∷ kept_audit ∷ intended_main_gone ∷ main_gone ∷ intended_size_gone ∷ size_gone ∷ intended_home_gone ∷ home_gone ∷ intended_conf_gone ∷ conf_gone ∷ site_gone ∷ []) leads_21 (fold_step world_21 world_22 deleting_site (kept_audit ∷ intended_main_gone ∷ main_gone ∷ intended_size_gone ∷ size_gone ∷ intended_home_gone ∷ home_gone ∷ intended_conf_gone ∷ conf_gone ∷ site_gone ∷ []) leads_22 (fold_step world_22 world_23 kept_audit (intended_main_gone ∷ main_gone ∷ intended_size_gone ∷ size_gone ∷ intended_home_gone ∷ home_gone ∷ intended_conf_gone ∷ conf_gone ∷ site_gone ∷ []) leads_23 (fold_step world_23 world_24 intended_main_gone (main_gone ∷ intended_size_gone ∷ size_gone ∷ intended_home_gone ∷ home_gone ∷ intended_conf_gone ∷ conf_gone ∷ site_gone ∷ []) leads_24 (fold_step world_24 world_25 main_gone (intended_size_gone ∷ size_gone ∷ intended_home_gone ∷ home_gone ∷ intended_conf_gone ∷ conf_gone ∷ site_gone ∷ []) leads_25 (fold_step world_25 world_26 intended_size_gone (size_gone ∷ intended_home_gone ∷ home_gone ∷ intended_conf_gone ∷ conf_gone ∷ site_gone ∷ []) leads_26 (fold_step world_26 world_27 size_gone (intended_home_gone ∷ home_gone ∷ intended_conf_gone ∷ conf_gone ∷ site_gone ∷ []) leads_27 (fold_step world_27 world_28 intended_home_gone (home_gone ∷ intended_conf_gone ∷ conf_gone ∷ site_gone ∷ []) leads_28 (fold_step world_28 world_29 home_gone (intended_conf_gone ∷ conf_gone ∷ site_gone ∷ []) leads_29 (fold_step world_29 world_30 intended_conf_gone (conf_gone ∷ site_gone ∷ []) leads_30 (fold_step world_30 world_31 conf_gone (site_gone ∷ []) leads_31 (fold_step world_31 world_32 site_gone ([]) leads_32 (refl))))))))))))))))))))))))))))))))
+legal = until_32.legal
 
 pub shows_site : ShowsSite
-shows_site = ap (report_of (codes "site")) arrives_13
+shows_site = ap (report_of (codes "site")) until_13.arrives
 
 pub shows_user : ShowsUser
-shows_user = ap (report_of (codes "user")) arrives_17
+shows_user = ap (report_of (codes "user")) until_17.arrives
 
 pub shows_site_gone : ShowsSiteGone
-shows_site_gone = ap (report_of (codes "site")) arrives_32
+shows_site_gone = ap (report_of (codes "site")) until_32.arrives
 
 pub shows_user_gone : ShowsUserGone
-shows_user_gone = ap (report_of (codes "user")) arrives_32
+shows_user_gone = ap (report_of (codes "user")) until_32.arrives
 
 may_not_0 : (out : List ℕ) → MayFollow schemas world_17 out (entry.Begin 3 (codes "site") (begin.Delete [])) → ⊥
 unfolding computing
 may_not_0 = λ out may. true≢false may.2.2
 
 pub refused_0 : DeletedWhileUsed
-refused_0 = refused_at world_17 until_used (entry.Begin 3 (codes "site") (begin.Delete [])) arrives_17 may_not_0
+refused_0 = refused_at world_17 until_used (entry.Begin 3 (codes "site") (begin.Delete [])) until_17.arrives may_not_0
 
 may_not_1 : (out : List ℕ) → MayFollow schemas world_23 out (entry.Intent 4 8 (codes "f1") (codes "Home") (request.Delete (codes "f1:3"))) → ⊥
 unfolding computing
 may_not_1 = λ out may. let m = follows_on schemas 4 world_23 out (entry.Intent 4 8 (codes "f1") (codes "Home") (request.Delete (codes "f1:3"))) ((codes "site"), stack_23_site) Gone refl refl may in let c = m.chosen in (more (λ (h : Held). codes "f1:3" ≡ h.physical → is_needed_by_held stack_23_site h ≡ false → ⊥) (λ e f. true≢false (ap (bytes_eq (codes "f1:3")) e)) (more (λ (h : Held). codes "f1:3" ≡ h.physical → is_needed_by_held stack_23_site h ≡ false → ⊥) (λ e f. true≢false f) (more (λ (h : Held). codes "f1:3" ≡ h.physical → is_needed_by_held stack_23_site h ≡ false → ⊥) (λ e f. true≢false (ap (bytes_eq (codes "f1:3")) e)) (more (λ (h : Held). codes "f1:3" ≡ h.physical → is_needed_by_held stack_23_site h ≡ false → ⊥) (λ e f. true≢false (ap (bytes_eq (codes "f1:3")) e)) (none (λ (h : Held). codes "f1:3" ≡ h.physical → is_needed_by_held stack_23_site h ≡ false → ⊥)))))) c.0 c.1.0 c.4 c.1.2
 
 pub refused_1 : NeededDeletedFirst
-refused_1 = refused_at world_23 until_going (entry.Intent 4 8 (codes "f1") (codes "Home") (request.Delete (codes "f1:3"))) arrives_23 may_not_1
+refused_1 = refused_at world_23 until_going (entry.Intent 4 8 (codes "f1") (codes "Home") (request.Delete (codes "f1:3"))) until_23.arrives may_not_1
 
 may_not_2 : (out : List ℕ) → MayFollow schemas world_22 out (entry.Intent 4 8 (codes "f1") (codes "Audit") (request.Delete (codes "f1:1"))) → ⊥
 unfolding computing
 may_not_2 = λ out may. let m = follows_on schemas 4 world_22 out (entry.Intent 4 8 (codes "f1") (codes "Audit") (request.Delete (codes "f1:1"))) ((codes "site"), stack_22_site) Gone refl refl may in let c = m.chosen in (more (λ (h : Held). codes "f1:1" ≡ h.physical → keeps Gone stack_22_site h ≡ false → ⊥) (λ e f. true≢false f) (more (λ (h : Held). codes "f1:1" ≡ h.physical → keeps Gone stack_22_site h ≡ false → ⊥) (λ e f. true≢false (ap (bytes_eq (codes "f1:1")) e)) (more (λ (h : Held). codes "f1:1" ≡ h.physical → keeps Gone stack_22_site h ≡ false → ⊥) (λ e f. true≢false (ap (bytes_eq (codes "f1:1")) e)) (more (λ (h : Held). codes "f1:1" ≡ h.physical → keeps Gone stack_22_site h ≡ false → ⊥) (λ e f. true≢false (ap (bytes_eq (codes "f1:1")) e)) (more (λ (h : Held). codes "f1:1" ≡ h.physical → keeps Gone stack_22_site h ≡ false → ⊥) (λ e f. true≢false (ap (bytes_eq (codes "f1:1")) e)) (none (λ (h : Held). codes "f1:1" ≡ h.physical → keeps Gone stack_22_site h ≡ false → ⊥))))))) c.0 c.1.0 c.4 c.2
 
 pub refused_2 : RetainedDeleted
-refused_2 = refused_at world_22 (until_used ++ deleting_user ∷ intended_use_gone ∷ use_gone ∷ user_gone ∷ deleting_site ∷ []) (entry.Intent 4 8 (codes "f1") (codes "Audit") (request.Delete (codes "f1:1"))) arrives_22 may_not_2
+refused_2 = refused_at world_22 (take 22 run) (entry.Intent 4 8 (codes "f1") (codes "Audit") (request.Delete (codes "f1:1"))) until_22.arrives may_not_2

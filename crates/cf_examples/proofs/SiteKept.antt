@@ -1,30 +1,28 @@
 -- An update of the site whose exported value is imported, taken back.
-use Rattle.std.proofs.Common.{◌≡◌, refl, List, [], ◌∷◌, ◌++◌, Some, false, inl, inr, sym, subst, ap, lit≤}
-use Rattle.std.specs.Prelude.{codes}
+use Rattle.std.proofs.Common.{◌≡◌, refl, [], ◌∷◌, ◌++◌, Some, false, inl, inr, ap, lit≤}
+use Rattle.std.specs.Prelude.{codes, drop}
 use Rattle.cf_tree.specs.declared.request.Request.TheVariants as request
 use Rattle.cf_tree.specs.declared.template.Deletion.TheVariants as deletion
 use Rattle.cf_tree.specs.declared.template.Replace.TheVariants as replace
 use Rattle.cf_schema.specs.declared.changed.Difference.TheVariants.{Same, Update, Replace}
-use Rattle.cf_entry.specs.declared.entry.Entry.{Entry}
 use Rattle.cf_entry.specs.declared.status.Status.TheVariants as status
 use Rattle.cf_stacks.specs.declared.held.Held.{Held}
 use Rattle.cf_stacks.specs.declared.held.HeldStatus.TheVariants as held
 use Rattle.cf_stacks.specs.declared.state.World.{World}
 use Rattle.cf_stacks.specs.declared.state.StackState.{StackState}
-use Rattle.cf_stacks.specs.Fold.{empty_world, world_after, source_for, fold_of}
+use Rattle.cf_stacks.specs.Fold.{empty_world, source_for}
 use Rattle.cf_stacks.specs.Status.{Forward, Back, BackClean}
 use Rattle.cf_plan.specs.Forward.{here, there, HasFailed, IsReady, AllDone, IsDone, is_updated, is_right}
-use Rattle.cf_plan.specs.Follow.{MayFollow, IsLegal}
+use Rattle.cf_plan.specs.Follow.{MayFollow}
 use Rattle.cf_examples.specs.Given.{schemas, file, note, file_props, note_props, file_attrs, note_attrs, report_of}
 use Rattle.cf_examples.proofs.Computing.{computing}
 use Rattle.cf_examples.proofs.Lists.{in_none, only, either, none, more}
 use Rattle.cf_examples.proofs.Failing.{not_failed, not_done_other, same_at, no_bad, no_bad_output}
 use Rattle.cf_examples.proofs.Ending.{nothing_to_restore, end_of_back_clean}
-use Rattle.cf_examples.proofs.Refusing.{legal_step, fold_step, legal_front, legal_joined, fold_joined}
+use Rattle.cf_examples.proofs.Refusing.{IsRun, ended, step, joined}
 use Rattle.cf_examples.proofs.Beginning.{no_imports}
-use Rattle.cf_examples.specs.Site.{until_used, deleting_user, intended_use_gone, use_gone, user_gone, deleting_site, kept_audit, intended_main_gone, main_gone, intended_size_gone, size_gone, intended_home_gone, home_gone, intended_conf_gone, conf_gone, site_gone}
-use Rattle.cf_examples.proofs.Site.{world_17, stack_13_site, stack_17_user, audit_1, conf_1, home_1, main_1, size_1, arrives_17, legal as legal_site}
-use Rattle.cf_examples.specs.SiteKept.{other_hosts, updating, intended_home_change, changed_home, intended_size_change, changed_size, turned, intended_home_restore, restored_home, intended_size_restore, restored_size, cleaning, rolled_back, Legal, Shows}
+use Rattle.cf_examples.proofs.Site.{world_17, stack_13_site, stack_17_user, audit_1, conf_1, home_1, main_1, size_1, until_17}
+use Rattle.cf_examples.specs.SiteKept.{other_hosts, updating, intended_home_change, changed_home, intended_size_change, changed_size, turned, intended_home_restore, restored_home, intended_size_restore, restored_size, cleaning, rolled_back, Legal, Shows, run}
 
 may_updating : MayFollow schemas world_17 [] updating
 unfolding computing
@@ -35,10 +33,6 @@ stack_18_site = record stack_13_site { status = status.UpdateInProgress; operati
 
 abbrev world_18 : World
 world_18 = record world_17 { stacks = (((codes "site"), stack_18_site) ∷ ((codes "user"), stack_17_user) ∷ []); claims = (record { stack = (codes "site"); name = (codes "site-total") } ∷ []); operation = 3; place = 18 }
-
-leads_18 : world_after world_17 updating ≡ world_18
-unfolding computing
-leads_18 = refl
 
 sound_18 : ¬ HasFailed schemas (codes "site") world_18 stack_18_site
 unfolding computing
@@ -62,10 +56,6 @@ stack_19_site = record stack_18_site { tokens = (record { token = 7; path = (cod
 abbrev world_19 : World
 world_19 = record world_18 { stacks = (((codes "site"), stack_19_site) ∷ ((codes "user"), stack_17_user) ∷ []); token = 7; place = 19 }
 
-leads_19 : world_after world_18 intended_home_change ≡ world_19
-unfolding computing
-leads_19 = refl
-
 abbrev home_2 : Held
 home_2 = record { path = (codes "Home"); kind = file; physical = (codes "f1:3"); props = (file_props (codes "home.txt") (codes "b")); attrs = (file_attrs (codes "f1:3") 1 (codes "home.txt") (codes "b")); needs = ((codes "Conf") ∷ []); deletion = deletion.Delete; replace = replace.Delete; status = held.UpdateComplete; unsure = false; superseded = false }
 
@@ -78,10 +68,6 @@ stack_20_site = record stack_19_site { held = (audit_1 ∷ conf_1 ∷ home_2 ∷
 
 abbrev world_20 : World
 world_20 = record world_19 { stacks = (((codes "site"), stack_20_site) ∷ ((codes "user"), stack_17_user) ∷ []); place = 20 }
-
-leads_20 : world_after world_19 changed_home ≡ world_20
-unfolding computing
-leads_20 = refl
 
 sound_20 : ¬ HasFailed schemas (codes "site") world_20 stack_20_site
 unfolding computing
@@ -105,10 +91,6 @@ stack_21_site = record stack_20_site { tokens = (record { token = 8; path = (cod
 abbrev world_21 : World
 world_21 = record world_20 { stacks = (((codes "site"), stack_21_site) ∷ ((codes "user"), stack_17_user) ∷ []); token = 8; place = 21 }
 
-leads_21 : world_after world_20 intended_size_change ≡ world_21
-unfolding computing
-leads_21 = refl
-
 abbrev size_2 : Held
 size_2 = record { path = (codes "Size"); kind = note; physical = (codes "r1:5"); props = (note_props (codes "size") (codes "18/1")); attrs = (note_attrs (codes "r1:5") 4 (codes "size") (codes "18/1")); needs = ((codes "Conf") ∷ (codes "Home") ∷ []); deletion = deletion.Delete; replace = replace.Delete; status = held.UpdateComplete; unsure = false; superseded = false }
 
@@ -121,10 +103,6 @@ stack_22_site = record stack_21_site { held = (audit_1 ∷ conf_1 ∷ home_2 ∷
 
 abbrev world_22 : World
 world_22 = record world_21 { stacks = (((codes "site"), stack_22_site) ∷ ((codes "user"), stack_17_user) ∷ []); place = 22 }
-
-leads_22 : world_after world_21 changed_size ≡ world_22
-unfolding computing
-leads_22 = refl
 
 audit_right_22 : IsDone stack_22_site (codes "Audit")
 unfolding computing
@@ -152,10 +130,6 @@ stack_23_site = record stack_22_site { status = status.UpdateRollbackInProgress;
 abbrev world_23 : World
 world_23 = record world_22 { stacks = (((codes "site"), stack_23_site) ∷ ((codes "user"), stack_17_user) ∷ []); place = 23 }
 
-leads_23 : world_after world_22 turned ≡ world_23
-unfolding computing
-leads_23 = refl
-
 may_intended_home_restore : MayFollow schemas world_23 [] intended_home_restore
 unfolding computing
 may_intended_home_restore = ((codes "site"), stack_23_site, Back, refl, refl, record { next = refl; free = refl; home = refl; fits = ((codes "3", refl), refl); no_repeat = refl; chosen = inr (refl, _, (there (there here), refl, refl, refl), refl, refl, refl, refl) })
@@ -165,10 +139,6 @@ stack_24_site = record stack_23_site { tokens = (record { token = 9; path = (cod
 
 abbrev world_24 : World
 world_24 = record world_23 { stacks = (((codes "site"), stack_24_site) ∷ ((codes "user"), stack_17_user) ∷ []); token = 9; place = 24 }
-
-leads_24 : world_after world_23 intended_home_restore ≡ world_24
-unfolding computing
-leads_24 = refl
 
 abbrev home_3 : Held
 home_3 = record { path = (codes "Home"); kind = file; physical = (codes "f1:3"); props = (file_props (codes "home.txt") (codes "beta")); attrs = (file_attrs (codes "f1:3") 4 (codes "home.txt") (codes "beta")); needs = ((codes "Conf") ∷ []); deletion = deletion.Delete; replace = replace.Delete; status = held.UpdateComplete; unsure = false; superseded = false }
@@ -183,10 +153,6 @@ stack_25_site = record stack_24_site { held = (audit_1 ∷ conf_1 ∷ home_3 ∷
 abbrev world_25 : World
 world_25 = record world_24 { stacks = (((codes "site"), stack_25_site) ∷ ((codes "user"), stack_17_user) ∷ []); place = 25 }
 
-leads_25 : world_after world_24 restored_home ≡ world_25
-unfolding computing
-leads_25 = refl
-
 may_intended_size_restore : MayFollow schemas world_25 [] intended_size_restore
 unfolding computing
 may_intended_size_restore = ((codes "site"), stack_25_site, Back, refl, refl, record { next = refl; free = refl; home = refl; fits = ((codes "5", refl), refl); no_repeat = refl; chosen = inr (refl, _, (there (there (there (there here))), refl, refl, refl), refl, refl, refl, refl) })
@@ -196,10 +162,6 @@ stack_26_site = record stack_25_site { tokens = (record { token = 10; path = (co
 
 abbrev world_26 : World
 world_26 = record world_25 { stacks = (((codes "site"), stack_26_site) ∷ ((codes "user"), stack_17_user) ∷ []); token = 10; place = 26 }
-
-leads_26 : world_after world_25 intended_size_restore ≡ world_26
-unfolding computing
-leads_26 = refl
 
 abbrev size_3 : Held
 size_3 = record { path = (codes "Size"); kind = note; physical = (codes "r1:5"); props = (note_props (codes "size") (codes "18/4")); attrs = (note_attrs (codes "r1:5") 4 (codes "size") (codes "18/4")); needs = ((codes "Conf") ∷ (codes "Home") ∷ []); deletion = deletion.Delete; replace = replace.Delete; status = held.UpdateComplete; unsure = false; superseded = false }
@@ -214,10 +176,6 @@ stack_27_site = record stack_26_site { held = (audit_1 ∷ conf_1 ∷ home_3 ∷
 abbrev world_27 : World
 world_27 = record world_26 { stacks = (((codes "site"), stack_27_site) ∷ ((codes "user"), stack_17_user) ∷ []); place = 27 }
 
-leads_27 : world_after world_26 restored_size ≡ world_27
-unfolding computing
-leads_27 = refl
-
 may_cleaning : MayFollow schemas world_27 [] cleaning
 unfolding computing
 may_cleaning = ((codes "site"), stack_27_site, Back, refl, refl, (refl, (refl, refl, nothing_to_restore stack_27_site refl, refl)))
@@ -227,10 +185,6 @@ stack_28_site = record stack_27_site { status = status.UpdateRollbackCompleteCle
 
 abbrev world_28 : World
 world_28 = record world_27 { stacks = (((codes "site"), stack_28_site) ∷ ((codes "user"), stack_17_user) ∷ []); place = 28 }
-
-leads_28 : world_after world_27 cleaning ≡ world_28
-unfolding computing
-leads_28 = refl
 
 may_rolled_back : MayFollow schemas world_28 [] rolled_back
 unfolding computing
@@ -242,21 +196,25 @@ stack_29_site = record stack_28_site { status = status.UpdateRollbackComplete; e
 abbrev world_29 : World
 world_29 = record world_28 { stacks = (((codes "site"), stack_29_site) ∷ ((codes "user"), stack_17_user) ∷ []); claims = []; place = 29 }
 
-leads_29 : world_after world_28 rolled_back ≡ world_29
+pub until_29 : IsRun empty_world run world_29
 unfolding computing
-leads_29 = refl
-
-abbrev behind : List Entry
-behind = updating ∷ intended_home_change ∷ changed_home ∷ intended_size_change ∷ changed_size ∷ turned ∷ intended_home_restore ∷ restored_home ∷ intended_size_restore ∷ restored_size ∷ cleaning ∷ rolled_back ∷ []
-
-legal_behind : IsLegal schemas world_17 behind
-legal_behind = legal_step world_17 world_18 updating (intended_home_change ∷ changed_home ∷ intended_size_change ∷ changed_size ∷ turned ∷ intended_home_restore ∷ restored_home ∷ intended_size_restore ∷ restored_size ∷ cleaning ∷ rolled_back ∷ []) [] may_updating leads_18 (legal_step world_18 world_19 intended_home_change (changed_home ∷ intended_size_change ∷ changed_size ∷ turned ∷ intended_home_restore ∷ restored_home ∷ intended_size_restore ∷ restored_size ∷ cleaning ∷ rolled_back ∷ []) [] may_intended_home_change leads_19 (legal_step world_19 world_20 changed_home (intended_size_change ∷ changed_size ∷ turned ∷ intended_home_restore ∷ restored_home ∷ intended_size_restore ∷ restored_size ∷ cleaning ∷ rolled_back ∷ []) (7 ∷ []) may_changed_home leads_20 (legal_step world_20 world_21 intended_size_change (changed_size ∷ turned ∷ intended_home_restore ∷ restored_home ∷ intended_size_restore ∷ restored_size ∷ cleaning ∷ rolled_back ∷ []) [] may_intended_size_change leads_21 (legal_step world_21 world_22 changed_size (turned ∷ intended_home_restore ∷ restored_home ∷ intended_size_restore ∷ restored_size ∷ cleaning ∷ rolled_back ∷ []) (8 ∷ []) may_changed_size leads_22 (legal_step world_22 world_23 turned (intended_home_restore ∷ restored_home ∷ intended_size_restore ∷ restored_size ∷ cleaning ∷ rolled_back ∷ []) [] may_turned leads_23 (legal_step world_23 world_24 intended_home_restore (restored_home ∷ intended_size_restore ∷ restored_size ∷ cleaning ∷ rolled_back ∷ []) [] may_intended_home_restore leads_24 (legal_step world_24 world_25 restored_home (intended_size_restore ∷ restored_size ∷ cleaning ∷ rolled_back ∷ []) (9 ∷ []) may_restored_home leads_25 (legal_step world_25 world_26 intended_size_restore (restored_size ∷ cleaning ∷ rolled_back ∷ []) [] may_intended_size_restore leads_26 (legal_step world_26 world_27 restored_size (cleaning ∷ rolled_back ∷ []) (10 ∷ []) may_restored_size leads_27 (legal_step world_27 world_28 cleaning (rolled_back ∷ []) [] may_cleaning leads_28 (legal_step world_28 world_29 rolled_back ([]) [] may_rolled_back leads_29 (tt))))))))))))
-
-arrives_behind : fold_of world_17 behind ≡ world_29
-arrives_behind = fold_step world_17 world_18 updating (intended_home_change ∷ changed_home ∷ intended_size_change ∷ changed_size ∷ turned ∷ intended_home_restore ∷ restored_home ∷ intended_size_restore ∷ restored_size ∷ cleaning ∷ rolled_back ∷ []) leads_18 (fold_step world_18 world_19 intended_home_change (changed_home ∷ intended_size_change ∷ changed_size ∷ turned ∷ intended_home_restore ∷ restored_home ∷ intended_size_restore ∷ restored_size ∷ cleaning ∷ rolled_back ∷ []) leads_19 (fold_step world_19 world_20 changed_home (intended_size_change ∷ changed_size ∷ turned ∷ intended_home_restore ∷ restored_home ∷ intended_size_restore ∷ restored_size ∷ cleaning ∷ rolled_back ∷ []) leads_20 (fold_step world_20 world_21 intended_size_change (changed_size ∷ turned ∷ intended_home_restore ∷ restored_home ∷ intended_size_restore ∷ restored_size ∷ cleaning ∷ rolled_back ∷ []) leads_21 (fold_step world_21 world_22 changed_size (turned ∷ intended_home_restore ∷ restored_home ∷ intended_size_restore ∷ restored_size ∷ cleaning ∷ rolled_back ∷ []) leads_22 (fold_step world_22 world_23 turned (intended_home_restore ∷ restored_home ∷ intended_size_restore ∷ restored_size ∷ cleaning ∷ rolled_back ∷ []) leads_23 (fold_step world_23 world_24 intended_home_restore (restored_home ∷ intended_size_restore ∷ restored_size ∷ cleaning ∷ rolled_back ∷ []) leads_24 (fold_step world_24 world_25 restored_home (intended_size_restore ∷ restored_size ∷ cleaning ∷ rolled_back ∷ []) leads_25 (fold_step world_25 world_26 intended_size_restore (restored_size ∷ cleaning ∷ rolled_back ∷ []) leads_26 (fold_step world_26 world_27 restored_size (cleaning ∷ rolled_back ∷ []) leads_27 (fold_step world_27 world_28 cleaning (rolled_back ∷ []) leads_28 (fold_step world_28 world_29 rolled_back ([]) leads_29 (refl))))))))))))
+until_29 =
+    joined (drop 17 run) until_17
+    (step world_18 [] may_updating refl
+    (step world_19 [] may_intended_home_change refl
+    (step world_20 (7 ∷ []) may_changed_home refl
+    (step world_21 [] may_intended_size_change refl
+    (step world_22 (8 ∷ []) may_changed_size refl
+    (step world_23 [] may_turned refl
+    (step world_24 [] may_intended_home_restore refl
+    (step world_25 (9 ∷ []) may_restored_home refl
+    (step world_26 [] may_intended_size_restore refl
+    (step world_27 (10 ∷ []) may_restored_size refl
+    (step world_28 [] may_cleaning refl
+    (step world_29 [] may_rolled_back refl ended))))))))))))
 
 pub legal : Legal
-legal = legal_joined empty_world until_used behind (legal_front empty_world until_used (deleting_user ∷ intended_use_gone ∷ use_gone ∷ user_gone ∷ deleting_site ∷ kept_audit ∷ intended_main_gone ∷ main_gone ∷ intended_size_gone ∷ size_gone ∷ intended_home_gone ∷ home_gone ∷ intended_conf_gone ∷ conf_gone ∷ site_gone ∷ []) legal_site) (subst (λ w. IsLegal schemas w behind) (sym arrives_17) legal_behind)
+legal = until_29.legal
 
 pub report_0 : Shows
-report_0 = ap (report_of (codes "site")) (fold_joined empty_world until_used behind arrives_17 arrives_behind)
+report_0 = ap (report_of (codes "site")) until_29.arrives

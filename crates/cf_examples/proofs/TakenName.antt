@@ -1,18 +1,17 @@
 -- A file is moved onto the name of another one: the handler refuses, and the update is taken back.
-use Rattle.std.proofs.Common.{◌≡◌, refl, List, [], ◌∷◌, ◌++◌, Some, false, ℕ, inl, inr, ap, lit≤}
-use Rattle.std.specs.Prelude.{codes}
+use Rattle.std.proofs.Common.{refl, List, [], ◌∷◌, ◌++◌, Some, false, ℕ, inl, inr, ap, lit≤}
+use Rattle.std.specs.Prelude.{codes, take, drop}
 use Rattle.cf_tree.specs.declared.request.Request.TheVariants as request
 use Rattle.cf_tree.specs.declared.code.Code.TheVariants as code
 use Rattle.cf_entry.specs.declared.turn.Reason.TheVariants as reason
-use Rattle.cf_entry.specs.declared.entry.Entry.{Entry}
 use Rattle.cf_stacks.specs.declared.held.Held.{Held}
 use Rattle.cf_stacks.specs.declared.state.World.{World}
 use Rattle.cf_stacks.specs.declared.state.StackState.{StackState}
-use Rattle.cf_stacks.specs.Fold.{empty_world, world_after, source_for}
+use Rattle.cf_stacks.specs.Fold.{empty_world, source_for, no_stack}
 use Rattle.cf_stacks.specs.Status.{Forward, Back, BackClean}
 use Rattle.cf_plan.specs.Forward.{here, there, HasFailed, IsReady, AllDone, IsDone, is_made}
 use Rattle.cf_plan.specs.Follow.{MayFollow}
-use Rattle.cf_examples.specs.Given.{schemas, file, file_props, file_attrs}
+use Rattle.cf_examples.specs.Given.{schemas, file, file_props, file_attrs, lane_pair, report_of}
 use Rattle.cf_examples.proofs.Computing.{computing}
 use Rattle.cf_examples.proofs.Lists.{in_none, either}
 use Rattle.cf_examples.proofs.Failing.{not_failed, not_done_new, not_done_other, same_at}
@@ -22,11 +21,9 @@ use Rattle.cf_tree.specs.declared.template.Replace.TheVariants as replace
 use Rattle.cf_entry.specs.declared.entry.Entry.TheVariants as entry
 use Rattle.cf_entry.specs.declared.status.Status.TheVariants as status
 use Rattle.cf_stacks.specs.declared.held.HeldStatus.TheVariants as held
-use Rattle.cf_stacks.specs.Fold.{fold_of, no_stack}
-use Rattle.cf_examples.specs.Given.{lane_pair, report_of}
-use Rattle.cf_examples.proofs.Refusing.{follows_on, legal_step, fold_step, refused_at}
+use Rattle.cf_examples.proofs.Refusing.{follows_on, refused_at, IsRun, ended, step, joined}
 use Rattle.cf_examples.proofs.Beginning.{no_imports}
-use Rattle.cf_examples.specs.TakenName.{first, second, opened, begun, intended_a, made_a, intended_b, made_b, created, updating, intended_move, refused, turned, cleaning, rolled_back, Legal, Shows, MadeAnew}
+use Rattle.cf_examples.specs.TakenName.{first, second, opened, begun, intended_a, made_a, intended_b, made_b, created, updating, intended_move, refused, turned, cleaning, rolled_back, Legal, Shows, MadeAnew, run}
 
 abbrev world_0 : World
 world_0 = empty_world
@@ -38,10 +35,6 @@ may_opened = (refl, refl, λ name s e. absurd (cc))
 abbrev world_1 : World
 world_1 = record world_0 { lanes = (lane_pair (codes "f1") file ∷ []); epoch = 1; place = 1 }
 
-leads_1 : world_after world_0 opened ≡ world_1
-unfolding computing
-leads_1 = refl
-
 may_begun : MayFollow schemas world_1 [] begun
 unfolding computing
 may_begun = (refl, refl, record { no_flaw = refl; known_types = refl; same_types = refl; imports = no_imports _ _ _ _ refl refl; free = refl; not_in_use = refl; changing = inl refl })
@@ -51,10 +44,6 @@ stack_2_two = record no_stack { status = status.CreateInProgress; number = 1; op
 
 abbrev world_2 : World
 world_2 = record world_1 { stacks = (((codes "two"), stack_2_two) ∷ []); operation = 1; place = 2 }
-
-leads_2 : world_after world_1 begun ≡ world_2
-unfolding computing
-leads_2 = refl
 
 sound_2 : ¬ HasFailed schemas (codes "two") world_2 stack_2_two
 unfolding computing
@@ -74,10 +63,6 @@ stack_3_two = record stack_2_two { tokens = (record { token = 1; path = (codes "
 abbrev world_3 : World
 world_3 = record world_2 { stacks = (((codes "two"), stack_3_two) ∷ []); token = 1; place = 3 }
 
-leads_3 : world_after world_2 intended_a ≡ world_3
-unfolding computing
-leads_3 = refl
-
 may_made_a : MayFollow schemas world_3 (1 ∷ []) made_a
 unfolding computing
 may_made_a = ((codes "two"), stack_3_two, Forward, refl, refl, (refl, refl, lit≤ tt))
@@ -90,10 +75,6 @@ stack_4_two = record stack_3_two { made = (a_1 ∷ []); tokens = []; events = st
 
 abbrev world_4 : World
 world_4 = record world_3 { stacks = (((codes "two"), stack_4_two) ∷ []); place = 4 }
-
-leads_4 : world_after world_3 made_a ≡ world_4
-unfolding computing
-leads_4 = refl
 
 sound_4 : ¬ HasFailed schemas (codes "two") world_4 stack_4_two
 unfolding computing
@@ -113,10 +94,6 @@ stack_5_two = record stack_4_two { tokens = (record { token = 2; path = (codes "
 abbrev world_5 : World
 world_5 = record world_4 { stacks = (((codes "two"), stack_5_two) ∷ []); token = 2; place = 5 }
 
-leads_5 : world_after world_4 intended_b ≡ world_5
-unfolding computing
-leads_5 = refl
-
 may_made_b : MayFollow schemas world_5 (2 ∷ []) made_b
 unfolding computing
 may_made_b = ((codes "two"), stack_5_two, Forward, refl, refl, (refl, refl, lit≤ tt))
@@ -129,10 +106,6 @@ stack_6_two = record stack_5_two { made = (a_1 ∷ b_1 ∷ []); tokens = []; eve
 
 abbrev world_6 : World
 world_6 = record world_5 { stacks = (((codes "two"), stack_6_two) ∷ []); place = 6 }
-
-leads_6 : world_after world_5 made_b ≡ world_6
-unfolding computing
-leads_6 = refl
 
 all_done_6 : AllDone stack_6_two
 unfolding computing
@@ -152,10 +125,6 @@ stack_7_two = record stack_6_two { status = status.CreateComplete; held = (a_1 �
 abbrev world_7 : World
 world_7 = record world_6 { stacks = (((codes "two"), stack_7_two) ∷ []); place = 7 }
 
-leads_7 : world_after world_6 created ≡ world_7
-unfolding computing
-leads_7 = refl
-
 may_updating : MayFollow schemas world_7 [] updating
 unfolding computing
 may_updating = (refl, refl, record { no_flaw = refl; known_types = refl; same_types = refl; imports = no_imports _ _ _ _ refl refl; free = refl; not_in_use = refl; changing = inr (inl refl) })
@@ -165,10 +134,6 @@ stack_8_two = record stack_7_two { status = status.UpdateInProgress; operation =
 
 abbrev world_8 : World
 world_8 = record world_7 { stacks = (((codes "two"), stack_8_two) ∷ []); operation = 2; place = 8 }
-
-leads_8 : world_after world_7 updating ≡ world_8
-unfolding computing
-leads_8 = refl
 
 sound_8 : ¬ HasFailed schemas (codes "two") world_8 stack_8_two
 unfolding computing
@@ -188,10 +153,6 @@ stack_9_two = record stack_8_two { tokens = (record { token = 3; path = (codes "
 abbrev world_9 : World
 world_9 = record world_8 { stacks = (((codes "two"), stack_9_two) ∷ []); token = 3; place = 9 }
 
-leads_9 : world_after world_8 intended_move ≡ world_9
-unfolding computing
-leads_9 = refl
-
 may_refused : MayFollow schemas world_9 (3 ∷ []) refused
 unfolding computing
 may_refused = ((codes "two"), stack_9_two, Forward, refl, refl, (refl, refl, (lit≤ tt, λ _. lit≤ tt)))
@@ -201,10 +162,6 @@ stack_10_two = record stack_9_two { tokens = []; events = stack_9_two.events ++ 
 
 abbrev world_10 : World
 world_10 = record world_9 { stacks = (((codes "two"), stack_10_two) ∷ []); place = 10 }
-
-leads_10 : world_after world_9 refused ≡ world_10
-unfolding computing
-leads_10 = refl
 
 may_turned : MayFollow schemas world_10 [] turned
 unfolding computing
@@ -216,10 +173,6 @@ stack_11_two = record stack_10_two { status = status.UpdateRollbackInProgress; e
 abbrev world_11 : World
 world_11 = record world_10 { stacks = (((codes "two"), stack_11_two) ∷ []); place = 11 }
 
-leads_11 : world_after world_10 turned ≡ world_11
-unfolding computing
-leads_11 = refl
-
 may_cleaning : MayFollow schemas world_11 [] cleaning
 unfolding computing
 may_cleaning = ((codes "two"), stack_11_two, Back, refl, refl, (refl, (refl, refl, nothing_to_restore stack_11_two refl, refl)))
@@ -229,10 +182,6 @@ stack_12_two = record stack_11_two { status = status.UpdateRollbackCompleteClean
 
 abbrev world_12 : World
 world_12 = record world_11 { stacks = (((codes "two"), stack_12_two) ∷ []); place = 12 }
-
-leads_12 : world_after world_11 cleaning ≡ world_12
-unfolding computing
-leads_12 = refl
 
 may_rolled_back : MayFollow schemas world_12 [] rolled_back
 unfolding computing
@@ -244,67 +193,37 @@ stack_13_two = record stack_12_two { status = status.UpdateRollbackComplete; eve
 abbrev world_13 : World
 world_13 = record world_12 { stacks = (((codes "two"), stack_13_two) ∷ []); place = 13 }
 
-leads_13 : world_after world_12 rolled_back ≡ world_13
+pub until_11 : IsRun empty_world (take 11 run) world_11
 unfolding computing
-leads_13 = refl
+until_11 =
+    step world_1 [] may_opened refl
+    (step world_2 [] may_begun refl
+    (step world_3 [] may_intended_a refl
+    (step world_4 (1 ∷ []) may_made_a refl
+    (step world_5 [] may_intended_b refl
+    (step world_6 (2 ∷ []) may_made_b refl
+    (step world_7 [] may_created refl
+    (step world_8 [] may_updating refl
+    (step world_9 [] may_intended_move refl
+    (step world_10 (3 ∷ []) may_refused refl
+    (step world_11 [] may_turned refl ended))))))))))
 
-abbrev rest_13 : List Entry
-rest_13 = []
-
-abbrev rest_12 : List Entry
-rest_12 = rolled_back ∷ rest_13
-
-abbrev rest_11 : List Entry
-rest_11 = cleaning ∷ rest_12
-
-abbrev rest_10 : List Entry
-rest_10 = turned ∷ rest_11
-
-abbrev rest_9 : List Entry
-rest_9 = refused ∷ rest_10
-
-abbrev rest_8 : List Entry
-rest_8 = intended_move ∷ rest_9
-
-abbrev rest_7 : List Entry
-rest_7 = updating ∷ rest_8
-
-abbrev rest_6 : List Entry
-rest_6 = created ∷ rest_7
-
-abbrev rest_5 : List Entry
-rest_5 = made_b ∷ rest_6
-
-abbrev rest_4 : List Entry
-rest_4 = intended_b ∷ rest_5
-
-abbrev rest_3 : List Entry
-rest_3 = made_a ∷ rest_4
-
-abbrev rest_2 : List Entry
-rest_2 = intended_a ∷ rest_3
-
-abbrev rest_1 : List Entry
-rest_1 = begun ∷ rest_2
-
-abbrev rest_0 : List Entry
-rest_0 = opened ∷ rest_1
+pub until_13 : IsRun empty_world run world_13
+unfolding computing
+until_13 =
+    joined (drop 11 run) until_11
+    (step world_12 [] may_cleaning refl
+    (step world_13 [] may_rolled_back refl ended))
 
 pub legal : Legal
-legal = legal_step world_0 world_1 opened rest_1 [] may_opened leads_1 (legal_step world_1 world_2 begun rest_2 [] may_begun leads_2 (legal_step world_2 world_3 intended_a rest_3 [] may_intended_a leads_3 (legal_step world_3 world_4 made_a rest_4 (1 ∷ []) may_made_a leads_4 (legal_step world_4 world_5 intended_b rest_5 [] may_intended_b leads_5 (legal_step world_5 world_6 made_b rest_6 (2 ∷ []) may_made_b leads_6 (legal_step world_6 world_7 created rest_7 [] may_created leads_7 (legal_step world_7 world_8 updating rest_8 [] may_updating leads_8 (legal_step world_8 world_9 intended_move rest_9 [] may_intended_move leads_9 (legal_step world_9 world_10 refused rest_10 (3 ∷ []) may_refused leads_10 (legal_step world_10 world_11 turned rest_11 [] may_turned leads_11 (legal_step world_11 world_12 cleaning rest_12 [] may_cleaning leads_12 (legal_step world_12 world_13 rolled_back rest_13 [] may_rolled_back leads_13 (tt)))))))))))))
-
-arrives_11 : fold_of empty_world (opened ∷ begun ∷ intended_a ∷ made_a ∷ intended_b ∷ made_b ∷ created ∷ updating ∷ intended_move ∷ refused ∷ turned ∷ []) ≡ world_11
-arrives_11 = fold_step world_0 world_1 opened (begun ∷ intended_a ∷ made_a ∷ intended_b ∷ made_b ∷ created ∷ updating ∷ intended_move ∷ refused ∷ turned ∷ []) leads_1 (fold_step world_1 world_2 begun (intended_a ∷ made_a ∷ intended_b ∷ made_b ∷ created ∷ updating ∷ intended_move ∷ refused ∷ turned ∷ []) leads_2 (fold_step world_2 world_3 intended_a (made_a ∷ intended_b ∷ made_b ∷ created ∷ updating ∷ intended_move ∷ refused ∷ turned ∷ []) leads_3 (fold_step world_3 world_4 made_a (intended_b ∷ made_b ∷ created ∷ updating ∷ intended_move ∷ refused ∷ turned ∷ []) leads_4 (fold_step world_4 world_5 intended_b (made_b ∷ created ∷ updating ∷ intended_move ∷ refused ∷ turned ∷ []) leads_5 (fold_step world_5 world_6 made_b (created ∷ updating ∷ intended_move ∷ refused ∷ turned ∷ []) leads_6 (fold_step world_6 world_7 created (updating ∷ intended_move ∷ refused ∷ turned ∷ []) leads_7 (fold_step world_7 world_8 updating (intended_move ∷ refused ∷ turned ∷ []) leads_8 (fold_step world_8 world_9 intended_move (refused ∷ turned ∷ []) leads_9 (fold_step world_9 world_10 refused (turned ∷ []) leads_10 (fold_step world_10 world_11 turned ([]) leads_11 (refl)))))))))))
-
-arrives_13 : fold_of empty_world (opened ∷ begun ∷ intended_a ∷ made_a ∷ intended_b ∷ made_b ∷ created ∷ updating ∷ intended_move ∷ refused ∷ turned ∷ cleaning ∷ rolled_back ∷ []) ≡ world_13
-arrives_13 = fold_step world_0 world_1 opened (begun ∷ intended_a ∷ made_a ∷ intended_b ∷ made_b ∷ created ∷ updating ∷ intended_move ∷ refused ∷ turned ∷ cleaning ∷ rolled_back ∷ []) leads_1 (fold_step world_1 world_2 begun (intended_a ∷ made_a ∷ intended_b ∷ made_b ∷ created ∷ updating ∷ intended_move ∷ refused ∷ turned ∷ cleaning ∷ rolled_back ∷ []) leads_2 (fold_step world_2 world_3 intended_a (made_a ∷ intended_b ∷ made_b ∷ created ∷ updating ∷ intended_move ∷ refused ∷ turned ∷ cleaning ∷ rolled_back ∷ []) leads_3 (fold_step world_3 world_4 made_a (intended_b ∷ made_b ∷ created ∷ updating ∷ intended_move ∷ refused ∷ turned ∷ cleaning ∷ rolled_back ∷ []) leads_4 (fold_step world_4 world_5 intended_b (made_b ∷ created ∷ updating ∷ intended_move ∷ refused ∷ turned ∷ cleaning ∷ rolled_back ∷ []) leads_5 (fold_step world_5 world_6 made_b (created ∷ updating ∷ intended_move ∷ refused ∷ turned ∷ cleaning ∷ rolled_back ∷ []) leads_6 (fold_step world_6 world_7 created (updating ∷ intended_move ∷ refused ∷ turned ∷ cleaning ∷ rolled_back ∷ []) leads_7 (fold_step world_7 world_8 updating (intended_move ∷ refused ∷ turned ∷ cleaning ∷ rolled_back ∷ []) leads_8 (fold_step world_8 world_9 intended_move (refused ∷ turned ∷ cleaning ∷ rolled_back ∷ []) leads_9 (fold_step world_9 world_10 refused (turned ∷ cleaning ∷ rolled_back ∷ []) leads_10 (fold_step world_10 world_11 turned (cleaning ∷ rolled_back ∷ []) leads_11 (fold_step world_11 world_12 cleaning (rolled_back ∷ []) leads_12 (fold_step world_12 world_13 rolled_back ([]) leads_13 (refl)))))))))))))
+legal = until_13.legal
 
 pub report_0 : Shows
-report_0 = ap (report_of (codes "two")) arrives_13
+report_0 = ap (report_of (codes "two")) until_13.arrives
 
 may_not_0 : (out : List ℕ) → MayFollow schemas world_11 out (entry.Intent 2 4 (codes "f1") (codes "A") (request.Create file (file_props (codes "a") (codes "x")))) → ⊥
 unfolding computing
 may_not_0 = λ out may. let m = follows_on schemas 2 world_11 out (entry.Intent 2 4 (codes "f1") (codes "A") (request.Create file (file_props (codes "a") (codes "x")))) ((codes "two"), stack_11_two) Back refl refl may in (elim m.chosen [ inl n ↦ n | inr n ↦ n ])
 
 pub refused_0 : MadeAnew
-refused_0 = refused_at world_11 (opened ∷ begun ∷ intended_a ∷ made_a ∷ intended_b ∷ made_b ∷ created ∷ updating ∷ intended_move ∷ refused ∷ turned ∷ []) (entry.Intent 2 4 (codes "f1") (codes "A") (request.Create file (file_props (codes "a") (codes "x")))) arrives_11 may_not_0
+refused_0 = refused_at world_11 (take 11 run) (entry.Intent 2 4 (codes "f1") (codes "A") (request.Create file (file_props (codes "a") (codes "x")))) until_11.arrives may_not_0

@@ -100,20 +100,6 @@ Leaves = fold_of empty_world run ≡ world
 abbrev pub Legal : Type 0
 Legal = IsLegal schemas empty_world run
 
--- A creation in doubt may not be tried again under another token.
-abbrev pub broken : Entry
-broken = entry.Outcome 1 1 reply.Doubt 0 1
-
-abbrev pub again : Entry
-again = entry.Intent 1 2 (codes "f1") (codes "Web") (request.Create file (file_props (codes "web.txt") (codes "hello")))
-
-abbrev pub RetriedUnderAnotherToken : Type 0
-RetriedUnderAnotherToken = IsRefusedAfter (opened ∷ begun ∷ intended ∷ broken ∷ []) again
-
--- while the doubt itself may come
-abbrev pub DoubtIsLegal : Type 0
-DoubtIsLegal = IsLegal schemas empty_world (opened ∷ begun ∷ intended ∷ broken ∷ [])
-
 -- The same source changes nothing, so no update begins by it.
 abbrev pub same_again : Entry
 same_again = entry.Begin 2 (codes "app") (begin.Update source)

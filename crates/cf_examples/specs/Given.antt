@@ -5,6 +5,7 @@ use Rattle.std.specs.Str.{bytes_eq}
 use Rattle.cf_tree.specs.Keys.{bytes_lt}
 use Rattle.cf_tree.specs.Datum.{Data, text, whole}
 use Rattle.cf_tree.specs.declared.source.Source.{Source}
+use Rattle.cf_tree.specs.Lists.{insert_by}
 use Rattle.cf_export.specs.declared.Output.{Output}
 use Rattle.cf_entry.specs.declared.entry.Entry.{Entry}
 use Rattle.cf_entry.specs.declared.status.Status.{Status}
@@ -14,7 +15,6 @@ use Rattle.cf_stacks.specs.declared.held.Leftover.{Leftover}
 use Rattle.cf_stacks.specs.declared.state.StackState.{StackState}
 use Rattle.cf_stacks.specs.declared.state.World.{World}
 use Rattle.cf_stacks.specs.Fold.{empty_world, known_stack}
-use Rattle.cf_graph.specs.Inserted.{insert_by}
 use Rattle.cf_plan.specs.Accept.{exports_by}
 use Rattle.cf_plan.specs.Follow.{IsLegal, failed_in, is_done_entry}
 use Rattle.cf_handler.specs.declared.settled.Settled.{Settled}

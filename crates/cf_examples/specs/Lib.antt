@@ -1,12 +1,10 @@
 pub mod Given
 pub mod FirstResource
 pub mod Replacement
-pub mod IndexOutside
 pub mod TakenName
 pub mod FaultRepeated
 pub mod RolledBack
 pub mod RollbackFailed
-pub mod Blamed
 pub mod NotUpdatable
 pub mod LateEffect
 pub mod Skipped
@@ -16,7 +14,6 @@ pub mod Pinned
 pub mod Site
 pub mod SiteKept
 pub mod MadeAndTakenBack
-pub mod KeptInRollback
 pub mod RestoreRefused
 pub mod LostCreation
 pub mod Undeleted

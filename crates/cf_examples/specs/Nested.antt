@@ -14,7 +14,7 @@ use Rattle.cf_desired.specs.declared.flaw.Flaw.TheVariants as flaw
 use Rattle.cf_desired.specs.declared.wanted.Evaluated.TheVariants.{Flawed as flawed}
 use Rattle.cf_desired.specs.Plan.{Seen, plan_of}
 use Rattle.cf_desired.specs.Whole.{wanted_at}
-use Rattle.cf_plan.specs.FlawText.{flaw_text}
+use Rattle.cf_desired.specs.FlawText.{flaw_text}
 use Rattle.cf_plan.specs.Follow.{IsLegal}
 use Rattle.cf_examples.specs.Given.{file, note, file_props, file_attrs, note_props, note_attrs, schemas, lane_pair, report_of, bare, IsRefusedAfter}
 

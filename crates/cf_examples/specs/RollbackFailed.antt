@@ -1,5 +1,5 @@
 -- A creation is refused at its second resource, and the deletion of the first one is refused too.
-use Rattle.std.specs.Prelude.{◌≡◌, List, [], ◌∷◌, codes, Some, false, ◌++◌}
+use Rattle.std.specs.Prelude.{List, [], ◌∷◌, codes, Some, ◌++◌}
 use Rattle.cf_tree.specs.declared.code.Code.TheVariants as code
 use Rattle.cf_tree.specs.declared.request.Request.TheVariants as request
 use Rattle.cf_tree.specs.declared.source.Source.{Source}
@@ -11,10 +11,7 @@ use Rattle.cf_entry.specs.declared.status.Status.TheVariants as status
 use Rattle.cf_entry.specs.declared.turn.Cause.TheVariants as cause
 use Rattle.cf_entry.specs.declared.turn.Phase.TheVariants as phase
 use Rattle.cf_entry.specs.declared.turn.Reason.TheVariants as reason
-use Rattle.cf_stacks.specs.declared.held.HeldStatus.TheVariants as held
-use Rattle.cf_stacks.specs.Fold.{empty_world, fold_of}
-use Rattle.cf_plan.specs.Follow.{IsLegal}
-use Rattle.cf_examples.specs.Given.{file, note, file_props, file_attrs, note_props, schemas, source_of, lane_pair, report_of, bare, IsRefusedAfter}
+use Rattle.cf_examples.specs.Given.{file, note, file_props, file_attrs, note_props, source_of, lane_pair}
 
 abbrev pub first : Source
 first =
@@ -54,29 +51,3 @@ failed = entry.Done 1 status.RollbackFailed ((codes "A") ∷ (codes "B") ∷ [])
 
 abbrev pub run : List Entry
 run = opened ∷ begun ∷ intended_a ∷ made_a ∷ intended_b ∷ refused ∷ turned ∷ intended_deletion ∷ undeleted ∷ failed ∷ []
-
--- each entry may follow where it stands
-abbrev pub Legal : Type 0
-Legal = IsLegal schemas empty_world run
-
--- what the report shows in the end
-abbrev pub Shows : Type 0
-Shows =
-    report_of (codes "s") (fold_of empty_world run)
-    ≡ record (bare status.RollbackFailed 1) {
-      resources = record {
-        path = (codes "A");
-        kind = file;
-        physical = (codes "f1:1");
-        status = held.DeleteFailed;
-        unsure = false;
-        props = (file_props (codes "a") (codes "x"));
-      } ∷ [];
-      failed = codes "A" ∷ codes "B" ∷ [];
-    }
-
--- A resource whose deletion was refused may not be dropped.
-abbrev pub DroppedThoughThere : Type 0
-DroppedThoughThere =
-    IsRefusedAfter (opened ∷ begun ∷ intended_a ∷ made_a ∷ intended_b ∷ refused ∷ turned ∷ intended_deletion ∷ undeleted ∷ [])
-    (entry.Done 1 status.RollbackComplete [])

@@ -1,5 +1,5 @@
 -- A creation is refused at its second resource, and the first one is deleted.
-use Rattle.std.specs.Prelude.{◌≡◌, List, [], ◌∷◌, codes, Some, ◌++◌}
+use Rattle.std.specs.Prelude.{List, [], ◌∷◌, codes, Some, ◌++◌}
 use Rattle.cf_tree.specs.declared.code.Code.TheVariants as code
 use Rattle.cf_tree.specs.declared.request.Request.TheVariants as request
 use Rattle.cf_tree.specs.declared.source.Source.{Source}
@@ -11,9 +11,7 @@ use Rattle.cf_entry.specs.declared.status.Status.TheVariants as status
 use Rattle.cf_entry.specs.declared.turn.Cause.TheVariants as cause
 use Rattle.cf_entry.specs.declared.turn.Phase.TheVariants as phase
 use Rattle.cf_entry.specs.declared.turn.Reason.TheVariants as reason
-use Rattle.cf_stacks.specs.Fold.{empty_world, fold_of}
-use Rattle.cf_plan.specs.Follow.{IsLegal}
-use Rattle.cf_examples.specs.Given.{file, note, file_props, file_attrs, note_props, schemas, source_of, lane_pair, report_of, bare}
+use Rattle.cf_examples.specs.Given.{file, note, file_props, file_attrs, note_props, source_of, lane_pair}
 
 abbrev pub first : Source
 first =
@@ -53,11 +51,3 @@ rolled_back = entry.Done 1 status.RollbackComplete []
 
 abbrev pub run : List Entry
 run = opened ∷ begun ∷ intended_a ∷ made_a ∷ intended_b ∷ refused ∷ turned ∷ intended_deletion ∷ deleted ∷ rolled_back ∷ []
-
--- each entry may follow where it stands
-abbrev pub Legal : Type 0
-Legal = IsLegal schemas empty_world run
-
--- what the report shows in the end
-abbrev pub Shows : Type 0
-Shows = report_of (codes "s") (fold_of empty_world run) ≡ bare status.RollbackComplete 1

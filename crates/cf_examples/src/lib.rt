@@ -4,12 +4,8 @@
 
 ghost use Rattle.cf_examples.specs.FirstResource as the_first_resource_run;
 ghost use Rattle.cf_examples.specs.Replacement as a_replacement_run;
-ghost use Rattle.cf_examples.specs.IndexOutside as an_index_outside_run;
 ghost use Rattle.cf_examples.specs.TakenName as a_taken_name_run;
 ghost use Rattle.cf_examples.specs.FaultRepeated as a_fault_repeated_run;
-ghost use Rattle.cf_examples.specs.RolledBack as a_rollback_done_run;
-ghost use Rattle.cf_examples.specs.RollbackFailed as a_rollback_failed_run;
-ghost use Rattle.cf_examples.specs.Blamed as who_is_blamed_run;
 ghost use Rattle.cf_examples.specs.NotUpdatable as an_update_becomes_a_replacement_run;
 ghost use Rattle.cf_examples.specs.LateEffect as a_late_effect_run;
 ghost use Rattle.cf_examples.specs.Skipped as a_skipped_update_run;
@@ -17,7 +13,6 @@ ghost use Rattle.cf_examples.specs.Reviewed as a_change_set_run;
 ghost use Rattle.cf_examples.specs.Undeleted as an_undeleted_resource_run;
 ghost use Rattle.cf_examples.specs.LostCreation as a_lost_creation_run;
 ghost use Rattle.cf_examples.specs.RestoreRefused as a_refused_restore_run;
-ghost use Rattle.cf_examples.specs.KeptInRollback as a_rollback_that_keeps_run;
 ghost use Rattle.cf_examples.specs.MadeAndTakenBack as an_update_taken_back_run;
 ghost use Rattle.cf_examples.specs.Retained as a_retained_resource_run;
 ghost use Rattle.cf_examples.specs.Nested as a_nested_stack_run;
@@ -29,13 +24,10 @@ ghost use Rattle.cf_examples.specs.Pinned as a_pinned_export_run;
 ghost use Rattle.cf_examples.specs.Site as a_site_deleted_run;
 ghost use Rattle.cf_examples.specs.SiteKept as a_site_kept_run;
 
-/// A stack of one file: the whole world that is left is told. A creation in doubt may not be tried again under another token,
-/// and an update that changes nothing may not begin.
+/// A stack of one file: the whole world that is left is told. An update that changes nothing may not begin.
 pub fn the_first_resource()
     ensures legal { the_first_resource_run.Legal }
     ensures leaves { the_first_resource_run.Leaves }
-    ensures doubt { the_first_resource_run.DoubtIsLegal }
-    ensures another_token { the_first_resource_run.RetriedUnderAnotherToken }
     ensures nothing_changes { the_first_resource_run.UpdatedThoughTheSame }
 {}
 
@@ -51,12 +43,6 @@ pub fn a_replacement()
     ensures answered_under_another_number { a_replacement_run.AnsweredUnderAnotherNumber }
 {}
 
-/// An index outside its list, found once the file is there, and the way back.
-pub fn an_index_outside()
-    ensures legal { an_index_outside_run.Legal }
-    ensures shows { an_index_outside_run.Shows }
-{}
-
 /// A move onto a taken name, and the way back; a resource is not made anew.
 pub fn a_taken_name()
     ensures legal { a_taken_name_run.Legal }
@@ -68,26 +54,6 @@ pub fn a_taken_name()
 pub fn a_fault_repeated()
     ensures legal { a_fault_repeated_run.Legal }
     ensures shows { a_fault_repeated_run.Shows }
-{}
-
-/// The rollback of a creation, done.
-pub fn a_rollback_done()
-    ensures legal { a_rollback_done_run.Legal }
-    ensures shows { a_rollback_done_run.Shows }
-{}
-
-/// The rollback of a creation, failed: both paths are told, and what could not be deleted stays on the list.
-pub fn a_rollback_failed()
-    ensures legal { a_rollback_failed_run.Legal }
-    ensures shows { a_rollback_failed_run.Shows }
-    ensures dropped_though_there { a_rollback_failed_run.DroppedThoughThere }
-{}
-
-/// Only the paths that failed are told, and not all of the stack.
-pub fn who_is_blamed()
-    ensures legal { who_is_blamed_run.Legal }
-    ensures shows { who_is_blamed_run.Shows }
-    ensures all_named { who_is_blamed_run.AllNamed }
 {}
 
 /// NotUpdatable at a conditional property: a new record is made, and the old one deleted in the cleanup.
@@ -187,13 +153,6 @@ pub fn a_refused_restore()
     ensures legal { a_refused_restore_run.Legal }
     ensures fails { a_refused_restore_run.Fails }
     ensures shows { a_refused_restore_run.Shows }
-{}
-
-/// The rollback of a creation keeps what is retained, and is complete.
-pub fn a_rollback_that_keeps()
-    ensures legal { a_rollback_that_keeps_run.Legal }
-    ensures shows { a_rollback_that_keeps_run.Shows }
-    ensures deleted_though_retained { a_rollback_that_keeps_run.DeletedThoughRetained }
 {}
 
 /// What a failed update made is deleted in the cleanup of its rollback, and not before.

@@ -1,6 +1,6 @@
 -- What is borrowed joins a list in its order.
 use Rattle.std.proofs.Common.{◌≡◌, ℕ, zero, suc, ◌<◌, ◌≤◌, Bool, true, false, List, [], ◌∷◌, length, map, get_or, insert, refl, ap, arith}
-use Rattle.cf_stacks.proofs.Joins.{joined_behind}
+use Rattle.cf_tree.proofs.Joins.{joined_behind}
 
 module _ {A B : Type 0} (f : B → A) where
   pub map_insert : (xs : List B) (i : ℕ) (x : B) → i ≤ length xs → map f (insert xs i x) ≡ insert (map f xs) i (f x)

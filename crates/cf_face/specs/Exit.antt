@@ -1,5 +1,6 @@
 -- How a command ended, and the line that says so (this project's own).
 use Rattle.std.specs.Prelude.{ℕ, List, [], ◌∷◌, decimal, codes}
+use Rattle.cf_desired.specs.FlawText.{flaw_text}
 use Rattle.cf_template.specs.declared.refusal.TemplateFault.{TemplateFault}
 use Rattle.cf_template.specs.declared.refusal.TemplateFault.TheVariants as unread
 use Rattle.cf_face.specs.declared.exit.Exit.{Exit}
@@ -14,7 +15,6 @@ use Rattle.cf_entry.specs.declared.turn.Reason.{Reason}
 use Rattle.cf_entry.specs.declared.turn.Reason.TheVariants as reason
 use Rattle.cf_tree.specs.Codes.{name_of as code_name}
 use Rattle.cf_entry.specs.Status.{status_name}
-use Rattle.cf_plan.specs.FlawText.{flaw_text}
 use Rattle.cf_face.specs.Line.{line_of, text_word, texts_word}
 
 -- the number of an exit, which is the status of the process

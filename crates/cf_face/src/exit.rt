@@ -1,16 +1,15 @@
 //! How a command ended.
 
 ghost use Rattle.std.specs.Prelude.{◌≡◌, ◌++◌, [], ◌∷◌, codes, decimal, IfOk, string_bytes};
-ghost use Rattle.cf_plan.specs.FlawText.{flaw_text};
+ghost use Rattle.cf_desired.specs.FlawText.{flaw_text};
 ghost use Rattle.cf_face.specs.Line.{spaced};
 ghost use Rattle.cf_face.specs.Exit.{number_of, name_of, refusal_words, stack_words, field_words, exit_line};
 
 use crate::cause::push_cause;
 use crate::fault_words::push_unread;
 use crate::line::{push_named, push_number, push_text, push_texts, push_word};
-use cf_desired::Flaw;
+use cf_desired::{Flaw, plan_text};
 use cf_entry::{Cause, Status};
-use cf_plan::plan_text;
 use cf_template::TemplateFault;
 use cf_tree::{Names, NoMemory, Txt};
 use std::alloc::Global;

@@ -1,6 +1,6 @@
 //! What a stack holds, in the order of a report.
 ghost use Rattle.std.specs.Prelude.{◌≡◌, ◌≤◌, ◌||◌, ◌&&◌, IfOk, insert, length, map};
-ghost use Rattle.cf_graph.specs.Inserted.{insert_by};
+ghost use Rattle.cf_tree.specs.Lists.{insert_by};
 ghost use Rattle.cf_face.specs.Report.{is_held_before, in_order};
 
 use cf_stacks::Held;

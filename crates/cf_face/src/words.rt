@@ -1,13 +1,13 @@
 //! The words of a command line.
 
-ghost use Rattle.std.specs.Prelude.{◌≡◌, IfOk, codes, option_map};
+ghost use Rattle.std.specs.Prelude.{◌≡◌, IfOk, option_map};
 ghost use Rattle.std.specs.Char.{is_ascii_alphanumeric};
 ghost use Rattle.std.specs.List.{list_all};
-ghost use Rattle.cf_funcs.specs.Pieces.{cut_at};
 ghost use Rattle.cf_template.specs.Words.{is_name};
 ghost use Rattle.cf_face.specs.declared.words.Command.TheVariants.{Deploy};
 ghost use Rattle.cf_face.specs.Words.{command_of, drives, workers_of, deploy_of, describe_of, validate_of, setting_of, given_of, is_stack_name, is_template_name, is_name_byte};
 
+use cf_funcs::cut;
 use cf_tree::{NoMemory, Pairs, Txt};
 use std::alloc::Global;
 
@@ -153,17 +153,10 @@ fn read_given(alloc: Global, words: &[Txt]) -> Result<Option<Pairs>, NoMemory>
 fn setting(word: &str) -> Option<(&str, &str)>
     ensures { option_map (λ s. (s.0.now, s.1.now)) result ≡ setting_of word.now }
 {
-    match cut(word) {
+    match cut(word, "=") {
         Some((name, value)) if is_parameter_name(name) => Some((name, value)),
         _ => None,
     }
-}
-
-// What stands before the first `=`, and what follows it.
-fn cut(word: &str) -> Option<(&str, &str)>
-    ensures { option_map (λ c. (c.0.now, c.1.now)) result ≡ cut_at (codes "=") word.now }
-{
-    word.split_once("=")
 }
 
 fn is_parameter_name(name: &str) -> bool

@@ -8,6 +8,7 @@ mod plan;
 mod planned;
 mod table;
 
+pub use live::LiveResource;
 pub use memory::MemoryHandler;
 pub use plan::Plan;
 pub use planned::{Break, Planned};

@@ -119,6 +119,13 @@ impl MemoryHandler {
         })
     }
 
+    /// What is live, in the order in which it was made.
+    pub fn live(&self) -> &[LiveResource]
+        ensures { lives result.now ≡ live_of (lane_of self.now.settled.items) }
+    {
+        self.live.as_slice()
+    }
+
     /// The answer of the table to a new token.
     fn work(&self, token: u64, request: &Request) -> Result<Settlement, AllocError>
         ensures { IfOk result (λ s. s ≡ answer_to self.now.schema self.now.name token (live_of (lane_of self.now.settled.items)) request.now) }

@@ -5,8 +5,8 @@ ghost use Rattle.cf_funcs.specs.Pieces.{cut_at, joined, members_of, pieces_of, w
 use crate::memory::TextMemory;
 use std::alloc::{AllocError, Global};
 
-// What stands before the first place of a delimiter, and what follows it there.
-pub(crate) fn cut<'a>(text: &'a str, delimiter: &str) -> Option<(&'a str, &'a str)>
+/// What comes before the first place of a delimiter, and what follows it there.
+pub fn cut<'a>(text: &'a str, delimiter: &str) -> Option<(&'a str, &'a str)>
     requires { 0 < length delimiter.now }
     ensures { option_map (λ c. (c.0.now, c.1.now)) result ≡ cut_at delimiter.now text.now }
 {
@@ -73,37 +73,4 @@ fn without_spaces(text: &str) -> &str
     ensures { result.now ≡ without_spaces text.now }
 {
     text.trim_start_matches(' ').trim_end_matches(' ')
-}
-
-#[cfg(test)]
-mod tests {
-    use super::*;
-    use std::test::Fail;
-
-    #[test]
-    fn a_text_is_cut_from_the_left(rt: HostRuntime) -> Result<(), Fail> {
-        let pieces = split(rt.alloc(), ",", "a,,b")?;
-        assert_eq!(rt; pieces.len(), 3);
-        assert_eq!(rt; pieces[0].as_str(), "a");
-        assert_eq!(rt; pieces[1].as_str(), "");
-        assert_eq!(rt; pieces[2].as_str(), "b");
-        let pieces = split(rt.alloc(), "aa", "aaa")?;
-        assert_eq!(rt; pieces.len(), 2);
-        assert_eq!(rt; pieces[0].as_str(), "");
-        assert_eq!(rt; pieces[1].as_str(), "a");
-        Ok(())
-    }
-
-    #[test]
-    fn list_members_lose_their_spaces(rt: HostRuntime) -> Result<(), Fail> {
-        let members = comma_list(rt.alloc(), "alpha, beta")?;
-        assert_eq!(rt; members.len(), 2);
-        assert_eq!(rt; members[0].as_str(), "alpha");
-        assert_eq!(rt; members[1].as_str(), "beta");
-        assert_eq!(rt; comma_list(rt.alloc(), "")?.len(), 0);
-        let spaces = comma_list(rt.alloc(), "  ")?;
-        assert_eq!(rt; spaces.len(), 1);
-        assert_eq!(rt; spaces[0].as_str(), "");
-        Ok(())
-    }
 }

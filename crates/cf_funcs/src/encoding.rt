@@ -16,20 +16,3 @@ pub fn base64_of(alloc: Global, text: &str) -> Result<String, TextMemory>
 {
     Ok(STANDARD.encode(alloc, text.as_bytes())?)
 }
-
-#[cfg(test)]
-mod tests {
-    use super::*;
-    use std::test::Fail;
-
-    #[test]
-    fn base64_is_padded(rt: HostRuntime) -> Result<(), Fail> {
-        assert_eq!(rt; base64_of(rt.alloc(), "hello")?.as_str(), "aGVsbG8=");
-        assert_eq!(rt; base64_of(rt.alloc(), "")?.as_str(), "");
-        assert_eq!(rt;
-            base64_of(rt.alloc(), "\u{fb}\u{ff}\u{be}")?.as_str(),
-            "w7vDv8K+"
-        );
-        Ok(())
-    }
-}

@@ -6,7 +6,7 @@ mod encoding;
 mod memory;
 mod numbers;
 
-pub use cuts::{comma_list, split};
+pub use cuts::{comma_list, cut, split};
 pub use encoding::base64_of;
 pub use memory::TextMemory;
 pub use numbers::number;

@@ -65,36 +65,3 @@ fn all_digits(bytes: &[u8]) -> bool
 {
     bytes.iter().all(|byte| byte.is_ascii_digit())
 }
-
-#[cfg(test)]
-mod tests {
-    use super::*;
-    use std::test::Fail;
-
-    #[test]
-    fn numbers_count_in_billionths(rt: HostRuntime) -> Result<(), Fail> {
-        assert_eq!(rt; number("1.5"), Some(1_500_000_000));
-        assert_eq!(rt; number("-0.000000001"), Some(-1));
-        assert_eq!(rt;
-            number("999999999999999999"),
-            Some(999_999_999_999_999_999_000_000_000)
-        );
-        for text in [
-            "",
-            "-",
-            ".",
-            "1.",
-            ".5",
-            "+1",
-            "--1",
-            "1.2.3",
-            "1e2",
-            "1 ",
-            "1234567890123456789",
-            "0.1234567890",
-        ] {
-            assert_eq!(rt; number(text), None, "{text} is no number text");
-        }
-        Ok(())
-    }
-}

@@ -6,7 +6,8 @@ use Rattle.std.specs.Str.{bytes_eq}
 use Rattle.std.proofs.lemmas.Bool.{and_parts, or_cases, or_left, or_right, ltb-true}
 use Rattle.std.proofs.lemmas.Slice.Eq.{bytes_eq-Decides}
 use Rattle.cf_tree.specs.Keys.{value_at}
-use Rattle.cf_graph.specs.Needs.{cycle_of, first_in, is_among, needed_by, shortest_walk, walks}
+use Rattle.cf_tree.specs.Lists.{first_in, is_among}
+use Rattle.cf_graph.specs.Needs.{cycle_of, needed_by, shortest_walk, walks}
 use Rattle.cf_graph.specs.Before.{comes_before, is_smaller, needs_first, place_of}
 
 no_members : {X : Type 0} (f : List ℕ → List X) (ns : List (List ℕ)) → ((n : List ℕ) → is_among n ns ≡ true → f n ≡ []) → flat_map f ns ≡ []

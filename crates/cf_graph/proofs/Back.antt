@@ -8,7 +8,8 @@ use Rattle.std.proofs.lemmas.Grind.{common_steps}
 use Rattle.std.specs.List.{list_any}
 use Rattle.std.specs.Option.{unwrap_or}
 use Rattle.std.specs.BTreeSet.{BTreeSet}
-use Rattle.cf_graph.specs.Needs.{needed_by, walks, first_in, shortest_walk}
+use Rattle.cf_tree.specs.Lists.{first_in}
+use Rattle.cf_graph.specs.Needs.{needed_by, walks, shortest_walk}
 use Rattle.cf_graph.specs.Cycles.{leads_back, has, IsLevel, AreLevels, StandAlike}
 use Rattle.cf_graph.proofs.Alike.{Rows}
 use Rattle.cf_graph.proofs.Walks.{leads_further, longer}

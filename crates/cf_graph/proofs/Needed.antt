@@ -7,9 +7,10 @@ use Rattle.cf_tree.specs.declared.bound.Verdict.{Verdict}
 use Rattle.cf_tree.specs.declared.template.Template.{Template}
 use Rattle.cf_tree.specs.declared.template.Param.{Param}
 use Rattle.cf_tree.specs.declared.template.Res.{Res}
+use Rattle.cf_tree.specs.Lists.{is_among}
 use Rattle.cf_graph.specs.Mentions.{Mention, by_ref, by_attribute, fields_mentions}
 use Rattle.cf_graph.specs.Mentioned.{meant_by, needs_by}
-use Rattle.cf_graph.specs.Needs.{all_needs, needs_in, is_made, is_among, is_parameter, meant, holds_in, evaluated_props}
+use Rattle.cf_graph.specs.Needs.{all_needs, needs_in, is_made, is_parameter, meant, holds_in, evaluated_props}
 
 pub some_found : {X : Type 0} (test : X → Bool) (xs : List X) → list_any test xs ≡ is_some (find test xs)
 some_found test [] = refl

@@ -7,7 +7,8 @@ use Rattle.std.proofs.lemmas.Option.{none-some}
 use Rattle.std.proofs.Math.Seq.{drop-cons}
 use Rattle.cf_tree.specs.declared.template.Template.{Template}
 use Rattle.cf_tree.specs.declared.template.Res.{Res}
-use Rattle.cf_graph.specs.Needs.{first_in, is_unknown, unknown_of}
+use Rattle.cf_tree.specs.Lists.{first_in}
+use Rattle.cf_graph.specs.Needs.{is_unknown, unknown_of}
 use Rattle.cf_graph.proofs.Needed.{some_found}
 
 module _ {X Y : Type 0} (test : X → Bool) (f : X → Y) where

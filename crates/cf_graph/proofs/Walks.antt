@@ -4,7 +4,8 @@ use Rattle.std.specs.List.{list_any}
 use Rattle.std.specs.Option.{unwrap_or}
 use Rattle.std.specs.Str.{bytes_eq}
 use Rattle.cf_tree.specs.Keys.{value_at}
-use Rattle.cf_graph.specs.Needs.{is_among, needed_by, walks, first_in}
+use Rattle.cf_tree.specs.Lists.{is_among, first_in}
+use Rattle.cf_graph.specs.Needs.{needed_by, walks}
 use Rattle.std.specs.BTreeSet.{BTreeSet}
 use Rattle.std.proofs.lemmas.List.{take_all}
 use Rattle.cf_graph.specs.Cycles.{leads_back, has, IsLevel, StandAlike}

@@ -4,7 +4,8 @@ use Rattle.std.specs.Ordering.{nat_cmp}
 use Rattle.std.specs.Cmp.Lexicographic.{slice_cmp}
 use Rattle.std.specs.BTreeSet.{BTreeSet, contains}
 use Rattle.cf_tree.specs.Keys.{value_at}
-use Rattle.cf_graph.specs.Needs.{first_in, walks}
+use Rattle.cf_tree.specs.Lists.{first_in}
+use Rattle.cf_graph.specs.Needs.{walks}
 
 -- a walk of so many steps leads from a resource back to the start
 abbrev pub leads_back : List (List ℕ × List (List ℕ)) → List ℕ → ℕ → List ℕ → Bool

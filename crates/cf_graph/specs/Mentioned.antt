@@ -3,8 +3,9 @@ use Rattle.std.specs.Prelude.{ℕ, Bool, true, List, Option, Some, None, map, fi
 use Rattle.cf_tree.specs.Forms.{fields_of}
 use Rattle.cf_tree.specs.declared.bound.Verdict.{Verdict}
 use Rattle.cf_tree.specs.declared.template.Res.{Res}
+use Rattle.cf_tree.specs.Lists.{is_among}
 use Rattle.cf_graph.specs.Mentions as means
-use Rattle.cf_graph.specs.Needs.{is_among, holds_in, evaluated_props}
+use Rattle.cf_graph.specs.Needs.{holds_in, evaluated_props}
 use Rattle.cf_graph.specs.declared.mentions.Mention.{Mention}
 use Rattle.cf_graph.specs.declared.mentions.Mention.TheVariants.{ByRef, ByAttribute}
 

@@ -1,11 +1,12 @@
 -- What each resource of a template needs, the order of work, and the refusals (User Guide: DependsOn and references; how
 -- the order and a cycle are told is this project's own).
 use Rattle.std.specs.Prelude.{ℕ, zero, suc, Bool, true, false, ◌&&◌, ◌||◌, not, List, [], ◌∷◌, ◌++◌, Option, Some, None, Result, Ok, Err, find, filter, filter_map, flat_map, map, option_map, is_some, length, codes, if◌then◌else◌}
-use Rattle.std.specs.List.{list_any, list_all}
+use Rattle.std.specs.List.{list_all}
 use Rattle.std.specs.Option.{option_or, option_map_or, unwrap_or}
 use Rattle.std.specs.Str.{bytes_eq}
 use Rattle.cf_tree.specs.Keys.{value_at}
 use Rattle.cf_tree.specs.Named.{found}
+use Rattle.cf_tree.specs.Lists.{is_among, first_in}
 use Rattle.cf_tree.specs.Forms.{Form, fields_of}
 use Rattle.cf_tree.specs.declared.bound.Verdict.{Verdict}
 use Rattle.cf_tree.specs.declared.bound.Verdict.TheVariants as verdict
@@ -42,9 +43,6 @@ abbrev pub meant : Template → Mention → Option (List ℕ)
 meant t (by_ref name) = if is_parameter name t then None else Some name
 meant t (by_attribute name) = Some name
 
-abbrev pub is_among : List ℕ → List (List ℕ) → Bool
-is_among name names = list_any (λ n. bytes_eq name n) names
-
 -- the properties that are evaluated: of a nested stack, its template and its parameters alone
 abbrev pub is_evaluated : List ℕ → List ℕ → Bool
 is_evaluated kind name = not (bytes_eq kind (codes "AWS::CloudFormation::Stack")) || is_among name (codes "TemplateURL" ∷ codes "Parameters" ∷ [])
@@ -70,10 +68,6 @@ is_unknown t name = not (is_some (resource_named name t))
 
 abbrev pub unknown_of : Template → Res → List (List ℕ × List ℕ)
 unknown_of t r = map (λ n. (r.name, n)) (filter (is_unknown t) r.depends)
-
-abbrev pub first_in : {A : Type 0} → List A → Option A
-first_in [] = None
-first_in (a ∷ rest) = Some a
 
 abbrev pub unknown_dependency : Template → Option (List ℕ × List ℕ)
 unknown_dependency t = first_in (flat_map (unknown_of t) t.resources)

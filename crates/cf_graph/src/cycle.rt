@@ -2,7 +2,8 @@
 ghost use Rattle.std.specs.Prelude.{◌≡◌, ℕ, List, [], ◌∷◌, ◌++◌, ◌+◌, ◌≤◌, ◌&&◌, ◌||◌, ◌<◌, IfOk, Some, true, length, find, option_copied};
 ghost use Rattle.std.specs.List.{list_any};
 ghost use Rattle.std.specs.Str.{bytes_eq};
-ghost use Rattle.cf_graph.specs.Needs.{cycle_of, first_in, is_among, needed_by, shortest_walk, walks};
+ghost use Rattle.cf_tree.specs.Lists.{first_in, is_among};
+ghost use Rattle.cf_graph.specs.Needs.{cycle_of, needed_by, shortest_walk, walks};
 ghost use Rattle.cf_graph.specs.Cycles.{leads_back, has, IsLevel, AreLevels, StandAlike};
 
 use crate::sequence::{Needs, append};

@@ -13,4 +13,5 @@ mod unknown;
 
 pub use fault::GraphFault;
 pub use graph::order;
+pub use needs::is_made;
 pub use sequence::Needs;

@@ -1,5 +1,5 @@
 //! Which names an expression refers to.
-ghost use Rattle.std.specs.Prelude.{◌≡◌, ◌++◌, ◌∷◌, [], IfOk, map, codes, is_some, option_map, flat_map};
+ghost use Rattle.std.specs.Prelude.{◌≡◌, ◌++◌, ◌∷◌, [], IfOk, map, codes, is_some, flat_map};
 ghost use Rattle.cf_funcs.specs.Pieces.{cut_at};
 ghost use Rattle.cf_tree.specs.Form.{node_of, fields_in};
 ghost use Rattle.cf_tree.specs.Forms.{forms_of, fields_of};
@@ -8,6 +8,7 @@ ghost use Rattle.cf_graph.specs.Mentions.{mentions_of, node_mentions, forms_ment
 ghost use Rattle.cf_graph.specs.Needs.{holds_in};
 ghost use Rattle.cf_graph.specs.Mentioned.{mention_in, mentioned, as_keys};
 
+use cf_funcs::cut;
 use cf_tree::{
     CondMap, Expr, ExprDict, ExprNode, ExprPair, Exprs, NoMemory, Part, Parts, Txt, Verdict,
 };
@@ -175,17 +176,10 @@ fn is_own(own: &[ExprPair], name: &Txt) -> bool
 fn hole(alloc: Global, name: &Txt) -> Result<Mention, NoMemory>
     ensures { IfOk result (λ m. mention_in m ≡ hole name.now (cut_at (codes ".") name.now)) }
 {
-    match cut(name.as_str()) {
+    match cut(name.as_str(), ".") {
         Some((id, _)) => Ok(Mention::ByAttribute(Txt::from_str(alloc, id)?)),
         None => Ok(Mention::ByRef(name.try_clone(alloc)?)),
     }
-}
-
-/// What stands before the first dot, and what follows it.
-fn cut(name: &str) -> Option<(&str, &str)>
-    ensures { option_map (λ c. (c.0.now, c.1.now)) result ≡ cut_at (codes ".") name.now }
-{
-    name.split_once(".")
 }
 
 fn add(found: &mut Vec<Mention>, mention: Mention) -> Result<(), NoMemory>

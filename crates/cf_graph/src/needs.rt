@@ -7,9 +7,10 @@ ghost use Rattle.std.specs.Cmp.Lexicographic.{slice_cmp};
 ghost use Rattle.std.specs.BTreeSet.{contains, IsOrdered};
 ghost use Rattle.cf_tree.specs.Forms.{fields_of};
 ghost use Rattle.cf_tree.specs.Named.{found};
+ghost use Rattle.cf_tree.specs.Lists.{is_among};
 ghost use Rattle.cf_graph.specs.Mentions.{fields_mentions};
 ghost use Rattle.cf_graph.specs.Mentioned.{mentioned, meant_by, needs_by};
-ghost use Rattle.cf_graph.specs.Needs.{all_needs, evaluated_props, holds_in, is_among, is_evaluated, is_made, is_parameter};
+ghost use Rattle.cf_graph.specs.Needs.{all_needs, evaluated_props, holds_in, is_evaluated, is_made, is_parameter};
 ghost use Rattle.cf_graph.specs.Noted.{noted};
 
 use crate::mentions::{Mention, mentions};
@@ -96,7 +97,7 @@ fn made_names(alloc: Global, resources: &Resources, conds: &CondMap) -> Result<V
 }
 
 /// Whether a resource has no condition, or one that is not false.
-fn is_made(conds: &CondMap, resource: &Res) -> bool
+pub fn is_made(conds: &CondMap, resource: &Res) -> bool
     ensures { result ≡ is_made conds.now resource.now }
 {
     match &resource.condition {

@@ -47,35 +47,3 @@ pub fn record_schema(alloc: Global) -> Result<Schema, NoMemory>
         Err(_) => Err(NoMemory),
     }
 }
-
-#[cfg(test)]
-mod tests {
-    use super::*;
-    use cf_tree::Names;
-    use std::test::Fail;
-
-    // Whether the names are these, in this order.
-    fn holds(names: &Names, texts: &[&str]) -> bool {
-        names.len() == texts.len()
-            && names
-                .as_slice()
-                .iter()
-                .zip(texts)
-                .all(|(name, text)| name.is(*text))
-    }
-
-    #[test]
-    fn the_shipped_schemas_are_read(rt: HostRuntime) -> Result<(), Fail> {
-        let file = file_schema(rt.alloc())?;
-        assert!(rt; file.kind.is("Local::Files::File"));
-        assert!(rt; holds(&file.required, &["Path", "Content"]));
-        assert!(rt; holds(&file.create_only, &["Path"]));
-        assert!(rt; holds(&file.conditional, &[]));
-        let record = record_schema(rt.alloc())?;
-        assert!(rt; record.kind.is("Local::Records::Record"));
-        assert!(rt; holds(&record.required, &["Key", "Value"]));
-        assert!(rt; holds(&record.create_only, &["Key"]));
-        assert!(rt; holds(&record.conditional, &["Class"]));
-        Ok(())
-    }
-}

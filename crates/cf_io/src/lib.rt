@@ -9,8 +9,6 @@ mod sink;
 mod stdout_sink;
 mod steady_library;
 mod steady_sink;
-#[cfg(test)]
-mod tests;
 
 pub use folder_library::FolderLibrary;
 pub use library::{FetchFault, Library};

@@ -7,6 +7,7 @@ use Rattle.std.specs.List.{list_any}
 use Rattle.cf_entry.specs.declared.entry.Entry.{Entry}
 use Rattle.cf_entry.specs.declared.entry.Entry.TheVariants as entry
 use Rattle.cf_stacks.specs.Operation.{Call, Response, calls_in, replies_in, call_in, is_of}
+use Rattle.cf_stacks.proofs.Called.{called_first}
 use Rattle.cf_plan.specs.Called.{call_passes, reply_passes}
 
 replied_first : (test : Response → Bool) (e : Entry) (es : List Entry) → list_any test (replies_in (e ∷ es)) ≡ (reply_passes test e || list_any test (replies_in es))
@@ -23,16 +24,6 @@ replied_first test (entry.ChangeSet number name source rows outputs) es = refl
 pub any_replied : (test : Response → Bool) (es : List Entry) → list_any (λ e. reply_passes test e) es ≡ list_any test (replies_in es)
 any_replied test [] = refl
 any_replied test (e ∷ es) = rw (replied_first test e es) (ap (λ b. reply_passes test e || b) (any_replied test es))
-
-called_first : (test : Call → Bool) (e : Entry) (es : List Entry) → list_any test (calls_in (e ∷ es)) ≡ (call_passes test e || list_any test (calls_in es))
-called_first test (entry.Intent number token lane path request) es = refl
-called_first test (entry.Opened epoch lanes) es = refl
-called_first test (entry.Begin number stack kind) es = refl
-called_first test (entry.Kept number path physical w) es = refl
-called_first test (entry.Outcome number token answer before after) es = refl
-called_first test (entry.Phase number p cause) es = refl
-called_first test (entry.Done number state failed) es = refl
-called_first test (entry.ChangeSet number name source rows outputs) es = refl
 
 own_first :
     (test : Call → Bool) (e : Entry) (es : List Entry) (own : Bool) →

@@ -5,10 +5,11 @@ use Rattle.std.specs.declared.alloc.AllocError.{AllocError}
 use Rattle.std.specs.List.{list_all}
 use Rattle.std.specs.Str.{bytes_eq}
 use Rattle.std.proofs.lemmas.List.Sums.{fold-append}
+use Rattle.std.proofs.lemmas.Bool.{and_from, and_parts}
 use Rattle.cf_tree.specs.Keys.{put, value_at}
 use Rattle.cf_tree.specs.declared.request.Request.{Request}
-use Rattle.cf_eval.proofs.Noting.{put_else, put_here}
-use Rattle.cf_graph.specs.Needs.{is_among}
+use Rattle.cf_tree.specs.Lists.{is_among}
+use Rattle.cf_tree.proofs.Lookups.{put_here, put_else}
 use Rattle.cf_desired.specs.declared.wanted.Wanted.{Wanted}
 use Rattle.cf_desired.specs.declared.wanted.Plan.{Plan}
 use Rattle.cf_schema.specs.declared.described.Schema.{Schema}
@@ -22,14 +23,6 @@ use Rattle.cf_plan.specs.Starts.{AreStarts, IsOneOf, may_start, starts_by, wants
 use Rattle.cf_plan.proofs.Doing.{all_met, met_all, needs_are}
 use Rattle.cf_plan.proofs.Listed.{bytes_same, in_cons, in_none, map_more, or_cases, or_left, or_right, same_bytes}
 use Rattle.cf_plan.proofs.Starting.{intended}
-
-both : (a b : Bool) → a && b ≡ true → (a ≡ true) × (b ≡ true)
-both true b e = (refl, e)
-both false b e = absurd (true≢false (sym e))
-
-and : (a b : Bool) → a ≡ true → b ≡ true → a && b ≡ true
-and true b e f = f
-and false b e f = absurd (true≢false (sym e))
 
 not_true : (b : Bool) → (b ≡ true → ⊥) → not b ≡ true
 not_true true h = absurd (h refl)
@@ -132,16 +125,16 @@ module _ (schemas : List Schema) (s : StackState) (done : List (List ℕ)) (are 
   may_begin : (p : List ℕ) (r : Request) → (IsReady s p × ¬ IsDone s p × IsTrue (is_free p s) × IntendsForward schemas s p r) → IsOneOf (value_at p starts) r
   may_begin p r ((wanted, ready), new, free, intends) =
       let met = subst (λ ns. list_all (λ n. is_among n done) ns ≡ true) (sym (needs_are s p)) (met_all (needs_at p s) done (λ q m. (are q).0 (ready q m))) in
-      let free_to = and (not (is_among p done)) (are_met p (plan_before s) done && is_free p s) (not_true (is_among p done) (λ e. new ((are p).1 e))) (and (are_met p (plan_before s) done) (is_free p s) met free) in
-      let value = value_is p true (and (is_among p wants) (may_start s (plan_before s) done p) (in_among p wants wanted) free_to) in
+      let free_to = and_from (not (is_among p done)) (are_met p (plan_before s) done && is_free p s) (not_true (is_among p done) (λ e. new ((are p).1 e))) (and_from (are_met p (plan_before s) done) (is_free p s) met free) in
+      let value = value_is p true (and_from (is_among p wants) (may_start s (plan_before s) done p) (in_among p wants wanted) free_to) in
       subst (λ o. IsOneOf o r) (sym value) ((intended schemas s p (finding_by p (plan_now s)) refl r).0 intends)
 
   by_open : (p : List ℕ) (r : Request) (b : Bool) → (is_among p wants && may_start s (plan_before s) done p) ≡ b → IsOneOf (if b then Some (wants_by schemas s p (finding_by p (plan_now s))) else None) r → IsReady s p × ¬ IsDone s p × IsTrue (is_free p s) × IntendsForward schemas s p r
   by_open p r false e i = absurd i
   by_open p r true e i =
-      let (among, free_to) = both (is_among p wants) (may_start s (plan_before s) done p) e in
-      let (new, rest) = both (not (is_among p done)) (are_met p (plan_before s) done && is_free p s) free_to in
-      let (met, free) = both (are_met p (plan_before s) done) (is_free p s) rest in (
+      let (among, free_to) = and_parts (is_among p wants) (may_start s (plan_before s) done p) e in
+      let (new, rest) = and_parts (not (is_among p done)) (are_met p (plan_before s) done && is_free p s) free_to in
+      let (met, free) = and_parts (are_met p (plan_before s) done) (is_free p s) rest in (
         (among_in p wants among, λ q m. (are q).1 (all_met (needs_by p (plan_before s)) done met q (subst (In q) (sym (needs_are s p)) m))),
         (λ d. true_not (is_among p done) new ((are p).0 d)),
         free,

@@ -5,6 +5,7 @@ use Rattle.std.specs.List.{list_any}
 use Rattle.std.specs.Cmp.{first_so, second_so}
 use Rattle.std.specs.Str.{bytes_eq}
 use Rattle.std.proofs.lemmas.Slice.Eq.{bytes_eq-Decides}
+use Rattle.std.proofs.lemmas.Bool.{and_from}
 use Rattle.cf_tree.specs.declared.request.Request.{Request}
 use Rattle.cf_tree.specs.declared.request.Request.TheVariants as request
 use Rattle.cf_schema.specs.declared.described.Schema.{Schema}
@@ -23,7 +24,7 @@ use Rattle.cf_plan.specs.Taking.{is_home_of, is_of_lane}
 use Rattle.cf_plan.specs.Due.{IsCallDueIn, IsDueIn, with_call, with_call_on, with_calls_on, with_create, with_due, with_repeat, with_repeats, with_start, with_starts}
 use Rattle.cf_plan.proofs.Members.{any_in, in_any}
 use Rattle.cf_plan.proofs.OfLane.{of_lane_is}
-use Rattle.cf_plan.proofs.Choosing.{both, is_so, not_so}
+use Rattle.cf_plan.proofs.Choosing.{is_so, not_so}
 use Rattle.cf_plan.proofs.InOrder.{Adds, adds_all, adds_as, adds_if, adds_one}
 
 -- A step on an open token.
@@ -116,7 +117,7 @@ module _ (x : World) (out : List ℕ) where
         l.0,
         l.1,
         subst (λ (n : List ℕ). (is_of_lane n id && not (is_lane_out out x n)) ≡ true) same
-            (both (is_of_lane lane id) (not (is_lane_out out x lane)) ((of_lane_is lane id).1 of) (not_so (is_lane_out out x lane) home)),
+            (and_from (is_of_lane lane id) (not (is_lane_out out x lane)) ((of_lane_is lane id).1 of) (not_so (is_lane_out out x lane) home)),
         same,
       )
 
@@ -126,7 +127,7 @@ module _ (x : World) (out : List ℕ) where
       let l = in_any (is_home_for k) x.lanes (some_found (λ (m : List ℕ × List ℕ). m.0) (is_home_for k) x.lanes e) in (
         l.0.0,
         any_in (is_lane_of l.0.0 k) l.0 x.lanes l.1
-            (both (bytes_eq l.0.0 l.0.0) (bytes_eq k l.0.1) ((bytes_eq-Decides l.0.0 l.0.0).1 refl)
+            (and_from (bytes_eq l.0.0 l.0.0) (bytes_eq k l.0.1) ((bytes_eq-Decides l.0.0 l.0.0).1 refl)
             (first_so (bytes_eq k l.0.1) (not (is_lane_out out x l.0.0)) l.2)),
         is_so (is_lane_out out x l.0.0) (second_so (bytes_eq k l.0.1) (not (is_lane_out out x l.0.0)) l.2),
       )
@@ -137,7 +138,7 @@ module _ (x : World) (out : List ℕ) where
       let same : lane ≡ l.0.0 = (bytes_eq-Decides lane l.0.0).0 (first_so (bytes_eq lane l.0.0) (bytes_eq k l.0.1) l.2) in
       found_some (λ (m : List ℕ × List ℕ). m.0) (is_home_for k) x.lanes
       (any_in (is_home_for k) l.0 x.lanes l.1
-      (both (bytes_eq k l.0.1) (not (is_lane_out out x l.0.0)) (second_so (bytes_eq lane l.0.0) (bytes_eq k l.0.1) l.2)
+      (and_from (bytes_eq k l.0.1) (not (is_lane_out out x l.0.0)) (second_so (bytes_eq lane l.0.0) (bytes_eq k l.0.1) l.2)
       (not_so (is_lane_out out x l.0.0) (subst (λ (m : List ℕ). is_lane_out out x m ≡ false) same home))))
 
   module _ (schemas : List Schema) (name : List ℕ) (s : StackState) (stage : Stage) where

@@ -4,14 +4,15 @@ use Rattle.std.specs.Prelude.{filter_map, option_and_then, Result, Ok, Err, IfOk
 use Rattle.std.specs.declared.alloc.AllocError.{AllocError}
 use Rattle.std.specs.List.{list_all, cons_option}
 use Rattle.std.specs.Option.{option_map_or, unwrap_or}
-use Rattle.std.proofs.lemmas.Option.{none-some}
+use Rattle.std.proofs.lemmas.Option.{none-some, same_Some}
+use Rattle.std.proofs.lemmas.Bool.{and_parts, and_from}
 use Rattle.cf_tree.specs.Datum.{Data}
 use Rattle.cf_tree.specs.Keys.{bytes_lt}
+use Rattle.cf_tree.specs.Lists.{first_in, is_among}
 use Rattle.cf_entry.specs.declared.turn.Cause.{Cause}
 use Rattle.cf_entry.specs.declared.turn.Cause.TheVariants as cause
 use Rattle.cf_entry.specs.declared.turn.Reason.{Reason}
 use Rattle.cf_export.specs.declared.Export.{Export}
-use Rattle.cf_graph.specs.Needs.{first_in, is_among}
 use Rattle.cf_desired.specs.declared.flaw.Flaw.{Flaw}
 use Rattle.cf_desired.specs.declared.wanted.Evaluated.{Evaluated}
 use Rattle.cf_desired.specs.declared.wanted.Evaluated.TheVariants as result
@@ -19,12 +20,12 @@ use Rattle.cf_desired.specs.declared.wanted.Inner.{Inner}
 use Rattle.cf_desired.specs.declared.wanted.Plan.{Plan}
 use Rattle.cf_desired.specs.declared.wanted.Wanted.{Wanted}
 use Rattle.cf_desired.specs.Whole.{wanted_at, known_props_from}
+use Rattle.cf_desired.specs.FlawText.{flaw_text}
 use Rattle.cf_schema.specs.declared.described.Schema.{Schema}
 use Rattle.cf_stacks.specs.declared.state.StackState.{StackState}
 use Rattle.cf_stacks.specs.declared.state.World.{World}
 use Rattle.cf_plan.specs.declared.cause.Failure.{Failure}
 use Rattle.cf_plan.specs.declared.cause.Failure.TheVariants.{Nothing, Because, Untold}
-use Rattle.cf_plan.specs.FlawText.{flaw_text}
 use Rattle.cf_plan.specs.Between.{needs_at}
 use Rattle.cf_plan.specs.Forward.{In, here, there, Finding, Bad, Later, Known, finding, known_or_later, AllDone, HasFailed, IsBadAt, IsBadNested, IsBadOutput, IsBadPath, IsCause, IsDone, IsLostExport, first_failing, is_lost, lost_exports, path_of_token, plan_before, plan_now}
 use Rattle.cf_plan.specs.Done.{AreDone, are_met, finding_by, needs_by}
@@ -33,17 +34,6 @@ use Rattle.cf_plan.specs.Causes.{TellsFailure, end_failure, failure_of_call, of_
 use Rattle.cf_plan.proofs.Doing.{all_met, met_all, needs_are}
 use Rattle.cf_plan.proofs.Least.{least_in, least_low, least_none}
 use Rattle.cf_plan.proofs.Listed.{in_cons, in_map, in_none}
-
-some_same : {A : Type 0} (a b : A) → Some a ≡ Some b → a ≡ b
-some_same a b e = ap (λ o. unwrap_or o a) e
-
-both : (a b : Bool) → a && b ≡ true → (a ≡ true) × (b ≡ true)
-both true b e = (refl, e)
-both false b e = absurd (true≢false (sym e))
-
-and : (a b : Bool) → a ≡ true → b ≡ true → a && b ≡ true
-and true b e f = f
-and false b e f = absurd (true≢false (sym e))
 
 -- members of lists that are put together
 pub in_left : {A : Type 0} (x : A) (xs ys : List A) → In x xs → In x (xs ++ ys)
@@ -106,7 +96,7 @@ bad_same a b e = ap (flaw_or a) e
     flaw_or d _ = d
 
 flaw_finding : (k : List ℕ) (p : Evaluated) (f : Flaw) → (flaw_in p ≡ Some f) ↔ (finding k p ≡ Bad f)
-flaw_finding k (result.Flawed g) f = (λ e. ap (λ c. Bad c) (some_same g f e), λ e. ap (λ c. Some c) (bad_same g f e))
+flaw_finding k (result.Flawed g) f = (λ e. ap (λ c. Bad c) (same_Some g f e), λ e. ap (λ c. Some c) (bad_same g f e))
 flaw_finding k (result.Known ps) f = (λ e. absurd (none-some f e), λ e. absurd (bad_known k (known_props_from ps) f e))
 
 flaw_of : (o : Option Wanted) (f : Flaw) → (option_and_then (λ w. flaw_in w.props) o ≡ Some f) ↔ (option_map_or (λ w. finding w.kind w.props) o Later ≡ Bad f)
@@ -119,7 +109,7 @@ where_met b p o = if b then option_map (λ (f : Flaw). (p, f)) o else None
 
 test_found : (b : Bool) (p : List ℕ) (o : Option Flaw) (a : List ℕ × Flaw) → where_met b p o ≡ Some a → (b ≡ true) × (p ≡ a.0) × (o ≡ Some a.1)
 test_found true p None a e = absurd (none-some a e)
-test_found true p (Some f) a e = let same : (p, f) ≡ a = some_same (p, f) a e in (refl, ap (λ (c : List ℕ × Flaw). c.0) same, ap (λ (c : List ℕ × Flaw). Some c.1) same)
+test_found true p (Some f) a e = let same : (p, f) ≡ a = same_Some (p, f) a e in (refl, ap (λ (c : List ℕ × Flaw). c.0) same, ap (λ (c : List ℕ × Flaw). Some c.1) same)
 test_found false p o a e = absurd (none-some a e)
 
 found_test : (b : Bool) (p : List ℕ) (o : Option Flaw) (f : Flaw) → b ≡ true → o ≡ Some f → where_met b p o ≡ Some (p, f)
@@ -136,12 +126,12 @@ first_found test (x ∷ xs) = by_test (test x) refl (first_found test xs)
 pub all_are : (ws : List Wanted) (done : List (List ℕ)) → list_all (λ w. is_among w.path done) ws ≡ true → (p : List ℕ) → In p (map (λ w. w.path) ws) → is_among p done ≡ true
 all_are [] done e p i = absurd (in_none i)
 all_are (w ∷ ws) done e p i =
-    let k = both (is_among w.path done) (list_all (λ v. is_among v.path done) ws) e in
+    let k = and_parts (is_among w.path done) (list_all (λ v. is_among v.path done) ws) e in
     elim (in_cons i) [ inl same ↦ subst (λ q. is_among q done ≡ true) same k.0 | inr j ↦ all_are ws done k.1 p j ]
 
 pub are_all : (ws : List Wanted) (done : List (List ℕ)) → ((p : List ℕ) → In p (map (λ w. w.path) ws) → is_among p done ≡ true) → list_all (λ w. is_among w.path done) ws ≡ true
 are_all [] done h = refl
-are_all (w ∷ ws) done h = and (is_among w.path done) (list_all (λ v. is_among v.path done) ws) (h w.path here) (are_all ws done (λ p i. h p (there i)))
+are_all (w ∷ ws) done h = and_from (is_among w.path done) (list_all (λ v. is_among v.path done) ws) (h w.path here) (are_all ws done (λ p i. h p (there i)))
 
 module _ (schemas : List Schema) (name : List ℕ) (x : World) (s : StackState) (done : List (List ℕ)) (are : AreDone s done) where
   abbrev flaws : List (List ℕ × Flaw)
@@ -224,7 +214,7 @@ module _ (schemas : List Schema) (name : List ℕ) (x : World) (s : StackState) 
   by_call a None f k = (inl (a, f), none_told)
     where
       none_told : (c : Cause) → IsCause schemas name x s c → ⊥
-      none_told (cause.Handler path r) (t, e, g) = none-some path (sym k ∙ ap (λ (b : ℕ × Reason). path_of_token b.0 s) (some_same a (t, r) (sym f ∙ e)) ∙ g)
+      none_told (cause.Handler path r) (t, e, g) = none-some path (sym k ∙ ap (λ (b : ℕ × Reason). path_of_token b.0 s) (same_Some a (t, r) (sym f ∙ e)) ∙ g)
       none_told (cause.Plan text) (fault, e, g, h) = none-some a (sym g ∙ f)
       none_told (cause.Export export) (g, h, i, j) = none-some a (sym g ∙ f)
 

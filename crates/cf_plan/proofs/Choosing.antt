@@ -3,6 +3,7 @@ use Rattle.std.proofs.Common.{◌≡◌, ◌⊎◌, inl, inr, ℕ, ◌==◌, Boo
 use Rattle.std.specs.List.{list_any}
 use Rattle.std.specs.Str.{bytes_eq}
 use Rattle.std.proofs.lemmas.Slice.Eq.{bytes_eq-Decides}
+use Rattle.std.proofs.lemmas.Bool.{and_from}
 use Rattle.cf_tree.specs.declared.request.Request.{Request}
 use Rattle.cf_tree.specs.declared.request.Request.TheVariants as request
 use Rattle.cf_schema.specs.declared.described.Schema.{Schema}
@@ -30,13 +31,6 @@ use Rattle.cf_plan.proofs.Members.{not_both, any_in, in_any, in_none}
 use Rattle.cf_plan.proofs.Firsts.{IsFirstOf}
 use Rattle.cf_plan.proofs.OfLane.{of_lane_is}
 
-pub both : (a b : Bool) → a ≡ true → b ≡ true → (a && b) ≡ true
-both a b e f = rw e f
-
-pub either : (a b : Bool) → (a || b) ≡ true → (a ≡ true) ⊎ (b ≡ true)
-either true b e = inl refl
-either false b e = inr e
-
 neither : (a b : Bool) → (a || b) ≡ false → (a ≡ false) × (b ≡ false)
 neither true b e = absurd (true≢false e)
 neither false b e = (refl, e)
@@ -63,7 +57,7 @@ emptied (a ∷ as') e = absurd (true≢false (sym e))
 module _ (schemas : List Schema) (name : List ℕ) (x : World) (out : List ℕ) (s : StackState) where
   -- a resource that may go, by what tells it
   go_by : (r : Held) → is_not_needed s r ≡ true → is_untried s r ≡ true → is_free r.path s ≡ true → can_go out x r ≡ true → may_go out x s r ≡ true
-  go_by r a b c d = both (is_not_needed s r) _ a (both (is_untried s r) _ b (both (is_free r.path s) _ c d))
+  go_by r a b c d = and_from (is_not_needed s r) _ a (and_from (is_untried s r) _ b (and_from (is_free r.path s) _ c d))
 
   -- a lane of the opening that fits and is at home
   pub home_by : (id lane : List ℕ) → IsOfLane lane id → list_any (λ l. bytes_eq lane l.0) x.lanes ≡ true → is_lane_out out x lane ≡ false
@@ -73,7 +67,7 @@ module _ (schemas : List Schema) (name : List ℕ) (x : World) (out : List ℕ) 
       let same : lane ≡ l.0.0 = (bytes_eq-Decides lane l.0.0).0 l.2 in
       any_in (is_home_of out x id) l.0 x.lanes l.1
       (subst (λ (n : List ℕ). (is_of_lane n id && not (is_lane_out out x n)) ≡ true) same
-      (both (is_of_lane lane id) _ ((of_lane_is lane id).1 of) (not_so (is_lane_out out x lane) home)))
+      (and_from (is_of_lane lane id) _ ((of_lane_is lane id).1 of) (not_so (is_lane_out out x lane) home)))
 
   -- a made resource that may go, at this path and of this id
   abbrev pub Goes : List ℕ → List ℕ → Type 0
@@ -152,7 +146,7 @@ module _ (schemas : List Schema) (name : List ℕ) (x : World) (out : List ℕ) 
   pub repeat_passes : (path lane : List ℕ) (token : ℕ) (r : Request) (w : MayCallAgain schemas name x out s Back path lane token r)
       → is_repeat_home out x s (record { token = token; path = path; lane = lane; request = r }) ≡ true
   repeat_passes path lane token r w =
-      both (may_repeat Back out s (record { token = token; path = path; lane = lane; request = r })) _ w.repeats.1 (not_so (is_lane_out out x lane) w.home)
+      and_from (may_repeat Back out s (record { token = token; path = path; lane = lane; request = r })) _ w.repeats.1 (not_so (is_lane_out out x lane) w.home)
 
   -- the first repeat
   pub repeat_first : (p : Pending) → IsFirstOf is_token_before (is_repeat_home out x s) s.tokens (Some p)

@@ -4,6 +4,7 @@ use Rattle.std.specs.List.{list_any}
 use Rattle.std.specs.Cmp.{first_so, second_so}
 use Rattle.std.specs.Str.{bytes_eq}
 use Rattle.std.proofs.lemmas.Slice.Eq.{bytes_eq-Decides}
+use Rattle.std.proofs.lemmas.Bool.{or_cases, and_from}
 use Rattle.cf_tree.specs.declared.request.Request.{Request}
 use Rattle.cf_tree.specs.declared.request.Request.TheVariants as request
 use Rattle.cf_schema.specs.declared.described.Schema.{Schema}
@@ -29,7 +30,7 @@ use Rattle.cf_plan.proofs.Members.{not_both, any_in, in_any}
 use Rattle.cf_plan.proofs.Firsts.{IsFirstOf, first_found}
 use Rattle.cf_plan.proofs.OfLane.{of_lane_is}
 use Rattle.cf_plan.proofs.Orders.{helds_in_order, tokens_in_order}
-use Rattle.cf_plan.proofs.Choosing.{both, either, not_so, is_so, emptied, waits_by, deletes_going, keeps_going, no_turn, Starts, repeat_passes, repeat_first, no_repeat, go_first, none_goes, end_first}
+use Rattle.cf_plan.proofs.Choosing.{not_so, is_so, emptied, waits_by, deletes_going, keeps_going, no_turn, Starts, repeat_passes, repeat_first, no_repeat, go_first, none_goes, end_first}
 
 pub found_in : {A : Type 0} (test : A → Bool) (xs : List A) (a : A) → find test xs ≡ Some a → In a xs × (test a ≡ true)
 found_in test [] a e = absurd cc
@@ -78,7 +79,7 @@ module _ (schemas : List Schema) (name : List ℕ) (x : World) (out : List ℕ) 
   }
 
   step_by : (e : Entry) × MayStep schemas name x out s Back e
-  step_by = by (is_retained r.deletion) refl (either (is_retained r.deletion) (list_any (is_home_of out x r.physical) x.lanes) can)
+  step_by = by (is_retained r.deletion) refl (or_cases (is_retained r.deletion) (list_any (is_home_of out x r.physical) x.lanes) can)
     where
       by : (b : Bool) → is_retained r.deletion ≡ b → (is_retained r.deletion ≡ true) ⊎ (list_any (is_home_of out x r.physical) x.lanes ≡ true)
           → (e : Entry) × MayStep schemas name x out s Back e
@@ -126,7 +127,7 @@ module _ (schemas : List Schema) (name : List ℕ) (x : World) (s : StackState) 
 
   -- a rollback that waits for repeats, of which none is out, is not at its end
   pub waits_on : (out : List ℕ) → waits_for_repeats Back out s ≡ true → none_out out s ≡ true → IsAtEnd schemas name x s Back → ⊥
-  waits_on out waits none end = by (either (is_repeat_out out s) (list_any (may_repeat Back out s) s.tokens) waits)
+  waits_on out waits none end = by (or_cases (is_repeat_out out s) (list_any (may_repeat Back out s) s.tokens) waits)
     where
       by : (is_repeat_out out s ≡ true) ⊎ (list_any (may_repeat Back out s) s.tokens ≡ true) → ⊥
       by (inl t) =
@@ -227,14 +228,14 @@ module _ (schemas : List Schema) (name : List ℕ) (x : World) (s : StackState) 
 
     -- a repeat is awaited, and no lane at home can take one: a lease is out
     awaits : waits_for_repeats Back [] s ≡ true → IsFirstOf is_token_before (is_repeat_home [] x s) s.tokens None → ⊥
-    awaits waits f = by (either (is_repeat_out [] s) (list_any (may_repeat Back [] s) s.tokens) waits)
+    awaits waits f = by (or_cases (is_repeat_out [] s) (list_any (may_repeat Back [] s) s.tokens) waits)
       where
         by : (is_repeat_out [] s ≡ true) ⊎ (list_any (may_repeat Back [] s) s.tokens ≡ true) → ⊥
         by (inl t) = not_both (is_repeat_out [] s) t (no_repeat_out s)
         by (inr t) =
             let p = in_any (may_repeat Back [] s) s.tokens t in
             not_both (is_repeat_home [] x s p.0)
-            (both (may_repeat Back [] s p.0) (not (is_lane_out [] x p.0.lane)) p.2 (not_so (is_lane_out [] x p.0.lane) (no_lane_out x p.0.lane))) (f p.0 p.1)
+            (and_from (may_repeat Back [] s p.0) (not (is_lane_out [] x p.0.lane)) p.2 (not_so (is_lane_out [] x p.0.lane) (no_lane_out x p.0.lane))) (f p.0 p.1)
 
     wait_first : waits_for_repeats Back out s ≡ true → IsFirstOf is_token_before (is_repeat_home out x s) s.tokens None
         → (m : Next) → Starts schemas name x out s rolling m → is_placed_before (place_of m) (place_of next.Wait) ≡ false
@@ -263,8 +264,8 @@ module _ (schemas : List Schema) (name : List ℕ) (x : World) (s : StackState) 
     -- nobody's lease is out, no repeat is awaited and nothing goes: that is the end
     all_done : waits_for_repeats Back [] s ≡ false → first_by is_held_before (may_go [] x s) s.made ≡ None → is_ended [] x s ≡ true
     all_done idle e =
-        both (none_out [] s) (not (waits_for_repeats Back [] s) && not (is_some (first_by is_held_before (may_go [] x s) s.made))) (none_out_of_none s)
-        (both (not (waits_for_repeats Back [] s)) (not (is_some (first_by is_held_before (may_go [] x s) s.made))) (not_so (waits_for_repeats Back [] s) idle)
+        and_from (none_out [] s) (not (waits_for_repeats Back [] s) && not (is_some (first_by is_held_before (may_go [] x s) s.made))) (none_out_of_none s)
+        (and_from (not (waits_for_repeats Back [] s)) (not (is_some (first_by is_held_before (may_go [] x s) s.made))) (not_so (waits_for_repeats Back [] s) idle)
         (ap (λ (o : Option Held). not (is_some o)) e))
 
     pub not_ended : is_ended out x s ≡ false → none_out out s ≡ true → IsAtEnd schemas name x s Back → ⊥
@@ -277,8 +278,8 @@ module _ (schemas : List Schema) (name : List ℕ) (x : World) (s : StackState) 
             goes_on r f.0 f.1 idle end
         by false idle None e =
             not_both (is_ended out x s)
-            (both (none_out out s) (not (waits_for_repeats Back [] s) && not (is_some (first_by is_held_before (may_go [] x s) s.made))) none
-            (both (not (waits_for_repeats Back [] s)) (not (is_some (first_by is_held_before (may_go [] x s) s.made)))
+            (and_from (none_out out s) (not (waits_for_repeats Back [] s) && not (is_some (first_by is_held_before (may_go [] x s) s.made))) none
+            (and_from (not (waits_for_repeats Back [] s)) (not (is_some (first_by is_held_before (may_go [] x s) s.made)))
             (not_so (waits_for_repeats Back [] s) idle) (ap (λ (q : Option Held). not (is_some q)) e))) more
 
     rest_first : waits_for_repeats Back out s ≡ false → IsFirstOf is_held_before (may_go out x s) s.made None → is_ended out x s ≡ false

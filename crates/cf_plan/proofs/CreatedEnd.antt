@@ -11,8 +11,8 @@ use Rattle.cf_tree.specs.Keys.{value_at, put}
 use Rattle.cf_tree.specs.declared.request.Request.{Request}
 use Rattle.cf_tree.specs.declared.request.Request.TheVariants as request
 use Rattle.cf_tree.specs.declared.source.Source.{Source}
+use Rattle.cf_tree.specs.Lists.{first_in}
 use Rattle.cf_entry.specs.declared.status.Status.TheVariants as status
-use Rattle.cf_graph.specs.Needs.{first_in}
 use Rattle.cf_desired.specs.declared.flaw.Flaw.{Flaw}
 use Rattle.cf_desired.specs.Plan.{Seen}
 use Rattle.cf_desired.specs.Whole.{Right, Whole, is_wanted_at, wanted_at, whole_of}

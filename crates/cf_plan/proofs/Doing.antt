@@ -4,10 +4,11 @@ use Rattle.std.specs.Prelude.{filter_map, option_and_then}
 use Rattle.std.specs.List.{list_any, list_all, cons_option}
 use Rattle.std.specs.Str.{bytes_eq}
 use Rattle.std.proofs.lemmas.Option.{none-some}
+use Rattle.std.proofs.lemmas.Bool.{and_parts, and_from}
 use Rattle.cf_tree.specs.declared.source.Source.{Source}
+use Rattle.cf_tree.specs.Lists.{is_among}
 use Rattle.cf_entry.specs.declared.entry.Entry.{Entry}
 use Rattle.cf_entry.specs.declared.entry.Entry.TheVariants as entry
-use Rattle.cf_graph.specs.Needs.{is_among}
 use Rattle.cf_desired.specs.declared.wanted.Wanted.{Wanted}
 use Rattle.cf_desired.specs.declared.wanted.Plan.{Plan}
 use Rattle.cf_desired.specs.Plan.{Seen}
@@ -23,14 +24,6 @@ use Rattle.cf_plan.specs.Forward.{In, here, there, IsDone, is_made, is_updated, 
 use Rattle.cf_plan.specs.Done.{AreDone, IsFresh, IsNext, Joined, none, one, are_met, made_paths, needs_by, updated_paths}
 use Rattle.cf_plan.proofs.Answered.{any_own}
 use Rattle.cf_plan.proofs.Listed.{among_more, bytes_same, in_cons, in_none, or_cases, or_left, or_right, same_bytes}
-
-both : (a b : Bool) → a && b ≡ true → (a ≡ true) × (b ≡ true)
-both true b e = (refl, e)
-both false b e = absurd (true≢false (sym e))
-
-and : (a b : Bool) → a ≡ true → b ≡ true → a && b ≡ true
-and true b e f = f
-and false b e f = absurd (true≢false (sym e))
 
 -- a resource is made at a path just where the path is among those of what was made
 made_by : (a b : Bool) (p q : List ℕ) (h : Held) (hs : List Held) → bytes_eq p h.path ≡ a → h.superseded ≡ b → is_among p (map (λ r. r.path) (filter (λ r. not r.superseded) hs)) ≡ is_some (find (is_current_at p) hs) → is_among p (map (λ r. r.path) (filter (λ r. not r.superseded) (h ∷ hs))) ≡ is_some (find (is_current_at p) (h ∷ hs))
@@ -101,12 +94,12 @@ among_both p (x ∷ xs) ys = ap (λ b. bytes_eq p x || b) (among_both p xs ys) �
 pub all_met : (ns done : List (List ℕ)) → list_all (λ n. is_among n done) ns ≡ true → (q : List ℕ) → In q ns → is_among q done ≡ true
 all_met [] done e q i = absurd (in_none i)
 all_met (n ∷ ns) done e q i =
-    let k = both (is_among n done) (list_all (λ m. is_among m done) ns) e in
+    let k = and_parts (is_among n done) (list_all (λ m. is_among m done) ns) e in
     elim (in_cons i) [ inl same ↦ subst (λ m. is_among m done ≡ true) same k.0 | inr j ↦ all_met ns done k.1 q j ]
 
 pub met_all : (ns done : List (List ℕ)) → ((q : List ℕ) → In q ns → is_among q done ≡ true) → list_all (λ n. is_among n done) ns ≡ true
 met_all [] done h = refl
-met_all (n ∷ ns) done h = and (is_among n done) (list_all (λ m. is_among m done) ns) (h n here) (met_all ns done (λ q i. h q (there i)))
+met_all (n ∷ ns) done h = and_from (is_among n done) (list_all (λ m. is_among m done) ns) (h n here) (met_all ns done (λ q i. h q (there i)))
 
 needs_same : (going : Option Source) (seen : Seen) (p : List ℕ) → (terms_of (wanted_at p (plan_in going seen))).needs ≡ (terms_of (wanted_in going seen p)).needs
 needs_same None seen p = refl

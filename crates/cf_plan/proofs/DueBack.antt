@@ -2,6 +2,7 @@
 use Rattle.std.proofs.Common.{◌≡◌, ◌⊎◌, ◌↔◌, inl, inr, ℕ, Bool, true, false, ◌&&◌, not, List, [], ◌∷◌, Option, Some, None, cond, refl, ap, sym, ◌∙◌, true≢false, subst}
 use Rattle.std.specs.List.{list_any}
 use Rattle.std.specs.Cmp.{first_so, second_so}
+use Rattle.std.proofs.lemmas.Bool.{and_from}
 use Rattle.cf_tree.specs.Keys.{bytes_lt}
 use Rattle.cf_tree.specs.declared.request.Request.{Request}
 use Rattle.cf_tree.specs.declared.request.Request.TheVariants as request
@@ -26,7 +27,7 @@ use Rattle.cf_plan.proofs.Members.{in_first, in_none, not_both}
 use Rattle.cf_plan.proofs.Listed.{in_cons}
 use Rattle.cf_plan.proofs.Firsts.{IsFirstOf, first_found}
 use Rattle.cf_plan.proofs.Orders.{helds_in_order, lower, not_below_itself}
-use Rattle.cf_plan.proofs.Choosing.{both, keeps_going, no_turn, waits_by}
+use Rattle.cf_plan.proofs.Choosing.{keeps_going, no_turn, waits_by}
 use Rattle.cf_plan.proofs.Chosen.{at_end, ended_parts, not_ended, waits_on}
 use Rattle.cf_plan.proofs.InOrder.{Adds, adds_all, adds_as, adds_if, adds_one}
 use Rattle.cf_plan.proofs.CallsDue.{IsCall, IsRepeat, adds_call, adds_repeats, again, call_due, due_call}
@@ -112,7 +113,7 @@ module _ (x : World) (out : List ℕ) (s : StackState) where
       adds_all (with_going out x s) GoesBy (λ ms r. adds_if (IsGone r) (goes s r) (adds_gone ms r)) s.made ns
 
   goes_by : (r : Held) → is_not_needed s r ≡ true → is_untried s r ≡ true → is_free r.path s ≡ true → goes s r ≡ true
-  goes_by r a b c = both (is_not_needed s r) (is_untried s r && is_free r.path s) a (both (is_untried s r) (is_free r.path s) b c)
+  goes_by r a b c = and_from (is_not_needed s r) (is_untried s r && is_free r.path s) a (and_from (is_untried s r) (is_free r.path s) b c)
 
 module _ (schemas : List Schema) (name : List ℕ) (x : World) (out : List ℕ) (s : StackState) (rolling : s.status ≡ status.RollbackInProgress) where
   abbrev Due : Next → Type 0

@@ -2,6 +2,7 @@
 use Rattle.std.proofs.Common.{◌≡◌, ◌⊎◌, ◌↔◌, inl, inr, ℕ, Bool, true, false, ◌&&◌, not, List, [], ◌∷◌, Option, Some, None, cond, refl, ap, sym, ◌∙◌, true≢false, subst}
 use Rattle.std.specs.List.{list_any}
 use Rattle.std.specs.Cmp.{first_so, second_so}
+use Rattle.std.proofs.lemmas.Bool.{or_cases, and_from}
 use Rattle.cf_tree.specs.declared.request.Request.{Request}
 use Rattle.cf_tree.specs.declared.request.Request.TheVariants as request
 use Rattle.cf_schema.specs.declared.described.Schema.{Schema}
@@ -26,7 +27,7 @@ use Rattle.cf_plan.specs.Follow.{AreFailed, EndsAs, IsAtEnd, MayFollowIn, MayKee
 use Rattle.cf_plan.specs.Stepping.{AreOpen, is_over}
 use Rattle.cf_plan.specs.Due.{AreDueIn, IsCallDueIn, IsDueIn, IsListed, are_in_order, with_due, with_repeats, with_starts}
 use Rattle.cf_plan.proofs.Members.{false_from, in_any, in_none, in_first, not_both}
-use Rattle.cf_plan.proofs.Choosing.{both, either, is_so, not_so, waits_by}
+use Rattle.cf_plan.proofs.Choosing.{is_so, not_so, waits_by}
 use Rattle.cf_plan.proofs.Chosen.{no_repeat_out}
 use Rattle.cf_plan.proofs.InOrder.{Adds, adds_both, adds_none, adds_one}
 use Rattle.cf_plan.proofs.CallsDue.{IsCall, IsRepeat, IsStart, adds_repeats, adds_starts, again, call_due, due_call}
@@ -159,7 +160,7 @@ module _ (schemas : List Schema) (name : List ℕ) (x : World) (out : List ℕ) 
         nothing (entry.ChangeSet number stack source rows outputs) w = w
 
     idle_at_end : IsAtEnd schemas name x s Forward → waits_for_repeats Back [] s ≡ false
-    idle_at_end ended = false_from (waits_for_repeats Back [] s) (λ t. by (either (is_repeat_out [] s) (list_any (may_repeat Back [] s) s.tokens) t))
+    idle_at_end ended = false_from (waits_for_repeats Back [] s) (λ t. by (or_cases (is_repeat_out [] s) (list_any (may_repeat Back [] s) s.tokens) t))
       where
         by : (is_repeat_out [] s ≡ true) ⊎ (list_any (may_repeat Back [] s) s.tokens ≡ true) → ⊥
         by (inl t) = not_both (is_repeat_out [] s) t (no_repeat_out s)
@@ -168,8 +169,8 @@ module _ (schemas : List Schema) (name : List ℕ) (x : World) (out : List ℕ) 
     module _ (d : Bool) (told : (d ≡ true) ↔ AllDone s) where
       over : none_out out s ≡ true → IsAtEnd schemas name x s Forward → AllDone s → is_over out s d ≡ true
       over none ended all =
-          both d (none_out out s && not (waits_for_repeats Back [] s)) (told.1 all)
-          (both (none_out out s) (not (waits_for_repeats Back [] s)) none (not_so (waits_for_repeats Back [] s) (idle_at_end ended)))
+          and_from d (none_out out s && not (waits_for_repeats Back [] s)) (told.1 all)
+          (and_from (none_out out s) (not (waits_for_repeats Back [] s)) none (not_so (waits_for_repeats Back [] s) (idle_at_end ended)))
 
       end_due : is_over out s d ≡ true → Due end
       end_due o =

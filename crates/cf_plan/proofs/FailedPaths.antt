@@ -9,7 +9,7 @@ use Rattle.std.proofs.lemmas.List.{reverse-append}
 use Rattle.std.proofs.lemmas.List.Folds.{find-append}
 use Rattle.std.proofs.lemmas.Slice.Eq.{bytes_eq-Decides}
 use Rattle.cf_tree.specs.Keys.{value_at, put, ascends, ascends_from, bytes_lt}
-use Rattle.cf_eval.proofs.Noting.{put_here, put_else}
+use Rattle.cf_tree.proofs.Lookups.{put_here, put_else}
 use Rattle.cf_entry.specs.Entry.{texts_ascend, texts_ascend_from}
 use Rattle.cf_entry.specs.declared.entry.Entry.{Entry}
 use Rattle.cf_entry.specs.declared.entry.Entry.TheVariants as entry

@@ -2,7 +2,7 @@
 use Rattle.std.proofs.Common.{◌≡◌, ◌⊎◌, inl, inr, ℕ, suc, ◌+◌, ◌<◌, ◌≤◌, Bool, true, false, ◌||◌, not, List, [], ◌∷◌, ◌++◌, IsTrue, length, take, get_or, map, refl, ap, sym, ◌∙◌, subst, arith, length-append, append_assoc, cond, true≢false}
 use Rattle.std.specs.Prelude.{count_by}
 use Rattle.std.specs.Str.{bytes_eq}
-use Rattle.cf_graph.specs.Needs.{is_among}
+use Rattle.cf_tree.specs.Lists.{is_among}
 use Rattle.cf_desired.specs.declared.wanted.Wanted.{Wanted}
 use Rattle.cf_desired.specs.declared.wanted.Plan.{Plan}
 use Rattle.cf_stacks.specs.declared.held.Held.{Held}

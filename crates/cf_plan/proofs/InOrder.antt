@@ -3,8 +3,8 @@ use Rattle.std.proofs.Common.{◌≡◌, ◌⊎◌, inl, inr, ℕ, ◌<◌, ◌=
 use Rattle.std.specs.Prelude.{fold}
 use Rattle.std.specs.List.{list_all}
 use Rattle.std.specs.Cmp.{first_so, second_so}
-use Rattle.std.proofs.lemmas.Bool.{ltb-true, lt-ltb, eqb-true, eq-eqb}
-use Rattle.cf_graph.specs.Inserted.{insert_by}
+use Rattle.std.proofs.lemmas.Bool.{ltb-true, lt-ltb, eqb-true, eq-eqb, or_cases, and_from}
+use Rattle.cf_tree.specs.Lists.{insert_by}
 use Rattle.cf_plan.specs.declared.next.Next.{Next}
 use Rattle.cf_plan.specs.Forward.{In, here, there}
 use Rattle.cf_plan.specs.Chosen.{Place, is_placed_before, is_sooner, place_of}
@@ -13,7 +13,7 @@ use Rattle.cf_plan.proofs.Members.{false_from, not_both, in_none, in_first}
 use Rattle.cf_plan.proofs.Listed.{in_cons}
 use Rattle.cf_plan.proofs.Firsts.{IsOrder}
 use Rattle.cf_plan.proofs.Orders.{sooner_in_order}
-use Rattle.cf_plan.proofs.Choosing.{both, either, is_so, not_so}
+use Rattle.cf_plan.proofs.Choosing.{is_so, not_so}
 
 -- by a number, and where that is the same by what comes next
 abbrev by_number : ℕ → ℕ → Bool → Bool
@@ -23,7 +23,7 @@ abbrev Below : ℕ → ℕ → Bool → Type 0
 Below n m q = (n < m) ⊎ ((n ≡ m) × (q ≡ true))
 
 below_is : (n m : ℕ) (q : Bool) → by_number n m q ≡ true → Below n m q
-below_is n m q e = by (either (nat_lt n m) (n == m && q) e)
+below_is n m q e = by (or_cases (nat_lt n m) (n == m && q) e)
   where
     by : (nat_lt n m ≡ true) ⊎ ((n == m && q) ≡ true) → Below n m q
     by (inl l) = inl (ltb-true n m l)
@@ -35,7 +35,7 @@ is_below n m q (inr w) = by (nat_lt n m)
   where
     by : (b : Bool) → (b || (n == m && q)) ≡ true
     by true = refl
-    by false = both (n == m) q (eq-eqb n m w.0) w.1
+    by false = and_from (n == m) q (eq-eqb n m w.0) w.1
 
 below_on : (n m k : ℕ) (p q r : Bool) → (p ≡ true → q ≡ true → r ≡ true) → by_number n m p ≡ true → by_number m k q ≡ true → by_number n k r ≡ true
 below_on n m k p q r on e f = is_below n k r (by (below_is n m p e) (below_is m k q f))
@@ -76,7 +76,7 @@ all_in test (x ∷ xs) h a i =
 
 pub in_all : {A : Type 0} (test : A → Bool) (xs : List A) → ((a : A) → In a xs → test a ≡ true) → list_all test xs ≡ true
 in_all test [] h = refl
-in_all test (x ∷ xs) h = both (test x) (list_all test xs) (h x here) (in_all test xs (λ a i. h a (there i)))
+in_all test (x ∷ xs) h = and_from (test x) (list_all test xs) (h x here) (in_all test xs (λ a i. h a (there i)))
 
 -- what joins in its place is of the list, as all that was, and nothing else
 joins : (n e : Next) (ns : List Next) → In e (with_due ns n) → In e ns ⊎ (e ≡ n)
@@ -139,10 +139,10 @@ ordered n (m ∷ ms) e = by (stays m n) refl (ordered n ms (second_so (list_all 
 
     by : (t : Bool) → stays m n ≡ t → are_in_order (with_due ms n) ≡ true → are_in_order (cond t (m ∷ with_due ms n) (n ∷ m ∷ ms)) ≡ true
     by true q rest =
-        both (list_all (λ k. not (is_step_before k m)) (with_due ms n)) (are_in_order (with_due ms n))
+        and_from (list_all (λ k. not (is_step_before k m)) (with_due ms n)) (are_in_order (with_due ms n))
         (in_all (λ k. not (is_step_before k m)) (with_due ms n) (behind q)) rest
     by false q rest =
-        both (list_all (λ k. not (is_step_before k n)) (m ∷ ms)) (are_in_order (m ∷ ms)) (in_all (λ k. not (is_step_before k n)) (m ∷ ms) (after (leads q))) e
+        and_from (list_all (λ k. not (is_step_before k n)) (m ∷ ms)) (are_in_order (m ∷ ms)) (in_all (λ k. not (is_step_before k n)) (m ∷ ms) (after (leads q))) e
 
 -- Steps join a list: just those of a kind, and all stay in order.
 pub record Adds (old new : List Next) (Kind : Next → Type 0) : Type 0 where

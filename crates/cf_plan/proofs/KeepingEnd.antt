@@ -9,7 +9,7 @@ use Rattle.std.proofs.lemmas.Bool.{and_right, or_right, eqb-true}
 use Rattle.cf_tree.specs.Keys.{value_at}
 use Rattle.cf_tree.specs.Named.{all_differ}
 use Rattle.cf_tree.specs.declared.source.Source.{Source}
-use Rattle.cf_graph.specs.Inserted.{insert_by}
+use Rattle.cf_tree.specs.Lists.{insert_by}
 use Rattle.cf_export.specs.declared.Export.{Export}
 use Rattle.cf_schema.specs.declared.described.Schema.{Schema}
 use Rattle.cf_change.specs.Changes.{is_empty}

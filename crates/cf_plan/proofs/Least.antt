@@ -3,11 +3,12 @@ use Rattle.std.proofs.Common.{◌≡◌, ◌⊎◌, inl, inr, ℕ, suc, ◌+◌,
 use Rattle.std.specs.Prelude.{filter_map, fold}
 use Rattle.std.specs.Option.{option_to_list, unwrap_or}
 use Rattle.std.proofs.lemmas.List.Sums.{fold-append}
-use Rattle.std.proofs.lemmas.Option.{none-some}
+use Rattle.std.proofs.lemmas.Option.{none-some, same_Some}
 use Rattle.std.specs.Ordering.{nat_cmp, is_lt, ordering_reverse}
 use Rattle.std.specs.declared.cmp.Ordering.{Ordering}
 use Rattle.std.specs.declared.cmp.Ordering.TheVariants.{Less, Equal, Greater}
 use Rattle.std.specs.Cmp.Lexicographic.{slice_cmp, nat_list_cmp_total, texts_ties}
+use Rattle.std.proofs.lemmas.Bool.{false_from_ne_true}
 use Rattle.cf_tree.specs.Keys.{bytes_lt}
 use Rattle.cf_desired.specs.declared.flaw.Flaw.{Flaw}
 use Rattle.cf_plan.specs.Failed.{least, lesser, lesser_of}
@@ -40,22 +41,15 @@ less_from Greater h = absurd (true≢false (sym h))
 lt_trans : (a b c : List ℕ) → bytes_lt a b ≡ true → bytes_lt b c ≡ true → bytes_lt a c ≡ true
 lt_trans a b c h g = ap is_lt (nat_list_cmp_total.trans a b c (less_from _ h) (less_from _ g))
 
-not_both : (b : Bool) → (b ≡ true → ⊥) → b ≡ false
-not_both true h = absurd (h refl)
-not_both false h = refl
-
-some_same : {A : Type 0} (a b : A) → Some a ≡ Some b → a ≡ b
-some_same a b e = ap (λ o. unwrap_or o a) e
-
 fold_by : (c x : B) (xs : List B) (a : B) (b : Bool) → bytes_lt x.0 c.0 ≡ b → (lesser (Some c) x ≡ Some a) ⊎ In a xs → (Some c ≡ Some a) ⊎ In a (x ∷ xs)
 fold_by c x xs a b k (inr i) = inr (there i)
-fold_by c x xs a true k (inl f) = let one : lesser (Some c) x ≡ Some x = rw k refl in inr (subst (λ z. In a (z ∷ xs)) (sym (some_same x a (sym one ∙ f))) here)
+fold_by c x xs a true k (inl f) = let one : lesser (Some c) x ≡ Some x = rw k refl in inr (subst (λ z. In a (z ∷ xs)) (sym (same_Some x a (sym one ∙ f))) here)
 fold_by c x xs a false k (inl f) = let one : lesser (Some c) x ≡ Some c = rw k refl in inl (sym one ∙ f)
 
 -- what the fold gives is where it began, or one of the list
 from_fold : (o : Option B) (xs : List B) (a : B) → fold lesser o xs ≡ Some a → (o ≡ Some a) ⊎ In a xs
 from_fold o [] a e = inl e
-from_fold None (x ∷ xs) a e = elim (from_fold (Some x) xs a e) [ inl k ↦ inr (subst (λ c. In a (c ∷ xs)) (sym (some_same x a k)) here) | inr k ↦ inr (there k) ]
+from_fold None (x ∷ xs) a e = elim (from_fold (Some x) xs a e) [ inl k ↦ inr (subst (λ c. In a (c ∷ xs)) (sym (same_Some x a k)) here) | inr k ↦ inr (there k) ]
 from_fold (Some c) (x ∷ xs) a e = fold_by c x xs a (bytes_lt x.0 c.0) refl (from_fold (lesser (Some c) x) xs a e)
 
 not_itself : (a : List ℕ) → bytes_lt a a ≡ false
@@ -76,24 +70,24 @@ behind c a h = by_order (slice_cmp nat_cmp c a) refl
     by_order Greater e = inl (ap is_lt (nat_list_cmp_total.antisymm a c ∙ ap ordering_reverse e))
 
 below : (x c a : List ℕ) → bytes_lt x c ≡ false → bytes_lt c a ≡ false → bytes_lt x a ≡ false
-below x c a h g = not_both (bytes_lt x a) (λ t. elim (behind c a g) [
+below x c a h g = false_from_ne_true (bytes_lt x a) (λ t. elim (behind c a g) [
   | inl k ↦ true≢false (sym (lt_trans x a c t k) ∙ h)
   | inr k ↦ true≢false (sym (subst (λ z. bytes_lt x z ≡ true) (sym k) t) ∙ h)
 ])
 
 two_low : (c x a : B) (b : Bool) → bytes_lt x.0 c.0 ≡ b → ((d : B) → (if b then Some x else Some c) ≡ Some d → bytes_lt d.0 a.0 ≡ false) → (bytes_lt c.0 a.0 ≡ false) × (bytes_lt x.0 a.0 ≡ false)
-two_low c x a true k h = let xa = h x refl in (not_both (bytes_lt c.0 a.0) (λ t. true≢false (sym (lt_trans x.0 c.0 a.0 k t) ∙ xa)), xa)
+two_low c x a true k h = let xa = h x refl in (false_from_ne_true (bytes_lt c.0 a.0) (λ t. true≢false (sym (lt_trans x.0 c.0 a.0 k t) ∙ xa)), xa)
 two_low c x a false k h = let ca = h c refl in (ca, below x.0 c.0 a.0 k ca)
 
 low : (xs : List B) (o : Option B) (a : B) → fold lesser o xs ≡ Some a → ((c : B) → o ≡ Some c → bytes_lt c.0 a.0 ≡ false) × ((b : B) → In b xs → bytes_lt b.0 a.0 ≡ false)
-low [] o a e = (λ c f. subst (λ (z : B). bytes_lt z.0 a.0 ≡ false) (sym (some_same c a (sym f ∙ e))) (not_itself a.0), λ b i. absurd (in_none i))
+low [] o a e = (λ c f. subst (λ (z : B). bytes_lt z.0 a.0 ≡ false) (sym (same_Some c a (sym f ∙ e))) (not_itself a.0), λ b i. absurd (in_none i))
 low (x ∷ xs) None a e =
     let h = low xs (Some x) a e in
     (λ c f. absurd (none-some c f), λ b i. elim (in_cons i) [ inl k ↦ subst (λ (z : B). bytes_lt z.0 a.0 ≡ false) k (h.0 x refl) | inr j ↦ h.1 b j ])
 low (x ∷ xs) (Some c) a e =
     let h = low xs (lesser (Some c) x) a e in
     let p = two_low c x a (bytes_lt x.0 c.0) refl h.0 in (
-      λ d f. subst (λ (z : B). bytes_lt z.0 a.0 ≡ false) (some_same c d f) p.0,
+      λ d f. subst (λ (z : B). bytes_lt z.0 a.0 ≡ false) (same_Some c d f) p.0,
       λ b i. elim (in_cons i) [ inl k ↦ subst (λ (z : B). bytes_lt z.0 a.0 ≡ false) k p.1 | inr j ↦ h.1 b j ],
     )
 

@@ -14,7 +14,6 @@ pub mod Needed
 pub mod OfLane
 pub mod Orders
 pub mod Told
-pub mod Turns
 pub mod Answered
 pub mod Parting
 pub mod Findings

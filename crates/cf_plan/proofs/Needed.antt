@@ -6,7 +6,7 @@ use Rattle.std.specs.Prelude.{IfOk}
 use Rattle.std.specs.Str.{bytes_eq}
 use Rattle.std.proofs.lemmas.List.Folds.{list_any-append}
 use Rattle.std.proofs.lemmas.Slice.Eq.{bytes_eq-Decides}
-use Rattle.cf_graph.specs.Needs.{is_among}
+use Rattle.cf_tree.specs.Lists.{is_among}
 use Rattle.cf_stacks.specs.declared.held.Held.{Held}
 use Rattle.cf_stacks.specs.declared.held.Pending.{Pending}
 use Rattle.cf_stacks.specs.declared.terms.Terms.{Terms}

@@ -6,7 +6,7 @@ use Rattle.std.specs.declared.cmp.Ordering.TheVariants.{Less, Equal, Greater}
 use Rattle.std.specs.Cmp.{first_so, second_so}
 use Rattle.std.specs.Cmp.Lexicographic.{slice_cmp, nat_list_cmp_total}
 use Rattle.std.specs.Str.{bytes_eq}
-use Rattle.std.proofs.lemmas.Bool.{ltb-true, lt-ltb}
+use Rattle.std.proofs.lemmas.Bool.{ltb-true, lt-ltb, or_cases}
 use Rattle.std.proofs.lemmas.Slice.Eq.{bytes_eq-Decides}
 use Rattle.cf_tree.specs.Keys.{bytes_lt}
 use Rattle.cf_plan.specs.Chosen.{is_sooner}
@@ -35,10 +35,6 @@ not_below_itself k = turned_alike (slice_cmp nat_cmp k k) (nat_list_cmp_total.an
 same : (k l : List ℕ) → bytes_eq k l ≡ true → k ≡ l
 same k l e = (bytes_eq-Decides k l).0 e
 
-either : (a b : Bool) → (a || b) ≡ true → (a ≡ true) ⊎ (b ≡ true)
-either true b e = inl refl
-either false b e = inr e
-
 or_left : (a b : Bool) → a ≡ true → (a || b) ≡ true
 or_left a b e = rw e refl
 
@@ -61,7 +57,7 @@ abbrev Sooner : List ℕ × List ℕ → List ℕ × List ℕ → Type 0
 Sooner a b = (bytes_lt a.0 b.0 ≡ true) ⊎ ((a.0 ≡ b.0) × (bytes_lt a.1 b.1 ≡ true))
 
 is_so : (a b : List ℕ × List ℕ) → is_sooner a b ≡ true → Sooner a b
-is_so a b e = by (either (bytes_lt a.0 b.0) (bytes_eq a.0 b.0 && bytes_lt a.1 b.1) e)
+is_so a b e = by (or_cases (bytes_lt a.0 b.0) (bytes_eq a.0 b.0 && bytes_lt a.1 b.1) e)
   where
     by : (bytes_lt a.0 b.0 ≡ true) ⊎ ((bytes_eq a.0 b.0 && bytes_lt a.1 b.1) ≡ true) → Sooner a b
     by (inl l) = inl l

@@ -5,7 +5,7 @@ use Rattle.std.specs.List.{list_all}
 use Rattle.std.specs.Option.{option_or}
 use Rattle.cf_tree.specs.Keys.{bytes_lt}
 use Rattle.cf_tree.specs.declared.source.Source.{Source}
-use Rattle.cf_graph.specs.Needs.{first_in, is_among}
+use Rattle.cf_tree.specs.Lists.{first_in, is_among}
 use Rattle.cf_schema.specs.declared.described.Schema.{Schema}
 use Rattle.cf_desired.specs.declared.flaw.Flaw.{Flaw}
 use Rattle.cf_desired.specs.declared.wanted.Plan.{Plan}
@@ -29,7 +29,7 @@ use Rattle.cf_plan.specs.declared.preparing.PrepareFault.{PrepareFault}
 use Rattle.cf_plan.specs.declared.preparing.PrepareFault.TheVariants as fault
 use Rattle.cf_plan.specs.declared.preparing.StackFault.TheVariants.{WrongStatus}
 use Rattle.cf_plan.specs.declared.preparing.Wish.{Wish}
-use Rattle.cf_plan.proofs.Choosing.{both, is_so}
+use Rattle.cf_plan.proofs.Choosing.{is_so}
 use Rattle.cf_plan.proofs.BlankSeen.{new_by, new_first, plan_alike}
 
 some_none : {A B : Type 0} (a : A) → Some a ≡ None → B

@@ -4,7 +4,8 @@ use Rattle.std.specs.Prelude.{Result, Ok, Err, IfOk}
 use Rattle.std.specs.declared.alloc.AllocError.{AllocError}
 use Rattle.std.specs.Str.{bytes_eq}
 use Rattle.std.specs.Option.{unwrap_or}
-use Rattle.std.proofs.lemmas.Option.{none-some}
+use Rattle.std.proofs.lemmas.Option.{none-some, same_Some}
+use Rattle.std.proofs.lemmas.Bool.{and_parts, and_from}
 use Rattle.cf_tree.specs.Datum.{Data}
 use Rattle.cf_tree.specs.declared.request.Request.{Request}
 use Rattle.cf_tree.specs.declared.request.Request.TheVariants as request
@@ -19,17 +20,6 @@ use Rattle.cf_plan.specs.Forward.{Finding, Bad, Later, Known, difference_to, eva
 use Rattle.cf_plan.specs.Follow.{IntendsForward, WantsNew, WantsUpdate, was_not_updatable}
 use Rattle.cf_plan.specs.Starts.{AreIntended, create_over, is_replacing, is_same, update_over, wants_by, wants_new, wants_update}
 use Rattle.cf_plan.proofs.Listed.{bytes_same, same_bytes}
-
-some_same : {A : Type 0} (a b : A) → Some a ≡ Some b → a ≡ b
-some_same a b e = ap (λ o. unwrap_or o a) e
-
-both : (a b : Bool) → a && b ≡ true → (a ≡ true) × (b ≡ true)
-both true b e = (refl, e)
-both false b e = absurd (true≢false (sym e))
-
-and : (a b : Bool) → a ≡ true → b ≡ true → a && b ≡ true
-and true b e f = f
-and false b e f = absurd (true≢false (sym e))
 
 -- what difference wants a new resource, and what an update
 replacing : (d : Difference) → is_replacing d ≡ true → d ≡ difference.Replace
@@ -71,17 +61,17 @@ not_true true h = absurd (h refl)
 not_true false h = refl
 
 other_is : (d : Difference) (unsure : Bool) → (not (is_replacing d) && (unsure || not (is_same d))) ≡ true → Other d unsure
-other_is d true e = (no_replace d (both (not (is_replacing d)) true e).0, inl refl)
-other_is d false e = let k = both (not (is_replacing d)) (not (is_same d)) e in (no_replace d k.0, inr (no_same d k.1))
+other_is d true e = (no_replace d (and_parts (not (is_replacing d)) true e).0, inl refl)
+other_is d false e = let k = and_parts (not (is_replacing d)) (not (is_same d)) e in (no_replace d k.0, inr (no_same d k.1))
 
 is_other : (d : Difference) (unsure : Bool) → Other d unsure → (not (is_replacing d) && (unsure || not (is_same d))) ≡ true
-is_other d true (n, o) = and (not (is_replacing d)) true (not_true (is_replacing d) (λ e. n (replacing d e))) refl
+is_other d true (n, o) = and_from (not (is_replacing d)) true (not_true (is_replacing d) (λ e. n (replacing d e))) refl
 is_other d false (n, inl e) = absurd (true≢false (sym e))
-is_other d false (n, inr m) = and (not (is_replacing d)) (not (is_same d)) (not_true (is_replacing d) (λ e. n (replacing d e))) (not_true (is_same d) (λ e. m (same_is d e)))
+is_other d false (n, inr m) = and_from (not (is_replacing d)) (not (is_same d)) (not_true (is_replacing d) (λ e. n (replacing d e))) (not_true (is_same d) (λ e. m (same_is d e)))
 
 -- a request is there where a test holds
 where_true : {A : Type 0} (b : Bool) (a c : A) → (if b then Some a else None) ≡ Some c → (b ≡ true) × (a ≡ c)
-where_true true a c e = (refl, some_same a c e)
+where_true true a c e = (refl, same_Some a c e)
 where_true false a c e = absurd (none-some c e)
 
 true_where : {A : Type 0} (b : Bool) (a : A) → b ≡ true → (if b then Some a else None) ≡ Some a
@@ -90,7 +80,7 @@ true_where b a e = rw e refl
 module _ (schemas : List Schema) (s : StackState) (path : List ℕ) where
   -- a create is found just where it is intended
   created : (k : List ℕ) (ps : List (List ℕ × Data)) (o : Option Held) (r : Request) → create_over schemas s k ps o ≡ Some r → (request.Create k ps ≡ r) × WantsNew schemas s o ps
-  created k ps None r e = (some_same (request.Create k ps) r e, tt)
+  created k ps None r e = (same_Some (request.Create k ps) r e, tt)
   created k ps (Some h) r e =
       let w = where_true (wants_new schemas s h ps) (request.Create k ps) r e in (w.1, new_is (difference_to schemas h ps) (was_not_updatable s h) w.0)
 
@@ -110,16 +100,16 @@ module _ (schemas : List Schema) (s : StackState) (path : List ℕ) where
   updated k ps None r e = absurd (none-some r e)
   updated k ps (Some h) r e =
       let w = where_true (bytes_eq h.kind k && (wants_update schemas h ps && not (was_answered_at path s))) (request.Update h.physical ps) r e in
-      let a = both (bytes_eq h.kind k) (wants_update schemas h ps && not (was_answered_at path s)) w.0 in
-      let b = both (wants_update schemas h ps) (not (was_answered_at path s)) a.1 in
+      let a = and_parts (bytes_eq h.kind k) (wants_update schemas h ps && not (was_answered_at path s)) w.0 in
+      let b = and_parts (wants_update schemas h ps) (not (was_answered_at path s)) a.1 in
       (h, refl, w.1, bytes_same h.kind k a.0, other_is (difference_to schemas h ps) h.unsure b.0, not_false (was_answered_at path s) b.1)
 
   updates_over : (ps : List (List ℕ × Data)) (h : Held) (o : Option Held) → o ≡ Some h → WantsUpdate schemas s h ps → was_answered_at path s ≡ false → update_over schemas s path h.kind ps o ≡ Some (request.Update h.physical ps)
   updates_over ps h o e w n =
       ap (update_over schemas s path h.kind ps) e
       ∙ true_where (bytes_eq h.kind h.kind && (wants_update schemas h ps && not (was_answered_at path s))) (request.Update h.physical ps)
-      (and (bytes_eq h.kind h.kind) (wants_update schemas h ps && not (was_answered_at path s)) (same_bytes h.kind)
-      (and (wants_update schemas h ps) (not (was_answered_at path s)) (is_other (difference_to schemas h ps) h.unsure w) (rw n refl)))
+      (and_from (bytes_eq h.kind h.kind) (wants_update schemas h ps && not (was_answered_at path s)) (same_bytes h.kind)
+      (and_from (wants_update schemas h ps) (not (was_answered_at path s)) (is_other (difference_to schemas h ps) h.unsure w) (rw n refl)))
 
   -- by what is found at the path
   from_found : (f : Finding) → evaluated_at path s ≡ f → (r : Request) → ((wants_by schemas s path f).create ≡ Some r) ⊎ ((wants_by schemas s path f).update ≡ Some r) → IntendsForward schemas s path r

@@ -5,6 +5,7 @@ use Rattle.std.specs.List.{list_any}
 use Rattle.std.specs.Cmp.{first_so, second_so}
 use Rattle.std.specs.Str.{bytes_eq}
 use Rattle.std.proofs.lemmas.Slice.Eq.{bytes_eq-Decides}
+use Rattle.std.proofs.lemmas.Bool.{or_cases, and_from}
 use Rattle.cf_tree.specs.Keys.{ascends, ascends_from, bytes_lt, value_at}
 use Rattle.cf_tree.proofs.Lookups.{value_below}
 use Rattle.cf_tree.specs.declared.request.Request.{Request}
@@ -45,7 +46,7 @@ use Rattle.cf_plan.proofs.FailedPaths.{put_is}
 use Rattle.cf_plan.proofs.Firsts.{IsFirstOf, first_found}
 use Rattle.cf_plan.proofs.OfLane.{of_lane_is}
 use Rattle.cf_plan.proofs.Orders.{tokens_in_order, starts_in_order}
-use Rattle.cf_plan.proofs.Choosing.{both, either, not_so, is_so, and_no, home_by, waits_by}
+use Rattle.cf_plan.proofs.Choosing.{not_so, is_so, and_no, home_by, waits_by}
 use Rattle.cf_plan.proofs.Chosen.{found_in, no_repeat_out}
 use Rattle.cf_plan.proofs.Followed.{none_is}
 use Rattle.cf_entry.proofs.Codec.{some_is}
@@ -78,7 +79,7 @@ terms_told s path asked =
     ∙ (ap (λ (o : Option Terms). cond (list_any (λ (p : Pending). bytes_eq path p.path) s.tokens) (Some (terms_at path s)) o)
     (terms_put (λ (h : Held). h.path) s s.made [] path)
     ∙ has (list_any (λ (p : Pending). bytes_eq path p.path) s.tokens) (list_any (λ (h : Held). bytes_eq path h.path) s.made)
-    (by (either (list_any (is_at path) s.made) (list_any (is_create_at path) s.tokens) asked)))
+    (by (or_cases (list_any (is_at path) s.made) (list_any (is_create_at path) s.tokens) asked)))
   where
     has : (a b : Bool) → (a ≡ true) ⊎ (b ≡ true) → cond a (Some (terms_at path s)) (cond b (Some (terms_at path s)) None) ≡ Some (terms_at path s)
     has true b w = refl
@@ -176,7 +177,7 @@ module _ (x : World) (out : List ℕ) where
       let same : lane ≡ l.0.0 = (bytes_eq-Decides lane l.0.0).0 (first_so (bytes_eq lane l.0.0) (bytes_eq k l.0.1) l.2) in
       found_some (λ (m : List ℕ × List ℕ). m.0) (λ (m : List ℕ × List ℕ). bytes_eq k m.1 && not (is_lane_out out x m.0)) x.lanes
       (any_in (λ (m : List ℕ × List ℕ). bytes_eq k m.1 && not (is_lane_out out x m.0)) l.0 x.lanes l.1
-      (both (bytes_eq k l.0.1) (not (is_lane_out out x l.0.0)) (second_so (bytes_eq lane l.0.0) (bytes_eq k l.0.1) l.2)
+      (and_from (bytes_eq k l.0.1) (not (is_lane_out out x l.0.0)) (second_so (bytes_eq lane l.0.0) (bytes_eq k l.0.1) l.2)
       (not_so (is_lane_out out x l.0.0) (subst (λ (m : List ℕ). is_lane_out out x m ≡ false) same home))))
   home_for schemas name s lane (request.Update id props) fits home =
       found_some (λ (m : List ℕ × List ℕ). m.0) (is_home_of out x id) x.lanes (home_by schemas name x out s id lane fits.0 fits.1 home)
@@ -204,7 +205,7 @@ module _ (x : World) (out : List ℕ) where
       let at = found_in test x.lanes l.0 l.1 in
       subst (λ (n : List ℕ). (list_any (is_lane_of n k) x.lanes ≡ true) × (is_lane_out out x n ≡ false)) l.2 (
         any_in (is_lane_of l.0.0 k) l.0 x.lanes at.0
-            (both (bytes_eq l.0.0 l.0.0) (bytes_eq k l.0.1) ((bytes_eq-Decides l.0.0 l.0.0).1 refl) (first_so (bytes_eq k l.0.1) (not (is_lane_out out x l.0.0)) at.1)),
+            (and_from (bytes_eq l.0.0 l.0.0) (bytes_eq k l.0.1) ((bytes_eq-Decides l.0.0 l.0.0).1 refl) (first_so (bytes_eq k l.0.1) (not (is_lane_out out x l.0.0)) at.1)),
         is_so (is_lane_out out x l.0.0) (second_so (bytes_eq k l.0.1) (not (is_lane_out out x l.0.0)) at.1),
       )
   lane_fits lane (request.Update id props) e = let w = id_fits lane id e in (w.0, w.1)
@@ -343,7 +344,7 @@ module _ (schemas : List Schema) (name : List ℕ) (x : World) (out : List ℕ) 
     passes : (path lane : List ℕ) (token : ℕ) (r : Request) → MayCallAgain schemas name x out s Forward path lane token r
         → is_repeat_home out x s (record { token = token; path = path; lane = lane; request = r }) ≡ true
     passes path lane token r w =
-        both (may_repeat Back out s (record { token = token; path = path; lane = lane; request = r })) (not (is_lane_out out x lane)) w.repeats.2
+        and_from (may_repeat Back out s (record { token = token; path = path; lane = lane; request = r })) (not (is_lane_out out x lane)) w.repeats.2
         (not_so (is_lane_out out x lane) w.home)
 
     repeat_first : (p : Pending) → IsFirstOf is_token_before (is_repeat_home out x s) s.tokens (Some p)
@@ -476,7 +477,7 @@ module _ (schemas : List Schema) (name : List ℕ) (x : World) (out : List ℕ) 
             }
 
         idle_at_end : IsAtEnd schemas name x s Forward → waits_for_repeats Back [] s ≡ false
-        idle_at_end end = false_from (waits_for_repeats Back [] s) (λ t. by (either (is_repeat_out [] s) (list_any (may_repeat Back [] s) s.tokens) t))
+        idle_at_end end = false_from (waits_for_repeats Back [] s) (λ t. by (or_cases (is_repeat_out [] s) (list_any (may_repeat Back [] s) s.tokens) t))
           where
             by : (is_repeat_out [] s ≡ true) ⊎ (list_any (may_repeat Back [] s) s.tokens ≡ true) → ⊥
             by (inl t) = not_both (is_repeat_out [] s) t (no_repeat_out s)
@@ -485,8 +486,8 @@ module _ (schemas : List Schema) (name : List ℕ) (x : World) (out : List ℕ) 
         not_over : (d : Bool) → ((d ≡ true) ↔ AllDone s) → is_over out s d ≡ false → none_out out s ≡ true → IsAtEnd schemas name x s Forward → AllDone s → ⊥
         not_over d told more none end all =
             not_both (is_over out s d)
-            (both d (none_out out s && not (waits_for_repeats Back [] s)) (told.1 all)
-            (both (none_out out s) (not (waits_for_repeats Back [] s)) none (not_so (waits_for_repeats Back [] s) (idle_at_end end)))) more
+            (and_from d (none_out out s && not (waits_for_repeats Back [] s)) (told.1 all)
+            (and_from (none_out out s) (not (waits_for_repeats Back [] s)) none (not_so (waits_for_repeats Back [] s) (idle_at_end end)))) more
 
         rest_first : (d : Bool) → ((d ≡ true) ↔ AllDone s) → is_over out s d ≡ false
             → (m : Next) → Starts m → is_placed_before (place_of m) (place_of next.Wait) ≡ false

@@ -15,9 +15,9 @@ use Rattle.cf_entry.specs.declared.status.Status.TheVariants as status
 use Rattle.cf_stacks.specs.declared.held.Held.{Held}
 use Rattle.cf_stacks.specs.declared.state.StackState.{StackState}
 use Rattle.cf_stacks.specs.declared.state.World.{World}
-use Rattle.cf_graph.specs.Needs.{is_among}
 use Rattle.cf_stacks.specs.Words.{is_pinned}
 use Rattle.cf_tree.specs.Named.{all_differ}
+use Rattle.cf_tree.specs.Lists.{is_among}
 use Rattle.cf_change.specs.Changes.{HeldAt, Changes, changes_of, found_of, is_empty}
 use Rattle.cf_desired.specs.Plan.{Seen, plan_of}
 

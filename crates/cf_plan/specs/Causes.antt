@@ -1,16 +1,16 @@
 -- Whether the forward phase has failed, and for which cause, as code tells it (this project's own).
 use Rattle.std.specs.Prelude.{◌≡◌, ℕ, Bool, true, List, [], ◌∷◌, Option, Some, None, find, if◌then◌else◌}
+use Rattle.cf_tree.specs.Lists.{first_in}
 use Rattle.cf_entry.specs.declared.turn.Cause.{Cause}
 use Rattle.cf_entry.specs.declared.turn.Cause.TheVariants as cause
 use Rattle.cf_entry.specs.declared.turn.Reason.{Reason}
 use Rattle.cf_export.specs.declared.Export.{Export}
-use Rattle.cf_graph.specs.Needs.{first_in}
 use Rattle.cf_desired.specs.declared.flaw.Flaw.{Flaw}
 use Rattle.cf_desired.specs.declared.wanted.Plan.{Plan}
+use Rattle.cf_desired.specs.FlawText.{flaw_text}
 use Rattle.cf_schema.specs.declared.described.Schema.{Schema}
 use Rattle.cf_stacks.specs.declared.state.StackState.{StackState}
 use Rattle.cf_stacks.specs.declared.state.World.{World}
-use Rattle.cf_plan.specs.FlawText.{flaw_text}
 use Rattle.cf_plan.specs.Failed.{are_all_done, flaws_found, least}
 use Rattle.cf_plan.specs.Forward.{HasFailed, IsCause, first_failing, is_lost, path_of_token}
 use Rattle.cf_plan.specs.declared.cause.Failure.{Failure}

@@ -3,7 +3,7 @@ use Rattle.std.specs.Prelude.{◌≡◌, ◌↔◌, ◌⊎◌, ℕ, Bool, false,
 use Rattle.std.specs.List.{list_all}
 use Rattle.std.specs.Option.{option_map_or}
 use Rattle.cf_tree.specs.Datum.{Data}
-use Rattle.cf_graph.specs.Needs.{is_among}
+use Rattle.cf_tree.specs.Lists.{is_among}
 use Rattle.cf_desired.specs.declared.wanted.Plan.{Plan}
 use Rattle.cf_desired.specs.Whole.{wanted_at}
 use Rattle.cf_stacks.specs.declared.held.Held.{Held}

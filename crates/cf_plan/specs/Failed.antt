@@ -2,7 +2,7 @@
 use Rattle.std.specs.Prelude.{◌≡◌, ℕ, Bool, true, List, [], ◌∷◌, ◌++◌, Option, Some, None, filter_map, fold, option_and_then, option_map, if◌then◌else◌}
 use Rattle.std.specs.List.{list_all}
 use Rattle.cf_tree.specs.Keys.{bytes_lt}
-use Rattle.cf_graph.specs.Needs.{is_among}
+use Rattle.cf_tree.specs.Lists.{is_among}
 use Rattle.cf_desired.specs.declared.flaw.Flaw.{Flaw}
 use Rattle.cf_desired.specs.declared.wanted.Evaluated.{Evaluated}
 use Rattle.cf_desired.specs.declared.wanted.Evaluated.TheVariants as result

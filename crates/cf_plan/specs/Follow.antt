@@ -29,11 +29,11 @@ use Rattle.cf_tree.specs.declared.template.Deletion.{Deletion}
 use Rattle.cf_tree.specs.declared.template.Deletion.TheVariants as deletion
 use Rattle.cf_tree.specs.declared.template.Replace.{Replace}
 use Rattle.cf_tree.specs.declared.template.Replace.TheVariants as replace
+use Rattle.cf_tree.specs.Lists.{is_among}
 use Rattle.cf_stacks.specs.declared.held.Pending.{Pending}
 use Rattle.cf_stacks.specs.declared.state.StackState.{StackState}
 use Rattle.cf_stacks.specs.declared.state.World.{World}
 use Rattle.cf_stacks.specs.Status.{Stage, Forward, Clean, Back, BackClean, Gone, stage_of}
-use Rattle.cf_graph.specs.Needs.{is_among}
 use Rattle.cf_stacks.specs.Words.{stack_at, stack_of_operation, current_at, resources_of, is_update, is_create_at, pending_of, is_pinned}
 use Rattle.cf_stacks.specs.Fold.{known_stack, source_for, world_after}
 use Rattle.cf_stacks.specs.Operation.{Call, Response, after_last, calls_in, replies_in, own_of, doubts_of, is_new, deletions_of, refusals_of, deletes, updates, was_updated, was_restored, was_skipped, was_refused, is_refusal, call_of, named_paths, rollback_of}

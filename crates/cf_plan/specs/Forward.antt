@@ -18,6 +18,7 @@ use Rattle.cf_entry.specs.declared.turn.Reason.TheVariants as reason
 use Rattle.cf_entry.specs.declared.turn.Cause.{Cause}
 use Rattle.cf_entry.specs.declared.turn.Cause.TheVariants as cause
 use Rattle.cf_tree.specs.declared.source.Source.{Source}
+use Rattle.cf_tree.specs.Lists.{first_in}
 use Rattle.cf_stacks.specs.declared.held.Held.{Held}
 use Rattle.cf_stacks.specs.declared.state.StackState.{StackState}
 use Rattle.cf_stacks.specs.declared.state.World.{World}
@@ -33,12 +34,11 @@ use Rattle.cf_desired.specs.declared.wanted.Inner.{Inner}
 use Rattle.cf_desired.specs.declared.wanted.Plan.{Plan}
 use Rattle.cf_desired.specs.Plan.{Seen, plan_of, no_plan}
 use Rattle.cf_desired.specs.Whole.{wanted_at, known_props_from}
-use Rattle.cf_graph.specs.Needs.{first_in}
+use Rattle.cf_desired.specs.FlawText.{flaw_text}
 use Rattle.cf_stacks.specs.Words.{current_at, has_physical, is_update, is_pinned}
 use Rattle.cf_stacks.specs.Fold.{seen_in, seen_now}
 use Rattle.cf_stacks.specs.Operation.{Call, calls_in, replies_in, own_of, now_of, forward_of, call_of, succeeded, is_doubt, doubts_in, up_to_last, is_turn_or_opening}
 use Rattle.cf_plan.specs.Between.{needs_at}
-use Rattle.cf_plan.specs.FlawText.{flaw_text}
 
 -- one of the list
 pub data In {A : Type 0} (a : A) : List A → Type 0 where

@@ -1,5 +1,4 @@
 pub mod Called
-pub mod FlawText
 pub mod Between
 pub mod Forward
 pub mod Accept

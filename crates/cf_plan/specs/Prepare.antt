@@ -4,7 +4,7 @@ use Rattle.std.specs.List.{list_any}
 use Rattle.std.specs.Option.{option_or}
 use Rattle.cf_tree.specs.Keys.{bytes_lt}
 use Rattle.cf_tree.specs.declared.source.Source.{Source}
-use Rattle.cf_graph.specs.Needs.{first_in, is_among}
+use Rattle.cf_tree.specs.Lists.{first_in, is_among}
 use Rattle.cf_schema.specs.declared.described.Schema.{Schema}
 use Rattle.cf_desired.specs.declared.wanted.Plan.{Plan}
 use Rattle.cf_desired.specs.declared.wanted.Wanted.{Wanted}

@@ -11,7 +11,7 @@ use Rattle.cf_stacks.specs.declared.held.Held.{Held}
 use Rattle.cf_stacks.specs.declared.state.StackState.{StackState}
 use Rattle.cf_stacks.specs.Words.{current_at}
 use Rattle.cf_tree.specs.Keys.{put, value_at}
-use Rattle.cf_graph.specs.Needs.{is_among}
+use Rattle.cf_tree.specs.Lists.{is_among}
 use Rattle.cf_desired.specs.declared.wanted.Plan.{Plan}
 use Rattle.cf_plan.specs.Done.{are_met, finding_by}
 use Rattle.cf_plan.specs.Forward.{Finding, Bad, Later, Known, IsDone, IsReady, difference_to, is_conditional, was_answered_at}

@@ -9,7 +9,7 @@ use Rattle.cf_stacks.specs.declared.terms.Terms.{Terms}
 use Rattle.cf_stacks.specs.declared.state.StackState.{StackState}
 use Rattle.cf_stacks.specs.declared.state.World.{World}
 use Rattle.cf_stacks.specs.Status.{Back}
-use Rattle.cf_stacks.specs.Words.{stack_of_operation, resource_at, is_create, is_create_at, is_at}
+use Rattle.cf_stacks.specs.Words.{resource_at, is_create, is_create_at, is_at}
 use Rattle.cf_stacks.specs.Fold.{terms_at}
 use Rattle.cf_plan.specs.Follow.{is_not_needed, is_untried, is_retained, is_free, is_lane_out, may_repeat, none_out, waits_for_repeats, is_cleared, AreFailed}
 use Rattle.cf_entry.specs.declared.status.Status.TheVariants as status
@@ -57,11 +57,6 @@ is_asked s path = list_any (is_at path) s.made || list_any (is_create_at path) s
 
 abbrev pub AreTerms : List (List ℕ × Terms) → StackState → Type 0
 AreTerms terms s = (path : List ℕ) → IsTrue (is_asked s path) → value_at path terms ≡ Some (terms_at path s)
-
--- the operation of this number rolls a creation back, and these are the terms of what it asks
-abbrev pub RollsBack : List (List ℕ × Terms) → World → ℕ → Type 0
-RollsBack terms x number =
-    (name : List ℕ) × (s : StackState) × (stack_of_operation number x ≡ Some (name, s)) × (s.status ≡ status.RollbackInProgress) × AreTerms terms s
 
 -- the physical ids that are needed: those of the resources at the paths that what is made, or being created, needs
 abbrev pub id_in : Option Held → List (List ℕ)

@@ -1,28 +1,19 @@
 //! The rollback of a creation: what it takes back next.
 ghost use Rattle.std.specs.Prelude.{◌≡◌, ◌++◌, ◌&&◌, ◌||◌, not, false, IfOk, option_map, find, option_copied};
 ghost use Rattle.std.specs.List.{list_any};
-ghost use Rattle.cf_graph.specs.Needs.{is_among};
+ghost use Rattle.cf_tree.specs.Lists.{is_among};
 ghost use Rattle.cf_stacks.specs.declared.held.Held.{Held};
 ghost use Rattle.cf_stacks.specs.Words.{current_at, resource_at};
 ghost use Rattle.cf_plan.specs.Follow.{is_not_needed, is_untried, is_retained};
 ghost use Rattle.cf_plan.specs.Taking.{better, better_if, first_by, is_token_before, is_held_before, is_home_of, home_of, id_in, ids_at, needs_in, ids_for_create, needed_ids, is_repeat_home, can_go, may_go, AreTerms};
 
-use crate::entries::is_untried;
+use crate::calls::is_untried;
+use crate::forward::is_free;
 use crate::lanes::{is_lane_out, is_of_lane};
-use crate::repeats::{is_free, may_repeat};
-use cf_stacks::{Held, Helds, Pending, StackState, Terms, World};
+use crate::repeats::may_repeat;
+use cf_stacks::{Held, Pending, StackState, Terms, World, current_at};
 use cf_tree::{ByName, Deletion, Names, Request, TryClone, Txt};
 use std::alloc::{AllocError, Global};
-
-/// The resource that a list holds at a path.
-fn current_at<'a>(helds: &'a Helds, path: &Txt) -> Option<&'a Held>
-    ensures { option_copied result ≡ current_at path.now helds.now }
-{
-    helds
-        .as_slice()
-        .iter()
-        .find(|held| *path == held.path && !held.superseded)
-}
 
 /// The resource of a path: the one that the operation made, or else the held one.
 fn resource_at<'a>(stack: &'a StackState, path: &Txt) -> Option<&'a Held>
@@ -126,13 +117,6 @@ pub fn needed(alloc: Global, stack: &StackState, terms: &ByName<Terms>) -> Resul
     needed_ids(alloc, stack, terms)
 }
 
-/// Whether a text is among others.
-fn contains(text: &Txt, names: &Names) -> bool
-    ensures { result ≡ is_among text.now names.now }
-{
-    names.as_slice().iter().any(|name| *text == *name)
-}
-
 /// Whether the lane of a physical id is at home.
 pub(crate) fn is_home_of(out: &[u64], world: &World, physical: &Txt, lane: &(Txt, Txt)) -> bool
     ensures { result ≡ is_home_of out.now world.now physical.now lane.now }
@@ -182,9 +166,9 @@ fn may_go(out: &[u64], world: &World, stack: &StackState, needed: &Names, held: 
     requires { (r : Held) → is_not_needed stack.now r ≡ not (is_among r.physical needed.now) }
     ensures { result ≡ may_go out.now world.now stack.now held.now }
 {
-    !contains(&held.physical, needed)
+    !needed.contains(&held.physical)
         && is_untried(stack, &held.physical)
-        && is_free(&held.path, stack)
+        && is_free(stack, &held.path)
         && can_go(out, world, held)
 }
 

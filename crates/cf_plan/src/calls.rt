@@ -2,12 +2,12 @@
 //! is said.
 ghost use Rattle.std.specs.Prelude.{◌≡◌, ◌==◌, ◌≤◌, ◌&&◌, not, false, find, length, option_map};
 ghost use Rattle.std.specs.List.{list_any};
-ghost use Rattle.std.specs.Option.{option_copied};
+ghost use Rattle.std.specs.Option.{option_copied, option_map_or};
 ghost use Rattle.std.specs.Str.{bytes_eq};
 ghost use Rattle.cf_stacks.specs.Words.{is_update};
-ghost use Rattle.cf_stacks.specs.Operation.{after_last, call_at, call_in, call_of, calls_in, doubts_in, is_doubt, is_of, is_phase, is_success, is_turn_or_opening, own_of, replies_in, reply_in, succeeded, up_to_last, before_first, updates};
+ghost use Rattle.cf_stacks.specs.Operation.{after_last, call_at, call_in, call_of, calls_in, deletes, deletions_of, doubts_in, is_doubt, is_of, is_phase, is_success, is_turn_or_opening, own_of, replies_in, reply_in, succeeded, up_to_last, before_first, updates};
 ghost use Rattle.cf_plan.specs.Called.{called, last_place, call_passes, reply_passes, updated_path};
-ghost use Rattle.cf_plan.specs.Forward.{is_answered, path_of_token, was_answered_at, was_updated_at};
+ghost use Rattle.cf_plan.specs.Forward.{is_answered, path_of_token, was_answered_at};
 ghost use Rattle.cf_plan.specs.Follow.{answers_not_updatable, is_not_updatable, was_not_updatable};
 
 use cf_entry::{Entry, Reply};
@@ -88,57 +88,6 @@ pub fn path_of_token(stack: &StackState, token: u64) -> Option<&Txt>
     match call_at(stack.entries.as_slice(), token) {
         Some(call) => Some(call.path),
         None => None,
-    }
-}
-
-/// Whether an entry is of the operation of a number.
-pub fn is_of(number: u64, entry: &Entry) -> bool
-    ensures { result ≡ is_of number entry.now }
-{
-    match entry {
-        Entry::Opened { epoch: _, lanes: _ } => false,
-        Entry::Begin {
-            number: of,
-            stack: _,
-            kind: _,
-        } => number == *of,
-        Entry::Kept {
-            number: of,
-            path: _,
-            physical: _,
-            why: _,
-        } => number == *of,
-        Entry::Intent {
-            number: of,
-            token: _,
-            lane: _,
-            path: _,
-            request: _,
-        } => number == *of,
-        Entry::Outcome {
-            number: of,
-            token: _,
-            answer: _,
-            before: _,
-            after: _,
-        } => number == *of,
-        Entry::Phase {
-            number: of,
-            phase: _,
-            cause: _,
-        } => number == *of,
-        Entry::Done {
-            number: of,
-            status: _,
-            failed: _,
-        } => number == *of,
-        Entry::ChangeSet {
-            number: _,
-            stack: _,
-            source: _,
-            rows: _,
-            outputs: _,
-        } => false,
     }
 }
 
@@ -271,44 +220,6 @@ fn is_not_updatable(stack: &StackState, token: u64) -> bool
     ensures { result ≡ list_any (λ r. token == r.token && is_not_updatable r.answer) (replies_in stack.now.entries) }
 {
     has_not_updatable(stack.entries.as_slice(), token)
-}
-
-/// Whether an entry is the operation's update of a path, and it succeeded.
-fn is_updated_by(stack: &StackState, path: &Txt, entry: &Entry) -> bool
-    ensures { result ≡ (is_of stack.now.operation entry.now && call_passes (λ c. bytes_eq path.now c.path && (is_update c.request && succeeded stack.now c)) entry.now) }
-{
-    match entry {
-        Entry::Intent {
-            number,
-            token,
-            lane: _,
-            path: called,
-            request: Request::Update {
-                physical: _,
-                props: _,
-            },
-        } => { stack.operation == *number && *path == *called && succeeded(stack, *token) }
-        _ => false,
-    }
-}
-
-/// Whether one of a stack's entries is the operation's update of a path, and it succeeded.
-fn has_updated(stack: &StackState, path: &Txt) -> bool
-    ensures { result ≡ list_any (λ e. is_of stack.now.operation e && call_passes (λ c. bytes_eq path.now c.path && (is_update c.request && succeeded stack.now c)) e) stack.now.entries }
-{
-    stack
-        .entries
-        .as_slice()
-        .iter()
-        .any(|entry| is_updated_by(stack, path, entry))
-}
-
-/// Whether this operation's update of a path succeeded. It goes over the entries once, and once more for each update of the
-/// path.
-pub fn was_updated_at(stack: &StackState, path: &Txt) -> bool
-    ensures { result ≡ was_updated_at path.now stack.now }
-{
-    has_updated(stack, path)
 }
 
 /// Whether an entry is the operation's update of a path, and it was answered for good.
@@ -481,4 +392,53 @@ pub fn forward_of(entries: &[Entry]) -> &[Entry]
         }
     }
     entries
+}
+
+/// Whether one of these entries is the intent of a token.
+fn has_intent(token: u64, entries: &[Entry]) -> bool
+    ensures { result ≡ list_any (λ e. option_map_or (λ c. token == c.token) (call_in e) false) entries.now }
+{
+    entries.iter().any(|entry| is_call_of(token, entry))
+}
+
+/// Whether the call of a token is among these entries.
+pub fn has_call(token: u64, entries: &[Entry]) -> bool
+    ensures { result ≡ list_any (λ c. token == c.token) (calls_in entries.now) }
+{
+    has_intent(token, entries)
+}
+
+/// Whether an entry is the intent, in an operation, of the deletion of a resource.
+fn is_deletion(number: u64, physical: &Txt, entry: &Entry) -> bool
+    ensures { result ≡ (is_of number entry.now && option_map_or (λ c. deletes physical.now c.request) (call_in entry.now) false) }
+{
+    match entry {
+        Entry::Intent {
+            number: own,
+            token: _,
+            lane: _,
+            path: _,
+            request: Request::Delete { physical: deleted },
+        } => number == *own && *physical == *deleted,
+        _ => false,
+    }
+}
+
+/// Whether one of the entries of a stack is the intent, in its operation, of the deletion of a
+/// resource.
+fn has_deletion(stack: &StackState, physical: &Txt) -> bool
+    ensures { result ≡ list_any (λ e. is_of stack.now.operation e && option_map_or (λ c. deletes physical.now c.request) (call_in e) false) stack.now.entries }
+{
+    stack
+        .entries
+        .as_slice()
+        .iter()
+        .any(|entry| is_deletion(stack.operation, physical, entry))
+}
+
+/// Whether the operation of a stack began no deletion of a resource.
+pub fn is_untried(stack: &StackState, physical: &Txt) -> bool
+    ensures { result ≡ (length (deletions_of physical.now stack.now) == 0) }
+{
+    !has_deletion(stack, physical)
 }

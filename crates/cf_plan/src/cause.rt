@@ -2,20 +2,18 @@
 ghost use Rattle.std.specs.Prelude.{◌≡◌, IfOk, find};
 ghost use Rattle.std.specs.List.{list_any};
 ghost use Rattle.std.specs.Option.{option_copied};
+ghost use Rattle.cf_desired.specs.FlawText.{flaw_text};
 ghost use Rattle.cf_plan.specs.Failed.{are_all_done};
 ghost use Rattle.cf_plan.specs.Forward.{is_lost, keeps_value, path_of_token, plan_before, plan_now};
 ghost use Rattle.cf_plan.specs.Done.{AreDone};
-ghost use Rattle.cf_plan.specs.FlawText.{flaw_text};
 ghost use Rattle.cf_plan.specs.Causes.{TellsFailure, end_failure, failure_of_call, of_export, plan_failure};
 ghost use Rattle.cf_plan.specs.declared.cause.Failure.TheVariants as failed;
 ghost use Rattle.cf_entry.specs.declared.turn.Cause.TheVariants as told;
 
 use crate::bad::first_bad;
 use crate::calls::path_of_token;
-use crate::done::is_among;
 use crate::failing::first_failing;
-use crate::text::plan_text;
-use cf_desired::{Flaw, Plan};
+use cf_desired::{Flaw, Plan, plan_text};
 use cf_entry::{Cause, Reason};
 use cf_export::{Export, pinned};
 use cf_schema::Schemas;
@@ -81,7 +79,7 @@ pub fn are_all_done(before: &Plan, done: &Names) -> bool
         .wanted
         .as_slice()
         .iter()
-        .all(|wanted| is_among(&wanted.path, done))
+        .all(|wanted| done.contains(&wanted.path))
 }
 
 /// The failure that a call makes.

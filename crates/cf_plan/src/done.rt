@@ -2,7 +2,7 @@
 ghost use Rattle.std.specs.Prelude.{◌≡◌, ◌↔◌, ℕ, ◌++◌, List, IfOk, IsTrue};
 ghost use Rattle.std.specs.List.{list_all};
 ghost use Rattle.std.specs.Option.{option_copied, option_to_list};
-ghost use Rattle.cf_graph.specs.Needs.{is_among};
+ghost use Rattle.cf_tree.specs.Lists.{is_among};
 ghost use Rattle.cf_plan.specs.Forward.{plan_before, plan_now};
 ghost use Rattle.cf_plan.specs.Done.{Adds, AreDone, IsFresh, IsNext, Joined, are_met, made_paths, updated_paths};
 
@@ -13,18 +13,11 @@ use cf_stacks::{Helds, StackState};
 use cf_tree::{Names, Txt};
 use std::alloc::{AllocError, Global};
 
-/// Whether a text is among others.
-pub fn is_among(text: &Txt, names: &Names) -> bool
-    ensures { result ≡ is_among text.now names.now }
-{
-    names.as_slice().iter().any(|name| *text == *name)
-}
-
 /// Whether all of these are among others.
 pub fn are_among(needs: &Names, names: &Names) -> bool
     ensures { result ≡ list_all (λ n. is_among n names.now) needs.now }
 {
-    needs.as_slice().iter().all(|need| is_among(need, names))
+    needs.as_slice().iter().all(|need| names.contains(need))
 }
 
 /// Whether all that a path needs by a plan is among these.
@@ -84,7 +77,7 @@ fn is_fresh(
 ) -> Result<bool, AllocError>
     ensures { IfOk result (λ fresh. IsTrue fresh ↔ IsFresh before.now now.now held.now done.now path.now) }
 {
-    if is_among(path, done) || !are_met(before, done, path) {
+    if done.contains(path) || !are_met(before, done, path) {
         Ok(false)
     } else {
         is_held_right(alloc, now, held, path)

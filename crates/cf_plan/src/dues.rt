@@ -1,7 +1,6 @@
 //! All steps that may follow in a creation.
 ghost use Rattle.std.specs.Prelude.{◌≡◌, ◌↔◌, ◌≤◌, ◌+◌, ◌==◌, ◌&&◌, ◌||◌, ℕ, nat_lt, List, [], ◌∷◌, Some, true, false, not, length, insert, IfOk, IsTrue};
-ghost use Rattle.cf_graph.specs.Inserted.{insert_by};
-ghost use Rattle.cf_graph.specs.Needs.{is_among};
+ghost use Rattle.cf_tree.specs.Lists.{insert_by, is_among};
 ghost use Rattle.cf_entry.specs.declared.status.Status.TheVariants as status;
 ghost use Rattle.cf_entry.specs.declared.turn.Cause.{Cause};
 ghost use Rattle.cf_entry.specs.declared.turn.Phase.TheVariants as phase;
@@ -17,12 +16,13 @@ ghost use Rattle.cf_plan.specs.Stepping.{AreOpen, Creates, IsCreation};
 ghost use Rattle.cf_plan.specs.Due.{AreDue, AreDueIn, AreDueOn, goes, is_step_before, stays, with_call, with_call_on, with_calls_on, with_create, with_due, with_gone, with_going, with_goings, with_repeat, with_repeats, with_starts};
 
 use crate::back::{is_home_of, is_kept, needed};
+use crate::calls::is_untried;
 use crate::cause::{Failure, failure_of};
-use crate::done::{done_paths, is_among};
-use crate::entries::is_untried;
+use crate::done::done_paths;
+use crate::forward::is_free;
 use crate::lanes::first_home;
 use crate::next::{Next, again, end_back, is_ended, kept, stack_of_operation};
-use crate::repeats::{is_free, may_repeat, none_out, waits_for_repeats};
+use crate::repeats::{may_repeat, none_out, waits_for_repeats};
 use crate::stepping::{
     Starts, is_all_done, is_creating, is_over, open_starts, place_in_path, plan_before, plan_now,
     terms_for,
@@ -141,7 +141,7 @@ fn stays(step: &Next, joining: &Next) -> bool
 }
 
 /// Where a step joins others: behind each before which it does not stand.
-#[tactic(auto, using(cf_stacks::proofs::Joins::behind_next, cf_stacks::proofs::Joins::behind_here, cf_stacks::proofs::Joins::behind_all))]
+#[tactic(auto, using(cf_tree::proofs::Joins::behind_next, cf_tree::proofs::Joins::behind_here, cf_tree::proofs::Joins::behind_all))]
 fn place_for(dues: &[Next], due: &Next) -> usize
     ensures within { result ≤ length dues.now }
     ensures place { insert_by stays dues.now due.now ≡ insert dues.now result due.now }
@@ -463,9 +463,9 @@ fn goes(stack: &StackState, needed: &Names, held: &Held) -> bool
     requires { (r : Held) → is_not_needed stack.now r ≡ not (is_among r.physical needed.now) }
     ensures { result ≡ goes stack.now held.now }
 {
-    !is_among(&held.physical, needed)
+    !needed.contains(&held.physical)
         && is_untried(stack, &held.physical)
-        && is_free(&held.path, stack)
+        && is_free(stack, &held.path)
 }
 
 /// Adds how a resource goes: it is kept, or deleted. After an error nothing is said of the steps.

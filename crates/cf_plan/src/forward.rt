@@ -10,10 +10,10 @@ ghost use Rattle.cf_plan.specs.Starts.{AreIntended, create_over, update_over, wa
 
 use crate::calls::{was_answered_at, was_not_updatable};
 use crate::failing::difference_to;
-use crate::found::{Found, current_at, finding_at};
+use crate::found::{Found, finding_at};
 use cf_desired::Plan;
 use cf_schema::{Difference, Schemas};
-use cf_stacks::{Held, StackState};
+use cf_stacks::{Held, StackState, current_at};
 use cf_tree::{Dict, Request, Txt};
 use std::alloc::{AllocError, Global};
 

@@ -7,7 +7,7 @@ ghost use Rattle.cf_plan.specs.Forward.{finding};
 ghost use Rattle.cf_plan.specs.Done.{HasProps, IsHeldRight, finding_by, finding_of};
 
 use cf_desired::{Evaluated, Flaw, Plan, Wanted};
-use cf_stacks::{Held, Helds};
+use cf_stacks::{Helds, current_at};
 use cf_tree::{Dict, Txt};
 use std::alloc::{AllocError, Global};
 
@@ -30,16 +30,6 @@ pub fn wanted_at<'a>(plan: &'a Plan, path: &Txt) -> Option<&'a Wanted>
         .as_slice()
         .iter()
         .find(|wanted| *path == wanted.path)
-}
-
-/// The resource of a list at a path, but for one that is superseded.
-pub fn current_at<'a>(helds: &'a Helds, path: &Txt) -> Option<&'a Held>
-    ensures { option_copied result ≡ current_at path.now helds.now }
-{
-    helds
-        .as_slice()
-        .iter()
-        .find(|held| *path == held.path && !held.superseded)
 }
 
 /// What the properties of what is wanted come to.

@@ -5,14 +5,14 @@ ghost use Rattle.std.specs.Option.{option_map_or};
 ghost use Rattle.std.specs.Str.{bytes_eq};
 ghost use Rattle.cf_handler.specs.Move.{IsOfLane};
 ghost use Rattle.cf_stacks.specs.Operation.{call_in};
-ghost use Rattle.cf_plan.specs.Follow.{is_out, calls_out, is_lane_out, is_lane_of, FitsLane};
+ghost use Rattle.cf_plan.specs.Follow.{is_out, calls_out, is_lane_out};
 ghost use Rattle.cf_plan.specs.Chosen.{first_home};
 ghost use Rattle.cf_plan.specs.Taking.{is_of_lane};
 
 use crate::repeats::is_out;
 use cf_entry::Entry;
 use cf_stacks::{StackState, World};
-use cf_tree::{Request, Txt};
+use cf_tree::Txt;
 
 /// Whether an entry is the intent, on a lane, of a token that is out.
 fn is_call_on(out: &[u64], lane: &Txt, entry: &Entry) -> bool
@@ -89,43 +89,6 @@ pub fn is_of_lane(lane: &Txt, physical: &Txt) -> bool
     ensures decides { IsTrue result ↔ IsOfLane lane.now physical.now }
 {
     names_lane(lane, physical)
-}
-
-/// Whether a lane of the opening has a name.
-fn has_lane(world: &World, name: &Txt) -> bool
-    ensures { result ≡ list_any (λ l. bytes_eq name.now l.0) world.now.lanes }
-{
-    world.lanes.as_slice().iter().any(|lane| *name == lane.0)
-}
-
-/// Whether a lane of the opening has a name and a type.
-fn has_lane_of(world: &World, name: &Txt, kind: &Txt) -> bool
-    ensures { result ≡ list_any (is_lane_of name.now kind.now) world.now.lanes }
-{
-    world
-        .lanes
-        .as_slice()
-        .iter()
-        .any(|lane| *name == lane.0 && *kind == lane.1)
-}
-
-/// Whether a lane fits the resource of a physical id: it is of the opening, and the id names it.
-fn fits_id(world: &World, name: &Txt, physical: &Txt) -> bool
-    ensures { IsTrue result ↔ (IsOfLane name.now physical.now × IsTrue (list_any (λ l. bytes_eq name.now l.0) world.now.lanes)) }
-{
-    is_of_lane(name, physical) && has_lane(world, name)
-}
-
-/// Whether a lane fits a request: it is of the opening and of the type that is made, or the one that
-/// the physical id names.
-pub fn fits_lane(world: &World, name: &Txt, request: &Request) -> bool
-    ensures { IsTrue result ↔ FitsLane world.now name.now request.now }
-{
-    match request {
-        Request::Create { kind, props: _ } => has_lane_of(world, name, kind),
-        Request::Update { physical, props: _ } => fits_id(world, name, physical),
-        Request::Delete { physical } => fits_id(world, name, physical),
-    }
 }
 
 /// Whether a lane of a type is at home.

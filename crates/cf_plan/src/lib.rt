@@ -8,7 +8,6 @@ mod cause;
 mod done;
 mod dues;
 mod end;
-mod entries;
 mod failing;
 mod forward;
 mod found;
@@ -19,30 +18,27 @@ mod preparing;
 mod repeats;
 mod starts;
 mod stepping;
-mod text;
 
 pub use bad::{BadAt, first_bad};
-pub use calls::{
-    Call, call_at, doubts_in, path_of_token, was_answered_at, was_not_updatable, was_updated_at,
-};
+pub use calls::{Call, call_at, doubts_in, path_of_token, was_answered_at, was_not_updatable};
 pub use cause::{Failure, are_all_done, failure_of};
-pub use done::{done_paths, is_among};
+pub use cf_desired::plan_text;
+pub use done::done_paths;
 pub use dues::{Dues, due};
 pub use end::failed_paths;
 pub use failing::{difference_to, first_failing};
 pub use forward::{Wants, is_free, wants_at};
-pub use found::{Found, current_at, finding_at, is_held_right, wanted_at};
-pub use lanes::{first_home, fits_lane};
+pub use found::{Found, finding_at, is_held_right, wanted_at};
+pub use lanes::first_home;
 pub use laws::{
     answer_follows, begins_right, create_ends_whole, create_goes_on, created_is_whole,
     creation_begins, creation_ends, creation_finds_nothing, creation_goes_on, creation_is_proper,
     creation_keeps_promise, creation_starts, intent_opens, intent_stays_right, opening_stays_right,
     outcome_stays_right,
 };
-pub use next::{Home, Homes, Next, next_step, stack_of_operation};
+pub use next::{Home, Homes, Next, stack_of_operation};
 pub use preparing::{Order, PrepareFault, StackFault, Wish, prepare};
 pub use starts::starts_of;
 pub use stepping::{
     Start, Starts, is_creation, next_in_creation, plan_before, plan_now, schemas_of,
 };
-pub use text::plan_text;

@@ -1,26 +1,25 @@
 //! The lanes that a step may take, and what the next step of an operation is.
 ghost use Rattle.std.specs.Prelude.{◌≡◌, ◌++◌, ℕ, List, [], true, false, not, IfOk, IsTrue, Some, option_copied};
 ghost use Rattle.std.specs.List.{cons_option};
-ghost use Rattle.cf_graph.specs.Needs.{is_among};
 ghost use Rattle.cf_tree.specs.declared.request.Request.TheVariants as request;
+ghost use Rattle.cf_tree.specs.Lists.{is_among};
 ghost use Rattle.cf_schema.specs.declared.described.Schema.{Schema};
-ghost use Rattle.cf_entry.specs.declared.entry.Entry.{Entry};
 ghost use Rattle.cf_entry.specs.declared.status.Status.TheVariants as status;
 ghost use Rattle.cf_entry.specs.declared.turn.Why.TheVariants as why;
 ghost use Rattle.cf_stacks.specs.declared.held.Held.{Held};
-ghost use Rattle.cf_stacks.specs.Status.{Back, is_in_progress};
+ghost use Rattle.cf_stacks.specs.Status.{Back};
 ghost use Rattle.cf_stacks.specs.Words.{stack_of_operation};
 ghost use Rattle.cf_plan.specs.declared.next.Next.TheVariants as next;
-ghost use Rattle.cf_plan.specs.Follow.{is_not_needed, waits_for_repeats, MayFollow};
-ghost use Rattle.cf_plan.specs.Chosen.{IsChosen, IsNext, entry_of, leases_of};
-ghost use Rattle.cf_plan.specs.Taking.{AreTerms, RollsBack, TakesBack, EndsBack, can_go, is_ended};
+ghost use Rattle.cf_plan.specs.Follow.{is_not_needed, waits_for_repeats};
+ghost use Rattle.cf_plan.specs.Chosen.{IsChosen, leases_of};
+ghost use Rattle.cf_plan.specs.Taking.{AreTerms, TakesBack, EndsBack, can_go, is_ended};
 
 use crate::back::{first_repeat, first_to_go, home_of, is_kept, needed};
 use crate::end::{failed_paths, is_cleared};
 use crate::repeats::{none_out, waits_for_repeats};
 use cf_entry::{Cause, Phase, Status, Why};
 use cf_schema::Schema;
-use cf_stacks::{Held, Pending, StackState, Terms, World};
+use cf_stacks::{Held, Pending, StackState, Terms, World, going_stack};
 use cf_tree::{ByName, Listing, Names, Request, TryClone, Txt};
 use std::alloc::{AllocError, Global};
 
@@ -251,49 +250,9 @@ pub fn leases_of(alloc: Global, homes: &Homes) -> Result<Vec<u64>, AllocError>
     Ok(out)
 }
 
-/// Whether an operation of this status is in progress.
-fn is_in_progress(status: Status) -> bool
-    ensures { result ≡ is_in_progress status }
-{
-    matches!(
-        status,
-        Status::CreateInProgress
-            | Status::UpdateInProgress
-            | Status::UpdateCompleteCleanupInProgress
-            | Status::RollbackInProgress
-            | Status::UpdateRollbackInProgress
-            | Status::UpdateRollbackCompleteCleanupInProgress
-            | Status::DeleteInProgress
-    )
-}
-
 /// The stack, with its name, on which the operation of a number is in progress.
 pub fn stack_of_operation(world: &World, number: u64) -> Option<&(Txt, StackState)>
     ensures { option_copied result ≡ stack_of_operation number world.now }
 {
-    world.stacks.as_slice().iter().find(|stack| stack.1.operation == number
-        && is_in_progress(stack.1.status))
-}
-
-/// The next step of the operation of a number, which rolls a creation back. The lanes tell which
-/// leases are out; the terms are those of each path of what is made, and of what is being created.
-///
-/// The error comes where memory is lacking, and where no token is left.
-pub fn next_step(
-    alloc: Global,
-    world: &World,
-    number: u64,
-    homes: &Homes,
-    terms: &ByName<Terms>,
-) -> Result<Next, AllocError>
-    requires { RollsBack terms.now world.now number }
-    ensures chosen { IfOk result (λ n. (schemas : List Schema) → IsNext schemas world.now (leases_of homes.now) number n) }
-    ensures may_follow { IfOk result (λ n. (schemas : List Schema) (e : Entry) → entry_of number n ≡ Some e → MayFollow schemas world.now (leases_of homes.now) e) }
-{
-    let out = leases_of(alloc, homes)?;
-    match stack_of_operation(world, number) {
-        Some(going) => next_back(alloc, world, &going.1, out.as_slice(), terms),
-        // The operation is in progress.
-        None => unreachable!(),
-    }
+    going_stack(&world.stacks, number)
 }

@@ -1,7 +1,7 @@
 //! The entry that begins an operation, and why it is refused before anything is done.
 ghost use Rattle.std.specs.Prelude.{◌≡◌, ℕ, List, [], IfOk, None, Some};
 ghost use Rattle.std.specs.Option.{option_copied};
-ghost use Rattle.cf_graph.specs.Needs.{is_among};
+ghost use Rattle.cf_tree.specs.Lists.{is_among};
 ghost use Rattle.cf_desired.specs.Plan.{plan_of};
 ghost use Rattle.cf_desired.specs.Templates.{IsFlat, templates_of};
 ghost use Rattle.cf_stacks.specs.Fold.{source_for};

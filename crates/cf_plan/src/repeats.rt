@@ -2,15 +2,13 @@
 ghost use Rattle.std.specs.Prelude.{◌≡◌, ◌==◌, ◌&&◌, ◌||◌, not, false, nat_lt};
 ghost use Rattle.std.specs.List.{list_any};
 ghost use Rattle.std.specs.Option.{option_map_or};
-ghost use Rattle.std.specs.Str.{bytes_eq};
 ghost use Rattle.cf_stacks.specs.Operation.{doubts_of, is_new, call_in};
 ghost use Rattle.cf_stacks.specs.Status.{Forward, Back};
-ghost use Rattle.cf_plan.specs.Follow.{is_out, is_free, may_repeat, calls_out, is_repeat_out, waits_for_repeats, none_out};
+ghost use Rattle.cf_plan.specs.Follow.{is_out, may_repeat, calls_out, is_repeat_out, waits_for_repeats, none_out};
 
-use crate::entries::{doubts_in, has_call, now_of};
+use crate::calls::{doubts_in, has_call, now_of};
 use cf_entry::Entry;
 use cf_stacks::{Pending, StackState};
-use cf_tree::Txt;
 
 /// Whether a token is out.
 pub fn is_out(out: &[u64], token: u64) -> bool
@@ -19,36 +17,18 @@ pub fn is_out(out: &[u64], token: u64) -> bool
     out.iter().any(|other| token == *other)
 }
 
-/// Whether a call at a path is open.
-fn is_busy(path: &Txt, stack: &StackState) -> bool
-    ensures { result ≡ list_any (λ p. bytes_eq path.now p.path) stack.now.tokens }
-{
-    stack
-        .tokens
-        .as_slice()
-        .iter()
-        .any(|pending| *path == pending.path)
-}
-
-/// Whether no call at a path is open.
-pub fn is_free(path: &Txt, stack: &StackState) -> bool
-    ensures { result ≡ is_free path.now stack.now }
-{
-    !is_busy(path, stack)
-}
-
 /// How often a token was answered by a doubt in this phase and opening.
 pub fn doubts_of(token: u64, stack: &StackState) -> usize
     ensures { result ≡ doubts_of token stack.now }
 {
-    doubts_in(token, now_of(stack))
+    doubts_in(now_of(stack.entries.as_slice()), token)
 }
 
 /// Whether the call of a token was written down in this phase and opening.
 pub fn is_new(token: u64, stack: &StackState) -> bool
     ensures { result ≡ is_new token stack.now }
 {
-    has_call(token, now_of(stack))
+    has_call(token, now_of(stack.entries.as_slice()))
 }
 
 /// Whether the call of an open token may be made again, in a phase that names no paths.

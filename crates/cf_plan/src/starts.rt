@@ -4,7 +4,7 @@ ghost use Rattle.cf_plan.specs.Forward.{plan_before, plan_now};
 ghost use Rattle.cf_plan.specs.Done.{AreDone};
 ghost use Rattle.cf_plan.specs.Starts.{AreStarts, may_start, starts_by, with_start};
 
-use crate::done::{are_met, is_among};
+use crate::done::are_met;
 use crate::forward::{Wants, is_free, wants_by};
 use cf_desired::Plan;
 use cf_schema::Schemas;
@@ -16,7 +16,7 @@ use std::alloc::{AllocError, Global};
 fn may_start(stack: &StackState, before: &Plan, done: &Names, path: &Txt) -> bool
     ensures { result ≡ may_start stack.now before.now done.now path.now }
 {
-    !is_among(path, done) && are_met(before, done, path) && is_free(stack, path)
+    !done.contains(path) && are_met(before, done, path) && is_free(stack, path)
 }
 
 /// Adds what a path may begin with, where it may. After an error nothing is said of the map.

@@ -58,30 +58,3 @@ fn differs_at(name: &str, old: &Dict, new: &Dict) -> bool
         _ => true,
     }
 }
-
-#[cfg(test)]
-mod tests {
-    use super::*;
-    use crate::reading::read_schema;
-    use cf_tree::Val;
-    use std::test::Fail;
-
-    #[test]
-    fn a_create_only_change_needs_a_new_resource(rt: HostRuntime) -> Result<(), Fail> {
-        let alloc = rt.alloc();
-        let schema = read_schema(
-            alloc,
-            b"{\"typeName\":\"X\",\"properties\":{\"A\":{},\"B\":{},\"C\":{}},\"createOnlyProperties\":[\"/properties/A\"],\"conditionalCreateOnlyProperties\":[\"/properties/B\"],\"primaryIdentifier\":[\"/properties/A\"]}",
-        )?;
-        let old = Dict::new(alloc);
-        let mut new = Dict::new(alloc);
-        assert_eq!(rt; differs(&schema, &old, &new), Difference::Same);
-        new.insert(Txt::from_str(alloc, "C")?, Val::Whole(1))?;
-        assert_eq!(rt; differs(&schema, &old, &new), Difference::Update);
-        new.insert(Txt::from_str(alloc, "B")?, Val::Whole(1))?;
-        assert_eq!(rt; differs(&schema, &old, &new), Difference::MayReplace);
-        new.insert(Txt::from_str(alloc, "A")?, Val::Whole(1))?;
-        assert_eq!(rt; differs(&schema, &old, &new), Difference::Replace);
-        Ok(())
-    }
-}

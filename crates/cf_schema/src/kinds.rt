@@ -72,34 +72,3 @@ impl Schemas {
         self.items.as_slice()
     }
 }
-
-#[cfg(test)]
-mod tests {
-    use super::*;
-    use crate::reading::read_schema;
-    use std::test::Fail;
-
-    #[test]
-    fn a_type_has_one_schema(rt: HostRuntime) -> Result<(), Fail> {
-        let alloc = rt.alloc();
-        let mut schemas = Schemas::new(alloc);
-        schemas.add(read_schema(
-            alloc,
-            b"{\"typeName\":\"X\",\"properties\":{\"A\":{}},\"primaryIdentifier\":[]}",
-        )?)?;
-        schemas.add(read_schema(
-            alloc,
-            b"{\"typeName\":\"Y\",\"properties\":{},\"primaryIdentifier\":[]}",
-        )?)?;
-        schemas.add(read_schema(
-            alloc,
-            b"{\"typeName\":\"X\",\"properties\":{},\"primaryIdentifier\":[]}",
-        )?)?;
-        assert_eq!(rt; schemas.len(), 2);
-        assert_eq!(rt; schemas.find("X").ok_or("X has a schema")?.props.len(), 1);
-        assert!(rt; schemas.find("Z").is_none());
-        let copy = schemas.find("X").ok_or("X has a schema")?.try_clone(alloc)?;
-        assert!(rt; copy.kind.is("X"));
-        Ok(())
-    }
-}

@@ -6,10 +6,11 @@ use Rattle.cf_entry.specs.declared.entry.Entry.{Entry}
 use Rattle.cf_entry.specs.declared.entry.Entry.TheVariants as entry
 use Rattle.cf_stacks.specs.Operation.{Call, call_in, calls_in}
 
-abbrev in_call : (Call → Bool) → Entry → Bool
+abbrev pub in_call : (Call → Bool) → Entry → Bool
 in_call test e = option_map_or test (call_in e) false
 
-called_first : (test : Call → Bool) (e : Entry) (es : List Entry) → list_any test (calls_in (e ∷ es)) ≡ (in_call test e || list_any test (calls_in es))
+-- one of the calls passes: that of the first entry, or one of the others
+pub called_first : (test : Call → Bool) (e : Entry) (es : List Entry) → list_any test (calls_in (e ∷ es)) ≡ (in_call test e || list_any test (calls_in es))
 called_first test (entry.Intent number token lane path request) es = refl
 called_first test (entry.Opened epoch lanes) es = refl
 called_first test (entry.Begin number stack kind) es = refl

@@ -1,5 +1,4 @@
 pub mod Called
-pub mod Joins
 pub mod Putting
 pub mod Over
 pub mod Folding

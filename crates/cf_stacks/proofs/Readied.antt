@@ -5,7 +5,6 @@ use Rattle.cf_entry.specs.declared.entry.Entry.TheVariants as entry
 use Rattle.cf_entry.specs.declared.entry.Reply.{Reply}
 use Rattle.cf_tree.specs.declared.request.Request.{Request}
 use Rattle.cf_tree.specs.declared.request.Request.TheVariants as request
-use Rattle.cf_stacks.specs.declared.awaited.AnswerRoom.{AnswerRoom}
 use Rattle.cf_stacks.specs.declared.room.Ready.{Ready}
 use Rattle.cf_stacks.specs.declared.state.World.{World}
 use Rattle.cf_stacks.specs.Awaiting.{Awaits, AwaitsFor, AwaitsRequest, IsMadeRoom, call_of, is_unused, is_updating}
@@ -14,15 +13,13 @@ use Rattle.cf_stacks.specs.Room.{HasRoom, IsReady, readied}
 use Rattle.cf_stacks.proofs.Bare.{room_counts_not}
 use Rattle.cf_stacks.proofs.Making.{made_ready}
 
-module _ (x c w : World) (r : Ready) (e : Entry) (calls : List (ℕ × ℕ)) (rooms : List AnswerRoom) (copied : c ≡ bare x) (after : w ≡ world_after c e) (kept : readied r ≡ record w { ready = None; rooms = rooms }) where
+module _ (x c w : World) (r : Ready) (e : Entry) (copied : c ≡ bare x) (after : w ≡ record (world_after c e) { rooms = w.rooms }) (kept : readied r ≡ record w { ready = None }) where
   leaves : bare (readied r) ≡ world_after (record x { ready = Some r }) e
   leaves = ap bare kept ∙ ap bare after ∙ ap {A = World} (λ v. world_after v e) copied ∙ room_counts_not x None [] e ∙ sym (room_counts_not x (Some r) x.rooms e)
 
-  module _ (seen : calls ≡ map call_of (filter is_unused x.rooms)) (made : All (IsMadeRoom (length calls + 1) w.stacks w.place 1024 525350) rooms) (called : map call_of rooms ≡ calls) where
+  module _ (made : All (IsMadeRoom (length (map call_of (filter is_unused x.rooms)) + 1) w.stacks w.place 1024 525350) w.rooms) (called : map call_of w.rooms ≡ map call_of (filter is_unused x.rooms)) where
     lasts : (n t : ℕ) → Awaits n t x → Awaits n t (readied r)
-    lasts n t h =
-        subst (Awaits n t) (sym kept)
-        (made_ready x w rooms 1024 525350 (subst (λ cs. All (IsMadeRoom (length cs + 1) w.stacks w.place 1024 525350) rooms) seen made) (called ∙ seen) (omega arith) (omega arith) n t h)
+    lasts n t h = subst (Awaits n t) (sym kept) (made_ready x w w.rooms 1024 525350 made called (omega arith) (omega arith) n t h)
 
     -- the world that was stepped over an entry from a bare copy, with rooms for the calls that are awaited, is the room for that entry
     pub ready_for : IsReady (record x { ready = Some r }) e

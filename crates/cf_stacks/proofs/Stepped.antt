@@ -1,5 +1,6 @@
 -- What a step finds in its room, and what rooms are left behind it.
 use Rattle.std.proofs.Common.{◌≡◌, ℕ, ◌≤◌, ◌+◌, List, Some, None, is_some, ap, sym, ◌∙◌, subst, arith}
+use Rattle.std.proofs.lemmas.Option.{same_Some}
 use Rattle.cf_entry.specs.declared.entry.Entry.{Entry}
 use Rattle.cf_entry.specs.declared.entry.Entry.TheVariants as entry
 use Rattle.cf_stacks.specs.declared.awaited.AnswerParts.{AnswerParts}
@@ -40,13 +41,10 @@ kept_in x w m (entry.Phase number p cause) q found takes is = absurd (none_for x
 kept_in x w m (entry.Done number state failed) q found takes is = absurd (none_for x q found)
 kept_in x w m (entry.ChangeSet number name source rows outputs) q found takes is = absurd (none_for x q found)
 
-some_same : {X : Type 0} (a b : X) → Some a ≡ Some b → a ≡ b
-some_same a b e = cc
-
 ready_kept : (x w : World) (e : Entry) (r : Ready) → IsReady x e → x.ready ≡ Some r → w ≡ readied r → KeepsRooms x e w
 ready_kept x w e r ready is same =
     let (kept, there, after, keeps) = ready in
-    subst (KeepsRooms x e) (sym (same ∙ ap readied (sym (some_same kept r (sym there ∙ is))))) keeps
+    subst (KeepsRooms x e) (sym (same ∙ ap readied (sym (same_Some kept r (sym there ∙ is))))) keeps
 
 -- and behind an entry whose room was put in place
 pub kept_ready : (x w : World) (e : Entry) (r : Ready) → HasRoom x e → room_of e x.rooms ≡ None → x.ready ≡ Some r → w ≡ readied r → KeepsRooms x e w

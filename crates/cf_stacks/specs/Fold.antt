@@ -33,6 +33,7 @@ use Rattle.cf_stacks.specs.declared.held.GivenUp.{GivenUp}
 use Rattle.cf_stacks.specs.declared.held.KeptSet.{KeptSet}
 use Rattle.cf_tree.specs.declared.template.Deletion.TheVariants as deletion
 use Rattle.cf_tree.specs.declared.template.Replace.TheVariants as replace
+use Rattle.cf_tree.specs.Lists.{is_among, insert_by}
 use Rattle.cf_stacks.specs.declared.terms.Terms.{Terms}
 use Rattle.cf_stacks.specs.declared.state.StackState.{StackState}
 use Rattle.cf_stacks.specs.declared.state.World.{World}
@@ -41,8 +42,6 @@ use Rattle.cf_desired.specs.declared.seen.SeenAt.{SeenAt}
 use Rattle.cf_desired.specs.declared.wanted.Wanted.{Wanted}
 use Rattle.cf_desired.specs.Plan.{Seen, plan_of}
 use Rattle.cf_desired.specs.Whole.{Right, Whole, wanted_at, whole_of, export_names_of}
-use Rattle.cf_graph.specs.Needs.{is_among}
-use Rattle.cf_graph.specs.Inserted.{insert_by}
 use Rattle.cf_stacks.specs.Words.{stack_at, stack_of_operation, where_going, has_physical, current_at, resource_at, resources_of, without, where_physical, has_token, pending_of, without_token, is_on, is_create, is_create_at}
 use Rattle.cf_stacks.specs.Event.{lines_of, event_line}
 use Rattle.cf_stacks.specs.Operation.{calls_in, rollback_of}

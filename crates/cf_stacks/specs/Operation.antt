@@ -5,6 +5,7 @@ use Rattle.std.specs.Str.{bytes_eq}
 use Rattle.cf_tree.specs.declared.request.Request.{Request}
 use Rattle.cf_tree.specs.declared.request.Request.TheVariants as request
 use Rattle.cf_tree.specs.declared.code.Code.TheVariants as code
+use Rattle.cf_tree.specs.Lists.{is_among}
 use Rattle.cf_entry.specs.declared.entry.Entry.{Entry}
 use Rattle.cf_entry.specs.Entry.{paths_of}
 use Rattle.cf_entry.specs.declared.entry.Reply.{Reply}
@@ -12,7 +13,6 @@ use Rattle.cf_stacks.specs.declared.state.StackState.{StackState}
 use Rattle.cf_entry.specs.declared.entry.Entry.TheVariants as entry
 use Rattle.cf_entry.specs.declared.entry.Reply.TheVariants as reply
 use Rattle.cf_entry.specs.declared.turn.Phase.TheVariants as phase
-use Rattle.cf_graph.specs.Needs.{is_among}
 
 -- what stands behind the last that passes; all where none does
 abbrev pub after_last : {A : Type 0} → (A → Bool) → List A → List A

@@ -73,10 +73,11 @@ fn respond_in(
             lengthen(made, room.made, resource);
         }
         (Request::Delete { physical }, reply) => {
+            drop(room);
             answer_deletion(held, physical, reply);
             answer_deletion(made, physical, reply);
         }
-        _ => {}
+        _ => drop(room),
     }
 }
 
@@ -94,33 +95,35 @@ impl StackState {
             entries,
             events,
         } = room;
-        if let Entry::Outcome {
-            number: _,
-            token,
-            answer,
-            before: _,
-            after: _,
-        } = &entry
-        {
-            if let Some(pending) = pending_with(&self.tokens, *token) {
-                let line = answer_line(
-                    line,
-                    place,
-                    pending.path.as_str(),
-                    &pending.request,
-                    answer,
-                );
-                respond_in(
-                    pending,
-                    &entry,
-                    answer,
-                    resource,
-                    &mut self.held,
-                    &mut self.made,
-                );
-                close_answered(&mut self.tokens, *token, answer);
-                lengthen_names(&mut self.events, events, line);
-            }
+        match &entry {
+            Entry::Outcome {
+                number: _,
+                token,
+                answer,
+                before: _,
+                after: _,
+            } => match pending_with(&self.tokens, *token) {
+                Some(pending) => {
+                    let (path, request) = (pending.path.as_str(), &pending.request);
+                    let line = answer_line(line, place, path, request, answer);
+                    respond_in(
+                        pending,
+                        &entry,
+                        answer,
+                        resource,
+                        &mut self.held,
+                        &mut self.made,
+                    );
+                    close_answered(&mut self.tokens, *token, answer);
+                    lengthen_names(&mut self.events, events, line);
+                }
+                None => {
+                    drop(resource);
+                    drop(line);
+                    drop(events);
+                }
+            },
+            _ => unreachable!(),
         }
         lengthen(&mut self.entries, entries, entry);
     }
@@ -146,7 +149,11 @@ pub(crate) fn answer_going(
     requires fits { FitsAnswerIn entry room (find (λ s. is_going number s.1) pairs.old.items) }
     ensures { pairs.new.items ≡ told place number entry pairs.old.items }
 {
-    if let Some(at) = going_place(pairs.as_slice(), number) {
-        pairs[at].1.hear_answer(place, entry, room);
+    match going_place(pairs.as_slice(), number) {
+        Some(at) => pairs[at].1.hear_answer(place, entry, room),
+        None => {
+            drop(entry);
+            drop(room);
+        }
     }
 }

@@ -8,6 +8,7 @@ use cf_entry::{Entry, Reply, read_entry, write_entry};
 use cf_tree::{Dict, NoMemory, TryClone};
 use std::alloc::{AllocError, Global};
 use std::marker::Model;
+use std::mem;
 
 /// The attributes, or the spelling of the outcome that told them.
 #[derive(Drop)]
@@ -63,6 +64,19 @@ impl Attrs {
         }
     }
 
+    /// Makes these the attributes. After an error they are as they were.
+    pub(crate) fn set(&mut self, alloc: Global, attrs: &Dict) -> Result<(), AllocError>
+        ensures { IfOk result (λ _. self.new ≡ attrs.now) }
+    {
+        match attrs.try_clone(alloc) {
+            Ok(attrs) => {
+                *self = Attrs::new(attrs);
+                Ok(())
+            }
+            Err(failed) => Err(failed),
+        }
+    }
+
     /// The attributes as a dictionary.
     pub fn dict(&self, alloc: Global) -> Result<Dict, AllocError>
         ensures { IfOk result (λ d. d ≡ self.now) }
@@ -77,8 +91,10 @@ impl Attrs {
 /// A copy is a dictionary, so that a spelling is read once.
 impl TryClone for Attrs {
     fn try_clone(&self, alloc: Global) -> Result<Attrs, AllocError> {
-        let attrs = self.dict(alloc)?;
-        Ok(Attrs::new(attrs))
+        match self.dict(alloc) {
+            Ok(attrs) => Ok(Attrs::new(attrs)),
+            Err(failed) => Err(failed),
+        }
     }
 }
 
@@ -87,15 +103,19 @@ fn read_attrs(alloc: Global, bytes: &[u8]) -> Result<Dict, AllocError>
     ensures { IfOk result (λ d. d ≡ attrs_told (entry_of bytes.now)) }
 {
     match read_entry(alloc, bytes) {
-        Ok(entry) => Ok(attrs_told(alloc, entry)),
+        Ok(mut entry) => {
+            let attrs = take_attrs(alloc, &mut entry);
+            drop(entry);
+            Ok(attrs)
+        }
         Err(NoMemory) => Err(AllocError),
     }
 }
 
-/// The attributes that an entry tells, if it is an outcome that succeeded, and else none; it takes no
-/// memory.
-fn attrs_told(alloc: Global, entry: Option<Entry>) -> Dict
-    ensures { result ≡ attrs_told entry }
+/// Takes the attributes that an entry tells, if it is an outcome that succeeded, and else none; it
+/// takes no memory.
+fn take_attrs(alloc: Global, entry: &mut Option<Entry>) -> Dict
+    ensures { result ≡ attrs_told entry.old }
 {
     match entry {
         Some(
@@ -106,7 +126,7 @@ fn attrs_told(alloc: Global, entry: Option<Entry>) -> Dict
                 before: _,
                 after: _,
             },
-        ) => attrs,
+        ) => mem::replace(attrs, Dict::new(alloc)),
         _ => Dict::new(alloc),
     }
 }

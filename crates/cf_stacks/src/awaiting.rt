@@ -2,15 +2,15 @@
 ghost use Rattle.std.specs.Prelude.{◌≡◌, ◌+◌, ◌≤◌, ◌<◌, ◌^◌, ⊤, ℕ, true, All, IfOk, IfSome, Some, None, [], IsTrue, find, filter, map, position, length, string_bytes, string_capacity};
 ghost use Rattle.cf_entry.specs.Entry.{spelling_of};
 ghost use Rattle.cf_stacks.specs.declared.awaited.ResourceParts.{ResourceParts};
-ghost use Rattle.cf_stacks.specs.Awaiting.{Awaits, Fits, FitsIn, HasSizes, Holds, HoldsReply, IsAlone, IsBlank, IsEmpty, IsMadeRoom, IsRoomIn, LaysOut, TakesParts, call_of, is_for, is_listed, is_unused, is_updating, parts_at, unused};
+ghost use Rattle.cf_stacks.specs.Awaiting.{Awaits, Fits, FitsIn, HasSizes, Holds, HoldsReply, IsAlone, IsBlank, IsEmpty, IsMadeRoom, IsRoomIn, LaysOut, Suits, TakesParts, call_of, is_for, is_listed, is_unused, is_updating, parts_at, unused};
 ghost use Rattle.cf_stacks.specs.Fold.{terms_at};
 ghost use Rattle.cf_stacks.specs.Growing.{IsLonger};
 ghost use Rattle.cf_stacks.specs.Words.{is_going, pending_of};
 
-use crate::attrs::Attrs;
 use crate::awaited::{AnswerParts, AnswerRoom, AnswerRooms, ResourceParts, StackParts};
 use crate::changes::pending_with;
 use crate::held::{Held, HeldStatus, Pending};
+use crate::lines::growing_line;
 use crate::longer::Longer;
 use crate::state::{StackState, Stacks, World};
 use crate::steps::resource;
@@ -99,9 +99,7 @@ impl StackState {
             alloc,
             &pending.path,
             kind,
-            Txt::new(String::new(alloc)),
             props,
-            Attrs::new(Dict::new(alloc)),
             HeldStatus::CreateComplete,
             terms,
         )
@@ -113,8 +111,7 @@ impl StackState {
     {
         match &pending.request {
             Request::Create { kind, props } => {
-                let blank = self.create_blank(alloc, pending, kind, props)?;
-                Ok(Some(blank))
+                Ok(Some(self.create_blank(alloc, pending, kind, props)?))
             }
             Request::Update {
                 physical: _,
@@ -124,84 +121,74 @@ impl StackState {
         }
     }
 
-    /// Room for what the answer to a create makes.
-    fn resource_parts(
+    /// Makes room for the answer to an open token. After an error nothing is said of the room.
+    fn suit(
         &self,
         alloc: Global,
-        blank: Option<Held>,
-        more: usize,
-        sizes: Sizes,
-    ) -> Result<ResourceParts, AllocError>
-        ensures { IfOk result (λ q. (q.blank ≡ blank) × IsLonger (length self.now.made + more) q.made × HasSizes sizes.physical sizes.spelled q × (string_bytes q.physical ≡ []) × (q.spelled.items ≡ [])) }
+        pending: &Pending,
+        room: &mut StackParts,
+    ) -> Result<(), AllocError>
+        ensures kept { IfOk result (λ _. room.new ≡ record room.old { resource = record room.old.resource { blank = room.new.resource.blank }; line = room.new.line }) }
+        ensures suits { IfOk result (λ _. Suits room.new self.now (Some pending.now) × (string_bytes room.new.line ≡ [])) }
     {
-        let physical = String::with_capacity(alloc, sizes.physical)?;
-        let spelled = Vec::with_capacity(alloc, sizes.spelled)?;
-        let made = growing(alloc, self.made.len(), more)?;
-        Ok(ResourceParts {
-            blank,
-            physical,
-            spelled,
-            made,
-        })
+        room.line = growing_line(alloc, &pending.path)?;
+        room.resource.blank = self.blank_for(alloc, pending)?;
+        Ok(())
     }
 
-    /// Room for the outcome of the call under a token, and for so many entries more.
-    fn parts_for(
+    /// Makes room for the outcome of the call under a token, and for so many entries more. After an
+    /// error nothing is said of the room.
+    fn make_room(
         &self,
         alloc: Global,
         token: u64,
         more: usize,
         sizes: Sizes,
-    ) -> Result<StackParts, AllocError>
-        ensures { IfOk result (λ q. Fits more token q self.now × IsEmpty q × HasSizes sizes.physical sizes.spelled q.resource) }
+        room: &mut StackParts,
+    ) -> Result<(), AllocError>
+        requires { IsEmpty room.old }
+        ensures { IfOk result (λ _. Fits more token room.new self.now × IsEmpty room.new × HasSizes sizes.physical sizes.spelled room.new.resource) }
     {
-        let (blank, line) = match pending_with(&self.tokens, token) {
-            Some(pending) => {
-                let blank = self.blank_for(alloc, pending)?;
-                (blank, growing_line(alloc, &pending.path)?)
-            }
-            None => (None, String::new(alloc)),
-        };
-        let resource = self.resource_parts(alloc, blank, more, sizes)?;
-        let entries = growing(alloc, self.entries.len(), more)?;
-        let events = growing(alloc, self.events.len(), more)?;
-        Ok(StackParts {
-            resource,
-            line,
-            entries,
-            events,
-        })
+        room.resource.hold(alloc, sizes)?;
+        room.resource.made = growing(alloc, self.made.len(), more)?;
+        room.entries = growing(alloc, self.entries.len(), more)?;
+        room.events = growing(alloc, self.events.len(), more)?;
+        match pending_with(&self.tokens, token) {
+            Some(pending) => self.suit(alloc, pending, room),
+            None => Ok(()),
+        }
     }
 }
 
-/// Room for the line that `events` prints of an outcome at a path.
-fn growing_line(alloc: Global, path: &Txt) -> Result<String, AllocError>
-    ensures { IfOk result (λ line. (string_bytes line ≡ []) × (length path.now + 100 ≤ string_capacity line)) }
-{
-    match path.as_str().len().checked_add(100) {
-        Some(most) => String::with_capacity(alloc, most),
-        None => Err(AllocError),
+impl ResourceParts {
+    /// Makes room for an answer of these sizes. After an error nothing is said of the room.
+    fn hold(&mut self, alloc: Global, sizes: Sizes) -> Result<(), AllocError>
+        ensures kept { IfOk result (λ _. self.new ≡ record self.old { physical = self.new.physical; spelled = self.new.spelled }) }
+        ensures holds { IfOk result (λ _. HasSizes sizes.physical sizes.spelled self.new × (string_bytes self.new.physical ≡ []) × (self.new.spelled.items ≡ [])) }
+    {
+        self.physical = String::with_capacity(alloc, sizes.physical)?;
+        self.spelled = Vec::with_capacity(alloc, sizes.spelled)?;
+        Ok(())
     }
 }
 
-/// Room for an outcome that no stack hears of.
-fn parts_for_none(alloc: Global, sizes: Sizes) -> Result<StackParts, AllocError>
-    ensures { IfOk result (λ q. IsEmpty q × HasSizes sizes.physical sizes.spelled q.resource) }
-{
-    let resource = ResourceParts {
-        blank: None,
-        physical: String::with_capacity(alloc, sizes.physical)?,
-        spelled: Vec::with_capacity(alloc, sizes.spelled)?,
-        made: Longer::new(alloc, 0)?,
-    };
-    let entries = Longer::new(alloc, 0)?;
-    let events = Longer::new(alloc, 0)?;
-    Ok(StackParts {
-        resource,
-        line: String::new(alloc),
-        entries,
-        events,
-    })
+impl StackParts {
+    /// No room; it takes no memory.
+    fn none(alloc: Global) -> StackParts
+        ensures { IsEmpty result }
+    {
+        StackParts {
+            resource: ResourceParts {
+                blank: None,
+                physical: String::new(alloc),
+                spelled: Vec::new(alloc),
+                made: Longer::none(alloc),
+            },
+            line: String::new(alloc),
+            entries: Longer::none(alloc),
+            events: Longer::none(alloc),
+        }
+    }
 }
 
 /// Whether one stack at most works under a number.
@@ -259,6 +246,26 @@ impl World {
         Ok(calls)
     }
 
+    /// Makes room for what the stack of an operation takes of the outcome of a call, and for so many
+    /// entries more. After an error nothing is said of the room.
+    fn make_stack_room(
+        &self,
+        alloc: Global,
+        number: u64,
+        token: u64,
+        more: usize,
+        sizes: Sizes,
+        room: &mut StackParts,
+    ) -> Result<(), AllocError>
+        requires { IsEmpty room.old }
+        ensures { IfOk result (λ _. FitsIn more token room.new (find (λ s. is_going number s.1) self.now.stacks) × IsEmpty room.new × HasSizes sizes.physical sizes.spelled room.new.resource) }
+    {
+        match going_stack(&self.stacks, number) {
+            Some((_, stack)) => stack.make_room(alloc, token, more, sizes, room),
+            None => room.resource.hold(alloc, sizes),
+        }
+    }
+
     /// Room for the outcome of a call, and for so many entries more.
     ///
     /// # Errors
@@ -278,14 +285,43 @@ impl World {
         if !is_alone(self.stacks.as_slice(), number) {
             return Err(AllocError);
         }
-        let stack = match going_stack(&self.stacks, number) {
-            Some((_, stack)) => stack.parts_for(alloc, token, more, sizes)?,
-            None => parts_for_none(alloc, sizes)?,
-        };
-        Ok(AnswerParts {
-            stack,
+        let mut parts = AnswerParts {
+            stack: StackParts::none(alloc),
             stacks: Stacks::new(alloc),
-        })
+        };
+        match self.make_stack_room(alloc, number, token, more, sizes, &mut parts.stack) {
+            Ok(()) => Ok(parts),
+            Err(failed) => {
+                drop(parts);
+                Err(failed)
+            }
+        }
+    }
+
+    /// Adds rooms for the outcomes of these calls to no rooms, each for so many entries more. After
+    /// an error nothing is said of them.
+    fn add_rooms(
+        &self,
+        alloc: Global,
+        calls: &[(u64, u64)],
+        more: usize,
+        sizes: Sizes,
+        rooms: &mut AnswerRooms,
+    ) -> Result<(), AllocError>
+        requires counts { self.now.place + more < 2 ^ 64 }
+        requires none { rooms.old ≡ [] }
+        ensures rooms { IfOk result (λ _. All (IsMadeRoom more self.now.stacks self.now.place sizes.physical sizes.spelled) rooms.new) }
+        ensures calls { IfOk result (λ _. map call_of rooms.new ≡ calls.now) }
+    {
+        for (number, token) in calls {
+            let parts = self.answer_parts(alloc, *number, *token, more, sizes)?;
+            rooms.push(AnswerRoom {
+                number: *number,
+                token: *token,
+                parts: Some(parts),
+            })?;
+        }
+        Ok(())
     }
 
     /// Rooms for the outcomes of these calls, in whatever order they come.
@@ -308,15 +344,13 @@ impl World {
             return Err(AllocError);
         }
         let mut rooms = AnswerRooms::new(alloc);
-        for (number, token) in calls {
-            let parts = self.answer_parts(alloc, *number, *token, more, sizes)?;
-            rooms.push(AnswerRoom {
-                number: *number,
-                token: *token,
-                parts: Some(parts),
-            })?;
+        match self.add_rooms(alloc, calls, more, sizes, &mut rooms) {
+            Ok(()) => Ok(rooms),
+            Err(failed) => {
+                drop(rooms);
+                Err(failed)
+            }
         }
-        Ok(rooms)
     }
 
     /// Makes room for the outcome of a call. After an error nothing changed.

@@ -4,7 +4,8 @@ ghost use Rattle.cf_desired.specs.Templates.{IsFlat};
 ghost use Rattle.cf_stacks.specs.Changing.{IsFlatBegun, Steps};
 ghost use Rattle.cf_stacks.specs.Fold.{beginning, entries_kept, given_up, giving_up, is_created, is_named_by, lost_create, no_stack, set_heard, set_off, skipping, source_for, with_set, working_by, creating_number};
 
-use crate::changes::{close_named, contains, given_up, is_create, lost_create, skip};
+use crate::changes::{close_named, is_create, skip};
+use crate::copies::{copy_list, given_up, leftover};
 use crate::events::event_line;
 use crate::fault::StepFault;
 use crate::going::Going;
@@ -12,7 +13,7 @@ use crate::held::{Abandoned, Helds, KeptSet, KeptSets, Leftovers, Pendings};
 use crate::own::keep_open_calls;
 use crate::state::StackState;
 use crate::statuses::{begun, is_deleted};
-use cf_entry::{Begun, Entries, Status};
+use cf_entry::{Begun, Entries, Status, Why};
 use cf_export::Outputs;
 use cf_tree::{Names, Source, TryClone, Txt};
 use std::alloc::{AllocError, Global};
@@ -26,19 +27,15 @@ pub fn source_for(
 ) -> Result<Source, AllocError>
     ensures { IfOk result (λ s. s ≡ source_for name.now number source.now) }
 {
-    let root = source.root.try_clone(alloc)?;
-    let texts = source.texts.try_clone(alloc)?;
-    let given = source.given.try_clone(alloc)?;
-    let imports = source.imports.try_clone(alloc)?;
     let stack = name.try_clone(alloc)?;
-    Ok(Source {
-        root,
-        texts,
-        given,
-        imports,
-        stack,
-        number,
-    })
+    match source.try_clone(alloc) {
+        Ok(mut copy) => {
+            copy.stack = stack;
+            copy.number = number;
+            Ok(copy)
+        }
+        Err(failed) => Err(failed),
+    }
 }
 
 /// Lists the creates among the open tokens at these paths: what each may make is a leftover, and its
@@ -54,10 +51,10 @@ fn give_up_creates(
         × (abandoned.new ≡ abandoned.old ++ map given_up (filter is_created (filter (is_named_by paths.now) tokens.now)))) }
 {
     for pending in tokens.as_slice() {
-        if contains(&pending.path, paths) && is_create(&pending.request) {
-            let left = lost_create(alloc, pending)?;
+        if paths.contains(&pending.path) && is_create(&pending.request) {
+            let left = leftover(alloc, &pending.path, "-", Why::Doubt)?;
             leftovers.push(left)?;
-            let create = given_up(alloc, pending)?;
+            let create = given_up(alloc, pending.token, &pending.path)?;
             abandoned.push(create)?;
         }
     }
@@ -123,10 +120,17 @@ impl StackState {
     fn work_by(&mut self, alloc: Global, going: Going) -> Result<(), AllocError>
         ensures { IfOk result (λ _. self.new ≡ record self.old { before = self.old.held; made = []; going = Some going }) }
     {
-        self.before = self.held.try_clone(alloc)?;
-        self.made = Helds::new(alloc);
-        self.going = Some(going);
-        Ok(())
+        match copy_list(alloc, &self.held, &mut self.before) {
+            Ok(()) => {
+                self.made = Helds::new(alloc);
+                self.going = Some(going);
+                Ok(())
+            }
+            Err(failed) => {
+                drop(going);
+                Err(failed)
+            }
+        }
     }
 
     /// The same by a source that is to be read under these names. After an error nothing is said of

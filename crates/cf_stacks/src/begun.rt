@@ -1,8 +1,8 @@
 //! How an operation begins in the world.
 ghost use Rattle.std.specs.Prelude.{◌≡◌, ⊤, IfOk};
-ghost use Rattle.cf_entry.specs.declared.entry.Entry.TheVariants as entry;
+ghost use Rattle.cf_entry.specs.declared.entry.Entry.TheVariants as written;
 ghost use Rattle.cf_stacks.specs.Changing.{IsFlatBegun, Steps, begins_here, claimed, names_exported};
-ghost use Rattle.cf_stacks.specs.Fold.{beginning, begun_on, begun_over, exports_begun, heard, known_stack, pins_begun};
+ghost use Rattle.cf_stacks.specs.Fold.{beginning, begun_on, begun_over, claims_begun, creating_number, exports_begun, heard, known_stack, pins_begun, seen_in};
 
 use crate::events::line_of;
 use crate::fault::StepFault;
@@ -10,7 +10,7 @@ use crate::going::Going;
 use crate::pinned::{pin_imports, repin, unexport};
 use crate::seen::seen_in;
 use crate::state::{StackState, Stacks, World};
-use crate::world::take_out;
+use crate::world::{put_back, take_out};
 use cf_entry::{Begun, Entry};
 use cf_export::{Exports, Pins};
 use cf_tree::{Names, TryClone, Txt};
@@ -72,26 +72,27 @@ fn claim_begun(
     }
 }
 
-/// Begins an operation on a stack, which hears of it. After an error nothing is said of the stack.
+/// Begins an operation on a stack, which hears of the entry. After an error nothing is said of the
+/// stack.
 fn start(
     alloc: Global,
     place: u64,
+    entry: &Entry,
     number: u64,
     name: &Txt,
     kind: &Begun,
     stack: &mut StackState,
 ) -> Result<(), StepFault>
-    ensures { Steps (IsFlatBegun kind.now) (λ _. stack.new ≡ heard place (entry.Begin number name.now kind.now) stack.old (beginning name.now number kind.now stack.old)) result }
+    ensures { Steps (IsFlatBegun kind.now) (λ _. stack.new ≡ heard place entry.now stack.old (beginning name.now number kind.now stack.old)) result }
 {
-    let entry = Entry::Begin {
-        number,
-        stack: name.try_clone(alloc)?,
-        kind: kind.try_clone(alloc)?,
-    };
-    let line = line_of(alloc, place, &entry, stack)?;
-    stack.begin(alloc, name, number, kind)?;
-    stack.hear(entry, line)?;
-    Ok(())
+    let line = line_of(alloc, place, entry, stack)?;
+    match stack.begin(alloc, name, number, kind) {
+        Ok(()) => {
+            stack.hear(alloc, entry, line)?;
+            Ok(())
+        }
+        Err(fault) => Err(fault),
+    }
 }
 
 /// Whether an operation begins on the stack of a name, be it one of which nothing is known.
@@ -113,7 +114,7 @@ fn refuse_nested(alloc: Global, kind: &Begun) -> Result<(), StepFault>
 {
     match kind {
         Begun::Create { source } | Begun::Update { source } => {
-            Going::new(alloc, source.try_clone(alloc)?)?;
+            drop(Going::new(alloc, source.try_clone(alloc)?)?);
             Ok(())
         }
         _ => Ok(()),
@@ -121,28 +122,56 @@ fn refuse_nested(alloc: Global, kind: &Begun) -> Result<(), StepFault>
 }
 
 impl World {
+    /// Begins an operation on a stack, and changes what all stacks share. After an error nothing is
+    /// said of either.
+    #[tactic(auto, using(crate::proofs::Over::claims_so))]
+    fn begin_on(
+        &mut self,
+        alloc: Global,
+        place: u64,
+        entry: &Entry,
+        number: u64,
+        name: &Txt,
+        kind: &Begun,
+        stack: &mut StackState,
+    ) -> Result<(), StepFault>
+        requires { entry.now ≡ written.Begin number name.now kind.now }
+        ensures { Steps (IsFlatBegun kind.now) (λ _. (stack.new ≡ heard place (written.Begin number name.now kind.now) stack.old (beginning name.now number kind.now stack.old))
+            × (self.new ≡ record self.old { operation = number; pins = pins_begun name.now kind.now self.old.pins; claims = claims_begun name.now (creating_number kind.now number stack.old) (seen_in stack.old.held) kind.now self.old.claims; exports = exports_begun name.now kind.now self.old.exports })) result }
+    {
+        start(alloc, place, entry, number, name, kind, stack)?;
+        pin_begun(alloc, &mut self.pins, name, kind)?;
+        claim_begun(alloc, &mut self.claims, name, kind, stack)?;
+        unexport_begun(&mut self.exports, name, kind);
+        self.operation = number;
+        Ok(())
+    }
+
     /// Begins an operation on the stack of a name, or on one of which nothing is known. After an
     /// error nothing is said of the world.
-    #[tactic(auto, using(crate::proofs::Over::claims_so))]
     fn begin_known(
         &mut self,
         alloc: Global,
         place: u64,
+        entry: &Entry,
         number: u64,
         name: &Txt,
         kind: &Begun,
     ) -> Result<(), StepFault>
+        requires { entry.now ≡ written.Begin number name.now kind.now }
         ensures { Steps (IsFlatBegun kind.now) (λ _. self.new ≡ begun_over place number name.now kind.now (known_stack name.now self.old) self.old) result }
     {
         let mut stack = take_out(alloc, &mut self.stacks, name);
-        start(alloc, place, number, name, kind, &mut stack)?;
-        pin_begun(alloc, &mut self.pins, name, kind)?;
-        claim_begun(alloc, &mut self.claims, name, kind, &stack)?;
-        unexport_begun(&mut self.exports, name, kind);
-        self.operation = number;
-        let name = name.try_clone(alloc)?;
-        self.stacks.insert(name, stack)?;
-        Ok(())
+        match self.begin_on(alloc, place, entry, number, name, kind, &mut stack) {
+            Ok(()) => {
+                put_back(alloc, &mut self.stacks, name, stack)?;
+                Ok(())
+            }
+            Err(fault) => {
+                drop(stack);
+                Err(fault)
+            }
+        }
     }
 
     /// Begins an operation on the stack of a name. After an error nothing is said of the world.
@@ -151,18 +180,19 @@ impl World {
         &mut self,
         alloc: Global,
         place: u64,
+        entry: &Entry,
         number: u64,
         name: &Txt,
         kind: &Begun,
     ) -> Result<(), StepFault>
+        requires { entry.now ≡ written.Begin number name.now kind.now }
         ensures { Steps (IsFlatBegun kind.now) (λ _. self.new ≡ begun_on place number name.now kind.now self.old) result }
     {
         if begins_here(&self.stacks, name, kind) {
-            self.begin_known(alloc, place, number, name, kind)?;
-        } else {
-            refuse_nested(alloc, kind)?;
-            self.operation = number;
+            return self.begin_known(alloc, place, entry, number, name, kind);
         }
+        refuse_nested(alloc, kind)?;
+        self.operation = number;
         Ok(())
     }
 }

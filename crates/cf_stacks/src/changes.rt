@@ -2,14 +2,12 @@
 ghost use Rattle.std.specs.Prelude.{◌≡◌, IfOk, false, filter, map, not, find, option_copied};
 ghost use Rattle.std.specs.Option.{option_map_or};
 ghost use Rattle.std.specs.Str.{bytes_eq};
-ghost use Rattle.cf_graph.specs.Needs.{is_among};
 ghost use Rattle.cf_stacks.specs.Words.{is_create, where_physical, without, id_named, without_token, is_on, is_create_at, has_token, pending_of, has_physical};
-ghost use Rattle.cf_stacks.specs.Fold.{updating, marked, doubtful, skipped_in, as_before, given_up, lost_create, is_named_by};
+ghost use Rattle.cf_stacks.specs.Fold.{updating, marked, doubtful, skipped_in, as_before, is_named_by};
 
-use crate::attrs::Attrs;
-use crate::held::{GivenUp, Held, HeldStatus, Helds, Leftover, Pending, Pendings};
-use cf_entry::Why;
-use cf_tree::{Dict, Names, Request, TryClone, Txt};
+use crate::copies::copy_into;
+use crate::held::{Held, HeldStatus, Helds, Pending, Pendings};
+use cf_tree::{Dict, Names, Request, Txt};
 use std::alloc::{AllocError, Global};
 
 /// Takes the resources of a physical id off a list.
@@ -36,8 +34,8 @@ pub fn set_status(helds: &mut Helds, physical: &Txt, status: HeldStatus)
 fn renew(alloc: Global, held: &mut Held, props: &Dict, attrs: &Dict) -> Result<(), AllocError>
     ensures { IfOk result (λ _. held.new ≡ updating held.old.physical props.now attrs.now held.old) }
 {
-    held.props = props.try_clone(alloc)?;
-    held.attrs = Attrs::new(attrs.try_clone(alloc)?);
+    copy_into(alloc, props, &mut held.props)?;
+    held.attrs.set(alloc, attrs)?;
     held.status = HeldStatus::UpdateComplete;
     held.unsure = false;
     Ok(())
@@ -101,18 +99,11 @@ pub fn creates_at(pending: &Pending, path: &Txt) -> bool
     }
 }
 
-/// Whether a text is among others.
-pub fn contains(text: &Txt, names: &Names) -> bool
-    ensures { result ≡ is_among text.now names.now }
-{
-    names.as_slice().iter().any(|name| *text == *name)
-}
-
 /// Closes the open tokens of the paths that a continued rollback skips.
 pub fn close_named(tokens: &mut Pendings, paths: &Names)
     ensures { tokens.new ≡ filter (λ p. not (is_named_by paths.now p)) tokens.old }
 {
-    tokens.retain(|pending| !contains(&pending.path, paths));
+    tokens.retain(|pending| !paths.contains(&pending.path));
 }
 
 /// The first open token of a number.
@@ -174,8 +165,8 @@ fn give_back(alloc: Global, held: &mut Held, before: Option<&Held>) -> Result<()
     ensures { IfOk result (λ _. held.new ≡ as_before (option_copied before.entry) held.old) }
 {
     if let Some(earlier) = before {
-        held.props = earlier.props.try_clone(alloc)?;
-        held.attrs = earlier.attrs.try_clone(alloc)?;
+        copy_into(alloc, &earlier.props, &mut held.props)?;
+        copy_into(alloc, &earlier.attrs, &mut held.attrs)?;
     }
     held.status = HeldStatus::UpdateComplete;
     held.unsure = true;
@@ -204,36 +195,12 @@ pub fn skip(
 {
     let items = helds.as_mut_slice();
     for held in items.iter_mut() {
-        if contains(&held.path, paths) {
+        if paths.contains(&held.path) {
             let earlier = with_physical(before, &held.physical);
             give_back(alloc, held, earlier)?;
         }
     }
     Ok(())
-}
-
-/// A create that is given up.
-pub fn given_up(alloc: Global, pending: &Pending) -> Result<GivenUp, AllocError>
-    ensures { IfOk result (λ g. g ≡ given_up pending.now) }
-{
-    let path = pending.path.try_clone(alloc)?;
-    Ok(GivenUp {
-        token: pending.token,
-        path,
-    })
-}
-
-/// What a create that is given up may have made.
-pub fn lost_create(alloc: Global, pending: &Pending) -> Result<Leftover, AllocError>
-    ensures { IfOk result (λ l. l ≡ lost_create pending.now) }
-{
-    let path = pending.path.try_clone(alloc)?;
-    let physical = Txt::from_str(alloc, "-")?;
-    Ok(Leftover {
-        path,
-        physical,
-        why: Why::Doubt,
-    })
 }
 
 /// Whether a request is a create.

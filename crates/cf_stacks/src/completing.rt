@@ -3,6 +3,7 @@ ghost use Rattle.std.specs.Prelude.{◌≡◌, ◌++◌, ◌&&◌, IfOk, find, m
 ghost use Rattle.cf_stacks.specs.Fold.{as_wanted, completing, ended, ending, is_physical_of, is_right_at, seen_now, settled_in, turning, whole_over};
 ghost use Rattle.cf_stacks.specs.Words.{resource_at, resources_of};
 
+use crate::copies::copy_into;
 use crate::going::nothing;
 use crate::held::{Held, Helds};
 use crate::seen::seen_now;
@@ -10,8 +11,10 @@ use crate::state::StackState;
 use crate::steps::current_at;
 use cf_desired::{Right, WholePlan};
 use cf_entry::{Phase, Status};
+use cf_export::Outputs;
 use cf_tree::{TryClone, Txt};
 use std::alloc::{AllocError, Global};
+use std::mem;
 
 /// What a template wants at a path.
 fn right_at<'a>(whole: &'a WholePlan, path: &Txt) -> Option<&'a Right>
@@ -31,7 +34,7 @@ fn set_wanted(alloc: Global, held: &mut Held, right: Option<&Right>) -> Result<(
 {
     match right {
         Some(right) => {
-            held.needs = right.needs.try_clone(alloc)?;
+            copy_into(alloc, &right.needs, &mut held.needs)?;
             held.deletion = right.deletion;
             held.replace = right.replace;
             held.superseded = false;
@@ -51,12 +54,18 @@ fn settled(
     ensures { IfOk result (λ h. h ≡ settled_in whole.now stack.now held.now) }
 {
     let mut settled = held.try_clone(alloc)?;
-    if stack.is_of_its_path(held) {
-        set_wanted(alloc, &mut settled, right_at(whole, &held.path))?;
+    let right = if stack.is_of_its_path(held) {
+        right_at(whole, &held.path)
     } else {
-        settled.superseded = true;
+        None
+    };
+    match set_wanted(alloc, &mut settled, right) {
+        Ok(()) => Ok(settled),
+        Err(failed) => {
+            drop(settled);
+            Err(failed)
+        }
     }
-    Ok(settled)
 }
 
 /// Adds the resources of a list as the completed operation leaves them. After an error nothing is
@@ -77,14 +86,32 @@ fn settle_each(
     Ok(())
 }
 
+/// Adds all resources of a stack as the completed operation leaves them. After an error nothing is
+/// said of what they join.
+fn settle_all(
+    alloc: Global,
+    stack: &StackState,
+    whole: &WholePlan,
+    all: &mut Helds,
+) -> Result<(), AllocError>
+    ensures { IfOk result (λ _. all.new ≡ all.old ++ map (settled_in whole.now stack.now) (resources_of stack.now)) }
+{
+    settle_each(alloc, stack, whole, &stack.held, all)?;
+    settle_each(alloc, stack, whole, &stack.made, all)
+}
+
 /// All resources of a stack as the completed operation leaves them.
 fn settle(alloc: Global, stack: &StackState, whole: &WholePlan) -> Result<Helds, AllocError>
     ensures { IfOk result (λ hs. hs ≡ map (settled_in whole.now stack.now) (resources_of stack.now)) }
 {
     let mut all = Helds::new(alloc);
-    settle_each(alloc, stack, whole, &stack.held, &mut all)?;
-    settle_each(alloc, stack, whole, &stack.made, &mut all)?;
-    Ok(all)
+    match settle_all(alloc, stack, whole, &mut all) {
+        Ok(()) => Ok(all),
+        Err(failed) => {
+            drop(all);
+            Err(failed)
+        }
+    }
 }
 
 impl StackState {
@@ -127,15 +154,23 @@ impl StackState {
     fn complete(&mut self, alloc: Global) -> Result<(), AllocError>
         ensures { IfOk result (λ _. self.new ≡ completing (whole_over self.old.going (seen_now self.old)) self.old) }
     {
-        let whole = self.whole_now(alloc)?;
-        let held = settle(alloc, self, &whole)?;
+        let mut whole = self.whole_now(alloc)?;
+        let completed = self.complete_as(alloc, &mut whole);
+        drop(whole);
+        completed
+    }
+
+    /// The same, where this is what the source wants; its outputs are taken.
+    fn complete_as(&mut self, alloc: Global, whole: &mut WholePlan) -> Result<(), AllocError>
+        ensures { IfOk result (λ _. self.new ≡ completing whole.old self.old) }
+    {
+        self.held = settle(alloc, self, whole)?;
+        self.made = Helds::new(alloc);
+        self.outputs = mem::replace(&mut whole.outputs, Outputs::new(alloc));
         self.source = match &self.going {
             Some(going) => Some(going.source().try_clone(alloc)?),
             None => None,
         };
-        self.held = held;
-        self.made = Helds::new(alloc);
-        self.outputs = whole.outputs;
         Ok(())
     }
 

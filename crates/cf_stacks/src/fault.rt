@@ -5,7 +5,7 @@ ghost use Rattle.cf_stacks.specs.declared.fault.StepFault.TheVariants.{NoMemory}
 use std::alloc::{AllocError, AllocFailed};
 
 /// Why an entry is not stepped over.
-#[derive(Drop, Debug, PartialEq, Eq)]
+#[derive(Drop)]
 pub enum StepFault {
     /// The entry begins an operation by a template that holds a nested stack.
     Nested,

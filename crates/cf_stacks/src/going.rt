@@ -1,14 +1,16 @@
 //! The source that an operation works by, with its templates.
-ghost use Rattle.std.specs.Prelude.{◌≡◌, IfOk, Some, map};
+ghost use Rattle.std.specs.Prelude.{◌≡◌, IfOk, Some};
 ghost use Rattle.cf_desired.specs.Plan.{Seen, plan_of};
-ghost use Rattle.cf_desired.specs.Templates.{IsFlat};
+ghost use Rattle.cf_desired.specs.Templates.{IsFlat, templates_of};
 ghost use Rattle.cf_desired.specs.Whole.{export_names_of, wanted_at};
 ghost use Rattle.cf_stacks.specs.Changing.{Steps};
 ghost use Rattle.cf_stacks.specs.Fold.{empty_whole, terms_of, whole_over};
 
 use crate::fault::StepFault;
 use crate::terms::Terms;
-use cf_desired::{Plan, Seen, WholePlan, is_flat_source, plan, templates_of, terms_at, whole};
+use cf_desired::{
+    Plan, Seen, WholePlan, export_names, is_flat_source, plan, templates_of, terms_at, whole,
+};
 use cf_export::Outputs;
 use cf_tree::{Listing, Names, Source, Templates, TryClone, Txt};
 use std::alloc::{AllocError, Global};
@@ -51,11 +53,25 @@ impl Going {
     pub fn new(alloc: Global, source: Source) -> Result<Going, StepFault>
         ensures { Steps (IsFlat source) (λ going. going ≡ source) result }
     {
-        let templates = templates_of(alloc, &source)?;
-        if is_flat_source(&source, &templates) {
-            let read = Arc::new(alloc, Read { source, templates })?;
+        match templates_of(alloc, &source) {
+            Ok(templates) => Going::of(alloc, Read { source, templates }),
+            Err(_) => {
+                drop(source);
+                Err(StepFault::NoMemory)
+            }
+        }
+    }
+
+    /// The same of a source whose templates were read.
+    fn of(alloc: Global, read: Read) -> Result<Going, StepFault>
+        requires { read.templates ≡ templates_of read.source }
+        ensures { Steps (IsFlat read.source) (λ going. going ≡ read.source) result }
+    {
+        if is_flat_source(&read.source, &read.templates) {
+            let read = Arc::new(alloc, read)?;
             Ok(Going { read })
         } else {
+            drop(read);
             Err(StepFault::Nested)
         }
     }
@@ -94,9 +110,12 @@ impl Going {
         ensures { IfOk result (λ whole. whole ≡ whole_over (Some self.now) seen.now) }
     {
         let plan = self.plan(alloc, seen)?;
-        match whole(alloc, &plan)? {
-            Some(whole) => Ok(whole),
-            None => Ok(nothing(alloc)),
+        let found = whole(alloc, &plan);
+        drop(plan);
+        match found {
+            Ok(Some(whole)) => Ok(whole),
+            Ok(None) => Ok(nothing(alloc)),
+            Err(failed) => Err(failed),
         }
     }
 
@@ -105,7 +124,9 @@ impl Going {
         ensures { IfOk result (λ names. names ≡ export_names_of self.now seen.now) }
     {
         let plan = self.plan(alloc, seen)?;
-        names_in(alloc, &plan)
+        let names = export_names(alloc, &plan);
+        drop(plan);
+        names
     }
 }
 
@@ -114,17 +135,6 @@ impl TryClone for Going {
         let read = self.read.clone()?;
         Ok(Going { read })
     }
-}
-
-/// The names of the exports of a plan.
-fn names_in(alloc: Global, plan: &Plan) -> Result<Names, AllocError>
-    ensures { IfOk result (λ names. names ≡ map (λ e. e.0) plan.now.exports) }
-{
-    let mut names = Names::new(alloc);
-    for (name, _) in plan.exports.as_slice() {
-        names.push(name.try_clone(alloc)?)?;
-    }
-    Ok(names)
 }
 
 /// What is wanted where nothing is known; it takes no memory.

@@ -2,12 +2,13 @@
 ghost use Rattle.std.specs.Prelude.{◌≡◌, IfOk};
 
 use crate::attrs::Attrs;
+use crate::copies::copy_into;
 use cf_entry::Why;
 use cf_tree::{Deletion, Dict, Listing, Names, Replace, Request, Rows, Source, TryClone, Txt};
 use std::alloc::{AllocError, Global};
 
 /// The status of a held resource (User Guide, resource status codes).
-#[derive(Clone, Copy, Debug, PartialEq, Eq)]
+#[derive(Clone, Copy)]
 pub enum HeldStatus {
     CreateComplete,
     UpdateComplete,
@@ -85,26 +86,52 @@ pub struct KeptSet {
 /// Change sets in the order of their numbers.
 pub type KeptSets = Listing<KeptSet>;
 
+impl Held {
+    /// A resource of which nothing is known; it takes no memory.
+    fn blank(alloc: Global) -> Held {
+        Held {
+            path: Txt::new(String::new(alloc)),
+            kind: Txt::new(String::new(alloc)),
+            physical: Txt::new(String::new(alloc)),
+            props: Dict::new(alloc),
+            attrs: Attrs::new(Dict::new(alloc)),
+            needs: Names::new(alloc),
+            deletion: Deletion::Delete,
+            replace: Replace::Delete,
+            status: HeldStatus::CreateComplete,
+            unsure: false,
+            superseded: false,
+        }
+    }
+
+    /// Makes another resource a copy of this one. After an error nothing is said of it.
+    fn copy_into(&self, alloc: Global, copy: &mut Held) -> Result<(), AllocError>
+        ensures { IfOk result (λ _. copy.new ≡ self.now) }
+    {
+        copy_into(alloc, &self.path, &mut copy.path)?;
+        copy_into(alloc, &self.kind, &mut copy.kind)?;
+        copy_into(alloc, &self.physical, &mut copy.physical)?;
+        copy_into(alloc, &self.props, &mut copy.props)?;
+        copy_into(alloc, &self.attrs, &mut copy.attrs)?;
+        copy_into(alloc, &self.needs, &mut copy.needs)?;
+        copy.deletion = self.deletion;
+        copy.replace = self.replace;
+        copy.status = self.status;
+        copy.unsure = self.unsure;
+        copy.superseded = self.superseded;
+        Ok(())
+    }
+}
+
 impl TryClone for Held {
     fn try_clone(&self, alloc: Global) -> Result<Held, AllocError> {
-        let path = self.path.try_clone(alloc)?;
-        let kind = self.kind.try_clone(alloc)?;
-        let physical = self.physical.try_clone(alloc)?;
-        let props = self.props.try_clone(alloc)?;
-        let attrs = self.attrs.try_clone(alloc)?;
-        let needs = self.needs.try_clone(alloc)?;
-        Ok(Held {
-            path,
-            kind,
-            physical,
-            props,
-            attrs,
-            needs,
-            deletion: self.deletion,
-            replace: self.replace,
-            status: self.status,
-            unsure: self.unsure,
-            superseded: self.superseded,
-        })
+        let mut copy = Held::blank(alloc);
+        match self.copy_into(alloc, &mut copy) {
+            Ok(()) => Ok(copy),
+            Err(failed) => {
+                drop(copy);
+                Err(failed)
+            }
+        }
     }
 }

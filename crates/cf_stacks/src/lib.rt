@@ -43,5 +43,7 @@ pub use longer::Longer;
 pub use room::{Ready, awaited_has_room};
 pub use seen::{seen_in, seen_now};
 pub use state::{StackState, Stacks, World};
+pub use steps::current_at;
 pub use terms::Terms;
+pub use told::going_stack;
 pub use world::fold;

@@ -1,5 +1,5 @@
 //! The line for an answer, written where there is room for it.
-ghost use Rattle.std.specs.Prelude.{◌≡◌, [], ◌++◌, ◌+◌, ◌≤◌, length, codes, string_bytes, string_len, string_capacity};
+ghost use Rattle.std.specs.Prelude.{◌≡◌, [], ◌++◌, ◌+◌, ◌≤◌, IfOk, length, codes, string_bytes, string_len, string_capacity};
 ghost use Rattle.cf_tree.specs.Codes.{name_of};
 ghost use Rattle.cf_stacks.specs.Event.{action_name, event_line, reply_name};
 
@@ -7,6 +7,7 @@ use crate::events::action_name;
 use cf_entry::Reply;
 use cf_tree::{Code, Request, Txt};
 use itoa::Buffer;
+use std::alloc::{AllocError, Global};
 
 /// Adds a text at the end of a line that has room for it.
 fn put(line: &mut String, text: &str)
@@ -75,4 +76,14 @@ pub fn answer_line(
     put(&mut line, " ");
     put_reply(&mut line, request, answer);
     Txt::new(line)
+}
+
+/// Room for the line that `events` prints of an outcome at a path.
+pub fn growing_line(alloc: Global, path: &Txt) -> Result<String, AllocError>
+    ensures { IfOk result (λ line. (string_bytes line ≡ []) × (length path.now + 100 ≤ string_capacity line)) }
+{
+    match path.as_str().len().checked_add(100) {
+        Some(most) => String::with_capacity(alloc, most),
+        None => Err(AllocError),
+    }
 }

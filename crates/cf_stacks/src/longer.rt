@@ -14,6 +14,16 @@ pub struct Longer<T> {
     pub empty: Vec<T>,
 }
 
+impl<T> Longer<T> {
+    /// No room; it takes no memory.
+    pub(crate) fn none(alloc: Global) -> Longer<T> {
+        Longer {
+            items: Vec::new(alloc),
+            empty: Vec::new(alloc),
+        }
+    }
+}
+
 impl<T: Drop> Longer<T> {
     /// Room for a list of so many members.
     pub fn new(alloc: Global, most: usize) -> Result<Longer<T>, AllocError>

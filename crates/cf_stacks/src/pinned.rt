@@ -1,7 +1,7 @@
 //! The exports, pins and claims of one stack among those of all stacks.
 ghost use Rattle.std.specs.Prelude.{◌≡◌, ◌≤◌, ◌∷◌, [], IfOk, filter, fold, map, length, not, insert};
 ghost use Rattle.std.specs.List.{list_any};
-ghost use Rattle.cf_graph.specs.Inserted.{insert_by};
+ghost use Rattle.cf_tree.specs.Lists.{insert_by};
 ghost use Rattle.cf_stacks.specs.Fold.{is_before, is_export_before, is_same_pin, not_pin_of, not_export_of, export_by, pin_also, pin_of, repinned, reexported, pinning};
 
 use cf_export::{Export, Exports, Pin, Pins};
@@ -16,7 +16,7 @@ fn is_before(a: &Pin, b: &Pin) -> bool
 }
 
 /// Where a pin joins others: behind those that stand before it.
-#[tactic(auto, using(crate::proofs::Joins::behind_next, crate::proofs::Joins::behind_here, crate::proofs::Joins::behind_all))]
+#[tactic(auto, using(cf_tree::proofs::Joins::behind_next, cf_tree::proofs::Joins::behind_here, cf_tree::proofs::Joins::behind_all))]
 fn place_of_pin(pins: &[Pin], pin: &Pin) -> usize
     ensures within { result ≤ length pins.now }
     ensures place { insert_by is_before pins.now pin.now ≡ insert pins.now result pin.now }
@@ -60,6 +60,24 @@ pub fn repin(alloc: Global, pins: &mut Pins, stack: &Txt, names: &Names) -> Resu
 {
     unpin(pins, stack);
     for name in names.as_slice() {
+        let pin = pin_of(alloc, stack, name)?;
+        insert_pin(pins, pin)?;
+    }
+    Ok(())
+}
+
+/// Pins the names of these imports for a stack, in place of those that it pinned before. After an
+/// error nothing is said of the pins.
+pub fn repin_imports(
+    alloc: Global,
+    pins: &mut Pins,
+    stack: &Txt,
+    imports: &Pairs,
+) -> Result<(), AllocError>
+    ensures { IfOk result (λ _. pins.new ≡ repinned stack.now (map (λ p. p.0) imports.now) pins.old) }
+{
+    unpin(pins, stack);
+    for (name, _) in imports.as_slice() {
         let pin = pin_of(alloc, stack, name)?;
         insert_pin(pins, pin)?;
     }
@@ -110,7 +128,7 @@ fn is_export_before(a: &Export, b: &Export) -> bool
 }
 
 /// Where an export joins others: behind those that stand before it.
-#[tactic(auto, using(crate::proofs::Joins::behind_next, crate::proofs::Joins::behind_here, crate::proofs::Joins::behind_all))]
+#[tactic(auto, using(cf_tree::proofs::Joins::behind_next, cf_tree::proofs::Joins::behind_here, cf_tree::proofs::Joins::behind_all))]
 fn place_of_export(exports: &[Export], export: &Export) -> usize
     ensures within { result ≤ length exports.now }
     ensures place { insert_by is_export_before exports.now export.now ≡ insert exports.now result export.now }
@@ -138,6 +156,18 @@ pub fn unexport(exports: &mut Exports, stack: &Txt)
     exports.retain(|export| !(*stack == export.stack));
 }
 
+/// A stack's export of a value under a name.
+fn export_by(alloc: Global, stack: &Txt, name: &Txt, value: &Txt) -> Result<Export, AllocError>
+    ensures { IfOk result (λ e. e ≡ export_by stack.now (name.now, value.now)) }
+{
+    let stack = stack.try_clone(alloc)?;
+    let name = name.try_clone(alloc)?;
+    match value.try_clone(alloc) {
+        Ok(value) => Ok(Export { name, value, stack }),
+        Err(failed) => Err(failed),
+    }
+}
+
 /// Exports these names with their values for a stack, in place of what it exported before. After an
 /// error nothing is said of the exports.
 pub fn reexport(
@@ -150,11 +180,7 @@ pub fn reexport(
 {
     unexport(exports, stack);
     for (name, value) in values.as_slice() {
-        let export = Export {
-            name: name.try_clone(alloc)?,
-            value: value.try_clone(alloc)?,
-            stack: stack.try_clone(alloc)?,
-        };
+        let export = export_by(alloc, stack, name, value)?;
         insert_export(exports, export)?;
     }
     Ok(())

@@ -1,6 +1,6 @@
 //! The room that the world makes for its next entry.
-ghost use Rattle.std.specs.Prelude.{◌≡◌, ◌≤◌, ℕ, false, IfErr, IfOk, None};
-ghost use Rattle.cf_stacks.specs.Awaiting.{Awaits, AwaitsFor, AwaitsRequest, IsAnswerIn, IsOutcomeBy, TakesRoom, is_updating, number_told, room_of};
+ghost use Rattle.std.specs.Prelude.{◌≡◌, ◌+◌, ◌≤◌, ℕ, false, All, IfErr, IfOk, None, filter, length, map};
+ghost use Rattle.cf_stacks.specs.Awaiting.{Awaits, AwaitsFor, AwaitsRequest, IsAnswerIn, IsMadeRoom, IsOutcomeBy, TakesRoom, call_of, is_unused, is_updating, number_told, room_of};
 ghost use Rattle.cf_stacks.specs.Changing.{IsFlatEntry, TellsNested};
 ghost use Rattle.cf_stacks.specs.Fold.{bare, world_after};
 ghost use Rattle.cf_stacks.specs.Room.{AwaitedHasRoom, HasRoom, IsReady, KeepsRooms, readied};
@@ -53,6 +53,7 @@ impl World {
     fn into_ready(self) -> Ready
         ensures { readied result ≡ record self { ready = None } }
     {
+        drop(self.ready);
         Ready {
             stacks: self.stacks,
             exports: self.exports,
@@ -88,6 +89,13 @@ impl World {
         }
     }
 
+    /// Gives up what an entry leaves, where it was kept.
+    fn give_up_ready(&mut self)
+        ensures { self.new ≡ record self.old { ready = None } }
+    {
+        drop(self.ready.take());
+    }
+
     /// Keeps what an entry leaves, with room for the outcomes for which there is room. After an error the world is as it was, but
     /// for what was kept.
     fn make_ready(&mut self, alloc: Global, entry: &Entry) -> Result<(), StepFault>
@@ -96,12 +104,31 @@ impl World {
         ensures same { self.new ≡ record self.old { ready = self.new.ready } }
         ensures nested { TellsNested (IsFlatEntry entry.now) result }
     {
-        self.ready = None;
+        self.give_up_ready();
         let mut next = self.bare_copy(alloc)?;
+        match self.lay_out(alloc, entry, &mut next) {
+            Ok(()) => {
+                self.ready = Some(next.into_ready());
+                Ok(())
+            }
+            Err(fault) => {
+                drop(next);
+                Err(fault)
+            }
+        }
+    }
+
+    /// Steps another world over an entry, with room for the outcomes for which there is room in this one. After an error nothing
+    /// is said of it.
+    fn lay_out(&self, alloc: Global, entry: &Entry, next: &mut World) -> Result<(), StepFault>
+        ensures world { IfOk result (λ _. next.new ≡ record (world_after next.old entry.now) { rooms = next.new.rooms }) }
+        ensures made { IfOk result (λ _. All (IsMadeRoom (length (map call_of (filter is_unused self.now.rooms)) + 1) next.new.stacks next.new.place 1024 525350) next.new.rooms) }
+        ensures called { IfOk result (λ _. map call_of next.new.rooms ≡ map call_of (filter is_unused self.now.rooms)) }
+        ensures nested { TellsNested (IsFlatEntry entry.now) result }
+    {
         next.advance(alloc, entry)?;
         let calls = self.calls_awaited(alloc)?;
         next.rooms = next.rooms_for(alloc, calls.as_slice(), LONGEST)?;
-        self.ready = Some(next.into_ready());
         Ok(())
     }
 
@@ -188,7 +215,7 @@ impl World {
         ensures same { self.new ≡ record self.old { ready = self.new.ready; rooms = self.new.rooms } }
         ensures nested { TellsNested (IsFlatEntry entry.now) result }
     {
-        self.ready = None;
+        self.give_up_ready();
         match entry {
             Entry::Outcome {
                 number,
@@ -239,7 +266,7 @@ impl World {
         answer_going(&mut pairs, place, number, entry, stack);
         self.stacks = Stacks::from_vec(pairs);
         self.place = place;
-        self.ready = None;
+        self.give_up_ready();
     }
 
     /// Steps over an entry for which `room_for` has made the room, or over the outcome of a call with whose intent it has. It
@@ -253,7 +280,10 @@ impl World {
         match self.take_room(&entry) {
             Some(room) => self.step_in(entry, room),
             None => match self.ready.take() {
-                Some(ready) => *self = World::of_ready(ready),
+                Some(ready) => {
+                    drop(entry);
+                    drop(mem::replace(self, World::of_ready(ready)));
+                }
                 None => unreachable!(),
             },
         }
@@ -263,8 +293,8 @@ impl World {
     pub fn give_up_rooms(&mut self, alloc: Global)
         ensures { self.new ≡ bare self.old }
     {
-        self.ready = None;
-        self.rooms = AnswerRooms::new(alloc);
+        self.give_up_ready();
+        drop(mem::replace(&mut self.rooms, AnswerRooms::new(alloc)));
     }
 }
 

@@ -1,12 +1,26 @@
 //! What the resources of a stack show to a template.
 ghost use Rattle.std.specs.Prelude.{◌≡◌, IfOk, filter, fold, not};
-ghost use Rattle.cf_stacks.specs.Fold.{put_seen, seen_in, seen_now};
+ghost use Rattle.cf_stacks.specs.Fold.{put_seen, seen_as_held, seen_in, seen_now};
 
 use crate::held::{Held, Helds};
 use crate::state::StackState;
 use cf_desired::{Seen, SeenAt};
 use cf_tree::TryClone;
 use std::alloc::{AllocError, Global};
+
+/// What a resource shows.
+fn shown(alloc: Global, held: &Held) -> Result<SeenAt, AllocError>
+    ensures { IfOk result (λ shown. shown ≡ seen_as_held held.now) }
+{
+    let physical = held.physical.try_clone(alloc)?;
+    match held.attrs.dict(alloc) {
+        Ok(attrs) => Ok(SeenAt {
+            physical: Some(physical),
+            attrs: Some(attrs),
+        }),
+        Err(failed) => Err(failed),
+    }
+}
 
 /// Adds what a resource shows of its path, unless another one shows it already. After an error
 /// nothing is said of what is seen.
@@ -17,13 +31,10 @@ fn see(alloc: Global, seen: &mut Seen, held: &Held) -> Result<(), AllocError>
         return Ok(());
     }
     let path = held.path.try_clone(alloc)?;
-    let physical = held.physical.try_clone(alloc)?;
-    let attrs = held.attrs.dict(alloc)?;
-    let shown = SeenAt {
-        physical: Some(physical),
-        attrs: Some(attrs),
-    };
-    seen.insert(path, shown)
+    match shown(alloc, held) {
+        Ok(shown) => seen.insert(path, shown),
+        Err(failed) => Err(failed),
+    }
 }
 
 /// Adds what a list of resources shows, but for those that are superseded. After an error nothing is
@@ -44,16 +55,25 @@ pub fn seen_in(alloc: Global, helds: &Helds) -> Result<Seen, AllocError>
     ensures { IfOk result (λ seen. seen ≡ seen_in helds.now) }
 {
     let mut seen = Seen::new(alloc);
-    see_each(alloc, &mut seen, helds)?;
-    Ok(seen)
+    match see_each(alloc, &mut seen, helds) {
+        Ok(()) => Ok(seen),
+        Err(failed) => {
+            drop(seen);
+            Err(failed)
+        }
+    }
 }
 
 /// What the resources of a stack show: those that its operation made before those that it holds.
 pub fn seen_now(alloc: Global, stack: &StackState) -> Result<Seen, AllocError>
     ensures { IfOk result (λ seen. seen ≡ seen_now stack.now) }
 {
-    let mut seen = Seen::new(alloc);
-    see_each(alloc, &mut seen, &stack.made)?;
-    see_each(alloc, &mut seen, &stack.held)?;
-    Ok(seen)
+    let mut seen = seen_in(alloc, &stack.made)?;
+    match see_each(alloc, &mut seen, &stack.held) {
+        Ok(()) => Ok(seen),
+        Err(failed) => {
+            drop(seen);
+            Err(failed)
+        }
+    }
 }

@@ -10,8 +10,9 @@ ghost use Rattle.cf_stacks.specs.Words.{current_at, pending_of, is_create_at, ha
 
 use crate::answers::answer;
 use crate::attrs::Attrs;
-use crate::changes::{close, creates_at, give_up_on, given_up, mark, pending_with, remove};
-use crate::held::{Abandoned, Held, HeldStatus, Helds, Leftover, Pending, Pendings};
+use crate::changes::{close, creates_at, give_up_on, mark, pending_with, remove};
+use crate::copies::{copy_into, given_up, leftover};
+use crate::held::{Abandoned, Held, HeldStatus, Helds, Pending, Pendings};
 use crate::own::is_restore;
 use crate::state::StackState;
 use crate::statuses::turned;
@@ -63,7 +64,7 @@ fn abandon(
 {
     for pending in tokens.as_slice() {
         if creates_at(pending, path) {
-            let create = given_up(alloc, pending)?;
+            let create = given_up(alloc, pending.token, &pending.path)?;
             abandoned.push(create)?;
         }
     }
@@ -75,19 +76,6 @@ fn close_creates(tokens: &mut Pendings, path: &Txt)
     ensures { tokens.new ≡ filter (λ p. not (is_create_at path.now p)) tokens.old }
 {
     tokens.retain(|pending| !creates_at(pending, path));
-}
-
-/// A leftover.
-fn leftover(alloc: Global, path: &Txt, physical: &str, why: Why) -> Result<Leftover, AllocError>
-    ensures { IfOk result (λ l. l ≡ record { path = path.now; physical = physical.now; why = why }) }
-{
-    let path = path.try_clone(alloc)?;
-    let physical = Txt::from_str(alloc, physical)?;
-    Ok(Leftover {
-        path,
-        physical,
-        why,
-    })
 }
 
 /// The resource that a list holds at a path.
@@ -110,35 +98,80 @@ pub(crate) fn status_made(held: &Helds, path: &Txt) -> HeldStatus
     }
 }
 
-/// A resource that was made.
+/// A resource that is made, but for what the answer tells: its id and its attributes are empty.
 pub(crate) fn resource(
     alloc: Global,
     path: &Txt,
     kind: &Txt,
-    physical: Txt,
     props: &Dict,
-    attrs: Attrs,
     status: HeldStatus,
     terms: Terms,
 ) -> Result<Held, AllocError>
-    ensures { IfOk result (λ h. h ≡ made_of path.now kind.now physical props.now attrs status terms) }
+    ensures { IfOk result (λ h. h ≡ made_of path.now kind.now [] props.now [] status terms) }
 {
-    let path = path.try_clone(alloc)?;
-    let kind = kind.try_clone(alloc)?;
-    let props = props.try_clone(alloc)?;
-    Ok(Held {
-        path,
-        kind,
-        physical,
-        props,
-        attrs,
+    let mut held = Held {
+        path: Txt::new(String::new(alloc)),
+        kind: Txt::new(String::new(alloc)),
+        physical: Txt::new(String::new(alloc)),
+        props: Dict::new(alloc),
+        attrs: Attrs::new(Dict::new(alloc)),
         needs: terms.needs,
         deletion: terms.deletion,
         replace: terms.replace,
         status,
         unsure: false,
         superseded: false,
-    })
+    };
+    match set_asked(alloc, path, kind, props, &mut held) {
+        Ok(()) => Ok(held),
+        Err(failed) => {
+            drop(held);
+            Err(failed)
+        }
+    }
+}
+
+/// Gives a resource what a create asks for. After an error nothing is said of it.
+fn set_asked(
+    alloc: Global,
+    path: &Txt,
+    kind: &Txt,
+    props: &Dict,
+    held: &mut Held,
+) -> Result<(), AllocError>
+    ensures { IfOk result (λ _. held.new ≡ record held.old { path = path.now; kind = kind.now; props = props.now }) }
+{
+    copy_into(alloc, path, &mut held.path)?;
+    copy_into(alloc, kind, &mut held.kind)?;
+    copy_into(alloc, props, &mut held.props)
+}
+
+/// Gives a resource what an answer tells. After an error nothing is said of it.
+fn set_told(alloc: Global, physical: &Txt, attrs: &Dict, held: &mut Held) -> Result<(), AllocError>
+    ensures { IfOk result (λ _. held.new ≡ record held.old { physical = physical.now; attrs = attrs.now }) }
+{
+    copy_into(alloc, physical, &mut held.physical)?;
+    held.attrs.set(alloc, attrs)
+}
+
+/// Adds a resource to those that were made, with what the answer tells. After an error nothing is
+/// said of them.
+fn add_made(
+    alloc: Global,
+    made: &mut Helds,
+    mut held: Held,
+    physical: &Txt,
+    attrs: &Dict,
+) -> Result<(), AllocError>
+    ensures { IfOk result (λ _. made.new ≡ made.old ++ record held { physical = physical.now; attrs = attrs.now } ∷ []) }
+{
+    match set_told(alloc, physical, attrs, &mut held) {
+        Ok(()) => made.push(held),
+        Err(failed) => {
+            drop(held);
+            Err(failed)
+        }
+    }
 }
 
 /// Whether an answer counts as that to an update which gives a resource back what it had. This
@@ -174,21 +207,11 @@ fn respond(
     match (&pending.request, reply) {
         (Request::Create { kind, props }, Reply::Success { physical, attrs }) => {
             let status = status_made(held, &pending.path);
-            let physical = physical.try_clone(alloc)?;
-            let attrs = Attrs::new(attrs.try_clone(alloc)?);
-            let new = resource(
-                alloc,
-                &pending.path,
-                kind,
-                physical,
-                props,
-                attrs,
-                status,
-                terms,
-            )?;
-            made.push(new)
+            let new = resource(alloc, &pending.path, kind, props, status, terms)?;
+            add_made(alloc, made, new, physical, attrs)
         }
         _ => {
+            drop(terms);
             answer(alloc, held, &pending.request, reply, restore)?;
             answer(alloc, made, &pending.request, reply, restore)
         }
@@ -257,16 +280,30 @@ impl StackState {
         Ok(())
     }
 
+    /// Adds an entry to the stack's own. After an error the stack is as it was.
+    pub(crate) fn join(&mut self, alloc: Global, entry: &Entry) -> Result<(), AllocError>
+        ensures { IfOk result (λ _. self.new ≡ record self.old { entries = self.old.entries ++ entry.now ∷ [] }) }
+    {
+        match entry.try_clone(alloc) {
+            Ok(entry) => self.entries.push(entry),
+            Err(failed) => Err(failed),
+        }
+    }
+
     /// Adds an entry to the stack's own, with its line for `events`. After an error nothing is said
     /// of the stack.
-    pub(crate) fn hear(&mut self, entry: Entry, line: Option<Txt>) -> Result<(), AllocError>
-        ensures { IfOk result (λ _. self.new ≡ record self.old { entries = self.old.entries ++ entry ∷ []; events = self.old.events ++ line_in line }) }
+    pub(crate) fn hear(
+        &mut self,
+        alloc: Global,
+        entry: &Entry,
+        line: Option<Txt>,
+    ) -> Result<(), AllocError>
+        ensures { IfOk result (λ _. self.new ≡ record self.old { entries = self.old.entries ++ entry.now ∷ []; events = self.old.events ++ line_in line }) }
     {
-        self.entries.push(entry)?;
         if let Some(line) = line {
             self.events.push(line)?;
         }
-        Ok(())
+        self.join(alloc, entry)
     }
 
     /// Marks each resource of which a call is open as left in doubt.
@@ -309,7 +346,10 @@ impl StackState {
                     &mut self.made,
                 )?;
             }
-            None => return Ok(()),
+            None => {
+                drop(terms);
+                return Ok(());
+            }
         }
         close_answered(&mut self.tokens, token, reply);
         Ok(())

@@ -1,38 +1,17 @@
 //! How entries reach the stacks that they are of.
-ghost use Rattle.std.specs.Prelude.{◌≡◌, [], ◌∷◌, ◌++◌, IfOk, find, option_copied};
+ghost use Rattle.std.specs.Prelude.{◌≡◌, IfOk, find, option_copied};
 ghost use Rattle.cf_stacks.specs.Changing.{changing, told};
 ghost use Rattle.cf_stacks.specs.Fold.{heard, joined};
 ghost use Rattle.cf_stacks.specs.Words.{is_going};
 
+use crate::copies::pending;
 use crate::events::line_of;
-use crate::held::Pending;
 use crate::state::{StackState, Stacks};
 use crate::statuses::is_in_progress;
 use cf_entry::Entry;
-use cf_tree::{Request, TryClone, Txt};
+use cf_tree::Txt;
 use std::alloc::{AllocError, Global};
 use std::mem;
-
-/// A request that is about to be made, as an open token.
-fn pending(
-    alloc: Global,
-    token: u64,
-    lane: &Txt,
-    path: &Txt,
-    request: &Request,
-) -> Result<Pending, AllocError>
-    ensures { IfOk result (λ p. p ≡ record { token = token; path = path.now; lane = lane.now; request = request.now }) }
-{
-    let path = path.try_clone(alloc)?;
-    let lane = lane.try_clone(alloc)?;
-    let request = request.try_clone(alloc)?;
-    Ok(Pending {
-        token,
-        path,
-        lane,
-        request,
-    })
-}
 
 /// Whether the operation of a number is in progress on a stack.
 pub(crate) fn is_going(stack: &StackState, number: u64) -> bool
@@ -58,9 +37,10 @@ impl StackState {
         ensures { IfOk result (λ _. self.new ≡ heard place entry.now self.old (changing entry.now self.old)) }
     {
         let line = line_of(alloc, place, entry, self)?;
-        self.change(alloc, entry)?;
-        let entry = entry.try_clone(alloc)?;
-        self.hear(entry, line)
+        match self.change(alloc, entry) {
+            Ok(()) => self.hear(alloc, entry, line),
+            Err(failed) => Err(failed),
+        }
     }
 
     /// Changes the stack as an entry of its operation says. After an error nothing is said of it.
@@ -137,17 +117,16 @@ pub fn tell(
     ensures { IfOk result (λ _. stacks.new ≡ told place number entry.now stacks.old) }
 {
     let mut pairs = mem::replace(stacks, Stacks::new(alloc)).into_vec();
-    tell_each(alloc, place, number, entry, &mut pairs)?;
-    *stacks = Stacks::from_vec(pairs);
-    Ok(())
-}
-
-/// Adds an entry to the stack's own.
-fn join(alloc: Global, entry: &Entry, stack: &mut StackState) -> Result<(), AllocError>
-    ensures { IfOk result (λ _. stack.new ≡ record stack.old { entries = stack.old.entries ++ entry.now ∷ [] }) }
-{
-    let entry = entry.try_clone(alloc)?;
-    stack.entries.push(entry)
+    match tell_each(alloc, place, number, entry, &mut pairs) {
+        Ok(()) => {
+            *stacks = Stacks::from_vec(pairs);
+            Ok(())
+        }
+        Err(failed) => {
+            drop(pairs);
+            Err(failed)
+        }
+    }
 }
 
 /// Adds an entry to each stack's own. After an error nothing is said of the stacks.
@@ -159,7 +138,7 @@ fn join_each(
     ensures { IfOk result (λ _. pairs.new.items ≡ joined entry.now pairs.old.items) }
 {
     for pair in pairs.iter_mut() {
-        join(alloc, entry, &mut pair.1)?;
+        pair.1.join(alloc, entry)?;
     }
     Ok(())
 }
@@ -170,7 +149,14 @@ pub fn join_all(alloc: Global, entry: &Entry, stacks: &mut Stacks) -> Result<(),
     ensures { IfOk result (λ _. stacks.new ≡ joined entry.now stacks.old) }
 {
     let mut pairs = mem::replace(stacks, Stacks::new(alloc)).into_vec();
-    join_each(alloc, entry, &mut pairs)?;
-    *stacks = Stacks::from_vec(pairs);
-    Ok(())
+    match join_each(alloc, entry, &mut pairs) {
+        Ok(()) => {
+            *stacks = Stacks::from_vec(pairs);
+            Ok(())
+        }
+        Err(failed) => {
+            drop(pairs);
+            Err(failed)
+        }
+    }
 }

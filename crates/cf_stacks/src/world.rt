@@ -33,6 +33,24 @@ pub fn take_out(alloc: Global, stacks: &mut Stacks, name: &Txt) -> StackState
     }
 }
 
+/// Puts a stack under its name. After an error nothing is said of the map.
+pub fn put_back(
+    alloc: Global,
+    stacks: &mut Stacks,
+    name: &Txt,
+    stack: StackState,
+) -> Result<(), AllocError>
+    ensures { IfOk result (λ _. stacks.new ≡ put name.now stack stacks.old) }
+{
+    match name.try_clone(alloc) {
+        Ok(name) => stacks.insert(name, stack),
+        Err(failed) => {
+            drop(stack);
+            Err(failed)
+        }
+    }
+}
+
 /// Changes the pins, exports and claims as the end of an operation says. After an error nothing is
 /// said of them.
 fn end_going(
@@ -86,14 +104,16 @@ fn kept_set(
 ) -> Result<KeptSet, AllocError>
     ensures { IfOk result (λ s. s ≡ record { number = number; source = source_for name.now 0 source.now; rows = rows.now; outputs = outputs }) }
 {
-    let source = source_for(alloc, name, 0, source)?;
     let rows = rows.try_clone(alloc)?;
-    Ok(KeptSet {
-        number,
-        source,
-        rows,
-        outputs,
-    })
+    match source_for(alloc, name, 0, source) {
+        Ok(source) => Ok(KeptSet {
+            number,
+            source,
+            rows,
+            outputs,
+        }),
+        Err(failed) => Err(failed),
+    }
 }
 
 impl World {
@@ -154,8 +174,7 @@ impl World {
             &mut self.pins,
             &mut self.exports,
         )?;
-        tell(alloc, place, number, entry, &mut self.stacks)?;
-        Ok(())
+        tell(alloc, place, number, entry, &mut self.stacks)
     }
 
     /// Writes down that an operation ended. After an error nothing is said of the world.
@@ -180,8 +199,7 @@ impl World {
             &mut self.exports,
             &mut self.claims,
         )?;
-        tell(alloc, place, number, entry, &mut self.stacks)?;
-        Ok(())
+        tell(alloc, place, number, entry, &mut self.stacks)
     }
 
     /// Keeps a change set of the stack of a name. After an error nothing is said of the world.
@@ -196,10 +214,16 @@ impl World {
     {
         self.set = set.number;
         let mut stack = take_out(alloc, &mut self.stacks, name);
-        stack.review(alloc, place, set)?;
-        let name = name.try_clone(alloc)?;
-        self.stacks.insert(name, stack)?;
-        Ok(())
+        match stack.review(alloc, place, set) {
+            Ok(()) => {
+                put_back(alloc, &mut self.stacks, name, stack)?;
+                Ok(())
+            }
+            Err(failed) => {
+                drop(stack);
+                Err(failed)
+            }
+        }
     }
 
     /// Changes the world as an entry at a place says. After an error nothing is said of the world.
@@ -212,7 +236,7 @@ impl World {
                 number,
                 stack,
                 kind,
-            } => self.begin(alloc, place, *number, stack, kind)?,
+            } => self.begin(alloc, place, entry, *number, stack, kind)?,
             Entry::Kept {
                 number,
                 path: _,
@@ -275,12 +299,22 @@ impl World {
             Some(place) => {
                 self.change(alloc, place, entry)?;
                 self.place = place;
-                self.ready = None;
-                self.rooms = AnswerRooms::new(alloc);
+                self.give_up_rooms(alloc);
                 Ok(())
             }
             None => Err(StepFault::NoMemory),
         }
+    }
+
+    /// The world after these entries more. After an error nothing is said of the world.
+    fn advance_over(&mut self, alloc: Global, entries: &Entries) -> Result<(), StepFault>
+        ensures world { IfOk result (λ _. self.new ≡ fold_of self.old entries.now) }
+        ensures nested { TellsNested (All IsFlatEntry entries.now) result }
+    {
+        for entry in entries.as_slice() {
+            self.advance(alloc, entry)?;
+        }
+        Ok(())
     }
 }
 
@@ -296,8 +330,11 @@ pub fn fold(alloc: Global, entries: &Entries) -> Result<World, StepFault>
     ensures nested { TellsNested (All IsFlatEntry entries.now) result }
 {
     let mut world = World::new(alloc);
-    for entry in entries.as_slice() {
-        world.advance(alloc, entry)?;
+    match world.advance_over(alloc, entries) {
+        Ok(()) => Ok(world),
+        Err(fault) => {
+            drop(world);
+            Err(fault)
+        }
     }
-    Ok(world)
 }

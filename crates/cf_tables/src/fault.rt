@@ -1,6 +1,7 @@
 //! Faults in words: the name, then the fields in their order, texts as compact JSON.
-use crate::json::text_json;
+use crate::json::{push_names, push_text};
 use cf_eval::{EvalFault, EvalWhy};
+use cf_graph::GraphFault;
 use cf_param::BindFault;
 use cf_schema::SchemaFault;
 use cf_template::TemplateFault;
@@ -8,84 +9,108 @@ use cf_tree::Txt;
 use std::alloc::{AllocError, Global};
 
 /// Why a template is not read.
-pub fn template_fault(alloc: Global, fault: &TemplateFault) -> Result<String, AllocError> {
+pub fn template_fault(
+    alloc: Global,
+    told: &mut String,
+    fault: &TemplateFault,
+) -> Result<(), AllocError> {
     match fault {
-        TemplateFault::NotJson => String::from_str(alloc, "NotJson"),
-        TemplateFault::TooLong { length } => format!(in alloc; "TooLong {length}"),
-        TemplateFault::WrongShape { path } => named(alloc, "WrongShape", path),
-        TemplateFault::UnknownSection { name } => named(alloc, "UnknownSection", name),
-        TemplateFault::BadVersion => String::from_str(alloc, "BadVersion"),
-        TemplateFault::NullValue { path } => named(alloc, "NullValue", path),
-        TemplateFault::BadNumber { path } => named(alloc, "BadNumber", path),
-        TemplateFault::BadName { path } => named(alloc, "BadName", path),
+        TemplateFault::NotJson => told.push_str("NotJson"),
+        TemplateFault::TooLong { length } => write!(told, "TooLong {length}"),
+        TemplateFault::WrongShape { path } => named(alloc, told, "WrongShape ", path),
+        TemplateFault::UnknownSection { name } => named(alloc, told, "UnknownSection ", name),
+        TemplateFault::BadVersion => told.push_str("BadVersion"),
+        TemplateFault::NullValue { path } => named(alloc, told, "NullValue ", path),
+        TemplateFault::BadNumber { path } => named(alloc, told, "BadNumber ", path),
+        TemplateFault::BadName { path } => named(alloc, told, "BadName ", path),
         TemplateFault::TooMany { what, count } => {
-            let told = named(alloc, "TooMany", what)?;
-            format!(in alloc; "{told} {count}")
+            named(alloc, told, "TooMany ", what)?;
+            write!(told, " {count}")
         }
-        TemplateFault::UnknownFunction { path } => named(alloc, "UnknownFunction", path),
+        TemplateFault::UnknownFunction { path } => named(alloc, told, "UnknownFunction ", path),
         TemplateFault::Unsupported { path, name } => {
-            let told = named(alloc, "Unsupported", path)?;
-            named(alloc, told.as_str(), name)
+            named(alloc, told, "Unsupported ", path)?;
+            named(alloc, told, " ", name)
         }
-        TemplateFault::NoMemory => String::from_str(alloc, "NoMemory"),
+        TemplateFault::NoMemory => told.push_str("NoMemory"),
     }
 }
 
 /// Why parameters are not bound.
-pub fn bind_fault(alloc: Global, fault: &BindFault) -> Result<String, AllocError> {
-    match fault {
-        BindFault::Undeclared { name } => named(alloc, "Undeclared", name),
-        BindFault::Missing { name } => named(alloc, "Missing", name),
-        BindFault::NotANumber { name } => named(alloc, "NotANumber", name),
-        BindFault::TooShort { name } => named(alloc, "TooShort", name),
-        BindFault::TooLong { name } => named(alloc, "TooLong", name),
-        BindFault::TooSmall { name } => named(alloc, "TooSmall", name),
-        BindFault::TooLarge { name } => named(alloc, "TooLarge", name),
-        BindFault::NotAllowed { name } => named(alloc, "NotAllowed", name),
-        BindFault::NoMatch { name } => named(alloc, "NoMatch", name),
-        BindFault::BadPattern { name } => named(alloc, "BadPattern", name),
-        BindFault::NoMemory => String::from_str(alloc, "NoMemory"),
-    }
+pub fn bind_fault(alloc: Global, told: &mut String, fault: &BindFault) -> Result<(), AllocError> {
+    let (word, name) = match fault {
+        BindFault::Undeclared { name } => ("Undeclared ", name),
+        BindFault::Missing { name } => ("Missing ", name),
+        BindFault::NotANumber { name } => ("NotANumber ", name),
+        BindFault::TooShort { name } => ("TooShort ", name),
+        BindFault::TooLong { name } => ("TooLong ", name),
+        BindFault::TooSmall { name } => ("TooSmall ", name),
+        BindFault::TooLarge { name } => ("TooLarge ", name),
+        BindFault::NotAllowed { name } => ("NotAllowed ", name),
+        BindFault::NoMatch { name } => ("NoMatch ", name),
+        BindFault::BadPattern { name } => ("BadPattern ", name),
+        BindFault::NoMemory => return told.push_str("NoMemory"),
+    };
+    named(alloc, told, word, name)
 }
 
 /// Why an evaluation gives nothing.
-pub fn eval_fault(alloc: Global, fault: &EvalFault) -> Result<String, AllocError> {
+pub fn eval_fault(alloc: Global, told: &mut String, fault: &EvalFault) -> Result<(), AllocError> {
     match fault {
         EvalFault::Bad { why, stack, at } => {
-            let told = named(alloc, word_of(*why), stack)?;
-            named(alloc, told.as_str(), at)
+            named(alloc, told, word_of(*why), stack)?;
+            named(alloc, told, " ", at)
         }
-        EvalFault::NoMemory => String::from_str(alloc, "NoMemory"),
+        EvalFault::NoMemory => told.push_str("NoMemory"),
     }
 }
 
 fn word_of(why: EvalWhy) -> &'static str {
     match why {
-        EvalWhy::UnknownName => "Bad UnknownName",
-        EvalWhy::UnknownAttribute => "Bad UnknownAttribute",
-        EvalWhy::UnknownMapKey => "Bad UnknownMapKey",
-        EvalWhy::IndexOutside => "Bad IndexOutside",
-        EvalWhy::WrongKind => "Bad WrongKind",
-        EvalWhy::UnknownImport => "Bad UnknownImport",
-        EvalWhy::CircularCondition => "Bad CircularCondition",
-        EvalWhy::NotMade => "Bad NotMade",
-        EvalWhy::TooBig => "Bad TooBig",
+        EvalWhy::UnknownName => "Bad UnknownName ",
+        EvalWhy::UnknownAttribute => "Bad UnknownAttribute ",
+        EvalWhy::UnknownMapKey => "Bad UnknownMapKey ",
+        EvalWhy::IndexOutside => "Bad IndexOutside ",
+        EvalWhy::WrongKind => "Bad WrongKind ",
+        EvalWhy::UnknownImport => "Bad UnknownImport ",
+        EvalWhy::CircularCondition => "Bad CircularCondition ",
+        EvalWhy::NotMade => "Bad NotMade ",
+        EvalWhy::TooBig => "Bad TooBig ",
+    }
+}
+
+/// Why a template has no order of work.
+pub fn graph_fault(alloc: Global, told: &mut String, fault: &GraphFault) -> Result<(), AllocError> {
+    match fault {
+        GraphFault::Circular { cycle } => {
+            told.push_str("Circular ")?;
+            push_names(alloc, told, cycle.as_slice())
+        }
+        GraphFault::UnknownDependency { from, name } => {
+            named(alloc, told, "UnknownDependency ", from)?;
+            named(alloc, told, " ", name)
+        }
+        GraphFault::NoMemory => told.push_str("NoMemory"),
     }
 }
 
 /// Why a schema is not read.
-pub fn schema_fault(alloc: Global, fault: &SchemaFault) -> Result<String, AllocError> {
+pub fn schema_fault(
+    alloc: Global,
+    told: &mut String,
+    fault: &SchemaFault,
+) -> Result<(), AllocError> {
     match fault {
-        SchemaFault::NotJson => String::from_str(alloc, "NotJson"),
-        SchemaFault::Missing { name } => named(alloc, "Missing", name),
-        SchemaFault::WrongShape { name } => named(alloc, "WrongShape", name),
-        SchemaFault::BadPointer { text } => named(alloc, "BadPointer", text),
-        SchemaFault::NoMemory => String::from_str(alloc, "NoMemory"),
+        SchemaFault::NotJson => told.push_str("NotJson"),
+        SchemaFault::Missing { name } => named(alloc, told, "Missing ", name),
+        SchemaFault::WrongShape { name } => named(alloc, told, "WrongShape ", name),
+        SchemaFault::BadPointer { text } => named(alloc, told, "BadPointer ", text),
+        SchemaFault::NoMemory => told.push_str("NoMemory"),
     }
 }
 
-/// A word, and a text as JSON.
-fn named(alloc: Global, word: &str, text: &Txt) -> Result<String, AllocError> {
-    let json = text_json(alloc, text.as_str())?;
-    format!(in alloc; "{word} {json}")
+/// Adds a word, and a text as JSON.
+fn named(alloc: Global, told: &mut String, word: &str, text: &Txt) -> Result<(), AllocError> {
+    told.push_str(word)?;
+    push_text(alloc, told, text.as_str())
 }

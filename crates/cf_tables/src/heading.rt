@@ -3,10 +3,32 @@ use crate::stretch::stretched;
 use std::alloc::{AllocError, Global};
 
 /// What rows ask for.
-#[derive(Clone, Copy, Debug, PartialEq, Eq)]
+#[derive(Clone, Copy, PartialEq, Eq)]
 pub enum Kind {
     /// What reading a template answers.
     Template,
+    /// The same, of bytes in hexadecimal digits.
+    Bytes,
+    /// What a template holds once it is read.
+    Contents,
+    /// The order of work of a template.
+    Order,
+    /// The parts of a text with holes.
+    Holes,
+    /// The pieces of a text between the places of a delimiter.
+    Split,
+    /// The members of a list that is written with commas.
+    Commas,
+    /// The number that a text writes.
+    Number,
+    /// The base64 of a text.
+    Base64,
+    /// How long the encoding of an object is.
+    Size,
+    /// The code of a handler with a number.
+    Code,
+    /// The schema of a type that is shipped.
+    Shipped,
     /// What the parameters of a template are bound to.
     Parameters,
     /// What the condition `X` of a template is.
@@ -19,6 +41,22 @@ pub enum Kind {
     Schema,
     /// How two objects of properties differ by a schema.
     Change,
+    /// What a template wants of each path.
+    Plan,
+    /// What a template says of a path besides its properties.
+    Terms,
+    /// What the words of a command line ask for.
+    Words,
+    /// The number of workers that a word names.
+    Workers,
+    /// How an exit is printed.
+    Exit,
+    /// What a sink holds behind texts that are printed.
+    Print,
+    /// The entry of the journal that bytes are.
+    Entry,
+    /// What a handler in memory answers.
+    Lane,
 }
 
 /// A heading.
@@ -41,9 +79,10 @@ impl Heading {
     /// A heading from its line; one of another kind asks for templates.
     pub fn read(alloc: Global, line: &str) -> Result<Heading, AllocError> {
         let (word, text) = line.split_once(' ').unwrap_or((line, "@"));
+        let text = String::from_str(alloc, text)?;
         Ok(Heading {
             kind: kind_of(word),
-            text: String::from_str(alloc, text)?,
+            text,
         })
     }
 
@@ -52,32 +91,70 @@ impl Heading {
         self.text.push_str(text)
     }
 
-    /// A row's text, and what is given to its parameters.
-    pub fn around(&self, alloc: Global, row: &str) -> Result<(String, String), AllocError> {
-        let (frame, usual) = self
-            .text
-            .as_str()
-            .split_once(" <- ")
-            .unwrap_or((self.text.as_str(), ""));
-        let (piece, given) = row.split_once(" <- ").unwrap_or((row, usual));
-        let once = stretched(alloc, piece)?;
-        let piece = stretched(alloc, once.as_str())?;
-        let (head, tail) = frame.split_once('@').unwrap_or((frame, ""));
-        let mut text = String::from_str(alloc, head)?;
-        text.push_str(piece.as_str())?;
-        text.push_str(tail)?;
-        Ok((text, String::from_str(alloc, given)?))
+    /// What is given to a row.
+    pub fn given<'a>(&'a self, row: &'a str) -> &'a str {
+        match row.split_once(" <- ") {
+            Some((_, given)) => given,
+            None => match self.text.as_str().split_once(" <- ") {
+                Some((_, given)) => given,
+                None => "",
+            },
+        }
     }
+
+    /// A row's text: its piece within that of the heading.
+    pub fn around(&self, alloc: Global, row: &str) -> Result<String, AllocError> {
+        let piece = stretched(alloc, row_piece(row))?;
+        let whole = within(alloc, row_piece(self.text.as_str()), piece.as_str());
+        drop(piece);
+        whole
+    }
+}
+
+/// A line without what is given.
+fn row_piece(line: &str) -> &str {
+    match line.split_once(" <- ") {
+        Some((piece, _)) => piece,
+        None => line,
+    }
+}
+
+/// A piece, in which long texts are short, at the first `@` of a frame.
+fn within(alloc: Global, frame: &str, piece: &str) -> Result<String, AllocError> {
+    let (head, tail) = frame.split_once('@').unwrap_or((frame, ""));
+    let piece = stretched(alloc, piece)?;
+    let whole = format!(in alloc; "{head}{piece}{tail}");
+    drop(piece);
+    whole
 }
 
 fn kind_of(word: &str) -> Kind {
     match word {
+        "bytes" => Kind::Bytes,
+        "contents" => Kind::Contents,
+        "order" => Kind::Order,
+        "holes" => Kind::Holes,
+        "split" => Kind::Split,
+        "commas" => Kind::Commas,
+        "number" => Kind::Number,
+        "base64" => Kind::Base64,
+        "size" => Kind::Size,
+        "code" => Kind::Code,
+        "shipped" => Kind::Shipped,
         "parameters" => Kind::Parameters,
         "condition" => Kind::Condition,
         "value" => Kind::Value,
         "properties" => Kind::Properties,
         "schema" => Kind::Schema,
         "change" => Kind::Change,
+        "plan" => Kind::Plan,
+        "terms" => Kind::Terms,
+        "words" => Kind::Words,
+        "workers" => Kind::Workers,
+        "exit" => Kind::Exit,
+        "print" => Kind::Print,
+        "entry" => Kind::Entry,
+        "lane" => Kind::Lane,
         _ => Kind::Template,
     }
 }

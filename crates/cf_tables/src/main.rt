@@ -1,27 +1,32 @@
-//! Tables of the template language: rows of templates, parameters, schemas and expressions, each with the answer that the
-//! rules of the language give it.
+//! Tables of the template language and of what the engine reads and says: rows of templates, parameters, schemas,
+//! expressions, plans, command lines and exits, each with the answer that the rules give it.
 //!
 //! The program reads a table line by line from its input. It answers each row by the calls that the engine uses, prints the
 //! rows that are answered otherwise, and in the end how many rows there were. Its functions promise nothing: what they call
 //! is proved in its own crates, and here it is held against answers that were worked out by hand.
 //!
-//! A line is one of these:
-//!
-//! - `== KIND TEXT` is a heading: what the rows below it ask for, and the text in which each stands at the `@`. Behind
-//!   ` <- ` follows what is given to parameters, as `K=V & L=W`; `K?` is given and not known yet.
-//! - `+ TEXT` goes on with the text of the heading.
-//! - `PIECE => ANSWER` is a row; `PIECE <- GIVEN => ANSWER` gives other parameters than the heading. In a piece
-//!   `<<TEXT*NUMBER>>` stands for that many copies of the text, in which `#` is the number of the copy.
-//! - Everything else is a remark.
+//! What its lines mean stands in `docs/TABLES.md`.
 #![tactic(auto)]
 
 mod answer;
+mod commands;
+mod contents;
+mod entries;
 mod evaluating;
+mod exits;
 mod fault;
+mod formed;
 mod given;
 mod heading;
 mod json;
+mod lanes;
+mod ordering;
+mod pieces;
+mod plans;
+mod scene;
 mod stretch;
+mod texts;
+mod wanted;
 
 use crate::answer::answer;
 use crate::heading::Heading;

@@ -9,12 +9,29 @@ pub fn stretched(alloc: Global, text: &str) -> Result<String, AllocError> {
     };
     let (mark, after) = rest.split_once(">>").unwrap_or((rest, ""));
     let (piece, times) = mark.split_once('*').unwrap_or((mark, "1"));
-    let mut whole = String::from_str(alloc, before)?;
-    for number in 0..times.parse::<u32>().unwrap_or(0) {
-        push_copy(&mut whole, piece, number)?;
+    let times = times.parse::<u32>().unwrap_or(0);
+    let mut whole = String::new(alloc);
+    match push_all(&mut whole, before, piece, times, after) {
+        Ok(()) => Ok(whole),
+        Err(failed) => {
+            drop(whole);
+            Err(failed)
+        }
     }
-    whole.push_str(after)?;
-    Ok(whole)
+}
+
+fn push_all(
+    whole: &mut String,
+    before: &str,
+    piece: &str,
+    times: u32,
+    after: &str,
+) -> Result<(), AllocError> {
+    whole.push_str(before)?;
+    for number in 0..times {
+        push_copy(whole, piece, number)?;
+    }
+    whole.push_str(after)
 }
 
 fn push_copy(whole: &mut String, piece: &str, number: u32) -> Result<(), AllocError> {

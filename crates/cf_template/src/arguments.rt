@@ -12,9 +12,10 @@ ghost use Rattle.cf_template.specs.Refusals.{Gives, GivesBy, after, mapped};
 ghost use Rattle.cf_template.specs.Places.{item_at};
 
 use crate::function::{Function, function_named, has_function, is_declared};
-use crate::path::{cut, item_at, member_at};
+use crate::path::{item_at, member_at};
 use crate::refusal::TemplateFault;
 use crate::words::has_reference;
+use cf_funcs::cut;
 use cf_tree::{Expr, ExprNode, Params, Txt, Val};
 use serde_json::{Map, Value};
 use std::alloc::{AllocError, Global};

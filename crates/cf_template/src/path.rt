@@ -1,7 +1,7 @@
-ghost use Rattle.std.specs.Prelude.{◌≡◌, ◌<◌, [], ◌++◌, length, take, slice_index, IfOk, OnOk, string_bytes, option_map};
-ghost use Rattle.cf_funcs.specs.Pieces.{cut_at};
+ghost use Rattle.std.specs.Prelude.{◌≡◌, ◌<◌, [], ◌++◌, length, take, slice_index, IfOk, OnOk, string_bytes};
 ghost use Rattle.cf_template.specs.Places.{replaced, escaped, member_at, item_at};
 
+use cf_funcs::cut;
 use cf_tree::Txt;
 use std::alloc::{AllocError, Global};
 use std::marker::Model;
@@ -111,12 +111,4 @@ fn push_replaced(text: &mut String, byte: &str, word: &str, name: &str) -> Resul
         rest = after;
     }
     text.push_str(rest)
-}
-
-/// What stands before the first place of a delimiter, and what follows it there.
-pub(crate) fn cut<'a>(text: &'a str, delimiter: &str) -> Option<(&'a str, &'a str)>
-    requires { 0 < length delimiter.now }
-    ensures { option_map (λ c. (c.0.now, c.1.now)) result ≡ cut_at delimiter.now text.now }
-{
-    text.split_once(delimiter)
 }

@@ -1,7 +1,7 @@
 ghost use Rattle.std.specs.Prelude.{◌≡◌, ◌+◌, ◌++◌, ◌<◌, ◌^◌, length, OnOk};
 ghost use Rattle.cf_template.specs.Subs.{IsHole, IsParts, hole_part, plain_parts};
 
-use crate::path::cut;
+use cf_funcs::cut;
 use cf_tree::{Part, Parts, Txt};
 use std::alloc::{AllocError, AllocFailed, Global};
 

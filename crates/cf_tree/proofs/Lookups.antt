@@ -1,5 +1,5 @@
 -- What stands under a name, by its place.
-use Rattle.std.proofs.Common.{◌≡◌, ℕ, ◌<◌, List, [], ◌∷◌, length, map, get_or, Bool, true, false, ◌&&◌, Option, Some, None, Result, Ok, Err, refl, ap, sym, ◌∙◌, subst, arith, true≢false}
+use Rattle.std.proofs.Common.{◌≡◌, ℕ, ◌<◌, List, [], ◌∷◌, length, map, get_or, Bool, true, false, ◌&&◌, Option, Some, None, Result, Ok, Err, refl, ap, sym, ◌∙◌, subst, arith, true≢false, cond}
 use Rattle.std.specs.Ordering.{nat_cmp, is_lt, match_ordering}
 use Rattle.std.specs.Str.{bytes_eq}
 use Rattle.std.specs.Cmp.{first_so, second_so}
@@ -7,7 +7,8 @@ use Rattle.std.specs.declared.cmp.Ordering.{Ordering}
 use Rattle.std.specs.declared.cmp.Ordering.TheVariants.{Less, Equal, Greater}
 use Rattle.std.specs.Cmp.Lexicographic.{slice_cmp, nat_list_cmp_total, texts_ties}
 use Rattle.std.proofs.lemmas.List.{map-id}
-use Rattle.cf_tree.specs.Keys.{ascends, ascends_from, bytes_lt, place, next, value_at}
+use Rattle.std.proofs.lemmas.Slice.Eq.{bytes_eq-Decides}
+use Rattle.cf_tree.specs.Keys.{ascends, ascends_from, bytes_lt, place, put, next, value_at}
 use Rattle.cf_tree.specs.Value.{datum_of, pair_of, pairs_of}
 use Rattle.cf_tree.specs.declared.value.Pair.{Pair}
 
@@ -23,6 +24,9 @@ other_if_less k l e = texts_ties k l ∙ rw e refl
 
 other_if_greater : (k l : List ℕ) → slice_cmp nat_cmp k l ≡ Greater → bytes_eq k l ≡ false
 other_if_greater k l e = texts_ties k l ∙ rw e refl
+
+same_itself : (k : List ℕ) → bytes_eq k k ≡ true
+same_itself k = (bytes_eq-Decides k k).1 refl
 
 less_from : (o : Ordering) → is_lt o ≡ true → o ≡ Less
 less_from Less h = refl
@@ -41,6 +45,31 @@ module _ {X : Type 0} where
   value_below k [] h = refl
   value_below k (p ∷ ps) h =
       rw (other_if_less k p.0 (less_from _ (first_so _ _ h))) (value_below k ps (from_lower k p.0 ps (first_so _ _ h) (second_so (bytes_lt k p.0) _ h)))
+
+-- what stands under a name after one was put in
+module _ {X : Type 0} where
+  put_here_by : (k : List ℕ) (v : X) (p : List ℕ × X) (ps : List (List ℕ × X)) (o : Ordering) → slice_cmp nat_cmp k p.0 ≡ o → value_at k (put k v ps) ≡ Some v
+      → value_at k (match_ordering o ((k, v) ∷ p ∷ ps) ((p.0, v) ∷ ps) (p ∷ put k v ps)) ≡ Some v
+  put_here_by k v p ps Less e h = rw (same_itself k) refl
+  put_here_by k v p ps Equal e h = rw (same_if_equal k p.0 e) refl
+  put_here_by k v p ps Greater e h = rw (other_if_greater k p.0 e) h
+
+  pub put_here : (k : List ℕ) (v : X) (ps : List (List ℕ × X)) → value_at k (put k v ps) ≡ Some v
+  put_here k v [] = rw (same_itself k) refl
+  put_here k v (p ∷ ps) = put_here_by k v p ps (slice_cmp nat_cmp k p.0) refl (put_here k v ps)
+
+  put_else_by : (m k : List ℕ) (v : X) (p : List ℕ × X) (ps : List (List ℕ × X)) (o : Ordering) → slice_cmp nat_cmp k p.0 ≡ o → bytes_eq m k ≡ false → value_at m (put k v ps) ≡ value_at m ps
+      → value_at m (match_ordering o ((k, v) ∷ p ∷ ps) ((p.0, v) ∷ ps) (p ∷ put k v ps)) ≡ value_at m (p ∷ ps)
+  put_else_by m k v p ps Less e n h = rw n refl
+  put_else_by m k v p ps Equal e n h =
+      let same : k ≡ p.0 = (bytes_eq-Decides k p.0).0 (same_if_equal k p.0 e) in
+      let other : bytes_eq m p.0 ≡ false = subst (λ l. bytes_eq m l ≡ false) same n in
+      rw other refl
+  put_else_by m k v p ps Greater e n h = ap (λ o. cond (bytes_eq m p.0) (Some p.1) o) h
+
+  pub put_else : (m k : List ℕ) (v : X) (ps : List (List ℕ × X)) → bytes_eq m k ≡ false → value_at m (put k v ps) ≡ value_at m ps
+  put_else m k v [] n = rw n refl
+  put_else m k v (p ∷ ps) n = put_else_by m k v p ps (slice_cmp nat_cmp k p.0) refl n (put_else m k v ps n)
 
 module _ {P : Type 0} {X : Type 0} (f : P → List ℕ × X) where
   -- what the place of a name says of what stands under it

@@ -1,31 +1,27 @@
-//! Tests of the layers above the readers: plans of templates, the fold of a journal, the steps of a creation, and reports.
+//! Tests of what rows can not show: room and memory, torn disks, and generic bounds once at a concrete type.
+//!
 //! They call what is public, with expected values worked out by hand from the rules, and stand in a crate of their own so
-//! that they are proved over the libraries that they test.
+//! that they are proved over the libraries that they test. All other cases are rows: of cf_tables what templates, schemas,
+//! values, plans, words and bytes come to and what a handler in memory answers, of cf_steps what may follow in a journal, of
+//! cf_scenarios whole commands.
+//!
+//! A test owns what it tries in one function, which lets it go by a call of `drop` before its one exit, and looks at it in
+//! others, which borrow it: each exit at which a value that owns much is let go makes the check longer.
 #![tactic(auto)]
 
 #[cfg(test)]
-mod due_tests;
+mod disk_tests;
 #[cfg(test)]
-mod exit_tests;
+mod handler_tests;
 #[cfg(test)]
-mod fold_tests;
+mod io_tests;
 #[cfg(test)]
-mod forward_tests;
-#[cfg(test)]
-mod next_tests;
-#[cfg(test)]
-mod phase_tests;
-#[cfg(test)]
-mod plan_tests;
-#[cfg(test)]
-mod prepare_tests;
-#[cfg(test)]
-mod report_tests;
-#[cfg(test)]
-mod rollback_tests;
+mod journal_tests;
 #[cfg(test)]
 mod room_tests;
 #[cfg(test)]
-mod samples;
+mod told;
 #[cfg(test)]
-mod words_tests;
+mod tree_tests;
+#[cfg(test)]
+mod worlds;

@@ -4,13 +4,12 @@ ghost use Rattle.std.specs.Prelude.{◌≡◌, ◌==◌, ◌&&◌, ℕ, IfOk, Is
 ghost use Rattle.cf_stacks.specs.Awaiting.{Awaits, IsShortReply, is_outcome_of};
 ghost use Rattle.cf_stacks.specs.Words.{is_update};
 
-use crate::fold_tests::{Asked, line_in};
-use crate::samples::{Deed, FILE, RECORD, entry_of, text};
+use crate::told::is_told;
+use crate::worlds::{Asked, FILE, RECORD, begun, line_in, opened, text, turned};
 use cf_entry::{Entry, LaneNames, Reply};
 use cf_stacks::{StepFault, World, awaited_has_room};
 use cf_tree::{Code, Dict, Request, Txt, Val};
 use std::alloc::{AllocError, Global};
-use std::process::Abort;
 use std::test::Fail;
 
 // Neither needs the other, and A is kept when it goes.
@@ -93,13 +92,58 @@ fn answer(world: &mut World, token: u64, reply: Reply)
     });
 }
 
-fn success(alloc: Global, physical: &str, color: &str) -> Result<Reply, AllocError> {
-    let physical = text(alloc, physical)?;
-    let name = text(alloc, "Color")?;
-    let value = Val::Text(text(alloc, color)?);
+fn add_color(alloc: Global, attrs: &mut Dict, color: &str) -> Result<(), AllocError> {
+    let color = text(alloc, color)?;
+    match text(alloc, "Color") {
+        Ok(name) => attrs.insert(name, Val::Text(color)),
+        Err(failed) => {
+            drop(color);
+            Err(failed)
+        }
+    }
+}
+
+fn colored(alloc: Global, color: &str) -> Result<Dict, AllocError> {
     let mut attrs = Dict::new(alloc);
-    attrs.insert(name, value)?;
-    Ok(Reply::Success { physical, attrs })
+    match add_color(alloc, &mut attrs, color) {
+        Ok(()) => Ok(attrs),
+        Err(failed) => {
+            drop(attrs);
+            Err(failed)
+        }
+    }
+}
+
+fn success(alloc: Global, physical: &str, color: &str) -> Result<Reply, AllocError> {
+    let attrs = colored(alloc, color)?;
+    match text(alloc, physical) {
+        Ok(physical) => Ok(Reply::Success { physical, attrs }),
+        Err(failed) => {
+            drop(attrs);
+            Err(failed)
+        }
+    }
+}
+
+/// Steps over the success of a call, with no room but that which its intent made, if it is within the bounds.
+fn succeed(
+    alloc: Global,
+    world: &mut World,
+    token: u64,
+    physical: &str,
+    color: &str,
+) -> Result<bool, StepFault>
+    requires { Awaits 1 token world.old }
+    ensures { IfOk result (λ _. (n t : ℕ) → (1 == n && token == t) ≡ false → Awaits n t world.old → Awaits n t world.new) }
+{
+    let reply = success(alloc, physical, color)?;
+    if is_short(&reply) {
+        answer(world, token, reply);
+        Ok(true)
+    } else {
+        drop(reply);
+        Ok(false)
+    }
 }
 
 /// The lanes are opened again.
@@ -110,38 +154,21 @@ fn open_again(alloc: Global, world: &mut World) -> Result<(), StepFault>
     step_over(alloc, world, Entry::Opened { epoch: 2, lanes })
 }
 
-static BEGUN: [Deed; 2] = [
-    Deed::Open(&[("f1", FILE), ("r1", RECORD)]),
-    Deed::Begin(TWO, &[]),
-];
-
-fn step_over_each(alloc: Global, world: &mut World, deeds: &[Deed]) -> Result<(), StepFault> {
-    for deed in deeds {
-        step_over(alloc, world, entry_of(alloc, deed, 0)?)?;
-    }
-    Ok(())
+/// The lanes are opened, and the creation begins.
+fn begin(alloc: Global, world: &mut World) -> Result<(), StepFault> {
+    step_over(alloc, world, opened(alloc)?)?;
+    step_over(alloc, world, begun(alloc, TWO)?)
 }
 
 /// Two calls are open, the lanes are opened again, and the calls are answered, the later one first.
 fn answer_both(alloc: Global, world: &mut World) -> Result<bool, StepFault> {
-    step_over_each(alloc, world, &BEGUN)?;
-    let first = success(alloc, "f1:1", "red")?;
-    let second = success(alloc, "r1:1", "blue")?;
-    intend(alloc, world, 1, text(alloc, "A")?, create_of(alloc, FILE)?)?;
-    intend(
-        alloc,
-        world,
-        2,
-        text(alloc, "B")?,
-        create_of(alloc, RECORD)?,
-    )?;
+    begin(alloc, world)?;
+    create(alloc, world, 1, "A", FILE)?;
+    create(alloc, world, 2, "B", RECORD)?;
     open_again(alloc, world)?;
-    if is_short(&first) && is_short(&second) {
-        answer(world, 2, second);
-        answer(world, 1, first);
-        return Ok(true);
-    }
-    Ok(false)
+    let second = succeed(alloc, world, 2, "r1:1", "blue")?;
+    let first = succeed(alloc, world, 1, "f1:1", "red")?;
+    Ok(first && second)
 }
 
 fn create_of(alloc: Global, kind: &str) -> Result<Request, AllocError>
@@ -157,6 +184,47 @@ fn delete_of(alloc: Global, physical: &str) -> Result<Request, AllocError>
 {
     let physical = text(alloc, physical)?;
     Ok(Request::Delete { physical })
+}
+
+/// Writes down the create of a resource of a type at a path.
+fn create(
+    alloc: Global,
+    world: &mut World,
+    token: u64,
+    path: &str,
+    kind: &str,
+) -> Result<(), StepFault>
+    ensures awaits { IfOk result (λ _. Awaits 1 token world.new) }
+    ensures others { IfOk result (λ _. (n t : ℕ) → Awaits n t world.old → Awaits n t world.new) }
+{
+    let request = create_of(alloc, kind)?;
+    match text(alloc, path) {
+        Ok(path) => intend(alloc, world, token, path, request),
+        Err(_) => {
+            drop(request);
+            Err(StepFault::NoMemory)
+        }
+    }
+}
+
+/// Writes down the delete of the resource of an id at a path.
+fn delete(
+    alloc: Global,
+    world: &mut World,
+    token: u64,
+    path: &str,
+    physical: &str,
+) -> Result<(), StepFault>
+    ensures { IfOk result (λ _. Awaits 1 token world.new) }
+{
+    let request = delete_of(alloc, physical)?;
+    match text(alloc, path) {
+        Ok(path) => intend(alloc, world, token, path, request),
+        Err(_) => {
+            drop(request);
+            Err(StepFault::NoMemory)
+        }
+    }
 }
 
 /// Makes room once more for the outcome of a call that was written down, before it is repeated.
@@ -183,49 +251,30 @@ fn ask_again(
 
 /// A call breaks off, and is made again.
 fn answer_again(alloc: Global, world: &mut World) -> Result<bool, StepFault> {
-    step_over_each(alloc, world, &BEGUN)?;
-    let done = success(alloc, "f1:1", "red")?;
-    intend(alloc, world, 1, text(alloc, "A")?, create_of(alloc, FILE)?)?;
+    begin(alloc, world)?;
+    create(alloc, world, 1, "A", FILE)?;
     answer(world, 1, Reply::Doubt);
     ask_again(alloc, world, 1, create_of(alloc, FILE)?)?;
-    let short = is_short(&done);
-    if short {
-        answer(world, 1, done);
-    }
-    Ok(short)
+    succeed(alloc, world, 1, "f1:1", "red")
+}
+
+/// A call is refused, which turns the creation back.
+fn refuse(alloc: Global, world: &mut World, token: u64, path: &str) -> Result<(), StepFault>
+    requires { Awaits 1 token world.old }
+{
+    let code = Code::AccessDenied;
+    answer(world, token, Reply::Failed { code });
+    step_over(alloc, world, turned(alloc, path)?)
 }
 
 /// A call is refused, and what another one made is deleted.
 fn answer_deletion(alloc: Global, world: &mut World) -> Result<bool, StepFault> {
-    step_over_each(alloc, world, &BEGUN)?;
-    let done = success(alloc, "r1:1", "blue")?;
-    intend(
-        alloc,
-        world,
-        1,
-        text(alloc, "B")?,
-        create_of(alloc, RECORD)?,
-    )?;
-    if !is_short(&done) {
-        return Ok(false);
-    }
-    answer(world, 1, done);
-    intend(alloc, world, 2, text(alloc, "A")?, create_of(alloc, FILE)?)?;
-    answer(
-        world,
-        2,
-        Reply::Failed {
-            code: Code::AccessDenied,
-        },
-    );
-    step_over(alloc, world, entry_of(alloc, &Deed::Turn("A"), 0)?)?;
-    intend(
-        alloc,
-        world,
-        3,
-        text(alloc, "B")?,
-        delete_of(alloc, "r1:1")?,
-    )?;
+    begin(alloc, world)?;
+    create(alloc, world, 1, "B", RECORD)?;
+    let made = succeed(alloc, world, 1, "r1:1", "blue")?;
+    create(alloc, world, 2, "A", FILE)?;
+    refuse(alloc, world, 2, "A")?;
+    delete(alloc, world, 3, "B", "r1:1")?;
     answer(
         world,
         3,
@@ -234,29 +283,7 @@ fn answer_deletion(alloc: Global, world: &mut World) -> Result<bool, StepFault> 
             attrs: Dict::new(alloc),
         },
     );
-    Ok(true)
-}
-
-/// The attribute `Color` of the resource that the stack `s` made last.
-fn last_color(alloc: Global, world: &World) -> Result<String, AllocError> {
-    let mut line = String::new(alloc);
-    if let Some(stack) = world.stacks.get("s") {
-        if let Some(held) = stack.made.as_slice().last() {
-            let attrs = held.attrs.dict(alloc)?;
-            match attrs.get("Color") {
-                Some(Val::Text(color)) => line.push_str(color.as_str())?,
-                _ => line.push_str("none")?,
-            }
-        }
-    }
-    Ok(line)
-}
-
-/// What is asked of a world, or the color of what was made last.
-#[derive(Clone, Copy)]
-enum Seen {
-    World(Asked),
-    Color,
+    Ok(made)
 }
 
 /// A way to step over entries.
@@ -275,85 +302,43 @@ fn go(alloc: Global, world: &mut World, way: Way) -> Result<bool, StepFault> {
     }
 }
 
-fn told(alloc: Global, way: Way, seen: Seen) -> Result<String, AllocError> {
+fn told(alloc: Global, way: Way, asked: Asked) -> Result<String, AllocError> {
     let mut world = World::new(alloc);
-    let line = match (go(alloc, &mut world, way), seen) {
-        (Ok(true), Seen::World(asked)) => line_in(alloc, &world, asked),
-        (Ok(true), Seen::Color) => last_color(alloc, &world),
+    let line = match go(alloc, &mut world, way) {
+        Ok(true) => line_in(alloc, &world, asked),
         _ => String::from_str(alloc, "no world"),
     };
     drop(world);
     line
 }
 
-fn is_told(rt: &impl Abort, alloc: Global, way: Way, seen: Seen, line: &str) -> Result<(), Fail> {
-    assert_eq!(rt; told(alloc, way, seen)?.as_str(), line);
-    Ok(())
-}
-
 #[test]
 fn open_calls_are_answered_in_any_order(rt: HostRuntime) -> Result<(), Fail> {
     let made =
-        "CREATE_IN_PROGRESS held: made: B r1:1 CREATE_COMPLETE Delete; A f1:1 CREATE_COMPLETE Retain; open: outputs:";
-    is_told(&rt, rt.alloc(), Way::Both, Seen::World(Asked::Stack), made)?;
-    let shared = "7 2 1 2 pins: claims: exports:";
-    is_told(
-        &rt,
-        rt.alloc(),
-        Way::Both,
-        Seen::World(Asked::Shared),
-        shared,
-    )?;
+        "CREATE_IN_PROGRESS 0 0 0; B r1:1 CREATE_COMPLETE Delete 0; A f1:1 CREATE_COMPLETE Retain 0";
+    is_told(&rt, told(rt.alloc(), Way::Both, Asked::Stack), made)?;
+    let shared = "7 2 1 2 0 0 0";
+    is_told(&rt, told(rt.alloc(), Way::Both, Asked::Shared), shared)?;
     let events =
         "|event 2 - CREATE_IN_PROGRESS|event 3 A CREATE_IN_PROGRESS|event 4 B CREATE_IN_PROGRESS|event 6 B CREATE_COMPLETE|event 7 A CREATE_COMPLETE";
-    is_told(
-        &rt,
-        rt.alloc(),
-        Way::Both,
-        Seen::World(Asked::Events),
-        events,
-    )?;
-    is_told(&rt, rt.alloc(), Way::Both, Seen::Color, "red")
+    is_told(&rt, told(rt.alloc(), Way::Both, Asked::Events), events)?;
+    is_told(&rt, told(rt.alloc(), Way::Both, Asked::Color), "red")
 }
 
 #[test]
 fn a_call_that_broke_off_is_repeated(rt: HostRuntime) -> Result<(), Fail> {
-    let made = "CREATE_IN_PROGRESS held: made: A f1:1 CREATE_COMPLETE Retain; open: outputs:";
-    is_told(
-        &rt,
-        rt.alloc(),
-        Way::Repeated,
-        Seen::World(Asked::Stack),
-        made,
-    )?;
+    let made = "CREATE_IN_PROGRESS 0 0 0; A f1:1 CREATE_COMPLETE Retain 0";
+    is_told(&rt, told(rt.alloc(), Way::Repeated, Asked::Stack), made)?;
     let events =
         "|event 2 - CREATE_IN_PROGRESS|event 3 A CREATE_IN_PROGRESS|event 4 A CREATE_FAILED Fault|event 5 A CREATE_COMPLETE";
-    is_told(
-        &rt,
-        rt.alloc(),
-        Way::Repeated,
-        Seen::World(Asked::Events),
-        events,
-    )
+    is_told(&rt, told(rt.alloc(), Way::Repeated, Asked::Events), events)
 }
 
 #[test]
 fn what_was_made_is_deleted(rt: HostRuntime) -> Result<(), Fail> {
-    let left = "ROLLBACK_IN_PROGRESS held: made: open: outputs:";
-    is_told(
-        &rt,
-        rt.alloc(),
-        Way::Deleted,
-        Seen::World(Asked::Stack),
-        left,
-    )?;
+    let left = "ROLLBACK_IN_PROGRESS 0 0 0";
+    is_told(&rt, told(rt.alloc(), Way::Deleted, Asked::Stack), left)?;
     let events =
         "|event 2 - CREATE_IN_PROGRESS|event 3 B CREATE_IN_PROGRESS|event 4 B CREATE_COMPLETE|event 5 A CREATE_IN_PROGRESS|event 6 A CREATE_FAILED AccessDenied|event 7 - ROLLBACK_IN_PROGRESS|event 8 B DELETE_IN_PROGRESS|event 9 B DELETE_COMPLETE";
-    is_told(
-        &rt,
-        rt.alloc(),
-        Way::Deleted,
-        Seen::World(Asked::Events),
-        events,
-    )
+    is_told(&rt, told(rt.alloc(), Way::Deleted, Asked::Events), events)
 }

@@ -1,6 +1,6 @@
 use Rattle.std.proofs.Common.{◌≡◌, ◌∷◌, ◌-◌, ◌∙◌, List, ℕ, drop, take, length, subst, sym, ap, arith}
 use Rattle.std.proofs.Math.Seq.{take-length}
-use Rattle.cf_engine.specs.Answer.{IsRun}
+use Rattle.cf_engine.specs.Program.{IsRun}
 use Rattle.cf_engine.proofs.run.Goals as goal
 
 -- the words behind the first two

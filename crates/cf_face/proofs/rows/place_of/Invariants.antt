@@ -1,6 +1,6 @@
 use Rattle.std.proofs.Common.{◌≡◌, map}
-use Rattle.cf_graph.specs.Inserted.{insert_by}
-use Rattle.cf_stacks.proofs.Joins.{joined_behind}
+use Rattle.cf_tree.specs.Lists.{insert_by}
+use Rattle.cf_tree.proofs.Joins.{joined_behind}
 use Rattle.cf_face.specs.Report.{is_held_before}
 use Rattle.cf_face.proofs.rows.place_of.Given as goal
 

@@ -1,5 +1,6 @@
 use Rattle.std.proofs.Common.{◌≡◌, filter_map, drop, length}
-use Rattle.cf_graph.specs.Needs.{cycle_of, first_in, shortest_walk}
+use Rattle.cf_tree.specs.Lists.{first_in}
+use Rattle.cf_graph.specs.Needs.{cycle_of, shortest_walk}
 use Rattle.cf_graph.proofs.cycle.cycle_of.Given as goal
 
 abbrev pub invariant-loop-row : goal.invariant-loop-row

@@ -1,7 +1,8 @@
 use Rattle.std.proofs.Common.{◌≡◌, ℕ, List, ◌&&◌, take}
 use Rattle.std.specs.List.{list_any}
 use Rattle.std.specs.Str.{bytes_eq}
-use Rattle.cf_graph.specs.Needs.{is_among, needed_by}
+use Rattle.cf_tree.specs.Lists.{is_among}
+use Rattle.cf_graph.specs.Needs.{needed_by}
 use Rattle.cf_graph.specs.Cycles.{has}
 use Rattle.cf_graph.proofs.cycle.first_level.Given as goal
 

@@ -1,7 +1,8 @@
 use Rattle.std.proofs.Common.{◌≡◌, ◌+◌, ◌∙◌, Some, List, ℕ, length, sym, subst}
 use Rattle.std.specs.BTreeSet.{BTreeSet}
+use Rattle.cf_tree.specs.Lists.{first_in}
 use Rattle.cf_graph.specs.Cycles.{IsLevel, AreLevels}
-use Rattle.cf_graph.specs.Needs.{first_in, walks}
+use Rattle.cf_graph.specs.Needs.{walks}
 use Rattle.cf_graph.proofs.Back.{levels_joined, one_more_level, none_yet, found_now}
 use Rattle.cf_graph.proofs.cycle.shortest.Goals as goal
 

@@ -1,5 +1,6 @@
 use Rattle.std.proofs.Common.{◌∙◌, ◌++◌, ◌∷◌, [], ℕ, List, ap, sym, length, option_copied}
-use Rattle.cf_graph.specs.Needs.{first_in, walks}
+use Rattle.cf_tree.specs.Lists.{first_in}
+use Rattle.cf_graph.specs.Needs.{walks}
 use Rattle.cf_graph.proofs.Back.{not_lost, goes_further}
 use Rattle.cf_graph.proofs.cycle.walk_back.Goals as goal
 

@@ -1,5 +1,6 @@
 use Rattle.std.proofs.Common.{◌≡◌, ◌<◌, ◌++◌, ℕ, suc, List, Some, true, length}
-use Rattle.cf_graph.specs.Needs.{first_in, walks}
+use Rattle.cf_tree.specs.Lists.{first_in}
+use Rattle.cf_graph.specs.Needs.{walks}
 use Rattle.cf_graph.specs.Cycles.{leads_back}
 use Rattle.cf_graph.proofs.cycle.walk_back.Given as goal
 

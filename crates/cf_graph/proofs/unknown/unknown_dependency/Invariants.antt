@@ -1,5 +1,6 @@
 use Rattle.std.proofs.Common.{◌≡◌, flat_map, drop}
-use Rattle.cf_graph.specs.Needs.{first_in, unknown_of}
+use Rattle.cf_tree.specs.Lists.{first_in}
+use Rattle.cf_graph.specs.Needs.{unknown_of}
 use Rattle.cf_graph.proofs.unknown.unknown_dependency.Given as goal
 
 abbrev pub invariant-loop-resource : goal.invariant-loop-resource

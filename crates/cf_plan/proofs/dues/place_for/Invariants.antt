@@ -1,6 +1,6 @@
 use Rattle.std.proofs.Common.{◌≡◌}
-use Rattle.cf_graph.specs.Inserted.{insert_by}
-use Rattle.cf_stacks.proofs.Joins.{joined_behind}
+use Rattle.cf_tree.specs.Lists.{insert_by}
+use Rattle.cf_tree.proofs.Joins.{joined_behind}
 use Rattle.cf_plan.specs.Due.{stays}
 use Rattle.cf_plan.proofs.dues.place_for.Given as goal
 

@@ -1,5 +1,5 @@
 use Rattle.std.proofs.Common.{◌≡◌, drop, map}
-use Rattle.cf_graph.specs.Needs.{is_among}
+use Rattle.cf_tree.specs.Lists.{is_among}
 use Rattle.cf_plan.specs.Prepare.{kinds_in}
 use Rattle.cf_plan.proofs.preparing.has_type.Given as goal
 

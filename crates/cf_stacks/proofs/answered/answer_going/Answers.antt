@@ -8,5 +8,5 @@ use Rattle.cf_stacks.proofs.answered.answer_going.Goals as goal
 pub returns-in-Some : goal.returns-in-Some
 returns-in-Some c = changed_at_place (λ s. is_going c.args.number s.1) (λ s. (s.0, heard c.args.place c.args.entry s.1 (changing c.args.entry s.1))) c.args.pairs.now.items c.in-Some.at c.index_mut.result.now _ (search rules) (search rules) (search rules) (search rules)
 
-pub returns-in_default : goal.returns-in_default
-returns-in_default c = changed_nowhere (λ s. is_going c.args.number s.1) (λ s. (s.0, heard c.args.place c.args.entry s.1 (changing c.args.entry s.1))) c.args.pairs.now.items (search rules)
+pub returns-in-None : goal.returns-in-None
+returns-in-None c = changed_nowhere (λ s. is_going c.args.number s.1) (λ s. (s.0, heard c.args.place c.args.entry s.1 (changing c.args.entry s.1))) c.args.pairs.now.items (search rules)

@@ -1,7 +1,7 @@
 use Rattle.std.proofs.Common.{◌≡◌}
-use Rattle.cf_graph.specs.Inserted.{insert_by}
+use Rattle.cf_tree.specs.Lists.{insert_by}
+use Rattle.cf_tree.proofs.Joins.{joined_behind}
 use Rattle.cf_stacks.specs.Fold.{is_before}
-use Rattle.cf_stacks.proofs.Joins.{joined_behind}
 use Rattle.cf_stacks.proofs.pinned.place_of_pin.Given as goal
 
 abbrev pub invariant-loop-at : goal.invariant-loop-at

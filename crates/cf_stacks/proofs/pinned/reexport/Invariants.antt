@@ -1,5 +1,5 @@
 use Rattle.std.proofs.Common.{◌≡◌, fold, filter, map, take}
-use Rattle.cf_graph.specs.Inserted.{insert_by}
+use Rattle.cf_tree.specs.Lists.{insert_by}
 use Rattle.cf_stacks.specs.Fold.{is_export_before, not_export_of, export_by}
 use Rattle.cf_stacks.proofs.pinned.reexport.Given as goal
 

@@ -1,5 +1,5 @@
 use Rattle.std.proofs.Common.{◌≡◌, fold, filter, map, take}
-use Rattle.cf_graph.specs.Inserted.{insert_by}
+use Rattle.cf_tree.specs.Lists.{insert_by}
 use Rattle.cf_stacks.specs.Fold.{is_before, not_pin_of, pin_of}
 use Rattle.cf_stacks.proofs.pinned.repin.Given as goal
 

@@ -14,3 +14,9 @@ returns-in_default c = record {
   same = search rules;
   nested = c.make_ready.ensures.nested;
 }
+
+pub returns-in-Outcome-clause-rooms : goal.returns-in-Outcome-clause-rooms
+returns-in-Outcome-clause-rooms c = λ n t h. c.room_for_outcome.ensures.rooms n t (awaits_so c.args.self.now c.give_up_ready.new.self _ c.give_up_ready.ensures n t h)
+
+pub returns-in-Intent-clause-rooms : goal.returns-in-Intent-clause-rooms
+returns-in-Intent-clause-rooms c = λ n t h. c.room_for_intent.ensures.rooms n t (awaits_so c.args.self.now c.give_up_ready.new.self _ c.give_up_ready.ensures n t h)

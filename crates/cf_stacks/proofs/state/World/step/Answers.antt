@@ -11,4 +11,4 @@ pub returns-in-Some-clause-rooms : goal.returns-in-Some-clause-rooms
 returns-in-Some-clause-rooms c = kept_in c.args.self.now c.step_in.new.self c.take_room.new.self.rooms c.args.entry c.in-Some.room (search rules) c.take_room.ensures.taken (search rules)
 
 pub returns-in-Some-take-clause-rooms : goal.returns-in-Some-take-clause-rooms
-returns-in-Some-take-clause-rooms c = kept_ready c.args.self.now c.of_ready.result c.args.entry c.in-Some-take.ready c.requires.room (search rules) (search rules) c.of_ready.ensures
+returns-in-Some-take-clause-rooms c = kept_ready c.args.self.now c.replace.new.dest c.args.entry c.in-Some-take.ready c.requires.room (search rules) (search rules) (search rules)

@@ -1,9 +1,0 @@
-use Rattle.std.proofs.Common.{◌≡◌, drop, map}
-use Rattle.cf_engine.specs.Lanes.{kinds_of}
-use Rattle.cf_engine.specs.Opening.{has_lane}
-use Rattle.cf_engine.proofs.opening.has_lane.Given as goal
-
-abbrev pub invariant-loop-lane : goal.invariant-loop-lane
-invariant-loop-lane g l =
-    has_lane (map g.H.Handler.label l.lanes) (kinds_of (map g.H.Handler.schema_of l.lanes)) l.name l.kind
-    ≡ has_lane (map g.H.Handler.label (drop l.lane-index l.lanes)) (kinds_of (map g.H.Handler.schema_of (drop l.lane-index l.lanes))) l.name l.kind

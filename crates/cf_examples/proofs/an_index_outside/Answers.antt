@@ -1,8 +1,0 @@
-use Rattle.cf_examples.proofs.IndexOutside.{legal, report_0}
-use Rattle.cf_examples.proofs.an_index_outside.Goals as goal
-
-pub returns-clause-legal : goal.returns-clause-legal
-returns-clause-legal c = legal
-
-pub returns-clause-shows : goal.returns-clause-shows
-returns-clause-shows c = report_0

@@ -1,8 +1,0 @@
-use Rattle.std.proofs.Common.{◌<◌, length, lit<, codes}
-use Rattle.cf_funcs.proofs.Found.{cut_from_split}
-use Rattle.cf_face.proofs.words.cut.Goals as goal
-
-pub returns : goal.returns
-returns c =
-    let some : 0 < length (codes "=") = lit< tt in
-    cut_from_split (codes "=") c.args.word.now c.split_once.result some c.split_once.ensures.cases

@@ -1,0 +1,213 @@
+//! What comes next in an operation, and what is due.
+ghost use Rattle.cf_plan.specs.Stepping.{IsCreation};
+
+use crate::library::Library;
+use crate::line::Line;
+use crate::spelled::{add_cause, add_names, add_request, why_word};
+use crate::words::Words;
+use cf_entry::Phase;
+use cf_plan::{Home, Homes, Next, due, is_creation, next_in_creation, schemas_of};
+use cf_schema::Schemas;
+use cf_stacks::{StackState, World};
+use cf_tree::{Request, Txt};
+
+/// The tokens that are left of a line.
+fn tokens_of(words: &mut Words) -> Vec<u64> {
+    let mut tokens = Vec::new(words.alloc);
+    for _ in 0..words.rest.len() {
+        if words.rest.is_empty() {
+            break;
+        }
+        let token = words.number();
+        if tokens.push(token).is_err() {
+            words.lose();
+        }
+    }
+    tokens
+}
+
+/// Which of the tokens is out on a lane: it is open there in a stack.
+fn lease_in(stack: &StackState, lane: &Txt, out: &[u64]) -> Option<u64> {
+    for pending in stack.tokens.as_slice() {
+        if pending.lane == *lane && out.contains(&pending.token) {
+            return Some(pending.token);
+        }
+    }
+    None
+}
+
+/// The same in any stack.
+fn lease_on(world: &World, lane: &Txt, out: &[u64]) -> Option<u64> {
+    for stack in world.stacks.as_slice() {
+        let lease = lease_in(&stack.1, lane, out);
+        if lease.is_some() {
+            return lease;
+        }
+    }
+    None
+}
+
+/// The lanes of the last opening, of which those of these tokens are out.
+fn homes_of(words: &mut Words, library: &Library, world: &World, out: &[u64]) -> Homes {
+    let mut homes = Homes::new(words.alloc);
+    for lane in world.lanes.as_slice() {
+        let home = Home {
+            name: words.text(lane.0.as_str()),
+            schema: library.schema_of(words, lane.1.as_str()),
+            out: lease_on(world, &lane.0, out),
+        };
+        if homes.push(home).is_err() {
+            words.lose();
+        }
+    }
+    homes
+}
+
+/// The schemas of the lanes of the last opening.
+pub fn schemas_in(words: &mut Words, library: &Library, world: &World) -> Schemas {
+    let homes = homes_of(words, library, world, &[]);
+    let schemas = schemas_of(words.alloc, &homes);
+    drop(homes);
+    match schemas {
+        Ok(schemas) => schemas,
+        Err(_) => {
+            words.lose();
+            Schemas::new(words.alloc)
+        }
+    }
+}
+
+/// Adds a call as `TOKEN LANE PATH REQUEST`. A lane that is not chosen yet is told as `-`.
+fn add_call(
+    line: &mut Line,
+    library: &Library,
+    token: u64,
+    lane: &str,
+    path: &str,
+    request: &Request,
+) {
+    line.number(token);
+    line.word(if lane.is_empty() { "-" } else { lane });
+    line.word(path);
+    add_request(line, library.kind_of(lane), request);
+}
+
+fn phase_word(phase: Phase) -> &'static str {
+    match phase {
+        Phase::Back => "back",
+        Phase::Clean => "clean",
+        Phase::BackClean => "backclean",
+    }
+}
+
+/// Adds a step, as the entry that it writes.
+fn add_step(line: &mut Line, library: &Library, next: &Next) {
+    match next {
+        Next::Step {
+            path,
+            lane,
+            token,
+            request,
+            repeated,
+        } => {
+            line.word(if *repeated { "again" } else { "ask" });
+            add_call(line, library, *token, lane.as_str(), path.as_str(), request);
+        }
+        Next::Keep {
+            path,
+            physical,
+            why,
+        } => {
+            line.word("kept");
+            line.word(path.as_str());
+            line.word(if physical.as_str().is_empty() {
+                "-"
+            } else {
+                physical.as_str()
+            });
+            line.word(why_word(*why));
+        }
+        Next::Turn { phase, cause } => {
+            line.word("turn");
+            line.word(phase_word(*phase));
+            if let Some(cause) = cause {
+                add_cause(line, cause);
+            }
+        }
+        Next::End { status, failed } => {
+            line.word("done");
+            line.word(status.name());
+            add_names(line, failed);
+        }
+        Next::Wait => line.word("wait"),
+    }
+}
+
+/// The step that comes next in an operation, while the calls of these tokens are out.
+fn add_next(
+    line: &mut Line,
+    words: &mut Words,
+    library: &Library,
+    world: &World,
+    number: u64,
+    out: &[u64],
+)
+    requires { IsCreation world.now number }
+{
+    let homes = homes_of(words, library, world, out);
+    match next_in_creation(line.alloc, world, number, &homes) {
+        Ok(next) => {
+            add_step(line, library, &next);
+            drop(next);
+        }
+        Err(_) => line.word("no step"),
+    }
+    drop(homes);
+}
+
+/// All steps that are due in an operation, while the calls of these tokens are out.
+fn add_due(
+    line: &mut Line,
+    words: &mut Words,
+    library: &Library,
+    world: &World,
+    number: u64,
+    out: &[u64],
+)
+    requires { IsCreation world.now number }
+{
+    let schemas = schemas_in(words, library, world);
+    match due(line.alloc, world, number, out, &schemas) {
+        Ok(dues) => {
+            for step in dues.as_slice() {
+                line.member();
+                add_step(line, library, step);
+            }
+            drop(dues);
+        }
+        Err(_) => line.lose(),
+    }
+    drop(schemas);
+}
+
+/// The step that comes next in an operation, while the calls of these tokens are out; or all steps that are due.
+pub fn add_coming(
+    line: &mut Line,
+    words: &mut Words,
+    library: &Library,
+    world: &World,
+    word: &str,
+    number: u64,
+) {
+    if words.rest.starts_with("out ") {
+        words.word();
+    }
+    let out = tokens_of(words);
+    if !is_creation(world, number) {
+        line.word("no creation");
+    } else if word == "next" {
+        add_next(line, words, library, world, number, out.as_slice());
+    } else {
+        add_due(line, words, library, world, number, out.as_slice());
+    }
+}

@@ -1,0 +1,182 @@
+//! Lines that are read.
+use cf_tree::{Dict, Names, Txt, Val};
+use std::alloc::{AllocError, Global};
+
+/// The words of a line that are not read yet. What is out of form, or has no memory, is read as nothing, and told in the end.
+#[derive(Drop)]
+pub struct Words<'a> {
+    pub alloc: Global,
+    pub rest: &'a str,
+    is_bad: bool,
+    is_lost: bool,
+}
+
+impl<'a> Words<'a> {
+    /// The words of a line, with one blank between them.
+    pub fn new(alloc: Global, line: &'a str) -> Words<'a> {
+        Words {
+            alloc,
+            rest: line,
+            is_bad: false,
+            is_lost: false,
+        }
+    }
+
+    /// Notes that something is out of form.
+    pub fn refuse(&mut self) {
+        self.is_bad = true;
+    }
+
+    /// Notes that memory was wanting.
+    pub fn lose(&mut self) {
+        self.is_lost = true;
+    }
+
+    /// Whether all that was read was in its form. An error where memory was wanting.
+    pub fn are_read(&self) -> Result<bool, AllocError> {
+        if self.is_lost {
+            Err(AllocError)
+        } else {
+            Ok(!self.is_bad)
+        }
+    }
+
+    /// The next word.
+    pub fn word(&mut self) -> &'a str {
+        let (word, rest) = self.rest.split_once(' ').unwrap_or((self.rest, ""));
+        self.rest = rest;
+        word
+    }
+
+    /// The next word as a number.
+    pub fn number(&mut self) -> u64 {
+        match self.word().parse::<u64>() {
+            Ok(number) => number,
+            Err(_) => {
+                self.is_bad = true;
+                0
+            }
+        }
+    }
+
+    /// The value of the next word among these; the usual one where it is none of them.
+    pub fn one_of<T: Copy>(&mut self, values: &[(&str, T)], usual: T) -> T {
+        let word = self.word();
+        for value in values {
+            if value.0 == word {
+                return value.1;
+            }
+        }
+        self.is_bad = true;
+        usual
+    }
+
+    /// A copy of a text.
+    pub fn string(&mut self, text: &str) -> String {
+        match String::from_str(self.alloc, text) {
+            Ok(text) => text,
+            Err(_) => {
+                self.is_lost = true;
+                String::new(self.alloc)
+            }
+        }
+    }
+
+    /// The same as a text of entries.
+    pub fn text(&mut self, text: &str) -> Txt {
+        Txt::new(self.string(text))
+    }
+
+    /// The next word as a text.
+    pub fn name(&mut self) -> Txt {
+        let word = self.word();
+        self.text(word)
+    }
+
+    /// The next word as a text that is empty where it is written as `-`.
+    pub fn path(&mut self) -> Txt {
+        let word = self.word();
+        self.text(if word == "-" { "" } else { word })
+    }
+
+    /// A copy of bytes.
+    pub fn bytes(&mut self, bytes: &[u8]) -> Vec<u8> {
+        match Vec::from_slice(self.alloc, bytes) {
+            Ok(bytes) => bytes,
+            Err(_) => {
+                self.is_lost = true;
+                Vec::new(self.alloc)
+            }
+        }
+    }
+
+    /// All further words as names.
+    pub fn names(&mut self) -> Names {
+        let mut names = Names::new(self.alloc);
+        for word in self.rest.split_whitespace() {
+            let name = self.text(word);
+            if names.push(name).is_err() {
+                self.is_lost = true;
+            }
+        }
+        names
+    }
+
+    /// All further words as properties, `NAME=TEXT ..` or `NAME:VALUE ..`
+    pub fn props(&mut self) -> Dict {
+        let mut props = Dict::new(self.alloc);
+        for word in self.rest.split_whitespace() {
+            self.add_property(&mut props, word);
+        }
+        props
+    }
+
+    /// Adds a property, a text behind `=` and another value behind a colon, whichever stands first.
+    fn add_property(&mut self, props: &mut Dict, word: &str) {
+        let (name, text) = word.split_once('=').unwrap_or((word, ""));
+        let (name, value) = match name.split_once(':') {
+            Some((name, _)) => {
+                let (_, text) = word.split_once(':').unwrap_or((word, ""));
+                (name, self.value(text))
+            }
+            None => (name, Val::Text(self.unmarked(text))),
+        };
+        let name = self.text(name);
+        if props.insert(name, value).is_err() {
+            self.is_lost = true;
+        }
+    }
+
+    /// A truth value or a whole number.
+    fn value(&mut self, text: &str) -> Val {
+        match text {
+            "true" => Val::Truth(true),
+            "false" => Val::Truth(false),
+            _ => match text.parse::<i64>() {
+                Ok(number) => Val::Whole(number),
+                Err(_) => {
+                    self.is_bad = true;
+                    Val::Truth(false)
+                }
+            },
+        }
+    }
+
+    /// The text of a word, in which `\s` stands for a blank, `\n` for a line feed and `\\` for one backslash.
+    fn unmarked(&mut self, word: &str) -> Txt {
+        let mut text = String::new(self.alloc);
+        let mut marked = false;
+        for letter in word.chars() {
+            let meant = match (marked, letter) {
+                (true, 's') => ' ',
+                (true, 'n') => '\n',
+                _ => letter,
+            };
+            marked = !marked && letter == '\\';
+            if !marked && text.push(meant).is_err() {
+                self.is_lost = true;
+            }
+        }
+        Txt::new(text)
+    }
+}

@@ -1,0 +1,85 @@
+-- A creation that begins and is driven.
+use Rattle.std.proofs.Common.{◌≡◌, inr, ℕ, ◌+◌, ◌≤◌, List, [], ◌∷◌, ◌++◌, None, sym, ap, subst, ◌∙◌}
+use Rattle.std.specs.Prelude.{OnOk, Result, Ok, Err}
+use Rattle.cf_tree.specs.declared.source.Source.{Source}
+use Rattle.cf_schema.specs.declared.described.Schema.{Schema}
+use Rattle.cf_entry.specs.declared.entry.Entry.{Entry}
+use Rattle.cf_entry.specs.declared.entry.Entry.TheVariants as entry
+use Rattle.cf_stacks.specs.declared.state.World.{World}
+use Rattle.cf_stacks.specs.Fold.{empty_world, fold_of, world_after}
+use Rattle.cf_stacks.specs.Words.{stack_of_operation}
+use Rattle.cf_plan.specs.Forward.{In}
+use Rattle.cf_plan.specs.Run.{IsOwn, Runs}
+use Rattle.cf_plan.specs.Going.{IsOver, IsUnderWay}
+use Rattle.cf_plan.proofs.Going.{ends, starts}
+use Rattle.cf_top.specs.declared.book.Halt.{Halt}
+use Rattle.cf_top.specs.Book.{world_of}
+use Rattle.cf_top.specs.Scene.{Scene, since}
+use Rattle.cf_top.specs.Driving.{WasCutShort, DriveTells, GoesOn}
+use Rattle.cf_top.specs.Creating.{next_number, beginning, behind, CreateTells}
+use Rattle.cf_top.proofs.Books.{fold_append}
+use Rattle.cf_top.proofs.Driven.{world_one, later_halts}
+
+-- the number of the next operation, and that none of this number is in progress
+pub number_next : (es : List Entry) (x : World) (number : ℕ) → x ≡ world_of es → number ≡ x.operation + 1 → number ≡ next_number es
+number_next es x number e n = n ∙ ap (λ (y : World). y.operation + 1) e
+
+pub none_next :
+    (es : List Entry) (x : World) (number : ℕ) → x ≡ world_of es → number ≡ x.operation + 1 → stack_of_operation number x ≡ None
+    → stack_of_operation (next_number es) (world_of es) ≡ None
+none_next es x number e n none =
+    subst (λ m. stack_of_operation m (world_of es) ≡ None) (number_next es x number e n) (subst (λ y. stack_of_operation number y ≡ None) e none)
+
+pub on_ok : {P : Type 0} (x : Result (Unit {0}) Halt) → P → OnOk x P
+on_ok (Ok done) p = p
+on_ok (Err h) p = tt
+
+-- behind its beginning a creation goes on
+pub begun_goes :
+    (es more : List Entry) (number : ℕ) (name : List ℕ) (source : Source) → stack_of_operation number (world_of es) ≡ None
+    → more ≡ es ++ beginning number name source ∷ [] → GoesOn number (world_of more)
+begun_goes es more number name source none e =
+    (name, subst (λ x. IsUnderWay number name x) (sym (ap world_of e ∙ world_one es (beginning number name source))) (starts (world_of es) number name source none))
+
+cut_since : (s : Scene) (faults_now number : ℕ) (h : Halt) → s.faults ≤ faults_now → WasCutShort (record s { faults = faults_now }) number h → WasCutShort s number h
+cut_since s faults_now number h k c = record {
+  es = c.es;
+  told = c.told;
+  counts = c.counts;
+  wrote = c.wrote;
+  halts = later_halts (since s c.es c.told c.counts) faults_now number h k c.halts;
+}
+
+pub created :
+    (s : Scene) (name : List ℕ) (source : Source) (number : ℕ) (gs : List Schema) (es : List Entry) (room_now faults_now : ℕ) (x : Result (Unit {0}) Halt)
+    → number ≡ next_number s.entries → gs ≡ s.schemas → es ≡ s.entries ++ beginning number name source ∷ [] → room_now ≡ s.room → s.faults ≤ faults_now
+    → DriveTells (record s { schemas = gs; entries = es; room = room_now; faults = faults_now }) number x → CreateTells s name source x
+created s name source number gs es room_now faults_now x n g e r k d =
+    by_end x
+    (subst (λ m. DriveTells (record (behind s (beginning m name source)) { faults = faults_now }) m x) n
+    (subst (λ q. DriveTells (record (behind s (beginning number name source)) { room = q; faults = faults_now }) number x) r
+    (subst (λ hs. DriveTells (record (behind s (beginning number name source)) { schemas = hs; room = room_now; faults = faults_now }) number x) g
+    (subst (λ l. DriveTells (record s { schemas = gs; entries = l; room = room_now; faults = faults_now }) number x) e d)))) where
+      by_end : (y : Result (Unit {0}) Halt) → DriveTells (record (behind s (beginning (next_number s.entries) name source)) { faults = faults_now }) (next_number s.entries) y → CreateTells s name source y
+      by_end (Ok done) f = f
+      by_end (Err h) f = inr (cut_since (behind s (beginning (next_number s.entries) name source)) faults_now (next_number s.entries) h k f)
+
+-- where it ends, it is over
+pub created_over :
+    (s : Scene) (name : List ℕ) (source : Source) (x : Result (Unit {0}) Halt) → stack_of_operation (next_number s.entries) (world_of s.entries) ≡ None
+    → CreateTells s name source x → OnOk x (IsOver (next_number s.entries) name (world_of s.entries'))
+created_over s name source (Err h) none t = tt
+created_over s name source (Ok done) none (es, w, (before, state, failed, last), written) =
+    let number : ℕ = next_number s.entries in
+    let begun : Entry = beginning number name source in
+    let x : World = world_after (world_of s.entries) begun in
+    let at : world_of (s.entries ++ begun ∷ []) ≡ x = world_one s.entries begun in
+    let runs : Runs s.schemas s.names x s.told s.counts (before ++ entry.Done number state failed ∷ []) s.told' s.counts' =
+    subst (λ l. Runs s.schemas s.names x s.told s.counts l s.told' s.counts') last
+    (subst (λ y. Runs s.schemas s.names y s.told s.counts es s.told' s.counts') at w.0) in
+    let own : (e : Entry) → In e (before ++ entry.Done number state failed ∷ []) → IsOwn number e =
+    subst (λ l. (e : Entry) → In e l → IsOwn number e) last w.1 in
+    let after : fold_of x (before ++ entry.Done number state failed ∷ []) ≡ world_of s.entries' =
+    ap (fold_of x) (sym last) ∙ ap (λ y. fold_of y es) (sym at) ∙ sym (fold_append empty_world (s.entries ++ begun ∷ []) es) ∙ ap world_of (sym written) in
+    subst (λ y. IsOver number name y) after
+    (ends s.schemas s.names x s.told s.told' s.counts s.counts' number name before state failed (starts (world_of s.entries) number name source none) runs own)

@@ -1,0 +1,168 @@
+use Rattle.std.proofs.Common.{◌≡◌, map, Some, refl, sym, subst}
+use Rattle.std.specs.Prelude.{IfSome, Ok, Err}
+use Rattle.cf_entry.specs.Entry.{IsProper}
+use Rattle.cf_stacks.specs.declared.held.Pending.{Pending}
+use Rattle.cf_stacks.specs.Changing.{IsFlatEntry}
+use Rattle.cf_plan.specs.Chosen.{entry_of}
+use Rattle.cf_plan.specs.Run.{open_call}
+use Rattle.cf_plan.specs.Stepping.{schemas_of}
+use Rattle.cf_top.specs.Book.{world_of}
+use Rattle.cf_top.specs.Driving.{CallsEnd, NoteTells, TakeTells}
+use Rattle.cf_top.proofs.Driven.{call_halts, is_taken, note_halts, note_opens, note_proper, noted_is}
+use Rattle.cf_top.proofs.drive.take_step.Goals as goal
+
+pub note-requires-clause-proper : goal.note-requires-clause-proper
+note-requires-clause-proper g c =
+    subst (λ o. IfSome o (λ e. IsProper e × IsFlatEntry e)) (sym c.entry_of.ensures)
+    (note_proper (record {
+      names = map g.H.Handler.label c.args.lanes.now.items;
+      schemas = schemas_of c.args.homes.now;
+      told = map g.H.Handler.told c.args.lanes.now.items;
+      told' = map g.H.Handler.told c.args.lanes.now.items;
+      counts = map g.H.Handler.count c.args.lanes.now.items;
+      counts' = map g.H.Handler.count c.args.lanes.now.items;
+      tells = g.D.Disk.tells;
+      bytes' = g.D.Disk.seen c.args.disk.now;
+      room = g.D.Disk.room_of c.args.disk.now;
+      faults = g.D.Disk.count c.args.disk.now;
+      faults' = g.D.Disk.count c.args.disk.now;
+      entries = c.args.book.now.entries.items;
+      entries' = c.args.book.now.entries.items;
+    })
+    c.args.number c.requires.goes_on c.args.next c.requires.comes)
+
+pub call_if_any-requires-clause-called : goal.call_if_any-requires-clause-called
+call_if_any-requires-clause-called g c =
+    subst (λ o. IfSome o (λ t. (p : Pending) × (open_call c.args.number t (world_of c.note.new.book.entries.items) ≡ Some p))) (sym c.called_by-token.ensures)
+    (note_opens (record {
+      names = map g.H.Handler.label c.args.lanes.now.items;
+      schemas = schemas_of c.args.homes.now;
+      told = map g.H.Handler.told c.args.lanes.now.items;
+      told' = map g.H.Handler.told c.args.lanes.now.items;
+      counts = map g.H.Handler.count c.args.lanes.now.items;
+      counts' = map g.H.Handler.count c.args.lanes.now.items;
+      tells = g.D.Disk.tells;
+      bytes' = g.D.Disk.seen c.args.disk.now;
+      room = g.D.Disk.room_of c.args.disk.now;
+      faults = g.D.Disk.count c.args.disk.now;
+      faults' = g.D.Disk.count c.args.disk.now;
+      entries = c.args.book.now.entries.items;
+      entries' = c.args.book.now.entries.items;
+    })
+    c.args.number c.requires.goes_on c.args.next c.note.new.book.entries.items c.requires.comes
+    (noted_is g.D.Disk.tells (g.D.Disk.seen c.note.new.disk) (g.D.Disk.room_of c.args.disk.now) (g.D.Disk.count c.args.disk.now) (g.D.Disk.count c.note.new.disk)
+    c.args.book.now.entries.items c.note.new.book.entries.items (entry_of c.args.number c.args.next) tt
+    (subst (λ o. NoteTells g.D.Disk.tells (g.D.Disk.seen c.note.new.disk) (g.D.Disk.room_of c.args.disk.now) (g.D.Disk.count c.args.disk.now) (g.D.Disk.count c.note.new.disk)
+    c.args.book.now.entries.items c.note.new.book.entries.items o (Ok tt)) c.entry_of.ensures c.in-Ok.ensures.tells)))
+
+pub returns-in-Ok-call_if_any-clause-tells : goal.returns-in-Ok-call_if_any-clause-tells
+returns-in-Ok-call_if_any-clause-tells g c =
+    subst (λ t. TakeTells (record {
+      names = map g.H.Handler.label c.args.lanes.now.items;
+      schemas = schemas_of c.args.homes.now;
+      told = map g.H.Handler.told c.args.lanes.now.items;
+      told' = map g.H.Handler.told c.call_if_any.new.lanes.items;
+      counts = map g.H.Handler.count c.args.lanes.now.items;
+      counts' = map g.H.Handler.count c.call_if_any.new.lanes.items;
+      tells = g.D.Disk.tells;
+      bytes' = g.D.Disk.seen c.call_if_any.new.disk;
+      room = g.D.Disk.room_of c.args.disk.now;
+      faults = g.D.Disk.count c.args.disk.now;
+      faults' = g.D.Disk.count c.call_if_any.new.disk;
+      entries = c.args.book.now.entries.items;
+      entries' = c.call_if_any.new.book.entries.items;
+    }) c.args.number (Ok t)) (sym c.taken_by-taken.ensures)
+    (is_taken (record {
+      names = map g.H.Handler.label c.args.lanes.now.items;
+      schemas = schemas_of c.args.homes.now;
+      told = map g.H.Handler.told c.args.lanes.now.items;
+      told' = map g.H.Handler.told c.call_if_any.new.lanes.items;
+      counts = map g.H.Handler.count c.args.lanes.now.items;
+      counts' = map g.H.Handler.count c.call_if_any.new.lanes.items;
+      tells = g.D.Disk.tells;
+      bytes' = g.D.Disk.seen c.call_if_any.new.disk;
+      room = g.D.Disk.room_of c.args.disk.now;
+      faults = g.D.Disk.count c.args.disk.now;
+      faults' = g.D.Disk.count c.call_if_any.new.disk;
+      entries = c.args.book.now.entries.items;
+      entries' = c.call_if_any.new.book.entries.items;
+    })
+    c.args.number c.requires.goes_on c.args.next c.note.new.book.entries.items (g.D.Disk.room_of c.note.new.disk) (g.D.Disk.count c.note.new.disk) c.requires.comes
+    (noted_is g.D.Disk.tells (g.D.Disk.seen c.note.new.disk) (g.D.Disk.room_of c.args.disk.now) (g.D.Disk.count c.args.disk.now) (g.D.Disk.count c.note.new.disk)
+    c.args.book.now.entries.items c.note.new.book.entries.items (entry_of c.args.number c.args.next) tt
+    (subst (λ o. NoteTells g.D.Disk.tells (g.D.Disk.seen c.note.new.disk) (g.D.Disk.room_of c.args.disk.now) (g.D.Disk.count c.args.disk.now) (g.D.Disk.count c.note.new.disk)
+    c.args.book.now.entries.items c.note.new.book.entries.items o (Ok tt)) c.entry_of.ensures c.in-Ok.ensures.tells)) tt
+    (subst (λ o. CallsEnd (record {
+      names = map g.H.Handler.label c.args.lanes.now.items;
+      schemas = schemas_of c.args.homes.now;
+      told = map g.H.Handler.told c.args.lanes.now.items;
+      told' = map g.H.Handler.told c.call_if_any.new.lanes.items;
+      counts = map g.H.Handler.count c.args.lanes.now.items;
+      counts' = map g.H.Handler.count c.call_if_any.new.lanes.items;
+      tells = g.D.Disk.tells;
+      bytes' = g.D.Disk.seen c.call_if_any.new.disk;
+      room = g.D.Disk.room_of c.note.new.disk;
+      faults = g.D.Disk.count c.note.new.disk;
+      faults' = g.D.Disk.count c.call_if_any.new.disk;
+      entries = c.note.new.book.entries.items;
+      entries' = c.call_if_any.new.book.entries.items;
+    }) c.args.number o (Ok tt)) c.called_by-token.ensures (c.in-Ok-call_if_any.ensures.tells (schemas_of c.args.homes.now))))
+
+pub returns-in-Err-call_if_any-clause-tells : goal.returns-in-Err-call_if_any-clause-tells
+returns-in-Err-call_if_any-clause-tells g c =
+    call_halts (record {
+      names = map g.H.Handler.label c.args.lanes.now.items;
+      schemas = schemas_of c.args.homes.now;
+      told = map g.H.Handler.told c.args.lanes.now.items;
+      told' = map g.H.Handler.told c.call_if_any.new.lanes.items;
+      counts = map g.H.Handler.count c.args.lanes.now.items;
+      counts' = map g.H.Handler.count c.call_if_any.new.lanes.items;
+      tells = g.D.Disk.tells;
+      bytes' = g.D.Disk.seen c.call_if_any.new.disk;
+      room = g.D.Disk.room_of c.args.disk.now;
+      faults = g.D.Disk.count c.args.disk.now;
+      faults' = g.D.Disk.count c.call_if_any.new.disk;
+      entries = c.args.book.now.entries.items;
+      entries' = c.call_if_any.new.book.entries.items;
+    })
+    c.args.number c.requires.goes_on c.args.next c.note.new.book.entries.items (g.D.Disk.room_of c.note.new.disk) (g.D.Disk.count c.note.new.disk) c.requires.comes
+    (noted_is g.D.Disk.tells (g.D.Disk.seen c.note.new.disk) (g.D.Disk.room_of c.args.disk.now) (g.D.Disk.count c.args.disk.now) (g.D.Disk.count c.note.new.disk)
+    c.args.book.now.entries.items c.note.new.book.entries.items (entry_of c.args.number c.args.next) tt
+    (subst (λ o. NoteTells g.D.Disk.tells (g.D.Disk.seen c.note.new.disk) (g.D.Disk.room_of c.args.disk.now) (g.D.Disk.count c.args.disk.now) (g.D.Disk.count c.note.new.disk)
+    c.args.book.now.entries.items c.note.new.book.entries.items o (Ok tt)) c.entry_of.ensures c.in-Ok.ensures.tells)) c.in-Err-call_if_any.halt c.in-Ok.ensures.room c.in-Ok.ensures.count
+    (subst (λ o. CallsEnd (record {
+      names = map g.H.Handler.label c.args.lanes.now.items;
+      schemas = schemas_of c.args.homes.now;
+      told = map g.H.Handler.told c.args.lanes.now.items;
+      told' = map g.H.Handler.told c.call_if_any.new.lanes.items;
+      counts = map g.H.Handler.count c.args.lanes.now.items;
+      counts' = map g.H.Handler.count c.call_if_any.new.lanes.items;
+      tells = g.D.Disk.tells;
+      bytes' = g.D.Disk.seen c.call_if_any.new.disk;
+      room = g.D.Disk.room_of c.note.new.disk;
+      faults = g.D.Disk.count c.note.new.disk;
+      faults' = g.D.Disk.count c.call_if_any.new.disk;
+      entries = c.note.new.book.entries.items;
+      entries' = c.call_if_any.new.book.entries.items;
+    }) c.args.number o (Err c.in-Err-call_if_any.halt)) c.called_by-token.ensures (c.in-Err-call_if_any.ensures.tells (schemas_of c.args.homes.now)))
+
+pub returns-in-Err-clause-tells : goal.returns-in-Err-clause-tells
+returns-in-Err-clause-tells g c =
+    note_halts (record {
+      names = map g.H.Handler.label c.args.lanes.now.items;
+      schemas = schemas_of c.args.homes.now;
+      told = map g.H.Handler.told c.args.lanes.now.items;
+      told' = map g.H.Handler.told c.args.lanes.now.items;
+      counts = map g.H.Handler.count c.args.lanes.now.items;
+      counts' = map g.H.Handler.count c.args.lanes.now.items;
+      tells = g.D.Disk.tells;
+      bytes' = g.D.Disk.seen c.note.new.disk;
+      room = g.D.Disk.room_of c.args.disk.now;
+      faults = g.D.Disk.count c.args.disk.now;
+      faults' = g.D.Disk.count c.note.new.disk;
+      entries = c.args.book.now.entries.items;
+      entries' = c.note.new.book.entries.items;
+    })
+    c.args.number c.requires.goes_on c.args.next c.in-Err.halt c.requires.comes refl refl
+    (subst (λ o. NoteTells g.D.Disk.tells (g.D.Disk.seen c.note.new.disk) (g.D.Disk.room_of c.args.disk.now) (g.D.Disk.count c.args.disk.now) (g.D.Disk.count c.note.new.disk)
+    c.args.book.now.entries.items c.note.new.book.entries.items o (Err c.in-Err.halt)) c.entry_of.ensures c.in-Err.ensures.tells)

@@ -1,0 +1,108 @@
+use Rattle.std.proofs.Common.{◌≡◌, map, [], ◌∷◌, ◌++◌, None, Ok, Err, inl, inr, refl, sym, ◌∙◌, subst, arith}
+use Rattle.std.specs.Bool.{IsTrue}
+use Rattle.std.specs.List.{list_all}
+use Rattle.cf_handler.specs.Name.{is_lane_name}
+use Rattle.cf_plan.specs.Going.{IsOver}
+use Rattle.cf_top.specs.Book.{world_of}
+use Rattle.cf_top.specs.Creating.{next_number}
+use Rattle.cf_top.specs.Lanes.{kinds_of}
+use Rattle.cf_top.specs.Opening.{EnterTells, missing, opening, twice}
+use Rattle.cf_top.proofs.Entered.{entered, not_entered}
+use Rattle.cf_top.proofs.meeting.deploy_on.Goals as goal
+
+pub returns-in-Ok-deploy_in-clause-over : goal.returns-in-Ok-deploy_in-clause-over
+returns-in-Ok-deploy_in-clause-over g c = (
+  next_number c.enter.new.book.entries.items,
+  subst (λ x. IsOver (next_number c.enter.new.book.entries.items) c.args.stack.now x) (sym c.in-Ok-deploy_in.ensures.open.world) c.in-Ok-deploy_in.ensures.over,
+)
+
+pub returns-in-Ok-deploy_in-clause-tells : goal.returns-in-Ok-deploy_in-clause-tells
+returns-in-Ok-deploy_in-clause-tells g c =
+    let old = c.in-Ok.book.entries.items in
+    let t = subst (λ xs. (twice (map g.H.Handler.label xs) ≡ None) × (missing (map g.H.Handler.label xs) (kinds_of (map g.H.Handler.schema_of xs)) (world_of old) ≡ None) × (c.enter.new.book.entries.items ≡ old ++ opening (map g.H.Handler.label xs) (kinds_of (map g.H.Handler.schema_of xs)) (world_of old) ∷ [])) c.as_slice.ensures.value c.in-Ok-enter.ensures.tells in
+    entered (record {
+      shelf = record {
+        texts = g.L.Library.texts c.args.library.now;
+        faults = g.L.Library.count c.args.library.now;
+        faults' = g.L.Library.count c.deploy_in.new.library;
+        misses = g.L.Library.missed c.args.library.now;
+        misses' = g.L.Library.missed c.deploy_in.new.library;
+      };
+      names = map g.H.Handler.label c.args.lanes.now.items;
+      schemas = map g.H.Handler.schema_of c.args.lanes.now.items;
+      told = map g.H.Handler.told c.args.lanes.now.items;
+      told' = map g.H.Handler.told c.deploy_in.new.lanes.items;
+      counts = map g.H.Handler.count c.args.lanes.now.items;
+      counts' = map g.H.Handler.count c.deploy_in.new.lanes.items;
+      tells = g.D.Disk.tells;
+      bytes = g.D.Disk.seen c.args.disk.now;
+      bytes' = g.D.Disk.seen c.deploy_in.new.disk;
+      room = g.D.Disk.room_of c.args.disk.now;
+      faults = g.D.Disk.count c.args.disk.now;
+      faults' = g.D.Disk.count c.deploy_in.new.disk;
+    })
+    c.args.stack.now c.args.choice.now (Ok tt) c.in-Ok.book.entries.items c.enter.new.book.entries.items c.deploy_in.new.book.entries.items (g.D.Disk.room_of c.enter.new.disk) (g.D.Disk.count c.enter.new.disk)
+    (omega (arith, c.in-Ok.ensures.count, c.in-Ok-enter.ensures.count)) c.in-Ok.ensures.found (t.0, t.1)
+    (subst (λ xs. IsTrue (list_all is_lane_name (map g.H.Handler.label xs))) c.as_slice.ensures.value c.in-Ok-enter.ensures.named) t.2
+    (c.in-Ok-enter.ensures.room ∙ c.in-Ok.ensures.room) c.in-Ok-deploy_in.ensures.tells
+
+pub returns-in-Err-deploy_in-clause-tells : goal.returns-in-Err-deploy_in-clause-tells
+returns-in-Err-deploy_in-clause-tells g c =
+    let old = c.in-Ok.book.entries.items in
+    let t = subst (λ xs. (twice (map g.H.Handler.label xs) ≡ None) × (missing (map g.H.Handler.label xs) (kinds_of (map g.H.Handler.schema_of xs)) (world_of old) ≡ None) × (c.enter.new.book.entries.items ≡ old ++ opening (map g.H.Handler.label xs) (kinds_of (map g.H.Handler.schema_of xs)) (world_of old) ∷ [])) c.as_slice.ensures.value c.in-Ok-enter.ensures.tells in
+    inr (inr (
+      c.deploy_in.new.book.entries.items,
+      entered (record {
+        shelf = record {
+          texts = g.L.Library.texts c.args.library.now;
+          faults = g.L.Library.count c.args.library.now;
+          faults' = g.L.Library.count c.deploy_in.new.library;
+          misses = g.L.Library.missed c.args.library.now;
+          misses' = g.L.Library.missed c.deploy_in.new.library;
+        };
+        names = map g.H.Handler.label c.args.lanes.now.items;
+        schemas = map g.H.Handler.schema_of c.args.lanes.now.items;
+        told = map g.H.Handler.told c.args.lanes.now.items;
+        told' = map g.H.Handler.told c.deploy_in.new.lanes.items;
+        counts = map g.H.Handler.count c.args.lanes.now.items;
+        counts' = map g.H.Handler.count c.deploy_in.new.lanes.items;
+        tells = g.D.Disk.tells;
+        bytes = g.D.Disk.seen c.args.disk.now;
+        bytes' = g.D.Disk.seen c.deploy_in.new.disk;
+        room = g.D.Disk.room_of c.args.disk.now;
+        faults = g.D.Disk.count c.args.disk.now;
+        faults' = g.D.Disk.count c.deploy_in.new.disk;
+      })
+          c.args.stack.now c.args.choice.now (Err c.in-Err-deploy_in.exit) c.in-Ok.book.entries.items c.enter.new.book.entries.items c.deploy_in.new.book.entries.items (g.D.Disk.room_of c.enter.new.disk) (g.D.Disk.count c.enter.new.disk)
+          (omega (arith, c.in-Ok.ensures.count, c.in-Ok-enter.ensures.count)) c.in-Ok.ensures.found (t.0, t.1)
+          (subst (λ xs. IsTrue (list_all is_lane_name (map g.H.Handler.label xs))) c.as_slice.ensures.value c.in-Ok-enter.ensures.named) t.2
+          (c.in-Ok-enter.ensures.room ∙ c.in-Ok.ensures.room) c.in-Err-deploy_in.ensures.tells,
+    ))
+
+pub returns-in-Err-enter-clause-tells : goal.returns-in-Err-enter-clause-tells
+returns-in-Err-enter-clause-tells g c =
+    not_entered (record {
+      shelf = record {
+        texts = g.L.Library.texts c.args.library.now;
+        faults = g.L.Library.count c.args.library.now;
+        faults' = g.L.Library.count c.args.library.now;
+        misses = g.L.Library.missed c.args.library.now;
+        misses' = g.L.Library.missed c.args.library.now;
+      };
+      names = map g.H.Handler.label c.args.lanes.now.items;
+      schemas = map g.H.Handler.schema_of c.args.lanes.now.items;
+      told = map g.H.Handler.told c.args.lanes.now.items;
+      told' = map g.H.Handler.told c.args.lanes.now.items;
+      counts = map g.H.Handler.count c.args.lanes.now.items;
+      counts' = map g.H.Handler.count c.args.lanes.now.items;
+      tells = g.D.Disk.tells;
+      bytes = g.D.Disk.seen c.args.disk.now;
+      bytes' = g.D.Disk.seen c.enter.new.disk;
+      room = g.D.Disk.room_of c.args.disk.now;
+      faults = g.D.Disk.count c.args.disk.now;
+      faults' = g.D.Disk.count c.enter.new.disk;
+    })
+    c.args.stack.now c.args.choice.now c.in-Err-enter.exit c.in-Ok.book.entries.items c.enter.new.book.entries.items (g.D.Disk.room_of c.open.new.disk) (g.D.Disk.count c.open.new.disk)
+    c.in-Ok.ensures.count c.in-Ok.ensures.found c.in-Ok.ensures.room
+    (subst (λ xs. EnterTells g.D.Disk.tells (g.D.Disk.seen c.enter.new.disk) (g.D.Disk.room_of c.open.new.disk) (g.D.Disk.count c.open.new.disk) (g.D.Disk.count c.enter.new.disk) (map g.H.Handler.label xs) (kinds_of (map g.H.Handler.schema_of xs)) c.in-Ok.book.entries.items c.enter.new.book.entries.items (Err c.in-Err-enter.exit)) c.as_slice.ensures.value c.in-Err-enter.ensures.tells)
+    (refl, refl) (refl, refl)

@@ -1,0 +1,46 @@
+use Rattle.std.proofs.Common.{◌≡◌, ◌∙◌, Bool, false, Some, refl, inl, inr, sym, ap, subst}
+use Rattle.cf_face.specs.declared.words.Command.{Command}
+use Rattle.cf_face.specs.Words.{command_of}
+use Rattle.cf_face.specs.declared.exit.Exit.TheVariants as exit
+use Rattle.cf_stacks.specs.Words.{stack_at}
+use Rattle.cf_top.specs.Answer.{DescribesIn, is_asking}
+use Rattle.cf_top.proofs.top.answer.Goals as goal
+
+pub returns-in-Ok-Some-Deploy-clause-answered : goal.returns-in-Ok-Some-Deploy-clause-answered
+returns-in-Ok-Some-Deploy-clause-answered g c =
+    let asks : is_asking (command_of c.args.words.now) ≡ false =
+    sym (ap is_asking c.in-Ok-Some-Deploy.ensures) ∙ ap is_asking c.in-Ok-Some-Deploy.field-0-is ∙ ap (λ (d : Command). is_asking (Some d)) c.in-Ok-Some-Deploy.field-0-0-is in
+    inr (inr (exit.BadWords, inl (refl, asks), (refl, refl), refl, refl, c.print_exit-in-Ok-Some-Deploy.ensures.tells))
+
+pub returns-in-Ok-None-clause-answered : goal.returns-in-Ok-None-clause-answered
+returns-in-Ok-None-clause-answered g c =
+    let asks : is_asking (command_of c.args.words.now) ≡ false = sym (ap is_asking c.in-Ok-None.ensures) ∙ ap is_asking c.in-Ok-None.field-0-is in
+    inr (inr (exit.BadWords, inl (refl, asks), (refl, refl), refl, refl, c.print_exit-in-Ok-None.ensures.tells))
+
+pub returns-clause-answered : goal.returns-clause-answered
+returns-clause-answered g c = inr (inr (exit.NoMemory, inr refl, (refl, refl), refl, refl, c.print_exit-in-Err.ensures.tells))
+
+pub returns-in-Ok-clause-answered : goal.returns-in-Ok-clause-answered
+returns-in-Ok-clause-answered g c =
+    inr (inl (
+      c.in-Ok-Some-Describe.stack,
+      sym c.in-Ok-Some-Describe.ensures ∙ c.in-Ok-Some-Describe.field-0-is ∙ ap (λ (d : Command). Some d) c.in-Ok-Some-Describe.field-0-0-is,
+      (refl, refl),
+      c.in-Ok.ensures.kept,
+      inl (
+        c.in-Ok.book.entries.items,
+        c.in-Ok.ensures.found,
+        c.in-Ok.ensures.open.holds,
+        subst (λ x. DescribesIn c.in-Ok-Some-Describe.stack (record { held = g.K.Sink.held c.args.out.now; held' = g.K.Sink.held c.describe.new.out; faults = g.K.Sink.count c.args.out.now; faults' = g.K.Sink.count c.describe.new.out }) (stack_at c.in-Ok-Some-Describe.stack x) c.describe.result) c.in-Ok.ensures.open.world c.describe.ensures.tells,
+      ),
+    ))
+
+pub returns-in-Ok-Some-Describe-clause-answered : goal.returns-in-Ok-Some-Describe-clause-answered
+returns-in-Ok-Some-Describe-clause-answered g c =
+    inr (inl (
+      c.in-Ok-Some-Describe.stack,
+      sym c.in-Ok-Some-Describe.ensures ∙ c.in-Ok-Some-Describe.field-0-is ∙ ap (λ (d : Command). Some d) c.in-Ok-Some-Describe.field-0-0-is,
+      (refl, refl),
+      c.in-Err-open.ensures.kept,
+      inr (c.in-Err-open.exit, c.in-Err-open.ensures.cause, c.print_exit-in-Err-open.ensures.tells),
+    ))

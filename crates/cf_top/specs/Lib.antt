@@ -1,0 +1,14 @@
+pub mod Lanes
+pub mod Scene
+pub mod Book
+pub mod Driving
+pub mod Creating
+pub mod Opening
+pub mod NotYet
+pub mod Refusals
+pub mod Telling
+pub mod Turning
+pub mod Deployment
+pub mod Meeting
+pub mod Alone
+pub mod Answer

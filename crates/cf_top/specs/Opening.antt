@@ -1,0 +1,117 @@
+-- The opening of a journal over lanes (this project's own format, docs/JOURNAL.md).
+use Rattle.std.specs.Prelude.{◌≡◌, ℕ, ◌+◌, ◌&&◌, ◌||◌, Bool, false, List, [], ◌∷◌, ◌++◌, All, map, fold, codes, nat_lt, if◌then◌else◌, find, Option, Some, None, Result, Ok, Err, IsTrue, ⊤}
+use Rattle.std.specs.Str.{bytes_eq}
+use Rattle.std.specs.Option.{option_map_or}
+use Rattle.cf_funcs.specs.Pieces.{cut_at}
+use Rattle.cf_tree.specs.Keys.{bytes_lt}
+use Rattle.cf_tree.specs.declared.request.Request.{Request}
+use Rattle.cf_tree.specs.declared.request.Request.TheVariants as request
+use Rattle.cf_tree.specs.Counts.{HasRisen}
+use Rattle.cf_tree.specs.Lists.{is_among}
+use Rattle.cf_entry.specs.declared.entry.Entry.{Entry}
+use Rattle.cf_entry.specs.declared.entry.Entry.TheVariants as entry
+use Rattle.cf_stacks.specs.declared.held.Held.{Held}
+use Rattle.cf_stacks.specs.declared.held.Pending.{Pending}
+use Rattle.cf_stacks.specs.declared.state.StackState.{StackState}
+use Rattle.cf_stacks.specs.declared.state.World.{World}
+use Rattle.cf_stacks.specs.Changing.{IsFlatEntry}
+use Rattle.cf_journal.specs.Record.{record_of}
+use Rattle.cf_face.specs.declared.exit.Exit.{Exit}
+use Rattle.cf_face.specs.declared.exit.Exit.TheVariants as exit
+use Rattle.cf_face.specs.declared.exit.Refusal.TheVariants as refusal
+use Rattle.cf_top.specs.declared.book.Halt.{Halt}
+use Rattle.cf_top.specs.declared.book.Halt.TheVariants as halt
+use Rattle.cf_top.specs.Book.{Holds, HaltsAt, world_of}
+use Rattle.cf_top.specs.Lanes.{lane_pairs}
+
+-- how many of the names are this one
+abbrev pub number_named : List ℕ → List (List ℕ) → ℕ
+number_named name [] = 0
+number_named name (n ∷ names) = if bytes_eq name n then number_named name names + 1 else number_named name names
+
+abbrev pub is_shared : List (List ℕ) → List ℕ → Bool
+is_shared names name = nat_lt 1 (number_named name names)
+
+-- the first name that two lanes have
+abbrev pub twice : List (List ℕ) → Option (List ℕ)
+twice names = find (is_shared names) names
+
+-- a lane of this name and type is handed in
+abbrev pub has_lane : List (List ℕ) → List (List ℕ) → List ℕ → List ℕ → Bool
+has_lane (n ∷ names) (k ∷ kinds) name kind = (bytes_eq name n && bytes_eq kind k) || has_lane names kinds name kind
+has_lane _ _ name kind = false
+
+-- the lane that a physical id names: what stands before its first colon
+abbrev pub lane_of : List ℕ → List ℕ
+lane_of physical = option_map_or (λ c. c.0) (cut_at (codes ":") physical) physical
+
+-- a lane that is needed: its name, and the type where it has to be of one
+abbrev pub Need : Type 0
+Need = List ℕ × Option (List ℕ)
+
+abbrev pub need_of_held : Held → Need
+need_of_held h = (lane_of h.physical, Some h.kind)
+
+abbrev pub kind_made : Request → Option (List ℕ)
+kind_made (request.Create kind props) = Some kind
+kind_made _ = None
+
+abbrev pub need_of_call : Pending → Need
+need_of_call p = (p.lane, kind_made p.request)
+
+-- a stack needs the lanes of its resources and of its open calls
+abbrev pub needs_of : StackState → List Need
+needs_of s = (map need_of_held s.held ++ map need_of_held s.made) ++ map need_of_call s.tokens
+
+-- the lane is handed in
+abbrev pub is_met : List (List ℕ) → List (List ℕ) → Need → Bool
+is_met names kinds (name, None) = is_among name names
+is_met names kinds (name, Some kind) = has_lane names kinds name kind
+
+-- the lower of a name and the best one so far, in the order of their bytes
+abbrev pub lower : Option (List ℕ) → List ℕ → Option (List ℕ)
+lower None name = Some name
+lower (Some best) name = if bytes_lt name best then Some name else Some best
+
+abbrev pub or_missing : List (List ℕ) → List (List ℕ) → Option (List ℕ) → Need → Option (List ℕ)
+or_missing names kinds best need = if is_met names kinds need then best else lower best need.0
+
+abbrev pub missing_in : List (List ℕ) → List (List ℕ) → Option (List ℕ) → List Need → Option (List ℕ)
+missing_in names kinds best needs = fold (or_missing names kinds) best needs
+
+-- the first name in the order of bytes of a lane that a stack needs and that is not handed in
+abbrev pub missing : List (List ℕ) → List (List ℕ) → World → Option (List ℕ)
+missing names kinds x = fold (λ best s. missing_in names kinds best (needs_of s.1)) None x.stacks
+
+-- the opening of a world over these lanes
+abbrev pub opening : List (List ℕ) → List (List ℕ) → World → Entry
+opening names kinds x = entry.Opened (x.epoch + 1) (lane_pairs names kinds)
+
+-- the exit of a run that halted
+abbrev pub exit_of : Halt → Exit
+exit_of (halt.Full length need room) = exit.Full length need room
+exit_of halt.DiskFault = exit.DiskFault
+exit_of halt.NoMemory = exit.NoMemory
+
+-- why no journal was opened: there is none on these bytes of a disk that tells them, or it begins an operation by a nested source, which can't be folded yet; its count of faults rose; or memory was not there
+abbrev pub HasOpenCause : Bool → List ℕ → ℕ → ℕ → Exit → Type 0
+HasOpenCause tells bytes faults faults' (exit.NotAJournal offset) = IsTrue tells → record_of bytes ≡ Err offset
+HasOpenCause tells bytes faults faults' (exit.TemplateRefused (refusal.NotYet name)) =
+    (name ≡ []) × (IsTrue tells → (es : List Entry) × (record_of bytes ≡ Ok es) × ¬ All IsFlatEntry es)
+HasOpenCause tells bytes faults faults' exit.DiskFault = HasRisen faults faults'
+HasOpenCause tells bytes faults faults' exit.NoMemory = ⊤
+HasOpenCause tells bytes faults faults' _ = ⊥
+
+-- The opening is written where no two lanes have one name and none is missing. Else the first such name is told and nothing is written, or the opening could not be.
+abbrev pub EnterTells : Bool → List ℕ → ℕ → ℕ → ℕ → List (List ℕ) → List (List ℕ) → List Entry → List Entry → Result (Unit {0}) Exit → Type 0
+EnterTells tells bytes room faults faults' names kinds es es' (Ok done) =
+    (twice names ≡ None) × (missing names kinds (world_of es) ≡ None) × (es' ≡ es ++ opening names kinds (world_of es) ∷ [])
+EnterTells tells bytes room faults faults' names kinds es es' (Err (exit.LaneTwice name)) = (twice names ≡ Some name) × Holds tells bytes es
+EnterTells tells bytes room faults faults' names kinds es es' (Err (exit.LaneMissing name)) =
+    (twice names ≡ None) × (missing names kinds (world_of es) ≡ Some name) × Holds tells bytes es
+EnterTells tells bytes room faults faults' names kinds es es' (Err (exit.Full length need r)) =
+    (twice names ≡ None) × (missing names kinds (world_of es) ≡ None) × HaltsAt tells bytes room faults faults' es (opening names kinds (world_of es)) (halt.Full length need r)
+EnterTells tells bytes room faults faults' names kinds es es' (Err exit.DiskFault) =
+    (twice names ≡ None) × (missing names kinds (world_of es) ≡ None) × HaltsAt tells bytes room faults faults' es (opening names kinds (world_of es)) halt.DiskFault
+EnterTells tells bytes room faults faults' names kinds es es' (Err exit.NoMemory) = Holds tells bytes es
+EnterTells tells bytes room faults faults' names kinds es es' (Err _) = ⊥

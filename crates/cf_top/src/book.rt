@@ -1,0 +1,102 @@
+//! The journal of a run, its entries, and the world that they leave.
+ghost use Rattle.std.specs.Prelude.{◌≡◌, ◌≤◌, ◌<◌, OnOk, length, vec_len, vec_capacity};
+ghost use Rattle.cf_tree.specs.SizeOf.{capped};
+ghost use Rattle.cf_entry.specs.Entry.{IsProper, spelling_of};
+ghost use Rattle.cf_stacks.specs.Changing.{IsFlatEntry};
+ghost use Rattle.cf_stacks.specs.Room.{HasRoom};
+ghost use Rattle.cf_journal.specs.Record.{Stands, spare_of};
+ghost use Rattle.cf_top.specs.Book.{IsOpen, Holds, AppendTells, world_of};
+
+use cf_disk::Disk;
+use cf_entry::{Entry, entry_size};
+use cf_journal::{AppendFault, Journal};
+use cf_stacks::{StepFault, World};
+use cf_tree::TryClone;
+use std::alloc::Global;
+
+/// A journal that is open for more entries, with those that it has.
+#[derive(Drop)]
+pub struct Book {
+    pub journal: Journal,
+    pub entries: Vec<Entry>,
+    /// What the entries leave.
+    pub world: World,
+}
+
+/// Why a run can't go on.
+#[derive(Clone, Copy, Debug, Drop, PartialEq, Eq)]
+pub enum Halt {
+    /// The journal's length and the bytes that the next entry needs pass the disk's room.
+    Full { length: u64, need: u64, room: u64 },
+    /// The disk failed.
+    DiskFault,
+    /// Memory was not there.
+    NoMemory,
+}
+
+/// Appends an entry to the journal of the disk and to the book's entries, and steps the world over it.
+///
+/// After `Full` and `NoMemory` the disk has its old entries. After `DiskFault` it has the entry or not, and the journal
+/// must be recovered again. After each of these nothing is said of the world.
+pub fn append<D: Disk>(
+    alloc: Global,
+    book: &mut Book,
+    disk: &mut D,
+    entry: Entry,
+) -> Result<(), Halt>
+    requires open { IsOpen D.tells D.seen D.may_leave D.room_of book.old disk.old }
+    requires proper { IsProper entry }
+    requires flat { IsFlatEntry entry }
+    ensures open { OnOk result (IsOpen D.tells D.seen D.may_leave D.room_of book.new disk.new) }
+    ensures room { D.room_of disk.new ≡ D.room_of disk.old }
+    ensures count { D.count disk.old ≤ D.count disk.new }
+    ensures tells { AppendTells D.tells (D.seen disk.new) (D.room_of disk.old) (D.count disk.old) (D.count disk.new) book.old.entries.items book.new.entries.items entry result }
+{
+    // All memory is taken first, so that want of it leaves the disk as it was.
+    match book.world.room_for(alloc, &entry) {
+        Ok(()) => match (
+            entry.try_clone(alloc),
+            book.entries.reserve(1),
+            book.journal.reserve(entry_size(&entry)),
+        ) {
+            (Ok(copy), Ok(()), Ok(())) => write(alloc, book, disk, entry, copy),
+            _ => Err(Halt::NoMemory),
+        },
+        Err(StepFault::NoMemory) => Err(Halt::NoMemory),
+        Err(StepFault::Nested) => unreachable!(),
+    }
+}
+
+/// Appends an entry for which there is memory and room in the world; with a copy of it for the book. A run makes one call at a time
+/// and asks for the room of its outcome when the answer is there, so that no room is kept over it.
+fn write<D: Disk>(
+    alloc: Global,
+    book: &mut Book,
+    disk: &mut D,
+    entry: Entry,
+    copy: Entry,
+) -> Result<(), Halt>
+    requires stands { Stands D.tells D.seen D.may_leave D.room_of book.old.journal disk.old }
+    requires holds { Holds D.tells (D.seen disk.old) book.old.entries.items }
+    requires world { book.old.world ≡ record (world_of book.old.entries.items) { ready = book.old.world.ready; rooms = book.old.world.rooms } }
+    requires made { HasRoom book.old.world entry }
+    requires proper { IsProper entry }
+    requires copied { copy ≡ entry }
+    requires memory { vec_len book.old.entries < vec_capacity book.old.entries }
+    requires spare { capped (length (spelling_of entry)) ≤ spare_of book.old.journal }
+    ensures open { OnOk result (IsOpen D.tells D.seen D.may_leave D.room_of book.new disk.new) }
+    ensures room { D.room_of disk.new ≡ D.room_of disk.old }
+    ensures count { D.count disk.old ≤ D.count disk.new }
+    ensures tells { AppendTells D.tells (D.seen disk.new) (D.room_of disk.old) (D.count disk.old) (D.count disk.new) book.old.entries.items book.new.entries.items entry result }
+{
+    match book.journal.append(disk, &entry) {
+        Ok(()) => {
+            book.entries.push_reserved(copy);
+            book.world.step(entry);
+            book.world.give_up_rooms(alloc);
+            Ok(())
+        }
+        Err(AppendFault::Full { length, need, room }) => Err(Halt::Full { length, need, room }),
+        Err(AppendFault::DiskFault) => Err(Halt::DiskFault),
+    }
+}

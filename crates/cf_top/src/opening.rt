@@ -1,0 +1,373 @@
+//! The opening of a journal over lanes.
+ghost use Rattle.std.specs.Prelude.{◌≡◌, ◌≤◌, ◌^◌, [], map, option_copied, option_map, IfOk, IfErr, OnOk, IsTrue, None};
+ghost use Rattle.std.specs.List.{list_all};
+ghost use Rattle.cf_tree.specs.Lists.{is_among};
+ghost use Rattle.cf_handler.specs.Name.{is_lane_name};
+ghost use Rattle.cf_journal.specs.Record.{Keeps};
+ghost use Rattle.cf_face.specs.declared.exit.Exit.TheVariants.{TemplateRefused};
+ghost use Rattle.cf_face.specs.declared.exit.Refusal.TheVariants.{NotYet};
+ghost use Rattle.cf_top.specs.Book.{IsOpen, Holds, world_of};
+ghost use Rattle.cf_top.specs.Lanes.{kinds_of, lane_pairs};
+ghost use Rattle.cf_top.specs.Opening.{EnterTells, HasOpenCause, exit_of, has_lane, is_met, kind_made, lane_of, lower, missing, missing_in, need_of_call, need_of_held, needs_of, number_named, opening, or_missing, twice};
+
+use crate::book::{Book, Halt, append};
+use cf_disk::Disk;
+use cf_entry::{Entry, LaneNames};
+use cf_face::{Exit, Refusal};
+use cf_funcs::cut;
+use cf_handler::Handler;
+use cf_journal::{RecoverFault, recover};
+use cf_stacks::{Held, Pending, StackState, StepFault, World, fold};
+use cf_tree::{Request, TryClone, Txt};
+use std::alloc::{AllocError, Global};
+
+/// The exit of a run that halted.
+pub fn exit_of(halt: Halt) -> Exit
+    ensures { result ≡ exit_of halt }
+{
+    match halt {
+        Halt::Full { length, need, room } => Exit::Full { length, need, room },
+        Halt::DiskFault => Exit::DiskFault,
+        Halt::NoMemory => Exit::NoMemory,
+    }
+}
+
+/// The journal of a disk, with its entries and the world that they leave; a disk that holds none
+/// gets a new one.
+///
+/// After each answer the disk has the entries that it had; bytes that are no journal are as they
+/// were.
+///
+/// # Errors
+///
+/// `NotAJournal` comes exactly where the disk's bytes are no journal, `DiskFault` only where its
+/// count of faults rose, and `TemplateRefused` only where an operation of the journal works by a
+/// source with a nested stack, which is not made yet.
+pub fn open<D: Disk>(alloc: Global, disk: &mut D) -> Result<Book, Exit>
+    requires least { 16 ≤ D.room_of disk.old }
+    requires most { D.room_of disk.old ≤ 2 ^ 32 }
+    ensures open { IfOk result (λ book. IsOpen D.tells D.seen D.may_leave D.room_of book disk.new) }
+    ensures found { IfOk result (λ book. Holds D.tells (D.seen disk.old) book.entries.items) }
+    ensures kept { IsTrue D.tells → Keeps (D.seen disk.old) (D.seen disk.new) }
+    ensures cause { IfErr result (HasOpenCause D.tells (D.seen disk.old) (D.count disk.old) (D.count disk.new)) }
+    ensures room { D.room_of disk.new ≡ D.room_of disk.old }
+    ensures count { D.count disk.old ≤ D.count disk.new }
+{
+    match recover(alloc, disk) {
+        Ok((journal, entries)) => match fold(alloc, &entries) {
+            Ok(world) => Ok(Book {
+                journal,
+                entries: entries.into_vec(),
+                world,
+            }),
+            Err(StepFault::Nested) => Err(not_yet(alloc)),
+            Err(StepFault::NoMemory) => Err(Exit::NoMemory),
+        },
+        Err(RecoverFault::NotAJournal { offset }) => Err(Exit::NotAJournal { offset }),
+        Err(RecoverFault::DiskFault) => Err(Exit::DiskFault),
+        Err(RecoverFault::NoMemory) => Err(Exit::NoMemory),
+    }
+}
+
+/// The exit where the journal holds what is not made yet.
+fn not_yet(alloc: Global) -> Exit
+    ensures { result ≡ TemplateRefused (NotYet []) }
+{
+    Exit::TemplateRefused {
+        fault: Refusal::NotYet {
+            name: Txt::new(String::new(alloc)),
+        },
+    }
+}
+
+/// How many lanes have the name.
+fn number_named<H: Handler>(lanes: &[H], name: &str) -> usize
+    ensures { result ≡ number_named name.now (map H.label lanes.now) }
+{
+    let mut number = 0;
+    for lane in lanes.iter() {
+        if name == lane.name() {
+            number += 1;
+        }
+    }
+    number
+}
+
+/// The first name that two lanes have.
+fn first_twice<H: Handler>(alloc: Global, lanes: &[H]) -> Result<Option<Txt>, AllocError>
+    ensures { IfOk result (λ name. name ≡ twice (map H.label lanes.now)) }
+{
+    for lane in lanes.iter() {
+        if number_named(lanes, lane.name()) > 1 {
+            return Ok(Some(Txt::from_str(alloc, lane.name())?));
+        }
+    }
+    Ok(None)
+}
+
+/// Whether a lane of this name and type is handed in.
+fn has_lane<H: Handler>(lanes: &[H], name: &str, kind: &str) -> bool
+    ensures { result ≡ has_lane (map H.label lanes.now) (kinds_of (map H.schema_of lanes.now)) name.now kind.now }
+{
+    for lane in lanes.iter() {
+        if name == lane.name() && lane.schema().kind.is(kind) {
+            return true;
+        }
+    }
+    false
+}
+
+/// Whether a lane of this name is handed in.
+fn is_named<H: Handler>(lanes: &[H], name: &str) -> bool
+    ensures { result ≡ is_among name.now (map H.label lanes.now) }
+{
+    for lane in lanes.iter() {
+        if name == lane.name() {
+            return true;
+        }
+    }
+    false
+}
+
+/// The lane that a physical id names.
+fn lane_of(physical: &Txt) -> &str
+    ensures { result.now ≡ lane_of physical.now }
+{
+    match cut(physical.as_str(), ":") {
+        Some((lane, _)) => lane,
+        None => physical.as_str(),
+    }
+}
+
+/// Whether the lane is handed in: one of this name, and of this type where there is one.
+fn is_met<H: Handler>(lanes: &[H], name: &str, kind: Option<&Txt>) -> bool
+    ensures { result ≡ is_met (map H.label lanes.now) (kinds_of (map H.schema_of lanes.now)) (name.now, option_copied kind.entry) }
+{
+    match kind {
+        Some(kind) => has_lane(lanes, name, kind.as_str()),
+        None => is_named(lanes, name),
+    }
+}
+
+/// The lower of a name and the best one so far.
+fn lower(alloc: Global, best: Option<Txt>, name: &str) -> Result<Option<Txt>, AllocError>
+    ensures { IfOk result (λ b. b ≡ lower best name.now) }
+{
+    match best {
+        Some(best) => {
+            if name < best.as_str() {
+                Ok(Some(Txt::from_str(alloc, name)?))
+            } else {
+                Ok(Some(best))
+            }
+        }
+        None => Ok(Some(Txt::from_str(alloc, name)?)),
+    }
+}
+
+/// The lower of a lane that is needed, where it is missing, and the best one so far.
+fn or_missing<H: Handler>(
+    alloc: Global,
+    lanes: &[H],
+    best: Option<Txt>,
+    name: &str,
+    kind: Option<&Txt>,
+) -> Result<Option<Txt>, AllocError>
+    ensures { IfOk result (λ b. b ≡ or_missing (map H.label lanes.now) (kinds_of (map H.schema_of lanes.now)) best (name.now, option_copied kind.entry)) }
+{
+    if is_met(lanes, name, kind) {
+        Ok(best)
+    } else {
+        lower(alloc, best, name)
+    }
+}
+
+/// The same for the lanes of resources.
+fn missing_of_helds<H: Handler>(
+    alloc: Global,
+    lanes: &[H],
+    first: Option<Txt>,
+    helds: &[Held],
+) -> Result<Option<Txt>, AllocError>
+    ensures { IfOk result (λ b. b ≡ missing_in (map H.label lanes.now) (kinds_of (map H.schema_of lanes.now)) first (map need_of_held helds.now)) }
+{
+    let mut best = first;
+    for held in helds.iter() {
+        best = or_missing(
+            alloc,
+            lanes,
+            best,
+            lane_of(&held.physical),
+            Some(&held.kind),
+        )?;
+    }
+    Ok(best)
+}
+
+/// The type that a request makes a resource of.
+fn kind_made(request: &Request) -> Option<&Txt>
+    ensures { option_copied result ≡ kind_made request.now }
+{
+    match request {
+        Request::Create { kind, props: _ } => Some(kind),
+        Request::Update {
+            physical: _,
+            props: _,
+        } => None,
+        Request::Delete { physical: _ } => None,
+    }
+}
+
+/// The same for the lanes of open calls.
+fn missing_of_calls<H: Handler>(
+    alloc: Global,
+    lanes: &[H],
+    first: Option<Txt>,
+    calls: &[Pending],
+) -> Result<Option<Txt>, AllocError>
+    ensures { IfOk result (λ b. b ≡ missing_in (map H.label lanes.now) (kinds_of (map H.schema_of lanes.now)) first (map need_of_call calls.now)) }
+{
+    let mut best = first;
+    for call in calls.iter() {
+        best = or_missing(
+            alloc,
+            lanes,
+            best,
+            call.lane.as_str(),
+            kind_made(&call.request),
+        )?;
+    }
+    Ok(best)
+}
+
+/// The same for the lanes of a stack.
+#[tactic(auto, using(crate::proofs::Openings::missing_three))]
+fn missing_of_stack<H: Handler>(
+    alloc: Global,
+    lanes: &[H],
+    best: Option<Txt>,
+    stack: &StackState,
+) -> Result<Option<Txt>, AllocError>
+    ensures { IfOk result (λ b. b ≡ missing_in (map H.label lanes.now) (kinds_of (map H.schema_of lanes.now)) best (needs_of stack.now)) }
+{
+    let best = missing_of_helds(alloc, lanes, best, stack.held.as_slice())?;
+    let best = missing_of_helds(alloc, lanes, best, stack.made.as_slice())?;
+    missing_of_calls(alloc, lanes, best, stack.tokens.as_slice())
+}
+
+/// The first name in the order of bytes of a lane that a stack needs and that is not handed in.
+fn first_missing<H: Handler>(
+    alloc: Global,
+    lanes: &[H],
+    world: &World,
+) -> Result<Option<Txt>, AllocError>
+    ensures { IfOk result (λ name. name ≡ missing (map H.label lanes.now) (kinds_of (map H.schema_of lanes.now)) world.now) }
+{
+    let mut best = None;
+    for stack in world.stacks.as_slice().iter() {
+        best = missing_of_stack(alloc, lanes, best, &stack.1)?;
+    }
+    Ok(best)
+}
+
+/// The name and the type of each lane, in the order handed in.
+fn lane_names<H: Handler>(alloc: Global, lanes: &[H]) -> Result<LaneNames, AllocError>
+    ensures pairs { IfOk result (λ names. names ≡ lane_pairs (map H.label lanes.now) (kinds_of (map H.schema_of lanes.now))) }
+    ensures named { IfOk result (λ _. IsTrue (list_all is_lane_name (map H.label lanes.now))) }
+{
+    let mut names = LaneNames::new(alloc);
+    for lane in lanes.iter() {
+        let name = Txt::from_str(alloc, lane.name())?;
+        let kind = lane.schema().kind.try_clone(alloc)?;
+        names.push((name, kind))?;
+    }
+    Ok(names)
+}
+
+/// The entry of an opening over these lanes; past the last number there is none.
+fn opening<H: Handler>(alloc: Global, world: &World, lanes: &[H]) -> Result<Entry, AllocError>
+    ensures entry { IfOk result (λ e. e ≡ opening (map H.label lanes.now) (kinds_of (map H.schema_of lanes.now)) world.now) }
+    ensures named { IfOk result (λ _. IsTrue (list_all is_lane_name (map H.label lanes.now))) }
+{
+    let epoch = match world.epoch.checked_add(1) {
+        Some(epoch) => epoch,
+        None => return Err(AllocError),
+    };
+    let lanes = lane_names(alloc, lanes)?;
+    Ok(Entry::Opened { epoch, lanes })
+}
+
+/// Appends the opening over these lanes, whose names differ and among which are all that the entries need.
+///
+/// `LaneTwice` comes exactly where two lanes have one name, with the first such name; else `LaneMissing` exactly where a
+/// resource or an open token is of a lane, by name and type, that is not handed in, with the first such name in the order
+/// of bytes; and `Full` exactly where the disk has no room for the entry.
+pub fn enter<D: Disk, H: Handler>(
+    alloc: Global,
+    book: &mut Book,
+    disk: &mut D,
+    lanes: &[H],
+) -> Result<(), Exit>
+    requires { IsOpen D.tells D.seen D.may_leave D.room_of book.old disk.old }
+    ensures open { OnOk result (IsOpen D.tells D.seen D.may_leave D.room_of book.new disk.new) }
+    ensures room { D.room_of disk.new ≡ D.room_of disk.old }
+    ensures count { D.count disk.old ≤ D.count disk.new }
+    ensures tells { EnterTells D.tells (D.seen disk.new) (D.room_of disk.old) (D.count disk.old) (D.count disk.new) (map H.label lanes.now) (kinds_of (map H.schema_of lanes.now))
+        book.old.entries.items book.new.entries.items result }
+    ensures named { OnOk result (IsTrue (list_all is_lane_name (map H.label lanes.now))) }
+{
+    match first_twice(alloc, lanes) {
+        Ok(None) => enter_apart(alloc, book, disk, lanes),
+        Ok(Some(name)) => Err(Exit::LaneTwice { name }),
+        Err(_) => Err(Exit::NoMemory),
+    }
+}
+
+/// Appends the opening over lanes of which no two have one name.
+fn enter_apart<D: Disk, H: Handler>(
+    alloc: Global,
+    book: &mut Book,
+    disk: &mut D,
+    lanes: &[H],
+) -> Result<(), Exit>
+    requires open { IsOpen D.tells D.seen D.may_leave D.room_of book.old disk.old }
+    requires differ { twice (map H.label lanes.now) ≡ None }
+    ensures open { OnOk result (IsOpen D.tells D.seen D.may_leave D.room_of book.new disk.new) }
+    ensures room { D.room_of disk.new ≡ D.room_of disk.old }
+    ensures count { D.count disk.old ≤ D.count disk.new }
+    ensures tells { EnterTells D.tells (D.seen disk.new) (D.room_of disk.old) (D.count disk.old) (D.count disk.new) (map H.label lanes.now) (kinds_of (map H.schema_of lanes.now))
+        book.old.entries.items book.new.entries.items result }
+    ensures named { OnOk result (IsTrue (list_all is_lane_name (map H.label lanes.now))) }
+{
+    match first_missing(alloc, lanes, &book.world) {
+        Ok(None) => write_opening(alloc, book, disk, lanes),
+        Ok(Some(name)) => Err(Exit::LaneMissing { name }),
+        Err(_) => Err(Exit::NoMemory),
+    }
+}
+
+/// Appends the opening over these lanes.
+fn write_opening<D: Disk, H: Handler>(
+    alloc: Global,
+    book: &mut Book,
+    disk: &mut D,
+    lanes: &[H],
+) -> Result<(), Exit>
+    requires open { IsOpen D.tells D.seen D.may_leave D.room_of book.old disk.old }
+    requires differ { twice (map H.label lanes.now) ≡ None }
+    requires present { missing (map H.label lanes.now) (kinds_of (map H.schema_of lanes.now)) (world_of book.old.entries.items) ≡ None }
+    ensures open { OnOk result (IsOpen D.tells D.seen D.may_leave D.room_of book.new disk.new) }
+    ensures room { D.room_of disk.new ≡ D.room_of disk.old }
+    ensures count { D.count disk.old ≤ D.count disk.new }
+    ensures tells { EnterTells D.tells (D.seen disk.new) (D.room_of disk.old) (D.count disk.old) (D.count disk.new) (map H.label lanes.now) (kinds_of (map H.schema_of lanes.now))
+        book.old.entries.items book.new.entries.items result }
+    ensures named { OnOk result (IsTrue (list_all is_lane_name (map H.label lanes.now))) }
+{
+    match opening(alloc, &book.world, lanes) {
+        Ok(entry) => match append(alloc, book, disk, entry) {
+            Ok(()) => Ok(()),
+            Err(halt) => Err(exit_of(halt)),
+        },
+        Err(_) => Err(Exit::NoMemory),
+    }
+}

@@ -1,0 +1,200 @@
+//! What a command tells of a stack.
+ghost use Rattle.std.specs.Prelude.{◌≡◌, ◌≤◌, ◌++◌, [], if◌then◌else◌, filter_map, IfOk, None, Some};
+ghost use Rattle.std.specs.Option.{option_copied};
+ghost use Rattle.cf_tree.specs.Lists.{first_in};
+ghost use Rattle.cf_stacks.specs.declared.state.StackState.{StackState};
+ghost use Rattle.cf_stacks.specs.Words.{stack_at};
+ghost use Rattle.cf_stacks.specs.Operation.{is_of, own_of};
+ghost use Rattle.cf_plan.specs.Follow.{failed_in, failed_of};
+ghost use Rattle.cf_face.specs.Print.{PrintTells};
+ghost use Rattle.cf_face.specs.Report.{stack_report};
+ghost use Rattle.cf_top.specs.Telling.{cause_in, cause_of, described_exit, described_text, exit_for};
+
+use crate::book::Book;
+use cf_entry::{Cause, Entry, Phase, Status};
+use cf_face::{Exit, StackFault, print_exit, put, report};
+use cf_io::Sink;
+use cf_stacks::StackState;
+use cf_tree::{Names, NoMemory, TryClone, Txt};
+use std::alloc::{AllocError, Global};
+
+/// Whether an entry is of the operation of this number.
+fn is_of(operation: u64, entry: &Entry) -> bool
+    ensures { result ≡ is_of operation entry.now }
+{
+    match entry {
+        Entry::Opened { .. } | Entry::ChangeSet { .. } => false,
+        Entry::Begin { number, .. }
+        | Entry::Kept { number, .. }
+        | Entry::Intent { number, .. }
+        | Entry::Outcome { number, .. }
+        | Entry::Phase { number, .. }
+        | Entry::Done { number, .. } => operation == *number,
+    }
+}
+
+/// The cause for which an entry turns its operation back.
+fn cause_in(entry: &Entry) -> Option<&Cause>
+    ensures { option_copied result ≡ cause_in entry.now }
+{
+    match entry {
+        Entry::Phase {
+            number: _,
+            phase: Phase::Back,
+            cause,
+        } => cause.as_ref(),
+        _ => None,
+    }
+}
+
+/// The same, if the entry is of the operation of this number.
+fn own_cause(operation: u64, entry: &Entry) -> Option<&Cause>
+    ensures { option_copied result ≡ (if is_of operation entry.now then cause_in entry.now else None) }
+{
+    if is_of(operation, entry) {
+        cause_in(entry)
+    } else {
+        None
+    }
+}
+
+/// Why the stack's last operation turned back, where it did.
+#[tactic(auto, using(crate::proofs::Told::cause_passed, crate::proofs::Told::cause_found))]
+fn first_cause(stack: &StackState) -> Option<&Cause>
+    ensures { option_copied result ≡ first_in (filter_map cause_in (own_of stack.now)) }
+{
+    for entry in stack.entries.as_slice() {
+        if let Some(cause) = own_cause(stack.operation, entry) {
+            return Some(cause);
+        }
+    }
+    None
+}
+
+/// Why the stack's last operation turned back.
+fn cause_of(alloc: Global, stack: &StackState) -> Result<Cause, AllocError>
+    ensures { IfOk result (λ c. c ≡ cause_of stack.now) }
+{
+    match first_cause(stack) {
+        Some(cause) => cause.try_clone(alloc),
+        // Each rollback has a cause.
+        None => Ok(Cause::Plan {
+            fault: Txt::from_str(alloc, "")?,
+        }),
+    }
+}
+
+/// Adds the paths of an operation's end.
+fn add_failed(alloc: Global, names: &mut Names, failed: &Names) -> Result<(), AllocError>
+    ensures { IfOk result (λ _. names.new ≡ names.old ++ failed.now) }
+{
+    for name in failed.as_slice() {
+        names.push(name.try_clone(alloc)?)?;
+    }
+    Ok(())
+}
+
+/// Adds the paths that failed as the operation of this number ended, if this entry is its end.
+fn add_own_failed(
+    alloc: Global,
+    names: &mut Names,
+    operation: u64,
+    entry: &Entry,
+) -> Result<(), AllocError>
+    ensures { IfOk result (λ _. names.new ≡ names.old ++ (if is_of operation entry.now then failed_in entry.now else [])) }
+{
+    match entry {
+        Entry::Done {
+            number,
+            status: _,
+            failed,
+        } if operation == *number => add_failed(alloc, names, failed),
+        _ => Ok(()),
+    }
+}
+
+/// The paths that failed when the stack's last operation ended.
+#[tactic(auto, using(crate::proofs::Told::failed_next))]
+fn failed_of(alloc: Global, stack: &StackState) -> Result<Names, AllocError>
+    ensures { IfOk result (λ names. names ≡ failed_of stack.now) }
+{
+    let mut names = Names::new(alloc);
+    for entry in stack.entries.as_slice() {
+        add_own_failed(alloc, &mut names, stack.operation, entry)?;
+    }
+    Ok(names)
+}
+
+/// How a creation ended, by its stack's status.
+fn exit_for(alloc: Global, stack: &StackState) -> Result<Exit, AllocError>
+    ensures { IfOk result (λ e. e ≡ exit_for stack.now) }
+{
+    match stack.status {
+        Status::CreateComplete => Ok(Exit::Done),
+        Status::RollbackComplete => Ok(Exit::RolledBack {
+            cause: cause_of(alloc, stack)?,
+        }),
+        _ => Ok(Exit::Failed {
+            blamed: failed_of(alloc, stack)?,
+        }),
+    }
+}
+
+/// Prints the report on a stack with an exit, and answers that.
+fn tell_stack<K: Sink>(
+    alloc: Global,
+    out: &mut K,
+    name: &Txt,
+    stack: &StackState,
+    exit: Exit,
+) -> Exit
+    ensures faults { K.count out.old ≤ K.count out.new }
+    ensures tells { PrintTells (K.held out.old) (K.held out.new) (K.count out.old) (K.count out.new) (stack_report name.now stack.now exit) exit result }
+{
+    match report(alloc, name, stack, &exit) {
+        Ok(text) => put(out, text.as_str(), exit),
+        Err(NoMemory) => Exit::NoMemory,
+    }
+}
+
+/// Prints the report on a stack whose creation has ended, and answers how it ended.
+fn tell_ended<K: Sink>(alloc: Global, out: &mut K, name: &Txt, stack: &StackState) -> Exit
+    ensures faults { K.count out.old ≤ K.count out.new }
+    ensures tells { PrintTells (K.held out.old) (K.held out.new) (K.count out.old) (K.count out.new) (stack_report name.now stack.now (exit_for stack.now)) (exit_for stack.now) result }
+{
+    match exit_for(alloc, stack) {
+        Ok(exit) => tell_stack(alloc, out, name, stack, exit),
+        Err(_) => Exit::NoMemory,
+    }
+}
+
+/// Prints the report on the stack of a name whose creation has ended, and answers how it ended.
+pub fn tell_over<K: Sink>(alloc: Global, out: &mut K, name: &Txt, book: &Book) -> Exit
+    requires { (st : StackState) × (stack_at name.now book.now.world ≡ Some st) }
+    ensures faults { K.count out.old ≤ K.count out.new }
+    ensures tells { (st : StackState) × (stack_at name.now book.now.world ≡ Some st)
+        × PrintTells (K.held out.old) (K.held out.new) (K.count out.old) (K.count out.new) (stack_report name.now st (exit_for st)) (exit_for st) result }
+{
+    match book.world.stacks.get(name.as_str()) {
+        Some(stack) => tell_ended(alloc, out, name, stack),
+        None => unreachable!(),
+    }
+}
+
+/// Prints the report on the stack of a name, or that there is none.
+pub fn describe<K: Sink>(alloc: Global, out: &mut K, name: &Txt, book: &Book) -> Exit
+    ensures faults { K.count out.old ≤ K.count out.new }
+    ensures tells { PrintTells (K.held out.old) (K.held out.new) (K.count out.old) (K.count out.new)
+        (described_text name.now (stack_at name.now book.now.world)) (described_exit (stack_at name.now book.now.world)) result }
+{
+    match book.world.stacks.get(name.as_str()) {
+        Some(stack) => tell_stack(alloc, out, name, stack, Exit::Done),
+        None => print_exit(
+            alloc,
+            out,
+            Exit::StackRefused {
+                fault: StackFault::NoStack,
+            },
+        ),
+    }
+}
