@@ -5,7 +5,7 @@ ghost use Rattle.serde_json.specs.View.{view, items_view, members_view};
 ghost use Rattle.cf_tree.specs.Test.{test_node_of};
 ghost use Rattle.cf_template.specs.Conds.{conds_in, equals_of, is_two_to_ten, items_count, name_of, negation_of, several_of, test_call, test_of, tests_in};
 ghost use Rattle.cf_template.specs.Functions.{function_in};
-ghost use Rattle.cf_template.specs.Refusals.{Gives, GivesBy};
+ghost use Rattle.cf_template.specs.Refusals.{Gives, GivesBy, mapped};
 
 use crate::arguments::{stray, text, wrong_shape};
 use crate::expr::value;
@@ -17,25 +17,25 @@ use cf_tree::{Cond, CondNode, Conds, NamedConds, Params, Txt};
 use serde_json::{Map, Value};
 use std::alloc::Global;
 
-/// The section of conditions.
+/// Reads the section of conditions into those found before.
 pub(crate) fn conditions(
     alloc: Global,
     params: &Params,
     members: &Map<String, Value>,
     at: &Txt,
-) -> Result<NamedConds, TemplateFault>
-    ensures { Gives (conds_in params.now (members_view members.now.entries) at.now []) result }
+    found: &mut NamedConds,
+) -> Result<(), TemplateFault>
+    ensures { Gives (conds_in params.now (members_view members.now.entries) at.now found.old) (mapped (λ _. found.new) result) }
 {
-    let mut found = NamedConds::new(alloc);
     for (name, member) in members.iter() {
         let place = member_at(alloc, at.as_str(), name.as_str())?;
         if !is_name(name.as_str()) {
             return Err(TemplateFault::BadName { path: place });
         }
-        let condition = condition(alloc, params, member, place)?;
-        found.insert(Txt::from_str(alloc, name.as_str())?, condition)?;
+        let key = Txt::from_str(alloc, name.as_str())?;
+        found.insert(key, condition(alloc, params, member, place)?)?;
     }
-    Ok(found)
+    Ok(())
 }
 
 #[cycle(condition)]
@@ -127,9 +127,16 @@ fn equals_parts(
 ) -> Result<CondNode, TemplateFault>
     ensures { GivesBy test_node_of (equals_of params.now (array (item (view left.now) (item (view right.now) no_items))) at.now) result }
 {
-    let left = value(alloc, params, left, item_at(alloc, at.as_str(), 0)?)?;
-    let right = value(alloc, params, right, item_at(alloc, at.as_str(), 1)?)?;
-    Ok(CondNode::Equals { left, right })
+    let first = item_at(alloc, at.as_str(), 0)?;
+    let second = item_at(alloc, at.as_str(), 1)?;
+    let left = value(alloc, params, left, first)?;
+    match value(alloc, params, right, second) {
+        Ok(right) => Ok(CondNode::Equals { left, right }),
+        Err(fault) => {
+            drop(left);
+            Err(fault)
+        }
+    }
 }
 
 #[cycle(condition)]
@@ -225,11 +232,31 @@ fn each(
     ensures { Gives (tests_in params.now (items_view items.now.items) at.now 0 []) result }
 {
     let mut found = Conds::new(alloc);
+    match push_each(alloc, params, items, at, &mut found) {
+        Ok(()) => Ok(found),
+        Err(fault) => {
+            drop(found);
+            Err(fault)
+        }
+    }
+}
+
+/// Reads the items of a list behind those found before.
+#[cycle(condition)]
+fn push_each(
+    alloc: Global,
+    params: &Params,
+    items: &Vec<Value>,
+    at: &Txt,
+    found: &mut Conds,
+) -> Result<(), TemplateFault>
+    ensures { Gives (tests_in params.now (items_view items.now.items) at.now 0 found.old) (mapped (λ _. found.new) result) }
+{
     let mut index = 0;
     for item in items {
         let place = item_at(alloc, at.as_str(), index)?;
         found.push(condition(alloc, params, item, place)?)?;
         index += 1;
     }
-    Ok(found)
+    Ok(())
 }

@@ -5,7 +5,7 @@ ghost use Rattle.serde_json.specs.View.{view, items_view, members_view};
 ghost use Rattle.cf_tree.specs.Form.{node_of};
 ghost use Rattle.cf_template.specs.Functions.{function_in};
 ghost use Rattle.cf_template.specs.Exprs.{call_of, choice_of, fields_in, form_of, forms_in, holed_text, join_of, map_of, select_of, split_of, sub_of, values_of};
-ghost use Rattle.cf_template.specs.Refusals.{Gives, GivesBy, inside};
+ghost use Rattle.cf_template.specs.Refusals.{Gives, GivesBy, inside, mapped};
 ghost use Rattle.cf_template.specs.Places.{item_at};
 
 use crate::arguments::{
@@ -74,13 +74,33 @@ fn values(
     ensures { Gives (forms_in params.now (items_view items.now.items) at.now 0 []) result }
 {
     let mut found = Exprs::new(alloc);
+    match push_values(alloc, params, items, at, &mut found) {
+        Ok(()) => Ok(found),
+        Err(fault) => {
+            drop(found);
+            Err(fault)
+        }
+    }
+}
+
+/// Reads the items of a list behind those found before.
+#[cycle(form)]
+fn push_values(
+    alloc: Global,
+    params: &Params,
+    items: &Vec<Value>,
+    at: &Txt,
+    found: &mut Exprs,
+) -> Result<(), TemplateFault>
+    ensures { Gives (forms_in params.now (items_view items.now.items) at.now 0 found.old) (mapped (λ _. found.new) result) }
+{
     let mut index = 0;
     for item in items {
         let place = item_at(alloc, at.as_str(), index)?;
         found.push(value(alloc, params, item, place)?)?;
         index += 1;
     }
-    Ok(found)
+    Ok(())
 }
 
 #[cycle(form)]
@@ -93,12 +113,32 @@ fn fields(
     ensures { Gives (fields_in params.now (members_view members.now.entries) at.now []) result }
 {
     let mut found = ExprDict::new(alloc);
+    match put_fields(alloc, params, members, at, &mut found) {
+        Ok(()) => Ok(found),
+        Err(fault) => {
+            drop(found);
+            Err(fault)
+        }
+    }
+}
+
+/// Reads the members of an object into those found before.
+#[cycle(form)]
+fn put_fields(
+    alloc: Global,
+    params: &Params,
+    members: &Map<String, Value>,
+    at: &Txt,
+    found: &mut ExprDict,
+) -> Result<(), TemplateFault>
+    ensures { Gives (fields_in params.now (members_view members.now.entries) at.now found.old) (mapped (λ _. found.new) result) }
+{
     for (name, member) in members.iter() {
         let place = member_at(alloc, at.as_str(), name.as_str())?;
-        let field = value(alloc, params, member, place)?;
-        found.insert(Txt::from_str(alloc, name.as_str())?, field)?;
+        let key = Txt::from_str(alloc, name.as_str())?;
+        found.insert(key, value(alloc, params, member, place)?)?;
     }
-    Ok(found)
+    Ok(())
 }
 
 #[cycle(form)]
@@ -203,8 +243,13 @@ fn sub_items(
         return Err(wrong_shape(alloc, at)?);
     }
     let parts = holed_item(alloc, text, at, 0)?;
-    let map = map_item(alloc, params, map, at, 1)?;
-    Ok(ExprNode::Sub { parts, map })
+    match map_item(alloc, params, map, at, 1) {
+        Ok(map) => Ok(ExprNode::Sub { parts, map }),
+        Err(fault) => {
+            drop(parts);
+            Err(fault)
+        }
+    }
 }
 
 #[cycle(form)]
@@ -364,8 +409,13 @@ fn select_items(
         return Err(wrong_shape(alloc, at)?);
     }
     let index = value_item(alloc, params, index, at, 0)?;
-    let list = value_item(alloc, params, list, at, 1)?;
-    Ok(ExprNode::Select { index, list })
+    match value_item(alloc, params, list, at, 1) {
+        Ok(list) => Ok(ExprNode::Select { index, list }),
+        Err(fault) => {
+            drop(index);
+            Err(fault)
+        }
+    }
 }
 
 /// The name of a condition, and a value for each outcome.
@@ -410,8 +460,13 @@ fn choice_items(
     }
     let name = text_item(alloc, name, at, 0)?;
     let yes = value_item(alloc, params, yes, at, 1)?;
-    let no = value_item(alloc, params, no, at, 2)?;
-    Ok(ExprNode::If { name, yes, no })
+    match value_item(alloc, params, no, at, 2) {
+        Ok(no) => Ok(ExprNode::If { name, yes, no }),
+        Err(fault) => {
+            drop(yes);
+            Err(fault)
+        }
+    }
 }
 
 /// A text with holes.

@@ -57,9 +57,21 @@ fn find_items(
         return Err(wrong_shape(alloc, at)?);
     }
     let map = key_item(alloc, params, map, at, 0)?;
-    let first = key_item(alloc, params, first, at, 1)?;
-    let second = key_item(alloc, params, second, at, 2)?;
-    Ok(ExprNode::FindInMap { map, first, second })
+    let first = match key_item(alloc, params, first, at, 1) {
+        Ok(first) => first,
+        Err(fault) => {
+            drop(map);
+            return Err(fault);
+        }
+    };
+    match key_item(alloc, params, second, at, 2) {
+        Ok(second) => Ok(ExprNode::FindInMap { map, first, second }),
+        Err(fault) => {
+            drop(map);
+            drop(first);
+            Err(fault)
+        }
+    }
 }
 
 #[cycle(find)]

@@ -7,7 +7,7 @@ use cf_tree::Params;
 use serde_json::{Map, Value};
 
 /// The functions of templates (template reference, intrinsic functions and condition functions).
-#[derive(Clone, Copy, Debug, PartialEq, Eq)]
+#[derive(Clone, Copy)]
 pub enum Function {
     Ref,
     GetAtt,

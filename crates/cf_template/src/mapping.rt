@@ -4,7 +4,7 @@ ghost use Rattle.cf_tree.specs.Value.{datum_of};
 ghost use Rattle.serde_json.specs.View.{view, items_view, members_view};
 ghost use Rattle.cf_template.specs.Maps.{mapped_text, mapped_value, mapping_of, mappings_in, row_of, rows_in, values_in};
 ghost use Rattle.cf_template.specs.Shapes.{items_from};
-ghost use Rattle.cf_template.specs.Refusals.{Gives, GivesBy};
+ghost use Rattle.cf_template.specs.Refusals.{Gives, GivesBy, mapped};
 
 use crate::path::{item_at, member_at};
 use crate::refusal::TemplateFault;
@@ -14,24 +14,24 @@ use cf_tree::{ByName, Dict, Mappings, Txt, Val, Vals};
 use serde_json::{Map, Value};
 use std::alloc::Global;
 
-/// The section of mappings.
+/// Reads the section of mappings into those found before.
 pub(crate) fn mappings(
     alloc: Global,
     members: &Map<String, Value>,
     at: &Txt,
-) -> Result<Mappings, TemplateFault>
-    ensures { Gives (mappings_in (members_view members.now.entries) at.now []) result }
+    found: &mut Mappings,
+) -> Result<(), TemplateFault>
+    ensures { Gives (mappings_in (members_view members.now.entries) at.now found.old) (mapped (λ _. found.new) result) }
 {
-    let mut found = Mappings::new(alloc);
     for (name, member) in members.iter() {
         let place = member_at(alloc, at.as_str(), name.as_str())?;
         if !is_name(name.as_str()) {
             return Err(TemplateFault::BadName { path: place });
         }
-        let mapping = mapping(alloc, member, place)?;
-        found.insert(Txt::from_str(alloc, name.as_str())?, mapping)?;
+        let key = Txt::from_str(alloc, name.as_str())?;
+        found.insert(key, mapping(alloc, member, place)?)?;
     }
-    Ok(found)
+    Ok(())
 }
 
 fn mapping(alloc: Global, value: &Value, at: Txt) -> Result<ByName<Dict>, TemplateFault>
@@ -55,8 +55,8 @@ fn rows(
     let mut found = ByName::new(alloc);
     for (name, member) in members.iter() {
         let place = member_at(alloc, at.as_str(), name.as_str())?;
-        let row = row(alloc, member, place)?;
-        found.insert(Txt::from_str(alloc, name.as_str())?, row)?;
+        let key = Txt::from_str(alloc, name.as_str())?;
+        found.insert(key, row(alloc, member, place)?)?;
     }
     Ok(found)
 }
@@ -78,8 +78,8 @@ fn cells(alloc: Global, members: &Map<String, Value>, at: &Txt) -> Result<Dict, 
     let mut found = Dict::new(alloc);
     for (name, member) in members.iter() {
         let place = member_at(alloc, at.as_str(), name.as_str())?;
-        let cell = cell(alloc, member, place)?;
-        found.insert(Txt::from_str(alloc, name.as_str())?, cell)?;
+        let key = Txt::from_str(alloc, name.as_str())?;
+        found.insert(key, cell(alloc, member, place)?)?;
     }
     Ok(found)
 }

@@ -4,7 +4,7 @@ ghost use Rattle.serde_json.specs.View.{view, members_view};
 ghost use Rattle.cf_template.specs.Exprs.{form_of};
 ghost use Rattle.cf_template.specs.Outputs.{export_of, is_output_member, output_fields, output_of, outputs_in};
 ghost use Rattle.cf_template.specs.Shapes.{all_named, has_only, optional, required};
-ghost use Rattle.cf_template.specs.Refusals.{Gives};
+ghost use Rattle.cf_template.specs.Refusals.{Gives, mapped};
 
 use crate::expr::value;
 use crate::path::member_at;
@@ -15,16 +15,16 @@ use cf_tree::{Expr, Out, Outs, Params, Txt};
 use serde_json::{Map, Value};
 use std::alloc::Global;
 
-/// The section of outputs.
+/// Reads the section of outputs behind those found before.
 pub(crate) fn outputs(
     alloc: Global,
     params: &Params,
     members: &Map<String, Value>,
     at: &Txt,
-) -> Result<Outs, TemplateFault>
-    ensures { Gives (outputs_in params.now (members_view members.now.entries) at.now []) result }
+    found: &mut Outs,
+) -> Result<(), TemplateFault>
+    ensures { Gives (outputs_in params.now (members_view members.now.entries) at.now found.old) (mapped (λ _. found.new) result) }
 {
-    let mut found = Outs::new(alloc);
     for (name, member) in members.iter() {
         let place = member_at(alloc, at.as_str(), name.as_str())?;
         if !is_name(name.as_str()) {
@@ -33,7 +33,7 @@ pub(crate) fn outputs(
         let output = output(alloc, params, name.as_str(), member, &place)?;
         found.push(output)?;
     }
-    Ok(found)
+    Ok(())
 }
 
 fn output(
@@ -91,18 +91,23 @@ fn fields(
 ) -> Result<Out, TemplateFault>
     ensures { Gives (output_fields params.now name.now (view object.now) at.now) result }
 {
+    let name = Txt::from_str(alloc, name)?;
     let condition = optional_text(alloc, object, "Condition", at)?;
     let description = optional_text(alloc, object, "Description", at)?;
     let export = optional_export(alloc, params, object, "Export", at)?;
-    let value = required_value(alloc, params, object, "Value", at)?;
-    let name = Txt::from_str(alloc, name)?;
-    Ok(Out {
-        name,
-        value,
-        description,
-        condition,
-        export,
-    })
+    match required_value(alloc, params, object, "Value", at) {
+        Ok(value) => Ok(Out {
+            name,
+            value,
+            description,
+            condition,
+            export,
+        }),
+        Err(fault) => {
+            drop(export);
+            Err(fault)
+        }
+    }
 }
 
 /// An object with the one member `Name`.

@@ -1,12 +1,12 @@
 //! The parameters of a template.
-ghost use Rattle.std.specs.Prelude.{◌≡◌, []};
+ghost use Rattle.std.specs.Prelude.{◌≡◌, [], IfOk};
 ghost use Rattle.std.specs.Char.{is_ascii_digit};
 ghost use Rattle.std.specs.List.{list_all};
 ghost use Rattle.cf_funcs.specs.Number.{are_digits, digits_of, number_of};
 ghost use Rattle.serde_json.specs.View.{view, items_view, members_view};
-ghost use Rattle.cf_template.specs.Params.{bound_of, is_param_member, found_or, kind_named, kind_of, length_in, length_of, limits_of, param_fields, param_of, params_in, scalar_of, scalars_of, truth_of, words_of};
+ghost use Rattle.cf_template.specs.Params.{bound_of, is_param_member, found_or, kind_named, kind_of, length_in, length_of, limits_of, param_fields, param_of, param_with, params_in, scalar_of, scalars_of, truth_of, words_of};
 ghost use Rattle.cf_template.specs.Shapes.{all_named, has_only, items_from, optional, required};
-ghost use Rattle.cf_template.specs.Refusals.{Gives};
+ghost use Rattle.cf_template.specs.Refusals.{Gives, mapped};
 
 use crate::path::{item_at, member_at};
 use crate::refusal::TemplateFault;
@@ -15,20 +15,20 @@ use crate::words::is_name;
 use cf_funcs::number;
 use cf_tree::{Kind, Names, Param, Params, Txt};
 use serde_json::{Map, Value};
-use std::alloc::Global;
+use std::alloc::{AllocError, Global};
 
 /// The longest length that a bound may give.
 const LONGEST: u64 = 999_999_999;
 
-/// The section of parameters.
+/// Reads the section of parameters behind those found before.
 pub(crate) fn parameters(
     alloc: Global,
     members: &Map<String, Value>,
     at: &Txt,
-) -> Result<Params, TemplateFault>
-    ensures { Gives (params_in (members_view members.now.entries) at.now []) result }
+    found: &mut Params,
+) -> Result<(), TemplateFault>
+    ensures { Gives (params_in (members_view members.now.entries) at.now found.old) (mapped (λ _. found.new) result) }
 {
-    let mut found = Params::new(alloc);
     for (name, member) in members.iter() {
         let place = member_at(alloc, at.as_str(), name.as_str())?;
         if !is_name(name.as_str()) {
@@ -37,7 +37,7 @@ pub(crate) fn parameters(
         let parameter = parameter(alloc, name.as_str(), member, &place)?;
         found.push(parameter)?;
     }
-    Ok(found)
+    Ok(())
 }
 
 fn parameter(alloc: Global, name: &str, value: &Value, at: &Txt) -> Result<Param, TemplateFault>
@@ -118,39 +118,79 @@ fn fields(alloc: Global, name: &str, object: &Value, at: &Txt) -> Result<Param, 
     ensures { Gives (param_fields name.now (view object.now) at.now) result }
 {
     let words = words_of(alloc, object, at)?;
-    let limits = limits_of(alloc, object, at)?;
-    let name = Txt::from_str(alloc, name)?;
-    Ok(Param {
-        name,
-        kind: limits.kind,
-        default: words.default,
-        allowed: words.allowed,
-        pattern: words.pattern,
-        min_length: limits.min_length,
-        max_length: limits.max_length,
-        min_value: limits.min_value,
-        max_value: limits.max_value,
-        no_echo: limits.no_echo.unwrap_or(false),
-        description: words.description,
-        constraint: words.constraint,
-    })
+    match limits_of(alloc, object, at) {
+        Ok(limits) => Ok(parameter_with(alloc, name, words, limits)?),
+        Err(fault) => {
+            drop(words);
+            Err(fault)
+        }
+    }
+}
+
+fn parameter_with(
+    alloc: Global,
+    name: &str,
+    words: Words,
+    limits: Limits,
+) -> Result<Param, AllocError>
+    ensures { IfOk result (λ p. p ≡ param_with name.now words limits) }
+{
+    match Txt::from_str(alloc, name) {
+        Ok(name) => Ok(Param {
+            name,
+            kind: limits.kind,
+            default: words.default,
+            allowed: words.allowed,
+            pattern: words.pattern,
+            min_length: limits.min_length,
+            max_length: limits.max_length,
+            min_value: limits.min_value,
+            max_value: limits.max_value,
+            no_echo: limits.no_echo.unwrap_or(false),
+            description: words.description,
+            constraint: words.constraint,
+        }),
+        Err(failed) => {
+            drop(words);
+            Err(failed)
+        }
+    }
 }
 
 fn words_of(alloc: Global, object: &Value, at: &Txt) -> Result<Words, TemplateFault>
     ensures { Gives (words_of (view object.now) at.now) result }
 {
-    let pattern = optional_text(alloc, object, "AllowedPattern", at)?;
-    let allowed = optional_scalars(alloc, object, "AllowedValues", at)?;
-    let constraint = optional_text(alloc, object, "ConstraintDescription", at)?;
-    let default = optional_scalar(alloc, object, "Default", at)?;
-    let description = optional_text(alloc, object, "Description", at)?;
-    Ok(Words {
-        pattern,
-        allowed,
-        constraint,
-        default,
-        description,
-    })
+    let mut words = Words {
+        pattern: None,
+        allowed: None,
+        constraint: None,
+        default: None,
+        description: None,
+    };
+    match read_words(alloc, object, at, &mut words) {
+        Ok(()) => Ok(words),
+        Err(fault) => {
+            drop(words);
+            Err(fault)
+        }
+    }
+}
+
+/// Reads each of the members that are texts into its place. After an error nothing is said of what stands there.
+fn read_words(
+    alloc: Global,
+    object: &Value,
+    at: &Txt,
+    words: &mut Words,
+) -> Result<(), TemplateFault>
+    ensures { Gives (words_of (view object.now) at.now) (mapped (λ _. words.new) result) }
+{
+    words.pattern = optional_text(alloc, object, "AllowedPattern", at)?;
+    words.allowed = optional_scalars(alloc, object, "AllowedValues", at)?;
+    words.constraint = optional_text(alloc, object, "ConstraintDescription", at)?;
+    words.default = optional_scalar(alloc, object, "Default", at)?;
+    words.description = optional_text(alloc, object, "Description", at)?;
+    Ok(())
 }
 
 fn limits_of(alloc: Global, object: &Value, at: &Txt) -> Result<Limits, TemplateFault>

@@ -5,7 +5,7 @@ ghost use Rattle.serde_json.specs.View.{view, members_view};
 ghost use Rattle.cf_template.specs.Exprs.{values_of};
 ghost use Rattle.cf_template.specs.Resources.{deletion_of, deletion_named, names_of, replace_named, replace_of, resource_fields, resource_member_fault, resource_members_fault, resource_of, resources_in, is_resource_member, is_untaken_member};
 ghost use Rattle.cf_template.specs.Shapes.{optional};
-ghost use Rattle.cf_template.specs.Refusals.{Gives, Finds};
+ghost use Rattle.cf_template.specs.Refusals.{Gives, Finds, mapped};
 
 use crate::expr::map_of;
 use crate::path::member_at;
@@ -16,16 +16,16 @@ use cf_tree::{Deletion, ExprDict, Names, Params, Replace, Res, Resources, Txt};
 use serde_json::{Map, Value};
 use std::alloc::Global;
 
-/// The section of resources.
+/// Reads the section of resources behind those found before.
 pub(crate) fn resources(
     alloc: Global,
     params: &Params,
     members: &Map<String, Value>,
     at: &Txt,
-) -> Result<Resources, TemplateFault>
-    ensures { Gives (resources_in params.now (members_view members.now.entries) at.now []) result }
+    found: &mut Resources,
+) -> Result<(), TemplateFault>
+    ensures { Gives (resources_in params.now (members_view members.now.entries) at.now found.old) (mapped (λ _. found.new) result) }
 {
-    let mut found = Resources::new(alloc);
     for (name, member) in members.iter() {
         let place = member_at(alloc, at.as_str(), name.as_str())?;
         if !is_name(name.as_str()) {
@@ -34,7 +34,7 @@ pub(crate) fn resources(
         let resource = resource(alloc, params, name.as_str(), member, &place)?;
         found.push(resource)?;
     }
-    Ok(found)
+    Ok(())
 }
 
 fn resource(

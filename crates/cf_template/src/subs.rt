@@ -6,7 +6,7 @@ use cf_tree::{Part, Parts, Txt};
 use std::alloc::{AllocError, AllocFailed, Global};
 
 /// Why a text is no text with holes.
-#[derive(Clone, Copy, Debug, Drop, PartialEq, Eq)]
+#[derive(Clone, Copy, Drop)]
 pub enum SubFault {
     /// A hole is opened there, in bytes from the text's start, and not closed.
     Unclosed { at: u64 },

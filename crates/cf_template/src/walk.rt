@@ -9,7 +9,7 @@ use serde_json::{Map, Number, Value};
 use std::alloc::Global;
 
 /// Where in a template a value stands, as far as its numbers go.
-#[derive(Clone, Copy, Debug, PartialEq, Eq)]
+#[derive(Clone, Copy)]
 pub enum Region {
     /// The template itself.
     Root,

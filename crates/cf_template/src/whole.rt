@@ -7,7 +7,7 @@ ghost use Rattle.cf_template.specs.Maps.{mappings_in};
 ghost use Rattle.cf_template.specs.Outputs.{outputs_in};
 ghost use Rattle.cf_template.specs.Params.{params_in};
 ghost use Rattle.cf_template.specs.Resources.{resources_in};
-ghost use Rattle.cf_template.specs.Refusals.{Finds, Gives};
+ghost use Rattle.cf_template.specs.Refusals.{Finds, Gives, mapped};
 ghost use Rattle.cf_template.specs.Shapes.{optional, plain_text, unread};
 ghost use Rattle.cf_template.specs.Whole.{count_fault, empty_fault, free_section, is_section, is_untaken_section, is_version, required_section, section, section_fault, sections_fault, sections_of, template_from, template_of, value_template};
 
@@ -151,20 +151,35 @@ fn metadata(alloc: Global, root: &Value) -> Result<Option<bool>, TemplateFault>
 fn sections(alloc: Global, root: &Value) -> Result<Template, TemplateFault>
     ensures { Gives (sections_of (view root.now)) result }
 {
+    let mut template = Template {
+        params: Params::new(alloc),
+        mappings: Mappings::new(alloc),
+        conds: NamedConds::new(alloc),
+        resources: Resources::new(alloc),
+        outputs: Outs::new(alloc),
+    };
+    match read_sections(alloc, root, &mut template) {
+        Ok(()) => Ok(template),
+        Err(fault) => {
+            drop(template);
+            Err(fault)
+        }
+    }
+}
+
+/// Reads each section into its place, where nothing stands. After an error nothing is said of what stands there.
+fn read_sections(alloc: Global, root: &Value, template: &mut Template) -> Result<(), TemplateFault>
+    requires { template.old ≡ record { params = []; mappings = []; conds = []; resources = []; outputs = [] } }
+    ensures { Gives (sections_of (view root.now)) (mapped (λ _. template.new) result) }
+{
     description(alloc, root)?;
     metadata(alloc, root)?;
-    let params = parameter_section(alloc, root)?;
-    let mappings = mapping_section(alloc, root)?;
-    let conds = condition_section(alloc, &params, root)?;
-    let resources = resource_section(alloc, &params, root)?;
-    let outputs = output_section(alloc, &params, root)?;
-    Ok(Template {
-        params,
-        mappings,
-        conds,
-        resources,
-        outputs,
-    })
+    read_parameters(alloc, root, &mut template.params)?;
+    read_mappings(alloc, root, &mut template.mappings)?;
+    read_conditions(alloc, &template.params, root, &mut template.conds)?;
+    read_resources(alloc, &template.params, root, &mut template.resources)?;
+    read_outputs(alloc, &template.params, root, &mut template.outputs)?;
+    Ok(())
 }
 
 /// Refuses a section that has too many members.
@@ -194,56 +209,62 @@ fn test_some(alloc: Global, name: &str, count: usize) -> Result<(), TemplateFaul
     }
 }
 
-fn parameter_section(alloc: Global, root: &Value) -> Result<Params, TemplateFault>
-    ensures { Gives (section params_in 200 (codes "Parameters") (get (codes "Parameters") (view root.now))) result }
+fn read_parameters(alloc: Global, root: &Value, found: &mut Params) -> Result<(), TemplateFault>
+    requires { found.old ≡ [] }
+    ensures { Gives (section params_in 200 (codes "Parameters") (get (codes "Parameters") (view root.now))) (mapped (λ _. found.new) result) }
 {
     match root.get("Parameters") {
-        Some(value) => present_parameters(alloc, value),
-        None => Ok(Params::new(alloc)),
+        Some(value) => present_parameters(alloc, value, found),
+        None => Ok(()),
     }
 }
 
-fn present_parameters(alloc: Global, value: &Value) -> Result<Params, TemplateFault>
-    ensures { Gives (section params_in 200 (codes "Parameters") (Some (view value.now))) result }
+fn present_parameters(alloc: Global, value: &Value, found: &mut Params) -> Result<(), TemplateFault>
+    requires { found.old ≡ [] }
+    ensures { Gives (section params_in 200 (codes "Parameters") (Some (view value.now))) (mapped (λ _. found.new) result) }
 {
     let place = member_at(alloc, "", "Parameters")?;
     let Value::Object(members) = value else {
         return Err(TemplateFault::WrongShape { path: place });
     };
     test_count(alloc, "Parameters", count_of(members), 200)?;
-    parameters(alloc, members, &place)
+    parameters(alloc, members, &place, found)
 }
 
-fn mapping_section(alloc: Global, root: &Value) -> Result<Mappings, TemplateFault>
-    ensures { Gives (section mappings_in 200 (codes "Mappings") (get (codes "Mappings") (view root.now))) result }
+fn read_mappings(alloc: Global, root: &Value, found: &mut Mappings) -> Result<(), TemplateFault>
+    requires { found.old ≡ [] }
+    ensures { Gives (section mappings_in 200 (codes "Mappings") (get (codes "Mappings") (view root.now))) (mapped (λ _. found.new) result) }
 {
     match root.get("Mappings") {
-        Some(value) => present_mappings(alloc, value),
-        None => Ok(Mappings::new(alloc)),
+        Some(value) => present_mappings(alloc, value, found),
+        None => Ok(()),
     }
 }
 
-fn present_mappings(alloc: Global, value: &Value) -> Result<Mappings, TemplateFault>
-    ensures { Gives (section mappings_in 200 (codes "Mappings") (Some (view value.now))) result }
+fn present_mappings(alloc: Global, value: &Value, found: &mut Mappings) -> Result<(), TemplateFault>
+    requires { found.old ≡ [] }
+    ensures { Gives (section mappings_in 200 (codes "Mappings") (Some (view value.now))) (mapped (λ _. found.new) result) }
 {
     let place = member_at(alloc, "", "Mappings")?;
     let Value::Object(members) = value else {
         return Err(TemplateFault::WrongShape { path: place });
     };
     test_count(alloc, "Mappings", count_of(members), 200)?;
-    mappings(alloc, members, &place)
+    mappings(alloc, members, &place, found)
 }
 
-fn condition_section(
+fn read_conditions(
     alloc: Global,
     params: &Params,
     root: &Value,
-) -> Result<NamedConds, TemplateFault>
-    ensures { Gives (free_section (conds_in params.now) (codes "Conditions") (get (codes "Conditions") (view root.now))) result }
+    found: &mut NamedConds,
+) -> Result<(), TemplateFault>
+    requires { found.old ≡ [] }
+    ensures { Gives (free_section (conds_in params.now) (codes "Conditions") (get (codes "Conditions") (view root.now))) (mapped (λ _. found.new) result) }
 {
     match root.get("Conditions") {
-        Some(value) => present_conditions(alloc, params, value),
-        None => Ok(NamedConds::new(alloc)),
+        Some(value) => present_conditions(alloc, params, value, found),
+        None => Ok(()),
     }
 }
 
@@ -251,25 +272,29 @@ fn present_conditions(
     alloc: Global,
     params: &Params,
     value: &Value,
-) -> Result<NamedConds, TemplateFault>
-    ensures { Gives (free_section (conds_in params.now) (codes "Conditions") (Some (view value.now))) result }
+    found: &mut NamedConds,
+) -> Result<(), TemplateFault>
+    requires { found.old ≡ [] }
+    ensures { Gives (free_section (conds_in params.now) (codes "Conditions") (Some (view value.now))) (mapped (λ _. found.new) result) }
 {
     let place = member_at(alloc, "", "Conditions")?;
     let Value::Object(members) = value else {
         return Err(TemplateFault::WrongShape { path: place });
     };
-    conditions(alloc, params, members, &place)
+    conditions(alloc, params, members, &place, found)
 }
 
-fn resource_section(
+fn read_resources(
     alloc: Global,
     params: &Params,
     root: &Value,
-) -> Result<Resources, TemplateFault>
-    ensures { Gives (required_section (resources_in params.now) 500 (codes "Resources") (get (codes "Resources") (view root.now))) result }
+    found: &mut Resources,
+) -> Result<(), TemplateFault>
+    requires { found.old ≡ [] }
+    ensures { Gives (required_section (resources_in params.now) 500 (codes "Resources") (get (codes "Resources") (view root.now))) (mapped (λ _. found.new) result) }
 {
     match root.get("Resources") {
-        Some(value) => present_resources(alloc, params, value),
+        Some(value) => present_resources(alloc, params, value, found),
         None => Err(TemplateFault::WrongShape {
             path: member_at(alloc, "", "Resources")?,
         }),
@@ -280,8 +305,10 @@ fn present_resources(
     alloc: Global,
     params: &Params,
     value: &Value,
-) -> Result<Resources, TemplateFault>
-    ensures { Gives (required_section (resources_in params.now) 500 (codes "Resources") (Some (view value.now))) result }
+    found: &mut Resources,
+) -> Result<(), TemplateFault>
+    requires { found.old ≡ [] }
+    ensures { Gives (required_section (resources_in params.now) 500 (codes "Resources") (Some (view value.now))) (mapped (λ _. found.new) result) }
 {
     let place = member_at(alloc, "", "Resources")?;
     let Value::Object(members) = value else {
@@ -289,25 +316,37 @@ fn present_resources(
     };
     test_some(alloc, "Resources", count_of(members))?;
     test_count(alloc, "Resources", count_of(members), 500)?;
-    resources(alloc, params, members, &place)
+    resources(alloc, params, members, &place, found)
 }
 
-fn output_section(alloc: Global, params: &Params, root: &Value) -> Result<Outs, TemplateFault>
-    ensures { Gives (section (outputs_in params.now) 200 (codes "Outputs") (get (codes "Outputs") (view root.now))) result }
+fn read_outputs(
+    alloc: Global,
+    params: &Params,
+    root: &Value,
+    found: &mut Outs,
+) -> Result<(), TemplateFault>
+    requires { found.old ≡ [] }
+    ensures { Gives (section (outputs_in params.now) 200 (codes "Outputs") (get (codes "Outputs") (view root.now))) (mapped (λ _. found.new) result) }
 {
     match root.get("Outputs") {
-        Some(value) => present_outputs(alloc, params, value),
-        None => Ok(Outs::new(alloc)),
+        Some(value) => present_outputs(alloc, params, value, found),
+        None => Ok(()),
     }
 }
 
-fn present_outputs(alloc: Global, params: &Params, value: &Value) -> Result<Outs, TemplateFault>
-    ensures { Gives (section (outputs_in params.now) 200 (codes "Outputs") (Some (view value.now))) result }
+fn present_outputs(
+    alloc: Global,
+    params: &Params,
+    value: &Value,
+    found: &mut Outs,
+) -> Result<(), TemplateFault>
+    requires { found.old ≡ [] }
+    ensures { Gives (section (outputs_in params.now) 200 (codes "Outputs") (Some (view value.now))) (mapped (λ _. found.new) result) }
 {
     let place = member_at(alloc, "", "Outputs")?;
     let Value::Object(members) = value else {
         return Err(TemplateFault::WrongShape { path: place });
     };
     test_count(alloc, "Outputs", count_of(members), 200)?;
-    outputs(alloc, params, members, &place)
+    outputs(alloc, params, members, &place, found)
 }

@@ -1,7 +1,7 @@
-use Rattle.std.proofs.Common.{◌≡◌, []}
+use Rattle.std.proofs.Common.{◌≡◌}
 use Rattle.serde_json.specs.View.{members_view}
 use Rattle.cf_template.specs.Params.{params_in}
 use Rattle.cf_template.proofs.param.parameters.Given as goal
 
 abbrev pub invariant-loop-name : goal.invariant-loop-name
-invariant-loop-name l = params_in (members_view l.members.entries) l.at [] ≡ params_in (members_view l.name-iterator) l.at l.found
+invariant-loop-name l = params_in (members_view l.members.entries) l.at l.fn.found ≡ params_in (members_view l.name-iterator) l.at l.found
