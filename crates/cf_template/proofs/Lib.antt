@@ -4,5 +4,4 @@ pub mod References
 pub mod Escapes
 pub mod Holes
 pub mod Steps
-pub mod Filled
 pub mod Ordered

@@ -1,4 +1,5 @@
 -- What two readings, one after the other, give.
+use Rattle.std.specs.Prelude.{⊤}
 use Rattle.std.proofs.Common.{◌≡◌, ℕ, suc, ◌+◌, ◌<◌, List, [], ◌∷◌, ◌++◌, length, get_or, drop, drop-cons, add-one, Ok, Err, IsErrAnd, ◌⊎◌, inl, inr, ap, ◌∙◌}
 use Rattle.serde_json.specs.declared.value.Value.{Value}
 use Rattle.serde_json.specs.View.{view, items_view}
@@ -28,12 +29,13 @@ then_gives r k a c o q = ap (λ x. after x k) o ∙ q
 pub mapped_gives : {A C : Type 0} (f : A → C) (r : Reading A) (a : A) → r ≡ Ok a → mapped f r ≡ Ok (f a)
 mapped_gives f r a o = ap (mapped f) o
 
--- a refusal that is passed on
-pub refused : {A : Type 0} (rules r : Reading A) (e : TemplateFault) → IsErrAnd r (λ x. x ≡ e) → (e ≡ NoMemory) ⊎ (rules ≡ Err e) → Gives rules r
-refused rules (Ok a) e h g = absurd h
-refused rules (Err x) e h (inl m) = inl (h ∙ m)
-refused rules (Err x) e h (inr q) = inr (cc)
+-- a refusal that is passed on, by a reader that leaves what it read in a place
+pub refused : {A : Type 0} (rules : Reading A) (left : A) (r : Reading ⊤) (e : TemplateFault) → IsErrAnd r (λ x. x ≡ e) → (e ≡ NoMemory) ⊎ (rules ≡ Err e) → Gives rules (mapped (λ _. left) r)
+refused rules left (Ok t) e h g = absurd h
+refused rules left (Err x) e h (inl m) = inl (h ∙ m)
+refused rules left (Err x) e h (inr q) = inr (cc)
 
+-- the same, by a reader that answers with a value
 pub refused_by : {A B : Type 0} (f : A → B) (rules : Reading B) (r : Reading A) (e : TemplateFault) → IsErrAnd r (λ x. x ≡ e) → (e ≡ NoMemory) ⊎ (rules ≡ Err e) → GivesBy f rules r
 refused_by f rules (Ok a) e h g = absurd h
 refused_by f rules (Err x) e h (inl m) = inl (h ∙ m)
