@@ -1,5 +1,5 @@
 -- What may begin, by path.
-use Rattle.std.proofs.Common.{◌≡◌, ◌⊎◌, ◌↔◌, inl, inr, ℕ, suc, ◌+◌, ◌<◌, Bool, true, false, ◌&&◌, ◌||◌, not, Option, Some, None, List, [], ◌∷◌, ◌++◌, IsTrue, length, take, get_or, map, refl, ap, sym, ◌∙◌, subst, arith, if◌then◌else◌, true≢false}
+use Rattle.std.proofs.Common.{◌≡◌, inl, inr, ℕ, suc, ◌+◌, ◌<◌, Bool, true, false, ◌&&◌, ◌||◌, not, Some, None, List, [], ◌∷◌, ◌++◌, IsTrue, length, take, get_or, map, refl, ap, sym, ◌∙◌, subst, arith, if◌then◌else◌, true≢false}
 use Rattle.std.specs.Prelude.{fold, Result, Ok, Err, IfOk}
 use Rattle.std.specs.declared.alloc.AllocError.{AllocError}
 use Rattle.std.specs.List.{list_all}
@@ -115,9 +115,6 @@ module _ (schemas : List Schema) (s : StackState) (done : List (List ℕ)) (are 
 
   abbrev wants : List (List ℕ)
   wants = map (λ (w : Wanted). w.path) (plan_before s).wanted
-
-  found : List ℕ → Wants
-  found p = wants_by schemas s p (finding_by p (plan_now s))
 
   value_is : (p : List ℕ) (b : Bool) → (is_among p wants && may_start s (plan_before s) done p) ≡ b → value_at p starts ≡ (if b then Some (wants_by schemas s p (finding_by p (plan_now s))) else None)
   value_is p b e = all_starts schemas s (plan_before s) (plan_now s) done wants [] p ∙ ap (λ c. if c then Some (wants_by schemas s p (finding_by p (plan_now s))) else None) e

@@ -7,8 +7,6 @@ use Rattle.std.proofs.lemmas.Slice.Eq.{bytes_eq-Decides}
 use Rattle.std.proofs.lemmas.Bool.{cases_eq, and_from, or_left, or_right}
 use Rattle.cf_tree.specs.Datum.{Data}
 use Rattle.cf_tree.specs.Counts.{HasRisen}
-use Rattle.cf_tree.specs.declared.request.Request.{Request}
-use Rattle.cf_tree.specs.declared.request.Request.TheVariants as request
 use Rattle.cf_entry.specs.declared.entry.Reply.{Reply}
 use Rattle.cf_entry.specs.declared.entry.Reply.TheVariants as reply
 use Rattle.cf_stacks.specs.declared.held.Held.{Held}
@@ -65,11 +63,6 @@ rose : (a : Reply) (before after : ℕ) → IsCounted a before after → is_succ
 rose (reply.Success physical attrs) before after h e = let no : ⊥ = cc in absurd no
 rose (reply.Failed c) before after h e = h.1
 rose reply.Doubt before after h e = h.1
-
-deletes_none : (physical : List ℕ) (r : Request) → is_create r ≡ true → deletes physical r ≡ true → ⊥
-deletes_none physical (request.Create kind props) c d = let no : ⊥ = cc in no
-deletes_none physical (request.Update id props) c d = let no : ⊥ = cc in no
-deletes_none physical (request.Delete id) c d = let no : ⊥ = cc in no
 
 module _
     (names : List (List ℕ)) (told told' : Told) (lanes : List (List ℕ × List ℕ)) (last : ℕ) (calls : List Call) (replies : List Response)

@@ -1,6 +1,5 @@
 -- The steps that code finds: repeats, and new calls on the lanes at home.
-use Rattle.std.proofs.Common.{◌≡◌, ◌⊎◌, inl, inr, ℕ, ◌+◌, Bool, true, false, ◌&&◌, ◌||◌, not, List, [], ◌∷◌, Option, Some, None, find, option_map, is_some, cond, refl, ap, sym, ◌∙◌, true≢false, subst}
-use Rattle.std.specs.Prelude.{fold}
+use Rattle.std.proofs.Common.{◌≡◌, ℕ, ◌+◌, Bool, true, false, ◌&&◌, ◌||◌, not, List, [], ◌∷◌, Some, find, option_map, is_some, cond, refl, ap, sym, ◌∙◌, true≢false, subst}
 use Rattle.std.specs.List.{list_any}
 use Rattle.std.specs.Cmp.{first_so, second_so}
 use Rattle.std.specs.Str.{bytes_eq}
@@ -17,15 +16,15 @@ use Rattle.cf_stacks.specs.Status.{Stage, Forward}
 use Rattle.cf_plan.specs.declared.next.Next.{Next}
 use Rattle.cf_plan.specs.declared.next.Next.TheVariants as next
 use Rattle.cf_plan.specs.declared.stepping.Start.{Start}
-use Rattle.cf_plan.specs.Forward.{In, here, there}
+use Rattle.cf_plan.specs.Forward.{In}
 use Rattle.cf_plan.specs.Follow.{FitsLane, IntendsIn, MayIntend, is_free, is_lane_of, is_lane_out, may_repeat, waits_for_repeats}
 use Rattle.cf_plan.specs.Chosen.{first_home}
 use Rattle.cf_plan.specs.Taking.{is_home_of, is_of_lane}
-use Rattle.cf_plan.specs.Due.{IsCallDueIn, IsDueIn, with_call, with_call_on, with_calls_on, with_create, with_due, with_repeat, with_repeats, with_start, with_starts}
+use Rattle.cf_plan.specs.Due.{IsCallDueIn, IsDueIn, with_call, with_call_on, with_calls_on, with_repeat, with_repeats, with_start, with_starts}
 use Rattle.cf_plan.proofs.Members.{any_in, in_any}
 use Rattle.cf_plan.proofs.OfLane.{of_lane_is}
 use Rattle.cf_plan.proofs.Choosing.{is_so, not_so}
-use Rattle.cf_plan.proofs.InOrder.{Adds, adds_all, adds_as, adds_if, adds_one}
+use Rattle.cf_plan.proofs.InOrder.{Adds, adds_all, adds_if, adds_one}
 
 -- A step on an open token.
 abbrev pub again : Pending → Next

@@ -1,13 +1,12 @@
 -- What is computed of the failure of a forward phase is so.
-use Rattle.std.proofs.Common.{◌≡◌, ◌⊎◌, ◌↔◌, inl, inr, ℕ, Bool, true, false, ◌&&◌, Option, Some, None, List, [], ◌∷◌, ◌++◌, IsTrue, filter, find, map, option_map, refl, ap, sym, ◌∙◌, subst, cond, if◌then◌else◌, true≢false}
+use Rattle.std.proofs.Common.{◌≡◌, ◌⊎◌, ◌↔◌, inl, inr, ℕ, Bool, true, false, Option, Some, None, List, [], ◌∷◌, ◌++◌, IsTrue, filter, find, map, option_map, refl, ap, sym, ◌∙◌, subst, if◌then◌else◌, true≢false}
 use Rattle.std.specs.Prelude.{filter_map, option_and_then, Result, Ok, Err, IfOk}
 use Rattle.std.specs.declared.alloc.AllocError.{AllocError}
 use Rattle.std.specs.List.{list_all, cons_option}
-use Rattle.std.specs.Option.{option_map_or, unwrap_or}
+use Rattle.std.specs.Option.{option_map_or}
 use Rattle.std.proofs.lemmas.Option.{none-some, same_Some}
 use Rattle.std.proofs.lemmas.Bool.{and_parts, and_from}
 use Rattle.cf_tree.specs.Datum.{Data}
-use Rattle.cf_tree.specs.Keys.{bytes_lt}
 use Rattle.cf_tree.specs.Lists.{first_in, is_among}
 use Rattle.cf_entry.specs.declared.turn.Cause.{Cause}
 use Rattle.cf_entry.specs.declared.turn.Cause.TheVariants as cause
@@ -16,19 +15,17 @@ use Rattle.cf_export.specs.declared.Export.{Export}
 use Rattle.cf_desired.specs.declared.flaw.Flaw.{Flaw}
 use Rattle.cf_desired.specs.declared.wanted.Evaluated.{Evaluated}
 use Rattle.cf_desired.specs.declared.wanted.Evaluated.TheVariants as result
-use Rattle.cf_desired.specs.declared.wanted.Inner.{Inner}
 use Rattle.cf_desired.specs.declared.wanted.Plan.{Plan}
 use Rattle.cf_desired.specs.declared.wanted.Wanted.{Wanted}
 use Rattle.cf_desired.specs.Whole.{wanted_at, known_props_from}
-use Rattle.cf_desired.specs.FlawText.{flaw_text}
 use Rattle.cf_schema.specs.declared.described.Schema.{Schema}
 use Rattle.cf_stacks.specs.declared.state.StackState.{StackState}
 use Rattle.cf_stacks.specs.declared.state.World.{World}
 use Rattle.cf_plan.specs.declared.cause.Failure.{Failure}
-use Rattle.cf_plan.specs.declared.cause.Failure.TheVariants.{Nothing, Because, Untold}
+use Rattle.cf_plan.specs.declared.cause.Failure.TheVariants.{Nothing}
 use Rattle.cf_plan.specs.Between.{needs_at}
-use Rattle.cf_plan.specs.Forward.{In, here, there, Finding, Bad, Later, Known, finding, known_or_later, AllDone, HasFailed, IsBadAt, IsBadNested, IsBadOutput, IsBadPath, IsCause, IsDone, IsLostExport, first_failing, is_lost, lost_exports, path_of_token, plan_before, plan_now}
-use Rattle.cf_plan.specs.Done.{AreDone, are_met, finding_by, needs_by}
+use Rattle.cf_plan.specs.Forward.{In, here, there, Finding, Bad, Later, Known, finding, known_or_later, AllDone, HasFailed, IsBadAt, IsBadOutput, IsBadPath, IsCause, IsLostExport, first_failing, is_lost, path_of_token, plan_before, plan_now}
+use Rattle.cf_plan.specs.Done.{AreDone, are_met, needs_by}
 use Rattle.cf_plan.specs.Failed.{are_all_done, flaw_by, flaw_found, flaw_in, flaws_found, inner_found, least}
 use Rattle.cf_plan.specs.Causes.{TellsFailure, end_failure, failure_of_call, of_export, or_call, or_flaw, or_path, plan_failure}
 use Rattle.cf_plan.proofs.Doing.{all_met, met_all, needs_are}

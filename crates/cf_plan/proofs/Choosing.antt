@@ -31,10 +31,6 @@ use Rattle.cf_plan.proofs.Members.{not_both, any_in, in_any, in_none}
 use Rattle.cf_plan.proofs.Firsts.{IsFirstOf}
 use Rattle.cf_plan.proofs.OfLane.{of_lane_is}
 
-neither : (a b : Bool) → (a || b) ≡ false → (a ≡ false) × (b ≡ false)
-neither true b e = absurd (true≢false e)
-neither false b e = (refl, e)
-
 pub neither_so : (a b : Bool) → a ≡ false → b ≡ false → (a || b) ≡ false
 neither_so a b e f = rw e f
 

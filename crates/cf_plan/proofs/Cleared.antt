@@ -1,5 +1,5 @@
 -- In a journal, a stack that a creation may make holds nothing, and no operation has a later number than the last one that began.
-use Rattle.std.proofs.Common.{◌≡◌, ◌⊎◌, inl, inr, ℕ, ◌+◌, ◌≤◌, ◌==◌, List, [], ◌∷◌, ◌++◌, Bool, true, false, ◌&&◌, ◌||◌, Option, Some, None, refl, sym, ap, subst, ◌∙◌, true≢false, map, find, unwrap_or, arith}
+use Rattle.std.proofs.Common.{◌≡◌, ◌⊎◌, inl, inr, ℕ, ◌+◌, ◌≤◌, ◌==◌, List, [], ◌∷◌, ◌++◌, Bool, true, false, ◌||◌, Option, Some, None, refl, sym, ap, subst, ◌∙◌, true≢false, map, unwrap_or, arith}
 use Rattle.std.specs.Prelude.{cond, codes}
 use Rattle.std.specs.Str.{bytes_eq}
 use Rattle.std.specs.Cmp.{first_so, second_so}
@@ -24,9 +24,6 @@ use Rattle.cf_entry.specs.declared.turn.Phase.{Phase}
 use Rattle.cf_entry.specs.declared.turn.Phase.TheVariants as phase
 use Rattle.cf_entry.specs.declared.turn.Cause.{Cause}
 use Rattle.cf_tree.specs.declared.request.Request.{Request}
-use Rattle.cf_tree.specs.declared.source.Source.{Source}
-use Rattle.cf_tree.specs.declared.row.Row.{Row}
-use Rattle.cf_stacks.specs.declared.held.Held.{Held}
 use Rattle.cf_stacks.specs.declared.held.KeptSet.{KeptSet}
 use Rattle.cf_stacks.specs.declared.state.StackState.{StackState}
 use Rattle.cf_stacks.specs.declared.state.World.{World}
@@ -36,9 +33,9 @@ use Rattle.cf_stacks.specs.Event.{event_line}
 use Rattle.cf_stacks.specs.Fold.{empty_world, no_stack, known_stack, source_for, heard, beginning, begun_over, keeping, replied, terms_for, turning, ended, marked, joined, reviewed, is_deleted, with_set, set_heard, on_stack, over, phase_over, done_over, world_after, fold_of}
 use Rattle.cf_plan.specs.Forward.{In, here, there}
 use Rattle.cf_plan.specs.Accept.{creates_from}
-use Rattle.cf_plan.specs.Follow.{MayFollow, MayFollowOn, MayBegin, MayReview, EndsAs, is_cleared, updates_from}
+use Rattle.cf_plan.specs.Follow.{MayFollow, MayFollowOn, EndsAs, is_cleared, updates_from}
 use Rattle.cf_plan.specs.Ends.{IsCleared}
-use Rattle.cf_plan.specs.Cleared.{IsJournal, AreEarlier, FindsNothing, CreationFindsNothing}
+use Rattle.cf_plan.specs.Cleared.{IsJournal, CreationFindsNothing}
 use Rattle.cf_plan.proofs.Members.{not_both, in_none}
 use Rattle.cf_plan.proofs.Listed.{in_cons}
 use Rattle.cf_plan.proofs.CreatedEnd.{in_changed}

@@ -1,29 +1,27 @@
 -- The paths that are found to be done are just those that are done.
-use Rattle.std.proofs.Common.{◌≡◌, ◌⊎◌, ◌↔◌, inl, inr, ℕ, Bool, true, false, ◌&&◌, ◌||◌, not, Option, Some, None, List, [], ◌∷◌, ◌++◌, IsTrue, filter, find, map, is_some, refl, ap, sym, ◌∙◌, subst, cond, if◌then◌else◌, true≢false}
-use Rattle.std.specs.Prelude.{filter_map, option_and_then}
+use Rattle.std.proofs.Common.{◌≡◌, inl, inr, ℕ, Bool, true, false, ◌&&◌, ◌||◌, not, Option, Some, None, List, [], ◌∷◌, ◌++◌, filter, find, map, is_some, refl, ap, sym, ◌∙◌, subst, cond, if◌then◌else◌, true≢false}
+use Rattle.std.specs.Prelude.{filter_map}
 use Rattle.std.specs.List.{list_any, list_all, cons_option}
 use Rattle.std.specs.Str.{bytes_eq}
-use Rattle.std.proofs.lemmas.Option.{none-some}
 use Rattle.std.proofs.lemmas.Bool.{and_parts, and_from}
 use Rattle.cf_tree.specs.declared.source.Source.{Source}
 use Rattle.cf_tree.specs.Lists.{is_among}
 use Rattle.cf_entry.specs.declared.entry.Entry.{Entry}
 use Rattle.cf_entry.specs.declared.entry.Entry.TheVariants as entry
-use Rattle.cf_desired.specs.declared.wanted.Wanted.{Wanted}
 use Rattle.cf_desired.specs.declared.wanted.Plan.{Plan}
 use Rattle.cf_desired.specs.Plan.{Seen}
 use Rattle.cf_desired.specs.Whole.{wanted_at}
 use Rattle.cf_stacks.specs.declared.held.Held.{Held}
 use Rattle.cf_stacks.specs.declared.state.StackState.{StackState}
 use Rattle.cf_stacks.specs.Words.{current_at, is_current_at, is_update}
-use Rattle.cf_stacks.specs.Operation.{Call, calls_in, is_of, own_of, succeeded}
+use Rattle.cf_stacks.specs.Operation.{Call, is_of, succeeded}
 use Rattle.cf_stacks.specs.Fold.{terms_of, wanted_in, seen_in}
-use Rattle.cf_plan.specs.Called.{call_passes, updated_by, updated_path}
+use Rattle.cf_plan.specs.Called.{call_passes, updated_path}
 use Rattle.cf_plan.specs.Between.{needs_at}
 use Rattle.cf_plan.specs.Forward.{In, here, there, IsDone, is_made, is_updated, is_right, plan_in, plan_before, plan_now, was_updated_at}
-use Rattle.cf_plan.specs.Done.{AreDone, IsFresh, IsNext, Joined, none, one, are_met, made_paths, needs_by, updated_paths}
+use Rattle.cf_plan.specs.Done.{AreDone, IsNext, Joined, none, one, made_paths, needs_by, updated_paths}
 use Rattle.cf_plan.proofs.Answered.{any_own}
-use Rattle.cf_plan.proofs.Listed.{among_more, bytes_same, in_cons, in_none, or_cases, or_left, or_right, same_bytes}
+use Rattle.cf_plan.proofs.Listed.{among_more, bytes_same, in_cons, in_none, or_cases, or_left, or_right}
 
 -- a resource is made at a path just where the path is among those of what was made
 made_by : (a b : Bool) (p q : List ℕ) (h : Held) (hs : List Held) → bytes_eq p h.path ≡ a → h.superseded ≡ b → is_among p (map (λ r. r.path) (filter (λ r. not r.superseded) hs)) ≡ is_some (find (is_current_at p) hs) → is_among p (map (λ r. r.path) (filter (λ r. not r.superseded) (h ∷ hs))) ≡ is_some (find (is_current_at p) (h ∷ hs))

@@ -1,5 +1,5 @@
 -- What is due on the stack of an operation is due in the operation.
-use Rattle.std.proofs.Common.{◌≡◌, ℕ, true, false, List, Option, Some, refl, ap, sym, ◌∙◌, subst}
+use Rattle.std.proofs.Common.{◌≡◌, ℕ, true, false, List, Some, ap, sym, ◌∙◌, subst}
 use Rattle.cf_tree.specs.declared.request.Request.{Request}
 use Rattle.cf_tree.specs.declared.request.Request.TheVariants as request
 use Rattle.cf_schema.specs.declared.described.Schema.{Schema}
@@ -19,10 +19,6 @@ module _ (schemas : List Schema) (x : World) (out : List ℕ) (number : ℕ) whe
 
   module _ (name : List ℕ) (s : StackState) (stage : Stage) (going : stack_of_operation number x ≡ Some (name, s))
       (in_stage : stage_of s.status ≡ Some stage) where
-    -- the stack is that of the operation
-    to : (P : List ℕ → StackState → Stage → Type 0) → P name s stage → On P
-    to P w = (name, s, stage, going, in_stage, w)
-
     from : (P : List ℕ → StackState → Stage → Type 0) → On P → P name s stage
     from P (name', s', stage', going', in_stage', w) = by stage' in_stage' w
       where

@@ -1,6 +1,5 @@
 -- In the rollback of a creation, the steps that code finds are just those that are due.
-use Rattle.std.proofs.Common.{◌≡◌, ◌⊎◌, ◌↔◌, inl, inr, ℕ, Bool, true, false, ◌&&◌, not, List, [], ◌∷◌, Option, Some, None, cond, refl, ap, sym, ◌∙◌, true≢false, subst}
-use Rattle.std.specs.List.{list_any}
+use Rattle.std.proofs.Common.{◌≡◌, ◌⊎◌, inl, inr, ℕ, Bool, true, false, ◌&&◌, List, [], ◌∷◌, cond, refl, ap, sym, ◌∙◌, true≢false, subst}
 use Rattle.std.specs.Cmp.{first_so, second_so}
 use Rattle.std.proofs.lemmas.Bool.{and_from}
 use Rattle.cf_tree.specs.Keys.{bytes_lt}
@@ -13,15 +12,14 @@ use Rattle.cf_entry.specs.declared.status.Status.TheVariants as status
 use Rattle.cf_entry.specs.declared.turn.Why.{Why}
 use Rattle.cf_entry.specs.declared.turn.Why.TheVariants as why
 use Rattle.cf_stacks.specs.declared.held.Held.{Held}
-use Rattle.cf_stacks.specs.declared.held.Pending.{Pending}
 use Rattle.cf_stacks.specs.declared.state.StackState.{StackState}
 use Rattle.cf_stacks.specs.declared.state.World.{World}
 use Rattle.cf_stacks.specs.Status.{Back, Gone}
 use Rattle.cf_plan.specs.declared.next.Next.{Next}
 use Rattle.cf_plan.specs.declared.next.Next.TheVariants as next
 use Rattle.cf_plan.specs.Forward.{In, here, there}
-use Rattle.cf_plan.specs.Follow.{AreFailed, EndsAs, IntendsDeletion, IntendsRestore, MayKeep, is_cleared, is_failed_path, is_free, is_not_needed, is_retained, is_untried, waits_for_repeats}
-use Rattle.cf_plan.specs.Taking.{EndsBack, first_by, is_ended, is_held_before, may_go}
+use Rattle.cf_plan.specs.Follow.{AreFailed, EndsAs, IntendsDeletion, IntendsRestore, MayKeep, is_cleared, is_free, is_not_needed, is_retained, is_untried, waits_for_repeats}
+use Rattle.cf_plan.specs.Taking.{EndsBack, is_ended, is_held_before, may_go}
 use Rattle.cf_plan.specs.Due.{AreDueIn, IsCallDueIn, IsDueIn, IsListed, goes, with_call, with_due, with_gone, with_going, with_goings, with_repeats}
 use Rattle.cf_plan.proofs.Members.{in_first, in_none, not_both}
 use Rattle.cf_plan.proofs.Listed.{in_cons}
@@ -30,7 +28,7 @@ use Rattle.cf_plan.proofs.Orders.{helds_in_order, lower, not_below_itself}
 use Rattle.cf_plan.proofs.Choosing.{keeps_going, no_turn, waits_by}
 use Rattle.cf_plan.proofs.Chosen.{at_end, ended_parts, not_ended, waits_on}
 use Rattle.cf_plan.proofs.InOrder.{Adds, adds_all, adds_as, adds_if, adds_one}
-use Rattle.cf_plan.proofs.CallsDue.{IsCall, IsRepeat, adds_call, adds_repeats, again, call_due, due_call}
+use Rattle.cf_plan.proofs.CallsDue.{IsCall, IsRepeat, adds_call, adds_repeats, call_due, due_call}
 
 -- Two lists of names that ascend and have the same names are the same.
 above : (k : List ℕ) (ts : List (List ℕ)) → texts_ascend_from k ts ≡ true → (p : List ℕ) → In p ts → bytes_lt k p ≡ true
@@ -216,10 +214,6 @@ module _ (schemas : List Schema) (name : List ℕ) (x : World) (out : List ℕ) 
         free : (is_free path s ≡ true) ⊎ (false ≡ true) → is_free r.path s ≡ true
         free (inl f) = subst (λ (k : List ℕ). is_free k s ≡ true) at_path f
         free (inr e) = absurd (true≢false (sym e))
-
-    -- how it ends
-    abbrev Ends : Status → List (List ℕ) → Type 0
-    Ends state failed = EndsAs schemas name x s s.status state × AreFailed s state failed
 
     ends_by : (n : Next) → EndsBack s n → (state : Status) (failed : List (List ℕ)) → EndsAs schemas name x s status.RollbackInProgress state
         → AreFailed s state failed → next.End state failed ≡ n

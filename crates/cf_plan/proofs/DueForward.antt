@@ -1,10 +1,9 @@
 -- In a create, the steps that code finds are just those that are due.
-use Rattle.std.proofs.Common.{◌≡◌, ◌⊎◌, ◌↔◌, inl, inr, ℕ, Bool, true, false, ◌&&◌, not, List, [], ◌∷◌, Option, Some, None, cond, refl, ap, sym, ◌∙◌, true≢false, subst}
+use Rattle.std.proofs.Common.{◌≡◌, ◌⊎◌, ◌↔◌, inl, inr, ℕ, Bool, true, false, ◌&&◌, not, List, [], ◌∷◌, Option, Some, None, refl, ap, sym, ◌∙◌, subst}
 use Rattle.std.specs.List.{list_any}
 use Rattle.std.specs.Cmp.{first_so, second_so}
 use Rattle.std.proofs.lemmas.Bool.{or_cases, and_from}
 use Rattle.cf_tree.specs.declared.request.Request.{Request}
-use Rattle.cf_tree.specs.declared.request.Request.TheVariants as request
 use Rattle.cf_schema.specs.declared.described.Schema.{Schema}
 use Rattle.cf_entry.specs.declared.entry.Entry.{Entry}
 use Rattle.cf_entry.specs.declared.entry.Entry.TheVariants as entry
@@ -15,7 +14,6 @@ use Rattle.cf_entry.specs.declared.turn.Why.TheVariants as why
 use Rattle.cf_entry.specs.declared.turn.Phase.{Phase}
 use Rattle.cf_entry.specs.declared.turn.Phase.TheVariants as phase
 use Rattle.cf_entry.specs.declared.turn.Cause.{Cause}
-use Rattle.cf_stacks.specs.declared.held.Pending.{Pending}
 use Rattle.cf_stacks.specs.declared.state.StackState.{StackState}
 use Rattle.cf_stacks.specs.declared.state.World.{World}
 use Rattle.cf_stacks.specs.Status.{Forward, Back, Gone, stage_of}
@@ -23,14 +21,14 @@ use Rattle.cf_plan.specs.declared.next.Next.{Next}
 use Rattle.cf_plan.specs.declared.next.Next.TheVariants as next
 use Rattle.cf_plan.specs.declared.stepping.Start.{Start}
 use Rattle.cf_plan.specs.Forward.{AllDone, HasFailed, In, IsCause, here}
-use Rattle.cf_plan.specs.Follow.{AreFailed, EndsAs, IsAtEnd, MayFollowIn, MayKeep, MayStep, MayTurn, is_repeat_out, may_repeat, none_out, waits_for_repeats}
+use Rattle.cf_plan.specs.Follow.{AreFailed, EndsAs, IsAtEnd, MayKeep, MayStep, MayTurn, is_repeat_out, may_repeat, none_out, waits_for_repeats}
 use Rattle.cf_plan.specs.Stepping.{AreOpen, is_over}
-use Rattle.cf_plan.specs.Due.{AreDueIn, IsCallDueIn, IsDueIn, IsListed, are_in_order, with_due, with_repeats, with_starts}
+use Rattle.cf_plan.specs.Due.{AreDueIn, IsCallDueIn, IsDueIn, IsListed, with_due, with_repeats, with_starts}
 use Rattle.cf_plan.proofs.Members.{false_from, in_any, in_none, in_first, not_both}
 use Rattle.cf_plan.proofs.Choosing.{is_so, not_so, waits_by}
 use Rattle.cf_plan.proofs.Chosen.{no_repeat_out}
 use Rattle.cf_plan.proofs.InOrder.{Adds, adds_both, adds_none, adds_one}
-use Rattle.cf_plan.proofs.CallsDue.{IsCall, IsRepeat, IsStart, adds_repeats, adds_starts, again, call_due, due_call}
+use Rattle.cf_plan.proofs.CallsDue.{IsRepeat, IsStart, adds_repeats, adds_starts, call_due, due_call}
 
 module _ (schemas : List Schema) (name : List ℕ) (x : World) (out : List ℕ) (s : StackState) (creating : s.status ≡ status.CreateInProgress) where
   abbrev Due : Next → Type 0

@@ -4,7 +4,7 @@ use Rattle.cf_tree.specs.Datum.{Data, members_of}
 use Rattle.cf_tree.specs.Same.{same_members}
 use Rattle.cf_desired.specs.declared.wanted.Plan.{Plan}
 use Rattle.cf_schema.proofs.Equal.{same_equal, equal_same}
-use Rattle.cf_plan.specs.Forward.{Finding, Bad, Later, Known}
+use Rattle.cf_plan.specs.Forward.{Finding, Known}
 use Rattle.cf_plan.specs.Done.{HasProps, finding_by}
 
 props_found : Finding → List (List ℕ × Data)

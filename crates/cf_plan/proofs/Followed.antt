@@ -4,19 +4,18 @@ use Rattle.std.specs.List.{cons_option}
 use Rattle.std.proofs.Math.Seq.{take-suc}
 use Rattle.std.proofs.lemmas.List.Elements.{filter_map-append}
 use Rattle.cf_schema.specs.declared.described.Schema.{Schema}
-use Rattle.cf_entry.specs.declared.status.Status.TheVariants as status
 use Rattle.cf_entry.specs.declared.entry.Entry.{Entry}
 use Rattle.cf_entry.specs.declared.entry.Entry.TheVariants as entry
 use Rattle.cf_entry.proofs.Codec.{some_is}
 use Rattle.cf_stacks.specs.declared.state.StackState.{StackState}
 use Rattle.cf_stacks.specs.declared.state.World.{World}
-use Rattle.cf_stacks.specs.Status.{Stage, Back, stage_of}
+use Rattle.cf_stacks.specs.Status.{Stage, stage_of}
 use Rattle.cf_stacks.specs.Words.{stack_of_operation}
 use Rattle.cf_plan.specs.declared.next.Home.{Home}
 use Rattle.cf_plan.specs.declared.next.Next.{Next}
 use Rattle.cf_plan.specs.declared.next.Next.TheVariants as next
 use Rattle.cf_plan.specs.Follow.{MayFollow}
-use Rattle.cf_plan.specs.Chosen.{MayStart, IsChosen, IsNext, entry_of, leases_of}
+use Rattle.cf_plan.specs.Chosen.{MayStart, IsNext, entry_of, leases_of}
 
 pub none_is : {A B : Type 0} (a : A) → None ≡ Some a → B
 none_is a e = absurd cc
@@ -39,15 +38,6 @@ pub next_follows : (schemas : List Schema) (x : World) (out : List ℕ) (number 
     → IsNext schemas x out number n → entry_of number n ≡ Some e → MayFollow schemas x out e
 next_follows schemas x out number n e (name, s, stage, going, in_stage, chosen) q =
     follows schemas x out number name s stage going in_stage e n chosen.may q
-
--- what is chosen on the stack of the operation is its next step
-pub next_is : (schemas : List Schema) (x : World) (out leases : List ℕ) (number : ℕ) (n : Next) (t u : List ℕ × StackState)
-    → stack_of_operation number x ≡ Some t → stack_of_operation number x ≡ Some u → u.1.status ≡ status.RollbackInProgress → out ≡ leases
-    → ((name : List ℕ) → IsChosen schemas name x out t.1 Back n) → IsNext schemas x leases number n
-next_is schemas x out leases number n t u at going rolling same chosen =
-    let stage : stage_of t.1.status ≡ Some Back =
-    ap (λ (v : List ℕ × StackState). stage_of v.1.status) (some_is t u (sym at ∙ going)) ∙ ap stage_of rolling in
-    (t.0, t.1, Back, at, stage, subst (λ (o : List ℕ). IsChosen schemas t.0 x o t.1 Back n) same (chosen t.0))
 
 up : (i : ℕ) → suc i ≡ i + 1
 up i = omega arith

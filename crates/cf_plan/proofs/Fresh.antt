@@ -1,13 +1,13 @@
 -- Paths that join those that are done, one by one.
-use Rattle.std.proofs.Common.{◌≡◌, ◌⊎◌, inl, inr, ℕ, suc, ◌+◌, ◌<◌, ◌≤◌, Bool, true, false, ◌||◌, not, List, [], ◌∷◌, ◌++◌, IsTrue, length, take, get_or, map, refl, ap, sym, ◌∙◌, subst, arith, length-append, append_assoc, cond, true≢false}
+use Rattle.std.proofs.Common.{◌≡◌, inl, inr, ℕ, suc, ◌+◌, ◌<◌, ◌≤◌, Bool, true, false, ◌||◌, not, List, [], ◌∷◌, ◌++◌, length, take, get_or, map, refl, ap, sym, ◌∙◌, subst, arith, length-append, cond}
 use Rattle.std.specs.Prelude.{count_by}
 use Rattle.std.specs.Str.{bytes_eq}
 use Rattle.cf_tree.specs.Lists.{is_among}
 use Rattle.cf_desired.specs.declared.wanted.Wanted.{Wanted}
 use Rattle.cf_desired.specs.declared.wanted.Plan.{Plan}
 use Rattle.cf_stacks.specs.declared.held.Held.{Held}
-use Rattle.cf_plan.specs.Forward.{In, here, there}
-use Rattle.cf_plan.specs.Done.{Adds, IsFresh, IsNext, Joined, none, one}
+use Rattle.cf_plan.specs.Forward.{In}
+use Rattle.cf_plan.specs.Done.{Adds, IsFresh, Joined, none, one}
 use Rattle.cf_plan.proofs.Answered.{counted}
 use Rattle.cf_plan.proofs.Listed.{among_more, in_at, in_cons, in_last, in_map, in_none, map_more, same_bytes}
 

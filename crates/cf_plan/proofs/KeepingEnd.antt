@@ -1,11 +1,10 @@
 -- How a run of a creation ends: its template is live, or nothing newer is, or the rollback failed.
-use Rattle.std.proofs.Common.{◌≡◌, ◌⊎◌, inl, inr, ◌↔◌, ℕ, suc, zero, ◌+◌, ◌<◌, ◌==◌, List, [], ◌∷◌, ◌++◌, Bool, true, false, not, ◌&&◌, ◌||◌, Option, Some, None, refl, sym, ap, subst, ◌∙◌, true≢false, map, filter, find, flat_map, length, option_map, arith}
+use Rattle.std.proofs.Common.{◌≡◌, ◌⊎◌, inl, inr, ◌↔◌, ℕ, suc, zero, ◌+◌, ◌<◌, ◌==◌, List, [], ◌∷◌, ◌++◌, Bool, true, false, not, ◌&&◌, Option, Some, None, refl, sym, ap, subst, ◌∙◌, true≢false, map, filter, find, length, option_map, arith}
 use Rattle.std.specs.Prelude.{cond, fold, unwrap_or}
 use Rattle.std.specs.List.{list_any}
 use Rattle.std.specs.Str.{bytes_eq}
 use Rattle.std.specs.Cmp.{first_so, second_so}
-use Rattle.std.proofs.lemmas.List.Folds.{list_any-append}
-use Rattle.std.proofs.lemmas.Bool.{and_right, or_right, eqb-true}
+use Rattle.std.proofs.lemmas.Bool.{and_right, eqb-true}
 use Rattle.cf_tree.specs.Keys.{value_at}
 use Rattle.cf_tree.specs.Named.{all_differ}
 use Rattle.cf_tree.specs.declared.source.Source.{Source}
@@ -21,7 +20,6 @@ use Rattle.cf_entry.specs.declared.status.Status.{Status}
 use Rattle.cf_entry.specs.declared.status.Status.TheVariants as status
 use Rattle.cf_desired.specs.Whole.{Right, Whole, whole_of}
 use Rattle.cf_stacks.specs.declared.held.Held.{Held}
-use Rattle.cf_stacks.specs.declared.held.Leftover.{Leftover}
 use Rattle.cf_stacks.specs.declared.held.Pending.{Pending}
 use Rattle.cf_stacks.specs.declared.state.StackState.{StackState}
 use Rattle.cf_stacks.specs.declared.state.World.{World}

@@ -22,7 +22,7 @@ use Rattle.cf_stacks.specs.Fold.{world_after, fold_of}
 use Rattle.cf_plan.specs.Forward.{In, here, there}
 use Rattle.cf_plan.specs.Follow.{MayFollowOn, EndsAs}
 use Rattle.cf_plan.specs.Promise.{Promised}
-use Rattle.cf_plan.specs.Run.{Told, IsDone, IsOwn, Runs, lanes_told, HasBegun, Tells, IsBorn, IsOurs, was_live, is_left, is_made, is_born, OnlyOurs, NothingNewer, KeepsPromise, CreationKeepsPromise}
+use Rattle.cf_plan.specs.Run.{Told, IsDone, IsOwn, Runs, lanes_told, HasBegun, Tells, IsOurs, was_live, is_left, is_made, is_born, OnlyOurs, NothingNewer, KeepsPromise, CreationKeepsPromise}
 use Rattle.cf_plan.specs.Blame.{RollbackBlames}
 use Rattle.cf_plan.specs.Keeping.{IsOnItsWay, makes, takes_back, IsKept}
 use Rattle.cf_plan.proofs.Causing.{in_right}

@@ -11,9 +11,8 @@ use Rattle.std.proofs.lemmas.Slice.Eq.{bytes_eq-Decides}
 use Rattle.cf_tree.specs.Keys.{bytes_lt}
 use Rattle.cf_plan.specs.Chosen.{is_sooner}
 use Rattle.cf_plan.specs.Taking.{is_token_before, is_held_before}
-use Rattle.cf_plan.specs.declared.stepping.Start.{Start}
 use Rattle.cf_plan.specs.Stepping.{is_start_before, place_in_path}
-use Rattle.cf_plan.proofs.Members.{false_from, not_both}
+use Rattle.cf_plan.proofs.Members.{false_from}
 use Rattle.cf_plan.proofs.Firsts.{IsOrder}
 
 is_less : (o : Ordering) → is_lt o ≡ true → o ≡ Less

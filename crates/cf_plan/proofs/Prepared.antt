@@ -1,20 +1,17 @@
 -- What is prepared may follow.
-use Rattle.std.proofs.Common.{◌≡◌, ◌⊎◌, inl, inr, ℕ, ◌+◌, Bool, true, false, ◌&&◌, not, List, [], ◌∷◌, Option, Some, None, Result, Ok, Err, cond, map, option_map, IsTrue, refl, ap, sym, ◌∙◌, true≢false, subst}
+use Rattle.std.proofs.Common.{◌≡◌, inl, ℕ, ◌+◌, Bool, true, false, ◌&&◌, not, List, [], ◌∷◌, Option, Some, None, Result, Ok, Err, cond, option_map, refl, ap, sym, ◌∙◌, subst}
 use Rattle.std.specs.Prelude.{IfOk, filter, fold, option_and_then, unwrap_or}
 use Rattle.std.specs.List.{list_all}
 use Rattle.std.specs.Option.{option_or}
 use Rattle.cf_tree.specs.Keys.{bytes_lt}
-use Rattle.cf_tree.specs.declared.source.Source.{Source}
 use Rattle.cf_tree.specs.Lists.{first_in, is_among}
 use Rattle.cf_schema.specs.declared.described.Schema.{Schema}
-use Rattle.cf_desired.specs.declared.flaw.Flaw.{Flaw}
 use Rattle.cf_desired.specs.declared.wanted.Plan.{Plan}
 use Rattle.cf_desired.specs.declared.wanted.Wanted.{Wanted}
 use Rattle.cf_desired.specs.Plan.{plan_of}
 use Rattle.cf_change.specs.Changes.{HeldAt, found_of}
 use Rattle.cf_entry.specs.declared.status.Status.{Status}
 use Rattle.cf_entry.specs.declared.entry.Begun.TheVariants as begin
-use Rattle.cf_entry.specs.declared.entry.Entry.{Entry}
 use Rattle.cf_entry.specs.declared.entry.Entry.TheVariants as entry
 use Rattle.cf_stacks.specs.declared.held.Held.{Held}
 use Rattle.cf_stacks.specs.declared.state.StackState.{StackState}
@@ -23,13 +20,12 @@ use Rattle.cf_stacks.specs.Words.{stack_at}
 use Rattle.cf_stacks.specs.Fold.{known_stack, no_stack, source_for}
 use Rattle.cf_plan.specs.Accept.{IsAccepted, creates_from, held_by, seen_before}
 use Rattle.cf_plan.specs.Follow.{MayFollow}
-use Rattle.cf_plan.specs.Prepare.{IsOrderFor, PreparesAs, RefusesAs, SharesRightly, TestsAs, WishShares, barred, barring, first_plan, first_unknown, is_unknown, kinds_in, plan_refusal, refusal_of, sooner, source_by, stack_refusal, type_refusal}
+use Rattle.cf_plan.specs.Prepare.{IsOrderFor, PreparesAs, TestsAs, WishShares, barred, barring, first_plan, first_unknown, is_unknown, kinds_in, plan_refusal, refusal_of, sooner, source_by, stack_refusal, type_refusal}
 use Rattle.cf_plan.specs.declared.preparing.Order.{Order}
 use Rattle.cf_plan.specs.declared.preparing.PrepareFault.{PrepareFault}
 use Rattle.cf_plan.specs.declared.preparing.PrepareFault.TheVariants as fault
 use Rattle.cf_plan.specs.declared.preparing.StackFault.TheVariants.{WrongStatus}
 use Rattle.cf_plan.specs.declared.preparing.Wish.{Wish}
-use Rattle.cf_plan.proofs.Choosing.{is_so}
 use Rattle.cf_plan.proofs.BlankSeen.{new_by, new_first, plan_alike}
 
 some_none : {A B : Type 0} (a : A) → Some a ≡ None → B
@@ -142,10 +138,3 @@ pub prepares_new : (x : World) (w : Wish) (number : ℕ) (r : Result Order Prepa
 prepares_new x w number r free next tests =
     subst (λ (b : Option Status). TestsAs (option_or (stack_refusal b) (plan_refusal (kinds_in x) (first_plan x w))) (IsOrderFor (x.operation + 1) w) r) (sym free)
     (subst (λ (n : ℕ). TestsAs (plan_refusal (kinds_in x) (plan_of (source_for w.stack n w.source) [])) (IsOrderFor n w) r) next tests)
-
--- what is refused is refused by a test of it
-pub refused : {A : Type 0} (o : Option PrepareFault) (P : A → Type 0) (f e : PrepareFault) → RefusesAs f e → o ≡ Some f → TestsAs o P (Err e)
-refused o P f (fault.Stack s) r same = same ∙ ap (λ (g : PrepareFault). Some g) (sym r)
-refused o P f (fault.Plan flaw) r same = same ∙ ap (λ (g : PrepareFault). Some g) (sym r)
-refused o P f (fault.UnknownType path name) r same = same ∙ ap (λ (g : PrepareFault). Some g) (sym r)
-refused o P f fault.NoMemory r same = tt

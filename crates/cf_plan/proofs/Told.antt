@@ -17,25 +17,6 @@ module _ {X Y : Type 0} (f : X → Option Y) (test : Y → Bool) where
   any_told [] = refl
   any_told (x ∷ xs) = any_first (f x) x xs refl (any_told xs)
 
-  few_first : (o : Option Y) (x : X) (xs : List X) → f x ≡ o → length (filter test (filter_map f xs)) ≡ length (filter (λ e. option_map_or test (f e) false) xs)
-      → length (filter test (filter_map f (x ∷ xs))) ≡ length (filter (λ e. option_map_or test (f e) false) (x ∷ xs))
-  few_first None x xs e h = rw e h
-  few_first (Some y) x xs e h = rw e (by (test y))
-    where
-      by : (b : Bool) → length (cond b (y ∷ filter test (filter_map f xs)) (filter test (filter_map f xs)))
-          ≡ length (cond b (x ∷ filter (λ e. option_map_or test (f e) false) xs) (filter (λ e. option_map_or test (f e) false) xs))
-      by true = rw h refl
-      by false = h
-
-  few_told : (xs : List X) → length (filter test (filter_map f xs)) ≡ length (filter (λ e. option_map_or test (f e) false) xs)
-  few_told [] = refl
-  few_told (x ∷ xs) = few_first (f x) x xs refl (few_told xs)
-
-  -- as many of what is told pass as entries tell what passes
-  pub count_told : (xs : List X) → count_by test (filter_map f xs) ≡ count_by (λ e. option_map_or test (f e) false) xs
-  count_told xs =
-      sym (length-filter test (filter_map f xs)) ∙ (few_told xs ∙ length-filter (λ e. option_map_or test (f e) false) xs)
-
 -- one of those that pass the first test passes the second just where one passes both
 pub any_filtered : {X : Type 0} (p q : X → Bool) (xs : List X) → list_any q (filter p xs) ≡ list_any (λ x. p x && q x) xs
 any_filtered p q [] = refl

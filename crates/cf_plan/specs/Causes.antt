@@ -1,5 +1,5 @@
 -- Whether the forward phase has failed, and for which cause, as code tells it (this project's own).
-use Rattle.std.specs.Prelude.{◌≡◌, ℕ, Bool, true, List, [], ◌∷◌, Option, Some, None, find, if◌then◌else◌}
+use Rattle.std.specs.Prelude.{ℕ, List, [], Option, Some, None, find, if◌then◌else◌}
 use Rattle.cf_tree.specs.Lists.{first_in}
 use Rattle.cf_entry.specs.declared.turn.Cause.{Cause}
 use Rattle.cf_entry.specs.declared.turn.Cause.TheVariants as cause
@@ -12,7 +12,7 @@ use Rattle.cf_schema.specs.declared.described.Schema.{Schema}
 use Rattle.cf_stacks.specs.declared.state.StackState.{StackState}
 use Rattle.cf_stacks.specs.declared.state.World.{World}
 use Rattle.cf_plan.specs.Failed.{are_all_done, flaws_found, least}
-use Rattle.cf_plan.specs.Forward.{HasFailed, IsCause, first_failing, is_lost, path_of_token}
+use Rattle.cf_plan.specs.Forward.{HasFailed, IsCause, is_lost, path_of_token}
 use Rattle.cf_plan.specs.declared.cause.Failure.{Failure}
 use Rattle.cf_plan.specs.declared.cause.Failure.TheVariants.{Nothing, Because, Untold}
 

@@ -1,5 +1,5 @@
 -- How it is told whether the forward phase has failed, and why (this project's own).
-use Rattle.std.specs.Prelude.{◌≡◌, ℕ, Bool, true, List, [], ◌∷◌, ◌++◌, Option, Some, None, filter_map, fold, option_and_then, option_map, if◌then◌else◌}
+use Rattle.std.specs.Prelude.{ℕ, Bool, List, [], ◌++◌, Option, Some, None, filter_map, fold, option_and_then, option_map, if◌then◌else◌}
 use Rattle.std.specs.List.{list_all}
 use Rattle.cf_tree.specs.Keys.{bytes_lt}
 use Rattle.cf_tree.specs.Lists.{is_among}

@@ -1,6 +1,6 @@
 -- What a run of a creation keeps of its stack and of the lanes: each made resource is of the lane that its id names, what an
 -- open call was settled with is what its answer will say, and what is live was so before or the stack knows it (this project's own).
-use Rattle.std.specs.Prelude.{◌≡◌, ℕ, ◌≤◌, Bool, true, false, List, [], length, Option, Some, None, find, slice_index_or}
+use Rattle.std.specs.Prelude.{◌≡◌, ℕ, ◌≤◌, Bool, true, false, List, [], length, Option, Some, find}
 use Rattle.std.specs.Str.{bytes_eq}
 use Rattle.cf_tree.specs.Datum.{Data}
 use Rattle.cf_tree.specs.declared.request.Request.TheVariants as request

@@ -16,6 +16,7 @@ pub mod Created
 pub mod Chosen
 pub mod Taking
 pub mod Stepping
+pub mod Progress
 pub mod Blaming
 pub mod Run
 pub mod Keeping

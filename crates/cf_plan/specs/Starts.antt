@@ -6,7 +6,7 @@ use Rattle.cf_tree.specs.declared.request.Request.{Request}
 use Rattle.cf_tree.specs.declared.request.Request.TheVariants as request
 use Rattle.cf_schema.specs.declared.described.Schema.{Schema}
 use Rattle.cf_schema.specs.declared.changed.Difference.{Difference}
-use Rattle.cf_schema.specs.declared.changed.Difference.TheVariants.{Same, MayReplace, Replace as ToReplace}
+use Rattle.cf_schema.specs.declared.changed.Difference.TheVariants.{Same, Replace as ToReplace}
 use Rattle.cf_stacks.specs.declared.held.Held.{Held}
 use Rattle.cf_stacks.specs.declared.state.StackState.{StackState}
 use Rattle.cf_stacks.specs.Words.{current_at}
@@ -14,7 +14,7 @@ use Rattle.cf_tree.specs.Keys.{put, value_at}
 use Rattle.cf_tree.specs.Lists.{is_among}
 use Rattle.cf_desired.specs.declared.wanted.Plan.{Plan}
 use Rattle.cf_plan.specs.Done.{are_met, finding_by}
-use Rattle.cf_plan.specs.Forward.{Finding, Bad, Later, Known, IsDone, IsReady, difference_to, is_conditional, was_answered_at}
+use Rattle.cf_plan.specs.Forward.{Finding, Known, IsDone, IsReady, difference_to, is_conditional, was_answered_at}
 use Rattle.cf_plan.specs.Follow.{IntendsForward, is_free, was_not_updatable}
 use Rattle.cf_plan.specs.declared.forward.Wants.{Wants}
 

@@ -1,5 +1,5 @@
 -- The next step of a creation, as it is decided: what may begin, and on which lane (this project's own).
-use Rattle.std.specs.Prelude.{◌≡◌, ◌↔◌, ◌⊎◌, ℕ, ◌+◌, Bool, true, false, ◌&&◌, not, List, [], ◌∷◌, ◌++◌, Option, Some, None, IsTrue, fold, flat_map, is_some}
+use Rattle.std.specs.Prelude.{◌≡◌, ◌↔◌, ◌⊎◌, ℕ, ◌+◌, Bool, false, ◌&&◌, not, List, [], ◌∷◌, ◌++◌, Option, Some, None, IsTrue, fold, flat_map, is_some}
 use Rattle.std.specs.Option.{unwrap_or}
 use Rattle.cf_tree.specs.Keys.{put}
 use Rattle.cf_tree.specs.declared.request.Request.{Request}

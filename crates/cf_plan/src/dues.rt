@@ -17,16 +17,12 @@ ghost use Rattle.cf_plan.specs.Due.{AreDue, AreDueIn, AreDueOn, goes, is_step_be
 
 use crate::back::{is_home_of, is_kept, needed};
 use crate::calls::is_untried;
-use crate::cause::{Failure, failure_of};
-use crate::done::done_paths;
 use crate::forward::is_free;
 use crate::lanes::first_home;
-use crate::next::{Next, again, end_back, is_ended, kept, stack_of_operation};
+use crate::next::{Next, again, end_back, is_ended, kept, stack_of_operation, step};
+use crate::progress::{Progress, progress_of};
 use crate::repeats::{may_repeat, none_out, waits_for_repeats};
-use crate::stepping::{
-    Starts, is_all_done, is_creating, is_over, open_starts, place_in_path, plan_before, plan_now,
-    terms_for,
-};
+use crate::stepping::{Starts, is_creating, is_over, place_in_path, terms_for};
 use cf_entry::{Cause, Phase, Status};
 use cf_schema::Schemas;
 use cf_stacks::{Held, Pending, StackState, Terms, World};
@@ -218,13 +214,7 @@ fn call(
     let Some(token) = world.token.checked_add(1) else {
         return Err(AllocError);
     };
-    Ok(Next::Step {
-        path: path.try_clone(alloc)?,
-        lane: Txt::from_str(alloc, lane)?,
-        token,
-        request: request.try_clone(alloc)?,
-        repeated: false,
-    })
+    step(alloc, path, lane, token, request, false)
 }
 
 /// Adds a call on the resource of a physical id on one lane, where that is at home and the id names
@@ -443,17 +433,12 @@ fn dues_forward(
     requires creating { stack.now.status ≡ status.CreateInProgress }
     ensures { IfOk result (λ dues. AreDueIn schemas.now name.now world.now out.now stack.now Forward dues) }
 {
-    let before = plan_before(alloc, stack)?;
-    let now = plan_now(alloc, stack)?;
-    let done = done_paths(alloc, stack, &before, &now)?;
-    match failure_of(alloc, schemas, name, world, stack, &before, &now, &done)? {
-        Failure::Because { cause } => dues_failed(alloc, schemas, name, world, stack, out, cause),
-        Failure::Untold => Ok(dues_untold(alloc, schemas, name, world, stack, out)),
-        Failure::Nothing => {
-            let starts = open_starts(alloc, schemas, stack, &before, &now, &done)?;
-            let is_done = is_all_done(stack, &before, &done);
-            dues_going(alloc, schemas, name, world, stack, out, &starts, is_done)
-        }
+    match progress_of(alloc, schemas, name, world, stack)? {
+        Progress::Failed { cause } => dues_failed(alloc, schemas, name, world, stack, out, cause),
+        Progress::Untold => Ok(dues_untold(alloc, schemas, name, world, stack, out)),
+        Progress::Going { starts, is_done } => dues_going(
+            alloc, schemas, name, world, stack, out, &starts, is_done,
+        ),
     }
 }
 
@@ -485,7 +470,9 @@ fn add_gone(
     let request = Request::Delete {
         physical: held.physical.try_clone(alloc)?,
     };
-    add_call(alloc, dues, out, world, &held.path, &request)
+    let added = add_call(alloc, dues, out, world, &held.path, &request);
+    drop(request);
+    added
 }
 
 /// Adds a made resource, where it goes. After an error nothing is said of the steps.

@@ -15,6 +15,7 @@ mod lanes;
 mod laws;
 mod next;
 mod preparing;
+mod progress;
 mod repeats;
 mod starts;
 mod stepping;

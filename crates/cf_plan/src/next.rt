@@ -68,20 +68,41 @@ pub enum Next {
     Wait,
 }
 
+/// A call on a lane.
+pub(crate) fn step(
+    alloc: Global,
+    path: &Txt,
+    lane: &str,
+    token: u64,
+    request: &Request,
+    repeated: bool,
+) -> Result<Next, AllocError>
+    ensures { IfOk result (λ n. n ≡ next.Step path.now lane.now token request.now repeated) }
+{
+    let path = path.try_clone(alloc)?;
+    let lane = Txt::from_str(alloc, lane)?;
+    let request = request.try_clone(alloc)?;
+    Ok(Next::Step {
+        path,
+        lane,
+        token,
+        request,
+        repeated,
+    })
+}
+
 /// The call of an open token, once more.
 pub fn again(alloc: Global, pending: &Pending) -> Result<Next, AllocError>
     ensures { IfOk result (λ n. n ≡ next.Step pending.now.path pending.now.lane pending.now.token pending.now.request true) }
 {
-    let path = pending.path.try_clone(alloc)?;
-    let lane = pending.lane.try_clone(alloc)?;
-    let request = pending.request.try_clone(alloc)?;
-    Ok(Next::Step {
-        path,
-        lane,
-        token: pending.token,
-        request,
-        repeated: true,
-    })
+    step(
+        alloc,
+        &pending.path,
+        pending.lane.as_str(),
+        pending.token,
+        &pending.request,
+        true,
+    )
 }
 
 /// A resource is kept.
@@ -101,16 +122,12 @@ pub(crate) fn kept(alloc: Global, held: &Held) -> Result<Next, AllocError>
 fn deleted(alloc: Global, held: &Held, lane: &Txt, token: u64) -> Result<Next, AllocError>
     ensures { IfOk result (λ n. n ≡ next.Step held.now.path lane.now token (request.Delete held.now.physical) false) }
 {
-    let path = held.path.try_clone(alloc)?;
-    let lane = lane.try_clone(alloc)?;
-    let physical = held.physical.try_clone(alloc)?;
-    Ok(Next::Step {
-        path,
-        lane,
-        token,
-        request: Request::Delete { physical },
-        repeated: false,
-    })
+    let request = Request::Delete {
+        physical: held.physical.try_clone(alloc)?,
+    };
+    let deletion = step(alloc, &held.path, lane.as_str(), token, &request, false);
+    drop(request);
+    deletion
 }
 
 /// The first made resource that may go goes: it is kept, or deleted on its lane. Where no token is

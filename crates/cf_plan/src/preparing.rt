@@ -162,7 +162,9 @@ fn first_plan(
     ensures { IfOk result (λ p. p ≡ plan_of (source_for wish.now.stack number wish.now.source) []) }
 {
     let source = source_by(alloc, wish, number)?;
-    plan(alloc, &source, templates, &Seen::new(alloc))
+    let plan = plan(alloc, &source, templates, &Seen::new(alloc));
+    drop(source);
+    plan
 }
 
 /// The entry that begins the operation of this number. Its source is written without a number.
@@ -203,12 +205,15 @@ fn prepare_new(
     ensures { TestsAs (plan_refusal (kinds_in world.now) (plan_of (source_for wish.now.stack number wish.now.source) []))
         (IsOrderFor number wish.now) result }
 {
-    match first_plan(alloc, wish, templates, number) {
-        Ok(plan) => match test_plan(alloc, world, &plan) {
-            Ok(()) => ordered(alloc, wish, number),
-            Err(fault) => Err(fault),
-        },
-        Err(_) => Err(PrepareFault::NoMemory),
+    let plan = match first_plan(alloc, wish, templates, number) {
+        Ok(plan) => plan,
+        Err(_) => return Err(PrepareFault::NoMemory),
+    };
+    let tested = test_plan(alloc, world, &plan);
+    drop(plan);
+    match tested {
+        Ok(()) => ordered(alloc, wish, number),
+        Err(fault) => Err(fault),
     }
 }
 

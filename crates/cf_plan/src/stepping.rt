@@ -10,7 +10,7 @@ ghost use Rattle.cf_schema.specs.declared.described.Schema.{Schema};
 ghost use Rattle.cf_stacks.specs.Status.{Forward, Back};
 ghost use Rattle.cf_stacks.specs.Fold.{terms_at};
 ghost use Rattle.cf_plan.specs.declared.next.Next.TheVariants as next;
-ghost use Rattle.cf_plan.specs.Forward.{plan_before, plan_now, AllDone, HasFailed, IsCause};
+ghost use Rattle.cf_plan.specs.Forward.{plan_before, plan_in, plan_now, AllDone, HasFailed, IsCause};
 ghost use Rattle.cf_plan.specs.Done.{AreDone};
 ghost use Rattle.cf_plan.specs.Chosen.{IsChosen, IsNext, entry_of, leases_of};
 ghost use Rattle.cf_plan.specs.Follow.{MayFollow};
@@ -18,14 +18,14 @@ ghost use Rattle.cf_plan.specs.Taking.{AreTerms, better, better_if, first_by, is
 ghost use Rattle.cf_plan.specs.Stepping.{schemas_of, Creates, IsCreation, IsChosenOn, start_of, starts_at, starts_in, with_terms, terms_asked, AreOpen, lane_for, is_start_home, place_in_path, is_start_before, is_over, Begins, Waits};
 
 use crate::back::{first_repeat, home_of};
-use crate::cause::{Failure, are_all_done, failure_of};
-use crate::done::done_paths;
+use crate::cause::are_all_done;
 use crate::forward::Wants;
 use crate::lanes::first_home;
-use crate::next::{Homes, Next, again, leases_of, next_back, stack_of_operation};
+use crate::next::{Homes, Next, again, leases_of, next_back, stack_of_operation, step};
+use crate::progress::{Progress, progress_of};
 use crate::repeats::{none_out, waits_for_repeats};
 use crate::starts::starts_of;
-use cf_desired::Plan;
+use cf_desired::{Plan, Seen};
 use cf_entry::{Cause, Phase, Status};
 use cf_schema::Schemas;
 use cf_stacks::{StackState, Terms, World, seen_in, seen_now};
@@ -69,15 +69,22 @@ fn no_plan(alloc: Global) -> Plan
     }
 }
 
+/// What the source of a stack's operation wants over what is seen.
+fn plan_in(alloc: Global, stack: &StackState, seen: &Seen) -> Result<Plan, AllocError>
+    ensures { IfOk result (λ plan. plan ≡ plan_in stack.now.going seen.now) }
+{
+    match &stack.going {
+        Some(going) => going.plan(alloc, seen),
+        None => Ok(no_plan(alloc)),
+    }
+}
+
 /// What the source of a stack's operation wants over what was held before.
 pub fn plan_before(alloc: Global, stack: &StackState) -> Result<Plan, AllocError>
     ensures { IfOk result (λ plan. plan ≡ plan_before stack.now) }
 {
     let seen = seen_in(alloc, &stack.before)?;
-    match &stack.going {
-        Some(going) => going.plan(alloc, &seen),
-        None => Ok(no_plan(alloc)),
-    }
+    plan_in(alloc, stack, &seen)
 }
 
 /// What it wants over the resources of now.
@@ -85,10 +92,7 @@ pub fn plan_now(alloc: Global, stack: &StackState) -> Result<Plan, AllocError>
     ensures { IfOk result (λ plan. plan ≡ plan_now stack.now) }
 {
     let seen = seen_now(alloc, stack)?;
-    match &stack.going {
-        Some(going) => going.plan(alloc, &seen),
-        None => Ok(no_plan(alloc)),
-    }
+    plan_in(alloc, stack, &seen)
 }
 
 /// The policies and needs that the source of the operation gives a path.
@@ -274,22 +278,6 @@ fn first_start<'a>(out: &[u64], world: &World, starts: &'a Starts) -> Option<&'a
     best
 }
 
-/// A new call on a lane.
-fn begun(alloc: Global, start: &Start, lane: &Txt, token: u64) -> Result<Next, AllocError>
-    ensures { IfOk result (λ n. n ≡ next.Step start.now.path lane.now token start.now.request false) }
-{
-    let path = start.path.try_clone(alloc)?;
-    let lane = lane.try_clone(alloc)?;
-    let request = start.request.try_clone(alloc)?;
-    Ok(Next::Step {
-        path,
-        lane,
-        token,
-        request,
-        repeated: false,
-    })
-}
-
 /// A request begins on its lane. Where no token is left, this is an error too.
 fn begin(alloc: Global, out: &[u64], world: &World, start: &Start) -> Result<Next, AllocError>
     requires { IsTrue (is_start_home out.now world.now start.now) }
@@ -299,7 +287,14 @@ fn begin(alloc: Global, out: &[u64], world: &World, start: &Start) -> Result<Nex
         lane_for(out, world, &start.request),
         world.token.checked_add(1),
     ) {
-        (Some(lane), Some(token)) => begun(alloc, start, &lane.0, token),
+        (Some(lane), Some(token)) => step(
+            alloc,
+            &start.path,
+            lane.0.as_str(),
+            token,
+            &start.request,
+            false,
+        ),
         // A lane at home can take it.
         (None, _) => unreachable!(),
         (_, None) => Err(AllocError),
@@ -454,17 +449,12 @@ fn next_forward(
     requires creating { stack.now.status ≡ status.CreateInProgress }
     ensures { IfOk result (λ n. IsChosen schemas.now name.now world.now out.now stack.now Forward n) }
 {
-    let before = plan_before(alloc, stack)?;
-    let now = plan_now(alloc, stack)?;
-    let done = done_paths(alloc, stack, &before, &now)?;
-    match failure_of(alloc, schemas, name, world, stack, &before, &now, &done)? {
-        Failure::Because { cause } => turns_back(schemas, name, world, stack, out, cause),
-        Failure::Untold => stays(schemas, name, world, stack, out),
-        Failure::Nothing => {
-            let starts = open_starts(alloc, schemas, stack, &before, &now, &done)?;
-            let is_done = is_all_done(stack, &before, &done);
-            next_going(alloc, schemas, name, world, stack, out, &starts, is_done)
-        }
+    match progress_of(alloc, schemas, name, world, stack)? {
+        Progress::Failed { cause } => turns_back(schemas, name, world, stack, out, cause),
+        Progress::Untold => stays(schemas, name, world, stack, out),
+        Progress::Going { starts, is_done } => next_going(
+            alloc, schemas, name, world, stack, out, &starts, is_done,
+        ),
     }
 }
 
