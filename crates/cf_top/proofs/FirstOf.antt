@@ -35,8 +35,8 @@ pub added : (kind : List ℕ) (g : Schema) (fs gs : List Schema) → found kind 
 added kind g fs gs = added_by kind g fs gs (found g.kind fs) refl
 
 -- the same of lanes that are gone over one by one
-pub added_next : {A : Type 0} (schema_of : A → Schema) (lanes : List A) (at : ℕ) (lane : A) (g : Schema) (fs fs' : List Schema) (kind : List ℕ) → at < length lanes → lane ≡ get_or lanes at lane → g ≡ schema_of lane → fs' ≡ with_kind g fs → found kind (fs ++ map schema_of (drop at lanes)) ≡ found kind (map schema_of lanes) → found kind (fs' ++ map schema_of (drop (at + 1) lanes)) ≡ found kind (map schema_of lanes)
-added_next schema_of lanes at lane g fs fs' kind l e h w k =
+pub added_next : {A : Type 0} (schema_of : A → Schema) (all : List Schema) (lanes : List A) (at : ℕ) (lane : A) (g : Schema) (fs fs' : List Schema) (kind : List ℕ) → at < length lanes → lane ≡ get_or lanes at lane → g ≡ schema_of lane → fs' ≡ with_kind g fs → found kind (fs ++ map schema_of (drop at lanes)) ≡ found kind all → found kind (fs' ++ map schema_of (drop (at + 1) lanes)) ≡ found kind all
+added_next schema_of all lanes at lane g fs fs' kind l e h w k =
     let rest : List Schema = map schema_of (drop (at + 1) lanes) in
     let split : map schema_of (drop at lanes) ≡ schema_of lane ∷ rest = ap (map schema_of) (drop_more lanes at lane l ∙ ap (λ x. x ∷ drop (at + 1) lanes) (sym e)) in
     ap (λ ys. found kind (ys ++ rest)) (w ∙ ap (λ y. with_kind y fs) h) ∙ added kind (schema_of lane) fs rest ∙ ap (λ ys. found kind (fs ++ ys)) (sym split) ∙ k

@@ -1,17 +1,17 @@
 //! The journal of a run, its entries, and the world that they leave.
-ghost use Rattle.std.specs.Prelude.{◌≡◌, ◌≤◌, ◌<◌, OnOk, length, vec_len, vec_capacity};
+ghost use Rattle.std.specs.Prelude.{◌≡◌, ◌≤◌, ◌<◌, IfOk, OnOk, length, vec_len, vec_capacity};
 ghost use Rattle.cf_tree.specs.SizeOf.{capped};
 ghost use Rattle.cf_entry.specs.Entry.{IsProper, spelling_of};
 ghost use Rattle.cf_stacks.specs.Changing.{IsFlatEntry};
 ghost use Rattle.cf_stacks.specs.Room.{HasRoom};
-ghost use Rattle.cf_journal.specs.Record.{Stands, spare_of};
+ghost use Rattle.cf_journal.specs.Record.{Stands, is_broken, journal_length, spare_of};
 ghost use Rattle.cf_top.specs.Book.{IsOpen, Holds, AppendTells, world_of};
 
 use cf_disk::Disk;
 use cf_entry::{Entry, entry_size};
 use cf_journal::{AppendFault, Journal};
 use cf_stacks::{StepFault, World};
-use cf_tree::TryClone;
+use cf_tree::{NoMemory, TryClone};
 use std::alloc::Global;
 
 /// A journal that is open for more entries, with those that it has.
@@ -24,7 +24,7 @@ pub struct Book {
 }
 
 /// Why a run can't go on.
-#[derive(Clone, Copy, Debug, Drop, PartialEq, Eq)]
+#[derive(Clone, Copy, Drop)]
 pub enum Halt {
     /// The journal's length and the bytes that the next entry needs pass the disk's room.
     Full { length: u64, need: u64, room: u64 },
@@ -53,16 +53,34 @@ pub fn append<D: Disk>(
     ensures tells { AppendTells D.tells (D.seen disk.new) (D.room_of disk.old) (D.count disk.old) (D.count disk.new) book.old.entries.items book.new.entries.items entry result }
 {
     // All memory is taken first, so that want of it leaves the disk as it was.
-    match book.world.room_for(alloc, &entry) {
-        Ok(()) => match (
-            entry.try_clone(alloc),
-            book.entries.reserve(1),
-            book.journal.reserve(entry_size(&entry)),
-        ) {
-            (Ok(copy), Ok(()), Ok(())) => write(alloc, book, disk, entry, copy),
-            _ => Err(Halt::NoMemory),
-        },
-        Err(StepFault::NoMemory) => Err(Halt::NoMemory),
+    match take_memory(alloc, book, &entry) {
+        Ok(copy) => write(alloc, book, disk, entry, copy),
+        Err(NoMemory) => {
+            drop(entry);
+            Err(Halt::NoMemory)
+        }
+    }
+}
+
+/// Makes room for an entry in the world, and memory for it in the book's entries and in its journal; a copy of it for the book.
+fn take_memory(alloc: Global, book: &mut Book, entry: &Entry) -> Result<Entry, NoMemory>
+    requires flat { IsFlatEntry entry.now }
+    ensures copied { IfOk result (λ copy. copy ≡ entry.now) }
+    ensures made { OnOk result (HasRoom book.new.world entry.now) }
+    ensures memory { OnOk result (vec_len book.new.entries < vec_capacity book.new.entries) }
+    ensures spare { OnOk result (capped (length (spelling_of entry.now)) ≤ spare_of book.new.journal) }
+    ensures entries { book.new.entries.items ≡ book.old.entries.items }
+    ensures length { journal_length book.new.journal ≡ journal_length book.old.journal }
+    ensures broken { is_broken book.new.journal ≡ is_broken book.old.journal }
+    ensures world { book.new.world ≡ record book.old.world { ready = book.new.world.ready; rooms = book.new.world.rooms } }
+{
+    match book.world.room_for(alloc, entry) {
+        Ok(()) => {
+            book.entries.reserve(1)?;
+            book.journal.reserve(entry_size(entry))?;
+            Ok(entry.try_clone(alloc)?)
+        }
+        Err(StepFault::NoMemory) => Err(NoMemory),
         Err(StepFault::Nested) => unreachable!(),
     }
 }
@@ -96,7 +114,13 @@ fn write<D: Disk>(
             book.world.give_up_rooms(alloc);
             Ok(())
         }
-        Err(AppendFault::Full { length, need, room }) => Err(Halt::Full { length, need, room }),
-        Err(AppendFault::DiskFault) => Err(Halt::DiskFault),
+        Err(fault) => {
+            drop(copy);
+            drop(entry);
+            match fault {
+                AppendFault::Full { length, need, room } => Err(Halt::Full { length, need, room }),
+                AppendFault::DiskFault => Err(Halt::DiskFault),
+            }
+        }
     }
 }

@@ -22,11 +22,17 @@ use std::alloc::{AllocError, Global};
 fn beginning(alloc: Global, number: u64, stack: &Txt, source: Source) -> Result<Entry, AllocError>
     ensures { IfOk result (λ e. e ≡ beginning number stack.now source) }
 {
-    Ok(Entry::Begin {
-        number,
-        stack: stack.try_clone(alloc)?,
-        kind: Begun::Create { source },
-    })
+    match stack.try_clone(alloc) {
+        Ok(stack) => Ok(Entry::Begin {
+            number,
+            stack,
+            kind: Begun::Create { source },
+        }),
+        Err(failed) => {
+            drop(source);
+            Err(failed)
+        }
+    }
 }
 
 /// The number of the next operation, where there is one and no operation of this number is in
@@ -110,13 +116,22 @@ pub fn create<D: Disk, H: Handler>(
     ensures lone { OnOk result (stack_of_operation (next_number book.old.entries.items) (world_of book.old.entries.items) ≡ None) }
 {
     let Some(number) = next_number(&book.world) else {
+        drop(source);
         return Err(Halt::NoMemory);
     };
     let Ok(homes) = homes_of(alloc, lanes.as_slice()) else {
+        drop(source);
         return Err(Halt::NoMemory);
     };
     match begin(alloc, book, disk, number, stack, source) {
-        Ok(()) => drive(alloc, book, disk, lanes, &homes, number),
-        Err(halt) => Err(halt),
+        Ok(()) => {
+            let driven = drive(alloc, book, disk, lanes, &homes, number);
+            drop(homes);
+            driven
+        }
+        Err(halt) => {
+            drop(homes);
+            Err(halt)
+        }
     }
 }

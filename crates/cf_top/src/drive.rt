@@ -1,5 +1,5 @@
 //! The driving of a creation: each step that comes next is taken, until the operation ends.
-ghost use Rattle.std.specs.Prelude.{◌≡◌, ◌≤◌, ◌<◌, List, [], length, map, find, option_copied, OnOk, IfOk, IfSome, Some, slice_index_or};
+ghost use Rattle.std.specs.Prelude.{◌≡◌, ◌≤◌, ◌<◌, ◌++◌, List, None, [], length, map, find, option_copied, OnOk, IfOk, IfSome, Some, slice_index_or};
 ghost use Rattle.cf_schema.specs.declared.described.Schema.{Schema};
 ghost use Rattle.cf_handler.specs.Move.{CallTells, HasCause};
 ghost use Rattle.cf_entry.specs.Entry.{IsProper};
@@ -18,6 +18,7 @@ use cf_disk::Disk;
 use cf_entry::{Entry, Reply};
 use cf_handler::Handler;
 use cf_plan::{Home, Homes, Next, next_in_creation, stack_of_operation};
+use cf_schema::Schema;
 use cf_stacks::{Pending, World};
 use cf_tree::{Answer, Request, TryClone, Txt};
 use std::alloc::{AllocError, Global};
@@ -31,7 +32,7 @@ struct Told {
 }
 
 /// What a step leaves.
-#[derive(Clone, Copy, Debug, Drop, PartialEq, Eq)]
+#[derive(Clone, Copy, Drop)]
 pub enum Taken {
     /// The operation goes on.
     Moved,
@@ -44,16 +45,38 @@ pub fn homes_of<H: Handler>(alloc: Global, lanes: &[H]) -> Result<Homes, AllocEr
     ensures { IfOk result (λ homes. homes ≡ homes_of (map H.label lanes.now) (map H.schema_of lanes.now)) }
 {
     let mut homes = Homes::new(alloc);
+    match add_homes(alloc, &mut homes, lanes) {
+        Ok(()) => Ok(homes),
+        Err(failed) => {
+            drop(homes);
+            Err(failed)
+        }
+    }
+}
+
+/// Adds the lanes, each at home. After an error nothing is said of the homes.
+fn add_homes<H: Handler>(alloc: Global, homes: &mut Homes, lanes: &[H]) -> Result<(), AllocError>
+    ensures { IfOk result (λ _. homes.new ≡ homes.old ++ homes_of (map H.label lanes.now) (map H.schema_of lanes.now)) }
+{
     for lane in lanes.iter() {
-        let name = Txt::from_str(alloc, lane.name())?;
-        let schema = lane.schema().try_clone(alloc)?;
-        homes.push(Home {
+        homes.push(home_of(alloc, lane.name(), lane.schema())?)?;
+    }
+    Ok(())
+}
+
+/// A lane of a name and a schema, at home.
+fn home_of(alloc: Global, name: &str, schema: &Schema) -> Result<Home, AllocError>
+    ensures { IfOk result (λ home. home ≡ record { name = name.now; schema = schema.now; out = None }) }
+{
+    let name = Txt::from_str(alloc, name)?;
+    match schema.try_clone(alloc) {
+        Ok(schema) => Ok(Home {
             name,
             schema,
             out: None,
-        })?;
+        }),
+        Err(failed) => Err(failed),
     }
-    Ok(homes)
 }
 
 /// Asks a lane.
@@ -255,13 +278,6 @@ fn entry_of(number: u64, next: Next) -> Option<Entry>
 {
     match next {
         Next::Step {
-            path: _,
-            lane: _,
-            token: _,
-            request: _,
-            repeated: true,
-        } => None,
-        Next::Step {
             path,
             lane,
             token,
@@ -294,7 +310,10 @@ fn entry_of(number: u64, next: Next) -> Option<Entry>
             status,
             failed,
         }),
-        Next::Wait => None,
+        unwritten => {
+            drop(unwritten);
+            None
+        }
     }
 }
 

@@ -65,8 +65,14 @@ pub fn deploy_on<L: Library, D: Disk, H: Handler>(
     match enter(alloc, &mut book, disk, lanes.as_slice()) {
         Ok(()) => match deploy_in(alloc, &mut book, disk, library, lanes, stack, choice) {
             Ok(()) => Ok(book),
-            Err(exit) => Err(exit),
+            Err(exit) => {
+                drop(book);
+                Err(exit)
+            }
         },
-        Err(exit) => Err(exit),
+        Err(exit) => {
+            drop(book);
+            Err(exit)
+        }
     }
 }

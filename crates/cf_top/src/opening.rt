@@ -1,5 +1,5 @@
 //! The opening of a journal over lanes.
-ghost use Rattle.std.specs.Prelude.{◌≡◌, ◌≤◌, ◌^◌, [], map, option_copied, option_map, IfOk, IfErr, OnOk, IsTrue, None};
+ghost use Rattle.std.specs.Prelude.{◌≡◌, ◌≤◌, ◌^◌, ◌++◌, [], map, option_copied, option_map, IfOk, IfErr, OnOk, IsTrue, None};
 ghost use Rattle.std.specs.List.{list_all};
 ghost use Rattle.cf_tree.specs.Lists.{is_among};
 ghost use Rattle.cf_handler.specs.Name.{is_lane_name};
@@ -60,8 +60,14 @@ pub fn open<D: Disk>(alloc: Global, disk: &mut D) -> Result<Book, Exit>
                 entries: entries.into_vec(),
                 world,
             }),
-            Err(StepFault::Nested) => Err(not_yet(alloc)),
-            Err(StepFault::NoMemory) => Err(Exit::NoMemory),
+            Err(fault) => {
+                drop(journal);
+                drop(entries);
+                match fault {
+                    StepFault::Nested => Err(not_yet(alloc)),
+                    StepFault::NoMemory => Err(Exit::NoMemory),
+                }
+            }
         },
         Err(RecoverFault::NotAJournal { offset }) => Err(Exit::NotAJournal { offset }),
         Err(RecoverFault::DiskFault) => Err(Exit::DiskFault),
@@ -276,12 +282,39 @@ fn lane_names<H: Handler>(alloc: Global, lanes: &[H]) -> Result<LaneNames, Alloc
     ensures named { IfOk result (λ _. IsTrue (list_all is_lane_name (map H.label lanes.now))) }
 {
     let mut names = LaneNames::new(alloc);
-    for lane in lanes.iter() {
-        let name = Txt::from_str(alloc, lane.name())?;
-        let kind = lane.schema().kind.try_clone(alloc)?;
-        names.push((name, kind))?;
+    match add_names(alloc, &mut names, lanes) {
+        Ok(()) => Ok(names),
+        Err(failed) => {
+            drop(names);
+            Err(failed)
+        }
     }
-    Ok(names)
+}
+
+/// Adds the name and the type of each lane. After an error nothing is said of the names.
+fn add_names<H: Handler>(
+    alloc: Global,
+    names: &mut LaneNames,
+    lanes: &[H],
+) -> Result<(), AllocError>
+    ensures pairs { IfOk result (λ _. names.new ≡ names.old ++ lane_pairs (map H.label lanes.now) (kinds_of (map H.schema_of lanes.now))) }
+    ensures named { IfOk result (λ _. IsTrue (list_all is_lane_name (map H.label lanes.now))) }
+{
+    for lane in lanes.iter() {
+        names.push(lane_pair(alloc, lane.name(), &lane.schema().kind)?)?;
+    }
+    Ok(())
+}
+
+/// A name and a type, as an opening tells them of a lane.
+fn lane_pair(alloc: Global, name: &str, kind: &Txt) -> Result<(Txt, Txt), AllocError>
+    ensures { IfOk result (λ pair. pair ≡ (name.now, kind.now)) }
+{
+    let name = Txt::from_str(alloc, name)?;
+    match kind.try_clone(alloc) {
+        Ok(kind) => Ok((name, kind)),
+        Err(failed) => Err(failed),
+    }
 }
 
 /// The entry of an opening over these lanes; past the last number there is none.

@@ -37,8 +37,15 @@ pub fn examine<H: Handler>(
         (λ source. source ≡ source_of stack.now choice.now bytes.items) result }
 {
     match read_template(alloc, bytes.as_slice()) {
-        Ok(template) => examine_template(alloc, lanes, choice, stack, number, bytes, &template),
-        Err(fault) => Err(unread(alloc, &choice.template, fault)),
+        Ok(template) => {
+            let examined = examine_template(alloc, lanes, choice, stack, number, bytes, &template);
+            drop(template);
+            examined
+        }
+        Err(fault) => {
+            drop(bytes);
+            Err(unread(alloc, &choice.template, fault))
+        }
     }
 }
 
@@ -57,6 +64,7 @@ fn examine_template<H: Handler>(
         (λ source. source ≡ source_of stack.now choice.now bytes.items) result }
 {
     if is_not_yet(template) {
+        drop(bytes);
         return Err(not_yet(alloc, &choice.template));
     }
     match source_of(alloc, stack, choice, bytes) {
@@ -79,14 +87,29 @@ fn examine_source<H: Handler>(
 {
     let mut source = source;
     source.number = number;
-    match first_plan(alloc, &source) {
-        Ok(plan) => match test_plan(alloc, lanes, &plan) {
-            Ok(()) => {
-                source.number = 0;
-                Ok(source)
-            }
-            Err(exit) => Err(exit),
-        },
+    match test_source(alloc, lanes, &source) {
+        Ok(()) => {
+            source.number = 0;
+            Ok(source)
+        }
+        Err(exit) => {
+            drop(source);
+            Err(exit)
+        }
+    }
+}
+
+/// Refuses a source for what it wants before anything is made.
+fn test_source<H: Handler>(alloc: Global, lanes: &[H], source: &Source) -> Result<(), Exit>
+    requires { IsFlat source.now }
+    ensures { TestsAs (plan_refusal (kinds_of (map H.schema_of lanes.now)) (plan_of source.now [])) (λ _. Unit {0}) result }
+{
+    match first_plan(alloc, source) {
+        Ok(plan) => {
+            let tested = test_plan(alloc, lanes, &plan);
+            drop(plan);
+            tested
+        }
         Err(_) => Err(Exit::NoMemory),
     }
 }
@@ -100,16 +123,40 @@ fn source_of(
 ) -> Result<Source, AllocError>
     ensures { IfOk result (λ source. source ≡ source_of stack.now choice.now bytes.items) }
 {
-    let mut texts = Texts::new(alloc);
-    texts.insert(choice.template.try_clone(alloc)?, Bytes::from_vec(bytes))?;
-    Ok(Source {
-        root: choice.template.try_clone(alloc)?,
-        texts,
-        given: choice.given.try_clone(alloc)?,
+    let mut source = Source {
+        root: Txt::new(String::new(alloc)),
+        texts: Texts::new(alloc),
+        given: Pairs::new(alloc),
         imports: Pairs::new(alloc),
-        stack: stack.try_clone(alloc)?,
+        stack: Txt::new(String::new(alloc)),
         number: 0,
-    })
+    };
+    match fill_source(alloc, &mut source, stack, choice, bytes) {
+        Ok(()) => Ok(source),
+        Err(failed) => {
+            drop(source);
+            Err(failed)
+        }
+    }
+}
+
+/// Makes a source that has no text yet that of a choice. After an error nothing is said of it.
+fn fill_source(
+    alloc: Global,
+    source: &mut Source,
+    stack: &Txt,
+    choice: &Choice,
+    bytes: Vec<u8>,
+) -> Result<(), AllocError>
+    requires { source.old.texts ≡ [] }
+    ensures { IfOk result (λ _. source.new ≡ record (source_of stack.now choice.now bytes.items) { imports = source.old.imports; number = source.old.number }) }
+{
+    let name = choice.template.try_clone(alloc)?;
+    source.texts.insert(name, Bytes::from_vec(bytes))?;
+    source.root = choice.template.try_clone(alloc)?;
+    source.given = choice.given.try_clone(alloc)?;
+    source.stack = stack.try_clone(alloc)?;
+    Ok(())
 }
 
 /// What a source wants before anything is made.
@@ -118,7 +165,11 @@ fn first_plan(alloc: Global, source: &Source) -> Result<Plan, AllocError>
     ensures { IfOk result (λ p. p ≡ plan_of source.now []) }
 {
     let templates = templates_of(alloc, source)?;
-    plan(alloc, source, &templates, &Seen::new(alloc))
+    let seen = Seen::new(alloc);
+    let plan = plan(alloc, source, &templates, &seen);
+    drop(seen);
+    drop(templates);
+    plan
 }
 
 /// Refuses a plan for its first flaw, and else for the first resource, by path, whose type no lane has.

@@ -1,5 +1,5 @@
 //! The schemas of lanes.
-ghost use Rattle.std.specs.Prelude.{map, IfOk};
+ghost use Rattle.std.specs.Prelude.{◌++◌, map, IfOk};
 ghost use Rattle.cf_top.specs.Lanes.{IsFirstOfEach};
 
 use cf_handler::Handler;
@@ -12,8 +12,26 @@ pub fn schemas_of<H: Handler>(alloc: Global, lanes: &[H]) -> Result<Schemas, NoM
     ensures { IfOk result (λ schemas. IsFirstOfEach (map H.schema_of lanes.now) schemas) }
 {
     let mut schemas = Schemas::new(alloc);
+    match add_schemas(alloc, &mut schemas, lanes) {
+        Ok(()) => Ok(schemas),
+        Err(failed) => {
+            drop(schemas);
+            Err(failed)
+        }
+    }
+}
+
+/// Adds the schemas of lanes to those that are there, of which the first one of a type stays. After an error nothing is said of
+/// them.
+fn add_schemas<H: Handler>(
+    alloc: Global,
+    schemas: &mut Schemas,
+    lanes: &[H],
+) -> Result<(), NoMemory>
+    ensures { IfOk result (λ _. IsFirstOfEach (schemas.old ++ map H.schema_of lanes.now) schemas.new) }
+{
     for lane in lanes.iter() {
         schemas.add(lane.schema().try_clone(alloc)?)?;
     }
-    Ok(schemas)
+    Ok(())
 }

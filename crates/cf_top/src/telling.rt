@@ -153,7 +153,10 @@ fn tell_stack<K: Sink>(
 {
     match report(alloc, name, stack, &exit) {
         Ok(text) => put(out, text.as_str(), exit),
-        Err(NoMemory) => Exit::NoMemory,
+        Err(NoMemory) => {
+            drop(exit);
+            Exit::NoMemory
+        }
     }
 }
 

@@ -85,7 +85,11 @@ fn run_words<L: Library, K: Sink, D: Disk, H: Handler>(
     match read_deployment(alloc, words) {
         Ok(Some((stack, choice))) => {
             match deploy_on(alloc, library, disk, lanes, &stack, &choice) {
-                Ok(book) => tell_over(alloc, out, &stack, &book),
+                Ok(book) => {
+                    let told = tell_over(alloc, out, &stack, &book);
+                    drop(book);
+                    told
+                }
                 Err(exit) => print_exit(alloc, out, exit),
             }
         }
@@ -206,7 +210,11 @@ pub fn answer<L: Library, K: Sink, D: Disk>(
         }
         Ok(Some(Command::Describe { stack })) => {
             match open(alloc, disk) {
-                Ok(book) => describe(alloc, out, &stack, &book),
+                Ok(book) => {
+                    let told = describe(alloc, out, &stack, &book);
+                    drop(book);
+                    told
+                }
                 Err(exit) => print_exit(alloc, out, exit),
             }
         }
@@ -229,7 +237,11 @@ fn is_asking(alloc: Global, words: &[Txt]) -> Result<bool, NoMemory>
     ensures { IfOk result (λ b. b ≡ is_asking (command_of words.now)) }
 {
     match read_words(alloc, words)? {
-        Some(command) => Ok(!command.drives()),
+        Some(command) => {
+            let drives = command.drives();
+            drop(command);
+            Ok(!drives)
+        }
         None => Ok(false),
     }
 }
@@ -281,6 +293,7 @@ pub fn cfstack<L: Library, K: Sink, D: Disk + Send, H: Handler + Send>(
             Ok(schemas) => {
                 let mut disk = disk;
                 let exit = answer(alloc, words, library, out, &mut disk, &schemas);
+                drop(schemas);
                 Ended { exit, disk, lanes }
             }
             Err(NoMemory) => {

@@ -28,7 +28,10 @@ pub fn validate<L: Library>(alloc: Global, library: &mut L, template: &Txt) -> E
 {
     match library.fetch(template.as_str()) {
         Ok(Some(bytes)) => match read_template(alloc, bytes.as_slice()) {
-            Ok(_) => Exit::Done,
+            Ok(read) => {
+                drop(read);
+                Exit::Done
+            }
             Err(fault) => unread(alloc, template, fault),
         },
         Ok(None) => missing(alloc, template),

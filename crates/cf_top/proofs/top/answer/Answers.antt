@@ -31,7 +31,7 @@ returns-in-Ok-clause-answered g c =
         c.in-Ok.book.entries.items,
         c.in-Ok.ensures.found,
         c.in-Ok.ensures.open.holds,
-        subst (λ x. DescribesIn c.in-Ok-Some-Describe.stack (record { held = g.K.Sink.held c.args.out.now; held' = g.K.Sink.held c.describe.new.out; faults = g.K.Sink.count c.args.out.now; faults' = g.K.Sink.count c.describe.new.out }) (stack_at c.in-Ok-Some-Describe.stack x) c.describe.result) c.in-Ok.ensures.open.world c.describe.ensures.tells,
+        subst (λ x. DescribesIn c.in-Ok-Some-Describe.stack (record { held = g.K.Sink.held c.args.out.now; held' = g.K.Sink.held c.describe-told.new.out; faults = g.K.Sink.count c.args.out.now; faults' = g.K.Sink.count c.describe-told.new.out }) (stack_at c.in-Ok-Some-Describe.stack x) c.describe-told.result) c.in-Ok.ensures.open.world c.describe-told.ensures.tells,
       ),
     ))
 

@@ -3,11 +3,11 @@ use Rattle.cf_face.specs.declared.exit.Exit.TheVariants as exit
 use Rattle.cf_top.proofs.Over.{early_tells, is_there, lasts_ever, over_tells}
 use Rattle.cf_top.proofs.top.run_words.Goals as goal
 
-pub tell_over-requires : goal.tell_over-requires
-tell_over-requires g c = is_there c.in-Ok-Some.stack c.in-Ok.book.world c.in-Ok.ensures.over
+pub tell_over-told-requires : goal.tell_over-told-requires
+tell_over-told-requires g c = is_there c.in-Ok-Some.stack c.in-Ok.book.world c.in-Ok.ensures.over
 
 pub returns-in-Ok-clause-lasts : goal.returns-in-Ok-clause-lasts
-returns-in-Ok-clause-lasts g c = lasts_ever g.D.Disk.tells (g.D.Disk.seen c.deploy_on.new.disk) (g.D.Disk.may_leave c.deploy_on.new.disk) c.tell_over.result (search rules)
+returns-in-Ok-clause-lasts g c = lasts_ever g.D.Disk.tells (g.D.Disk.seen c.deploy_on.new.disk) (g.D.Disk.may_leave c.deploy_on.new.disk) c.tell_over-told.result (search rules)
 
 pub returns-in-Ok-clause-tells : goal.returns-in-Ok-clause-tells
 returns-in-Ok-clause-tells g c =
@@ -33,10 +33,10 @@ returns-in-Ok-clause-tells g c =
       faults' = g.D.Disk.count c.deploy_on.new.disk;
     }) (record {
       held = g.K.Sink.held c.args.out.now;
-      held' = g.K.Sink.held c.tell_over.new.out;
+      held' = g.K.Sink.held c.tell_over-told.new.out;
       faults = g.K.Sink.count c.args.out.now;
-      faults' = g.K.Sink.count c.tell_over.new.out;
-    }) c.args.words.now c.in-Ok-Some.stack c.in-Ok-Some.choice c.in-Ok.book c.tell_over.result (search rules) c.in-Ok.ensures.tells c.in-Ok.ensures.open.holds c.in-Ok.ensures.open.world c.in-Ok.ensures.over c.tell_over.ensures.tells
+      faults' = g.K.Sink.count c.tell_over-told.new.out;
+    }) c.args.words.now c.in-Ok-Some.stack c.in-Ok-Some.choice c.in-Ok.book c.tell_over-told.result (search rules) c.in-Ok.ensures.tells c.in-Ok.ensures.open.holds c.in-Ok.ensures.open.world c.in-Ok.ensures.over c.tell_over-told.ensures.tells
 
 pub returns-in-Ok-None-clause-tells : goal.returns-in-Ok-None-clause-tells
 returns-in-Ok-None-clause-tells g c =

@@ -1,6 +1,0 @@
-use Rattle.std.proofs.Common.{◌++◌, drop, map}
-use Rattle.cf_top.specs.Lanes.{IsFirstOfEach}
-use Rattle.cf_top.proofs.schemas.schemas_of.Given as goal
-
-abbrev pub invariant-loop-lane : goal.invariant-loop-lane
-invariant-loop-lane g l = IsFirstOfEach (map g.H.Handler.schema_of l.lanes) (l.schemas ++ map g.H.Handler.schema_of (drop l.lane-index l.lanes))
