@@ -7,228 +7,169 @@ use crate::exits::{exit_line, print_line};
 use crate::fault::{bind_fault, schema_fault, template_fault};
 use crate::given::given_of;
 use crate::heading::{Heading, Kind};
-use crate::json::{push_names, push_text, push_value};
+use crate::json::push_value;
 use crate::lanes::lane_line;
+use crate::memory::Memory;
 use crate::ordering::work_order;
 use crate::plans::{plan_line, terms_line};
 use crate::texts;
 use crate::texts::bytes_of;
+use crate::told::Told;
 use cf_handler::{file_schema, record_schema};
 use cf_param::{Given, bind};
-use cf_schema::{Difference, Schema, SchemaFault, differs, read_schema};
-use cf_template::{TemplateFault, read_template};
+use cf_schema::{Difference, Schema, differs, read_schema};
+use cf_template::read_template;
 use cf_tree::{Bound, NoMemory, Setting, Template};
 use std::alloc::{AllocError, Global};
 
 /// What a row is answered under its heading; a long answer is its number of bytes.
-///
-/// Who answers adds to one text, which is borrowed, and lets a value of its own go by `drop` before its one exit: so the
-/// checks of this crate stay short.
 pub fn answer(alloc: Global, heading: &Heading, row: &str) -> Result<String, AllocError> {
-    let mut told = String::new(alloc);
-    let done = tell(alloc, &mut told, heading, row);
-    let length = told.len();
-    if done.is_ok() && length <= 1000 {
-        return Ok(told);
-    }
-    drop(told);
-    done?;
-    format!(in alloc; "{length} bytes")
-}
-
-fn tell(alloc: Global, told: &mut String, heading: &Heading, row: &str) -> Result<(), AllocError> {
+    let mut told = Told::new(alloc);
     if heading.kind == Kind::Change {
         let (old, new) = row.split_once(" <- ").unwrap_or((row, "{}"));
-        return change(alloc, told, heading.text.as_str(), old, new);
+        change(&mut told, heading.text.as_str(), old, new);
+    } else {
+        let text = heading.around(&mut told.memory, row);
+        tell(&mut told, heading.kind, text.as_str(), heading.given(row));
+        drop(text);
     }
-    let given = heading.given(row);
-    let text = heading.around(alloc, row)?;
-    let done = tell_of(alloc, told, heading.kind, text.as_str(), given);
-    drop(text);
-    done
+    told.finish()
 }
 
-fn tell_of(
-    alloc: Global,
-    told: &mut String,
-    kind: Kind,
-    text: &str,
-    given: &str,
-) -> Result<(), AllocError> {
+fn tell(told: &mut Told, kind: Kind, text: &str, given: &str) {
     match kind {
-        Kind::Schema | Kind::Change => schema(alloc, told, text),
-        Kind::Bytes => bytes(alloc, told, text),
-        Kind::Holes => texts::parts(alloc, told, text),
-        Kind::Split => texts::pieces(alloc, told, text, given),
-        Kind::Commas => texts::members(alloc, told, text),
+        Kind::Schema | Kind::Change => schema(told, text),
+        Kind::Bytes => bytes(told, text),
+        Kind::Holes => texts::parts(told, text),
+        Kind::Split => texts::pieces(told, text, given),
+        Kind::Commas => texts::members(told, text),
         Kind::Number => texts::billionths(told, text),
-        Kind::Base64 => texts::encoded(alloc, told, text),
-        Kind::Size => texts::size(alloc, told, text),
+        Kind::Base64 => texts::encoded(told, text),
+        Kind::Size => texts::size(told, text),
         Kind::Code => texts::code(told, text),
-        Kind::Shipped => shipped(alloc, told, text),
-        Kind::Plan => plan_line(alloc, told, text, given),
-        Kind::Terms => terms_line(alloc, told, text, given),
-        Kind::Words => command_line(alloc, told, text),
-        Kind::Workers => workers_line(alloc, told, text),
-        Kind::Exit => exit_line(alloc, told, text, given),
-        Kind::Print => print_line(alloc, told, text, given),
-        Kind::Entry => entry_line(alloc, told, text),
-        Kind::Lane => lane_line(alloc, told, text, given),
-        _ => read(alloc, told, kind, text.as_bytes(), given),
+        Kind::Shipped => shipped(told, text),
+        Kind::Plan => plan_line(told, text, given),
+        Kind::Terms => terms_line(told, text, given),
+        Kind::Words => command_line(told, text),
+        Kind::Workers => workers_line(told, text),
+        Kind::Exit => exit_line(told, text, given),
+        Kind::Print => print_line(told, text, given),
+        Kind::Entry => entry_line(told, text),
+        Kind::Lane => lane_line(told, text, given),
+        _ => read(told, kind, text.as_bytes(), given),
     }
 }
 
 /// What reading a template of these bytes answers.
-fn bytes(alloc: Global, told: &mut String, text: &str) -> Result<(), AllocError> {
-    let bytes = bytes_of(alloc, text)?;
-    let done = read(alloc, told, Kind::Template, bytes.as_slice(), "");
+fn bytes(told: &mut Told, text: &str) {
+    let bytes = bytes_of(&mut told.memory, text);
+    read(told, Kind::Template, bytes.as_slice(), "");
     drop(bytes);
-    done
 }
 
-fn read(
-    alloc: Global,
-    told: &mut String,
-    kind: Kind,
-    bytes: &[u8],
-    given: &str,
-) -> Result<(), AllocError> {
-    match read_template(alloc, bytes) {
+fn read(told: &mut Told, kind: Kind, bytes: &[u8], given: &str) {
+    match read_template(told.memory.alloc, bytes) {
         Ok(template) => {
-            let done = template_line(alloc, told, kind, &template, given);
+            template_line(told, kind, &template, given);
             drop(template);
-            done
         }
-        Err(fault) => refused(alloc, told, fault),
+        Err(fault) => {
+            template_fault(told, &fault);
+            drop(fault);
+        }
     }
 }
 
-fn refused(alloc: Global, told: &mut String, fault: TemplateFault) -> Result<(), AllocError> {
-    let done = template_fault(alloc, told, &fault);
-    drop(fault);
-    done
-}
-
-fn template_line(
-    alloc: Global,
-    told: &mut String,
-    kind: Kind,
-    template: &Template,
-    given: &str,
-) -> Result<(), AllocError> {
+fn template_line(told: &mut Told, kind: Kind, template: &Template, given: &str) {
     match kind {
-        Kind::Template => told.push_str("read"),
-        Kind::Contents => contents(alloc, told, template, given),
-        _ => match given_of(alloc, given)? {
-            Some(given) => parameters(alloc, told, kind, template, given),
-            None => told.push_str("a name comes twice"),
+        Kind::Template => told.put("read"),
+        Kind::Contents => contents(told, template, given),
+        _ => match given_of(&mut told.memory, given) {
+            Some(given) => parameters(told, kind, template, given),
+            None => told.put("a name comes twice"),
         },
     }
 }
 
-fn parameters(
-    alloc: Global,
-    told: &mut String,
-    kind: Kind,
-    template: &Template,
-    given: Given,
-) -> Result<(), AllocError> {
-    let bound = bind(alloc, template, &given);
+fn parameters(told: &mut Told, kind: Kind, template: &Template, given: Given) {
+    let bound = bind(told.memory.alloc, template, &given);
     drop(given);
     match bound {
         Ok(bound) => {
-            let done = evaluation(alloc, told, kind, template, &bound);
+            evaluation(told, kind, template, &bound);
             drop(bound);
-            done
         }
         Err(fault) => {
-            let done = bind_fault(alloc, told, &fault);
+            bind_fault(told, &fault);
             drop(fault);
-            done
         }
     }
 }
 
-fn evaluation(
-    alloc: Global,
-    told: &mut String,
-    kind: Kind,
-    template: &Template,
-    bound: &Bound,
-) -> Result<(), AllocError> {
+fn evaluation(told: &mut Told, kind: Kind, template: &Template, bound: &Bound) {
     match kind {
-        Kind::Order => work_order(alloc, told, template, bound),
-        Kind::Condition | Kind::Value | Kind::Properties => {
-            evaluated(alloc, told, kind, template, bound)
-        }
-        _ => bindings(alloc, told, bound),
+        Kind::Order => work_order(told, template, bound),
+        Kind::Condition | Kind::Value | Kind::Properties => evaluated(told, kind, template, bound),
+        _ => bindings(told, bound),
     }
 }
 
 /// The names of parameters with what they are bound to.
-fn bindings(alloc: Global, told: &mut String, bound: &Bound) -> Result<(), AllocError> {
-    let mut mark = "";
+fn bindings(told: &mut Told, bound: &Bound) {
+    let mut first = true;
     for pair in bound.as_slice() {
-        told.push_str(mark)?;
-        told.push_str(pair.0.as_str())?;
-        told.push('=')?;
-        setting(alloc, told, &pair.1)?;
-        mark = " ";
-    }
-    Ok(())
-}
-
-fn setting(alloc: Global, told: &mut String, setting: &Setting) -> Result<(), AllocError> {
-    match setting {
-        Setting::Value(value) => push_value(alloc, told, value),
-        Setting::Later => told.push_str("Later"),
+        told.put(if first { "" } else { " " });
+        told.put(pair.0.as_str());
+        told.put("=");
+        match &pair.1 {
+            Setting::Value(value) => push_value(told, value),
+            Setting::Later => told.put("Later"),
+        }
+        first = false;
     }
 }
 
 /// The schema of a type that is shipped.
-fn shipped(alloc: Global, told: &mut String, kind: &str) -> Result<(), AllocError> {
+fn shipped(told: &mut Told, kind: &str) {
     match kind {
-        "Local::Files::File" => known(alloc, told, file_schema(alloc)),
-        "Local::Records::Record" => known(alloc, told, record_schema(alloc)),
-        _ => told.push_str("no such type"),
+        "Local::Files::File" => {
+            let schema = file_schema(told.memory.alloc);
+            known(told, schema);
+        }
+        "Local::Records::Record" => {
+            let schema = record_schema(told.memory.alloc);
+            known(told, schema);
+        }
+        _ => told.put("no such type"),
     }
 }
 
-fn known(
-    alloc: Global,
-    told: &mut String,
-    schema: Result<Schema, NoMemory>,
-) -> Result<(), AllocError> {
+fn known(told: &mut Told, schema: Result<Schema, NoMemory>) {
     match schema {
         Ok(schema) => {
-            let done = described(alloc, told, &schema);
+            described(told, &schema);
             drop(schema);
-            done
         }
-        Err(_) => Err(AllocError),
+        Err(NoMemory) => told.memory.lose(),
     }
 }
 
 /// The type of a schema, and its lists of names; or why it is not read.
-fn schema(alloc: Global, told: &mut String, text: &str) -> Result<(), AllocError> {
-    match read_schema(alloc, text.as_bytes()) {
+fn schema(told: &mut Told, text: &str) {
+    match read_schema(told.memory.alloc, text.as_bytes()) {
         Ok(schema) => {
-            let done = described(alloc, told, &schema);
+            described(told, &schema);
             drop(schema);
-            done
         }
-        Err(fault) => unread(alloc, told, fault),
+        Err(fault) => {
+            schema_fault(told, &fault);
+            drop(fault);
+        }
     }
 }
 
-fn unread(alloc: Global, told: &mut String, fault: SchemaFault) -> Result<(), AllocError> {
-    let done = schema_fault(alloc, told, &fault);
-    drop(fault);
-    done
-}
-
-fn described(alloc: Global, told: &mut String, schema: &Schema) -> Result<(), AllocError> {
-    push_text(alloc, told, schema.kind.as_str())?;
+fn described(told: &mut Told, schema: &Schema) {
+    told.json(schema.kind.as_str());
     for names in [
         &schema.props,
         &schema.required,
@@ -237,52 +178,32 @@ fn described(alloc: Global, told: &mut String, schema: &Schema) -> Result<(), Al
         &schema.read_only,
         &schema.identifier,
     ] {
-        told.push(' ')?;
-        push_names(alloc, told, names.as_slice())?;
+        told.put(" ");
+        told.names(names.as_slice());
     }
-    Ok(())
 }
 
 /// How two objects of properties differ by a schema.
-fn change(
-    alloc: Global,
-    told: &mut String,
-    schema: &str,
-    old: &str,
-    new: &str,
-) -> Result<(), AllocError> {
-    match read_schema(alloc, schema.as_bytes()) {
+fn change(told: &mut Told, schema: &str, old: &str, new: &str) {
+    match read_schema(told.memory.alloc, schema.as_bytes()) {
         Ok(schema) => {
-            let word = difference(alloc, &schema, old, new);
+            let word = difference(&mut told.memory, &schema, old, new);
+            told.put(word);
             drop(schema);
-            told.push_str(word?)
         }
-        Err(fault) => unread(alloc, told, fault),
-    }
-}
-
-fn difference(
-    alloc: Global,
-    schema: &Schema,
-    old: &str,
-    new: &str,
-) -> Result<&'static str, AllocError> {
-    let old = object_of(alloc, old)?;
-    match object_of(alloc, new) {
-        Ok(new) => {
-            let difference = differs(schema, &old, &new);
-            drop(old);
-            drop(new);
-            Ok(word_of(difference))
-        }
-        Err(failed) => {
-            drop(old);
-            Err(failed)
+        Err(fault) => {
+            schema_fault(told, &fault);
+            drop(fault);
         }
     }
 }
 
-fn word_of(difference: Difference) -> &'static str {
+fn difference(memory: &mut Memory, schema: &Schema, old: &str, new: &str) -> &'static str {
+    let old = object_of(memory, old);
+    let new = object_of(memory, new);
+    let difference = differs(schema, &old, &new);
+    drop(old);
+    drop(new);
     match difference {
         Difference::Same => "Same",
         Difference::Update => "Update",

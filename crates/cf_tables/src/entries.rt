@@ -2,70 +2,61 @@
 //!
 //! A row has the bytes between spaces: pairs of hexadecimal digits, and in quotes those of a text. The answer is the entry
 //! that they are, if writing it gives the same bytes again.
-use crate::json::{push_names, push_object, push_text};
+use crate::json::push_object;
+use crate::memory::Memory;
+use crate::told::Told;
 use cf_entry::{Begun, Cause, Entry, Reason, Reply, Why, entry_size, read_entry, write_entry};
 use cf_tree::{Dict, Request, Row, Source, Txt};
 use std::alloc::{AllocError, Global};
 
 /// The entry that bytes are.
-pub fn entry_line(alloc: Global, told: &mut String, row: &str) -> Result<(), AllocError> {
-    let mut bytes = Vec::new(alloc);
-    let done = add_bytes(&mut bytes, row);
-    let read = read_entry(alloc, bytes.as_slice());
-    let line = match read {
+pub fn entry_line(told: &mut Told, row: &str) {
+    let bytes = bytes_of(&mut told.memory, row);
+    match read_entry(told.memory.alloc, bytes.as_slice()) {
         Ok(Some(entry)) => {
-            let line = line_of(alloc, told, &entry, bytes.as_slice());
+            line_of(told, &entry, bytes.as_slice());
             drop(entry);
-            line
         }
-        Ok(None) => told.push_str("no entry"),
-        Err(_) => Err(AllocError),
-    };
+        Ok(None) => told.put("no entry"),
+        Err(_) => told.memory.lose(),
+    }
     drop(bytes);
-    done?;
-    line
 }
 
-fn line_of(
-    alloc: Global,
-    told: &mut String,
-    entry: &Entry,
-    bytes: &[u8],
-) -> Result<(), AllocError> {
-    if is_written(alloc, entry, bytes)? {
-        tell(alloc, told, entry)
-    } else {
-        told.push_str("other bytes")
+fn line_of(told: &mut Told, entry: &Entry, bytes: &[u8]) {
+    match is_written(told.memory.alloc, entry, bytes) {
+        Ok(true) => tell(told, entry),
+        Ok(false) => told.put("other bytes"),
+        Err(_) => told.memory.lose(),
     }
 }
 
-fn add_bytes(bytes: &mut Vec<u8>, row: &str) -> Result<(), AllocError> {
+fn bytes_of(memory: &mut Memory, row: &str) -> Vec<u8> {
+    let mut bytes = Vec::new(memory.alloc);
     for word in row.split(' ') {
-        add_word(bytes, word)?;
+        match word.strip_prefix('"') {
+            Some(text) => {
+                let text = text.strip_suffix('"').unwrap_or(text);
+                memory.note(bytes.extend_from_slice(text.as_bytes()).is_err());
+            }
+            None => add_digits(memory, &mut bytes, word),
+        }
     }
-    Ok(())
-}
-
-fn add_word(bytes: &mut Vec<u8>, word: &str) -> Result<(), AllocError> {
-    match word.strip_prefix('"') {
-        Some(text) => bytes.extend_from_slice(text.strip_suffix('"').unwrap_or(text).as_bytes()),
-        None => add_digits(bytes, word),
-    }
+    bytes
 }
 
 /// Adds the bytes that pairs of hexadecimal digits are.
-fn add_digits(bytes: &mut Vec<u8>, word: &str) -> Result<(), AllocError> {
+fn add_digits(memory: &mut Memory, bytes: &mut Vec<u8>, word: &str) {
     let mut high = None;
     for digit in word.as_bytes() {
         match high {
             None => high = Some(value_of(*digit)),
             Some(first) => {
-                bytes.push((first << 4) | value_of(*digit))?;
+                memory.note(bytes.push((first << 4) | value_of(*digit)).is_err());
                 high = None;
             }
         }
     }
-    Ok(())
 }
 
 fn value_of(digit: u8) -> u8 {
@@ -88,7 +79,7 @@ fn is_written(alloc: Global, entry: &Entry, bytes: &[u8]) -> Result<bool, AllocE
     Ok(same)
 }
 
-fn tell(alloc: Global, told: &mut String, entry: &Entry) -> Result<(), AllocError> {
+fn tell(told: &mut Told, entry: &Entry) {
     match entry {
         Entry::Opened { epoch, lanes } => opened(told, *epoch, lanes.as_slice()),
         Entry::Begin {
@@ -96,8 +87,9 @@ fn tell(alloc: Global, told: &mut String, entry: &Entry) -> Result<(), AllocErro
             stack,
             kind,
         } => {
-            write!(told, "Begin {number} {} ", stack.as_str())?;
-            begun(alloc, told, kind)
+            numbered(told, "Begin", *number);
+            told.word(stack.as_str());
+            begun(told, kind);
         }
         Entry::Kept {
             number,
@@ -105,10 +97,10 @@ fn tell(alloc: Global, told: &mut String, entry: &Entry) -> Result<(), AllocErro
             physical,
             why,
         } => {
-            write!(told, "Kept {number}")?;
-            push_word(told, path.as_str())?;
-            push_word(told, physical.as_str())?;
-            push_word(told, why_word(*why))
+            numbered(told, "Kept", *number);
+            told.word(path.as_str());
+            told.word(physical.as_str());
+            told.word(why_word(*why));
         }
         Entry::Intent {
             number,
@@ -117,24 +109,25 @@ fn tell(alloc: Global, told: &mut String, entry: &Entry) -> Result<(), AllocErro
             path,
             request,
         } => {
-            write!(told, "Intent {number} {token}")?;
-            push_word(told, lane.as_str())?;
-            push_word(told, path.as_str())?;
-            told.push(' ')?;
-            asked(alloc, told, request)
+            numbered(told, "Intent", *number);
+            told.number_word(*token);
+            told.word(lane.as_str());
+            told.word(path.as_str());
+            asked(told, request);
         }
-        _ => tell_after(alloc, told, entry),
+        _ => tell_after(told, entry),
     }
 }
 
-/// Adds a word behind a space.
-fn push_word(told: &mut String, word: &str) -> Result<(), AllocError> {
-    told.push(' ')?;
-    told.push_str(word)
+/// Adds a word, and a number behind a space.
+fn numbered(told: &mut Told, word: &str, number: u64) {
+    told.put(word);
+    told.put(" ");
+    told.number(number);
 }
 
 /// What follows an intent, or is a change set.
-fn tell_after(alloc: Global, told: &mut String, entry: &Entry) -> Result<(), AllocError> {
+fn tell_after(told: &mut Told, entry: &Entry) {
     match entry {
         Entry::Outcome {
             number,
@@ -143,25 +136,30 @@ fn tell_after(alloc: Global, told: &mut String, entry: &Entry) -> Result<(), All
             before,
             after,
         } => {
-            write!(told, "Outcome {number} {token} ")?;
-            answered(alloc, told, answer)?;
-            write!(told, " {before} {after}")
+            numbered(told, "Outcome", *number);
+            told.number_word(*token);
+            answered(told, answer);
+            told.number_word(*before);
+            told.number_word(*after);
         }
         Entry::Phase {
             number,
             phase,
             cause,
         } => {
-            write!(told, "Phase {number} {}", phase.number())?;
-            turned(told, cause)
+            numbered(told, "Phase", *number);
+            told.number_word(phase.number() as u64);
+            turned(told, cause);
         }
         Entry::Done {
             number,
             status,
             failed,
         } => {
-            write!(told, "Done {number} {} ", status.name())?;
-            push_names(alloc, told, failed.as_slice())
+            numbered(told, "Done", *number);
+            told.word(status.name());
+            told.put(" ");
+            told.names(failed.as_slice());
         }
         Entry::ChangeSet {
             number,
@@ -170,64 +168,62 @@ fn tell_after(alloc: Global, told: &mut String, entry: &Entry) -> Result<(), All
             rows,
             outputs,
         } => {
-            write!(told, "ChangeSet {number} {} ", stack.as_str())?;
-            sourced(alloc, told, source)?;
-            changes(told, rows.as_slice())?;
-            told.push_str(if *outputs {
+            numbered(told, "ChangeSet", *number);
+            told.word(stack.as_str());
+            sourced(told, source);
+            changes(told, rows.as_slice());
+            told.put(if *outputs {
                 " outputs differ"
             } else {
                 " outputs stay"
-            })
+            });
         }
-        _ => told.push_str("another entry"),
+        _ => told.put("another entry"),
     }
 }
 
-fn opened(told: &mut String, epoch: u64, lanes: &[(Txt, Txt)]) -> Result<(), AllocError> {
-    write!(told, "Opened {epoch}")?;
+fn opened(told: &mut Told, epoch: u64, lanes: &[(Txt, Txt)]) {
+    numbered(told, "Opened", epoch);
     for lane in lanes {
-        told.push(' ')?;
-        told.push_str(lane.0.as_str())?;
-        told.push(' ')?;
-        told.push_str(lane.1.as_str())?;
+        told.word(lane.0.as_str());
+        told.word(lane.1.as_str());
     }
-    Ok(())
 }
 
-fn begun(alloc: Global, told: &mut String, kind: &Begun) -> Result<(), AllocError> {
+fn begun(told: &mut Told, kind: &Begun) {
     match kind {
         Begun::Create { source } => {
-            told.push_str("Create ")?;
-            sourced(alloc, told, source)
+            told.word("Create");
+            sourced(told, source);
         }
         Begun::Update { source } => {
-            told.push_str("Update ")?;
-            sourced(alloc, told, source)
+            told.word("Update");
+            sourced(told, source);
         }
         Begun::Delete { paths } => {
-            told.push_str("Delete ")?;
-            push_names(alloc, told, paths.as_slice())
+            told.word("Delete ");
+            told.names(paths.as_slice());
         }
         Begun::Continue { paths } => {
-            told.push_str("Continue ")?;
-            push_names(alloc, told, paths.as_slice())
+            told.word("Continue ");
+            told.names(paths.as_slice());
         }
     }
 }
 
 /// A source: its root, its texts by name, what is given, how many imports it has, and its stack and number.
-fn sourced(alloc: Global, told: &mut String, source: &Source) -> Result<(), AllocError> {
-    push_text(alloc, told, source.root.as_str())?;
-    write!(told, " of {}", source.texts.len())?;
+fn sourced(told: &mut Told, source: &Source) {
+    told.named(" ", &source.root);
+    numbered(told, " of", source.texts.len() as u64);
     for pair in source.given.as_slice() {
-        told.push(' ')?;
-        told.push_str(pair.0.as_str())?;
-        told.push('=')?;
-        told.push_str(pair.1.as_str())?;
+        told.word(pair.0.as_str());
+        told.put("=");
+        told.put(pair.1.as_str());
     }
-    write!(told, " imports {} in ", source.imports.len())?;
-    told.push_str(source.stack.as_str())?;
-    write!(told, " {}", source.number)
+    numbered(told, " imports", source.imports.len() as u64);
+    told.word("in");
+    told.word(source.stack.as_str());
+    told.number_word(source.number);
 }
 
 fn why_word(why: Why) -> &'static str {
@@ -238,58 +234,52 @@ fn why_word(why: Why) -> &'static str {
     }
 }
 
-fn asked(alloc: Global, told: &mut String, request: &Request) -> Result<(), AllocError> {
+fn asked(told: &mut Told, request: &Request) {
     match request {
-        Request::Create { kind, props } => named(alloc, told, "create ", kind, props),
-        Request::Update { physical, props } => named(alloc, told, "update ", physical, props),
+        Request::Create { kind, props } => named(told, "create", kind, props),
+        Request::Update { physical, props } => named(told, "update", physical, props),
         Request::Delete { physical } => {
-            told.push_str("delete ")?;
-            told.push_str(physical.as_str())
+            told.word("delete");
+            told.word(physical.as_str());
         }
     }
 }
 
 /// Adds a word, a name, and properties as JSON.
-fn named(
-    alloc: Global,
-    told: &mut String,
-    word: &str,
-    name: &Txt,
-    props: &Dict,
-) -> Result<(), AllocError> {
-    told.push_str(word)?;
-    told.push_str(name.as_str())?;
-    told.push(' ')?;
-    push_object(alloc, told, props)
+fn named(told: &mut Told, word: &str, name: &Txt, props: &Dict) {
+    told.word(word);
+    told.word(name.as_str());
+    told.put(" ");
+    push_object(told, props);
 }
 
-fn answered(alloc: Global, told: &mut String, reply: &Reply) -> Result<(), AllocError> {
+fn answered(told: &mut Told, reply: &Reply) {
     match reply {
-        Reply::Success { physical, attrs } => named(alloc, told, "success ", physical, attrs),
+        Reply::Success { physical, attrs } => named(told, "success", physical, attrs),
         Reply::Failed { code } => {
-            told.push_str("failed ")?;
-            told.push_str(code.name())
+            told.word("failed");
+            told.word(code.name());
         }
-        Reply::Doubt => told.push_str("doubt"),
+        Reply::Doubt => told.word("doubt"),
     }
 }
 
-fn turned(told: &mut String, cause: &Option<Cause>) -> Result<(), AllocError> {
+fn turned(told: &mut Told, cause: &Option<Cause>) {
     match cause {
         Some(Cause::Handler { path, reason }) => {
-            push_word(told, "Handler")?;
-            push_word(told, path.as_str())?;
-            push_word(told, reason_word(*reason))
+            told.word("Handler");
+            told.word(path.as_str());
+            told.word(reason_word(*reason));
         }
         Some(Cause::Plan { fault }) => {
-            told.push_str(" Plan ")?;
-            told.push_str(fault.as_str())
+            told.word("Plan");
+            told.word(fault.as_str());
         }
         Some(Cause::Export { name }) => {
-            told.push_str(" Export ")?;
-            told.push_str(name.as_str())
+            told.word("Export");
+            told.word(name.as_str());
         }
-        None => Ok(()),
+        None => {}
     }
 }
 
@@ -301,10 +291,10 @@ fn reason_word(reason: Reason) -> &'static str {
 }
 
 /// The paths of rows, each with the number of its details.
-fn changes(told: &mut String, rows: &[Row]) -> Result<(), AllocError> {
-    told.push_str(" rows")?;
+fn changes(told: &mut Told, rows: &[Row]) {
+    told.word("rows");
     for row in rows {
-        write!(told, " {} {}", row.path.as_str(), row.details.len())?;
+        told.word(row.path.as_str());
+        told.number_word(row.details.len() as u64);
     }
-    Ok(())
 }

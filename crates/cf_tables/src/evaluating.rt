@@ -4,13 +4,15 @@
 use crate::fault::eval_fault;
 use crate::heading::Kind;
 use crate::json::{push_object, push_value};
+use crate::memory::Memory;
+use crate::told::Told;
 use cf_eval::{Env, EvalFault, Got, OutputSight, Sight, conditions, eval, eval_props};
 use cf_template::read_template;
 use cf_tree::{
     Bound, ByName, CondMap, Dict, Expr, ExprDict, Mappings, Pairs, Res, Template, Txt, Val, Vals,
     Verdict,
 };
-use std::alloc::{AllocError, Global};
+use std::alloc::Global;
 
 /// What an evaluation looks into.
 #[derive(Drop)]
@@ -23,19 +25,13 @@ struct World {
 }
 
 impl World {
-    fn new(alloc: Global, conds: CondMap) -> Result<World, AllocError> {
-        match pseudo(alloc) {
-            Ok(pseudo) => Ok(World {
-                conds,
-                seen: ByName::new(alloc),
-                imports: Pairs::new(alloc),
-                pseudo,
-                stack: Txt::new(String::new(alloc)),
-            }),
-            Err(failed) => {
-                drop(conds);
-                Err(failed)
-            }
+    fn new(memory: &mut Memory, conds: CondMap) -> World {
+        World {
+            conds,
+            seen: ByName::new(memory.alloc),
+            imports: Pairs::new(memory.alloc),
+            pseudo: pseudo(memory),
+            stack: memory.text(""),
         }
     }
 
@@ -65,81 +61,61 @@ const PSEUDO: [(&str, &str); 6] = [
     ("AWS::URLSuffix", "amazonaws.com"),
 ];
 
-fn pseudo(alloc: Global) -> Result<Dict, AllocError> {
-    let mut values = Dict::new(alloc);
-    match add_pseudo(alloc, &mut values) {
-        Ok(()) => Ok(values),
-        Err(failed) => {
-            drop(values);
-            Err(failed)
-        }
-    }
-}
-
-fn add_pseudo(alloc: Global, values: &mut Dict) -> Result<(), AllocError> {
+fn pseudo(memory: &mut Memory) -> Dict {
+    let mut values = Dict::new(memory.alloc);
     for (name, text) in PSEUDO {
-        let (name, text) = two_texts(alloc, name, text)?;
-        values.insert(name, Val::Text(text))?;
+        let name = memory.text(name);
+        let text = Val::Text(memory.text(text));
+        memory.note(values.insert(name, text).is_err());
     }
-    let name = Txt::from_str(alloc, "AWS::NotificationARNs")?;
-    values.insert(name, Val::List(Vals::new(alloc)))
-}
-
-/// Two texts.
-pub fn two_texts(alloc: Global, one: &str, two: &str) -> Result<(Txt, Txt), AllocError> {
-    let one = Txt::from_str(alloc, one)?;
-    let two = Txt::from_str(alloc, two)?;
-    Ok((one, two))
+    let name = memory.text("AWS::NotificationARNs");
+    let none = Val::List(Vals::new(memory.alloc));
+    memory.note(values.insert(name, none).is_err());
+    values
 }
 
 /// What each condition is.
-pub fn verdicts(alloc: Global, template: &Template, bound: &Bound) -> Result<CondMap, EvalFault> {
-    match World::new(alloc, CondMap::new(alloc)) {
-        Ok(world) => {
-            let conds = conditions(alloc, template, bound, &world.pseudo, &world.stack);
-            drop(world);
-            conds
-        }
-        Err(_) => Err(EvalFault::NoMemory),
-    }
+pub fn verdicts(
+    memory: &mut Memory,
+    template: &Template,
+    bound: &Bound,
+) -> Result<CondMap, EvalFault> {
+    let pseudo = pseudo(memory);
+    let stack = memory.text("");
+    let conds = conditions(memory.alloc, template, bound, &pseudo, &stack);
+    drop(pseudo);
+    drop(stack);
+    conds
 }
 
 /// What the condition `X` is, the property `x` of the resource `X`, or all properties of `X`.
-pub fn evaluated(
-    alloc: Global,
-    told: &mut String,
-    kind: Kind,
-    template: &Template,
-    bound: &Bound,
-) -> Result<(), AllocError> {
-    match verdicts(alloc, template, bound) {
+pub fn evaluated(told: &mut Told, kind: Kind, template: &Template, bound: &Bound) {
+    match verdicts(&mut told.memory, template, bound) {
         Ok(conds) => {
-            let world = World::new(alloc, conds)?;
-            told_over(alloc, told, kind, template, bound, world)
+            let mut world = World::new(&mut told.memory, conds);
+            told_over(told, kind, template, bound, &mut world);
+            drop(world);
         }
         Err(fault) => {
-            let done = eval_fault(alloc, told, &fault);
+            eval_fault(told, &fault);
             drop(fault);
-            done
         }
     }
 }
 
-fn told_over(
-    alloc: Global,
-    told: &mut String,
-    kind: Kind,
-    template: &Template,
-    bound: &Bound,
-    mut world: World,
-) -> Result<(), AllocError> {
-    let done = if kind == Kind::Condition {
-        told.push_str(verdict_word(world.conds.get("X")))
+fn told_over(told: &mut Told, kind: Kind, template: &Template, bound: &Bound, world: &mut World) {
+    if kind == Kind::Condition {
+        told.put(verdict_word(world.conds.get("X")));
     } else {
-        told_in(alloc, told, kind, template, bound, &mut world)
-    };
-    drop(world);
-    done
+        see(&mut told.memory, template, bound, world);
+        match template.resources.find("X") {
+            Some(resource) => {
+                let env = world.env(bound, &template.mappings);
+                told_in(told, kind, &resource.props, &env);
+            }
+            None => told.put("no resource X"),
+        }
+    }
 }
 
 fn verdict_word(verdict: Option<&Verdict>) -> &'static str {
@@ -151,184 +127,132 @@ fn verdict_word(verdict: Option<&Verdict>) -> &'static str {
     }
 }
 
-fn told_in(
-    alloc: Global,
-    told: &mut String,
-    kind: Kind,
-    template: &Template,
-    bound: &Bound,
-    world: &mut World,
-) -> Result<(), AllocError> {
-    see(alloc, template, bound, world)?;
-    let Some(resource) = template.resources.find("X") else {
-        return told.push_str("no resource X");
-    };
-    let env = world.env(bound, &template.mappings);
+fn told_in(told: &mut Told, kind: Kind, props: &ExprDict, env: &Env) {
     if kind == Kind::Properties {
-        worths(alloc, told, &resource.props, &env)
+        worths(told, props, env);
     } else {
-        property(alloc, told, &resource.props, &env)
+        property(told, props, env);
     }
 }
 
 /// What the property `x` comes to.
-fn property(
-    alloc: Global,
-    told: &mut String,
-    props: &ExprDict,
-    env: &Env,
-) -> Result<(), AllocError> {
+fn property(told: &mut Told, props: &ExprDict, env: &Env) {
     for pair in props.as_slice() {
         if pair.name.is("x") {
-            return worth(alloc, told, &pair.value, env);
+            return worth(told, &pair.value, env);
         }
     }
-    told.push_str("no property x of X")
+    told.put("no property x of X");
 }
 
-fn worth(alloc: Global, told: &mut String, expr: &Expr, env: &Env) -> Result<(), AllocError> {
-    match eval(alloc, expr, env) {
+fn worth(told: &mut Told, expr: &Expr, env: &Env) {
+    match eval(told.memory.alloc, expr, env) {
         Ok(Got::Value(value)) => {
-            let done = push_value(alloc, told, &value);
+            push_value(told, &value);
             drop(value);
-            done
         }
-        Ok(Got::NoValue) => told.push_str("NoValue"),
-        Ok(Got::Later) => told.push_str("Later"),
+        Ok(Got::NoValue) => told.put("NoValue"),
+        Ok(Got::Later) => told.put("Later"),
         Err(fault) => {
-            let done = eval_fault(alloc, told, &fault);
+            eval_fault(told, &fault);
             drop(fault);
-            done
         }
     }
 }
 
-fn worths(alloc: Global, told: &mut String, props: &ExprDict, env: &Env) -> Result<(), AllocError> {
-    match eval_props(alloc, props, env) {
+fn worths(told: &mut Told, props: &ExprDict, env: &Env) {
+    match eval_props(told.memory.alloc, props, env) {
         Ok(Some(object)) => {
-            let done = push_object(alloc, told, &object);
+            push_object(told, &object);
             drop(object);
-            done
         }
-        Ok(None) => told.push_str("Later"),
+        Ok(None) => told.put("Later"),
         Err(fault) => {
-            let done = eval_fault(alloc, told, &fault);
+            eval_fault(told, &fault);
             drop(fault);
-            done
         }
     }
 }
 
 /// Puts what the resources show into the world. They themselves see nothing.
-fn see(
-    alloc: Global,
-    template: &Template,
-    bound: &Bound,
-    world: &mut World,
-) -> Result<(), AllocError> {
-    let dark = World::new(alloc, CondMap::new(alloc))?;
-    let done = see_all(alloc, template, world, &dark.env(bound, &template.mappings));
+fn see(memory: &mut Memory, template: &Template, bound: &Bound, world: &mut World) {
+    let conds = CondMap::new(memory.alloc);
+    let dark = World::new(memory, conds);
+    see_all(
+        memory,
+        template,
+        world,
+        &dark.env(bound, &template.mappings),
+    );
     drop(dark);
-    done
 }
 
-fn see_all(
-    alloc: Global,
-    template: &Template,
-    world: &mut World,
-    env: &Env,
-) -> Result<(), AllocError> {
+fn see_all(memory: &mut Memory, template: &Template, world: &mut World, env: &Env) {
     for resource in template.resources.as_slice() {
         if !resource.name.is("X") {
-            see_one(alloc, resource, world, env)?;
+            see_one(memory, resource, world, env);
         }
     }
-    Ok(())
 }
 
-fn see_one(alloc: Global, resource: &Res, world: &mut World, env: &Env) -> Result<(), AllocError> {
+fn see_one(memory: &mut Memory, resource: &Res, world: &mut World, env: &Env) {
     if resource.kind.is("Exports") {
-        return add_exports(alloc, &mut world.imports, &resource.props, env);
-    }
-    let sight = sight(alloc, resource, &world.conds, env)?;
-    match resource.name.try_clone(alloc) {
-        Ok(name) => world.seen.insert(name, sight),
-        Err(failed) => {
-            drop(sight);
-            Err(failed)
-        }
+        add_exports(memory, &mut world.imports, &resource.props, env);
+    } else {
+        let name = memory.text(resource.name.as_str());
+        let sight = sight(memory, resource, &world.conds, env);
+        memory.note(world.seen.insert(name, sight).is_err());
     }
 }
 
-fn add_exports(
-    alloc: Global,
-    pairs: &mut Pairs,
-    props: &ExprDict,
-    env: &Env,
-) -> Result<(), AllocError> {
+fn add_exports(memory: &mut Memory, pairs: &mut Pairs, props: &ExprDict, env: &Env) {
     for pair in props.as_slice() {
-        if let OutputSight::Made { value: Some(text) } = output(alloc, &pair.value, env) {
-            add_export(alloc, pairs, &pair.name, text)?;
-        }
-    }
-    Ok(())
-}
-
-fn add_export(alloc: Global, pairs: &mut Pairs, name: &Txt, text: Txt) -> Result<(), AllocError> {
-    match name.try_clone(alloc) {
-        Ok(name) => pairs.insert(name, text),
-        Err(failed) => {
-            drop(text);
-            Err(failed)
+        if let OutputSight::Made { value: Some(text) } = output(memory.alloc, &pair.value, env) {
+            let name = memory.text(pair.name.as_str());
+            memory.note(pairs.insert(name, text).is_err());
         }
     }
 }
 
-fn sight(alloc: Global, resource: &Res, conds: &CondMap, env: &Env) -> Result<Sight, AllocError> {
-    if !holds(conds, resource.condition.as_ref()) {
-        return Ok(Sight::NotMade);
+fn sight(memory: &mut Memory, resource: &Res, conds: &CondMap, env: &Env) -> Sight {
+    if !holds(conds, &resource.condition) {
+        return Sight::NotMade;
     }
     match resource.kind.as_str() {
-        "Seen" => Ok(Sight::Made {
-            physical: Some(id_of(alloc, "id-of-", &resource.name)?),
-            attrs: attributes(alloc, &resource.props, env),
-        }),
-        "Named" => Ok(Sight::Made {
-            physical: Some(id_of(alloc, "id-of-", &resource.name)?),
+        "Seen" => Sight::Made {
+            physical: Some(id_of(memory, "id-of-", &resource.name)),
+            attrs: attributes(memory.alloc, &resource.props, env),
+        },
+        "Named" => Sight::Made {
+            physical: Some(id_of(memory, "id-of-", &resource.name)),
             attrs: None,
-        }),
-        "Described" => Ok(Sight::Made {
+        },
+        "Described" => Sight::Made {
             physical: None,
-            attrs: attributes(alloc, &resource.props, env),
-        }),
-        "AWS::CloudFormation::Stack" => nested(alloc, resource, env),
-        _ => Ok(Sight::Made {
+            attrs: attributes(memory.alloc, &resource.props, env),
+        },
+        "AWS::CloudFormation::Stack" => Sight::Nested {
+            id: id_of(memory, "stack-of-", &resource.name),
+            outputs: outputs(memory, &resource.props, env),
+        },
+        _ => Sight::Made {
             physical: None,
             attrs: None,
-        }),
+        },
     }
 }
 
-fn nested(alloc: Global, resource: &Res, env: &Env) -> Result<Sight, AllocError> {
-    let outputs = outputs(alloc, &resource.props, env)?;
-    match id_of(alloc, "stack-of-", &resource.name) {
-        Ok(id) => Ok(Sight::Nested { id, outputs }),
-        Err(failed) => {
-            drop(outputs);
-            Err(failed)
-        }
-    }
-}
-
-fn holds(conds: &CondMap, condition: Option<&Txt>) -> bool {
+fn holds(conds: &CondMap, condition: &Option<Txt>) -> bool {
     match condition {
         Some(name) => !matches!(conds.get(name.as_str()), Some(Verdict::False)),
         None => true,
     }
 }
 
-fn id_of(alloc: Global, head: &str, name: &Txt) -> Result<Txt, AllocError> {
-    Ok(Txt::new(format!(in alloc; "{head}{}", name.as_str())?))
+fn id_of(memory: &mut Memory, head: &str, name: &Txt) -> Txt {
+    let mut id = memory.copy(head);
+    memory.note(id.push_str(name.as_str()).is_err());
+    Txt::new(id)
 }
 
 fn attributes(alloc: Global, props: &ExprDict, env: &Env) -> Option<Dict> {
@@ -341,28 +265,14 @@ fn attributes(alloc: Global, props: &ExprDict, env: &Env) -> Option<Dict> {
     }
 }
 
-fn outputs(alloc: Global, props: &ExprDict, env: &Env) -> Result<ByName<OutputSight>, AllocError> {
-    let mut sights = ByName::new(alloc);
-    match add_outputs(alloc, &mut sights, props, env) {
-        Ok(()) => Ok(sights),
-        Err(failed) => {
-            drop(sights);
-            Err(failed)
-        }
-    }
-}
-
-fn add_outputs(
-    alloc: Global,
-    sights: &mut ByName<OutputSight>,
-    props: &ExprDict,
-    env: &Env,
-) -> Result<(), AllocError> {
+fn outputs(memory: &mut Memory, props: &ExprDict, env: &Env) -> ByName<OutputSight> {
+    let mut sights = ByName::new(memory.alloc);
     for pair in props.as_slice() {
-        let name = pair.name.try_clone(alloc)?;
-        sights.insert(name, output(alloc, &pair.value, env))?;
+        let name = memory.text(pair.name.as_str());
+        let sight = output(memory.alloc, &pair.value, env);
+        memory.note(sights.insert(name, sight).is_err());
     }
-    Ok(())
+    sights
 }
 
 fn output(alloc: Global, value: &Expr, env: &Env) -> OutputSight {
@@ -377,31 +287,33 @@ fn output(alloc: Global, value: &Expr, env: &Env) -> OutputSight {
 }
 
 /// The object of properties that a JSON text is; an empty one where it is none.
-pub fn object_of(alloc: Global, text: &str) -> Result<Dict, AllocError> {
-    let text = format!(in alloc;
-        "{{\"Resources\":{{\"X\":{{\"Type\":\"T\",\"Properties\":{text}}}}}}}"
-    )?;
-    let read = read_template(alloc, text.as_bytes());
-    drop(text);
+pub fn object_of(memory: &mut Memory, text: &str) -> Dict {
+    let mut whole = memory.copy("{\"Resources\":{\"X\":{\"Type\":\"T\",\"Properties\":");
+    memory.note(whole.push_str(text).is_err());
+    memory.note(whole.push_str("}}}").is_err());
+    let read = read_template(memory.alloc, whole.as_bytes());
+    drop(whole);
     match read {
         Ok(template) => {
-            let object = object_in(alloc, &template);
+            let object = object_in(memory, &template);
             drop(template);
             object
         }
         Err(fault) => {
             drop(fault);
-            Ok(Dict::new(alloc))
+            Dict::new(memory.alloc)
         }
     }
 }
 
-fn object_in(alloc: Global, template: &Template) -> Result<Dict, AllocError> {
-    let bound = Bound::new(alloc);
-    let world = World::new(alloc, CondMap::new(alloc))?;
-    let object = object_over(alloc, template, &world.env(&bound, &template.mappings));
+fn object_in(memory: &mut Memory, template: &Template) -> Dict {
+    let bound = Bound::new(memory.alloc);
+    let conds = CondMap::new(memory.alloc);
+    let world = World::new(memory, conds);
+    let env = world.env(&bound, &template.mappings);
+    let object = object_over(memory.alloc, template, &env);
     drop(world);
-    Ok(object)
+    object
 }
 
 fn object_over(alloc: Global, template: &Template, env: &Env) -> Dict {

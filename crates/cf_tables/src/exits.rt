@@ -3,123 +3,96 @@
 //! A row names an exit and then its fields between spaces, the last of which may hold spaces. Why a template was not read is
 //! what comes of reading a text: `TemplateRefused Read NAME TEXT`. Why it has no plan is the first flaw of a template,
 //! `TemplateRefused Plan TEMPLATE <- WORDS`, or else the flaw of a nested stack by its name and fields.
-use crate::evaluating::two_texts;
-use crate::json::push_text;
+use crate::memory::Memory;
 use crate::pieces::{cut, words_of};
 use crate::plans::first_flaw;
+use crate::told::Told;
 use cf_desired::Flaw;
 use cf_entry::{Cause, Reason, Status};
 use cf_face::{Exit, Refusal, StackFault, print_exit, print_text};
 use cf_io::MemorySink;
 use cf_template::read_template;
-use cf_tree::{Code, Names, Txt};
-use std::alloc::{AllocError, Global};
+use cf_tree::{Code, Names};
 
 /// The number and the name of an exit, and the line that is printed, without the line feed at its end.
-pub fn exit_line(
-    alloc: Global,
-    told: &mut String,
-    row: &str,
-    words: &str,
-) -> Result<(), AllocError> {
+pub fn exit_line(told: &mut Told, row: &str, words: &str) {
     let (name, fields) = cut(row);
-    match exit_of(alloc, name, fields, words)? {
-        Some(exit) => printed(alloc, told, exit),
-        None => told.push_str("no exit"),
+    match exit_of(&mut told.memory, name, fields, words) {
+        Some(exit) => printed(told, exit),
+        None => told.put("no exit"),
     }
 }
 
-fn printed(alloc: Global, told: &mut String, exit: Exit) -> Result<(), AllocError> {
-    match MemorySink::new(alloc, &[]) {
+fn printed(told: &mut Told, exit: Exit) {
+    match MemorySink::new(told.memory.alloc, &[]) {
         Ok(mut sink) => {
-            let exit = print_exit(alloc, &mut sink, exit);
-            let done = push_exit(told, &exit, sink.bytes());
+            let exit = print_exit(told.memory.alloc, &mut sink, exit);
+            push_exit(told, &exit, sink.bytes());
             drop(exit);
             drop(sink);
-            done
         }
         Err(_) => {
             drop(exit);
-            Err(AllocError)
+            told.memory.lose();
         }
     }
 }
 
-fn push_exit(told: &mut String, exit: &Exit, bytes: &[u8]) -> Result<(), AllocError> {
+fn push_exit(told: &mut Told, exit: &Exit, bytes: &[u8]) {
     let text = str::from_utf8(bytes).unwrap_or("");
-    let line = text.strip_suffix('\n').unwrap_or("no line");
-    write!(told, "{} {}: ", exit.number(), exit.name())?;
-    told.push_str(line)
+    told.number(exit.number() as u64);
+    told.word(exit.name());
+    told.put(": ");
+    told.put(text.strip_suffix('\n').unwrap_or("no line"));
 }
 
 /// The exits of printing two texts, and what the sink then holds; its call of a number may fail.
-pub fn print_line(
-    alloc: Global,
-    told: &mut String,
-    text: &str,
-    fails: &str,
-) -> Result<(), AllocError> {
+pub fn print_line(told: &mut Told, text: &str, fails: &str) {
     let sink = match number_of(fails) {
-        Some(number) => MemorySink::new(alloc, &[number]),
-        None => MemorySink::new(alloc, &[]),
+        Some(number) => MemorySink::new(told.memory.alloc, &[number]),
+        None => MemorySink::new(told.memory.alloc, &[]),
     };
     match sink {
         Ok(mut sink) => {
-            let done = print_both(alloc, told, &mut sink, text);
+            print_both(told, &mut sink, text);
             drop(sink);
-            done
         }
-        Err(_) => Err(AllocError),
+        Err(_) => told.memory.lose(),
     }
 }
 
-fn print_both(
-    alloc: Global,
-    told: &mut String,
-    sink: &mut MemorySink,
-    text: &str,
-) -> Result<(), AllocError> {
+fn print_both(told: &mut Told, sink: &mut MemorySink, text: &str) {
     let (one, two) = cut(text);
-    print(told, sink, one)?;
-    print(told, sink, two)?;
-    push_text(
-        alloc,
-        told,
-        str::from_utf8(sink.bytes()).unwrap_or("no text"),
-    )
+    print(told, sink, one);
+    print(told, sink, two);
+    told.json(str::from_utf8(sink.bytes()).unwrap_or("no text"));
 }
 
-fn print(told: &mut String, sink: &mut MemorySink, text: &str) -> Result<(), AllocError> {
+fn print(told: &mut Told, sink: &mut MemorySink, text: &str) {
     let exit = print_text(sink, text);
-    let name = exit.name();
+    told.put(exit.name());
+    told.put(" ");
     drop(exit);
-    told.push_str(name)?;
-    told.push(' ')
 }
 
 fn number_of(word: &str) -> Option<u64> {
     word.parse::<u64>().ok()
 }
 
-fn exit_of(
-    alloc: Global,
-    name: &str,
-    fields: &str,
-    words: &str,
-) -> Result<Option<Exit>, AllocError> {
+fn exit_of(memory: &mut Memory, name: &str, fields: &str, words: &str) -> Option<Exit> {
     match name {
-        "TemplateRefused" => refused(alloc, fields, words),
-        "RolledBack" => rolled_back(alloc, fields),
-        "Failed" => Ok(Some(Exit::Failed {
-            blamed: Names::from_vec(words_of(alloc, fields)?),
-        })),
-        "LaneMissing" => Ok(Some(Exit::LaneMissing {
-            name: Txt::from_str(alloc, fields)?,
-        })),
-        "LaneTwice" => Ok(Some(Exit::LaneTwice {
-            name: Txt::from_str(alloc, fields)?,
-        })),
-        _ => Ok(plain_exit(name, fields)),
+        "TemplateRefused" => refused(memory, fields, words),
+        "RolledBack" => rolled_back(memory, fields),
+        "Failed" => Some(Exit::Failed {
+            blamed: Names::from_vec(words_of(memory, fields)),
+        }),
+        "LaneMissing" => Some(Exit::LaneMissing {
+            name: memory.text(fields),
+        }),
+        "LaneTwice" => Some(Exit::LaneTwice {
+            name: memory.text(fields),
+        }),
+        _ => plain_exit(name, fields),
     }
 }
 
@@ -184,48 +157,52 @@ fn code_of(name: &str) -> Option<Code> {
     None
 }
 
-fn rolled_back(alloc: Global, fields: &str) -> Result<Option<Exit>, AllocError> {
+fn rolled_back(memory: &mut Memory, fields: &str) -> Option<Exit> {
     let (word, rest) = cut(fields);
     let cause = match word {
-        "Handler" => handler(alloc, rest)?,
+        "Handler" => handler(memory, rest),
         "Plan" => Cause::Plan {
-            fault: Txt::from_str(alloc, rest)?,
+            fault: memory.text(rest),
         },
         "Export" => Cause::Export {
-            name: Txt::from_str(alloc, rest)?,
+            name: memory.text(rest),
         },
-        _ => return Ok(None),
+        _ => return None,
     };
-    Ok(Some(Exit::RolledBack { cause }))
+    Some(Exit::RolledBack { cause })
 }
 
-fn handler(alloc: Global, fields: &str) -> Result<Cause, AllocError> {
+fn handler(memory: &mut Memory, fields: &str) -> Cause {
     let (path, word) = cut(fields);
     let reason = match code_of(word) {
         Some(code) => Reason::Code(code),
         None => Reason::Fault,
     };
-    let path = Txt::from_str(alloc, path)?;
-    Ok(Cause::Handler { path, reason })
+    Cause::Handler {
+        path: memory.text(path),
+        reason,
+    }
 }
 
-fn refused(alloc: Global, fields: &str, words: &str) -> Result<Option<Exit>, AllocError> {
+fn refused(memory: &mut Memory, fields: &str, words: &str) -> Option<Exit> {
     let (word, rest) = cut(fields);
     match word {
-        "Read" => unread(alloc, rest),
-        "Plan" => match flaw(alloc, rest, words)? {
-            Some(fault) => Ok(refusal(Refusal::Plan { fault })),
-            None => Ok(None),
+        "Read" => unread(memory, rest),
+        "Plan" => match flaw(memory, rest, words) {
+            Some(fault) => refusal(Refusal::Plan { fault }),
+            None => None,
         },
-        "NotYet" => {
-            let name = Txt::from_str(alloc, rest)?;
-            Ok(refusal(Refusal::NotYet { name }))
-        }
+        "NotYet" => refusal(Refusal::NotYet {
+            name: memory.text(rest),
+        }),
         "UnknownType" => {
-            let (path, name) = path_and_name(alloc, rest)?;
-            Ok(refusal(Refusal::UnknownType { path, name }))
+            let (path, name) = cut(rest);
+            refusal(Refusal::UnknownType {
+                path: memory.text(path),
+                name: memory.text(name),
+            })
         }
-        _ => Ok(None),
+        _ => None,
     }
 }
 
@@ -233,48 +210,43 @@ fn refusal(fault: Refusal) -> Option<Exit> {
     Some(Exit::TemplateRefused { fault })
 }
 
-fn path_and_name(alloc: Global, fields: &str) -> Result<(Txt, Txt), AllocError> {
-    let (path, name) = cut(fields);
-    two_texts(alloc, path, name)
-}
-
 /// Why a text is no template.
-fn unread(alloc: Global, fields: &str) -> Result<Option<Exit>, AllocError> {
+fn unread(memory: &mut Memory, fields: &str) -> Option<Exit> {
     let (name, text) = cut(fields);
-    match read_template(alloc, text.as_bytes()) {
+    match read_template(memory.alloc, text.as_bytes()) {
         Ok(template) => {
             drop(template);
-            Ok(None)
+            None
         }
-        Err(fault) => match Txt::from_str(alloc, name) {
-            Ok(name) => Ok(refusal(Refusal::Read { name, fault })),
-            Err(failed) => {
-                drop(fault);
-                Err(failed)
-            }
-        },
+        Err(fault) => refusal(Refusal::Read {
+            name: memory.text(name),
+            fault,
+        }),
     }
 }
 
 /// The first flaw of a template, or that of a nested stack by its name.
-fn flaw(alloc: Global, fields: &str, words: &str) -> Result<Option<Flaw>, AllocError> {
+fn flaw(memory: &mut Memory, fields: &str, words: &str) -> Option<Flaw> {
     let (word, rest) = cut(fields);
     match word {
-        "Shape" => Ok(Some(Flaw::Shape {
-            path: Txt::from_str(alloc, rest)?,
-        })),
-        "TooDeep" => Ok(Some(Flaw::TooDeep {
-            path: Txt::from_str(alloc, rest)?,
-        })),
-        "TooMany" => Ok(too_many(rest)),
+        "Shape" => Some(Flaw::Shape {
+            path: memory.text(rest),
+        }),
+        "TooDeep" => Some(Flaw::TooDeep {
+            path: memory.text(rest),
+        }),
+        "TooMany" => too_many(rest),
         "DynamicCondition" => {
-            let (path, name) = path_and_name(alloc, rest)?;
-            Ok(Some(Flaw::DynamicCondition { path, name }))
+            let (path, name) = cut(rest);
+            Some(Flaw::DynamicCondition {
+                path: memory.text(path),
+                name: memory.text(name),
+            })
         }
-        "DynamicTemplate" => Ok(Some(Flaw::DynamicTemplate {
-            path: Txt::from_str(alloc, rest)?,
-        })),
-        _ => first_flaw(alloc, fields, words),
+        "DynamicTemplate" => Some(Flaw::DynamicTemplate {
+            path: memory.text(rest),
+        }),
+        _ => first_flaw(memory, fields, words),
     }
 }
 

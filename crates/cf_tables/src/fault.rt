@@ -1,43 +1,40 @@
 //! Faults in words: the name, then the fields in their order, texts as compact JSON.
-use crate::json::{push_names, push_text};
+use crate::told::Told;
 use cf_eval::{EvalFault, EvalWhy};
 use cf_graph::GraphFault;
 use cf_param::BindFault;
 use cf_schema::SchemaFault;
 use cf_template::TemplateFault;
-use cf_tree::Txt;
-use std::alloc::{AllocError, Global};
 
-/// Why a template is not read.
-pub fn template_fault(
-    alloc: Global,
-    told: &mut String,
-    fault: &TemplateFault,
-) -> Result<(), AllocError> {
+/// Adds why a template is not read.
+pub fn template_fault(told: &mut Told, fault: &TemplateFault) {
     match fault {
-        TemplateFault::NotJson => told.push_str("NotJson"),
-        TemplateFault::TooLong { length } => write!(told, "TooLong {length}"),
-        TemplateFault::WrongShape { path } => named(alloc, told, "WrongShape ", path),
-        TemplateFault::UnknownSection { name } => named(alloc, told, "UnknownSection ", name),
-        TemplateFault::BadVersion => told.push_str("BadVersion"),
-        TemplateFault::NullValue { path } => named(alloc, told, "NullValue ", path),
-        TemplateFault::BadNumber { path } => named(alloc, told, "BadNumber ", path),
-        TemplateFault::BadName { path } => named(alloc, told, "BadName ", path),
+        TemplateFault::NotJson => told.put("NotJson"),
+        TemplateFault::TooLong { length } => {
+            told.put("TooLong");
+            told.number_word(*length);
+        }
+        TemplateFault::WrongShape { path } => told.named("WrongShape ", path),
+        TemplateFault::UnknownSection { name } => told.named("UnknownSection ", name),
+        TemplateFault::BadVersion => told.put("BadVersion"),
+        TemplateFault::NullValue { path } => told.named("NullValue ", path),
+        TemplateFault::BadNumber { path } => told.named("BadNumber ", path),
+        TemplateFault::BadName { path } => told.named("BadName ", path),
         TemplateFault::TooMany { what, count } => {
-            named(alloc, told, "TooMany ", what)?;
-            write!(told, " {count}")
+            told.named("TooMany ", what);
+            told.number_word(*count);
         }
-        TemplateFault::UnknownFunction { path } => named(alloc, told, "UnknownFunction ", path),
+        TemplateFault::UnknownFunction { path } => told.named("UnknownFunction ", path),
         TemplateFault::Unsupported { path, name } => {
-            named(alloc, told, "Unsupported ", path)?;
-            named(alloc, told, " ", name)
+            told.named("Unsupported ", path);
+            told.named(" ", name);
         }
-        TemplateFault::NoMemory => told.push_str("NoMemory"),
+        TemplateFault::NoMemory => told.put("NoMemory"),
     }
 }
 
-/// Why parameters are not bound.
-pub fn bind_fault(alloc: Global, told: &mut String, fault: &BindFault) -> Result<(), AllocError> {
+/// Adds why parameters are not bound.
+pub fn bind_fault(told: &mut Told, fault: &BindFault) {
     let (word, name) = match fault {
         BindFault::Undeclared { name } => ("Undeclared ", name),
         BindFault::Missing { name } => ("Missing ", name),
@@ -49,19 +46,19 @@ pub fn bind_fault(alloc: Global, told: &mut String, fault: &BindFault) -> Result
         BindFault::NotAllowed { name } => ("NotAllowed ", name),
         BindFault::NoMatch { name } => ("NoMatch ", name),
         BindFault::BadPattern { name } => ("BadPattern ", name),
-        BindFault::NoMemory => return told.push_str("NoMemory"),
+        BindFault::NoMemory => return told.put("NoMemory"),
     };
-    named(alloc, told, word, name)
+    told.named(word, name);
 }
 
-/// Why an evaluation gives nothing.
-pub fn eval_fault(alloc: Global, told: &mut String, fault: &EvalFault) -> Result<(), AllocError> {
+/// Adds why an evaluation gives nothing.
+pub fn eval_fault(told: &mut Told, fault: &EvalFault) {
     match fault {
         EvalFault::Bad { why, stack, at } => {
-            named(alloc, told, word_of(*why), stack)?;
-            named(alloc, told, " ", at)
+            told.named(word_of(*why), stack);
+            told.named(" ", at);
         }
-        EvalFault::NoMemory => told.push_str("NoMemory"),
+        EvalFault::NoMemory => told.put("NoMemory"),
     }
 }
 
@@ -79,38 +76,28 @@ fn word_of(why: EvalWhy) -> &'static str {
     }
 }
 
-/// Why a template has no order of work.
-pub fn graph_fault(alloc: Global, told: &mut String, fault: &GraphFault) -> Result<(), AllocError> {
+/// Adds why a template has no order of work.
+pub fn graph_fault(told: &mut Told, fault: &GraphFault) {
     match fault {
         GraphFault::Circular { cycle } => {
-            told.push_str("Circular ")?;
-            push_names(alloc, told, cycle.as_slice())
+            told.put("Circular ");
+            told.names(cycle.as_slice());
         }
         GraphFault::UnknownDependency { from, name } => {
-            named(alloc, told, "UnknownDependency ", from)?;
-            named(alloc, told, " ", name)
+            told.named("UnknownDependency ", from);
+            told.named(" ", name);
         }
-        GraphFault::NoMemory => told.push_str("NoMemory"),
+        GraphFault::NoMemory => told.put("NoMemory"),
     }
 }
 
-/// Why a schema is not read.
-pub fn schema_fault(
-    alloc: Global,
-    told: &mut String,
-    fault: &SchemaFault,
-) -> Result<(), AllocError> {
+/// Adds why a schema is not read.
+pub fn schema_fault(told: &mut Told, fault: &SchemaFault) {
     match fault {
-        SchemaFault::NotJson => told.push_str("NotJson"),
-        SchemaFault::Missing { name } => named(alloc, told, "Missing ", name),
-        SchemaFault::WrongShape { name } => named(alloc, told, "WrongShape ", name),
-        SchemaFault::BadPointer { text } => named(alloc, told, "BadPointer ", text),
-        SchemaFault::NoMemory => told.push_str("NoMemory"),
+        SchemaFault::NotJson => told.put("NotJson"),
+        SchemaFault::Missing { name } => told.named("Missing ", name),
+        SchemaFault::WrongShape { name } => told.named("WrongShape ", name),
+        SchemaFault::BadPointer { text } => told.named("BadPointer ", text),
+        SchemaFault::NoMemory => told.put("NoMemory"),
     }
-}
-
-/// Adds a word, and a text as JSON.
-fn named(alloc: Global, told: &mut String, word: &str, text: &Txt) -> Result<(), AllocError> {
-    told.push_str(word)?;
-    push_text(alloc, told, text.as_str())
 }

@@ -1,162 +1,146 @@
 //! The forms of expressions and conditions in words, each part in brackets and with its place.
-use crate::json::{push_text, push_value};
+use crate::json::push_value;
+use crate::told::Told;
 use cf_tree::{Cond, CondNode, Conds, Expr, ExprNode, ExprPair, Exprs, Part, Parts, Txt};
-use std::alloc::{AllocError, Global};
 
 /// Adds the form of an expression.
 #[cycle(form)]
-pub fn expr_form(alloc: Global, told: &mut String, expr: &Expr) -> Result<(), AllocError> {
-    node_form(alloc, told, expr.node())?;
-    place(told, expr.at())
+pub fn expr_form(told: &mut Told, expr: &Expr) {
+    node_form(told, expr.node());
+    place(told, expr.at());
 }
 
 #[cycle(form)]
-fn node_form(alloc: Global, told: &mut String, node: &ExprNode) -> Result<(), AllocError> {
+fn node_form(told: &mut Told, node: &ExprNode) {
     match node {
-        ExprNode::Lit(value) => push_value(alloc, told, value),
-        ExprNode::List(items) => list_form(alloc, told, items),
+        ExprNode::Lit(value) => push_value(told, value),
+        ExprNode::List(items) => list_form(told, items),
         ExprNode::Dict(pairs) => {
-            told.push_str("Map")?;
-            fields_form(alloc, told, pairs.as_slice())
+            told.put("Map");
+            fields_form(told, pairs.as_slice());
         }
-        ExprNode::Ref(name) => word(alloc, told, "Ref", name),
+        ExprNode::Ref(name) => told.named("Ref ", name),
         ExprNode::GetAtt { id, attribute } => {
-            word(alloc, told, "GetAtt", id)?;
-            part_form(alloc, told, attribute)
+            told.named("GetAtt ", id);
+            part_form(told, attribute);
         }
         ExprNode::Sub { parts, map } => {
-            told.push_str("Sub ")?;
-            parts_form(told, parts)?;
-            fields_form(alloc, told, map.as_slice())
+            told.put("Sub ");
+            parts_form(told, parts);
+            fields_form(told, map.as_slice());
         }
         ExprNode::Join { delimiter, list } => {
-            word(alloc, told, "Join", delimiter)?;
-            part_form(alloc, told, list)
+            told.named("Join ", delimiter);
+            part_form(told, list);
         }
         ExprNode::Select { index, list } => {
-            told.push_str("Select")?;
-            part_form(alloc, told, index)?;
-            part_form(alloc, told, list)
+            told.put("Select");
+            part_form(told, index);
+            part_form(told, list);
         }
         ExprNode::Split { delimiter, text } => {
-            word(alloc, told, "Split", delimiter)?;
-            part_form(alloc, told, text)
+            told.named("Split ", delimiter);
+            part_form(told, text);
         }
         ExprNode::If { name, yes, no } => {
-            word(alloc, told, "If", name)?;
-            part_form(alloc, told, yes)?;
-            part_form(alloc, told, no)
+            told.named("If ", name);
+            part_form(told, yes);
+            part_form(told, no);
         }
         ExprNode::FindInMap { map, first, second } => {
-            told.push_str("FindInMap")?;
-            part_form(alloc, told, map)?;
-            part_form(alloc, told, first)?;
-            part_form(alloc, told, second)
+            told.put("FindInMap");
+            part_form(told, map);
+            part_form(told, first);
+            part_form(told, second);
         }
         ExprNode::Import(name) => {
-            told.push_str("ImportValue")?;
-            part_form(alloc, told, name)
+            told.put("ImportValue");
+            part_form(told, name);
         }
         ExprNode::Base64(text) => {
-            told.push_str("Base64")?;
-            part_form(alloc, told, text)
+            told.put("Base64");
+            part_form(told, text);
         }
     }
 }
 
 /// A part in brackets.
 #[cycle(form)]
-fn part_form(alloc: Global, told: &mut String, expr: &Expr) -> Result<(), AllocError> {
-    told.push_str(" (")?;
-    expr_form(alloc, told, expr)?;
-    told.push(')')
+fn part_form(told: &mut Told, expr: &Expr) {
+    told.put(" (");
+    expr_form(told, expr);
+    told.put(")");
 }
 
 #[cycle(form)]
 #[tactic(auto, using(cf_tree::proofs::Falls::form_falls))]
-fn list_form(alloc: Global, told: &mut String, items: &Exprs) -> Result<(), AllocError> {
-    told.push_str("List")?;
+fn list_form(told: &mut Told, items: &Exprs) {
+    told.put("List");
     for item in items.as_slice() {
-        part_form(alloc, told, item)?;
+        part_form(told, item);
     }
-    Ok(())
 }
 
 #[cycle(form)]
 #[tactic(auto, using(cf_tree::proofs::Falls::field_falls))]
-fn fields_form(alloc: Global, told: &mut String, pairs: &[ExprPair]) -> Result<(), AllocError> {
+fn fields_form(told: &mut Told, pairs: &[ExprPair]) {
     for pair in pairs {
-        told.push(' ')?;
-        push_text(alloc, told, pair.name.as_str())?;
-        part_form(alloc, told, &pair.value)?;
+        told.named(" ", &pair.name);
+        part_form(told, &pair.value);
     }
-    Ok(())
 }
 
 /// Adds the parts of a text with holes: plain text in square brackets, and names in pointed ones.
-pub fn parts_form(told: &mut String, parts: &Parts) -> Result<(), AllocError> {
+pub fn parts_form(told: &mut Told, parts: &Parts) {
     for part in parts.as_slice() {
         let (open, text, shut) = match part {
-            Part::Plain(text) => ('[', text, ']'),
-            Part::Name(name) => ('<', name, '>'),
+            Part::Plain(text) => ("[", text, "]"),
+            Part::Name(name) => ("<", name, ">"),
         };
-        told.push(open)?;
-        told.push_str(text.as_str())?;
-        told.push(shut)?;
+        told.put(open);
+        told.put(text.as_str());
+        told.put(shut);
     }
-    Ok(())
 }
 
 /// Adds the form of a condition.
 #[cycle(condition)]
-pub fn condition_form(alloc: Global, told: &mut String, cond: &Cond) -> Result<(), AllocError> {
-    test_form(alloc, told, cond.node())?;
-    place(told, cond.at())
+pub fn condition_form(told: &mut Told, cond: &Cond) {
+    test_form(told, cond.node());
+    place(told, cond.at());
 }
 
 #[cycle(condition)]
-fn test_form(alloc: Global, told: &mut String, node: &CondNode) -> Result<(), AllocError> {
+fn test_form(told: &mut Told, node: &CondNode) {
     match node {
         CondNode::Equals { left, right } => {
-            told.push_str("Equals")?;
-            part_form(alloc, told, left)?;
-            part_form(alloc, told, right)
+            told.put("Equals");
+            part_form(told, left);
+            part_form(told, right);
         }
         CondNode::Not(cond) => {
-            told.push_str("Not (")?;
-            condition_form(alloc, told, cond)?;
-            told.push(')')
+            told.put("Not (");
+            condition_form(told, cond);
+            told.put(")");
         }
-        CondNode::And(conds) => tests_form(alloc, told, "And", conds),
-        CondNode::Or(conds) => tests_form(alloc, told, "Or", conds),
-        CondNode::Name(name) => word(alloc, told, "Condition", name),
+        CondNode::And(conds) => tests_form(told, "And", conds),
+        CondNode::Or(conds) => tests_form(told, "Or", conds),
+        CondNode::Name(name) => told.named("Condition ", name),
     }
 }
 
 #[cycle(condition)]
 #[tactic(auto, using(cf_eval::proofs::TestFalls::test_falls))]
-fn tests_form(
-    alloc: Global,
-    told: &mut String,
-    word: &str,
-    conds: &Conds,
-) -> Result<(), AllocError> {
-    told.push_str(word)?;
+fn tests_form(told: &mut Told, word: &str, conds: &Conds) {
+    told.put(word);
     for cond in conds.as_slice() {
-        told.push_str(" (")?;
-        condition_form(alloc, told, cond)?;
-        told.push(')')?;
+        told.put(" (");
+        condition_form(told, cond);
+        told.put(")");
     }
-    Ok(())
 }
 
-fn word(alloc: Global, told: &mut String, word: &str, name: &Txt) -> Result<(), AllocError> {
-    told.push_str(word)?;
-    told.push(' ')?;
-    push_text(alloc, told, name.as_str())
-}
-
-fn place(told: &mut String, at: &Txt) -> Result<(), AllocError> {
-    told.push_str(" at ")?;
-    told.push_str(at.as_str())
+fn place(told: &mut Told, at: &Txt) {
+    told.put(" at ");
+    told.put(at.as_str());
 }

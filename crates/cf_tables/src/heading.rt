@@ -1,4 +1,5 @@
 //! Headings: what rows ask for, and the text in which they stand.
+use crate::memory::Memory;
 use crate::stretch::stretched;
 use std::alloc::{AllocError, Global};
 
@@ -102,11 +103,17 @@ impl Heading {
         }
     }
 
-    /// A row's text: its piece within that of the heading.
-    pub fn around(&self, alloc: Global, row: &str) -> Result<String, AllocError> {
-        let piece = stretched(alloc, row_piece(row))?;
-        let whole = within(alloc, row_piece(self.text.as_str()), piece.as_str());
-        drop(piece);
+    /// A row's text: its piece within that of the heading. A long text may stand in a piece twice.
+    pub fn around(&self, memory: &mut Memory, row: &str) -> String {
+        let frame = row_piece(self.text.as_str());
+        let (head, tail) = frame.split_once('@').unwrap_or((frame, ""));
+        let once = stretched(memory, row_piece(row));
+        let twice = stretched(memory, once.as_str());
+        drop(once);
+        let mut whole = memory.copy(head);
+        memory.note(whole.push_str(twice.as_str()).is_err());
+        memory.note(whole.push_str(tail).is_err());
+        drop(twice);
         whole
     }
 }
@@ -117,15 +124,6 @@ fn row_piece(line: &str) -> &str {
         Some((piece, _)) => piece,
         None => line,
     }
-}
-
-/// A piece, in which long texts are short, at the first `@` of a frame.
-fn within(alloc: Global, frame: &str, piece: &str) -> Result<String, AllocError> {
-    let (head, tail) = frame.split_once('@').unwrap_or((frame, ""));
-    let piece = stretched(alloc, piece)?;
-    let whole = format!(in alloc; "{head}{piece}{tail}");
-    drop(piece);
-    whole
 }
 
 fn kind_of(word: &str) -> Kind {

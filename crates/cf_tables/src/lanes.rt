@@ -4,151 +4,104 @@
 //! ask, their token, an id where they have one, and properties. Behind ` <- ` stands how the first call is broken.
 use crate::evaluating::object_of;
 use crate::json::push_object;
+use crate::memory::Memory;
 use crate::pieces::cut;
+use crate::told::Told;
 use cf_fake::{Break, MemoryHandler, Plan, Planned};
 use cf_handler::{Handler, file_schema, record_schema};
-use cf_schema::Schema;
-use cf_tree::{Answer, Code, Dict, Listing, NoMemory, Request, Txt};
-use std::alloc::{AllocError, Global};
+use cf_tree::{Answer, Code, NoMemory, Request};
+use std::alloc::Global;
 
 /// What a new lane answers, call by call, and how many faults it then counts.
-pub fn lane_line(
-    alloc: Global,
-    told: &mut String,
-    row: &str,
-    broken: &str,
-) -> Result<(), AllocError> {
-    let (word, calls) = row.split_once("; ").unwrap_or((row, ""));
-    let kind = if word == "records" {
+pub fn lane_line(told: &mut Told, row: &str, broken: &str) {
+    let (kind, calls) = row.split_once("; ").unwrap_or((row, ""));
+    let plan = plan_of(&mut told.memory, broken);
+    match lane_of(told.memory.alloc, kind, plan) {
+        Ok(mut lane) => {
+            add_answers(told, &mut lane, type_of(kind), calls);
+            drop(lane);
+        }
+        Err(_) => told.memory.lose(),
+    }
+}
+
+fn type_of(kind: &str) -> &'static str {
+    if kind == "records" {
         "Local::Records::Record"
     } else {
         "Local::Files::File"
-    };
-    let mut lane = lane_of(alloc, word, plan_of(alloc, broken)?)?;
-    let done = add_answers(alloc, told, &mut lane, kind, calls);
-    drop(lane);
-    done
-}
-
-fn add_answers(
-    alloc: Global,
-    told: &mut String,
-    lane: &mut MemoryHandler,
-    kind: &str,
-    calls: &str,
-) -> Result<(), AllocError> {
-    for call in calls.split("; ") {
-        add_answer(alloc, told, lane, kind, call)?;
     }
-    write!(told, "faults {}", lane.faults())
 }
 
-fn add_answer(
-    alloc: Global,
-    told: &mut String,
-    lane: &mut MemoryHandler,
-    kind: &str,
-    call: &str,
-) -> Result<(), AllocError> {
+fn add_answers(told: &mut Told, lane: &mut MemoryHandler, kind: &str, calls: &str) {
+    for call in calls.split("; ") {
+        add_answer(told, lane, kind, call);
+    }
+    told.put("faults");
+    told.number_word(lane.faults());
+}
+
+fn add_answer(told: &mut Told, lane: &mut MemoryHandler, kind: &str, call: &str) {
     let (word, rest) = cut(call);
     let (token, rest) = cut(rest);
-    let request = request_of(alloc, word, kind, rest)?;
+    let request = request_of(&mut told.memory, word, kind, rest);
     let answer = lane.call(token.parse::<u64>().unwrap_or(0), &request);
     drop(request);
-    let done = answer_text(alloc, told, &answer);
+    answer_text(told, &answer);
     drop(answer);
-    done?;
-    told.push_str("; ")
+    told.put("; ");
 }
 
-fn lane_of(alloc: Global, word: &str, plan: Plan) -> Result<MemoryHandler, AllocError> {
-    let schema = if word == "records" {
-        record_schema(alloc)
+fn lane_of(alloc: Global, kind: &str, plan: Plan) -> Result<MemoryHandler, NoMemory> {
+    if kind == "records" {
+        MemoryHandler::new(alloc, "records1", record_schema(alloc)?, plan)
     } else {
-        file_schema(alloc)
-    };
-    match schema {
-        Ok(schema) => lane_with(alloc, word, schema, plan),
-        Err(_) => {
-            drop(plan);
-            Err(AllocError)
-        }
-    }
-}
-
-fn lane_with(
-    alloc: Global,
-    word: &str,
-    schema: Schema,
-    plan: Plan,
-) -> Result<MemoryHandler, AllocError> {
-    let lane = if word == "records" {
-        MemoryHandler::new(alloc, "records1", schema, plan)
-    } else {
-        MemoryHandler::new(alloc, "files1", schema, plan)
-    };
-    match lane {
-        Ok(lane) => Ok(lane),
-        Err(_) => Err(AllocError),
+        MemoryHandler::new(alloc, "files1", file_schema(alloc)?, plan)
     }
 }
 
 /// The plan that breaks the first call so.
-fn plan_of(alloc: Global, broken: &str) -> Result<Plan, AllocError> {
+fn plan_of(memory: &mut Memory, broken: &str) -> Plan {
+    let mut plan = Plan::new(memory.alloc);
     let break_ = match broken {
         "before" => Break::FaultBefore,
         "after" => Break::FaultAfter,
         "refused" => Break::Refuse(Code::Throttling),
-        _ => return Ok(Listing::new(alloc)),
+        _ => return plan,
     };
-    let mut plan: Plan = Listing::new(alloc);
-    match plan.push(Planned { call: 1, break_ }) {
-        Ok(()) => Ok(plan),
-        Err(failed) => {
-            drop(plan);
-            Err(failed)
-        }
-    }
+    memory.note(plan.push(Planned { call: 1, break_ }).is_err());
+    plan
 }
 
 /// What a call asks.
-fn request_of(alloc: Global, word: &str, kind: &str, rest: &str) -> Result<Request, AllocError> {
+fn request_of(memory: &mut Memory, word: &str, kind: &str, rest: &str) -> Request {
     match word {
-        "create" => {
-            let (kind, props) = text_and_object(alloc, kind, rest)?;
-            Ok(Request::Create { kind, props })
-        }
+        "create" => Request::Create {
+            kind: memory.text(kind),
+            props: object_of(memory, rest),
+        },
         "update" => {
             let (physical, props) = cut(rest);
-            let (physical, props) = text_and_object(alloc, physical, props)?;
-            Ok(Request::Update { physical, props })
+            Request::Update {
+                physical: memory.text(physical),
+                props: object_of(memory, props),
+            }
         }
-        _ => Ok(Request::Delete {
-            physical: Txt::from_str(alloc, rest)?,
-        }),
+        _ => Request::Delete {
+            physical: memory.text(rest),
+        },
     }
 }
 
-fn text_and_object(alloc: Global, text: &str, props: &str) -> Result<(Txt, Dict), AllocError> {
-    let props = object_of(alloc, props)?;
-    match Txt::from_str(alloc, text) {
-        Ok(text) => Ok((text, props)),
-        Err(failed) => {
-            drop(props);
-            Err(failed)
-        }
-    }
-}
-
-fn answer_text(alloc: Global, told: &mut String, answer: &Answer) -> Result<(), AllocError> {
+fn answer_text(told: &mut Told, answer: &Answer) {
     match answer {
         Answer::Success { physical, attrs } => {
-            told.push_str(physical.as_str())?;
-            told.push(' ')?;
-            push_object(alloc, told, attrs)
+            told.put(physical.as_str());
+            told.put(" ");
+            push_object(told, attrs);
         }
-        Answer::Failed { code } => told.push_str(code.name()),
-        Answer::Fault => told.push_str("fault"),
-        Answer::NoMemory => told.push_str("no memory"),
+        Answer::Failed { code } => told.put(code.name()),
+        Answer::Fault => told.put("fault"),
+        Answer::NoMemory => told.put("no memory"),
     }
 }

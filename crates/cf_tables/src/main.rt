@@ -20,12 +20,14 @@ mod given;
 mod heading;
 mod json;
 mod lanes;
+mod memory;
 mod ordering;
 mod pieces;
 mod plans;
 mod scene;
 mod stretch;
 mod texts;
+mod told;
 mod wanted;
 
 use crate::answer::answer;

@@ -10,9 +10,10 @@
 //! outputs, and behind `as` the names that they are exported by; the exports with their values, and then all their names;
 //! the outputs that are not made; and the flaws in the order in which they are met. A resource or an output at fault tells
 //! its flaw by its number.
-use crate::json::push_names;
+use crate::memory::Memory;
 use crate::pieces::cut;
 use crate::scene::{Scene, scene_of};
+use crate::told::Told;
 use crate::wanted::{push_plan, push_terms, push_whole};
 use cf_desired::{
     Desired, DesiredFault, Flaw, Plan, Terms, WholePlan, desired, export_names, is_flat_source,
@@ -23,69 +24,60 @@ use cf_tree::{Names, Txt};
 use std::alloc::{AllocError, Global};
 
 /// What a template wants of each path, over what words say.
-pub fn plan_line(
-    alloc: Global,
-    told: &mut String,
-    template: &str,
-    words: &str,
-) -> Result<(), AllocError> {
-    let scene = scene_of(alloc, template, words)?;
-    let done = line_over(alloc, told, &scene);
+pub fn plan_line(told: &mut Told, template: &str, words: &str) {
+    let scene = scene_of(&mut told.memory, template, words);
+    let flaw = flaw_over(&mut told.memory, &scene);
+    match plan_over(told.memory.alloc, &scene) {
+        Ok(Some(plan)) => {
+            told_over(told, &plan, flaw.as_ref());
+            drop(plan);
+        }
+        Ok(None) => told.put("nested"),
+        Err(_) => told.memory.lose(),
+    }
+    drop(flaw);
     drop(scene);
-    done
 }
 
-fn line_over(alloc: Global, told: &mut String, scene: &Scene) -> Result<(), AllocError> {
+/// The plan of a template; none of one with nested stacks.
+fn plan_over(alloc: Global, scene: &Scene) -> Result<Option<Plan>, AllocError> {
     let templates = templates_of(alloc, &scene.source)?;
-    let done = if is_flat_source(&scene.source, &templates) {
-        line_of(
-            alloc,
-            told,
-            plan(alloc, &scene.source, &templates, &scene.seen),
-            flaw_in(desired(alloc, &scene.source, &templates, &scene.seen)),
-        )
+    let plan = if is_flat_source(&scene.source, &templates) {
+        match plan(alloc, &scene.source, &templates, &scene.seen) {
+            Ok(plan) => Ok(Some(plan)),
+            Err(failed) => Err(failed),
+        }
     } else {
-        told.push_str("nested")
+        Ok(None)
     };
     drop(templates);
-    done
-}
-
-fn line_of(
-    alloc: Global,
-    told: &mut String,
-    plan: Result<Plan, AllocError>,
-    flaw: Option<Flaw>,
-) -> Result<(), AllocError> {
-    let done = match plan {
-        Ok(plan) => {
-            let done = told_over(alloc, told, &plan, flaw.as_ref());
-            drop(plan);
-            done
-        }
-        Err(failed) => Err(failed),
-    };
-    drop(flaw);
-    done
+    plan
 }
 
 /// The first flaw of a template, over what words say, where it has one and memory was there.
-pub fn first_flaw(alloc: Global, template: &str, words: &str) -> Result<Option<Flaw>, AllocError> {
-    let scene = scene_of(alloc, template, words)?;
-    let flaw = flaw_over(alloc, &scene);
+pub fn first_flaw(memory: &mut Memory, template: &str, words: &str) -> Option<Flaw> {
+    let scene = scene_of(memory, template, words);
+    let flaw = flaw_over(memory, &scene);
     drop(scene);
     flaw
 }
 
-fn flaw_over(alloc: Global, scene: &Scene) -> Result<Option<Flaw>, AllocError> {
-    let templates = templates_of(alloc, &scene.source)?;
-    let flaw = if is_flat_source(&scene.source, &templates) {
-        flaw_in(desired(alloc, &scene.source, &templates, &scene.seen))
-    } else {
-        None
-    };
-    drop(templates);
-    Ok(flaw)
+fn flaw_over(memory: &mut Memory, scene: &Scene) -> Option<Flaw> {
+    match templates_of(memory.alloc, &scene.source) {
+        Ok(templates) => {
+            let flaw = if is_flat_source(&scene.source, &templates) {
+                flaw_in(desired(memory.alloc, &scene.source, &templates, &scene.seen))
+            } else {
+                None
+            };
+            drop(templates);
+            flaw
+        }
+        Err(_) => {
+            memory.lose();
+            None
+        }
+    }
 }
 
 fn flaw_in(desired: Result<Desired, DesiredFault>) -> Option<Flaw> {
@@ -99,152 +91,100 @@ fn flaw_in(desired: Result<Desired, DesiredFault>) -> Option<Flaw> {
 }
 
 /// What a template says of a path besides its properties. The path stands before the template.
-pub fn terms_line(
-    alloc: Global,
-    told: &mut String,
-    text: &str,
-    words: &str,
-) -> Result<(), AllocError> {
+pub fn terms_line(told: &mut Told, text: &str, words: &str) {
     let (path, template) = cut(text);
-    let path = Txt::from_str(alloc, path)?;
-    let done = terms_of(alloc, told, &path, template, words);
-    drop(path);
-    done
-}
-
-fn terms_of(
-    alloc: Global,
-    told: &mut String,
-    path: &Txt,
-    template: &str,
-    words: &str,
-) -> Result<(), AllocError> {
-    let scene = scene_of(alloc, template, words)?;
-    let done = terms_over(alloc, told, &scene, path);
+    let path = told.memory.text(path);
+    let scene = scene_of(&mut told.memory, template, words);
+    match templates_of(told.memory.alloc, &scene.source) {
+        Ok(templates) => {
+            if is_flat_source(&scene.source, &templates) {
+                let terms = terms_at(told.memory.alloc, &scene.source, &templates, &path);
+                told_terms(told, terms);
+            } else {
+                told.put("nested");
+            }
+            drop(templates);
+        }
+        Err(_) => told.memory.lose(),
+    }
     drop(scene);
-    done
+    drop(path);
 }
 
-fn terms_over(
-    alloc: Global,
-    told: &mut String,
-    scene: &Scene,
-    path: &Txt,
-) -> Result<(), AllocError> {
-    let templates = templates_of(alloc, &scene.source)?;
-    let done = if is_flat_source(&scene.source, &templates) {
-        told_terms(
-            alloc,
-            told,
-            terms_at(alloc, &scene.source, &templates, path),
-        )
-    } else {
-        told.push_str("nested")
-    };
-    drop(templates);
-    done
-}
-
-fn told_terms(
-    alloc: Global,
-    told: &mut String,
-    terms: Result<Option<Terms>, AllocError>,
-) -> Result<(), AllocError> {
-    match terms? {
-        Some(terms) => {
-            let done = push_terms(alloc, told, &terms);
+fn told_terms(told: &mut Told, terms: Result<Option<Terms>, AllocError>) {
+    match terms {
+        Ok(Some(terms)) => {
+            push_terms(told, &terms);
             drop(terms);
-            done
         }
-        None => told.push_str("nothing"),
+        Ok(None) => told.put("nothing"),
+        Err(_) => told.memory.lose(),
     }
 }
 
-fn told_over(
-    alloc: Global,
-    told: &mut String,
-    plan: &Plan,
-    flaw: Option<&Flaw>,
-) -> Result<(), AllocError> {
-    let mut parts = String::new(alloc);
-    let done = match push_plan(alloc, &mut parts, plan) {
-        Ok(()) => told_with(alloc, told, plan, flaw, parts.as_str()),
-        Err(failed) => Err(failed),
-    };
-    drop(parts);
-    done
-}
-
-fn told_with(
-    alloc: Global,
-    told: &mut String,
-    plan: &Plan,
-    flaw: Option<&Flaw>,
-    parts: &str,
-) -> Result<(), AllocError> {
+fn told_over(told: &mut Told, plan: &Plan, flaw: Option<&Flaw>) {
     match flaw {
-        Some(flaw) => refusal(alloc, told, plan, flaw)?,
-        None => wholeness(alloc, told, plan, parts)?,
-    }
-    told.push_str(parts)?;
-    add_exports(alloc, told, plan)?;
-    add_list(alloc, told, "; unmade ", &plan.unmade)?;
-    add_flaws(alloc, told, plan)
-}
-
-/// Whether a plan is known as a whole, which then has the same parts.
-fn wholeness(alloc: Global, told: &mut String, plan: &Plan, parts: &str) -> Result<(), AllocError> {
-    match whole(alloc, plan)? {
-        Some(whole) => {
-            let done = known(alloc, told, &whole, parts);
-            drop(whole);
-            done
+        Some(flaw) => {
+            refusal(told, plan, flaw);
+            push_plan(told, plan);
         }
-        None => told.push_str("open"),
+        None => wholeness(told, plan),
+    }
+    add_exports(told, plan);
+    add_list(told, "; unmade ", &plan.unmade);
+    add_flaws(told, plan);
+}
+
+/// Whether a plan is known as a whole, and its parts.
+fn wholeness(told: &mut Told, plan: &Plan) {
+    match whole(told.memory.alloc, plan) {
+        Ok(Some(whole)) => {
+            told.put("whole");
+            push_plan(told, plan);
+            compare(told, &whole);
+            drop(whole);
+        }
+        Ok(None) => {
+            told.put("open");
+            push_plan(told, plan);
+        }
+        Err(_) => told.memory.lose(),
     }
 }
 
-fn known(
-    alloc: Global,
-    told: &mut String,
-    whole: &WholePlan,
-    parts: &str,
-) -> Result<(), AllocError> {
-    let mut known = String::new(alloc);
-    let done = match push_whole(alloc, &mut known, whole) {
-        Ok(()) => same_parts(told, known.as_str(), parts),
-        Err(failed) => Err(failed),
-    };
+/// Adds what is known as a whole, where it is something else than what is told.
+fn compare(told: &mut Told, whole: &WholePlan) {
+    let mut known = Told::new(told.memory.alloc);
+    known.put("whole");
+    push_whole(&mut known, whole);
+    if known.text.as_str() != told.text.as_str() {
+        told.put("; but ");
+        told.put(known.text.as_str());
+    }
+    told.memory.note(known.memory.end().is_err());
     drop(known);
-    done
-}
-
-fn same_parts(told: &mut String, known: &str, parts: &str) -> Result<(), AllocError> {
-    told.push_str("whole")?;
-    if known != parts {
-        told.push_str(known)?;
-        told.push_str("; but")?;
-    }
-    Ok(())
 }
 
 /// Why nothing is desired: the first flaw of the plan, or else it is told.
-fn refusal(alloc: Global, told: &mut String, plan: &Plan, flaw: &Flaw) -> Result<(), AllocError> {
-    told.push_str("refused")?;
+fn refusal(told: &mut Told, plan: &Plan, flaw: &Flaw) {
+    told.put("refused");
     match plan.flaws.as_slice().first() {
-        Some(first) if *first == *flaw => Ok(()),
+        Some(first) if *first == *flaw => {}
         _ => {
-            told.push_str(" by ")?;
-            push_flaw(alloc, told, flaw)
+            told.put(" by ");
+            push_flaw(told, flaw);
         }
     }
 }
 
-fn push_flaw(alloc: Global, told: &mut String, flaw: &Flaw) -> Result<(), AllocError> {
-    let text = plan_text(alloc, flaw)?;
-    let done = told.push_str(text.as_str());
-    drop(text);
-    done
+fn push_flaw(told: &mut Told, flaw: &Flaw) {
+    match plan_text(told.memory.alloc, flaw) {
+        Ok(text) => {
+            told.put(text.as_str());
+            drop(text);
+        }
+        Err(_) => told.memory.lose(),
+    }
 }
 
 /// A refusal as a flaw, but for want of memory.
@@ -271,26 +211,29 @@ fn flaw_of(fault: DesiredFault) -> Option<Flaw> {
 }
 
 /// Adds the names of exports.
-fn add_exports(alloc: Global, told: &mut String, plan: &Plan) -> Result<(), AllocError> {
-    let exports = export_names(alloc, plan)?;
-    let done = add_list(alloc, told, "; exports ", &exports);
-    drop(exports);
-    done
+fn add_exports(told: &mut Told, plan: &Plan) {
+    match export_names(told.memory.alloc, plan) {
+        Ok(exports) => {
+            add_list(told, "; exports ", &exports);
+            drop(exports);
+        }
+        Err(_) => told.memory.lose(),
+    }
 }
 
 /// Adds a list of names behind its head, if it has any.
-fn add_list(alloc: Global, told: &mut String, head: &str, names: &Names) -> Result<(), AllocError> {
-    if names.is_empty() {
-        return Ok(());
+fn add_list(told: &mut Told, head: &str, names: &Names) {
+    if !names.is_empty() {
+        told.put(head);
+        told.names(names.as_slice());
     }
-    told.push_str(head)?;
-    push_names(alloc, told, names.as_slice())
 }
 
-fn add_flaws(alloc: Global, told: &mut String, plan: &Plan) -> Result<(), AllocError> {
+fn add_flaws(told: &mut Told, plan: &Plan) {
     for (before, flaw) in plan.flaws.as_slice().iter().enumerate() {
-        write!(told, "; flaw {} ", before.saturating_add(1))?;
-        push_flaw(alloc, told, flaw)?;
+        told.put("; flaw");
+        told.number_word((before as u64).saturating_add(1));
+        told.put(" ");
+        push_flaw(told, flaw);
     }
-    Ok(())
 }

@@ -6,10 +6,10 @@
 //! - `A is ID` says that the resource `A` has this physical id, and `A is ID with {..}` that it has these attributes too;
 //!   the id `?` is not known yet;
 //! - `import N=V` is an export of another stack.
-use crate::evaluating::{object_of, two_texts};
+use crate::evaluating::object_of;
+use crate::memory::Memory;
 use cf_desired::{Seen, SeenAt};
-use cf_tree::{Bytes, Pairs, Source, Texts, Txt};
-use std::alloc::{AllocError, Global};
+use cf_tree::{Bytes, Pairs, Source, Texts};
 
 /// The source of a stack, and what is seen of its resources.
 #[derive(Drop)]
@@ -19,121 +19,62 @@ pub struct Scene {
 }
 
 /// The stack `app`, which operation 1 makes from a template, over what words say.
-pub fn scene_of(alloc: Global, template: &str, words: &str) -> Result<Scene, AllocError> {
+pub fn scene_of(memory: &mut Memory, template: &str, words: &str) -> Scene {
     let mut scene = Scene {
-        source: source_of(alloc, template)?,
-        seen: Seen::new(alloc),
+        source: source_of(memory, template),
+        seen: Seen::new(memory.alloc),
     };
-    match add_words(alloc, &mut scene, words) {
-        Ok(()) => Ok(scene),
-        Err(failed) => {
-            drop(scene);
-            Err(failed)
-        }
-    }
-}
-
-fn add_words(alloc: Global, scene: &mut Scene, words: &str) -> Result<(), AllocError> {
     if !words.is_empty() {
         for word in words.split(" & ") {
-            add(alloc, scene, word)?;
+            add(memory, &mut scene, word);
         }
     }
-    Ok(())
+    scene
 }
 
-fn source_of(alloc: Global, template: &str) -> Result<Source, AllocError> {
-    let texts = texts_of(alloc, template)?;
-    match two_texts(alloc, "page", "app") {
-        Ok((root, stack)) => Ok(Source {
-            root,
-            texts,
-            given: Pairs::new(alloc),
-            imports: Pairs::new(alloc),
-            stack,
-            number: 1,
-        }),
-        Err(failed) => {
-            drop(texts);
-            Err(failed)
-        }
+fn source_of(memory: &mut Memory, template: &str) -> Source {
+    let mut texts = Texts::new(memory.alloc);
+    let name = memory.text("page");
+    let bytes = Bytes::from_vec(memory.bytes(template.as_bytes()));
+    memory.note(texts.insert(name, bytes).is_err());
+    Source {
+        root: memory.text("page"),
+        texts,
+        given: Pairs::new(memory.alloc),
+        imports: Pairs::new(memory.alloc),
+        stack: memory.text("app"),
+        number: 1,
     }
 }
 
-fn texts_of(alloc: Global, template: &str) -> Result<Texts, AllocError> {
-    let mut texts = Texts::new(alloc);
-    match add_text(alloc, &mut texts, template) {
-        Ok(()) => Ok(texts),
-        Err(failed) => {
-            drop(texts);
-            Err(failed)
-        }
-    }
-}
-
-fn add_text(alloc: Global, texts: &mut Texts, template: &str) -> Result<(), AllocError> {
-    let name = Txt::from_str(alloc, "page")?;
-    match Vec::from_slice(alloc, template.as_bytes()) {
-        Ok(bytes) => texts.insert(name, Bytes::from_vec(bytes)),
-        Err(failed) => {
-            drop(name);
-            Err(failed)
-        }
-    }
-}
-
-fn add(alloc: Global, scene: &mut Scene, word: &str) -> Result<(), AllocError> {
+fn add(memory: &mut Memory, scene: &mut Scene, word: &str) {
     if let Some(import) = word.strip_prefix("import ") {
-        add_pair(alloc, &mut scene.source.imports, import)
+        add_pair(memory, &mut scene.source.imports, import);
     } else if let Some((path, told)) = word.split_once(" is ") {
-        add_seen(alloc, &mut scene.seen, path, told)
+        let path = memory.text(path);
+        let at = seen_at(memory, told);
+        memory.note(scene.seen.insert(path, at).is_err());
     } else {
-        add_pair(alloc, &mut scene.source.given, word)
+        add_pair(memory, &mut scene.source.given, word);
     }
 }
 
-fn add_pair(alloc: Global, pairs: &mut Pairs, word: &str) -> Result<(), AllocError> {
+fn add_pair(memory: &mut Memory, pairs: &mut Pairs, word: &str) {
     let (name, value) = word.split_once('=').unwrap_or((word, ""));
-    let (name, value) = two_texts(alloc, name, value)?;
-    pairs.insert(name, value)
+    let name = memory.text(name);
+    let value = memory.text(value);
+    memory.note(pairs.insert(name, value).is_err());
 }
 
-fn add_seen(alloc: Global, seen: &mut Seen, path: &str, told: &str) -> Result<(), AllocError> {
-    let at = seen_at(alloc, told)?;
-    match Txt::from_str(alloc, path) {
-        Ok(path) => seen.insert(path, at),
-        Err(failed) => {
-            drop(at);
-            Err(failed)
-        }
-    }
-}
-
-fn seen_at(alloc: Global, told: &str) -> Result<SeenAt, AllocError> {
-    match told.split_once(" with ") {
-        Some((id, attrs)) => {
-            let attrs = object_of(alloc, attrs)?;
-            match physical(alloc, id) {
-                Ok(physical) => Ok(SeenAt {
-                    physical,
-                    attrs: Some(attrs),
-                }),
-                Err(failed) => {
-                    drop(attrs);
-                    Err(failed)
-                }
-            }
-        }
-        None => Ok(SeenAt {
-            physical: physical(alloc, told)?,
-            attrs: None,
-        }),
-    }
-}
-
-fn physical(alloc: Global, id: &str) -> Result<Option<Txt>, AllocError> {
-    if id == "?" {
-        return Ok(None);
-    }
-    Ok(Some(Txt::from_str(alloc, id)?))
+fn seen_at(memory: &mut Memory, told: &str) -> SeenAt {
+    let (id, attrs) = match told.split_once(" with ") {
+        Some((id, attrs)) => (id, Some(object_of(memory, attrs))),
+        None => (told, None),
+    };
+    let physical = if id == "?" {
+        None
+    } else {
+        Some(memory.text(id))
+    };
+    SeenAt { physical, attrs }
 }

@@ -1,123 +1,116 @@
 //! What the calls over texts, values and codes answer.
 use crate::evaluating::object_of;
 use crate::formed::parts_form;
-use crate::json::{push_text, push_texts};
+use crate::memory::Memory;
+use crate::told::Told;
 use cf_funcs::{base64_of, comma_list, number, split};
 use cf_template::{SubFault, sub_parts};
-use cf_tree::{Code, Parts, Val, size_of_val};
-use std::alloc::{AllocError, Global};
+use cf_tree::{Code, Val, size_of_val};
 
 /// The pieces of a text between the places of a delimiter.
-pub fn pieces(
-    alloc: Global,
-    told: &mut String,
-    text: &str,
-    delimiter: &str,
-) -> Result<(), AllocError> {
+pub fn pieces(told: &mut Told, text: &str, delimiter: &str) {
     if delimiter.is_empty() {
-        return told.push_str("no delimiter");
+        return told.put("no delimiter");
     }
-    match split(alloc, delimiter, text) {
-        Ok(pieces) => texts(alloc, told, pieces),
-        Err(_) => Err(AllocError),
+    match split(told.memory.alloc, delimiter, text) {
+        Ok(pieces) => {
+            texts(told, pieces.as_slice());
+            drop(pieces);
+        }
+        Err(_) => told.memory.lose(),
     }
 }
 
 /// The members of a list that is written with commas.
-pub fn members(alloc: Global, told: &mut String, text: &str) -> Result<(), AllocError> {
-    match comma_list(alloc, text) {
-        Ok(members) => texts(alloc, told, members),
-        Err(_) => Err(AllocError),
+pub fn members(told: &mut Told, text: &str) {
+    match comma_list(told.memory.alloc, text) {
+        Ok(members) => {
+            texts(told, members.as_slice());
+            drop(members);
+        }
+        Err(_) => told.memory.lose(),
     }
 }
 
-fn texts(alloc: Global, told: &mut String, texts: Vec<String>) -> Result<(), AllocError> {
-    let done = push_texts(alloc, told, texts.as_slice());
-    drop(texts);
-    done
+/// Adds texts as JSON.
+fn texts(told: &mut Told, texts: &[String]) {
+    told.put("[");
+    let mut first = true;
+    for text in texts {
+        told.part(first);
+        told.json(text.as_str());
+        first = false;
+    }
+    told.put("]");
 }
 
 /// The number that a text writes, in 10^-9.
-pub fn billionths(told: &mut String, text: &str) -> Result<(), AllocError> {
+pub fn billionths(told: &mut Told, text: &str) {
     match number(text) {
-        Some(number) => write!(told, "{number}"),
-        None => told.push_str("no number"),
+        Some(number) => told.billionths(number),
+        None => told.put("no number"),
     }
 }
 
 /// The base64 of a text's bytes.
-pub fn encoded(alloc: Global, told: &mut String, text: &str) -> Result<(), AllocError> {
-    match base64_of(alloc, text) {
+pub fn encoded(told: &mut Told, text: &str) {
+    match base64_of(told.memory.alloc, text) {
         Ok(encoded) => {
-            let done = push_text(alloc, told, encoded.as_str());
+            told.json(encoded.as_str());
             drop(encoded);
-            done
         }
-        Err(_) => Err(AllocError),
+        Err(_) => told.memory.lose(),
     }
 }
 
 /// The parts of a text with holes, or its bad hole.
-pub fn parts(alloc: Global, told: &mut String, text: &str) -> Result<(), AllocError> {
-    match sub_parts(alloc, text) {
+pub fn parts(told: &mut Told, text: &str) {
+    match sub_parts(told.memory.alloc, text) {
         Ok(parts) => {
-            let done = parts_line(told, &parts);
+            parts_form(told, &parts);
             drop(parts);
-            done
+            if told.text.is_empty() {
+                told.put("no parts");
+            }
         }
-        Err(SubFault::Unclosed { at }) => write!(told, "Unclosed {at}"),
-        Err(SubFault::Empty { at }) => write!(told, "Empty {at}"),
-        Err(SubFault::NoMemory) => told.push_str("NoMemory"),
+        Err(SubFault::Unclosed { at }) => {
+            told.put("Unclosed");
+            told.number_word(at);
+        }
+        Err(SubFault::Empty { at }) => {
+            told.put("Empty");
+            told.number_word(at);
+        }
+        Err(SubFault::NoMemory) => told.put("NoMemory"),
     }
-}
-
-fn parts_line(told: &mut String, parts: &Parts) -> Result<(), AllocError> {
-    parts_form(told, parts)?;
-    if told.is_empty() {
-        told.push_str("no parts")?;
-    }
-    Ok(())
 }
 
 /// How long the encoding of an object is as properties are counted, and as a value.
-pub fn size(alloc: Global, told: &mut String, text: &str) -> Result<(), AllocError> {
-    let object = object_of(alloc, text)?;
-    let own = object.size();
+pub fn size(told: &mut Told, text: &str) {
+    let object = object_of(&mut told.memory, text);
+    told.number(object.size());
     let value = Val::Dict(object);
-    let whole = size_of_val(&value);
+    told.number_word(size_of_val(&value));
     drop(value);
-    write!(told, "{own} {whole}")
 }
 
 /// The name of the code with a number, and its number again.
-pub fn code(told: &mut String, text: &str) -> Result<(), AllocError> {
-    let number = text.parse::<u8>().unwrap_or(0);
-    match Code::from_number(number) {
-        Some(code) => write!(told, "{} {}", code.name(), code.number()),
-        None => told.push_str("no code"),
+pub fn code(told: &mut Told, text: &str) {
+    match Code::from_number(text.parse::<u8>().unwrap_or(0)) {
+        Some(code) => {
+            told.put(code.name());
+            told.number_word(code.number() as u64);
+        }
+        None => told.put("no code"),
     }
 }
 
 /// The bytes that a text writes, each as two hexadecimal digits.
-pub fn bytes_of(alloc: Global, text: &str) -> Result<Vec<u8>, AllocError> {
-    let Ok(words) = split(alloc, " ", text) else {
-        return Err(AllocError);
-    };
-    let mut bytes = Vec::new(alloc);
-    let done = add_bytes(&mut bytes, words.as_slice());
-    drop(words);
-    match done {
-        Ok(()) => Ok(bytes),
-        Err(failed) => {
-            drop(bytes);
-            Err(failed)
-        }
+pub fn bytes_of(memory: &mut Memory, text: &str) -> Vec<u8> {
+    let mut bytes = Vec::new(memory.alloc);
+    for word in text.split(' ') {
+        let byte = u8::from_str_radix(word, 16).unwrap_or(0);
+        memory.note(bytes.push(byte).is_err());
     }
-}
-
-fn add_bytes(bytes: &mut Vec<u8>, words: &[String]) -> Result<(), AllocError> {
-    for word in words {
-        bytes.push(u8::from_str_radix(word.as_str(), 16).unwrap_or(0))?;
-    }
-    Ok(())
+    bytes
 }

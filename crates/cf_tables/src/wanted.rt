@@ -1,80 +1,61 @@
 //! What is wanted, in words: each part behind `; `.
-use crate::json::{part, push_names, push_object, push_text, push_value};
+use crate::json::{push_object, push_value};
+use crate::told::Told;
 use cf_desired::{
     Evaluated, Exporting, Flaw, Plan, Prop, Right, Terms, Wanted, WantedOutput, WholePlan,
 };
 use cf_export::Output;
 use cf_tree::{Deletion, Names, Replace, Txt};
-use std::alloc::{AllocError, Global};
 
 /// Adds the resources, outputs and exports of a plan.
-pub fn push_plan(alloc: Global, told: &mut String, plan: &Plan) -> Result<(), AllocError> {
+pub fn push_plan(told: &mut Told, plan: &Plan) {
     let flaws = plan.flaws.as_slice();
     for wanted in plan.wanted.as_slice() {
-        resource(alloc, told, flaws, wanted)?;
+        resource(told, flaws, wanted);
     }
-    push_outputs(alloc, told, flaws, plan.outputs.as_slice())?;
+    push_outputs(told, flaws, plan.outputs.as_slice());
     for export in plan.exports.as_slice() {
-        push_part(told, "export ")?;
-        push_text(alloc, told, export.0.as_str())?;
-        text_or_later(alloc, told, &export.1)?;
+        told.named("; export ", &export.0);
+        text_or_later(told, &export.1);
     }
-    Ok(())
 }
 
-fn push_outputs(
-    alloc: Global,
-    told: &mut String,
-    flaws: &[Flaw],
-    outputs: &[WantedOutput],
-) -> Result<(), AllocError> {
+fn push_outputs(told: &mut Told, flaws: &[Flaw], outputs: &[WantedOutput]) {
     for output in outputs {
-        wanted_output(alloc, told, flaws, output)?;
+        wanted_output(told, flaws, output);
     }
-    Ok(())
 }
 
 /// The same of a plan that is known as a whole.
-pub fn push_whole(alloc: Global, told: &mut String, whole: &WholePlan) -> Result<(), AllocError> {
+pub fn push_whole(told: &mut Told, whole: &WholePlan) {
     for right in whole.wanted.as_slice() {
-        known_resource(alloc, told, right)?;
+        known_resource(told, right);
     }
-    push_known(alloc, told, whole.outputs.as_slice())?;
+    push_known(told, whole.outputs.as_slice());
     for export in whole.exports.as_slice() {
-        push_part(told, "export ")?;
-        push_text(alloc, told, export.0.as_str())?;
-        told.push(' ')?;
-        push_text(alloc, told, export.1.as_str())?;
+        told.named("; export ", &export.0);
+        told.named(" ", &export.1);
     }
-    Ok(())
 }
 
-fn push_known(alloc: Global, told: &mut String, outputs: &[Output]) -> Result<(), AllocError> {
+fn push_known(told: &mut Told, outputs: &[Output]) {
     for output in outputs {
-        known_output(alloc, told, output)?;
+        known_output(told, output);
     }
-    Ok(())
-}
-
-/// Adds a part.
-fn push_part(told: &mut String, part: &str) -> Result<(), AllocError> {
-    told.push_str("; ")?;
-    told.push_str(part)
 }
 
 /// What a source says of a path besides its properties: policies stand where one is not `Delete`, needs where there are some.
-pub fn push_terms(alloc: Global, told: &mut String, terms: &Terms) -> Result<(), AllocError> {
-    told.push_str(terms.kind.as_str())?;
-    told.push_str(policies(terms.deletion, terms.replace))?;
-    push_needs(alloc, told, &terms.needs)
+pub fn push_terms(told: &mut Told, terms: &Terms) {
+    told.put(terms.kind.as_str());
+    told.put(policies(terms.deletion, terms.replace));
+    push_needs(told, &terms.needs);
 }
 
-fn push_needs(alloc: Global, told: &mut String, needs: &Names) -> Result<(), AllocError> {
-    if needs.is_empty() {
-        return Ok(());
+fn push_needs(told: &mut Told, needs: &Names) {
+    if !needs.is_empty() {
+        told.put(" needs ");
+        told.names(needs.as_slice());
     }
-    told.push_str(" needs ")?;
-    push_names(alloc, told, needs.as_slice())
 }
 
 fn policies(deletion: Deletion, replace: Replace) -> &'static str {
@@ -88,106 +69,88 @@ fn policies(deletion: Deletion, replace: Replace) -> &'static str {
     }
 }
 
-fn resource(
-    alloc: Global,
-    told: &mut String,
-    flaws: &[Flaw],
-    wanted: &Wanted,
-) -> Result<(), AllocError> {
-    push_part(told, wanted.path.as_str())?;
-    told.push(' ')?;
-    told.push_str(wanted.kind.as_str())?;
-    told.push_str(policies(wanted.deletion, wanted.replace))?;
-    push_needs(alloc, told, &wanted.needs)?;
-    told.push(' ')?;
+fn resource(told: &mut Told, flaws: &[Flaw], wanted: &Wanted) {
+    told.put("; ");
+    told.put(wanted.path.as_str());
+    told.word(wanted.kind.as_str());
+    told.put(policies(wanted.deletion, wanted.replace));
+    push_needs(told, &wanted.needs);
+    told.put(" ");
     match &wanted.props {
-        Evaluated::Known { props } => properties(alloc, told, props.as_slice()),
+        Evaluated::Known { props } => properties(told, props.as_slice()),
         Evaluated::Flawed { flaw } => numbered(told, flaws, flaw),
     }
 }
 
-fn known_resource(alloc: Global, told: &mut String, right: &Right) -> Result<(), AllocError> {
-    push_part(told, right.path.as_str())?;
-    told.push(' ')?;
-    told.push_str(right.kind.as_str())?;
-    told.push_str(policies(right.deletion, right.replace))?;
-    push_needs(alloc, told, &right.needs)?;
-    told.push(' ')?;
-    push_object(alloc, told, &right.props)
+fn known_resource(told: &mut Told, right: &Right) {
+    told.put("; ");
+    told.put(right.path.as_str());
+    told.word(right.kind.as_str());
+    told.put(policies(right.deletion, right.replace));
+    push_needs(told, &right.needs);
+    told.put(" ");
+    push_object(told, &right.props);
 }
 
 /// A flaw by its number among all, counted from 1.
-fn numbered(told: &mut String, flaws: &[Flaw], flaw: &Flaw) -> Result<(), AllocError> {
+fn numbered(told: &mut Told, flaws: &[Flaw], flaw: &Flaw) {
     match flaws.iter().position(|other| other == flaw) {
-        Some(before) => write!(told, "flaw {}", before.saturating_add(1)),
-        None => told.push_str("another flaw"),
+        Some(before) => {
+            told.put("flaw");
+            told.number_word((before as u64).saturating_add(1));
+        }
+        None => told.put("another flaw"),
     }
 }
 
 /// Properties as a JSON object, in which `?` stands for a value that is not known yet.
-fn properties(alloc: Global, told: &mut String, props: &[Prop]) -> Result<(), AllocError> {
-    told.push('{')?;
+fn properties(told: &mut Told, props: &[Prop]) {
+    told.put("{");
     let mut first = true;
     for prop in props {
-        part(told, first)?;
-        property(alloc, told, prop)?;
+        told.part(first);
+        property(told, prop);
         first = false;
     }
-    told.push('}')
+    told.put("}");
 }
 
-fn property(alloc: Global, told: &mut String, prop: &Prop) -> Result<(), AllocError> {
-    push_text(alloc, told, prop.name.as_str())?;
-    told.push(':')?;
+fn property(told: &mut Told, prop: &Prop) {
+    told.json(prop.name.as_str());
+    told.put(":");
     match &prop.value {
-        Some(value) => push_value(alloc, told, value),
-        None => told.push('?'),
+        Some(value) => push_value(told, value),
+        None => told.put("?"),
     }
 }
 
-fn text_or_later(alloc: Global, told: &mut String, text: &Option<Txt>) -> Result<(), AllocError> {
-    told.push(' ')?;
+fn text_or_later(told: &mut Told, text: &Option<Txt>) {
     match text {
-        Some(text) => push_text(alloc, told, text.as_str()),
-        None => told.push('?'),
+        Some(text) => told.named(" ", text),
+        None => told.put(" ?"),
     }
 }
 
-fn wanted_output(
-    alloc: Global,
-    told: &mut String,
-    flaws: &[Flaw],
-    output: &WantedOutput,
-) -> Result<(), AllocError> {
-    push_part(told, "output ")?;
-    told.push_str(output.name.as_str())?;
-    text_or_later(alloc, told, &output.value)?;
+fn wanted_output(told: &mut Told, flaws: &[Flaw], output: &WantedOutput) {
+    told.put("; output ");
+    told.put(output.name.as_str());
+    text_or_later(told, &output.value);
     match &output.export {
         Exporting::Nothing => {}
-        Exporting::Fault => told.push_str(" as ?")?,
-        Exporting::Named { name } => push_name(alloc, told, name)?,
+        Exporting::Fault => told.put(" as ?"),
+        Exporting::Named { name } => told.named(" as ", name),
     }
-    match &output.fault {
-        Some(flaw) => {
-            told.push(' ')?;
-            numbered(told, flaws, flaw)
-        }
-        None => Ok(()),
+    if let Some(flaw) = &output.fault {
+        told.put(" ");
+        numbered(told, flaws, flaw);
     }
 }
 
-fn push_name(alloc: Global, told: &mut String, name: &Txt) -> Result<(), AllocError> {
-    told.push_str(" as ")?;
-    push_text(alloc, told, name.as_str())
-}
-
-fn known_output(alloc: Global, told: &mut String, output: &Output) -> Result<(), AllocError> {
-    push_part(told, "output ")?;
-    told.push_str(output.name.as_str())?;
-    told.push(' ')?;
-    push_text(alloc, told, output.value.as_str())?;
-    match &output.export {
-        Some(name) => push_name(alloc, told, name),
-        None => Ok(()),
+fn known_output(told: &mut Told, output: &Output) {
+    told.put("; output ");
+    told.put(output.name.as_str());
+    told.named(" ", &output.value);
+    if let Some(name) = &output.export {
+        told.named(" as ", name);
     }
 }
