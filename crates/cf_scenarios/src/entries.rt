@@ -2,225 +2,151 @@
 //!
 //! `opened EPOCH LANE ..`, `begin NUMBER STACK KIND`, `ask TOKEN LANE PATH REQUEST`, `told TOKEN ANSWER BEFORE AFTER`,
 //! `turn PHASE CAUSE`, `done STATUS PATH ..`.
-use crate::words::{add, add_number, add_request};
-use cf_entry::{Begun, Cause, Entry, Phase, Reason, Reply};
-use cf_tree::{Names, Pairs, Request, Source, Txt};
-use std::alloc::{AllocError, Global};
+use crate::words::Line;
+use cf_entry::{Begun, Cause, Entry, LaneNames, Phase, Reason, Reply};
+use cf_tree::Source;
 
-/// The line of an entry.
-pub fn line_of(alloc: Global, entry: &Entry) -> Result<String, AllocError> {
-    let mut line = String::from_str(alloc, head_of(entry))?;
-    add_rest(alloc, &mut line, entry)?;
-    Ok(line)
-}
-
-/// The first word of an entry's line.
-fn head_of(entry: &Entry) -> &'static str {
+/// Adds the line of an entry.
+pub fn add_entry(line: &mut Line, entry: &Entry) {
     match entry {
-        Entry::Opened { .. } => "opened",
-        Entry::Begin { .. } => "begin",
-        Entry::Kept { .. } => "kept",
-        Entry::Intent { .. } => "ask",
-        Entry::Outcome { .. } => "told",
-        Entry::Phase { .. } => "turn",
-        Entry::Done { .. } => "done",
-        Entry::ChangeSet { .. } => "changeset",
-    }
-}
-
-/// Adds what follows the first word of an entry's line.
-fn add_rest(alloc: Global, line: &mut String, entry: &Entry) -> Result<(), AllocError> {
-    match entry {
-        Entry::Opened { epoch, lanes } => add_opened(alloc, line, *epoch, lanes.as_slice()),
+        Entry::Opened { epoch, lanes } => add_opened(line, *epoch, lanes),
         Entry::Begin {
             number,
             stack,
             kind,
-        } => add_begin(alloc, line, *number, stack, kind),
+        } => {
+            line.put("begin");
+            line.number_word(*number);
+            line.word(stack.as_str());
+            add_begun(line, kind);
+        }
         Entry::Intent {
             number: _,
             token,
             lane,
             path,
             request,
-        } => add_intent(alloc, line, *token, lane, path, request),
+        } => {
+            line.put("ask");
+            line.number_word(*token);
+            line.word(lane.as_str());
+            line.word(path.as_str());
+            line.request(request);
+        }
         Entry::Outcome {
             number: _,
             token,
             answer,
             before,
             after,
-        } => add_outcome(alloc, line, *token, answer, *before, *after),
-        Entry::Phase { phase, cause, .. } => add_phase(line, phase, cause.as_ref()),
+        } => add_outcome(line, *token, answer, *before, *after),
+        Entry::Phase { phase, cause, .. } => add_phase(line, phase, cause),
         Entry::Done { status, failed, .. } => {
-            add(line, status.name())?;
-            add_names(line, failed)
+            line.put("done");
+            line.word(status.name());
+            line.names(failed);
         }
-        Entry::Kept { path, .. } => add(line, path.as_str()),
-        Entry::ChangeSet { stack, .. } => add(line, stack.as_str()),
+        Entry::Kept { path, .. } => {
+            line.put("kept");
+            line.word(path.as_str());
+        }
+        Entry::ChangeSet { stack, .. } => {
+            line.put("changeset");
+            line.word(stack.as_str());
+        }
     }
 }
 
-/// Adds the epoch of an opening and the names of its lanes.
-fn add_opened(
-    alloc: Global,
-    line: &mut String,
-    epoch: u64,
-    lanes: &[(Txt, Txt)],
-) -> Result<(), AllocError> {
-    add_number(alloc, line, epoch)?;
-    for lane in lanes {
-        add(line, lane.0.as_str())?;
+/// Adds an opening: its epoch, and the names of its lanes.
+fn add_opened(line: &mut Line, epoch: u64, lanes: &LaneNames) {
+    line.put("opened");
+    line.number_word(epoch);
+    for lane in lanes.as_slice() {
+        line.word(lane.0.as_str());
     }
-    Ok(())
-}
-
-/// Adds the number of an operation, its stack and what begins.
-fn add_begin(
-    alloc: Global,
-    line: &mut String,
-    number: u64,
-    stack: &Txt,
-    kind: &Begun,
-) -> Result<(), AllocError> {
-    add_number(alloc, line, number)?;
-    add(line, stack.as_str())?;
-    add_begun(line, kind)
 }
 
 /// Adds what begins, and what is given for it.
-fn add_begun(line: &mut String, kind: &Begun) -> Result<(), AllocError> {
+fn add_begun(line: &mut Line, kind: &Begun) {
     match kind {
         Begun::Create { source } => {
-            add(line, "create")?;
-            add_source(line, source)
+            line.word("create");
+            add_source(line, source);
         }
         Begun::Update { source } => {
-            add(line, "update")?;
-            add_source(line, source)
+            line.word("update");
+            add_source(line, source);
         }
         Begun::Delete { paths } => {
-            add(line, "delete")?;
-            add_names(line, paths)
+            line.word("delete");
+            line.names(paths);
         }
         Begun::Continue { paths } => {
-            add(line, "continue")?;
-            add_names(line, paths)
+            line.word("continue");
+            line.names(paths);
         }
     }
 }
 
-/// Adds the name of the template, and the given parameters.
-fn add_source(line: &mut String, source: &Source) -> Result<(), AllocError> {
-    add(line, source.root.as_str())?;
-    add_pairs(line, &source.given)
-}
-
-/// Adds pairs of texts, each as `NAME=TEXT`.
-fn add_pairs(line: &mut String, pairs: &Pairs) -> Result<(), AllocError> {
-    for pair in pairs.as_slice() {
-        add(line, pair.0.as_str())?;
-        line.push_str("=")?;
-        line.push_str(pair.1.as_str())?;
+/// Adds the name of the template, and the given parameters, each as `NAME=TEXT`.
+fn add_source(line: &mut Line, source: &Source) {
+    line.word(source.root.as_str());
+    for pair in source.given.as_slice() {
+        line.word(pair.0.as_str());
+        line.put("=");
+        line.put(pair.1.as_str());
     }
-    Ok(())
-}
-
-/// Adds names.
-fn add_names(line: &mut String, names: &Names) -> Result<(), AllocError> {
-    for name in names.as_slice() {
-        add(line, name.as_str())?;
-    }
-    Ok(())
-}
-
-/// Adds a token, the lane, the path and what is asked.
-fn add_intent(
-    alloc: Global,
-    line: &mut String,
-    token: u64,
-    lane: &Txt,
-    path: &Txt,
-    request: &Request,
-) -> Result<(), AllocError> {
-    add_number(alloc, line, token)?;
-    add(line, lane.as_str())?;
-    add(line, path.as_str())?;
-    add_request(alloc, line, request)
 }
 
 /// Adds a token, its answer, and the lane's count of faults before and after the call.
-fn add_outcome(
-    alloc: Global,
-    line: &mut String,
-    token: u64,
-    answer: &Reply,
-    before: u64,
-    after: u64,
-) -> Result<(), AllocError> {
-    add_number(alloc, line, token)?;
-    add_reply(line, answer)?;
-    add_number(alloc, line, before)?;
-    add_number(alloc, line, after)
-}
-
-/// Adds an answer.
-fn add_reply(line: &mut String, answer: &Reply) -> Result<(), AllocError> {
+fn add_outcome(line: &mut Line, token: u64, answer: &Reply, before: u64, after: u64) {
+    line.put("told");
+    line.number_word(token);
     match answer {
         Reply::Success { physical, attrs: _ } => {
-            add(line, "success")?;
-            add(line, physical.as_str())
+            line.word("success");
+            line.word(physical.as_str());
         }
         Reply::Failed { code } => {
-            add(line, "failed")?;
-            add(line, code.name())
+            line.word("failed");
+            line.word(code.name());
         }
-        Reply::Doubt => add(line, "doubt"),
+        Reply::Doubt => line.word("doubt"),
     }
+    line.number_word(before);
+    line.number_word(after);
 }
 
 /// Adds a phase with its cause.
-fn add_phase(line: &mut String, phase: &Phase, cause: Option<&Cause>) -> Result<(), AllocError> {
-    let name = match phase {
-        Phase::Back => "back",
-        Phase::Clean => "clean",
-        Phase::BackClean => "backclean",
-    };
-    add(line, name)?;
-    match cause {
-        Some(cause) => add_cause(line, cause),
-        None => Ok(()),
+fn add_phase(line: &mut Line, phase: &Phase, cause: &Option<Cause>) {
+    line.put(match phase {
+        Phase::Back => "turn back",
+        Phase::Clean => "turn clean",
+        Phase::BackClean => "turn backclean",
+    });
+    if let Some(cause) = cause {
+        add_cause(line, cause);
     }
 }
 
 /// Adds a cause.
-fn add_cause(line: &mut String, cause: &Cause) -> Result<(), AllocError> {
+fn add_cause(line: &mut Line, cause: &Cause) {
     match cause {
         Cause::Handler { path, reason } => {
-            add(line, "Handler")?;
-            add(line, path.as_str())?;
-            add(line, reason_name(reason))
+            line.word("Handler");
+            line.word(path.as_str());
+            line.word(match reason {
+                Reason::Code(code) => code.name(),
+                Reason::Fault => "Fault",
+            });
         }
         Cause::Plan { fault } => {
-            add(line, "Plan")?;
-            add(line, fault.as_str())
+            line.word("Plan");
+            line.word(fault.as_str());
         }
         Cause::Export { name } => {
-            add(line, "Export")?;
-            add(line, name.as_str())
+            line.word("Export");
+            line.word(name.as_str());
         }
     }
-}
-
-/// The name of a code, or `Fault`.
-fn reason_name(reason: &Reason) -> &'static str {
-    match reason {
-        Reason::Code(code) => code.name(),
-        Reason::Fault => "Fault",
-    }
-}
-
-/// Whether an entry asks something of a lane.
-pub fn asks(entry: &Entry) -> bool {
-    matches!(entry, Entry::Intent { .. })
 }

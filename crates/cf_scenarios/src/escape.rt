@@ -1,35 +1,30 @@
 //! Texts of one line that stand for any bytes.
-use std::alloc::{AllocError, Global};
+use crate::memory::Memory;
 
 /// The bytes that a text stands for: `\n` is a line feed, `\s` a space, and `\xHH` the byte with this hexadecimal number.
-pub fn unescaped(alloc: Global, text: &str) -> Result<Vec<u8>, AllocError> {
-    let mut bytes = Vec::new(alloc);
+pub fn unescaped(memory: &mut Memory, text: &str) -> Vec<u8> {
+    let mut bytes = Vec::new(memory.alloc);
     for (at, piece) in text.split('\\').enumerate() {
-        if at == 0 {
-            bytes.extend_from_slice(piece.as_bytes())?;
+        let (first, rest) = if at == 0 {
+            (None, piece.as_bytes())
         } else {
-            push_piece(&mut bytes, piece.as_bytes())?;
+            meant(piece.as_bytes())
+        };
+        if let Some(first) = first {
+            memory.note(bytes.push(first).is_err());
         }
+        memory.note(bytes.extend_from_slice(rest).is_err());
     }
-    Ok(bytes)
+    bytes
 }
 
-/// Adds what stands behind a backslash.
-fn push_piece(bytes: &mut Vec<u8>, piece: &[u8]) -> Result<(), AllocError> {
+/// The byte that stands behind a backslash, where one does, and what follows it.
+fn meant(piece: &[u8]) -> (Option<u8>, &[u8]) {
     match piece {
-        [b'n', rest @ ..] => {
-            bytes.push(b'\n')?;
-            bytes.extend_from_slice(rest)
-        }
-        [b's', rest @ ..] => {
-            bytes.push(b' ')?;
-            bytes.extend_from_slice(rest)
-        }
-        [b'x', high, low, rest @ ..] => {
-            bytes.push((digit_of(*high) << 4) | digit_of(*low))?;
-            bytes.extend_from_slice(rest)
-        }
-        _ => bytes.extend_from_slice(piece),
+        [b'n', rest @ ..] => (Some(b'\n'), rest),
+        [b's', rest @ ..] => (Some(b' '), rest),
+        [b'x', high, low, rest @ ..] => (Some((digit_of(*high) << 4) | digit_of(*low)), rest),
+        _ => (None, piece),
     }
 }
 
@@ -43,21 +38,7 @@ fn digit_of(digit: u8) -> u8 {
 }
 
 /// The text that a text of one line stands for, or none where its bytes are no text.
-pub fn unescaped_text(alloc: Global, text: &str) -> Result<String, AllocError> {
-    let bytes = unescaped(alloc, text)?;
-    match str::from_utf8(bytes.as_slice()) {
-        Ok(text) => String::from_str(alloc, text),
-        Err(_) => String::from_str(alloc, ""),
-    }
-}
-
-/// Adds a text in one line: a line feed is `\n`.
-pub fn push_escaped(line: &mut String, text: &str) -> Result<(), AllocError> {
-    for (at, piece) in text.split('\n').enumerate() {
-        if at > 0 {
-            line.push_str("\\n")?;
-        }
-        line.push_str(piece)?;
-    }
-    Ok(())
+pub fn unescaped_text(memory: &mut Memory, text: &str) -> String {
+    let bytes = unescaped(memory, text);
+    memory.copy(str::from_utf8(bytes.as_slice()).unwrap_or(""))
 }

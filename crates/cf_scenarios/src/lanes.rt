@@ -1,35 +1,49 @@
 //! Lanes as lines say them.
-ghost use Rattle.std.specs.Prelude.{◌≡◌};
+ghost use Rattle.std.specs.Prelude.{◌≡◌, IsTrue};
 ghost use Rattle.std.specs.List.{list_all};
 ghost use Rattle.cf_handler.specs.Name.{is_lane_name, is_name_byte};
 
+use crate::lines::Lines;
+use crate::memory::Memory;
 use crate::recorder::Recorder;
-use crate::words::{add, add_properties};
-use cf_fake::{Break, LiveResource, MemoryHandler, Plan, Planned};
+use crate::words::{Line, cut, number_of};
+use cf_fake::{Break, MemoryHandler, Plan, Planned};
 use cf_handler::{Handler, file_schema, record_schema};
-use cf_schema::{Schema, Schemas};
-use cf_tree::{Code, Listing, NoMemory};
+use cf_schema::Schemas;
+use cf_tree::{Code, NoMemory};
 use std::alloc::Global;
-
-/// What becomes of a lane's calls.
-#[derive(Drop)]
-struct Faults {
-    plan: Plan,
-    short: Vec<u64>,
-}
 
 /// The lane `NAME TYPE FAULT, FAULT ..`, where TYPE is `files` or `records`, and FAULT a call's number with `before`,
 /// `after`, `memory` or `refuse CODE`. None where its name is no lane's.
-pub fn lane_of(alloc: Global, text: &str) -> Result<Option<Recorder>, NoMemory> {
-    let (name, rest) = text.split_once(' ').unwrap_or((text, ""));
-    let (kind, faults) = rest.split_once(' ').unwrap_or((rest, ""));
-    let faults = faults_of(alloc, faults)?;
+pub fn lane_of(memory: &mut Memory, text: &str) -> Option<Recorder> {
+    let (name, rest) = cut(text);
+    let (kind, faults) = cut(rest);
     if !is_lane_name(name) {
-        return Ok(None);
+        return None;
     }
-    let Faults { plan, short } = faults;
-    let handler = MemoryHandler::new(alloc, name, schema_of(alloc, kind)?, plan)?;
-    Ok(Some(Recorder::new(alloc, handler, short)))
+    let plan = plan_of(memory, faults);
+    match handler_of(memory.alloc, name, kind, plan) {
+        Ok(handler) => {
+            let short = short_of(memory, faults);
+            Some(Recorder::new(memory.alloc, handler, short))
+        }
+        Err(NoMemory) => {
+            memory.lose();
+            None
+        }
+    }
+}
+
+/// A handler in memory of the type `files` or `records`.
+fn handler_of(alloc: Global, name: &str, kind: &str, plan: Plan) -> Result<MemoryHandler, NoMemory>
+    requires { IsTrue (is_lane_name name.now) }
+{
+    let schema = if kind == "records" {
+        record_schema(alloc)?
+    } else {
+        file_schema(alloc)?
+    };
+    MemoryHandler::new(alloc, name, schema, plan)
 }
 
 /// Whether a name is a lane's: 1 to 64 letters, digits and hyphens.
@@ -53,28 +67,28 @@ fn is_name_byte(byte: u8) -> bool
         || ((48 <= byte && byte <= 57) || byte == 45)
 }
 
-fn schema_of(alloc: Global, kind: &str) -> Result<Schema, NoMemory> {
-    match kind {
-        "records" => record_schema(alloc),
-        _ => file_schema(alloc),
-    }
-}
-
-fn faults_of(alloc: Global, text: &str) -> Result<Faults, NoMemory> {
-    let mut faults = Faults {
-        plan: Listing::new(alloc),
-        short: Vec::new(alloc),
-    };
-    for fault in text.split(", ") {
-        let (call, how) = fault.split_once(' ').unwrap_or((fault, ""));
-        let call = call.parse::<u64>().unwrap_or(0);
-        if how == "memory" {
-            faults.short.push(call)?;
-        } else if let Some(planned) = planned_of(call, how) {
-            faults.plan.push(planned)?;
+/// The calls that are refused or break off.
+fn plan_of(memory: &mut Memory, faults: &str) -> Plan {
+    let mut plan = Plan::new(memory.alloc);
+    for fault in faults.split(", ") {
+        let (call, how) = cut(fault);
+        if let Some(planned) = planned_of(number_of(call), how) {
+            memory.note(plan.push(planned).is_err());
         }
     }
-    Ok(faults)
+    plan
+}
+
+/// The calls that have no memory.
+fn short_of(memory: &mut Memory, faults: &str) -> Vec<u64> {
+    let mut short = Vec::new(memory.alloc);
+    for fault in faults.split(", ") {
+        let (call, how) = cut(fault);
+        if how == "memory" {
+            memory.note(short.push(number_of(call)).is_err());
+        }
+    }
+    short
 }
 
 fn planned_of(call: u64, how: &str) -> Option<Planned> {
@@ -116,56 +130,31 @@ fn code_of(name: &str) -> Option<Code> {
     None
 }
 
-/// The lines of what is live on lanes, `ID TYPE NAME=VALUE ..`, lane by lane in the order in which it was made.
-pub fn live_lines(alloc: Global, lanes: &[Recorder]) -> Result<Vec<String>, NoMemory> {
-    let mut lines = Vec::new(alloc);
-    for lane in lanes.iter() {
-        push_live(alloc, &mut lines, lane.handler().live())?;
+/// Adds the lines of what is live on a lane, `ID TYPE NAME=VALUE ..`, in the order in which it was made.
+pub fn push_live(memory: &mut Memory, lines: &mut Lines, lane: &Recorder) {
+    for resource in lane.handler().live() {
+        let mut line = Line::new(memory.alloc);
+        line.put(resource.id.as_str());
+        line.word(resource.kind.as_str());
+        line.properties(&resource.props);
+        let line = line.finish(memory);
+        lines.push(memory, line);
     }
-    Ok(lines)
-}
-
-fn push_live(
-    alloc: Global,
-    lines: &mut Vec<String>,
-    live: &[LiveResource],
-) -> Result<(), NoMemory> {
-    for resource in live.iter() {
-        let mut line = String::from_str(alloc, resource.id.as_str())?;
-        add(&mut line, resource.kind.as_str())?;
-        add_properties(alloc, &mut line, &resource.props)?;
-        lines.push(line)?;
-    }
-    Ok(())
-}
-
-/// The names of lanes, each behind a space but the first.
-pub fn names_of(alloc: Global, lanes: &[Recorder]) -> Result<String, NoMemory> {
-    let mut names = String::new(alloc);
-    for lane in lanes.iter() {
-        if !names.is_empty() {
-            names.push_str(" ")?;
-        }
-        names.push_str(lane.name())?;
-    }
-    Ok(names)
 }
 
 /// The place of the first lane of a name.
 pub fn place_of(lanes: &[Recorder], name: &str) -> Option<usize> {
-    for (at, lane) in lanes.iter().enumerate() {
-        if lane.name() == name {
-            return Some(at);
-        }
-    }
-    None
+    lanes.iter().position(|lane| lane.name() == name)
 }
 
 /// The schemas of the lanes' types.
-pub fn schemas_of(alloc: Global, lanes: &[Recorder]) -> Result<Schemas, NoMemory> {
-    let mut schemas = Schemas::new(alloc);
+pub fn schemas_of(memory: &mut Memory, lanes: &[Recorder]) -> Schemas {
+    let mut schemas = Schemas::new(memory.alloc);
     for lane in lanes.iter() {
-        schemas.add(lane.schema().try_clone(alloc)?)?;
+        match lane.schema().try_clone(memory.alloc) {
+            Ok(schema) => memory.note(schemas.add(schema).is_err()),
+            Err(_) => memory.lose(),
+        }
     }
-    Ok(schemas)
+    schemas
 }

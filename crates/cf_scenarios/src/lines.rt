@@ -1,5 +1,7 @@
 //! Lists of lines that are compared one after another.
-use std::alloc::{AllocError, Global};
+use crate::memory::Memory;
+use crate::words::Line;
+use std::alloc::Global;
 
 /// Lines, and how many of them were compared.
 #[derive(Drop)]
@@ -9,36 +11,44 @@ pub struct Lines {
 }
 
 impl Lines {
-    /// Lines of which none was compared yet.
-    pub fn new(lines: Vec<String>) -> Lines {
-        Lines { lines, next: 0 }
+    /// No lines.
+    pub fn new(alloc: Global) -> Lines {
+        Lines {
+            lines: Vec::new(alloc),
+            next: 0,
+        }
     }
 
-    /// The lines of a text.
-    pub fn of_text(alloc: Global, text: &str) -> Result<Lines, AllocError> {
-        let mut lines = Vec::new(alloc);
+    /// Adds a line.
+    pub fn push(&mut self, memory: &mut Memory, line: String) {
+        memory.note(self.lines.push(line).is_err());
+    }
+
+    /// Adds the lines of a text.
+    pub fn push_all(&mut self, memory: &mut Memory, text: &str) {
         for line in text.lines() {
-            lines.push(String::from_str(alloc, line)?)?;
+            let line = memory.copy(line);
+            self.push(memory, line);
         }
-        Ok(Lines::new(lines))
     }
 
     /// The next line, which counts as compared then; `none` behind the last one.
-    pub fn take(&mut self, alloc: Global) -> Result<String, AllocError> {
+    pub fn take(&mut self) -> &str {
         let at = self.next;
-        self.next = self.next.saturating_add(1);
+        self.next = at.saturating_add(1);
         match self.lines.get(at) {
-            Some(line) => String::from_str(alloc, line.as_str()),
-            None => String::from_str(alloc, "none"),
+            Some(line) => line.as_str(),
+            None => "none",
         }
     }
 
     /// The first line that was not compared, where some line was.
     pub fn left_over(&self) -> Option<&String> {
         if self.next == 0 {
-            return None;
+            None
+        } else {
+            self.lines.get(self.next)
         }
-        self.lines.get(self.next)
     }
 
     /// How many lines there are.
@@ -48,28 +58,16 @@ impl Lines {
 
     /// Whether these lines are the first ones of others.
     pub fn begin(&self, whole: &Lines) -> bool {
-        for (at, line) in self.lines.iter().enumerate() {
-            match whole.lines.get(at) {
-                Some(other) => {
-                    if other.as_str() != line.as_str() {
-                        return false;
-                    }
-                }
-                None => return false,
-            }
-        }
-        true
+        whole.lines.as_slice().starts_with(self.lines.as_slice())
     }
 
-    /// The lines in one, with ` | ` between them.
-    pub fn joined(&self, alloc: Global) -> Result<String, AllocError> {
-        let mut text = String::new(alloc);
-        for line in self.lines.iter() {
-            if !text.is_empty() {
-                text.push_str(" | ")?;
+    /// Adds the lines to one, with ` | ` between them.
+    pub fn join(&self, line: &mut Line) {
+        for (at, one) in self.lines.iter().enumerate() {
+            if at > 0 {
+                line.put(" | ");
             }
-            text.push_str(line.as_str())?;
+            line.put(one.as_str());
         }
-        Ok(text)
     }
 }

@@ -10,6 +10,7 @@ mod entries;
 mod escape;
 mod lanes;
 mod lines;
+mod memory;
 mod recorder;
 mod rows;
 mod scenario;
@@ -17,13 +18,14 @@ mod shelf;
 mod stops;
 mod words;
 
+use crate::memory::Memory;
 use crate::rows::Stage;
 use crate::shelf::Shelf;
-use crate::stops::Stops;
-use cf_tree::NoMemory;
+use crate::stops::{Play, Stops};
+use crate::words::{Line, cut};
 use std::alloc::Global;
 use std::io;
-use std::io::{BufRead, BufReader, ErrorKind};
+use std::io::{BufRead, BufReader};
 use std::process::ExitCode;
 
 /// The scenario that is played, and how the rows were given.
@@ -51,22 +53,30 @@ fn main(rt: HostRuntime) -> ExitCode {
 /// Plays the scenarios line by line. Whether each row was given as it says.
 fn play(rt: &HostRuntime) -> io::Result<bool> {
     let mut table = Table::new(rt.alloc());
+    let read = read_lines(rt, &mut table);
+    let rows = table.rows;
+    let wrong = table.wrong;
+    drop(table);
+    read?;
+    println!(rt; "{rows} rows, {wrong} answered otherwise")?;
+    Ok(wrong == 0)
+}
+
+/// Works every line.
+fn read_lines(rt: &HostRuntime, table: &mut Table) -> io::Result<()> {
     let lines = BufReader::new(rt.alloc(), rt.reader())?.lines(rt.alloc());
     for line in lines {
         let line = line?;
-        print(rt, &mut table, line.as_str())?;
+        print(rt, table, line.as_str())?;
     }
-    print(rt, &mut table, "==")?;
-    println!(rt; "{} rows, {} answered otherwise", table.rows, table.wrong)?;
-    Ok(table.wrong == 0)
+    print(rt, table, "==")
 }
 
 /// Works one line, and prints what came of it.
 fn print(rt: &HostRuntime, table: &mut Table, line: &str) -> io::Result<()> {
-    match table.work(rt.alloc(), line) {
-        Ok(()) => {}
-        Err(NoMemory) => return Err(io::Error::from(ErrorKind::OutOfMemory)),
-    }
+    let mut memory = Memory::new(rt.alloc());
+    table.work(&mut memory, line);
+    memory.end()?;
     if !table.report.is_empty() {
         println!(rt; "{}", table.report)?;
         table.report.clear();
@@ -88,92 +98,91 @@ impl Table {
     }
 
     /// Works one line.
-    fn work(&mut self, alloc: Global, line: &str) -> Result<(), NoMemory> {
-        let (head, rest) = line.split_once(' ').unwrap_or((line, ""));
+    fn work(&mut self, memory: &mut Memory, line: &str) {
+        let (head, rest) = cut(line);
         match head {
-            "" | "#" => Ok(()),
+            "" | "#" => {}
             "==" => {
-                self.close(alloc)?;
-                self.begin(alloc, rest)
+                self.close(memory);
+                self.begin(memory, rest);
             }
             "each" => {
-                self.close(alloc)?;
-                self.stops(alloc, rest)
+                self.close(memory);
+                self.play_stops(memory, rest);
             }
-            _ => match self.stage.given(alloc, head, rest)? {
-                Some(given) => self.compare(alloc, line, rest, given.as_str()),
-                None => self.act(alloc, line, head, rest),
-            },
+            "template" => self.shelf.add(memory, rest),
+            "+" => self.shelf.go_on(memory, rest),
+            _ => self.compare(memory, line, head, rest),
         }
     }
 
     /// Begins the scenario of a heading.
-    fn begin(&mut self, alloc: Global, heading: &str) -> Result<(), NoMemory> {
-        self.heading = String::from_str(alloc, heading)?;
+    fn begin(&mut self, memory: &mut Memory, heading: &str) {
+        self.heading = memory.copy(heading);
         self.past.clear();
-        self.stage = Stage::new(alloc);
-        Ok(())
+        self.stage = Stage::new(memory.alloc);
     }
 
-    /// Plays a command whose disk stops, at each of its calls in turn.
-    fn stops(&mut self, alloc: Global, commands: &str) -> Result<(), NoMemory> {
-        self.stage.stops = Stops::play(alloc, &self.shelf, self.past.as_slice(), commands)?;
-        Ok(())
+    /// Plays `COMMAND ; OTHER`, a command whose disk stops, at each of its calls in turn.
+    fn play_stops(&mut self, memory: &mut Memory, commands: &str) {
+        let (command, other) = commands.split_once(" ; ").unwrap_or((commands, ""));
+        let play = Play {
+            shelf: &self.shelf,
+            past: self.past.as_slice(),
+            command,
+            other,
+        };
+        self.stage.stops = Stops::play(memory, &play);
     }
 
     /// Looks whether all of each list was given of which a line was.
-    fn close(&mut self, alloc: Global) -> Result<(), NoMemory> {
+    fn close(&mut self, memory: &mut Memory) {
         let left = match self.stage.scenario.ran.left_over() {
-            Some(line) => String::from_str(alloc, line.as_str())?,
-            None => return Ok(()),
+            Some(line) => memory.copy(line.as_str()),
+            None => return,
         };
-        self.refuse(alloc, "no more", left.as_str())
+        self.refuse(memory, "no more", left.as_str());
     }
 
-    /// Compares a row with what it is given.
-    fn compare(
-        &mut self,
-        alloc: Global,
-        line: &str,
-        wanted: &str,
-        given: &str,
-    ) -> Result<(), NoMemory> {
-        self.rows = self.rows.saturating_add(1);
-        if given == wanted {
-            return Ok(());
+    /// Compares a row with what it is given; does what a line says that is none.
+    fn compare(&mut self, memory: &mut Memory, line: &str, head: &str, rest: &str) {
+        let mut given = Line::new(memory.alloc);
+        if self.stage.add_given(memory, &mut given, head, rest) {
+            self.rows = self.rows.saturating_add(1);
+            let given = given.finish(memory);
+            if given.as_str() != rest {
+                self.refuse(memory, line, given.as_str());
+            }
+        } else {
+            self.act(memory, line, head, rest);
         }
-        self.refuse(alloc, line, given)
     }
 
     /// Does what a line says that wants nothing.
-    fn act(&mut self, alloc: Global, line: &str, head: &str, rest: &str) -> Result<(), NoMemory> {
-        if is_command(head) {
-            self.close(alloc)?;
+    fn act(&mut self, memory: &mut Memory, line: &str, head: &str, rest: &str) {
+        if matches!(head, ">" | "alone" | "answer") {
+            self.close(memory);
             self.stage.bytes = 0;
         }
-        if self.shelf.act(alloc, head, rest)? {
-            return Ok(());
+        if self.stage.scenario.act(memory, &self.shelf, head, rest) {
+            let line = memory.copy(line);
+            memory.note(self.past.push(line).is_err());
+        } else {
+            self.refuse(memory, line, "no such line");
         }
-        if !self.stage.scenario.act(alloc, &self.shelf, head, rest)? {
-            return self.refuse(alloc, line, "no such line");
-        }
-        self.past.push(String::from_str(alloc, line)?)?;
-        Ok(())
     }
 
     /// Notes what was wanted and what came.
-    fn refuse(&mut self, alloc: Global, wanted: &str, given: &str) -> Result<(), NoMemory> {
+    fn refuse(&mut self, memory: &mut Memory, wanted: &str, given: &str) {
         self.wrong = self.wrong.saturating_add(1);
-        let text = format!(in alloc; "{}\n    wanted {wanted}\n    given  {given}", self.heading)?;
         if !self.report.is_empty() {
-            self.report.push_str("\n")?;
+            memory.note(self.report.push_str("\n").is_err());
         }
-        self.report.push_str(text.as_str())?;
-        Ok(())
+        let heading = self.heading.as_str();
+        let text = write!(
+            self.report,
+            "{heading}\n    wanted {wanted}\n    given  {given}"
+        );
+        memory.note(text.is_err());
     }
-}
-
-/// Whether a line that begins so is a command.
-fn is_command(head: &str) -> bool {
-    matches!(head, ">" | "alone" | "answer")
 }

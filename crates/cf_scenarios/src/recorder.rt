@@ -1,10 +1,12 @@
 //! A lane that notes its calls.
-use crate::words::{add, add_answer, add_number, add_request};
+use crate::lines::Lines;
+use crate::memory::Memory;
+use crate::words::Line;
 use cf_fake::MemoryHandler;
 use cf_handler::Handler;
 use cf_schema::Schema;
 use cf_tree::{Answer, Request};
-use std::alloc::{AllocError, Global};
+use std::alloc::Global;
 use std::mem;
 
 /// A handler in memory, each of whose calls is noted as a line `LANE TOKEN REQUEST -> ANSWER`. In the calls of the numbers
@@ -15,7 +17,8 @@ pub struct Recorder {
     handler: MemoryHandler,
     short: Vec<u64>,
     calls: u64,
-    notes: Vec<String>,
+    notes: Lines,
+    /// Whether memory was wanting for a note.
     is_lost: bool,
 }
 
@@ -27,7 +30,7 @@ impl Recorder {
             handler,
             short,
             calls: 0,
-            notes: Vec::new(alloc),
+            notes: Lines::new(alloc),
             is_lost: false,
         }
     }
@@ -37,33 +40,22 @@ impl Recorder {
         &self.handler
     }
 
-    /// The lines of the calls that were made since this was asked last. Where memory was wanting for one they are none.
-    pub fn take_notes(&mut self) -> Vec<String> {
-        let notes = mem::replace(&mut self.notes, Vec::new(self.alloc));
-        if self.is_lost {
-            Vec::new(self.alloc)
-        } else {
-            notes
-        }
+    /// The lines of the calls that were made since this was asked last.
+    pub fn take_notes(&mut self, memory: &mut Memory) -> Lines {
+        memory.note(self.is_lost);
+        mem::replace(&mut self.notes, Lines::new(self.alloc))
     }
 }
 
-/// Notes a call.
-fn note(
-    alloc: Global,
-    notes: &mut Vec<String>,
-    lane: &str,
-    token: u64,
-    request: &Request,
-    answer: &Answer,
-) -> Result<(), AllocError> {
-    let mut line = String::from_str(alloc, lane)?;
-    add_number(alloc, &mut line, token)?;
-    add_request(alloc, &mut line, request)?;
-    add(&mut line, "->")?;
-    add_answer(&mut line, answer)?;
-    notes.push(line)?;
-    Ok(())
+/// The line of a call.
+fn note(memory: &mut Memory, lane: &str, token: u64, request: &Request, answer: &Answer) -> String {
+    let mut line = Line::new(memory.alloc);
+    line.put(lane);
+    line.number_word(token);
+    line.request(request);
+    line.word("->");
+    line.answer(answer);
+    line.finish(memory)
 }
 
 impl Handler for Recorder {
@@ -94,10 +86,10 @@ impl Handler for Recorder {
         } else {
             self.handler.call(token, request)
         };
-        let lane = self.handler.name();
-        if note(self.alloc, &mut self.notes, lane, token, request, &answer).is_err() {
-            self.is_lost = true;
-        }
+        let mut memory = Memory::new(self.alloc);
+        let line = note(&mut memory, self.handler.name(), token, request, &answer);
+        self.notes.push(&mut memory, line);
+        self.is_lost = self.is_lost || memory.end().is_err();
         answer
     }
 }

@@ -1,20 +1,20 @@
 //! A scenario: what is handed to commands, and what the last one left.
 ghost use Rattle.std.specs.Prelude.{◌≤◌, ◌^◌, IfOk};
 
-use crate::entries::{asks, line_of};
+use crate::entries::add_entry;
 use crate::escape::{unescaped, unescaped_text};
-use crate::lanes::{lane_of, live_lines, place_of, schemas_of};
+use crate::lanes::{lane_of, place_of, push_live, schemas_of};
 use crate::lines::Lines;
+use crate::memory::Memory;
 use crate::recorder::Recorder;
 use crate::shelf::Shelf;
+use crate::words::{Line, cut, number_of};
 use cf_disk::{Disk, FuseDisk, MemoryDisk};
 use cf_entry::{Entries, Entry, entry_size};
-use cf_face::Exit;
 use cf_io::{MemoryLibrary, MemorySink};
 use cf_journal::{RecoverFault, recover};
-use cf_schema::Schemas;
 use cf_top::{Ended, alone, answer, cfstack};
-use cf_tree::{Listing, NoMemory, Txt};
+use cf_tree::{NoMemory, Txt};
 use std::alloc::Global;
 use std::mem;
 
@@ -67,7 +67,7 @@ impl Failing {
 /// What the last command did, each list behind what was there before it.
 #[derive(Drop)]
 pub struct Ran {
-    /// The line of the exit that came back.
+    /// The line of the exit that came back, with its end.
     pub exit: String,
     pub printed: Lines,
     pub entries: Lines,
@@ -83,11 +83,11 @@ impl Ran {
     fn nothing(alloc: Global) -> Ran {
         Ran {
             exit: String::new(alloc),
-            printed: Lines::new(Vec::new(alloc)),
-            entries: Lines::new(Vec::new(alloc)),
-            asked: Lines::new(Vec::new(alloc)),
+            printed: Lines::new(alloc),
+            entries: Lines::new(alloc),
+            asked: Lines::new(alloc),
             calls: Vec::new(alloc),
-            live: Lines::new(Vec::new(alloc)),
+            live: Lines::new(alloc),
         }
     }
 
@@ -99,6 +99,25 @@ impl Ran {
             }
         }
         self.calls.iter().find_map(|list| list.left_over())
+    }
+
+    /// Adds an entry that was written.
+    fn push_entry(&mut self, memory: &mut Memory, entry: &Entry) {
+        let mut line = Line::new(memory.alloc);
+        add_entry(&mut line, entry);
+        let line = line.finish(memory);
+        if matches!(entry, Entry::Intent { .. }) {
+            let copy = memory.copy(line.as_str());
+            self.asked.push(memory, copy);
+        }
+        self.entries.push(memory, line);
+    }
+
+    /// Adds the calls of a lane since the command before, and what is live there.
+    fn push_lane(&mut self, memory: &mut Memory, lane: &mut Recorder) {
+        push_live(memory, &mut self.live, lane);
+        let calls = lane.take_notes(memory);
+        memory.note(self.calls.push(calls).is_err());
     }
 }
 
@@ -157,43 +176,29 @@ impl Scenario {
     }
 
     /// Does what a line says that wants nothing. Whether it says something.
-    pub fn act(
-        &mut self,
-        alloc: Global,
-        shelf: &Shelf,
-        head: &str,
-        rest: &str,
-    ) -> Result<bool, NoMemory> {
+    pub fn act(&mut self, memory: &mut Memory, shelf: &Shelf, head: &str, rest: &str) -> bool {
         match head {
-            ">" => self.run(alloc, shelf, Top::Cfstack, rest)?,
-            "alone" => self.run(alloc, shelf, Top::Alone, rest)?,
-            "answer" => self.run(alloc, shelf, Top::Answer, rest)?,
-            _ => return self.prepare(alloc, head, rest),
-        }
-        Ok(true)
-    }
-
-    /// Prepares what is handed to the next command.
-    fn prepare(&mut self, alloc: Global, head: &str, rest: &str) -> Result<bool, NoMemory> {
-        match head {
-            "lane" => return self.add_lane(alloc, rest),
-            "without" => return Ok(self.drop_lane(rest)),
+            ">" => self.run(memory, shelf, Top::Cfstack, rest),
+            "alone" => self.run(memory, shelf, Top::Alone, rest),
+            "answer" => self.run(memory, shelf, Top::Answer, rest),
             "room" => self.room = number_of(rest),
-            "disk" => self.bytes = unescaped(alloc, rest)?,
+            "disk" => self.bytes = unescaped(memory, rest),
             "fuse" => self.failing.fuse = number_of(rest),
-            "fail" => return self.add_failing(alloc, rest),
-            _ => return Ok(false),
+            "lane" => return self.add_lane(memory, rest),
+            "without" => return self.drop_lane(rest),
+            "fail" => return self.add_failing(memory, rest),
+            _ => return false,
         }
-        Ok(true)
+        true
     }
 
-    fn add_lane(&mut self, alloc: Global, text: &str) -> Result<bool, NoMemory> {
-        match lane_of(alloc, text)? {
+    fn add_lane(&mut self, memory: &mut Memory, text: &str) -> bool {
+        match lane_of(memory, text) {
             Some(lane) => {
-                self.lanes.push(lane)?;
-                Ok(true)
+                memory.note(self.lanes.push(lane).is_err());
+                true
             }
-            None => Ok(false),
+            None => false,
         }
     }
 
@@ -202,7 +207,7 @@ impl Scenario {
         match place_of(self.lanes.as_slice(), name) {
             Some(at) => {
                 if at < self.lanes.len() {
-                    self.lanes.remove(at);
+                    drop(self.lanes.remove(at));
                 }
                 true
             }
@@ -210,106 +215,130 @@ impl Scenario {
         }
     }
 
-    fn add_failing(&mut self, alloc: Global, text: &str) -> Result<bool, NoMemory> {
-        let (what, calls) = text.split_once(' ').unwrap_or((text, ""));
-        let calls = numbers_of(alloc, calls)?;
+    fn add_failing(&mut self, memory: &mut Memory, text: &str) -> bool {
+        let (what, calls) = cut(text);
+        let calls = numbers_of(memory, calls);
         match what {
             "disk" => self.failing.disk = calls,
             "library" => self.failing.library = calls,
             "sink" => self.failing.sink = calls,
-            _ => return Ok(false),
+            _ => return false,
         }
-        Ok(true)
+        true
     }
 
     /// Does what words say, in a process of its own: with a new library and sink, and the disk opened anew.
-    fn run(&mut self, alloc: Global, shelf: &Shelf, top: Top, words: &str) -> Result<(), NoMemory> {
-        let failing = mem::replace(&mut self.failing, Failing::nothing(alloc));
-        let words = words_of(alloc, words)?;
-        let mut library = shelf.library(alloc, words.as_slice(), failing.library.as_slice())?;
-        let mut sink = MemorySink::new(alloc, failing.sink.as_slice())?;
-        let disk = disk_of(
-            alloc,
-            self.bytes.as_slice(),
-            self.room,
-            failing.disk.as_slice(),
-        )?;
-        let disk = FuseDisk::new(disk, failing.fuse);
-        let lanes = mem::replace(&mut self.lanes, Vec::new(alloc));
-        let Ended { exit, disk, lanes } = ended(
-            alloc,
-            top,
-            words.as_slice(),
-            &mut library,
-            &mut sink,
-            disk,
-            lanes,
-        )?;
-        self.lanes = lanes;
-        let disk = disk.into_disk();
-        self.bytes = Vec::from_slice(alloc, disk.bytes())?;
-        self.look(alloc, &exit, &sink)
+    fn run(&mut self, memory: &mut Memory, shelf: &Shelf, top: Top, words: &str) {
+        let failing = mem::replace(&mut self.failing, Failing::nothing(memory.alloc));
+        let words = words_of(memory, words);
+        let templates = shelf.named(memory, words.as_slice());
+        self.ran = Ran::nothing(memory.alloc);
+        match MemoryLibrary::new(
+            memory.alloc,
+            templates.as_slice(),
+            failing.library.as_slice(),
+        ) {
+            Ok(mut library) => {
+                self.run_over(memory, top, words.as_slice(), &mut library, &failing);
+                drop(library);
+            }
+            Err(NoMemory) => memory.lose(),
+        }
     }
 
-    /// Looks at what a command left.
-    fn look(&mut self, alloc: Global, exit: &Exit, sink: &MemorySink) -> Result<(), NoMemory> {
-        let entries = entries_of(alloc, self.bytes.as_slice())?;
-        let before = mem::replace(&mut self.entries, entries.len());
-        let mut ran = Ran::nothing(alloc);
-        exit.push_line(alloc, &mut ran.exit)?;
-        ran.printed = printed_of(alloc, sink.bytes())?;
-        let entries = entries.as_slice();
-        self.end = end_of(entries);
-        let added = entries.get(before..).unwrap_or(&[]);
-        ran.entries = all_lines(alloc, added)?;
-        ran.asked = asked_lines(alloc, added)?;
-        ran.live = Lines::new(live_lines(alloc, self.lanes.as_slice())?);
-        for lane in self.lanes.iter_mut() {
-            ran.calls.push(Lines::new(lane.take_notes()))?;
+    /// The same over a library.
+    fn run_over(
+        &mut self,
+        memory: &mut Memory,
+        top: Top,
+        words: &[Txt],
+        library: &mut MemoryLibrary,
+        failing: &Failing,
+    ) {
+        match MemorySink::new(memory.alloc, failing.sink.as_slice()) {
+            Ok(mut sink) => {
+                self.run_on(memory, top, words, library, &mut sink, failing);
+                let text = str::from_utf8(sink.bytes()).unwrap_or("no text");
+                self.ran.printed.push_all(memory, text);
+                drop(sink);
+            }
+            Err(NoMemory) => memory.lose(),
         }
-        self.ran = ran;
-        Ok(())
+    }
+
+    /// The same with a sink.
+    fn run_on(
+        &mut self,
+        memory: &mut Memory,
+        top: Top,
+        words: &[Txt],
+        library: &mut MemoryLibrary,
+        sink: &mut MemorySink,
+        failing: &Failing,
+    ) {
+        let fails = failing.disk.as_slice();
+        match disk_of(memory.alloc, self.bytes.as_slice(), self.room, fails) {
+            Ok(disk) => {
+                let disk = FuseDisk::new(disk, failing.fuse);
+                let lanes = mem::replace(&mut self.lanes, Vec::new(memory.alloc));
+                let ended = ended(memory, top, words, library, sink, disk, lanes);
+                self.take_back(memory, ended);
+            }
+            Err(NoMemory) => memory.lose(),
+        }
+    }
+
+    /// Takes the disk and the lanes back, and looks at what a command left.
+    fn take_back(&mut self, memory: &mut Memory, ended: Ended<FuseDisk, Recorder>) {
+        let Ended { exit, disk, lanes } = ended;
+        self.lanes = lanes;
+        let disk = disk.into_disk();
+        self.bytes = memory.bytes(disk.bytes());
+        drop(disk);
+        memory.note(exit.push_line(memory.alloc, &mut self.ran.exit).is_err());
+        drop(exit);
+        self.look_at_journal(memory);
+        for lane in self.lanes.iter_mut() {
+            self.ran.push_lane(memory, lane);
+        }
+    }
+
+    /// Looks at the entries that a command left.
+    fn look_at_journal(&mut self, memory: &mut Memory) {
+        let entries = entries_of(memory, self.bytes.as_slice());
+        let before = mem::replace(&mut self.entries, entries.len());
+        self.end = end_of(entries.as_slice());
+        for entry in entries.as_slice().iter().skip(before) {
+            self.ran.push_entry(memory, entry);
+        }
+        drop(entries);
     }
 }
 
 /// How a command ends that a top call does.
 fn ended(
-    alloc: Global,
+    memory: &mut Memory,
     top: Top,
     words: &[Txt],
     library: &mut MemoryLibrary,
     sink: &mut MemorySink,
     disk: FuseDisk,
     lanes: Vec<Recorder>,
-) -> Result<Ended<FuseDisk, Recorder>, NoMemory>
-    requires least { 16 ≤ ⟦<FuseDisk as Disk>⟧.room_of disk }
-    requires most { ⟦<FuseDisk as Disk>⟧.room_of disk ≤ 2 ^ 32 }
-{
-    match top {
-        Top::Cfstack => Ok(cfstack(alloc, words, 1, library, sink, disk, lanes)),
-        Top::Alone => Ok(alone(alloc, words, library, sink, disk, lanes)),
-        Top::Answer => {
-            let schemas = schemas_of(alloc, lanes.as_slice())?;
-            Ok(answered(alloc, words, library, sink, disk, lanes, &schemas))
-        }
-    }
-}
-
-fn answered(
-    alloc: Global,
-    words: &[Txt],
-    library: &mut MemoryLibrary,
-    sink: &mut MemorySink,
-    disk: FuseDisk,
-    lanes: Vec<Recorder>,
-    schemas: &Schemas,
 ) -> Ended<FuseDisk, Recorder>
     requires least { 16 ≤ ⟦<FuseDisk as Disk>⟧.room_of disk }
     requires most { ⟦<FuseDisk as Disk>⟧.room_of disk ≤ 2 ^ 32 }
 {
-    let mut disk = disk;
-    let exit = answer(alloc, words, library, sink, &mut disk, schemas);
-    Ended { exit, disk, lanes }
+    match top {
+        Top::Cfstack => cfstack(memory.alloc, words, 1, library, sink, disk, lanes),
+        Top::Alone => alone(memory.alloc, words, library, sink, disk, lanes),
+        Top::Answer => {
+            let mut disk = disk;
+            let schemas = schemas_of(memory, lanes.as_slice());
+            let exit = answer(memory.alloc, words, library, sink, &mut disk, &schemas);
+            drop(schemas);
+            Ended { exit, disk, lanes }
+        }
+    }
 }
 
 /// A disk that holds these bytes; those that don't fit into its room are left out.
@@ -330,13 +359,19 @@ fn disk_of(alloc: Global, bytes: &[u8], room: u64, fails: &[u64]) -> Result<Memo
 }
 
 /// The entries that bytes hold; none where they are no journal.
-fn entries_of(alloc: Global, bytes: &[u8]) -> Result<Entries, NoMemory> {
-    let mut disk = disk_of(alloc, bytes, MOST_ROOM, &[])?;
-    match recover(alloc, &mut disk) {
-        Ok((_, entries)) => Ok(entries),
-        Err(RecoverFault::NoMemory) => Err(NoMemory),
-        Err(_) => Ok(Listing::new(alloc)),
+fn entries_of(memory: &mut Memory, bytes: &[u8]) -> Entries {
+    match disk_of(memory.alloc, bytes, MOST_ROOM, &[]) {
+        Ok(mut disk) => {
+            let found = recover(memory.alloc, &mut disk);
+            drop(disk);
+            match found {
+                Ok((_, entries)) => return entries,
+                Err(fault) => memory.note(fault == RecoverFault::NoMemory),
+            }
+        }
+        Err(NoMemory) => memory.lose(),
     }
+    Entries::new(memory.alloc)
 }
 
 /// Where the last gate of a journal with these entries is.
@@ -348,49 +383,20 @@ fn end_of(entries: &[Entry]) -> u64 {
     end
 }
 
-fn all_lines(alloc: Global, entries: &[Entry]) -> Result<Lines, NoMemory> {
-    let mut lines = Vec::new(alloc);
-    for entry in entries.iter() {
-        lines.push(line_of(alloc, entry)?)?;
-    }
-    Ok(Lines::new(lines))
-}
-
-fn asked_lines(alloc: Global, entries: &[Entry]) -> Result<Lines, NoMemory> {
-    let mut lines = Vec::new(alloc);
-    for entry in entries.iter() {
-        if asks(entry) {
-            lines.push(line_of(alloc, entry)?)?;
-        }
-    }
-    Ok(Lines::new(lines))
-}
-
-fn printed_of(alloc: Global, bytes: &[u8]) -> Result<Lines, NoMemory> {
-    match str::from_utf8(bytes) {
-        Ok(text) => Ok(Lines::of_text(alloc, text)?),
-        Err(_) => Ok(Lines::of_text(alloc, "no text")?),
-    }
-}
-
 /// The words of a line.
-fn words_of(alloc: Global, line: &str) -> Result<Vec<Txt>, NoMemory> {
-    let mut words = Vec::new(alloc);
+fn words_of(memory: &mut Memory, line: &str) -> Vec<Txt> {
+    let mut words = Vec::new(memory.alloc);
     for word in line.split_ascii_whitespace() {
-        words.push(Txt::new(unescaped_text(alloc, word)?))?;
+        let word = Txt::new(unescaped_text(memory, word));
+        memory.note(words.push(word).is_err());
     }
-    Ok(words)
+    words
 }
 
-/// A number; 0 where it is none.
-pub fn number_of(text: &str) -> u64 {
-    text.parse::<u64>().unwrap_or(0)
-}
-
-fn numbers_of(alloc: Global, text: &str) -> Result<Vec<u64>, NoMemory> {
-    let mut numbers = Vec::new(alloc);
+fn numbers_of(memory: &mut Memory, text: &str) -> Vec<u64> {
+    let mut numbers = Vec::new(memory.alloc);
     for number in text.split_ascii_whitespace() {
-        numbers.push(number_of(number))?;
+        memory.note(numbers.push(number_of(number)).is_err());
     }
-    Ok(numbers)
+    numbers
 }

@@ -1,6 +1,8 @@
 //! The templates of the library.
+use crate::memory::Memory;
+use crate::words::cut;
 use cf_io::MemoryLibrary;
-use cf_tree::{NoMemory, Txt};
+use cf_tree::Txt;
 use std::alloc::Global;
 
 /// Templates by their names.
@@ -17,49 +19,32 @@ impl Shelf {
         }
     }
 
-    /// Does what a line says of templates. Whether it says something.
-    pub fn act(&mut self, alloc: Global, head: &str, rest: &str) -> Result<bool, NoMemory> {
-        match head {
-            "template" => self.add(alloc, rest)?,
-            "+" => self.add_to_last(rest)?,
-            _ => return Ok(false),
-        }
-        Ok(true)
-    }
-
     /// Adds the template `NAME TEXT`, in the place of another one of the name.
-    fn add(&mut self, alloc: Global, text: &str) -> Result<(), NoMemory> {
-        let (name, text) = text.split_once(' ').unwrap_or((text, ""));
+    pub fn add(&mut self, memory: &mut Memory, text: &str) {
+        let (name, text) = cut(text);
         self.templates.retain(|template| !template.0.is(name));
-        let name = Txt::from_str(alloc, name)?;
-        let bytes = Vec::from_slice(alloc, text.as_bytes())?;
-        self.templates.push((name, bytes))?;
-        Ok(())
+        let name = Txt::new(memory.copy(name));
+        let bytes = memory.bytes(text.as_bytes());
+        memory.note(self.templates.push((name, bytes)).is_err());
     }
 
     /// Goes on with the last template.
-    fn add_to_last(&mut self, text: &str) -> Result<(), NoMemory> {
+    pub fn go_on(&mut self, memory: &mut Memory, text: &str) {
         if let Some(template) = self.templates.last_mut() {
-            template.1.extend_from_slice(text.as_bytes())?;
+            memory.note(template.1.extend_from_slice(text.as_bytes()).is_err());
         }
-        Ok(())
     }
 
-    /// A library of the templates that words name, which fails in the fetches of these numbers.
-    pub fn library(
-        &self,
-        alloc: Global,
-        words: &[Txt],
-        fails: &[u64],
-    ) -> Result<MemoryLibrary, NoMemory> {
-        let mut named = Vec::new(alloc);
+    /// The templates that words name.
+    pub fn named(&self, memory: &mut Memory, words: &[Txt]) -> Vec<(Txt, Vec<u8>)> {
+        let mut named = Vec::new(memory.alloc);
         for template in self.templates.iter() {
             if words.contains(&template.0) {
-                let name = template.0.try_clone(alloc)?;
-                let bytes = Vec::from_slice(alloc, template.1.as_slice())?;
-                named.push((name, bytes))?;
+                let name = Txt::new(memory.copy(template.0.as_str()));
+                let bytes = memory.bytes(template.1.as_slice());
+                memory.note(named.push((name, bytes)).is_err());
             }
         }
-        MemoryLibrary::new(alloc, named.as_slice(), fails)
+        named
     }
 }

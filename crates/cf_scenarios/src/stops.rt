@@ -1,8 +1,9 @@
 //! A command whose disk stops, at each of its calls in turn.
 use crate::lines::Lines;
-use crate::scenario::{Scenario, number_of};
+use crate::memory::Memory;
+use crate::scenario::Scenario;
 use crate::shelf::Shelf;
-use cf_tree::NoMemory;
+use crate::words::{Line, cut, number_of};
 use std::alloc::Global;
 
 /// What came of the stops at each call, and how many of them were compared.
@@ -10,6 +11,18 @@ use std::alloc::Global;
 pub struct Stops {
     found: Vec<String>,
     compared: u64,
+}
+
+/// What is played up to a stop, and behind it.
+#[derive(Clone, Copy)]
+pub struct Play<'a> {
+    pub shelf: &'a Shelf,
+    /// The lines that lead there.
+    pub past: &'a [String],
+    /// The command that is stopped.
+    pub command: &'a str,
+    /// What is done behind, with a disk that goes on.
+    pub other: &'a str,
 }
 
 impl Stops {
@@ -21,102 +34,122 @@ impl Stops {
         }
     }
 
-    /// Plays `COMMAND ; OTHER` once for each number of calls after which the disk stops, from 0 on, until the command is
-    /// stopped no more. Each time what led there is played before, and the other command behind, with a disk that goes on.
-    pub fn play(
-        alloc: Global,
-        shelf: &Shelf,
-        past: &[String],
-        commands: &str,
-    ) -> Result<Stops, NoMemory> {
-        let (command, other) = commands.split_once(" ; ").unwrap_or((commands, ""));
-        let whole = played(alloc, shelf, past, command, u64::MAX)?;
-        let mut found = Vec::new(alloc);
+    /// Plays a command once for each number of calls after which the disk stops, from 0 on, until the command is stopped
+    /// no more.
+    pub fn play(memory: &mut Memory, play: &Play) -> Stops {
+        let whole = play.played(memory, u64::MAX);
+        let mut stops = Stops::nothing(memory.alloc);
         for fuse in 0..1_000u64 {
-            let stopped = played(alloc, shelf, past, command, fuse)?;
-            if stopped.ran.exit == whole.ran.exit {
-                return Ok(Stops { found, compared: 0 });
+            match play.stopped(memory, &whole, fuse) {
+                Some(found) => memory.note(stops.found.push(found).is_err()),
+                None => break,
             }
-            found.push(told(alloc, shelf, &whole, stopped, other)?)?;
         }
-        Ok(Stops { found, compared: 0 })
+        drop(whole);
+        stops
     }
 
-    /// What the row `FROM..TO ..` or `FROM ..` is given: what came of the first of these stops that came to something else
-    /// than the row says, or of the last one. The row is the first that says something of these stops.
-    pub fn given(&mut self, alloc: Global, row: &str) -> Result<String, NoMemory> {
-        let (range, wanted) = row.split_once(' ').unwrap_or((row, ""));
+    /// Adds what the row `FROM..TO ..` or `FROM ..` is given: what came of the first of these stops that came to something
+    /// else than the row says, or of the last one. The row is the first that says something of these stops.
+    pub fn add_given(&mut self, line: &mut Line, row: &str) {
+        let (range, wanted) = cut(row);
         let (first, last) = range.split_once("..").unwrap_or((range, range));
         let first = number_of(first);
         let last = number_of(last);
         if first != self.compared {
-            return Ok(format!(in alloc; "{} was not told", self.compared)?);
+            line.number(self.compared);
+            line.put(" was not told");
+            return;
         }
         self.compared = last.saturating_add(1);
+        match self.other(first, last, wanted) {
+            Some((at, found)) => {
+                line.number(at);
+                line.word(found.as_str());
+            }
+            None => {
+                if self.compared > self.found.len() as u64 {
+                    line.number(self.found.len() as u64);
+                    line.put(" stops");
+                } else {
+                    line.put(row);
+                }
+            }
+        }
+    }
+
+    /// The first of these stops that came to something else than this.
+    fn other(&self, first: u64, last: u64, wanted: &str) -> Option<(u64, &String)> {
         for (at, found) in self.found.iter().enumerate() {
             let at = at as u64;
             if first <= at && at <= last && found.as_str() != wanted {
-                return Ok(format!(in alloc; "{at} {found}")?);
+                return Some((at, found));
             }
         }
-        if self.compared > self.found.len() as u64 {
-            return Ok(format!(in alloc; "{} stops", self.found.len())?);
-        }
-        Ok(String::from_str(alloc, row)?)
+        None
     }
 
-    /// How many stops there are, and how many of them were compared.
-    pub fn ends(&self, alloc: Global) -> Result<String, NoMemory> {
-        if self.compared == self.found.len() as u64 {
-            Ok(format!(in alloc; "{}", self.found.len())?)
+    /// Adds how many stops there are, and how many of them were compared.
+    pub fn add_ends(&self, line: &mut Line) {
+        if self.compared != self.found.len() as u64 {
+            line.number(self.compared);
+            line.put(" of ");
+        }
+        line.number(self.found.len() as u64);
+    }
+}
+
+impl<'a> Play<'a> {
+    /// The scenario behind what led there and the command, whose disk stops after so many calls.
+    fn played(&self, memory: &mut Memory, fuse: u64) -> Scenario {
+        let mut scenario = Scenario::new(memory.alloc);
+        for line in self.past.iter() {
+            let (head, rest) = cut(line.as_str());
+            scenario.act(memory, self.shelf, head, rest);
+        }
+        scenario.set_fuse(fuse);
+        scenario.act(memory, self.shelf, ">", self.command);
+        scenario
+    }
+
+    /// What came of the command where the disk stops after so many calls; None where it is not stopped.
+    fn stopped(&self, memory: &mut Memory, whole: &Scenario, fuse: u64) -> Option<String> {
+        let mut stopped = self.played(memory, fuse);
+        let told = if stopped.ran.exit == whole.ran.exit {
+            None
         } else {
-            Ok(format!(in alloc; "{} of {}", self.compared, self.found.len())?)
+            Some(self.told(memory, whole, &mut stopped))
+        };
+        drop(stopped);
+        told
+    }
+
+    /// What came of a stop: how many of the entries and calls of the whole run there are, and what the other command prints.
+    fn told(&self, memory: &mut Memory, whole: &Scenario, stopped: &mut Scenario) -> String {
+        let mut line = Line::new(memory.alloc);
+        stopped.ran.printed.join(&mut line);
+        if line.text.as_str() == "exit 7 DiskFault" {
+            line.text.clear();
+            if !stopped.begins(whole) || !stopped.ran.entries.begin(&whole.ran.entries) {
+                line.put("other entries");
+            } else if !begin(stopped.ran.calls.as_slice(), whole.ran.calls.as_slice()) {
+                line.put("other calls");
+            } else {
+                self.go_on(memory, &mut line, stopped);
+            }
         }
+        line.finish(memory)
     }
-}
 
-/// The scenario behind what led there and a command, whose disk stops after so many calls.
-fn played(
-    alloc: Global,
-    shelf: &Shelf,
-    past: &[String],
-    command: &str,
-    fuse: u64,
-) -> Result<Scenario, NoMemory> {
-    let mut scenario = Scenario::new(alloc);
-    for line in past.iter() {
-        let (head, rest) = line.split_once(' ').unwrap_or((line.as_str(), ""));
-        scenario.act(alloc, shelf, head, rest)?;
+    /// Does the other command, and tells it.
+    fn go_on(&self, memory: &mut Memory, line: &mut Line, stopped: &mut Scenario) {
+        line.number(stopped.ran.entries.len() as u64);
+        line.put(" entries, ");
+        line.number(count(stopped.ran.calls.as_slice()));
+        line.put(" calls: ");
+        stopped.act(memory, self.shelf, ">", self.other);
+        stopped.ran.printed.join(line);
     }
-    scenario.set_fuse(fuse);
-    scenario.act(alloc, shelf, ">", command)?;
-    Ok(scenario)
-}
-
-/// What came of a stop: how many of the entries and calls of the whole run there are, and what the other command prints.
-fn told(
-    alloc: Global,
-    shelf: &Shelf,
-    whole: &Scenario,
-    stopped: Scenario,
-    other: &str,
-) -> Result<String, NoMemory> {
-    let mut stopped = stopped;
-    let exit = stopped.ran.printed.joined(alloc)?;
-    if exit.as_str() != "exit 7 DiskFault" {
-        return Ok(exit);
-    }
-    if !stopped.begins(whole) || !stopped.ran.entries.begin(&whole.ran.entries) {
-        return Ok(String::from_str(alloc, "other entries")?);
-    }
-    if !begin(stopped.ran.calls.as_slice(), whole.ran.calls.as_slice()) {
-        return Ok(String::from_str(alloc, "other calls")?);
-    }
-    let entries = stopped.ran.entries.len();
-    let calls = count(stopped.ran.calls.as_slice());
-    stopped.act(alloc, shelf, ">", other)?;
-    let printed = stopped.ran.printed.joined(alloc)?;
-    Ok(format!(in alloc; "{entries} entries, {calls} calls: {printed}")?)
 }
 
 /// Whether the calls of each lane are the first ones of others.
@@ -135,10 +168,10 @@ fn begin(calls: &[Lines], whole: &[Lines]) -> bool {
 }
 
 /// How many calls there are.
-fn count(calls: &[Lines]) -> usize {
-    let mut total: usize = 0;
+fn count(calls: &[Lines]) -> u64 {
+    let mut total: u64 = 0;
     for lines in calls.iter() {
-        total = total.saturating_add(lines.len());
+        total = total.saturating_add(lines.len() as u64);
     }
     total
 }
