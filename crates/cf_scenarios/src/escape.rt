@@ -1,5 +1,5 @@
 //! Texts of one line that stand for any bytes.
-use crate::memory::Memory;
+use cf_rows::Memory;
 
 /// The bytes that a text stands for: `\n` is a line feed, `\s` a space, and `\xHH` the byte with this hexadecimal number.
 pub fn unescaped(memory: &mut Memory, text: &str) -> Vec<u8> {

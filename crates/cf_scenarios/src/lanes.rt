@@ -4,11 +4,11 @@ ghost use Rattle.std.specs.List.{list_all};
 ghost use Rattle.cf_handler.specs.Name.{is_lane_name, is_name_byte};
 
 use crate::lines::Lines;
-use crate::memory::Memory;
 use crate::recorder::Recorder;
 use crate::words::{Line, cut, number_of};
 use cf_fake::{Break, MemoryHandler, Plan, Planned};
 use cf_handler::{Handler, file_schema, record_schema};
+use cf_rows::Memory;
 use cf_schema::Schemas;
 use cf_tree::{Code, NoMemory};
 use std::alloc::Global;

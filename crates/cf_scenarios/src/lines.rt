@@ -1,6 +1,6 @@
 //! Lists of lines that are compared one after another.
-use crate::memory::Memory;
 use crate::words::Line;
+use cf_rows::Memory;
 use std::alloc::Global;
 
 /// Lines, and how many of them were compared.

@@ -1,9 +1,9 @@
 //! A lane that notes its calls.
 use crate::lines::Lines;
-use crate::memory::Memory;
 use crate::words::Line;
 use cf_fake::MemoryHandler;
 use cf_handler::Handler;
+use cf_rows::Memory;
 use cf_schema::Schema;
 use cf_tree::{Answer, Request};
 use std::alloc::Global;

@@ -2,12 +2,12 @@
 use crate::escape::unescaped;
 use crate::lanes::{place_of, schemas_of};
 use crate::lines::Lines;
-use crate::memory::Memory;
 use crate::recorder::Recorder;
 use crate::scenario::Scenario;
 use crate::stops::Stops;
 use crate::words::{Line, cut};
 use cf_handler::Handler;
+use cf_rows::Memory;
 use std::alloc::Global;
 
 /// A scenario with what rows compare.

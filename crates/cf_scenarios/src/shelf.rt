@@ -1,7 +1,7 @@
 //! The templates of the library.
-use crate::memory::Memory;
 use crate::words::cut;
 use cf_io::MemoryLibrary;
+use cf_rows::Memory;
 use cf_tree::Txt;
 use std::alloc::Global;
 

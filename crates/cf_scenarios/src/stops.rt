@@ -1,9 +1,9 @@
 //! A command whose disk stops, at each of its calls in turn.
 use crate::lines::Lines;
-use crate::memory::Memory;
 use crate::scenario::Scenario;
 use crate::shelf::Shelf;
 use crate::words::{Line, cut, number_of};
+use cf_rows::Memory;
 use std::alloc::Global;
 
 /// What came of the stops at each call, and how many of them were compared.

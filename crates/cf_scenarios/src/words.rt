@@ -1,5 +1,5 @@
 //! Lines of words, and what handlers are asked and answer in them.
-use crate::memory::Memory;
+use cf_rows::Memory;
 use cf_tree::{Answer, Dict, Names, Request, Val};
 use std::alloc::Global;
 

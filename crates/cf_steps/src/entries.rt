@@ -55,19 +55,19 @@ fn blank(words: &mut Words) -> Entry {
     words.refuse();
     Entry::Opened {
         epoch: 0,
-        lanes: LaneNames::new(words.alloc),
+        lanes: LaneNames::new(words.memory.alloc),
     }
 }
 
 /// `EPOCH LANE ..`
 fn opened(words: &mut Words, library: &Library) -> Entry {
     let epoch = words.number();
-    let mut lanes = LaneNames::new(words.alloc);
+    let mut lanes = LaneNames::new(words.memory.alloc);
     for name in words.rest.split_whitespace() {
-        let kind = words.text(library.kind_of(name));
-        let name = words.text(name);
+        let kind = words.memory.text(library.kind_of(name));
+        let name = words.memory.text(name);
         if lanes.push((name, kind)).is_err() {
-            words.lose();
+            words.memory.lose();
         }
     }
     Entry::Opened { epoch, lanes }
@@ -79,7 +79,7 @@ fn begun(words: &mut Words, library: &Library) -> Entry {
     let stack = words.word();
     Entry::Begin {
         number,
-        stack: words.text(stack),
+        stack: words.memory.text(stack),
         kind: begun_kind(words, library, stack),
     }
 }
@@ -115,7 +115,7 @@ fn intended(words: &mut Words, library: &Library, number: u64) -> Entry {
     Entry::Intent {
         number,
         token,
-        lane: words.text(lane),
+        lane: words.memory.text(lane),
         path: words.name(),
         request: request_of(words, library.kind_of(lane)),
     }
@@ -133,7 +133,7 @@ fn request_of(words: &mut Words, kind: &str) -> Request {
             props: words.props(),
         },
         "delete" => Request::Delete {
-            physical: words.text(words.rest),
+            physical: words.memory.text(words.rest),
         },
         _ => {
             words.refuse();
@@ -149,7 +149,7 @@ fn kind_of(words: &mut Words, usual: &str) -> Txt {
     let (word, _) = words.rest.split_once(' ').unwrap_or((words.rest, ""));
     let is_value = word.contains(':') && !word.contains("::");
     if word.is_empty() || word.contains('=') || is_value {
-        words.text(usual)
+        words.memory.text(usual)
     } else {
         words.name()
     }
@@ -178,7 +178,7 @@ fn answered(words: &mut Words, number: u64) -> Entry {
 fn reply_of(words: &mut Words, kind: &str, told: &str) -> Reply {
     match kind {
         "success" => Reply::Success {
-            physical: words.text(told),
+            physical: words.memory.text(told),
             attrs: words.props(),
         },
         "failed" => Reply::Failed {
@@ -218,10 +218,10 @@ pub fn cause_of(words: &mut Words) -> Cause {
             reason: reason_of(words),
         },
         "Plan" => Cause::Plan {
-            fault: words.text(words.rest),
+            fault: words.memory.text(words.rest),
         },
         "Export" => Cause::Export {
-            name: words.text(words.rest),
+            name: words.memory.text(words.rest),
         },
         _ => {
             words.refuse();
@@ -272,7 +272,7 @@ fn reviewed(words: &mut Words, library: &Library) -> Entry {
     let outputs = words.one_of(&OUTPUTS, false);
     Entry::ChangeSet {
         number,
-        stack: words.text(stack),
+        stack: words.memory.text(stack),
         source: library.source(words, stack),
         rows: rows_of(words, library),
         outputs,
@@ -281,11 +281,11 @@ fn reviewed(words: &mut Words, library: &Library) -> Entry {
 
 /// A copy of the rows that were read.
 fn rows_of(words: &mut Words, library: &Library) -> Rows {
-    match library.rows.try_clone(words.alloc) {
+    match library.rows.try_clone(words.memory.alloc) {
         Ok(rows) => rows,
         Err(_) => {
-            words.lose();
-            Rows::new(words.alloc)
+            words.memory.lose();
+            Rows::new(words.memory.alloc)
         }
     }
 }

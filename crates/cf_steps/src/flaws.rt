@@ -28,7 +28,7 @@ const WHYS: [(&str, EvalWhy); 9] = [
 /// The fault of a binding, `FAULT NAME`.
 fn bind_fault(words: &mut Words) -> BindFault {
     let kind = words.word();
-    let name = words.text(words.rest);
+    let name = words.memory.text(words.rest);
     match kind {
         "Undeclared" => BindFault::Undeclared { name },
         "Missing" => BindFault::Missing { name },
@@ -175,7 +175,7 @@ fn add_prepared(line: &mut Line, world: &World, wish: &Wish) {
 pub fn add_wish(line: &mut Line, words: &mut Words, library: &Library, world: &World) {
     let name = words.word();
     let wish = Wish {
-        stack: words.text(name),
+        stack: words.memory.text(name),
         source: library.source(words, name),
     };
     add_prepared(line, world, &wish);

@@ -32,18 +32,18 @@ impl Library {
     /// Adds the lane of a line `NAME TYPE`.
     pub fn add_lane(&mut self, words: &mut Words) {
         let name = words.name();
-        let kind = words.text(words.rest);
+        let kind = words.memory.text(words.rest);
         if self.lanes.insert(name, kind).is_err() {
-            words.lose();
+            words.memory.lose();
         }
     }
 
     /// Adds a schema, unless there is one of its type.
     pub fn add_schema(&mut self, words: &mut Words) {
-        match read_schema(words.alloc, words.rest.as_bytes()) {
+        match read_schema(words.memory.alloc, words.rest.as_bytes()) {
             Ok(schema) => {
                 if self.schemas.add(schema).is_err() {
-                    words.lose();
+                    words.memory.lose();
                 }
             }
             Err(_) => words.refuse(),
@@ -54,7 +54,7 @@ impl Library {
     pub fn add_row(&mut self, words: &mut Words) {
         let row = row_of(words);
         if self.rows.push(row).is_err() {
-            words.lose();
+            words.memory.lose();
         }
     }
 
@@ -68,7 +68,7 @@ impl Library {
     pub fn go_on(&mut self, words: &mut Words) {
         match self.templates.get(self.last.as_str()) {
             Some(bytes) => {
-                let bytes = words.bytes(bytes.as_slice());
+                let bytes = words.memory.bytes(bytes.as_slice());
                 self.put_template(words, bytes.as_slice());
             }
             None => words.refuse(),
@@ -77,13 +77,13 @@ impl Library {
 
     /// Puts the last template, of these bytes and what is left of a line.
     fn put_template(&mut self, words: &mut Words, begun: &[u8]) {
-        let mut bytes = words.bytes(begun);
+        let mut bytes = words.memory.bytes(begun);
         if bytes.extend_from_slice(words.rest.as_bytes()).is_err() {
-            words.lose();
+            words.memory.lose();
         }
-        let name = words.text(self.last.as_str());
+        let name = words.memory.text(self.last.as_str());
         if self.templates.insert(name, Bytes::from_vec(bytes)).is_err() {
-            words.lose();
+            words.memory.lose();
         }
     }
 
@@ -98,19 +98,19 @@ impl Library {
     /// A copy of the schema of a type; one without properties where there is none.
     pub fn schema_of(&self, words: &mut Words, kind: &str) -> Schema {
         if let Some(schema) = self.schemas.find(kind) {
-            match schema.try_clone(words.alloc) {
+            match schema.try_clone(words.memory.alloc) {
                 Ok(copy) => return copy,
-                Err(_) => words.lose(),
+                Err(_) => words.memory.lose(),
             }
         }
         Schema {
-            kind: words.text(kind),
-            props: Names::new(words.alloc),
-            required: Names::new(words.alloc),
-            create_only: Names::new(words.alloc),
-            conditional: Names::new(words.alloc),
-            read_only: Names::new(words.alloc),
-            identifier: Names::new(words.alloc),
+            kind: words.memory.text(kind),
+            props: Names::new(words.memory.alloc),
+            required: Names::new(words.memory.alloc),
+            create_only: Names::new(words.memory.alloc),
+            conditional: Names::new(words.memory.alloc),
+            read_only: Names::new(words.memory.alloc),
+            identifier: Names::new(words.memory.alloc),
         }
     }
 
@@ -118,11 +118,11 @@ impl Library {
     pub fn source(&self, words: &mut Words, stack: &str) -> Source {
         let root = words.word();
         let mut source = Source {
-            root: words.text(root),
-            texts: Texts::new(words.alloc),
-            given: Pairs::new(words.alloc),
-            imports: Pairs::new(words.alloc),
-            stack: words.text(stack),
+            root: words.memory.text(root),
+            texts: Texts::new(words.memory.alloc),
+            given: Pairs::new(words.memory.alloc),
+            imports: Pairs::new(words.memory.alloc),
+            stack: words.memory.text(stack),
             number: 0,
         };
         self.add_text(words, &mut source, root);
@@ -146,8 +146,11 @@ impl Library {
                 } else {
                     &mut source.given
                 };
-                if pairs.insert(words.text(name), words.text(value)).is_err() {
-                    words.lose();
+                if pairs
+                    .insert(words.memory.text(name), words.memory.text(value))
+                    .is_err()
+                {
+                    words.memory.lose();
                 }
             }
             None => self.add_text(words, source, word),
@@ -158,9 +161,9 @@ impl Library {
     fn add_text(&self, words: &mut Words, source: &mut Source, name: &str) {
         match self.templates.get(name) {
             Some(bytes) => {
-                let bytes = Bytes::from_vec(words.bytes(bytes.as_slice()));
-                if source.texts.insert(words.text(name), bytes).is_err() {
-                    words.lose();
+                let bytes = Bytes::from_vec(words.memory.bytes(bytes.as_slice()));
+                if source.texts.insert(words.memory.text(name), bytes).is_err() {
+                    words.memory.lose();
                 }
             }
             None => words.refuse(),

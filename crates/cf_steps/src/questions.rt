@@ -109,7 +109,7 @@ fn add_of_phase(line: &mut Line, words: &mut Words, asked: &Asked, world: &World
     match last_begun(asked.journal) {
         Some((_, name)) => match world.stacks.get(name.as_str()) {
             Some(stack) => {
-                let path = words.text(words.rest);
+                let path = words.memory.text(words.rest);
                 let schemas = schemas_in(words, asked.library, world);
                 let question = Question {
                     word,

@@ -60,14 +60,14 @@ fn marks_of(words: &mut Words) -> (Option<Replacement>, bool) {
 
 /// Details, with ` / ` between them.
 fn details_of(words: &mut Words) -> Details {
-    let mut details = Details::new(words.alloc);
+    let mut details = Details::new(words.memory.alloc);
     for _ in 0..words.rest.len() {
         if words.rest.is_empty() {
             break;
         }
         let detail = detail_of(words);
         if details.push(detail).is_err() {
-            words.lose();
+            words.memory.lose();
         }
     }
     details

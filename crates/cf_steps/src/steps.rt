@@ -13,14 +13,14 @@ use cf_tree::{Request, Txt};
 
 /// The tokens that are left of a line.
 fn tokens_of(words: &mut Words) -> Vec<u64> {
-    let mut tokens = Vec::new(words.alloc);
+    let mut tokens = Vec::new(words.memory.alloc);
     for _ in 0..words.rest.len() {
         if words.rest.is_empty() {
             break;
         }
         let token = words.number();
         if tokens.push(token).is_err() {
-            words.lose();
+            words.memory.lose();
         }
     }
     tokens
@@ -49,15 +49,15 @@ fn lease_on(world: &World, lane: &Txt, out: &[u64]) -> Option<u64> {
 
 /// The lanes of the last opening, of which those of these tokens are out.
 fn homes_of(words: &mut Words, library: &Library, world: &World, out: &[u64]) -> Homes {
-    let mut homes = Homes::new(words.alloc);
+    let mut homes = Homes::new(words.memory.alloc);
     for lane in world.lanes.as_slice() {
         let home = Home {
-            name: words.text(lane.0.as_str()),
+            name: words.memory.text(lane.0.as_str()),
             schema: library.schema_of(words, lane.1.as_str()),
             out: lease_on(world, &lane.0, out),
         };
         if homes.push(home).is_err() {
-            words.lose();
+            words.memory.lose();
         }
     }
     homes
@@ -66,13 +66,13 @@ fn homes_of(words: &mut Words, library: &Library, world: &World, out: &[u64]) ->
 /// The schemas of the lanes of the last opening.
 pub fn schemas_in(words: &mut Words, library: &Library, world: &World) -> Schemas {
     let homes = homes_of(words, library, world, &[]);
-    let schemas = schemas_of(words.alloc, &homes);
+    let schemas = schemas_of(words.memory.alloc, &homes);
     drop(homes);
     match schemas {
         Ok(schemas) => schemas,
         Err(_) => {
-            words.lose();
-            Schemas::new(words.alloc)
+            words.memory.lose();
+            Schemas::new(words.memory.alloc)
         }
     }
 }

@@ -110,8 +110,8 @@ impl Table {
         match words.rest.split_once(" => ") {
             Some((question, wanted)) => {
                 self.waiting = Some(Waiting {
-                    question: words.string(question),
-                    wanted: words.string(wanted),
+                    question: words.memory.copy(question),
+                    wanted: words.memory.copy(wanted),
                 });
             }
             None => self.read_word(words),
@@ -141,7 +141,7 @@ impl Table {
     fn begin(&mut self, words: &mut Words) {
         let journal = match words.rest.split_once(" <- ") {
             Some((_, name)) => self.marked(words, name),
-            None => Entries::new(words.alloc),
+            None => Entries::new(words.memory.alloc),
         };
         drop(mem::replace(&mut self.journal, journal));
         self.stepped.begin(words, &self.journal);
@@ -153,17 +153,17 @@ impl Table {
             Some(journal) => copy_of(words, journal),
             None => {
                 words.refuse();
-                Entries::new(words.alloc)
+                Entries::new(words.memory.alloc)
             }
         }
     }
 
     /// Marks the journal.
     fn mark(&mut self, words: &mut Words) {
-        let name = words.text(words.rest);
+        let name = words.memory.text(words.rest);
         let journal = copy_of(words, &self.journal);
         if self.marks.insert(name, journal).is_err() {
-            words.lose();
+            words.memory.lose();
         }
     }
 
@@ -178,24 +178,24 @@ impl Table {
 
     /// Writes an entry that was read.
     fn push(&mut self, words: &mut Words, entry: Entry) {
-        match entry.try_clone(words.alloc) {
+        match entry.try_clone(words.memory.alloc) {
             Ok(copy) => self.stepped.step(words, copy),
-            Err(_) => words.lose(),
+            Err(_) => words.memory.lose(),
         }
         if self.journal.push(entry).is_err() {
-            words.lose();
+            words.memory.lose();
         }
-        drop(mem::replace(&mut self.library.rows, Rows::new(words.alloc)));
+        drop(mem::replace(&mut self.library.rows, Rows::new(words.memory.alloc)));
     }
 }
 
 /// A copy of a journal.
 fn copy_of(words: &mut Words, journal: &Entries) -> Entries {
-    match journal.try_clone(words.alloc) {
+    match journal.try_clone(words.memory.alloc) {
         Ok(copy) => copy,
         Err(_) => {
-            words.lose();
-            Entries::new(words.alloc)
+            words.memory.lose();
+            Entries::new(words.memory.alloc)
         }
     }
 }

@@ -1,24 +1,23 @@
 //! Lines that are read.
+use cf_rows::Memory;
 use cf_tree::{Dict, Names, Txt, Val};
 use std::alloc::{AllocError, Global};
 
 /// The words of a line that are not read yet. What is out of form, or has no memory, is read as nothing, and told in the end.
 #[derive(Drop)]
 pub struct Words<'a> {
-    pub alloc: Global,
+    pub memory: Memory,
     pub rest: &'a str,
     is_bad: bool,
-    is_lost: bool,
 }
 
 impl<'a> Words<'a> {
     /// The words of a line, with one blank between them.
     pub fn new(alloc: Global, line: &'a str) -> Words<'a> {
         Words {
-            alloc,
+            memory: Memory::new(alloc),
             rest: line,
             is_bad: false,
-            is_lost: false,
         }
     }
 
@@ -27,18 +26,10 @@ impl<'a> Words<'a> {
         self.is_bad = true;
     }
 
-    /// Notes that memory was wanting.
-    pub fn lose(&mut self) {
-        self.is_lost = true;
-    }
-
     /// Whether all that was read was in its form. An error where memory was wanting.
     pub fn are_read(&self) -> Result<bool, AllocError> {
-        if self.is_lost {
-            Err(AllocError)
-        } else {
-            Ok(!self.is_bad)
-        }
+        self.memory.end()?;
+        Ok(!self.is_bad)
     }
 
     /// The next word.
@@ -71,52 +62,25 @@ impl<'a> Words<'a> {
         usual
     }
 
-    /// A copy of a text.
-    pub fn string(&mut self, text: &str) -> String {
-        match String::from_str(self.alloc, text) {
-            Ok(text) => text,
-            Err(_) => {
-                self.is_lost = true;
-                String::new(self.alloc)
-            }
-        }
-    }
-
-    /// The same as a text of entries.
-    pub fn text(&mut self, text: &str) -> Txt {
-        Txt::new(self.string(text))
-    }
-
     /// The next word as a text.
     pub fn name(&mut self) -> Txt {
         let word = self.word();
-        self.text(word)
+        self.memory.text(word)
     }
 
     /// The next word as a text that is empty where it is written as `-`.
     pub fn path(&mut self) -> Txt {
         let word = self.word();
-        self.text(if word == "-" { "" } else { word })
-    }
-
-    /// A copy of bytes.
-    pub fn bytes(&mut self, bytes: &[u8]) -> Vec<u8> {
-        match Vec::from_slice(self.alloc, bytes) {
-            Ok(bytes) => bytes,
-            Err(_) => {
-                self.is_lost = true;
-                Vec::new(self.alloc)
-            }
-        }
+        self.memory.text(if word == "-" { "" } else { word })
     }
 
     /// All further words as names.
     pub fn names(&mut self) -> Names {
-        let mut names = Names::new(self.alloc);
+        let mut names = Names::new(self.memory.alloc);
         for word in self.rest.split_whitespace() {
-            let name = self.text(word);
+            let name = self.memory.text(word);
             if names.push(name).is_err() {
-                self.is_lost = true;
+                self.memory.lose();
             }
         }
         names
@@ -124,7 +88,7 @@ impl<'a> Words<'a> {
 
     /// All further words as properties, `NAME=TEXT ..` or `NAME:VALUE ..`
     pub fn props(&mut self) -> Dict {
-        let mut props = Dict::new(self.alloc);
+        let mut props = Dict::new(self.memory.alloc);
         for word in self.rest.split_whitespace() {
             self.add_property(&mut props, word);
         }
@@ -141,9 +105,9 @@ impl<'a> Words<'a> {
             }
             None => (name, Val::Text(self.unmarked(text))),
         };
-        let name = self.text(name);
+        let name = self.memory.text(name);
         if props.insert(name, value).is_err() {
-            self.is_lost = true;
+            self.memory.lose();
         }
     }
 
@@ -164,7 +128,7 @@ impl<'a> Words<'a> {
 
     /// The text of a word, in which `\s` stands for a blank, `\n` for a line feed and `\\` for one backslash.
     fn unmarked(&mut self, word: &str) -> Txt {
-        let mut text = String::new(self.alloc);
+        let mut text = String::new(self.memory.alloc);
         let mut marked = false;
         for letter in word.chars() {
             let meant = match (marked, letter) {
@@ -174,7 +138,7 @@ impl<'a> Words<'a> {
             };
             marked = !marked && letter == '\\';
             if !marked && text.push(meant).is_err() {
-                self.is_lost = true;
+                self.memory.lose();
             }
         }
         Txt::new(text)

@@ -37,7 +37,7 @@ impl Stepped {
         if self.is_nested {
             drop(entry);
         } else {
-            match self.world.room_for(words.alloc, &entry) {
+            match self.world.room_for(words.memory.alloc, &entry) {
                 Ok(()) => self.world.step(entry),
                 Err(fault) => {
                     drop(entry);
@@ -51,26 +51,26 @@ impl Stepped {
     fn note(&mut self, words: &mut Words, fault: &StepFault) {
         match fault {
             StepFault::Nested => self.is_nested = true,
-            StepFault::NoMemory => words.lose(),
+            StepFault::NoMemory => words.memory.lose(),
         }
     }
 
     /// Begins anew, and steps over each entry of a journal.
     pub fn begin(&mut self, words: &mut Words, journal: &Entries) {
-        drop(mem::replace(&mut self.world, World::new(words.alloc)));
+        drop(mem::replace(&mut self.world, World::new(words.memory.alloc)));
         self.is_nested = false;
         for entry in journal.as_slice() {
-            match entry.try_clone(words.alloc) {
+            match entry.try_clone(words.memory.alloc) {
                 Ok(copy) => self.step(words, copy),
-                Err(_) => words.lose(),
+                Err(_) => words.memory.lose(),
             }
         }
     }
 
     /// Makes room for an entry that is not stepped over.
     pub fn make_room(&mut self, words: &mut Words, entry: &Entry) {
-        if !self.is_nested && self.world.room_for(words.alloc, entry).is_err() {
-            words.lose();
+        if !self.is_nested && self.world.room_for(words.memory.alloc, entry).is_err() {
+            words.memory.lose();
         }
     }
 }

@@ -3,9 +3,9 @@
 //! A row has the bytes between spaces: pairs of hexadecimal digits, and in quotes those of a text. The answer is the entry
 //! that they are, if writing it gives the same bytes again.
 use crate::json::push_object;
-use crate::memory::Memory;
 use crate::told::Told;
 use cf_entry::{Begun, Cause, Entry, Reason, Reply, Why, entry_size, read_entry, write_entry};
+use cf_rows::Memory;
 use cf_tree::{Dict, Request, Row, Source, Txt};
 use std::alloc::{AllocError, Global};
 

@@ -4,9 +4,9 @@
 use crate::fault::eval_fault;
 use crate::heading::Kind;
 use crate::json::{push_object, push_value};
-use crate::memory::Memory;
 use crate::told::Told;
 use cf_eval::{Env, EvalFault, Got, OutputSight, Sight, conditions, eval, eval_props};
+use cf_rows::Memory;
 use cf_template::read_template;
 use cf_tree::{
     Bound, ByName, CondMap, Dict, Expr, ExprDict, Mappings, Pairs, Res, Template, Txt, Val, Vals,

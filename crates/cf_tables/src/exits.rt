@@ -3,7 +3,6 @@
 //! A row names an exit and then its fields between spaces, the last of which may hold spaces. Why a template was not read is
 //! what comes of reading a text: `TemplateRefused Read NAME TEXT`. Why it has no plan is the first flaw of a template,
 //! `TemplateRefused Plan TEMPLATE <- WORDS`, or else the flaw of a nested stack by its name and fields.
-use crate::memory::Memory;
 use crate::pieces::{cut, words_of};
 use crate::plans::first_flaw;
 use crate::told::Told;
@@ -11,6 +10,7 @@ use cf_desired::Flaw;
 use cf_entry::{Cause, Reason, Status};
 use cf_face::{Exit, Refusal, StackFault, print_exit, print_text};
 use cf_io::MemorySink;
+use cf_rows::Memory;
 use cf_template::read_template;
 use cf_tree::{Code, Names};
 

@@ -1,6 +1,6 @@
 //! What is given to parameters, from its text.
-use crate::memory::Memory;
 use cf_param::{Given, Piece};
+use cf_rows::Memory;
 use cf_tree::Txt;
 
 /// The pairs of a text `K=V & L=W` in their order; `K?` is not known yet. `None` where a name comes twice.

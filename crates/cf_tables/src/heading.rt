@@ -1,6 +1,6 @@
 //! Headings: what rows ask for, and the text in which they stand.
-use crate::memory::Memory;
 use crate::stretch::stretched;
+use cf_rows::Memory;
 use std::alloc::{AllocError, Global};
 
 /// What rows ask for.

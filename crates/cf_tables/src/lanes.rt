@@ -4,11 +4,11 @@
 //! ask, their token, an id where they have one, and properties. Behind ` <- ` stands how the first call is broken.
 use crate::evaluating::object_of;
 use crate::json::push_object;
-use crate::memory::Memory;
 use crate::pieces::cut;
 use crate::told::Told;
 use cf_fake::{Break, MemoryHandler, Plan, Planned};
 use cf_handler::{Handler, file_schema, record_schema};
+use cf_rows::Memory;
 use cf_tree::{Answer, Code, NoMemory, Request};
 use std::alloc::Global;
 

@@ -20,7 +20,6 @@ mod given;
 mod heading;
 mod json;
 mod lanes;
-mod memory;
 mod ordering;
 mod pieces;
 mod plans;

@@ -1,5 +1,5 @@
 //! Words of a row.
-use crate::memory::Memory;
+use cf_rows::Memory;
 use cf_tree::Txt;
 
 /// The words of a text, cut at each space; an empty text has none.

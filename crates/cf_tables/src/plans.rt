@@ -10,7 +10,6 @@
 //! outputs, and behind `as` the names that they are exported by; the exports with their values, and then all their names;
 //! the outputs that are not made; and the flaws in the order in which they are met. A resource or an output at fault tells
 //! its flaw by its number.
-use crate::memory::Memory;
 use crate::pieces::cut;
 use crate::scene::{Scene, scene_of};
 use crate::told::Told;
@@ -20,6 +19,7 @@ use cf_desired::{
     plan, plan_text, templates_of, terms_at, whole,
 };
 use cf_eval::EvalFault;
+use cf_rows::Memory;
 use cf_tree::{Names, Txt};
 use std::alloc::{AllocError, Global};
 

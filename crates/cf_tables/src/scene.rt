@@ -7,8 +7,8 @@
 //!   the id `?` is not known yet;
 //! - `import N=V` is an export of another stack.
 use crate::evaluating::object_of;
-use crate::memory::Memory;
 use cf_desired::{Seen, SeenAt};
+use cf_rows::Memory;
 use cf_tree::{Bytes, Pairs, Source, Texts};
 
 /// The source of a stack, and what is seen of its resources.

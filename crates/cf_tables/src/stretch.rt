@@ -1,5 +1,5 @@
 //! Long texts in short rows.
-use crate::memory::Memory;
+use cf_rows::Memory;
 
 /// The text with `<<PIECE*NUMBER>>`, where it has that, replaced by so many copies of the piece; a `#` in the piece is the
 /// number of the copy.

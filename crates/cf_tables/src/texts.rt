@@ -1,9 +1,9 @@
 //! What the calls over texts, values and codes answer.
 use crate::evaluating::object_of;
 use crate::formed::parts_form;
-use crate::memory::Memory;
 use crate::told::Told;
 use cf_funcs::{base64_of, comma_list, number, split};
+use cf_rows::Memory;
 use cf_template::{SubFault, sub_parts};
 use cf_tree::{Code, Val, size_of_val};
 

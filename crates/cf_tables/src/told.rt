@@ -1,5 +1,5 @@
 //! What a row is answered, told piece by piece.
-use crate::memory::Memory;
+use cf_rows::Memory;
 use cf_tree::Txt;
 use serde_json::Value;
 use std::alloc::{AllocError, Global};

@@ -1,7 +1,11 @@
-//! Memory that may be wanting.
+//! What the programs of rows share: memory that may be wanting while a row is read or an answer written. It promises nothing.
+#![tactic(auto)]
+
+use cf_tree::Txt;
 use std::alloc::{AllocError, Global};
 
-/// Where memory is taken from, and whether it was wanting. What has no memory is left out, and the play ends with the line.
+/// Where memory is taken from, and whether it was wanting. What has no memory is left out, and nothing is
+/// answered or played with what was read.
 #[derive(Drop)]
 pub struct Memory {
     pub alloc: Global,
@@ -45,6 +49,11 @@ impl Memory {
                 String::new(self.alloc)
             }
         }
+    }
+
+    /// The same as a text of templates.
+    pub fn text(&mut self, text: &str) -> Txt {
+        Txt::new(self.copy(text))
     }
 
     /// A copy of bytes.
