@@ -1,6 +1,7 @@
 //! The source that an operation works by, with its templates.
 ghost use Rattle.std.specs.Prelude.{◌≡◌, IfOk, Some};
-ghost use Rattle.cf_desired.specs.Plan.{Seen, plan_of};
+ghost use Rattle.cf_desired.specs.Seeing.{Seen};
+ghost use Rattle.cf_desired.specs.Plan.{plan_of};
 ghost use Rattle.cf_desired.specs.Templates.{IsFlat, templates_of};
 ghost use Rattle.cf_desired.specs.Whole.{export_names_of, wanted_at};
 ghost use Rattle.cf_stacks.specs.Changing.{Steps};
@@ -9,7 +10,8 @@ ghost use Rattle.cf_stacks.specs.Fold.{empty_whole, terms_of, whole_over};
 use crate::fault::StepFault;
 use crate::terms::Terms;
 use cf_desired::{
-    Plan, Seen, WholePlan, export_names, is_flat_source, plan, templates_of, terms_at, whole,
+    Plan, Seen, WholePlan, export_names, is_flat_source, plan, shape_of, templates_of, terms_at,
+    whole,
 };
 use cf_export::Outputs;
 use cf_tree::{Listing, Names, Source, Templates, TryClone, Txt};
@@ -91,11 +93,12 @@ impl Going {
     }
 
     /// The policies and needs that it gives a path; they don't rest on what is seen.
-    #[tactic(auto, using(crate::proofs::Termed::terms_so, crate::proofs::Termed::no_terms))]
     pub fn terms(&self, alloc: Global, path: &Txt) -> Result<Terms, AllocError>
         ensures { IfOk result (λ terms. (seen : Seen) → terms ≡ terms_of (wanted_at path.now (plan_of self.now seen))) }
     {
-        match terms_at(alloc, &self.read.source, &self.read.templates, path)? {
+        let seen = Seen::new(alloc);
+        let shape = shape_of(alloc, &self.read.source, &self.read.templates, &seen)?;
+        match terms_at(alloc, &shape, path)? {
             Some(terms) => Ok(Terms {
                 needs: terms.needs,
                 deletion: terms.deletion,
