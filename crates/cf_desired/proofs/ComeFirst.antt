@@ -152,8 +152,8 @@ abbrev pub IfOrdered : Option Template → Type 0
 IfOrdered None = ⊤
 IfOrdered (Some t) = AreOrdered t.resources
 
-pub named_ordered : (name : List ℕ) (source : Source) → IfOrdered (template_named name source)
-named_ordered name source = by_text (value_at name source.texts) where
+pub if_ordered : (name : List ℕ) (source : Source) → IfOrdered (template_named name source)
+if_ordered name source = by_text (value_at name source.texts) where
   by_reading : (r : Result Template TemplateFault) → IfOk r (λ t. AreOrdered t.resources) → IfOrdered (accepted r)
   by_reading (Ok t) h = h
   by_reading (Err f) h = tt
@@ -226,7 +226,7 @@ module _ (lay : Option Laying) (source : Source) (seen : Seen) (lays : LaysFirst
   url_first : (e : Entering) (n : Nesting) (r : Res) (templates members : ℕ) (g : Given) (u : Url) (before : List (List ℕ)) → In before n.needs → BodyWithin before (body_at lay source e n r templates members g u)
   url_first e n r templates members g (no_url f) before k = none_within before
   url_first e n r templates members g (url name) before k =
-      laid_first lay lays n.path name templates members (template_named name source) (named_ordered name source) e n r g before k
+      laid_first lay lays n.path name templates members (template_named name source) (if_ordered name source) e n r g before k
 
   inside_first : (e : Entering) (s : Scope) (c : Course) (n : Nesting) (r : Res) (o : Option Flaw) (before : List (List ℕ)) → In before n.needs
       → Within before (resources_inside (inside_of lay source e s c n r o)) (paths_inside (inside_of lay source e s c n r o))
@@ -433,7 +433,7 @@ told before [] h = tt
 told before (m ∷ ms) h = (all_pass (λ q. is_among q before) m.needs h.0, told (before ++ m.path ∷ []) ms h.1)
 
 pub needs_first : NeedsComeFirst
-needs_first source seen = told [] (resources_in (shape_of source seen)) (either (template_named source.root source) (named_ordered source.root source)) where
+needs_first source seen = told [] (resources_in (shape_of source seen)) (either (template_named source.root source) (if_ordered source.root source)) where
   either : (o : Option Template) → IfOrdered o
       → FirstAll [] (resources_in (option_map_or (λ t. laid 7 source seen (root_of source t) (given_root source) 1 (length t.resources)) o (barred (flaw.TemplateMissing source.root))))
   either None h = tt
@@ -441,7 +441,7 @@ needs_first source seen = told [] (resources_in (shape_of source seen)) (either 
 
 -- all paths in a shape are those of its resources
 pub paths_among : (source : Source) (seen : Seen) → In (paths_of (resources_in (shape_of source seen))) (paths_in (shape_of source seen))
-paths_among source seen = either (template_named source.root source) (named_ordered source.root source) where
+paths_among source seen = either (template_named source.root source) (if_ordered source.root source) where
   either : (o : Option Template) → IfOrdered o
       → In (paths_of (resources_in (option_map_or (λ t. laid 7 source seen (root_of source t) (given_root source) 1 (length t.resources)) o (barred (flaw.TemplateMissing source.root)))))
       (paths_in (option_map_or (λ t. laid 7 source seen (root_of source t) (given_root source) 1 (length t.resources)) o (barred (flaw.TemplateMissing source.root))))

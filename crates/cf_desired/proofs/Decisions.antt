@@ -1,15 +1,12 @@
 -- What the conditions of a template and the needs in it come to.
-use Rattle.std.proofs.Common.{◌≡◌, ℕ, List, [], ◌∷◌, Bool, Option, Some, None, Result, Ok, Err, IfOk, refl, sym, ap, subst, ◌∙◌, map}
-use Rattle.std.specs.Prelude.{⊤, option_and_then}
+use Rattle.std.proofs.Common.{◌≡◌, ℕ, List, [], ◌∷◌, Bool, Option, Some, None, Result, Ok, Err, refl, sym, ap, subst, ◌∙◌, map}
 use Rattle.std.specs.Option.{option_map_or}
-use Rattle.cf_tree.specs.Keys.{value_at}
 use Rattle.cf_tree.specs.declared.bound.Verdict.{Verdict}
 use Rattle.cf_tree.specs.declared.bound.Verdict.TheVariants as verdict
 use Rattle.cf_tree.specs.declared.source.Source.{Source}
 use Rattle.cf_tree.specs.declared.template.Template.{Template}
-use Rattle.cf_template.proofs.Ordered.{AreOrdered, template_ordered}
-use Rattle.cf_template.specs.Whole.{template_of}
-use Rattle.cf_template.specs.declared.refusal.TemplateFault.{TemplateFault}
+use Rattle.cf_template.proofs.Ordered.{AreOrdered}
+use Rattle.cf_desired.proofs.ComeFirst.{IfOrdered, if_ordered}
 use Rattle.cf_eval.specs.declared.fault.EvalFault.{EvalFault}
 use Rattle.cf_eval.specs.Env.{Refuses}
 use Rattle.cf_eval.specs.Outcome.{Outcome, got, later, bad}
@@ -24,7 +21,7 @@ use Rattle.cf_desired.specs.Laying.{by_order, decision_of, ordered_of}
 use Rattle.cf_desired.specs.Seeing.{Seen}
 use Rattle.cf_desired.specs.Shape.{Entering, Laying, body_decided, body_in_order, first_later, verdict_from, verdicts_of}
 use Rattle.cf_desired.specs.Stack.{Stack, Settings, Verdicts}
-use Rattle.cf_desired.specs.Templates.{accepted, template_named}
+use Rattle.cf_desired.specs.Templates.{template_named}
 use Rattle.cf_desired.specs.Work.{Body, halted}
 
 verdict_back : (v : Verdict) → verdict_from (verdict_of v) ≡ v
@@ -56,23 +53,9 @@ module _ (lay : Option Laying) (source : Source) (seen : Seen) (e : Entering) (b
     either None = by_needs (verdicts_of conds) (needs_of e.stack.template (verdicts_of conds))
     either (Some name) = refl
 
--- templates of a source have their resources in order
-abbrev IfOrdered : Option Template → Type 0
-IfOrdered None = ⊤
-IfOrdered (Some t) = AreOrdered t.resources
-
-named : (name : List ℕ) (source : Source) → IfOrdered (template_named name source)
-named name source = by_text (value_at name source.texts) where
-  by_reading : (r : Result Template TemplateFault) → IfOk r (λ t. AreOrdered t.resources) → IfOrdered (accepted r)
-  by_reading (Ok t) h = h
-  by_reading (Err f) h = tt
-
-  by_text : (o : Option (List ℕ)) → IfOrdered (option_and_then (λ bytes. accepted (template_of bytes)) o)
-  by_text None = tt
-  by_text (Some bytes) = by_reading (template_of bytes) (template_ordered bytes)
-
+-- a template of a source has its resources in order
 pub named_ordered : (name : List ℕ) (source : Source) (t : Template) → template_named name source ≡ Some t → AreOrdered t.resources
-named_ordered name source t e = subst IfOrdered e (named name source)
+named_ordered name source t e = subst IfOrdered e (if_ordered name source)
 
 -- where no condition is Later, the order decides
 pub undelayed : (t : Stack) (conds : Verdicts) → first_later (map (λ c. (c.0, verdict_of c.1)) conds) ≡ None

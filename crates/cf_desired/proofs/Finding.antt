@@ -1,4 +1,4 @@
--- A path is found among resources, or among those behind them.
+-- A path is found among resources, or among those behind them; and what is no Some is None.
 use Rattle.std.proofs.Common.{◌≡◌, ℕ, List, [], ◌∷◌, ◌++◌, Bool, true, false, Option, Some, None, refl, ap, option_map}
 use Rattle.std.specs.Prelude.{cond}
 use Rattle.std.specs.Str.{bytes_eq}
@@ -21,9 +21,9 @@ found_first path (x ∷ xs) ys v h = either (found_first path xs ys v) (bytes_eq
   either ih true h = h
   either ih false h = ih h
 
-pub not_some : (o : Option Evaluated) → ((v : Evaluated) → o ≡ Some v → ⊥) → o ≡ None
+pub not_some : {A : Type 0} (o : Option A) → ((a : A) → o ≡ Some a → ⊥) → o ≡ None
 not_some None h = refl
-not_some (Some v) h = absurd (h v refl)
+not_some (Some a) h = absurd (h a refl)
 
 pub found_here : (path : List ℕ) (m : Member) (v : Evaluated) → bytes_eq path m.path ≡ true → option_map (λ r. r.1) (at_path path ((m, v) ∷ [])) ≡ Some v
 found_here path m v h = ap (λ (b : Bool). option_map (λ (r : Member × Evaluated). r.1) (cond b (Some (m, v)) None)) h

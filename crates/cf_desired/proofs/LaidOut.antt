@@ -38,7 +38,7 @@ use Rattle.cf_desired.specs.Templates.{is_stack, template_named}
 use Rattle.cf_desired.specs.Turns.{Entry, a_resource, a_closed, an_opened, turns_along, turns_in, turns_inside}
 use Rattle.cf_desired.specs.Work.{Member, Nesting, Work, Inside, Body, no_work, resource, nested, shut, barred, halted, opened}
 use Rattle.cf_desired.specs.Work as inside
-use Rattle.cf_desired.proofs.ComeFirst.{IfOrdered, named_ordered}
+use Rattle.cf_desired.proofs.ComeFirst.{IfOrdered, if_ordered}
 use Rattle.cf_desired.proofs.Covers.{own_same}
 use Rattle.cf_desired.proofs.Decisions.{body_decides, body_of}
 use Rattle.cf_desired.proofs.Listed.{settings_listed, sights_listed, stand_at, stands_listed}
@@ -429,7 +429,7 @@ way_fits left source stack s templates members path r o w h = subst (IsWay left 
   by_entered name g (Err f) e = tt
   by_entered name g (Ok t) e =
       let so = entered_so left path name templates members (template_named name source) t e in
-      (so.0, (so.1.1, subst IfOrdered so.1.0 (named_ordered name source)))
+      (so.0, (so.1.1, subst IfOrdered so.1.0 (if_ordered name source)))
 
   by_url : (g : Given) (u : Url) → IsWay left templates members (url_way left source path templates members g u)
   by_url g (no_url f) = tt
@@ -522,7 +522,3 @@ pub halted_laid : (n : ℕ) (source : Source) (seen : Seen) (e : Entering) (en :
     → IsLaid source seen en g c (halted e.stack f) l → IsLaid source seen en g c (laid n source seen e g (c.templates + 1) (c.members + length e.stack.template.resources)) l
 halted_laid n source seen e en g c bound pseudo f l b p d h =
     subst (λ x. IsLaid source seen en g c x l) (sym (laid_so n source seen e g (c.templates + 1) (c.members + length e.stack.template.resources) bound pseudo b p (Err f) d)) h
-
-pub no_flaw : (o : Option Flaw) → ((f : Flaw) → o ≡ Some f → ⊥) → o ≡ None
-no_flaw None h = refl
-no_flaw (Some f) h = absurd (h f refl)

@@ -1,16 +1,13 @@
-use Rattle.std.proofs.Common.{◌≡◌, ◌∙◌, ℕ, List, Option, Some, None, ap, refl, sym}
+use Rattle.std.proofs.Common.{◌≡◌, ◌∙◌, ℕ, List, Some, None, ap, refl, sym}
 use Rattle.std.specs.Option.{option_copied}
 use Rattle.cf_param.specs.declared.offered.Piece.{Piece}
 use Rattle.cf_desired.specs.declared.laying.Count.{Count}
 use Rattle.cf_desired.specs.Given.{pieces, unknown}
 use Rattle.cf_desired.specs.Kept.{entering_in}
 use Rattle.cf_desired.specs.Templates.{template_named}
+use Rattle.cf_desired.proofs.Finding.{not_some}
 use Rattle.cf_desired.proofs.LaidBy.{root_few, root_ordered, shape_laid, shape_missing}
 use Rattle.cf_desired.proofs.laying.shape_of.Goals as goal
-
-not_there : {A : Type 0} (o : Option A) → ((a : A) → o ≡ Some a → ⊥) → o ≡ None
-not_there None h = refl
-not_there (Some a) h = absurd (h a refl)
 
 abbrev none : Count
 none = record { templates = 0; members = 0 }
@@ -19,7 +16,7 @@ pub returns-in_default : goal.returns-in_default
 returns-in_default c =
     let source = c.args.source.now in
     let seen = c.args.seen.now in
-    let missing : template_named source.root source ≡ None = sym c.template_named.ensures ∙ ap (λ o. option_copied o) (not_there c.template_named.result c.in_default.not-Some) in
+    let missing : template_named source.root source ≡ None = sym c.template_named.ensures ∙ ap (λ o. option_copied o) (not_some c.template_named.result c.in_default.not-Some) in
     shape_missing source seen unknown none c.in_ok-name.name c.in_ok-laid.laid c.shape_from.result missing c.in_ok-name.ensures refl refl (c.in_ok-laid.ensures.laid source seen unknown)
     c.shape_from.ensures.turns c.shape_from.ensures.templates c.shape_from.ensures.members
 

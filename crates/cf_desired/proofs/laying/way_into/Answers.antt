@@ -6,7 +6,7 @@ use Rattle.cf_desired.specs.Given.{given_in}
 use Rattle.cf_desired.specs.Kept.{url_in, way_in}
 use Rattle.cf_desired.specs.Laying.{Way, url_way, way_by, way_shut}
 use Rattle.cf_desired.specs.Shape.{has_stack_shape, url, url_of}
-use Rattle.cf_desired.proofs.LaidOut.{no_flaw}
+use Rattle.cf_desired.proofs.Finding.{not_some}
 use Rattle.cf_desired.proofs.laying.way_into.Goals as goal
 
 pub returns-in-Named : goal.returns-in-Named
@@ -18,7 +18,7 @@ returns-in-Named c =
     let k = c.args.count.members in
     let path = c.args.inner.now.nesting.path in
     let r = c.args.inner.now.resource.now in
-    let none : c.args.unnamed ≡ None = no_flaw c.args.unnamed c.in_default.not-Some in
+    let none : c.args.unnamed ≡ None = not_some c.args.unnamed c.in_default.not-Some in
     let shape : has_stack_shape r ≡ true = sym c.has_stack_shape.ensures ∙ c.if-not-has_stack_shape.false in
     let named : url_of stack path s r ≡ url c.in-Named.name = sym c.in_ok-name.ensures ∙ ap url_in c.in-Named.is in
     let form = sym c.requires.form in
