@@ -1,5 +1,5 @@
 -- The policies and needs of a path, whatever is seen.
-use Rattle.std.proofs.Common.{◌≡◌, ℕ, List, Option, Some, None, refl, ap, sym, ◌∙◌, option_map}
+use Rattle.std.proofs.Common.{◌≡◌, ℕ, List, Option, Some, None, Result, Ok, Err, IfOk, refl, ap, sym, subst, ◌∙◌, option_map}
 use Rattle.cf_tree.specs.declared.source.Source.{Source}
 use Rattle.cf_desired.specs.declared.shape.Shape as laid
 use Rattle.cf_desired.specs.declared.shape.Terms as planned
@@ -25,20 +25,23 @@ same_terms : (o : Option Wanted) → terms_of o ≡ terms_in (option_map terms_b
 same_terms None = refl
 same_terms (Some w) = refl
 
-module _ (source : Source) (flat : IsFlat source) (shape : laid.Shape) (before : Seen) (is : IsShape shape (shape_of source before)) (path : List ℕ) where
+module _ (shape : laid.Shape) (path : List ℕ) where
   abbrev AreTerms : Option planned.Terms → Type 0
   AreTerms o = (b : Body) → IsShape shape b → o ≡ option_map turned.terms_of (member_at b path)
 
-  so_termed : (o : Option planned.Terms) → AreTerms o → (seen : Seen) → terms_in o ≡ terms_of (wanted_at path (plan_of source seen))
-  so_termed o h seen =
-      ap terms_in
-      (h (shape_of source before) is
-      ∙ ap (λ (b : Body). option_map turned.terms_of (member_at b path)) (sym (flat_stays source flat before seen))
-      ∙ sym (wanted_terms source seen (shape_of source seen) path))
-      ∙ sym (same_terms (wanted_at path (plan_of source seen)))
+  so_termed : (o : Option planned.Terms) → AreTerms o → (source : Source) (seen : Seen) → IsShape shape (shape_of source seen) → terms_in o ≡ terms_of (wanted_at path (plan_of source seen))
+  so_termed o h source seen is =
+      ap terms_in (h (shape_of source seen) is ∙ sym (wanted_terms source seen (shape_of source seen) path)) ∙ sym (same_terms (wanted_at path (plan_of source seen)))
 
-  pub terms_so : (t : planned.Terms) → AreTerms (Some t) → (seen : Seen) → record { needs = t.needs; deletion = t.deletion; replace = t.replace } ≡ terms_of (wanted_at path (plan_of source seen))
+  pub terms_so : (t : planned.Terms) → AreTerms (Some t) → (source : Source) (seen : Seen) → IsShape shape (shape_of source seen)
+      → record { needs = t.needs; deletion = t.deletion; replace = t.replace } ≡ terms_of (wanted_at path (plan_of source seen))
   terms_so t h = so_termed (Some t) h
 
-  pub no_terms : AreTerms None → (seen : Seen) → terms_of None ≡ terms_of (wanted_at path (plan_of source seen))
+  pub no_terms : AreTerms None → (source : Source) (seen : Seen) → IsShape shape (shape_of source seen) → terms_of None ≡ terms_of (wanted_at path (plan_of source seen))
   no_terms h = so_termed None h
+
+-- the shape of a flat source rests on nothing that is seen
+pub flat_shape : {E : Type 0} (source : Source) → IsFlat source → (before : Seen) (r : Result laid.Shape E) → IfOk r (λ s. IsShape s (shape_of source before))
+    → IfOk r (λ s. (any : Seen) → IsShape s (shape_of source any))
+flat_shape source flat before (Err x) is = tt
+flat_shape source flat before (Ok s) is = λ any. subst (IsShape s) (flat_stays source flat any before) is
