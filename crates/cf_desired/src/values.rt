@@ -7,7 +7,7 @@ ghost use Rattle.cf_desired.specs.Kept.{IsShape, entry_in, frame_in, frames_in, 
 ghost use Rattle.cf_desired.specs.Met.{bind_flaw};
 ghost use Rattle.cf_desired.specs.Plan.{at_path, no_plan, output_flaws, plan_by, plan_of, props_at, wanted_of};
 ghost use Rattle.cf_desired.specs.Templates.{templates_of};
-ghost use Rattle.cf_desired.specs.Turns.{entered, outputs_on, plan_after, valued_at, with_exports, with_flaw, with_flaw_of, with_resource, with_roots, with_some_flaw, with_stack, with_unmade};
+ghost use Rattle.cf_desired.specs.Turns.{entered, frames_behind, outputs_on, plan_after, plan_behind, valued_at, with_exports, with_flaw, with_flaw_of, with_resource, with_roots, with_some_flaw, with_stack, with_unmade};
 ghost use Rattle.cf_desired.specs.Valued.{evaluated_at};
 ghost use Rattle.cf_desired.specs.Work.{Body};
 
@@ -62,11 +62,27 @@ pub fn plan_by(
     let mut frames = Vec::new(alloc);
     let mut plan = nothing_wanted(alloc, shape.templates, shape.members);
     for turn in shape.turns.as_slice() {
-        let offered = offered_at(alloc, source, frames.as_slice(), turn)?;
-        add_turn(alloc, source, frames.as_slice(), &mut plan, turn, &offered)?;
-        take_turn(alloc, source, seen, &mut frames, &offered.given, turn)?;
+        pass(alloc, source, seen, &mut frames, &mut plan, turn)?;
     }
     Ok(plan)
+}
+
+/// Passes a turn: what comes with it joins the plan, and the templates that are open behind it take the place of those before.
+fn pass<'a>(
+    alloc: Global,
+    source: &Source,
+    seen: &Seen,
+    frames: &mut Vec<Frame<'a>>,
+    plan: &mut Plan,
+    turn: &'a Turn<'a>,
+) -> Result<(), AllocError>
+    ensures plan { IfOk result (λ _. plan.new ≡ plan_behind source.now (frames_in frames.old.items) plan.old (turn_in turn.now)) }
+    ensures frames { IfOk result (λ _. frames_in frames.new.items ≡ frames_behind source.now seen.now (frames_in frames.old.items) (turn_in turn.now)) }
+{
+    let offered = offered_at(alloc, source, frames.as_slice(), turn)?;
+    add_turn(alloc, source, frames.as_slice(), plan, turn, &offered)?;
+    take_turn(alloc, source, seen, frames, &offered.given, turn)?;
+    Ok(())
 }
 
 /// What the properties of one path come to, over what is seen now; `None` where the shape has no resource there. Besides, only
@@ -161,8 +177,7 @@ fn add_turn(
             add_flaw(alloc, plan, flaw)
         }
         Turn::Halted { entry, stack, flaw } => {
-            let bind = bind_flaw(alloc, stack, &offered.given)?;
-            add_entered(alloc, plan, entry, &offered.flaw, &bind)?;
+            add_bound(alloc, plan, entry, stack, offered)?;
             add_flaw(alloc, plan, flaw)
         }
         Turn::Opened {
@@ -171,8 +186,7 @@ fn add_turn(
             conds,
             own: _,
         } => {
-            let bind = bind_flaw(alloc, stack, &offered.given)?;
-            add_entered(alloc, plan, entry, &offered.flaw, &bind)?;
+            add_bound(alloc, plan, entry, stack, offered)?;
             add_unmade(alloc, plan, entry, stack, conds)
         }
         Turn::Closed => match frames.last() {
@@ -193,6 +207,20 @@ fn bind_flaw(alloc: Global, stack: &Stack, given: &Offer) -> Result<Option<Flaw>
         })),
         None => Ok(None),
     }
+}
+
+/// Adds a template that was entered with what it is given, to which its parameters are bound.
+fn add_bound(
+    alloc: Global,
+    plan: &mut Plan,
+    entry: &Entry,
+    stack: &Stack,
+    offered: &Offered,
+) -> Result<(), AllocError>
+    ensures { IfOk result (λ _. plan.new ≡ entered plan.old (entry_in entry.now) offered.now.flaw (bind_flaw (stack_in stack.now) (offer_in offered.now.given))) }
+{
+    let bind = bind_flaw(alloc, stack, &offered.given)?;
+    add_entered(alloc, plan, entry, &offered.flaw, &bind)
 }
 
 /// Adds a template that was entered: a nested stack with its fault, and the flaws of what it is given and of binding that.

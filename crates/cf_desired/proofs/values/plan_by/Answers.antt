@@ -17,10 +17,8 @@ loop-turn-preserved c =
     let turn = turn_in c.turn-item.result in
     let source = c.args.source.now in
     let split : drop i items ≡ c.turn-item.result ∷ left = drop_more items i c.turn-item.result c.loop-turn-test.true ∙ ap (λ (t : kept_turn.Turn). t ∷ left) (sym c.turn-item.is) in
-    let given = c.in_ok-offered.ensures.given ∙ ap (λ (fs : List kept_frame.Frame). given_at source (frames_in fs) turn) c.as_slice.ensures.value in
-    let flaw = c.in_ok-offered.ensures.flaw ∙ ap (λ (fs : List kept_frame.Frame). flaw_at_turn source (frames_in fs) turn) c.as_slice.ensures.value in
-    let plan = c.in_ok-add_turn.ensures ∙ (λ j. plan_after source (given j) (flaw j) (frames_in (c.as_slice-in-loop-turn.ensures.value j)) c.loop-turn.plan turn) in
-    let frames = c.in_ok-take_turn.ensures ∙ ap (λ (g : Given). frames_after source c.args.seen.now g (frames_in c.loop-turn.frames.items) turn) given in
+    let plan = c.in_ok-pass.ensures.plan in
+    let frames = c.in_ok-pass.ensures.frames in
     c.loop-turn.invariant
     ∙ ap (λ (ts : List kept_turn.Turn). plan_run source c.args.seen.now (frames_in c.loop-turn.frames.items) c.loop-turn.plan (map turn_in ts)) split
     ∙ sym (λ j. plan_run source c.args.seen.now (frames j) (plan j) (map turn_in left))
