@@ -1,7 +1,11 @@
 -- What a new template changes of what a stack holds (User Guide: change sets; DescribeChangeSet). What counts as
 -- unknown, and so which details are Dynamic and which replacements Conditional, is this project's own.
-use Rattle.std.specs.Prelude.{ℕ, zero, suc, Bool, true, false, ◌&&◌, ◌||◌, not, List, [], ◌∷◌, ◌++◌, Option, Some, None, find, filter, flat_map, fold, map, option_map, is_some, if◌then◌else◌}
-use Rattle.std.specs.List.{list_any}
+use Rattle.std.specs.Prelude.{◌≡◌, ⊤, ℕ, Bool, true, false, ◌&&◌, ◌||◌, not, List, [], ◌∷◌, ◌++◌, Option, Some, None, Result, Ok, Err, find, filter, flat_map, fold, map, is_some, if◌then◌else◌}
+use Rattle.cf_change.specs.declared.set.ChangeFault.{ChangeFault}
+use Rattle.cf_change.specs.declared.set.ChangeFault.TheVariants as fault
+use Rattle.cf_change.specs.declared.set.ChangeSet.{ChangeSet}
+use Rattle.cf_desired.specs.Desired.{fault_of}
+use Rattle.std.specs.List.{list_all, list_any}
 use Rattle.std.specs.Option.{option_map_or}
 use Rattle.std.specs.Str.{bytes_eq}
 use Rattle.cf_tree.specs.Datum.{Data}
@@ -23,7 +27,9 @@ use Rattle.cf_tree.specs.declared.template.Deletion.{Deletion}
 use Rattle.cf_tree.specs.declared.template.Deletion.TheVariants as deletion
 use Rattle.cf_tree.specs.declared.template.Replace.{Replace}
 use Rattle.cf_tree.specs.declared.template.Replace.TheVariants as replace
-use Rattle.cf_tree.specs.Lists.{is_among, insert_by}
+use Rattle.cf_tree.specs.Lists.{first_in, is_among, insert_by}
+use Rattle.cf_change.specs.declared.found.Found as kept_found
+use Rattle.cf_change.specs.declared.held.HeldAt as kept_held
 use Rattle.cf_export.specs.declared.Output.{Output}
 use Rattle.cf_schema.specs.declared.described.Schema.{Schema}
 use Rattle.cf_schema.specs.Kinds.{found}
@@ -31,23 +37,22 @@ use Rattle.cf_desired.specs.declared.wanted.Evaluated.TheVariants.{Flawed as fla
 use Rattle.cf_desired.specs.declared.wanted.Exporting.{Exporting}
 use Rattle.cf_desired.specs.declared.wanted.Exporting.TheVariants as exporting
 use Rattle.cf_desired.specs.declared.flaw.Flaw.{Flaw}
+use Rattle.cf_desired.specs.declared.refusal.DesiredFault.{DesiredFault}
+use Rattle.cf_desired.specs.declared.refusal.DesiredFault.TheVariants as unwanted
 use Rattle.cf_desired.specs.declared.seen.SeenAt.{SeenAt}
 use Rattle.cf_desired.specs.declared.wanted.Evaluated.{Evaluated}
+use Rattle.cf_desired.specs.declared.wanted.Plan.{Plan}
 use Rattle.cf_desired.specs.declared.wanted.Wanted.{Wanted}
 use Rattle.cf_desired.specs.declared.wanted.WantedOutput.{WantedOutput}
-use Rattle.cf_desired.specs.Plan.{Seen, plan_of}
-use Rattle.cf_desired.specs.Whole.{wanted_at}
+use Rattle.cf_desired.specs.Plan.{plan_of, props_at, wanted_of}
+use Rattle.cf_desired.specs.Seeing.{Seen, by_names}
+use Rattle.cf_desired.specs.Shape.{in_order, shape_of}
+use Rattle.cf_desired.specs.Valued.{resources_in}
+use Rattle.cf_desired.specs.Work.{Member, Shape}
 
 -- a resource as a stack holds it
-pub record HeldAt : Type 0 where
-  pub path : List ℕ
-  pub kind : List ℕ
-  pub physical : List ℕ
-  pub props : List (List ℕ × Data)
-  pub attrs : List (List ℕ × Data)
-  pub deletion : Deletion
-  pub replace : Replace
-  pub unsure : Bool
+abbrev pub HeldAt : Type 0
+HeldAt = kept_held.HeldAt
 
 abbrev pub resource_held : List ℕ → List HeldAt → Option HeldAt
 resource_held path hs = find (λ h. bytes_eq path h.path) hs
@@ -77,7 +82,7 @@ property_detail g old new name =
 
 -- the names on either side, each once, in byte order
 abbrev pub names_of : List (List ℕ × Data) → List (List ℕ × Option Data) → List (List ℕ)
-names_of old new = map (λ p. p.0) (fold (λ all (n : List ℕ × Bool). put n.0 n.1 all) (map (λ p. (p.0, true)) old) (map (λ p. (p.0, true)) new))
+names_of old new = in_order (map (λ p. p.0) old ++ map (λ p. p.0) new)
 
 abbrev pub property_details : Option Schema → List (List ℕ × Data) → List (List ℕ × Option Data) → List Detail
 property_details g old new = flat_map (property_detail g old new) (names_of old new)
@@ -131,9 +136,12 @@ modify_row h w ds =
     if is_empty ds && not h.unsure then None
     else Some (record { action = action.Modify; path = w.path; kind = w.kind; replacement = Some (replacement_of ds); unsure = h.unsure; details = ds })
 
+abbrev pub details_for : List Schema → HeldAt → Wanted → List Detail
+details_for schemas h w = property_details (found w.kind schemas) h.props (props_or_none w.props) ++ policy_details h w
+
 abbrev pub row_for : List Schema → Option HeldAt → Wanted → Option Row
 row_for schemas None w = Some (record { action = action.Add; path = w.path; kind = w.kind; replacement = None; unsure = false; details = [] })
-row_for schemas (Some h) w = modify_row h w (property_details (found w.kind schemas) h.props (props_or_none w.props) ++ policy_details h w)
+row_for schemas (Some h) w = modify_row h w (details_for schemas h w)
 
 -- What of a resource is seen by those that need it: unknown are the id of one that is added or may be replaced, and the
 -- attributes of one that is added, has a property detail or is unsure.
@@ -159,11 +167,10 @@ abbrev pub seen_after : Option HeldAt → Option Row → SeenAt
 seen_after None row = record { physical = None; attrs = None }
 seen_after (Some h) row = seen_held h row
 
--- The rows are found along the needs: each path is evaluated over what is seen of the paths before it.
-pub record Found : Type 0 where
-  pub rows : List Row
-  pub seen : Seen
-  pub clash : List (List ℕ)
+-- The rows are found along the needs: each path is evaluated over what is seen of the paths before it. Where the shape over what
+-- is seen at the end has no flaw it is the shape over what is held (a law: ShapeIsHeld).
+abbrev pub Found : Type 0
+Found = kept_found.Found
 
 abbrev pub row_list : Option Row → List Row
 row_list None = []
@@ -176,28 +183,30 @@ is_other_kind (Some h) w = not (bytes_eq h.kind w.kind)
 abbrev pub found_with : List Schema → List HeldAt → Found → Wanted → Found
 found_with schemas held f w =
     if is_other_kind (resource_held w.path held) w
-    then record f { clash = f.clash ++ w.path ∷ []; seen = f.seen ++ (w.path, seen_after (resource_held w.path held) None) ∷ [] }
+    then record f { clash = f.clash ++ w.path ∷ []; seen = put w.path (seen_after (resource_held w.path held) None) f.seen }
     else record f {
       rows = f.rows ++ row_list (row_for schemas (resource_held w.path held) w);
-      seen = f.seen
-          ++ (w.path, seen_after (resource_held w.path held) (row_for schemas (resource_held w.path held) w)) ∷ [];
+      seen = put w.path (seen_after (resource_held w.path held) (row_for schemas (resource_held w.path held) w)) f.seen;
     }
 
-abbrev pub found_at : List Schema → List HeldAt → Source → Found → List ℕ → Found
-found_at schemas held source f path = option_map_or (found_with schemas held f) (wanted_at path (plan_of source f.seen)) f
+-- a resource of the shape, over what is seen of those before it
+abbrev pub found_next : List Schema → List HeldAt → Source → Shape → Found → Member → Found
+found_next schemas held source shape f m =
+    option_map_or (λ v. found_with schemas held f (wanted_of (m, v))) (props_at source shape f.seen m.path) f
 
--- the next path in the order of work, over what is seen of those before it
-abbrev pub next_path : Source → Found → Option (List ℕ)
-next_path source f = option_map (λ w. w.path) (find (λ w. not (is_some (value_at w.path f.seen))) (plan_of source f.seen).wanted)
+abbrev pub found_by : List Schema → List HeldAt → Source → Shape → Found
+found_by schemas held source shape = fold (found_next schemas held source shape) (record { rows = []; seen = []; clash = [] }) (resources_in shape)
 
-abbrev pub found_by : ℕ → List Schema → List HeldAt → Source → Found → Found
-found_by zero schemas held source f = f
-found_by (suc left) schemas held source f =
-    option_map_or (λ path. found_by left schemas held source (found_at schemas held source f path)) (next_path source f) f
+-- what is seen of what is held: of two resources at one path the first one
+abbrev pub held_at : HeldAt → List ℕ × SeenAt
+held_at h = (h.path, seen_held h None)
 
--- a stack has 2,000 resources at the most
+abbrev pub held_seen : List HeldAt → Seen
+held_seen held = by_names (map held_at held)
+
+-- along the shape that the source has over what is held
 abbrev pub found_of : List Schema → List HeldAt → Source → Found
-found_of schemas held source = found_by 2000 schemas held source (record { rows = []; seen = []; clash = [] })
+found_of schemas held source = found_by schemas held source (shape_of source (held_seen held))
 
 -- what is held and not wanted any more is removed
 abbrev pub removed_row : HeldAt → Row
@@ -220,10 +229,12 @@ is_same_export None exporting.Nothing = true
 is_same_export (Some a) (exporting.Named b) = bytes_eq a b
 is_same_export _ _ = false
 
+abbrev pub is_same_output : Output → WantedOutput → Bool
+is_same_output h w = bytes_eq h.name w.name && (is_same_text h.value w.value && is_same_export h.export w.export)
+
 abbrev pub are_same_outputs : List Output → List WantedOutput → Bool
 are_same_outputs [] [] = true
-are_same_outputs (h ∷ hs) (w ∷ ws) =
-    bytes_eq h.name w.name && (is_same_text h.value w.value && (is_same_export h.export w.export && are_same_outputs hs ws))
+are_same_outputs (h ∷ hs) (w ∷ ws) = is_same_output h w && are_same_outputs hs ws
 are_same_outputs _ _ = false
 
 abbrev pub is_kept_export : List (List ℕ × Option (List ℕ)) → List ℕ × List ℕ → Bool
@@ -233,7 +244,7 @@ abbrev pub is_old_export : List (List ℕ × List ℕ) → List ℕ × Option (L
 is_old_export old n = list_any (λ e. bytes_eq e.0 n.0 && is_same_text e.1 n.1) old
 
 abbrev pub are_same_exports : List (List ℕ × List ℕ) → List (List ℕ × Option (List ℕ)) → Bool
-are_same_exports old new = not (list_any (λ e. not (is_kept_export new e)) old) && not (list_any (λ n. not (is_old_export old n)) new)
+are_same_exports old new = list_all (is_kept_export new) old && list_all (is_old_export old) new
 
 -- what changes: rows by path, whether the outputs differ or may, the paths that are held with another type, and the flaws of the template
 pub record Changes : Type 0 where
@@ -242,13 +253,42 @@ pub record Changes : Type 0 where
   pub clash : List (List ℕ)
   pub flaws : List Flaw
 
+abbrev pub changes_by : List HeldAt → List Output → List (List ℕ × List ℕ) → Found → Plan → Changes
+changes_by held outputs exports f p = record {
+  rows = fold (insert_by is_row_before) [] (f.rows ++ removed_rows held f.seen);
+  outputs_differ = not (are_same_outputs outputs p.outputs && are_same_exports exports p.exports);
+  clash = f.clash;
+  flaws = p.flaws;
+}
+
 abbrev pub changes_of : List Schema → List HeldAt → List Output → List (List ℕ × List ℕ) → Source → Changes
 changes_of schemas held outputs exports source =
-    let f = found_of schemas held source in
-    let p = plan_of source f.seen in
-    record {
-      rows = fold (insert_by is_row_before) [] (f.rows ++ removed_rows held f.seen);
-      outputs_differ = not (are_same_outputs outputs p.outputs && are_same_exports exports p.exports);
-      clash = f.clash;
-      flaws = p.flaws;
-    }
+    let f = found_of schemas held source in changes_by held outputs exports f (plan_of source f.seen)
+
+-- The answer: the first flaw; else the least path that is held with another type; else that nothing changes; else the set.
+abbrev pub lesser : Option (List ℕ) → List ℕ → Option (List ℕ)
+lesser None path = Some path
+lesser (Some least) path = if bytes_lt path least then Some path else Some least
+
+abbrev pub least_of : List (List ℕ) → Option (List ℕ)
+least_of paths = fold lesser None paths
+
+abbrev pub refusal_by : Option Flaw → Option (List ℕ) → Bool → Option ChangeFault
+refusal_by (Some f) clash same = Some (fault.Plan (fault_of f))
+refusal_by None (Some path) same = Some (fault.TypeChanged path)
+refusal_by None None true = Some fault.NoChanges
+refusal_by None None false = None
+
+abbrev pub refusal_of : Changes → Option ChangeFault
+refusal_of c = refusal_by (first_in c.flaws) (least_of c.clash) (is_empty c.rows && not c.outputs_differ)
+
+-- why there is no plan, as a refusal of the change set
+abbrev pub refused : DesiredFault → ChangeFault
+refused unwanted.NoMemory = fault.NoMemory
+refused f = fault.Plan f
+
+-- the set, where nothing refuses it; or why; of want of memory nothing is said
+abbrev pub Changed : Changes → Result ChangeSet ChangeFault → Type 0
+Changed c (Ok set) = (refusal_of c ≡ None) × (set ≡ record { rows = c.rows; outputs_differ = c.outputs_differ })
+Changed c (Err fault.NoMemory) = ⊤
+Changed c (Err f) = refusal_of c ≡ Some f

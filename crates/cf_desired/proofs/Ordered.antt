@@ -13,8 +13,8 @@ use Rattle.cf_eval.specs.Gives.{found_of}
 use Rattle.cf_eval.specs.Scope.{Scope}
 use Rattle.cf_eval.specs.Texts.{Found}
 use Rattle.cf_desired.specs.declared.wanted.Evaluated.{Evaluated}
-use Rattle.cf_desired.specs.Evaluate.{value_in}
-use Rattle.cf_desired.specs.Flat.{taken}
+use Rattle.cf_desired.specs.Stack.{value_in}
+use Rattle.cf_desired.specs.Kept.{taken}
 use Rattle.cf_desired.proofs.Properties.{next_prop, props_after}
 use Rattle.cf_desired.proofs.Kept.{both, past, rest_ascends}
 

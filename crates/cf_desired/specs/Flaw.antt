@@ -1,4 +1,4 @@
--- Why a template can't be what a stack is to be.
+-- Why a template can't be what a stack is to be (which flaws there are is this project's own).
 use Rattle.cf_graph.specs.Needs.{Tangle, unknown, circular}
 use Rattle.cf_graph.specs.declared.fault.GraphFault.{GraphFault}
 use Rattle.cf_graph.specs.declared.fault.GraphFault.TheVariants as tangled

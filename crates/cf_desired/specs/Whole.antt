@@ -1,4 +1,4 @@
--- A source's plan as it is needed once all is known, and what of it rests on no resource.
+-- A source's plan as it is needed once all is known, and what of it rests on no resource (this project's own).
 use Rattle.std.specs.Prelude.{ℕ, Bool, List, [], ◌∷◌, Option, Some, None, find, map, option_map}
 use Rattle.std.specs.Option.{option_map_or}
 use Rattle.std.specs.Str.{bytes_eq}
@@ -15,7 +15,8 @@ use Rattle.cf_desired.specs.declared.wanted.Evaluated.{Evaluated}
 use Rattle.cf_desired.specs.declared.wanted.Wanted.{Wanted}
 use Rattle.cf_desired.specs.declared.wanted.WantedOutput.{WantedOutput}
 use Rattle.cf_desired.specs.declared.wanted.Plan.{Plan}
-use Rattle.cf_desired.specs.Plan.{Seen, plan_of}
+use Rattle.cf_desired.specs.Plan.{plan_of}
+use Rattle.cf_desired.specs.Seeing.{Seen}
 
 -- the plan of a path
 abbrev pub is_wanted_at : List ℕ → Wanted → Bool

@@ -1,37 +1,34 @@
-//! What the resources and outputs of a root template are planned over.
+//! What the resources and outputs of a stack are evaluated over.
 ghost use Rattle.std.specs.Prelude.{◌≡◌};
 ghost use Rattle.cf_eval.specs.Env.{scope_in};
-ghost use Rattle.cf_desired.specs.Flat.{scope_over};
+ghost use Rattle.cf_desired.specs.Kept.{scope_by};
 
-use crate::seen::Seen;
+use crate::shape::Stack;
 use cf_eval::{Env, Sight};
-use cf_tree::{Bound, ByName, CondMap, Dict, Source, Template, Txt};
+use cf_tree::{Bound, ByName, CondMap, Dict, Source};
 
-/// What the resources and outputs of a root template are planned over.
+/// What the resources and outputs of a stack are evaluated over, but for what is seen of its resources.
 #[derive(Drop)]
 pub(crate) struct Ground<'a> {
     pub source: &'a Source,
-    pub template: &'a Template,
-    pub seen: &'a Seen,
+    pub stack: &'a Stack<'a>,
     pub bound: &'a Bound,
     pub conds: &'a CondMap,
     pub pseudo: &'a Dict,
-    /// The path of the root, which is empty.
-    pub root: &'a Txt,
 }
 
 /// What expressions are evaluated over, where this is seen of the resources.
 pub(crate) fn env_over<'a>(ground: &'a Ground, sights: &'a ByName<Sight>) -> Env<'a>
-    ensures scope { scope_in result ≡ scope_over ground.now sights.now }
-    ensures stack { result.stack.now ≡ ground.now.root.now }
+    ensures scope { scope_in result ≡ scope_by ground.now sights.now }
+    ensures stack { result.stack.now ≡ ground.now.stack.now.path }
 {
     Env {
         bound: ground.bound,
-        mappings: &ground.template.mappings,
+        mappings: &ground.stack.template.mappings,
         conds: ground.conds,
         seen: sights,
         imports: &ground.source.imports,
         pseudo: ground.pseudo,
-        stack: ground.root,
+        stack: &ground.stack.path,
     }
 }

@@ -3,36 +3,45 @@
 
 mod binding;
 mod copies;
-mod course;
+mod decision;
 mod exports;
 mod flaw;
+mod frames;
 mod ground;
 mod laws;
+mod laying;
+mod members;
+mod names;
+mod offers;
 mod outputs;
-mod planning;
 mod props;
 mod pseudo;
 mod refusal;
 mod seen;
+mod shape;
+mod sights;
 mod templates;
-mod terms;
 mod text;
 mod told;
+mod urls;
+mod values;
 mod wanted;
 mod whole_plan;
 
 pub use exports::export_names;
 pub use flaw::{Flaw, Flaws};
 pub use laws::{
-    all_known_is_whole, known_stays, needed_is_known, needs_come_first, needs_matter, none_nested,
-    seen_is_known, terms_stay,
+    all_known_is_whole, flat_stays, flawless_is_clear, forward_serves, hiding_serves, known_stays,
+    needed_is_known, needs_come_first, needs_matter, order_tells_needs, output_rests,
+    seen_is_known, shape_stays, stack_needs_matter, update_stays, value_rests,
 };
-pub use planning::plan;
+pub use laying::shape_of;
 pub use props::{Prop, Props};
 pub use refusal::{Desired, DesiredFault, desired};
 pub use seen::{Seen, SeenAt};
+pub use shape::{Shape, Terms, all_terms, terms_at};
 pub use templates::{is_flat, is_flat_source, templates_of};
-pub use terms::{Terms, terms_at};
 pub use text::plan_text;
+pub use values::{plan, plan_by, props_at};
 pub use wanted::{Evaluated, Exporting, Inner, Plan, Wanted, WantedOutput};
 pub use whole_plan::{Right, WholePlan, whole};

@@ -1,53 +1,38 @@
-//! The outputs of a root template.
-ghost use Rattle.std.specs.Prelude.{◌≡◌, [], ◌++◌, IfOk, option_map};
+//! The outputs of a stack.
+ghost use Rattle.std.specs.Prelude.{◌≡◌, IfOk, filter, map, not, option_map};
 ghost use Rattle.std.specs.List.{flat_map};
 ghost use Rattle.std.specs.Option.{option_or};
-ghost use Rattle.cf_desired.specs.Evaluate.{flaw_at, text_in};
-ghost use Rattle.cf_desired.specs.Plan.{export_stop, exported, exporting_in, is_output_made, output_flaw, output_flaws, output_place, stop_in, value_seen};
-ghost use Rattle.cf_desired.specs.Flat.{entering, output_by, outputs_joined, outputs_over, unmade_of};
 ghost use Rattle.cf_eval.specs.Env.{scope_in};
+ghost use Rattle.cf_desired.specs.Kept.{blame_at, stack_in};
+ghost use Rattle.cf_desired.specs.Met.{exporting_in, output_at, outputs_wanted};
+ghost use Rattle.cf_desired.specs.Plan.{exported};
+ghost use Rattle.cf_desired.specs.Seeing.{by_names, export_stop, is_output_made, output_sights, output_stop, sight_of_output, text_in, text_known, unnamed_output};
+ghost use Rattle.cf_desired.specs.Stack.{stop_in};
+ghost use Rattle.cf_desired.specs.Turns.{unmade_of};
 
-use crate::course::{Course, is_declared};
-use crate::flaw::{Flaw, Flaws};
-use crate::ground::{Ground, env_over};
-use crate::told::{Told, text_told, wrong_kind};
-use crate::wanted::{Exporting, Plan, WantedOutput};
-use cf_eval::{Env, EvalWhy, Sight};
+use crate::members::is_declared;
+use crate::names::{output_attribute, output_place};
+use crate::shape::Stack;
+use crate::told::{Blame, Told, some_flaw_by, text_told, wrong_kind};
+use crate::wanted::{Exporting, WantedOutput};
+use cf_eval::{Env, EvalWhy, OutputSight};
 use cf_tree::{ByName, CondMap, Listing, Names, Out, TryClone, Txt, Verdict};
 use std::alloc::{AllocError, Global};
 
-/// The plan with the outputs whose condition isn't false, over what is seen of the resources.
-pub(crate) fn with_outputs(
+/// The outputs whose condition isn't false.
+pub(crate) fn outputs_over(
     alloc: Global,
-    ground: &Ground,
-    course: Course,
-) -> Result<Plan, AllocError>
-    requires root { ground.now.root.now ≡ [] }
-    ensures { IfOk result (λ p. p ≡ outputs_joined ground.now course) }
-{
-    let outputs = outputs_over(alloc, ground, &course.sights)?;
-    let unmade = unmade(alloc, ground)?;
-    let mut plan = course.plan;
-    add_exports(alloc, &mut plan.exports, outputs.as_slice())?;
-    add_flaws(alloc, &mut plan.flaws, outputs.as_slice())?;
-    plan.outputs = outputs;
-    plan.unmade = unmade;
-    Ok(plan)
-}
-
-fn outputs_over(
-    alloc: Global,
-    ground: &Ground,
-    sights: &ByName<Sight>,
+    stack: &Stack,
+    conds: &CondMap,
+    env: &Env,
 ) -> Result<Listing<WantedOutput>, AllocError>
-    requires root { ground.now.root.now ≡ [] }
-    ensures { IfOk result (λ outputs. outputs ≡ outputs_over ground.now sights.now) }
+    requires stack { env.now.stack.now ≡ stack.now.path }
+    ensures { IfOk result (λ outputs. outputs ≡ outputs_wanted (stack_in stack.now) conds.now (scope_in env.now)) }
 {
-    let env = env_over(ground, sights);
     let mut outputs = Listing::new(alloc);
-    for output in ground.template.outputs.as_slice() {
-        if is_output_made(ground.conds, output) {
-            outputs.push(output_over(alloc, ground, &env, output)?)?;
+    for output in stack.template.outputs.as_slice() {
+        if is_output_made(conds, output) {
+            outputs.push(output_over(alloc, conds, env, output)?)?;
         }
     }
     Ok(outputs)
@@ -64,164 +49,214 @@ fn is_output_made(conds: &CondMap, output: &Out) -> bool
 }
 
 /// The names of the outputs whose condition is false.
-fn unmade(alloc: Global, ground: &Ground) -> Result<Names, AllocError>
-    ensures { IfOk result (λ names. names ≡ unmade_of ground.now) }
+pub(crate) fn unmade(alloc: Global, stack: &Stack, conds: &CondMap) -> Result<Names, AllocError>
+    ensures { IfOk result (λ names. names ≡ unmade_of (stack_in stack.now) conds.now) }
 {
     let mut names = Names::new(alloc);
-    for output in ground.template.outputs.as_slice() {
-        if !is_output_made(ground.conds, output) {
+    for output in stack.template.outputs.as_slice() {
+        if !is_output_made(conds, output) {
             names.push(output.name.try_clone(alloc)?)?;
         }
     }
     Ok(names)
 }
 
+/// What is seen of the outputs of a stack, under the attributes that name them. Of outputs of one name the first counts.
+pub(crate) fn output_sights(
+    alloc: Global,
+    stack: &Stack,
+    conds: &CondMap,
+    env: &Env,
+) -> Result<ByName<OutputSight>, AllocError>
+    requires stack { env.now.stack.now ≡ stack.now.path }
+    ensures { IfOk result (λ seen. seen ≡ by_names (output_sights (stack_in stack.now) conds.now (scope_in env.now))) }
+{
+    let outputs = stack.template.outputs.as_slice();
+    let mut seen = ByName::new(alloc);
+    let mut at = outputs.len();
+    while at > 0 {
+        at -= 1;
+        let output = &outputs[at];
+        let sight = output_sight(alloc, conds, env, output)?;
+        seen.insert(output_attribute(alloc, &output.name)?, sight)?;
+    }
+    Ok(seen)
+}
+
+/// What is seen of an output.
+#[tactic(auto, using(crate::proofs::Blames::made_sight))]
+fn output_sight(
+    alloc: Global,
+    conds: &CondMap,
+    env: &Env,
+    output: &Out,
+) -> Result<OutputSight, AllocError>
+    ensures { IfOk result (λ sight. sight ≡ sight_of_output env.now.stack.now conds.now (scope_in env.now) output.now) }
+{
+    if !is_output_made(conds, output) {
+        return Ok(OutputSight::NotMade);
+    }
+    let OutputTold {
+        value,
+        export: _,
+        blame,
+    } = output_told(alloc, conds, env, output)?;
+    match blame {
+        Some(blame) => Ok(OutputSight::Broken {
+            why: blame.why,
+            stack: blame.stack,
+            at: blame.at,
+        }),
+        None => Ok(OutputSight::Made { value }),
+    }
+}
+
 /// What is wanted of an output.
+#[tactic(auto, using(crate::proofs::Blames::some_blamed))]
 fn output_over(
     alloc: Global,
-    ground: &Ground,
+    conds: &CondMap,
     env: &Env,
     output: &Out,
 ) -> Result<WantedOutput, AllocError>
-    requires root { ground.now.root.now ≡ [] }
-    requires stack { env.now.stack.now ≡ [] }
-    ensures { IfOk result (λ o. o ≡ output_by (scope_in env.now) (output_flaw (entering ground.now) ground.now.conds.now output.now) output.now) }
+    ensures { IfOk result (λ o. o ≡ output_at env.now.stack.now conds.now (scope_in env.now) output.now) }
 {
     let name = output.name.try_clone(alloc)?;
-    let undeclared = condition_flaw(alloc, ground, output)?;
-    let export = export_told(alloc, output, env)?;
-    let value = value_told(alloc, output, env)?;
-    Ok(put_together(name, undeclared, export, value))
+    let OutputTold {
+        value,
+        export,
+        blame,
+    } = output_told(alloc, conds, env, output)?;
+    Ok(WantedOutput {
+        name,
+        value,
+        export,
+        fault: some_flaw_by(blame),
+    })
 }
 
-/// An output. Of its faults that of its condition comes first, then that of its export, then that of its value.
-fn put_together(
-    name: Txt,
-    undeclared: Option<Flaw>,
-    exported: ExportTold,
-    known: ValueTold,
-) -> WantedOutput
-    ensures name { result.name ≡ name }
-    ensures value { result.value ≡ known.value }
-    ensures export { result.export ≡ exported.export }
-    ensures fault { result.fault ≡ option_or (option_or undeclared exported.flaw) known.flaw }
+/// What an output comes to.
+#[derive(Drop)]
+struct OutputTold {
+    value: Option<Txt>,
+    export: Exporting,
+    blame: Option<Blame>,
+}
+
+/// What an output comes to. Of its faults that of its condition comes first, then that of its export, then that of its value.
+#[tactic(auto, using(crate::proofs::Blames::first_blamed))]
+fn output_told(
+    alloc: Global,
+    conds: &CondMap,
+    env: &Env,
+    output: &Out,
+) -> Result<OutputTold, AllocError>
+    ensures value { IfOk result (λ r. r.value ≡ text_known (text_in (scope_in env.now) output.now.value)) }
+    ensures export { IfOk result (λ r. r.export ≡ exporting_in (scope_in env.now) output.now.export) }
+    ensures blame { IfOk result (λ r. r.blame ≡ option_map (blame_at env.now.stack.now) (output_stop conds.now (scope_in env.now) output.now)) }
 {
-    WantedOutput {
-        name,
+    let undeclared = condition_blame(alloc, conds, env.stack, output)?;
+    let exported = export_told(alloc, output, env)?;
+    let known = value_told(alloc, output, env)?;
+    Ok(OutputTold {
         value: known.value,
         export: exported.export,
-        fault: undeclared.or(exported.flaw).or(known.flaw),
-    }
+        blame: undeclared.or(exported.blame.or(known.blame)),
+    })
 }
 
-/// The flaw of an output whose condition is not declared.
-fn condition_flaw(alloc: Global, ground: &Ground, output: &Out) -> Result<Option<Flaw>, AllocError>
-    requires root { ground.now.root.now ≡ [] }
-    ensures { IfOk result (λ f. f ≡ option_map (flaw_at []) (output_flaw (entering ground.now) ground.now.conds.now output.now)) }
+/// What is to blame where the condition of an output is not declared.
+fn condition_blame(
+    alloc: Global,
+    conds: &CondMap,
+    stack: &Txt,
+    output: &Out,
+) -> Result<Option<Blame>, AllocError>
+    ensures { IfOk result (λ b. b ≡ option_map (blame_at stack.now) (unnamed_output conds.now output.now)) }
 {
-    if is_declared(ground.conds, &output.condition) {
+    if is_declared(conds, &output.condition) {
         return Ok(None);
     }
-    Ok(Some(Flaw::Eval {
+    Ok(Some(Blame {
         why: EvalWhy::UnknownName,
-        stack: ground.root.try_clone(alloc)?,
+        stack: stack.try_clone(alloc)?,
         at: output_place(alloc, &output.name)?,
     }))
 }
 
-/// The place of an output's condition.
-fn output_place(alloc: Global, name: &Txt) -> Result<Txt, AllocError>
-    ensures { IfOk result (λ place. place ≡ output_place name.now) }
-{
-    let name = name.as_str();
-    Ok(Txt::new(format!(in alloc; "/Outputs/{name}/Condition")?))
-}
-
-/// The name that an output is exported by, and the flaw of that.
+/// The name that an output is exported by, and what is to blame where that is at fault.
 #[derive(Drop)]
 struct ExportTold {
     export: Exporting,
-    flaw: Option<Flaw>,
+    blame: Option<Blame>,
 }
 
 /// The name that an output is exported by, which may not be Later.
 fn export_told(alloc: Global, output: &Out, env: &Env) -> Result<ExportTold, AllocError>
     ensures export { IfOk result (λ r. r.export ≡ exporting_in (scope_in env.now) output.now.export) }
-    ensures flaw { IfOk result (λ r. r.flaw ≡ option_map (flaw_at env.now.stack.now) (export_stop (scope_in env.now) output.now.export)) }
+    ensures blame { IfOk result (λ r. r.blame ≡ option_map (blame_at env.now.stack.now) (export_stop (scope_in env.now) output.now.export)) }
 {
     let Some(expr) = &output.export else {
         return Ok(ExportTold {
             export: Exporting::Nothing,
-            flaw: None,
+            blame: None,
         });
     };
     match text_told(alloc, expr, env)? {
         Told::Text { text } => Ok(ExportTold {
             export: Exporting::Named { name: text },
-            flaw: None,
+            blame: None,
         }),
         Told::Later => Ok(ExportTold {
             export: Exporting::Fault,
-            flaw: Some(wrong_kind(alloc, env.stack, expr)?),
+            blame: Some(wrong_kind(alloc, env.stack, expr.at())?),
         }),
-        Told::Flawed { flaw } => Ok(ExportTold {
+        Told::Bad { blame } => Ok(ExportTold {
             export: Exporting::Fault,
-            flaw: Some(flaw),
+            blame: Some(blame),
         }),
     }
 }
 
-/// The value of an output, where it is known, and the flaw of that.
+/// The value of an output, where it is known, and what is to blame where it is at fault.
 #[derive(Drop)]
 struct ValueTold {
     value: Option<Txt>,
-    flaw: Option<Flaw>,
+    blame: Option<Blame>,
 }
 
 fn value_told(alloc: Global, output: &Out, env: &Env) -> Result<ValueTold, AllocError>
-    ensures value { IfOk result (λ r. r.value ≡ value_seen (text_in (scope_in env.now) output.now.value)) }
-    ensures flaw { IfOk result (λ r. r.flaw ≡ option_map (flaw_at env.now.stack.now) (stop_in (text_in (scope_in env.now) output.now.value))) }
+    ensures value { IfOk result (λ r. r.value ≡ text_known (text_in (scope_in env.now) output.now.value)) }
+    ensures blame { IfOk result (λ r. r.blame ≡ option_map (blame_at env.now.stack.now) (stop_in (text_in (scope_in env.now) output.now.value))) }
 {
     match text_told(alloc, &output.value, env)? {
         Told::Text { text } => Ok(ValueTold {
             value: Some(text),
-            flaw: None,
+            blame: None,
         }),
         Told::Later => Ok(ValueTold {
             value: None,
-            flaw: None,
+            blame: None,
         }),
-        Told::Flawed { flaw } => Ok(ValueTold {
+        Told::Bad { blame } => Ok(ValueTold {
             value: None,
-            flaw: Some(flaw),
+            blame: Some(blame),
         }),
     }
 }
 
-/// Adds the exports of outputs with their values.
-fn add_exports(
+/// The exports of outputs with their values.
+pub(crate) fn exports(
     alloc: Global,
-    exports: &mut Listing<(Txt, Option<Txt>)>,
     outputs: &[WantedOutput],
-) -> Result<(), AllocError>
-    ensures { IfOk result (λ _. exports.new ≡ exports.old ++ flat_map exported outputs.now) }
+) -> Result<Listing<(Txt, Option<Txt>)>, AllocError>
+    ensures { IfOk result (λ es. es ≡ flat_map exported outputs.now) }
 {
+    let mut exports = Listing::new(alloc);
     for output in outputs {
         if let Exporting::Named { name } = &output.export {
             exports.push((name.try_clone(alloc)?, output.value.try_clone(alloc)?))?;
         }
     }
-    Ok(())
-}
-
-/// Adds the flaws of outputs.
-fn add_flaws(alloc: Global, flaws: &mut Flaws, outputs: &[WantedOutput]) -> Result<(), AllocError>
-    ensures { IfOk result (λ _. flaws.new ≡ flaws.old ++ flat_map output_flaws outputs.now) }
-{
-    for output in outputs {
-        if let Some(flaw) = &output.fault {
-            flaws.push(flaw.try_clone(alloc)?)?;
-        }
-    }
-    Ok(())
+    Ok(exports)
 }

@@ -39,7 +39,7 @@ fn put(alloc: Global, pseudo: &mut Dict, name: &str, value: &str) -> Result<(), 
 
 /// The id of a stack.
 #[tactic(auto, using(crate::proofs::Joined::four_parts))]
-fn stack_id(alloc: Global, name: &Txt, number: u64) -> Result<String, AllocError>
+pub(crate) fn stack_id(alloc: Global, name: &Txt, number: u64) -> Result<String, AllocError>
     ensures { IfOk result (λ id. string_bytes id ≡ stack_id name.now number) }
 {
     let digits = number.to_string(alloc)?;

@@ -3,11 +3,11 @@ ghost use Rattle.std.specs.Prelude.{◌≡◌, IfOk, option_map};
 ghost use Rattle.cf_tree.specs.Lists.{first_in};
 ghost use Rattle.cf_desired.specs.Desired.{Desires, fault_of};
 ghost use Rattle.cf_desired.specs.Plan.{plan_of};
-ghost use Rattle.cf_desired.specs.Templates.{IsFlat, templates_of};
+ghost use Rattle.cf_desired.specs.Templates.{templates_of};
 
 use crate::flaw::Flaw;
-use crate::planning::plan;
 use crate::seen::Seen;
+use crate::values::plan;
 use crate::wanted::Plan;
 use cf_eval::EvalFault;
 use cf_graph::GraphFault;
@@ -44,13 +44,13 @@ pub enum DesiredFault {
     NoMemory,
 }
 
-/// What a source whose root template holds no nested stack wants of each path, over what is seen: its plan, in which a
-/// property, an output or an export may not be known yet.
+/// What a source wants of each path, over what is seen: its plan, in which a property, an output or an export may not be known
+/// yet.
 ///
 /// # Errors
 ///
 /// The first flaw exactly where there is one, in this order: of the parameters, the conditions, the order of work, the
-/// resources in that order, the outputs. `NoMemory` may come anywhere.
+/// resources in that order, a nested stack in its place by the same order, the outputs. `NoMemory` may come anywhere.
 pub fn desired(
     alloc: Global,
     source: &Source,
@@ -58,7 +58,6 @@ pub fn desired(
     seen: &Seen,
 ) -> Result<Desired, DesiredFault>
     requires templates { templates.now ≡ templates_of source.now }
-    requires flat { IsFlat source.now }
     ensures { Desires (plan_of source.now seen.now) result }
 {
     let Ok(plan) = plan(alloc, source, templates, seen) else {

@@ -2,8 +2,7 @@
 ghost use Rattle.std.specs.Prelude.{◌≡◌, [], ◌∷◌, ◌++◌, IfOk, filter_map, true};
 ghost use Rattle.std.specs.Option.{option_copied, option_map_or};
 ghost use Rattle.cf_template.specs.Whole.{template_of};
-ghost use Rattle.cf_desired.specs.Plan.{accepted, is_stack, template_named};
-ghost use Rattle.cf_desired.specs.Templates.{is_flat, template_under, templates_of};
+ghost use Rattle.cf_desired.specs.Templates.{accepted, is_flat, is_stack, template_named, template_under, templates_of};
 
 use cf_template::{TemplateFault, read_template};
 use cf_tree::{ByName, Bytes, Res, Source, Template, Templates, Txt};
@@ -52,14 +51,18 @@ fn template_of(alloc: Global, text: &Bytes) -> Result<Option<Template>, AllocErr
     }
 }
 
-/// The template that a source begins with, where there is one.
-pub(crate) fn root_template<'a>(source: &Source, templates: &'a Templates) -> Option<&'a Template>
+/// The template of a name among the texts of a source, where there is one.
+pub(crate) fn template_named<'a>(
+    source: &Source,
+    templates: &'a Templates,
+    name: &Txt,
+) -> Option<&'a Template>
     requires { templates.now ≡ templates_of source.now }
-    ensures { option_copied result ≡ template_named source.now.root source.now }
+    ensures { option_copied result ≡ template_named name.now source.now }
 {
     // Each name has one text, since the names of the texts ascend.
     let _texts = source.texts.as_slice();
-    templates.get(source.root.as_str())
+    templates.get(name.as_str())
 }
 
 /// Whether the root template of a source, where there is one, holds no nested stack.
@@ -67,7 +70,7 @@ pub fn is_flat_source(source: &Source, templates: &Templates) -> bool
     requires { templates.now ≡ templates_of source.now }
     ensures { result ≡ option_map_or is_flat (template_named source.now.root source.now) true }
 {
-    match root_template(source, templates) {
+    match template_named(source, templates, &source.root) {
         Some(template) => is_flat(template),
         None => true,
     }
@@ -86,7 +89,7 @@ pub fn is_flat(template: &Template) -> bool
 }
 
 /// Whether a resource is a nested stack.
-fn is_stack(resource: &Res) -> bool
+pub(crate) fn is_stack(resource: &Res) -> bool
     ensures { result ≡ is_stack resource.now }
 {
     resource.kind.as_str() == "AWS::CloudFormation::Stack"

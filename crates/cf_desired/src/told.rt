@@ -1,5 +1,6 @@
 //! Evaluations, with their faults as flaws.
-ghost use Rattle.std.specs.Prelude.{◌≡◌, [], ◌∷◌, ◌++◌, IfOk, IsTrue, None};
+ghost use Rattle.std.specs.Prelude.{◌≡◌, [], ◌∷◌, ◌++◌, IfOk, IsTrue, None, option_map};
+ghost use Rattle.cf_tree.specs.Datum.{list, items_of};
 ghost use Rattle.cf_tree.specs.Keys.{ascends};
 ghost use Rattle.cf_tree.specs.Forms.{place_of};
 ghost use Rattle.cf_tree.specs.Value.{datum_of};
@@ -7,8 +8,9 @@ ghost use Rattle.cf_eval.specs.Env.{scope_in};
 ghost use Rattle.cf_eval.specs.Outcome.{fault};
 ghost use Rattle.cf_eval.specs.Texts.{text_of};
 ghost use Rattle.cf_eval.specs.declared.fault.EvalWhy.TheVariants.{WrongKind};
-ghost use Rattle.cf_desired.specs.Evaluate.{flaw_at, props_in, text_in};
-ghost use Rattle.cf_desired.specs.Flat.{evaluated_as, IsFlawOf, taken, told_as};
+ghost use Rattle.cf_desired.specs.Kept.{IsBlameOf, blame_at, flaw_by, taken, told_as};
+ghost use Rattle.cf_desired.specs.Seeing.{text_in};
+ghost use Rattle.cf_desired.specs.Stack.{props_in};
 
 use crate::flaw::Flaw;
 use crate::props::Props;
@@ -17,13 +19,21 @@ use cf_eval::{Env, EvalFault, EvalWhy, Got, eval};
 use cf_tree::{Expr, ExprDict, Txt, Val};
 use std::alloc::{AllocError, Global};
 
+/// Why an evaluation failed, in the stack at a path, at a place of its template.
+#[derive(Drop)]
+pub(crate) struct Blame {
+    pub why: EvalWhy,
+    pub stack: Txt,
+    pub at: Txt,
+}
+
 /// What an expression that is wanted as a text comes to.
 #[derive(Drop)]
 pub(crate) enum Told {
     Text { text: Txt },
     /// It rests on something that is not known yet.
     Later,
-    Flawed { flaw: Flaw },
+    Bad { blame: Blame },
 }
 
 /// What properties come to, one by one: a property that is `AWS::NoValue` is left out, and the first fault is the answer.
@@ -33,7 +43,7 @@ pub(crate) fn properties(
     props: &ExprDict,
     env: &Env,
 ) -> Result<Evaluated, AllocError>
-    ensures { IfOk result (λ e. e ≡ evaluated_as env.now.stack.now (props_in (scope_in env.now) props.now)) }
+    ensures { IfOk result (λ e. e ≡ props_in env.now.stack.now (scope_in env.now) props.now) }
 {
     let mut known = Props::new(alloc);
     for prop in props.as_slice() {
@@ -41,7 +51,7 @@ pub(crate) fn properties(
             Ok(got) => add_prop(&mut known, prop.name.try_clone(alloc)?, got)?,
             Err(fault) => {
                 return Ok(Evaluated::Flawed {
-                    flaw: flaw_of(fault)?,
+                    flaw: flaw_by(blame_of(fault)?),
                 });
             }
         }
@@ -69,43 +79,64 @@ pub(crate) fn text_told(alloc: Global, expr: &Expr, env: &Env) -> Result<Told, A
     match eval(alloc, expr, env) {
         Ok(Got::Value(value)) => match text_of(alloc, value)? {
             Some(text) => Ok(Told::Text { text }),
-            None => Ok(Told::Flawed {
-                flaw: wrong_kind(alloc, env.stack, expr)?,
+            None => Ok(Told::Bad {
+                blame: wrong_kind(alloc, env.stack, expr.at())?,
             }),
         },
-        Ok(Got::NoValue) => Ok(Told::Flawed {
-            flaw: wrong_kind(alloc, env.stack, expr)?,
+        Ok(Got::NoValue) => Ok(Told::Bad {
+            blame: wrong_kind(alloc, env.stack, expr.at())?,
         }),
         Ok(Got::Later) => Ok(Told::Later),
-        Err(fault) => Ok(Told::Flawed {
-            flaw: flaw_of(fault)?,
+        Err(fault) => Ok(Told::Bad {
+            blame: blame_of(fault)?,
         }),
     }
 }
 
-/// The flaw that a value of another kind was wanted where an expression stands.
-pub(crate) fn wrong_kind(alloc: Global, stack: &Txt, expr: &Expr) -> Result<Flaw, AllocError>
-    ensures { IfOk result (λ f. f ≡ flaw_at stack.now (fault WrongKind (place_of expr.now))) }
+/// A value of another kind was wanted at a place.
+pub(crate) fn wrong_kind(alloc: Global, stack: &Txt, at: &Txt) -> Result<Blame, AllocError>
+    ensures { IfOk result (λ b. b ≡ blame_at stack.now (fault WrongKind at.now)) }
 {
-    Ok(Flaw::Eval {
+    Ok(Blame {
         why: EvalWhy::WrongKind,
         stack: stack.try_clone(alloc)?,
-        at: expr.at().try_clone(alloc)?,
+        at: at.try_clone(alloc)?,
     })
 }
 
-/// An evaluation's fault as a flaw.
-pub(crate) fn flaw_of(fault: EvalFault) -> Result<Flaw, AllocError>
-    ensures { IfOk result (IsFlawOf fault) }
+/// Why an evaluation failed, by its fault.
+pub(crate) fn blame_of(fault: EvalFault) -> Result<Blame, AllocError>
+    ensures { IfOk result (IsBlameOf fault) }
 {
     match fault {
-        EvalFault::Bad { why, stack, at } => Ok(Flaw::Eval { why, stack, at }),
+        EvalFault::Bad { why, stack, at } => Ok(Blame { why, stack, at }),
         EvalFault::NoMemory => Err(AllocError),
     }
 }
 
+/// The flaw that an evaluation failed.
+pub(crate) fn flaw_by(blame: Blame) -> Flaw
+    ensures { result ≡ flaw_by blame }
+{
+    Flaw::Eval {
+        why: blame.why,
+        stack: blame.stack,
+        at: blame.at,
+    }
+}
+
+/// The flaw that an evaluation failed, where it did.
+pub(crate) fn some_flaw_by(blame: Option<Blame>) -> Option<Flaw>
+    ensures { result ≡ option_map flaw_by blame }
+{
+    match blame {
+        Some(blame) => Some(flaw_by(blame)),
+        None => None,
+    }
+}
+
 /// A value as a text, where it is a text, a whole number or a truth value.
-fn text_of(alloc: Global, value: Val) -> Result<Option<Txt>, AllocError>
+pub(crate) fn text_of(alloc: Global, value: Val) -> Result<Option<Txt>, AllocError>
     ensures { IfOk result (λ o. o ≡ text_of (datum_of value)) }
 {
     match value {

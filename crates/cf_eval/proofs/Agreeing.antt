@@ -18,7 +18,7 @@ use Rattle.cf_eval.specs.declared.env.OutputSight.{OutputSight}
 use Rattle.cf_eval.specs.declared.env.OutputSight.TheVariants as output
 use Rattle.cf_eval.specs.declared.fault.EvalWhy.{EvalWhy}
 use Rattle.cf_eval.specs.declared.fault.EvalWhy.TheVariants.{UnknownName, UnknownAttribute, WrongKind, TooBig}
-use Rattle.cf_eval.specs.Outcome.{Outcome, Stop, fault, undecided, got, later, bad, on_got, after_later, both, each, or_wrong}
+use Rattle.cf_eval.specs.Outcome.{Outcome, Stop, fault, below, undecided, got, later, bad, on_got, after_later, both, each, or_wrong}
 use Rattle.cf_eval.specs.Scope.{Scope, Beyond, open_to, closed_to}
 use Rattle.cf_eval.specs.Texts.{Found, known, within, as_text, as_list, wanted_text, wanted_list, wanted_index, most_bytes}
 use Rattle.cf_eval.specs.Functions.{or_fault, or_later, text_value, id_of, resource_ref, setting_found, pseudo_ref, ref_found, output_found, attribute_of, attribute_in, cut_found, name_found, piece_found, put_together, outcomes, sub_found, nth, mapped, under_key, under_second, paired, find_found, imported, import_found, split_at}
@@ -32,12 +32,14 @@ module _ (P : List ℕ → List ℕ → Type 0) where
   Asks (got a) = ⊤
   Asks later = ⊤
   Asks (bad (fault why at)) = ⊤
+  Asks (bad (below why stack at)) = ⊤
   Asks (bad (undecided name at)) = P at name
 
   asks_on : {A B : Type 0} (x : Outcome A) (f : A → Outcome B) → Asks x → ((a : A) → Asks (f a)) → Asks (on_got x f)
   asks_on (got a) f h k = k a
   asks_on later f h k = tt
   asks_on (bad (fault why at)) f h k = tt
+  asks_on (bad (below why stack at)) f h k = tt
   asks_on (bad (undecided name at)) f h k = h
 
   asks_wrong : {A : Type 0} (at : List ℕ) (o : Option A) → Asks (or_wrong at o)
@@ -69,8 +71,10 @@ module _ (P : List ℕ → List ℕ → Type 0) where
   asks_both later (got c) f h k l = tt
   asks_both later later f h k l = tt
   asks_both later (bad (fault why at)) f h k l = tt
+  asks_both later (bad (below why stack at)) f h k l = tt
   asks_both later (bad (undecided name at)) f h k l = k
   asks_both (bad (fault why at)) y f h k l = tt
+  asks_both (bad (below why stack at)) y f h k l = tt
   asks_both (bad (undecided name at)) y f h k l = h
 
   asks_texts : (at : List ℕ) (os : List (Option Data)) → Asks (each (map (wanted_text at) os))
@@ -106,6 +110,7 @@ module _ (P : List ℕ → List ℕ → Type 0) where
   asks_output : (at : List ℕ) (o : OutputSight) → Asks (output_found at o)
   asks_output at output.NotMade = tt
   asks_output at (output.Made v) = asks_on (or_later v) text_value (asks_later v) (λ t. tt)
+  asks_output at (output.Broken why stack place) = tt
 
   asks_attribute : (at : List ℕ) (s : Sight) (name : List ℕ) → Asks (attribute_of at s name)
   asks_attribute at sight.NotMade name = tt
@@ -152,6 +157,7 @@ module _ (P : List ℕ → List ℕ → Type 0) where
   asks_limited at (got o) h = asks_within at o
   asks_limited at later h = tt
   asks_limited at (bad (fault why place)) h = tt
+  asks_limited at (bad (below why stack place)) h = tt
   asks_limited at (bad (undecided name place)) h = h
 
   abbrev AllAsk : {A : Type 0} → List (Outcome A) → Type 0
@@ -188,6 +194,7 @@ module _ (P : List ℕ → List ℕ → Type 0) where
     asks_import at (got v) h = asks_on (wanted_text at v) _ (asks_text at v) (asks_imported s.beyond at)
     asks_import at later h = tt
     asks_import at (bad (fault why place)) h = tt
+    asks_import at (bad (below why stack place)) h = tt
     asks_import at (bad (undecided name place)) h = h
 
     mutual
@@ -249,30 +256,35 @@ module _ (g : List ℕ → List ℕ → Outcome Bool) where
   Agrees (got a) y = y ≡ got a
   Agrees later y = y ≡ later
   Agrees (bad (fault why at)) y = y ≡ bad (fault why at)
+  Agrees (bad (below why stack at)) y = y ≡ bad (below why stack at)
   Agrees (bad (undecided name at)) y = (w : Stop) → g at name ≡ bad w → y ≡ bad w
 
   itself : {A : Type 0} (x : Outcome A) → Asks nobody x → Agrees x x
   itself (got a) h = refl
   itself later h = refl
   itself (bad (fault why at)) h = refl
+  itself (bad (below why stack at)) h = refl
   itself (bad (undecided name at)) h = absurd h
 
   agree_on : {A B : Type 0} (x y : Outcome A) (f h : A → Outcome B) → Agrees x y → ((a : A) → Agrees (f a) (h a)) → Agrees (on_got x f) (on_got y h)
   agree_on (got a) y f h e k = subst (λ z. Agrees (f a) (on_got z h)) (sym e) (k a)
   agree_on later y f h e k = ap (λ z. on_got z h) e
   agree_on (bad (fault why at)) y f h e k = ap (λ z. on_got z h) e
+  agree_on (bad (below why stack at)) y f h e k = ap (λ z. on_got z h) e
   agree_on (bad (undecided name at)) y f h e k = λ w i. ap (λ z. on_got z h) (e w i)
 
   agree_late : {A : Type 0} (B : Type 0) (x y : Outcome A) → Agrees x y → Agrees {A = B} (after_later x) (after_later y)
   agree_late B (got a) y e = ap after_later e
   agree_late B later y e = ap after_later e
   agree_late B (bad (fault why at)) y e = ap after_later e
+  agree_late B (bad (below why stack at)) y e = ap after_later e
   agree_late B (bad (undecided name at)) y e = λ w i. ap after_later (e w i)
 
   agree_both : {A B C : Type 0} (x u : Outcome A) (y v : Outcome B) (f h : A → B → Outcome C) → Agrees x u → Agrees y v → ((a : A) (c : B) → Agrees (f a c) (h a c)) → Agrees (both x y f) (both u v h)
   agree_both (got a) u y v f h e i k = subst (λ z. Agrees (on_got y (f a)) (both z v h)) (sym e) (agree_on y v (f a) (h a) i (k a))
   agree_both later u y v f h e i k = subst (λ z. Agrees (after_later y) (both z v h)) (sym e) (agree_late _ y v i)
   agree_both (bad (fault why at)) u y v f h e i k = ap (λ z. both z v h) e
+  agree_both (bad (below why stack at)) u y v f h e i k = ap (λ z. both z v h) e
   agree_both (bad (undecided name at)) u y v f h e i k = λ w j. ap (λ z. both z v h) (e w j)
 
   abbrev AgreeAll : {A : Type 0} → List (Outcome A) → List (Outcome A) → Type 0
@@ -289,6 +301,7 @@ module _ (g : List ℕ → List ℕ → Outcome Bool) where
   agree_within at (got o) y e = subst (λ z. Agrees (within at (got o)) (within at z)) (sym e) (itself (within at (got o)) (asks_within nobody at o))
   agree_within at later y e = ap (within at) e
   agree_within at (bad (fault why place)) y e = ap (within at) e
+  agree_within at (bad (below why stack place)) y e = ap (within at) e
   agree_within at (bad (undecided name place)) y e = λ w i. ap (within at) (e w i)
 
   abbrev AgreeNamed : List (List ℕ × Found) → List (List ℕ × Found) → Type 0
@@ -355,6 +368,7 @@ module _ (g : List ℕ → List ℕ → Outcome Bool) where
         (itself (import_found (decided_by f o) at (got v)) (asks_on nobody (wanted_text at v) _ (asks_text nobody at v) (asks_imported nobody o.beyond at)))
     import_agrees at later y e = ap (import_found (decided_by g o) at) e
     import_agrees at (bad (fault why place)) y e = ap (import_found (decided_by g o) at) e
+    import_agrees at (bad (below why stack place)) y e = ap (import_found (decided_by g o) at) e
     import_agrees at (bad (undecided name place)) y e = λ w i. ap (import_found (decided_by g o) at) (e w i)
 
     mutual

@@ -71,12 +71,15 @@ pieces_stop bs w f = rw (each_of_outcomes bs) (by_late (late_binding bs)) where
 -- the same, where the code holds the outcomes before the fault and the answer that tells it
 pub all_stop : (fs : List Found) (gs : List Got) (x : Found) (rest : List Found) (s : broken.Stop) → fs ≡ map found_of gs ++ (x ∷ rest) → Stops x s → Stops (each fs) s
 all_stop fs gs x rest (stop.Bad why at) e h = ap each (e ∙ ap (λ y. map found_of gs ++ (y ∷ rest)) h) ∙ each_stops gs _ rest
+all_stop fs gs x rest (stop.Below why stack at) e h = ap each (e ∙ ap (λ y. map found_of gs ++ (y ∷ rest)) h) ∙ each_stops gs _ rest
 all_stop fs gs x rest (stop.Undecided name at) e h = ap each (e ∙ ap (λ y. map found_of gs ++ (y ∷ rest)) h) ∙ each_stops gs _ rest
 all_stop fs gs x rest stop.NoMemory e h = tt
 
 pub bindings_all_stop : (fs : List (List ℕ × Found)) (bs : List (List ℕ × Got)) (name : List ℕ) (x : Found) (rest : List (List ℕ × Found)) (s : broken.Stop)
     → fs ≡ map binding_of bs ++ ((name, x) ∷ rest) → Stops x s → Stops (each (outcomes fs)) s
 bindings_all_stop fs bs name x rest (stop.Bad why at) e h =
+    ap (λ gs. each (outcomes gs)) (e ∙ ap (λ y. map binding_of bs ++ ((name, y) ∷ rest)) h) ∙ bindings_stop bs _ name rest
+bindings_all_stop fs bs name x rest (stop.Below why stack at) e h =
     ap (λ gs. each (outcomes gs)) (e ∙ ap (λ y. map binding_of bs ++ ((name, y) ∷ rest)) h) ∙ bindings_stop bs _ name rest
 bindings_all_stop fs bs name x rest (stop.Undecided other at) e h =
     ap (λ gs. each (outcomes gs)) (e ∙ ap (λ y. map binding_of bs ++ ((name, y) ∷ rest)) h) ∙ bindings_stop bs _ name rest
@@ -111,16 +114,19 @@ second_stops it.Later w y f = refl
 -- the answers that tell such a fault
 pub select_stops : (at : List ℕ) (g : Got) (y : Found) (s : broken.Stop) → Stops y s → Stops (select_found at (found_of g) y) s
 select_stops at g y (stop.Bad why place) h = rw h (both_stops g _ _)
+select_stops at g y (stop.Below why stack place) h = rw h (both_stops g _ _)
 select_stops at g y (stop.Undecided name place) h = rw h (both_stops g _ _)
 select_stops at g y stop.NoMemory h = tt
 
 pub find_stops_second : (sc : Scope) (at : List ℕ) (g : Got) (y z : Found) (s : broken.Stop) → Stops y s → Stops (find_found sc at (found_of g) y z) s
 find_stops_second sc at g y z (stop.Bad why place) h = rw h (second_stops g _ z _)
+find_stops_second sc at g y z (stop.Below why stack place) h = rw h (second_stops g _ z _)
 find_stops_second sc at g y z (stop.Undecided name place) h = rw h (second_stops g _ z _)
 find_stops_second sc at g y z stop.NoMemory h = tt
 
 pub find_stops_third : (sc : Scope) (at : List ℕ) (g k : Got) (z : Found) (s : broken.Stop) → Stops z s → Stops (find_found sc at (found_of g) (found_of k) z) s
 find_stops_third sc at g k z (stop.Bad why place) h = rw h (pair_stops g k _ _)
+find_stops_third sc at g k z (stop.Below why stack place) h = rw h (pair_stops g k _ _)
 find_stops_third sc at g k z (stop.Undecided name place) h = rw h (pair_stops g k _ _)
 find_stops_third sc at g k z stop.NoMemory h = tt
 
@@ -141,15 +147,18 @@ named_stop (p ∷ fs) w h = named_first p (each (map named fs)) (each (outcomes 
 
 pub dict_stops : (fs : List (List ℕ × Found)) (s : broken.Stop) → Stops (each (outcomes fs)) s → Stops (dict_found fs) s
 dict_stops fs (stop.Bad why at) h = rw (named_stop fs _ h) refl
+dict_stops fs (stop.Below why stack at) h = rw (named_stop fs _ h) refl
 dict_stops fs (stop.Undecided name at) h = rw (named_stop fs _ h) refl
 dict_stops fs stop.NoMemory h = tt
 
 pub sub_stops : (sc : Scope) (at : List ℕ) (fs : List (List ℕ × Found)) (parts : List Part) (s : broken.Stop) → Stops (each (outcomes fs)) s → Stops (sub_found sc at fs parts) s
 sub_stops sc at fs parts (stop.Bad why place) h = rw h refl
+sub_stops sc at fs parts (stop.Below why stack place) h = rw h refl
 sub_stops sc at fs parts (stop.Undecided name place) h = rw h refl
 sub_stops sc at fs parts stop.NoMemory h = tt
 
 pub pairs_stop : (fs : List (List ℕ × Found)) (s : broken.Stop) → Stops (each (outcomes fs)) s → Stops (pairs_found fs) s
 pairs_stop fs (stop.Bad why at) h = rw (named_stop fs _ h) refl
+pairs_stop fs (stop.Below why stack at) h = rw (named_stop fs _ h) refl
 pairs_stop fs (stop.Undecided name at) h = rw (named_stop fs _ h) refl
 pairs_stop fs stop.NoMemory h = tt

@@ -4,7 +4,7 @@ use Rattle.std.specs.Cmp.{first_so, second_so}
 use Rattle.cf_tree.specs.Datum.{Data}
 use Rattle.cf_tree.specs.Forms.{Form, Node, Forms, Fields, expr, lit, ref, get_att, sub, join, select, split, choice, find_in_map, import_value, base64, no_forms, form, no_fields, field}
 use Rattle.cf_tree.specs.Forms as node
-use Rattle.cf_eval.specs.Outcome.{Outcome, Stop, fault, undecided, got, later, bad, on_got, after_later, both, each}
+use Rattle.cf_eval.specs.Outcome.{Outcome, Stop, fault, below, undecided, got, later, bad, on_got, after_later, both, each}
 use Rattle.cf_eval.specs.Scope.{Scope, Beyond, open_to, closed_to}
 use Rattle.cf_eval.specs.Texts.{Found, known, within, as_text, as_list, wanted_text, wanted_list, wanted_index}
 use Rattle.std.specs.Prelude.{⊤, cond, unwrap_or, option_map, codes, ℤ}
@@ -21,7 +21,7 @@ use Rattle.cf_eval.specs.declared.env.OutputSight.TheVariants as output
 use Rattle.cf_eval.specs.declared.fault.EvalWhy.TheVariants.{UnknownName, UnknownAttribute, WrongKind}
 use Rattle.cf_eval.specs.Functions.{or_fault, or_later, text_value, id_of, resource_ref, setting_found, pseudo_ref, ref_found, output_found, attribute_of, attribute_in, get_att_found, cut_found, name_found, piece_found, put_together, outcomes, sub_found, join_found, split_found, select_found, mapped, under_key, paired, find_found, if_found, imported, import_found, base64_found}
 use Rattle.cf_eval.specs.Value.{form_found, node_found, forms_found, fields_found, blamed, named, list_found, pairs_found, dict_found}
-use Rattle.cf_eval.specs.Knows.{KnowsMore, Keeps, KeepsSetting, KeepsOutput, KeepsSight, KeepsBeyond, KeepsOutcome, is_fault, is_later, names_imports, node_names_imports, all_name_imports, fields_name_imports, Stays, KnownStays}
+use Rattle.cf_eval.specs.Knows.{KnowsMore, Keeps, KeepsSetting, KeepsOutput, KeepsSight, KeepsBeyond, KeepsOutcome, KeepsFaults, BrokenStay, BrokenBeyond, is_broken, is_fault, is_later, names_imports, node_names_imports, all_name_imports, fields_name_imports, Stays, KnownStays}
 use Rattle.cf_eval.specs.Env.{scope_in, plain}
 
 -- y stands where x stood: what x is known to be stays, and, where b says so, that it is a fault
@@ -31,7 +31,7 @@ Stands b later y = ⊤
 Stands true (bad w) y = is_fault y ≡ true
 Stands false (bad w) y = ⊤
 
-itself : {A : Type 0} (b : Bool) (x : Outcome A) → Stands b x x
+pub itself : {A : Type 0} (b : Bool) (x : Outcome A) → Stands b x x
 itself b (got a) = refl
 itself b later = tt
 itself true (bad w) = refl
@@ -42,7 +42,7 @@ fault_on (got a) g h = absurd (true≢false (sym h))
 fault_on later g h = absurd (true≢false (sym h))
 fault_on (bad w) g h = refl
 
-stands_on : {A B : Type 0} (b : Bool) (x y : Outcome A) (f g : A → Outcome B) → Stands b x y → ((a : A) → Stands b (f a) (g a)) → Stands b (on_got x f) (on_got y g)
+pub stands_on : {A B : Type 0} (b : Bool) (x y : Outcome A) (f g : A → Outcome B) → Stands b x y → ((a : A) → Stands b (f a) (g a)) → Stands b (on_got x f) (on_got y g)
 stands_on b (got a) y f g h k = subst (λ z. Stands b (f a) (on_got z g)) (sym h) (k a)
 stands_on b later y f g h k = tt
 stands_on true (bad w) y f g h k = fault_on y g h
@@ -60,7 +60,7 @@ fault_second (got a) (bad w) f h = refl
 fault_second later (bad w) f h = refl
 fault_second (bad v) (bad w) f h = refl
 
-stands_both : {A B C : Type 0} (b : Bool) (x u : Outcome A) (y v : Outcome B) (f g : A → B → Outcome C) → Stands b x u → Stands b y v → ((a : A) (c : B) → Stands b (f a c) (g a c)) → Stands b (both x y f) (both u v g)
+pub stands_both : {A B C : Type 0} (b : Bool) (x u : Outcome A) (y v : Outcome B) (f g : A → B → Outcome C) → Stands b x u → Stands b y v → ((a : A) (c : B) → Stands b (f a c) (g a c)) → Stands b (both x y f) (both u v g)
 stands_both b (got a) u y v f g h k l = subst (λ z. Stands b (on_got y (f a)) (both z v g)) (sym h) (stands_on b y v (f a) (g a) k (l a))
 stands_both b later u (got c) v f g h k l = tt
 stands_both b later u later v f g h k l = tt
@@ -70,12 +70,12 @@ stands_both true (bad w) u y v f g h k l = fault_first u v g h
 stands_both false (bad w) u y v f g h k l = tt
 
 -- the same of lists, member by member
-abbrev StandAll : {A : Type 0} → Bool → List (Outcome A) → List (Outcome A) → Type 0
+abbrev pub StandAll : {A : Type 0} → Bool → List (Outcome A) → List (Outcome A) → Type 0
 StandAll b [] [] = ⊤
 StandAll b (x ∷ xs) (y ∷ ys) = Stands b x y × StandAll b xs ys
 StandAll b _ _ = ⊥
 
-stands_each : {A : Type 0} (b : Bool) (xs ys : List (Outcome A)) → StandAll b xs ys → Stands b (each xs) (each ys)
+pub stands_each : {A : Type 0} (b : Bool) (xs ys : List (Outcome A)) → StandAll b xs ys → Stands b (each xs) (each ys)
 stands_each b [] [] h = refl
 stands_each b (x ∷ xs) (y ∷ ys) h = stands_both b x y (each xs) (each ys) _ _ h.0 (stands_each b xs ys h.1) (λ a c. refl)
 stands_each b _ _ h = absurd h
@@ -146,45 +146,54 @@ id_stands b at (Some (sight.Nested i o)) None h = absurd h
 id_stands b at (Some (sight.Nested i o)) (Some sight.NotMade) h = absurd h
 id_stands b at (Some (sight.Nested i o)) (Some (sight.Made q c)) h = absurd h
 
-output_stands : (b : Bool) (at : List ℕ) (p q : Option OutputSight) → KeepsOutput p q → Stands b (on_got (or_fault UnknownAttribute at p) (output_found at)) (on_got (or_fault UnknownAttribute at q) (output_found at))
-output_stands b at None q h = same b _ _ (ap (λ o. on_got (or_fault UnknownAttribute at o) (output_found at)) h)
-output_stands b at (Some output.NotMade) q h = same b _ _ (ap (λ o. on_got (or_fault UnknownAttribute at o) (output_found at)) h)
-output_stands b at (Some (output.Made v)) (Some (output.Made w)) h = kept b v w text_value h
-output_stands b at (Some (output.Made v)) None h = absurd h
-output_stands b at (Some (output.Made v)) (Some output.NotMade) h = absurd h
+broken_fault : (at : List ℕ) (q : Option OutputSight) → is_broken q ≡ true → is_fault (on_got (or_fault UnknownAttribute at q) (output_found at)) ≡ true
+broken_fault at None h = absurd (true≢false (sym h))
+broken_fault at (Some output.NotMade) h = absurd (true≢false (sym h))
+broken_fault at (Some (output.Made v)) h = absurd (true≢false (sym h))
+broken_fault at (Some (output.Broken why stack place)) h = refl
 
-attribute_stands : (b : Bool) (at name : List ℕ) (p q : Option Sight) → KeepsSight p q
+output_stands : (b : Bool) (at : List ℕ) (p q : Option OutputSight) → KeepsOutput p q → (b ≡ true → is_broken p ≡ true → is_broken q ≡ true)
+    → Stands b (on_got (or_fault UnknownAttribute at p) (output_found at)) (on_got (or_fault UnknownAttribute at q) (output_found at))
+output_stands b at None q h f = same b _ _ (ap (λ o. on_got (or_fault UnknownAttribute at o) (output_found at)) h)
+output_stands b at (Some output.NotMade) q h f = same b _ _ (ap (λ o. on_got (or_fault UnknownAttribute at o) (output_found at)) h)
+output_stands b at (Some (output.Made (Some v))) q h f = same b _ _ (ap (λ o. on_got (or_fault UnknownAttribute at o) (output_found at)) h)
+output_stands b at (Some (output.Made None)) q h f = tt
+output_stands true at (Some (output.Broken why stack place)) q h f = broken_fault at q (f refl refl)
+output_stands false at (Some (output.Broken why stack place)) q h f = tt
+
+attribute_stands : (b : Bool) (at name : List ℕ) (p q : Option Sight) → KeepsSight p q → (b ≡ true → BrokenStay p q)
     → Stands b (on_got (or_fault UnknownName at p) (λ s. attribute_of at s name)) (on_got (or_fault UnknownName at q) (λ s. attribute_of at s name))
-attribute_stands b at name None q h = same b _ _ (ap (λ o. on_got (or_fault UnknownName at o) (λ s. attribute_of at s name)) h)
-attribute_stands b at name (Some sight.NotMade) q h = same b _ _ (ap (λ o. on_got (or_fault UnknownName at o) (λ s. attribute_of at s name)) h)
-attribute_stands b at name (Some (sight.Made p a)) (Some (sight.Made q c)) h = kept b a c _ h.1
-attribute_stands b at name (Some (sight.Nested i o)) (Some (sight.Nested j r)) h = output_stands b at (value_at name o) (value_at name r) (h.1 name)
-attribute_stands b at name (Some (sight.Made p a)) None h = absurd h
-attribute_stands b at name (Some (sight.Made p a)) (Some sight.NotMade) h = absurd h
-attribute_stands b at name (Some (sight.Made p a)) (Some (sight.Nested j r)) h = absurd h
-attribute_stands b at name (Some (sight.Nested i o)) None h = absurd h
-attribute_stands b at name (Some (sight.Nested i o)) (Some sight.NotMade) h = absurd h
-attribute_stands b at name (Some (sight.Nested i o)) (Some (sight.Made q c)) h = absurd h
+attribute_stands b at name None q h f = same b _ _ (ap (λ o. on_got (or_fault UnknownName at o) (λ s. attribute_of at s name)) h)
+attribute_stands b at name (Some sight.NotMade) q h f = same b _ _ (ap (λ o. on_got (or_fault UnknownName at o) (λ s. attribute_of at s name)) h)
+attribute_stands b at name (Some (sight.Made p a)) (Some (sight.Made q c)) h f = kept b a c _ h.1
+attribute_stands b at name (Some (sight.Nested i o)) (Some (sight.Nested j r)) h f = output_stands b at (value_at name o) (value_at name r) (h.1 name) (λ e. f e name)
+attribute_stands b at name (Some (sight.Made p a)) None h f = absurd h
+attribute_stands b at name (Some (sight.Made p a)) (Some sight.NotMade) h f = absurd h
+attribute_stands b at name (Some (sight.Made p a)) (Some (sight.Nested j r)) h f = absurd h
+attribute_stands b at name (Some (sight.Nested i o)) None h f = absurd h
+attribute_stands b at name (Some (sight.Nested i o)) (Some sight.NotMade) h f = absurd h
+attribute_stands b at name (Some (sight.Nested i o)) (Some (sight.Made q c)) h f = absurd h
 
 resource_stands : (b : Bool) (at name : List ℕ) (m n : Beyond) → KeepsBeyond m n → Stands b (resource_ref m at name) (resource_ref n at name)
 resource_stands b at name (open_to seen imports) (open_to others more) h = id_stands b at (value_at name seen) (value_at name others) (h.0 name)
 resource_stands b at name (open_to seen imports) (closed_to names) h = absurd h
 resource_stands b at name (closed_to names) n h = same b _ _ (ap (λ m. resource_ref m at name) h)
 
-attribute_in_stands : (b : Bool) (at id name : List ℕ) (m n : Beyond) → KeepsBeyond m n → Stands b (attribute_in m at id name) (attribute_in n at id name)
-attribute_in_stands b at id name (open_to seen imports) (open_to others more) h = attribute_stands b at name (value_at id seen) (value_at id others) (h.0 id)
-attribute_in_stands b at id name (open_to seen imports) (closed_to names) h = absurd h
-attribute_in_stands b at id name (closed_to names) n h = same b _ _ (ap (λ m. attribute_in m at id name) h)
+attribute_in_stands : (b : Bool) (at id name : List ℕ) (m n : Beyond) → KeepsBeyond m n → (b ≡ true → BrokenBeyond m n) → Stands b (attribute_in m at id name) (attribute_in n at id name)
+attribute_in_stands b at id name (open_to seen imports) (open_to others more) h f = attribute_stands b at name (value_at id seen) (value_at id others) (h.0 id) (λ e. f e id)
+attribute_in_stands b at id name (open_to seen imports) (closed_to names) h f = absurd h
+attribute_in_stands b at id name (closed_to names) n h f = same b _ _ (ap (λ m. attribute_in m at id name) h)
 
 imported_same : (at name : List ℕ) (m n : Beyond) → KeepsBeyond m n → imported n at name ≡ imported m at name
 imported_same at name (open_to seen imports) (open_to others more) h = ap (λ i. imported (open_to seen i) at name) h.1
 imported_same at name (open_to seen imports) (closed_to names) h = absurd h
 imported_same at name (closed_to names) n h = ap (λ m. imported m at name) h
 
-decided_stands : {A : Type 0} (b : Bool) (x y : Outcome A) → KeepsOutcome x y → Stands b x y
-decided_stands b (got a) y h = h
-decided_stands b later y h = tt
-decided_stands b (bad w) y h = same b _ _ h
+decided_stands : {A : Type 0} (b : Bool) (x y : Outcome A) → KeepsOutcome x y → (b ≡ true → is_fault x ≡ true → is_fault y ≡ true) → Stands b x y
+decided_stands b (got a) y h f = h
+decided_stands b later y h f = tt
+decided_stands true (bad w) y h f = f refl refl
+decided_stands false (bad w) y h f = tt
 
 taken : (b c : Bool) (x y u v : Found) → Stands b x u → Stands b y v → Stands b (cond c x y) (cond c u v)
 taken b true x y u v h k = h
@@ -200,7 +209,7 @@ asks_first b c d h e = first_so c d (h e)
 asks_second : (b c d : Bool) → Asks b (c && d) → Asks b d
 asks_second b c d h e = second_so c d (h e)
 
-module _ (s t : Scope) (k : KnowsMore s t) (b : Bool) where
+module _ (s t : Scope) (k : KnowsMore s t) (b : Bool) (f : b ≡ true → KeepsFaults s t) where
   ref_stands : (at name : List ℕ) → Stands b (ref_found s at name) (ref_found t at name)
   ref_stands at name =
       let beside = subst (λ p. Stands b (pseudo_ref s at name) (cond (bytes_eq (codes "AWS::NoValue") name) (got None) (unwrap_or (option_map known (value_at name p)) (resource_ref t.beyond at name)))) (sym k.pseudo)
@@ -209,7 +218,7 @@ module _ (s t : Scope) (k : KnowsMore s t) (b : Bool) where
 
   cut_stands : (at name : List ℕ) (o : Option (List ℕ × List ℕ)) → Stands b (cut_found s at name o) (cut_found t at name o)
   cut_stands at name None = ref_stands at name
-  cut_stands at name (Some c) = attribute_in_stands b at c.0 c.1 s.beyond t.beyond k.beyond
+  cut_stands at name (Some c) = attribute_in_stands b at c.0 c.1 s.beyond t.beyond k.beyond (λ e. KeepsFaults.beyond (f e))
 
   piece_stands : (at : List ℕ) (own more : List (List ℕ × Found)) → StandNamed b own more → (p : Part) → Stands b (piece_found s at own p) (piece_found t at more p)
   piece_stands at own more h (Plain t) = refl
@@ -270,14 +279,14 @@ module _ (s t : Scope) (k : KnowsMore s t) (b : Bool) where
         stands_on b _ _ _ _ (stands_on b _ _ _ _ (stands_each b _ _ (named_stand b _ _ (fields_stand around ps a))) (λ os. refl)) (λ ms. refl)
     node_stands around at (ref name) a = ref_stands at name
     node_stands around at (get_att id x) a =
-        stands_on b _ _ _ _ (text_stands at _ _ (form_stands (Some at) x a)) (λ name. attribute_in_stands b at id name s.beyond t.beyond k.beyond)
+        stands_on b _ _ _ _ (text_stands at _ _ (form_stands (Some at) x a)) (λ name. attribute_in_stands b at id name s.beyond t.beyond k.beyond (λ e. KeepsFaults.beyond (f e)))
     node_stands around at (sub parts own) a = sub_stands at _ _ parts (fields_stand (Some at) own a)
     node_stands around at (join d e) a = stands_on b _ _ _ _ (list_stands at _ _ (form_stands (Some at) e a)) (λ ds. itself b _)
     node_stands around at (select i e) a =
         stands_both b _ _ _ _ _ _ (form_stands (Some at) i (asks_first b _ (names_imports s e) a)) (form_stands (Some at) e (asks_second b (names_imports s i) _ a)) (λ o l. itself b _)
     node_stands around at (split d e) a = stands_on b _ _ _ _ (text_stands at _ _ (form_stands (Some at) e a)) (λ x. itself b _)
     node_stands around at (choice name y n) a =
-        stands_on b _ _ _ _ (decided_stands b _ _ (k.decided at name)) (λ c.
+        stands_on b _ _ _ _ (decided_stands b _ _ (k.decided at name) (λ e. KeepsFaults.decided (f e) at name)) (λ c.
         taken b c _ _ _ _ (form_stands (Some at) y (asks_first b _ (names_imports s n) a)) (form_stands (Some at) n (asks_second b (names_imports s y) _ a)))
     node_stands around at (find_in_map m f l) a =
         let rest = asks_second b (names_imports s m) _ a in
@@ -310,19 +319,36 @@ plain_got : (x : Found) (v : Option Data) → plain x ≡ got v → x ≡ got v
 plain_got (got a) v h = h
 plain_got later v h = h
 plain_got (bad (fault why at)) v h = h
+plain_got (bad (below why stack at)) v h = h
 plain_got (bad (undecided name at)) v h = let no : ⊥ = cc in absurd no
 
 plain_fault : (x : Found) → is_fault (plain x) ≡ is_fault x
 plain_fault (got a) = refl
 plain_fault later = refl
 plain_fault (bad (fault why at)) = refl
+plain_fault (bad (below why stack at)) = refl
 plain_fault (bad (undecided name at)) = refl
+
+pub plain_stands : {A : Type 0} (x y : Outcome A) → Stands false x y → Stands false (plain x) (plain y)
+plain_stands (got a) y h = ap plain h
+plain_stands later y h = tt
+plain_stands (bad (fault why at)) y h = tt
+plain_stands (bad (undecided name at)) y h = tt
+plain_stands (bad (below why stack at)) y h = tt
+
+-- of values alone
+module _ (s t : Scope) (k : KnowsMore s t) where
+  pub form_value_stands : (around : Option (List ℕ)) (e : Form) → Stands false (form_found s around e) (form_found t around e)
+  form_value_stands around e = form_stands s t k false (λ h. absurd (true≢false (sym h))) around e (λ h. absurd (true≢false (sym h)))
+
+  pub plain_value_stands : (e : Form) → Stands false (plain (form_found s None e)) (plain (form_found t None e))
+  plain_value_stands e = plain_stands (form_found s None e) (form_found t None e) (form_value_stands None e)
 
 -- knowing more never changes what was known
 pub knowing_more : KnownStays
 knowing_more a b k e = record {
-  value = λ v known. ap plain (stands_got (form_found (scope_in a) None e) (form_found (scope_in b) None e) v (form_stands (scope_in a) (scope_in b) k false None e (λ h. absurd (true≢false (sym h)))) (plain_got _ v known));
-  fault = λ named h.
+  value = λ v known. ap plain (stands_got (form_found (scope_in a) None e) (form_found (scope_in b) None e) v (form_value_stands (scope_in a) (scope_in b) k None e) (plain_got _ v known));
+  fault = λ kept h.
       plain_fault (form_found (scope_in b) None e)
-      ∙ stands_fault (form_found (scope_in a) None e) (form_found (scope_in b) None e) (form_stands (scope_in a) (scope_in b) k true None e (λ _. named)) (sym (plain_fault (form_found (scope_in a) None e)) ∙ h);
+      ∙ stands_fault (form_found (scope_in a) None e) (form_found (scope_in b) None e) (form_stands (scope_in a) (scope_in b) k true (λ _. kept.0) None e (λ _. kept.1)) (sym (plain_fault (form_found (scope_in a) None e)) ∙ h);
 }

@@ -9,7 +9,7 @@ use Rattle.cf_tree.proofs.Lookups.{put_here, put_else}
 use Rattle.cf_tree.specs.declared.bound.Verdict.{Verdict}
 use Rattle.cf_tree.specs.declared.bound.Verdict.TheVariants as verdict
 use Rattle.cf_eval.specs.declared.fault.EvalWhy.TheVariants.{UnknownName, CircularCondition}
-use Rattle.cf_eval.specs.Outcome.{Outcome, Stop, fault, undecided, got, later, bad, on_got}
+use Rattle.cf_eval.specs.Outcome.{Outcome, Stop, fault, below, undecided, got, later, bad, on_got}
 use Rattle.cf_eval.specs.Scope.{Scope, held_at}
 use Rattle.cf_eval.specs.ScopeOf.{among, verdict_of}
 use Rattle.cf_eval.specs.Functions.{or_fault}
@@ -247,11 +247,15 @@ extends_further a b c f g m v h = g m v (f m v h)
 -- what the calls that decide conditions answer
 pub stop_asked : (g : List ℕ → List ℕ → Outcome Bool) (x y : Outcome Bool) (name at : List ℕ) (s : broken.Stop) → x ≡ bad (undecided name at) → Agrees g x y → Stops (g at name) s → Stops y s
 stop_asked g x y name at (stop.Bad why place) e a h = let b : Agrees g {A = Bool} (bad (undecided name at)) y = subst (λ z. Agrees g z y) e a in b (fault why place) h
+stop_asked g x y name at (stop.Below why stack place) e a h = let b : Agrees g {A = Bool} (bad (undecided name at)) y = subst (λ z. Agrees g z y) e a in b (below why stack place) h
 stop_asked g x y name at (stop.Undecided n place) e a h = let b : Agrees g {A = Bool} (bad (undecided name at)) y = subst (λ z. Agrees g z y) e a in b (undecided n place) h
 stop_asked g x y name at stop.NoMemory e a h = tt
 
 pub stop_bad : (g : List ℕ → List ℕ → Outcome Bool) (x y : Outcome Bool) (why : EvalWhy) (at : List ℕ) → x ≡ bad (fault why at) → Agrees g x y → y ≡ bad (fault why at)
 stop_bad g x y why at e a = let b : Agrees g {A = Bool} (bad (fault why at)) y = subst (λ z. Agrees g z y) e a in b
+
+pub stop_below : (g : List ℕ → List ℕ → Outcome Bool) (x y : Outcome Bool) (why : EvalWhy) (stack at : List ℕ) → x ≡ bad (below why stack at) → Agrees g x y → y ≡ bad (below why stack at)
+stop_below g x y why stack at e a = let b : Agrees g {A = Bool} (bad (below why stack at)) y = subst (λ z. Agrees g z y) e a in b
 
 pub noted_all : (s : Scope) (conds : List (List ℕ × Test)) (under : List (List ℕ)) (old done : List (List ℕ × Verdict)) (name : List ℕ) (v : Verdict) (c : Test) → IsSettled s conds (under ++ name ∷ []) old done c v → value_at name conds ≡ Some c → is_one_of name under ≡ false
     → IsNoted s conds under old (put name v done) name v

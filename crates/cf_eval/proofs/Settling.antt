@@ -82,6 +82,7 @@ verdict_known s conds c v h = rw (h (place_of_test c.1), noted_part v) refl
 
 pub verdict_stops : (s : Scope) (conds : List (List ℕ × Test)) (c : List ℕ × Test) (w : broken.Stop) → ((at : List ℕ) → Stops (condition_found (length conds) s conds [] at c.0) w) → Stops (verdict_found s conds c) w
 verdict_stops s conds c (stop.Bad why at) h = rw (h (place_of_test c.1)) refl
+verdict_stops s conds c (stop.Below why stack at) h = rw (h (place_of_test c.1)) refl
 verdict_stops s conds c (stop.Undecided name at) h = rw (h (place_of_test c.1)) refl
 verdict_stops s conds c stop.NoMemory h = tt
 
@@ -110,6 +111,9 @@ pub settling_stops : (s : Scope) (conds rest left : List (List ℕ × Test)) (do
 settling_stops s conds rest left done verdicts c (stop.Bad why at) k e h =
     k.so_far ∙ ap (λ r. each_after false (map noted_of verdicts) (map (verdict_found s conds) r)) e
     ∙ ap (λ x. each_after false (map noted_of verdicts) (x ∷ map (verdict_found s conds) left)) (verdict_stops s conds c (stop.Bad why at) h)
+settling_stops s conds rest left done verdicts c (stop.Below why stack at) k e h =
+    k.so_far ∙ ap (λ r. each_after false (map noted_of verdicts) (map (verdict_found s conds) r)) e
+    ∙ ap (λ x. each_after false (map noted_of verdicts) (x ∷ map (verdict_found s conds) left)) (verdict_stops s conds c (stop.Below why stack at) h)
 settling_stops s conds rest left done verdicts c (stop.Undecided name at) k e h =
     k.so_far ∙ ap (λ r. each_after false (map noted_of verdicts) (map (verdict_found s conds) r)) e
     ∙ ap (λ x. each_after false (map noted_of verdicts) (x ∷ map (verdict_found s conds) left)) (verdict_stops s conds c (stop.Undecided name at) h)

@@ -75,5 +75,6 @@ any_is xs = ap (λ x. on_got x (λ bs. got (list_any (λ b. b) bs))) (each_is xs
 
 pub equals_stop : (at : List ℕ) (g : Got) (y : Found) (s : broken.Stop) → Stops y s → Stops (equals_found at (found_of g) y) s
 equals_stop at g y (stop.Bad why place) h = rw h (both_stops g _ _)
+equals_stop at g y (stop.Below why stack place) h = rw h (both_stops g _ _)
 equals_stop at g y (stop.Undecided name place) h = rw h (both_stops g _ _)
 equals_stop at g y stop.NoMemory h = tt

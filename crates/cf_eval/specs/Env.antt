@@ -9,9 +9,10 @@ use Rattle.cf_tree.specs.declared.bound.Verdict.{Verdict}
 use Rattle.cf_eval.specs.declared.env.Env as given
 use Rattle.cf_eval.specs.declared.fault.EvalFault.{EvalFault}
 use Rattle.cf_eval.specs.declared.fault.EvalFault.TheVariants as answer
+use Rattle.cf_eval.specs.declared.fault.EvalWhy.{EvalWhy}
 use Rattle.cf_eval.specs.declared.fault.EvalWhy.TheVariants.{UnknownName}
 use Rattle.cf_eval.specs.declared.got.Got.{Got}
-use Rattle.cf_eval.specs.Outcome.{Outcome, got, later, bad, fault, undecided}
+use Rattle.cf_eval.specs.Outcome.{Outcome, Stop, got, later, bad, fault, undecided, below}
 use Rattle.cf_eval.specs.Scope.{Scope, open_to, closed_to}
 use Rattle.cf_eval.specs.Texts.{Found}
 use Rattle.cf_eval.specs.Value.{form_found, fields_found, pairs_found}
@@ -35,12 +36,16 @@ scope_in env = record {
 abbrev pub plain : {A : Type 0} → Outcome A → Outcome A
 plain (bad (undecided name at)) = bad (fault UnknownName at)
 plain (bad (fault why at)) = bad (fault why at)
+plain (bad (below why stack at)) = bad (below why stack at)
 plain (got a) = got a
 plain later = later
 
--- what an expression comes to
+-- what an expression comes to, in a function at a place where there is one
+abbrev pub value_within : given.Env → Option (List ℕ) → Form → Found
+value_within env around e = plain (form_found (scope_in env) around e)
+
 abbrev pub value_of : given.Env → Form → Found
-value_of env e = plain (form_found (scope_in env) None e)
+value_of env e = value_within env None e
 
 -- what an object of expressions comes to, as the properties of a resource do
 abbrev pub props_of : given.Env → List (List ℕ × Form) → Outcome (List (List ℕ × Data))
@@ -63,9 +68,15 @@ scope_within template bound pseudo = scope_over template bound pseudo (map (λ r
 abbrev pub conditions_of : Template → List (List ℕ × Setting) → List (List ℕ × Data) → Outcome (List (List ℕ × Option Bool))
 conditions_of template bound pseudo = plain (conditions_found (scope_within template bound pseudo) template.conds)
 
--- the fault of a nested stack at this path
+-- where an evaluation in the stack at a path stops: why, in which stack, at which place
+abbrev pub stopped_at : List ℕ → Stop → EvalWhy × (List ℕ × List ℕ)
+stopped_at stack (fault why at) = (why, (stack, at))
+stopped_at stack (undecided name at) = (UnknownName, (stack, at))
+stopped_at stack (below why path at) = (why, (path, at))
+
+-- the fault of the stack at this path, or of one nested in it
 abbrev pub Refuses : {A : Type 0} → List ℕ → Outcome A → EvalFault → Type 0
-Refuses stack o (answer.Bad why path at) = (o ≡ bad (fault why at)) × (path ≡ stack)
+Refuses stack o (answer.Bad why path at) = (s : Stop) × ((o ≡ bad s) × (stopped_at stack s ≡ (why, (path, at))))
 Refuses stack o answer.NoMemory = ⊤
 
 -- `eval` answers what the definition gives
@@ -82,6 +93,7 @@ EvaluatesAll stack o (Err e) = Refuses stack o e
 abbrev pub Tells : List ℕ → stopped.Stop → EvalFault → Type 0
 Tells stack (stop.Bad why at) (answer.Bad w path place) = (w ≡ why) × (path ≡ stack) × (place ≡ at)
 Tells stack (stop.Undecided name at) (answer.Bad w path place) = (w ≡ UnknownName) × (path ≡ stack) × (place ≡ at)
+Tells stack (stop.Below why from at) (answer.Bad w path place) = (w ≡ why) × (path ≡ from) × (place ≡ at)
 Tells stack stop.NoMemory (answer.Bad w path place) = ⊥
 Tells stack s answer.NoMemory = ⊤
 

@@ -9,7 +9,7 @@ use Rattle.cf_tree.specs.Datum.{Data, text, list, items_of}
 use Rattle.cf_tree.specs.Keys.{value_at}
 use Rattle.cf_tree.specs.declared.parts.Part.{Part}
 use Rattle.cf_tree.specs.declared.parts.Part.TheVariants.{Plain, Name}
-use Rattle.cf_eval.specs.Outcome.{Outcome, got, later, bad, fault, on_got, both, each}
+use Rattle.cf_eval.specs.Outcome.{Outcome, got, later, bad, fault, below, on_got, both, each}
 use Rattle.cf_eval.specs.Scope.{Scope, Beyond, open_to, closed_to}
 use Rattle.cf_eval.specs.Texts.{Found, known, wanted_text, as_text, wanted_list, as_list, wanted_index}
 use Rattle.cf_eval.specs.declared.env.Sight.{Sight}
@@ -65,6 +65,7 @@ ref_found s at name = unwrap_or (option_map setting_found (s.params name)) (pseu
 abbrev pub output_found : List ℕ → OutputSight → Found
 output_found at output.NotMade = bad (fault NotMade at)
 output_found at (output.Made value) = on_got (or_later value) text_value
+output_found at (output.Broken why stack place) = bad (below why stack place)
 
 -- an attribute of a resource
 abbrev pub attribute_of : List ℕ → Sight → List ℕ → Found

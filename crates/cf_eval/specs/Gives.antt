@@ -8,7 +8,7 @@ use Rattle.cf_eval.specs.declared.got.Got.{Got}
 use Rattle.cf_eval.specs.declared.got.Got.TheVariants as it
 use Rattle.cf_eval.specs.declared.fault.Stop as broken
 use Rattle.cf_eval.specs.declared.fault.Stop.TheVariants as stop
-use Rattle.cf_eval.specs.Outcome.{Outcome, got, later, bad, fault, undecided, each}
+use Rattle.cf_eval.specs.Outcome.{Outcome, got, later, bad, fault, undecided, below, each}
 use Rattle.cf_eval.specs.Texts.{Found, known}
 use Rattle.cf_eval.specs.Functions.{outcomes}
 use Rattle.cf_eval.specs.ScopeOf.{verdict_of}
@@ -24,6 +24,7 @@ found_of it.Later = later
 abbrev pub Stops : {A : Type 0} → Outcome A → broken.Stop → Type 0
 Stops o (stop.Bad why at) = o ≡ bad (fault why at)
 Stops o (stop.Undecided name at) = o ≡ bad (undecided name at)
+Stops o (stop.Below why stack at) = o ≡ bad (below why stack at)
 Stops o stop.NoMemory = ⊤
 
 abbrev pub Gives : Found → Result Got broken.Stop → Type 0

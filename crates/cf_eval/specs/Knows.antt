@@ -26,9 +26,12 @@ KeepsSetting None o = o ≡ None
 KeepsSetting (Some v) None = ⊥
 KeepsSetting (Some v) (Some w) = Keeps v w
 
+-- what is known of an output stays; one that is not known yet or at fault may become anything, since an import's name that is
+-- Later is a fault that goes
 abbrev pub KeepsOutput : Option OutputSight → Option OutputSight → Type 0
-KeepsOutput (Some (output.Made v)) (Some (output.Made w)) = Keeps v w
-KeepsOutput (Some (output.Made v)) o = ⊥
+KeepsOutput (Some (output.Made (Some v))) o = o ≡ Some (output.Made (Some v))
+KeepsOutput (Some (output.Made None)) o = ⊤
+KeepsOutput (Some (output.Broken why stack at)) o = ⊤
 KeepsOutput (Some output.NotMade) o = o ≡ Some output.NotMade
 KeepsOutput None o = o ≡ None
 
@@ -45,13 +48,13 @@ KeepsBeyond (open_to seen imports) (open_to others more) = ((id : List ℕ) → 
 KeepsBeyond (open_to seen imports) b = ⊥
 KeepsBeyond (closed_to names) b = b ≡ closed_to names
 
--- a condition that was decided stays so
+-- a condition that was decided stays so; a fault may become another one, that of a part that was not known yet
 abbrev pub KeepsOutcome : {A : Type 0} → Outcome A → Outcome A → Type 0
 KeepsOutcome (got a) o = o ≡ got a
 KeepsOutcome later o = ⊤
-KeepsOutcome (bad w) o = o ≡ bad w
+KeepsOutcome (bad w) o = ⊤
 
--- t agrees with s, and may know what is Later in s
+-- t agrees with s, and may know what is Later or at fault in s
 pub record KnowsMore (s t : Scope) : Type 0 where
   pub params : (name : List ℕ) → KeepsSetting (s.params name) (t.params name)
   pub mapping : (name : List ℕ) → t.mapping name ≡ s.mapping name
@@ -70,7 +73,28 @@ is_later (got a) = false
 is_later later = true
 is_later (bad w) = false
 
--- Whether no import's name is Later. One that is Later is a fault, and the only fault that may go when more is known.
+-- an output is at fault
+abbrev pub is_broken : Option OutputSight → Bool
+is_broken (Some (output.Broken why stack at)) = true
+is_broken _ = false
+
+-- the outputs of a nested stack that were at fault are so
+abbrev pub BrokenStay : Option Sight → Option Sight → Type 0
+BrokenStay (Some (sight.Nested i outs)) (Some (sight.Nested j others)) =
+    (name : List ℕ) → IsTrue (is_broken (value_at name outs)) → IsTrue (is_broken (value_at name others))
+BrokenStay _ _ = ⊤
+
+abbrev pub BrokenBeyond : Beyond → Beyond → Type 0
+BrokenBeyond (open_to seen imports) (open_to others more) = (id : List ℕ) → BrokenStay (value_at id seen) (value_at id others)
+BrokenBeyond _ _ = ⊤
+
+-- conditions and outputs that were at fault in s are so in t
+pub record KeepsFaults (s t : Scope) : Type 0 where
+  pub decided : (at name : List ℕ) → IsTrue (is_fault (s.decided at name)) → IsTrue (is_fault (t.decided at name))
+  pub beyond : BrokenBeyond s.beyond t.beyond
+
+-- Whether no import's name is Later. One that is Later is a fault, and the only fault that may go when more is known and what
+-- was at fault stays so.
 abbrev mutual
   pub names_imports : Scope → Form → Bool
   names_imports s (expr at n) = node_names_imports s at n
@@ -98,11 +122,14 @@ abbrev mutual
   fields_name_imports s no_fields = true
   fields_name_imports s (field name e ps) = names_imports s e && fields_name_imports s ps
 
--- what stays of x where y is what more knowledge makes of it: a value or NoValue; and a fault, where no import's name is Later
-pub record Stays (x y : Found) (named : Bool) : Type 0 where
+-- what stays of x where y is what more knowledge makes of it: a value or NoValue; and a fault, where that is kept
+pub record Stays (x y : Found) (kept : Type 0) : Type 0 where
   pub value : (v : Option Data) → x ≡ got v → y ≡ got v
-  pub fault : IsTrue named → IsTrue (is_fault x) → IsTrue (is_fault y)
+  pub fault : kept → IsTrue (is_fault x) → IsTrue (is_fault y)
 
--- knowing more never changes what was known
+-- knowing more never changes what was known; a fault stays one where those of conditions and outputs do, and no import's name
+-- is Later
 abbrev pub KnownStays : Type 0
-KnownStays = (a b : given.Env) → KnowsMore (scope_in a) (scope_in b) → (e : Form) → Stays (value_of a e) (value_of b e) (names_imports (scope_in a) e)
+KnownStays =
+    (a b : given.Env) → KnowsMore (scope_in a) (scope_in b) → (e : Form)
+    → Stays (value_of a e) (value_of b e) (KeepsFaults (scope_in a) (scope_in b) × IsTrue (names_imports (scope_in a) e))

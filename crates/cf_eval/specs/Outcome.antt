@@ -7,6 +7,7 @@ use Rattle.cf_eval.specs.declared.fault.EvalWhy.TheVariants.{WrongKind}
 pub data Stop : Type 0 where
   fault : EvalWhy → List ℕ → Stop
   undecided : List ℕ → List ℕ → Stop
+  below : EvalWhy → List ℕ → List ℕ → Stop
 
 pub data Outcome (A : Type 0) : Type 0 where
   got : A → Outcome A

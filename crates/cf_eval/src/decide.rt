@@ -65,6 +65,7 @@ fn decide(
                     }
                 }
                 Stop::Bad { why, at } => return Err(Stop::Bad { why, at }),
+                Stop::Below { why, stack, at } => return Err(Stop::Below { why, stack, at }),
                 Stop::NoMemory => return Err(Stop::NoMemory),
             },
         }

@@ -1,4 +1,5 @@
 //! What an expression is evaluated over.
+use crate::fault::EvalWhy;
 use cf_tree::{Bound, ByName, CondMap, Dict, Mappings, Pairs, Txt};
 
 /// What is seen of a resource of the template.
@@ -26,6 +27,8 @@ pub enum OutputSight {
     NotMade,
     /// Its value, `None` while it is not known.
     Made { value: Option<Txt> },
+    /// It is at fault: why, in which stack, at which place of its template.
+    Broken { why: EvalWhy, stack: Txt, at: Txt },
 }
 
 /// What an expression is evaluated over.

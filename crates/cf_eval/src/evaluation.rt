@@ -1,6 +1,7 @@
 //! The evaluation of expressions.
 ghost use Rattle.std.specs.Prelude.{◌≡◌};
-ghost use Rattle.cf_eval.specs.Env.{scope_in, value_of, props_of, Evaluates, EvaluatesAll, Tells};
+ghost use Rattle.std.specs.Option.{option_copied};
+ghost use Rattle.cf_eval.specs.Env.{scope_in, value_of, value_within, props_of, Evaluates, EvaluatesAll, Tells};
 ghost use Rattle.cf_eval.specs.Knows.{KnownStays};
 ghost use Rattle.cf_eval.specs.ScopeOf.{scope_of};
 
@@ -22,12 +23,29 @@ use std::alloc::Global;
 /// `Bad` exactly where the expression has a fault, with the first one: why, the path of the nested
 /// stack, and the place of the innermost function around it, or of the value where there is none.
 /// `NoMemory`, where there is no memory for the value.
-#[tactic(auto, using(crate::proofs::Tells::told))]
 pub fn eval(alloc: Global, expr: &Expr, env: &Env) -> Result<Got, EvalFault>
     ensures { Evaluates env.now.stack.now (value_of env.now expr.now) result }
 {
+    eval_within(alloc, None, expr, env)
+}
+
+/// What an expression comes to that stands in a function at the place `around`, where there is one: a fault of a value that
+/// stands in no function of the expression itself is blamed on that one.
+///
+/// # Errors
+///
+/// As `eval`.
+#[tactic(auto, using(crate::proofs::Tells::told))]
+pub fn eval_within(
+    alloc: Global,
+    around: Option<&Txt>,
+    expr: &Expr,
+    env: &Env,
+) -> Result<Got, EvalFault>
+    ensures { Evaluates env.now.stack.now (value_within env.now (option_copied around.entry) expr.now) result }
+{
     let scope = open_scope(env);
-    match value(alloc, &scope, None, expr) {
+    match value(alloc, &scope, around, expr) {
         Ok(got) => Ok(got),
         Err(stop) => Err(told(alloc, env.stack, stop)),
     }
@@ -75,6 +93,15 @@ pub(crate) fn told(alloc: Global, stack: &Txt, stop: Stop) -> EvalFault
     };
     match stop {
         Stop::Bad { why, at } => EvalFault::Bad { why, stack, at },
+        Stop::Below {
+            why,
+            stack: from,
+            at,
+        } => EvalFault::Bad {
+            why,
+            stack: from,
+            at,
+        },
         Stop::Undecided { name: _, at } => EvalFault::Bad {
             why: EvalWhy::UnknownName,
             stack,
@@ -87,8 +114,9 @@ pub(crate) fn told(alloc: Global, stack: &Txt, stop: Stop) -> EvalFault
 /// Knowing more never changes what was known.
 ///
 /// Where an environment that agrees, and in which something is bound, seen or decided that was
-/// Later, is put in place of another one, a value or `NoValue` stays the same. A fault stays a
-/// fault, unless it rests on an import whose name was Later. It does nothing when it runs.
+/// Later, is put in place of another one, a value or `NoValue` stays the same. Where conditions and
+/// nested outputs that were at fault are so still, a fault stays a fault, unless it rests on an
+/// import whose name was Later. It does nothing when it runs.
 pub fn known_stays()
     ensures { KnownStays }
 {}

@@ -43,6 +43,8 @@ pub(crate) enum Stop {
     Bad { why: EvalWhy, at: Txt },
     /// The condition with this name is asked for at this place, and is not decided.
     Undecided { name: Txt, at: Txt },
+    /// An output of the nested stack at a path is at fault, at a place of its template.
+    Below { why: EvalWhy, stack: Txt, at: Txt },
     NoMemory,
 }
 

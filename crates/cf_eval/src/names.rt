@@ -170,6 +170,15 @@ fn output_found(alloc: Global, at: &Txt, output: &OutputSight) -> Result<Got, St
             Ok(Got::Value(Val::Text(value.try_clone(alloc)?)))
         }
         OutputSight::Made { value: None } => Ok(Got::Later),
+        OutputSight::Broken {
+            why,
+            stack,
+            at: place,
+        } => Err(Stop::Below {
+            why: *why,
+            stack: stack.try_clone(alloc)?,
+            at: place.try_clone(alloc)?,
+        }),
     }
 }
 

@@ -35,8 +35,9 @@ pub(crate) fn value(
     within(alloc, blamed(around, at, node), got)
 }
 
-/// Where a fault of an expression is blamed.
-fn blamed<'a>(around: Option<&'a Txt>, at: &'a Txt, node: &ExprNode) -> &'a Txt
+/// Where a fault of an expression is blamed, which stands at `at`, in a function at `around` where there is one: a function on itself,
+/// any other value on the function around it.
+pub fn blamed<'a>(around: Option<&'a Txt>, at: &'a Txt, node: &ExprNode) -> &'a Txt
     ensures { result.now ≡ blamed (option_copied around.entry) at.now (node_of node.now) }
 {
     match node {

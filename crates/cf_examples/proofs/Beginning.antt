@@ -8,7 +8,8 @@ use Rattle.cf_stacks.specs.declared.state.StackState.{StackState}
 use Rattle.cf_stacks.specs.declared.state.World.{World}
 use Rattle.cf_stacks.specs.Words.{stack_at}
 use Rattle.cf_plan.specs.Follow.{HasLanes}
-use Rattle.cf_desired.specs.Plan.{Seen, plan_of}
+use Rattle.cf_desired.specs.Seeing.{Seen}
+use Rattle.cf_desired.specs.Plan.{plan_of}
 use Rattle.cf_plan.specs.Accept.{ImportsWhatItUses, with_imports, exports_of_others, without_import}
 
 nothing_at : (n v : List ℕ) (imports : List (List ℕ × List ℕ)) → imports ≡ [] → value_at n imports ≡ Some v → ⊥

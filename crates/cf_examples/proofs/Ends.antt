@@ -14,7 +14,7 @@ use Rattle.cf_examples.proofs.Retained as deleted
 use Rattle.cf_examples.proofs.Skipped as unskipped
 use Rattle.cf_examples.proofs.LostCreation as undeleted
 use Rattle.cf_handler.specs.Lane.{Live}
-use Rattle.cf_desired.specs.Plan.{Seen}
+use Rattle.cf_desired.specs.Seeing.{Seen}
 use Rattle.cf_desired.specs.Whole.{Right, Whole}
 use Rattle.cf_stacks.specs.declared.held.Held.{Held}
 use Rattle.cf_stacks.specs.Words.{current_at}

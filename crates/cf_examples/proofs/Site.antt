@@ -40,7 +40,7 @@ world_1 = record world_0 { stacks = ([]); lanes = (lane_pair (codes "f1") file �
 
 may_begun : MayFollow schemas world_1 [] begun
 unfolding computing
-may_begun = (refl, refl, record { no_flaw = refl; known_types = refl; same_types = refl; imports = no_imports _ _ _ _ refl refl; free = refl; not_in_use = refl; changing = inl refl })
+may_begun = (refl, refl, record { no_flaw = refl; known_types = refl; same_types = refl; imports = no_imports (codes "site") world_1 (source_for (codes "site") 1 real) _ refl refl; free = refl; not_in_use = refl; changing = inl refl })
 
 abbrev stack_2_site : StackState
 stack_2_site = record no_stack { status = status.CreateInProgress; number = 1; operation = 1; going = Some (source_for (codes "site") 1 real); entries = (begun ∷ []); events = ((codes "event 2 - CREATE_IN_PROGRESS") ∷ []) }

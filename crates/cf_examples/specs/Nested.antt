@@ -12,7 +12,8 @@ use Rattle.cf_stacks.specs.Fold.{empty_world, fold_of}
 use Rattle.cf_eval.specs.declared.fault.EvalWhy.TheVariants.{UnknownAttribute}
 use Rattle.cf_desired.specs.declared.flaw.Flaw.TheVariants as flaw
 use Rattle.cf_desired.specs.declared.wanted.Evaluated.TheVariants.{Flawed as flawed}
-use Rattle.cf_desired.specs.Plan.{Seen, plan_of}
+use Rattle.cf_desired.specs.Seeing.{Seen}
+use Rattle.cf_desired.specs.Plan.{plan_of}
 use Rattle.cf_desired.specs.Whole.{wanted_at}
 use Rattle.cf_desired.specs.FlawText.{flaw_text}
 use Rattle.cf_plan.specs.Follow.{IsLegal}

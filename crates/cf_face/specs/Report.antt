@@ -10,7 +10,7 @@ use Rattle.cf_tree.specs.declared.template.Kind.{Kind}
 use Rattle.cf_tree.specs.declared.template.Kind.TheVariants.{Text, Number, Numbers, Commas}
 use Rattle.cf_tree.specs.declared.template.Param.{Param}
 use Rattle.cf_tree.specs.Lists.{insert_by}
-use Rattle.cf_desired.specs.Plan.{template_named}
+use Rattle.cf_desired.specs.Templates.{template_named}
 use Rattle.cf_export.specs.declared.Output.{Output}
 use Rattle.cf_entry.specs.Status.{status_name}
 use Rattle.cf_entry.specs.declared.entry.Entry.{Entry}

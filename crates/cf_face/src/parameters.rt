@@ -3,7 +3,7 @@ ghost use Rattle.std.specs.Prelude.{◌≡◌, ◌++◌, [], ◌∷◌, IfOk, co
 ghost use Rattle.std.specs.List.{flat_map};
 ghost use Rattle.std.specs.Option.{option_copied};
 ghost use Rattle.cf_funcs.specs.Pieces.{members_of};
-ghost use Rattle.cf_desired.specs.Plan.{template_named};
+ghost use Rattle.cf_desired.specs.Templates.{template_named};
 ghost use Rattle.cf_face.specs.Line.{line_of, texts_word};
 ghost use Rattle.cf_face.specs.Report.{text_for, value_word, told_word, parameter_line, parameter_lines};
 

@@ -56,7 +56,14 @@ fn settings(alloc: Global, params: &Params, given: &Given) -> Result<Bound, Bind
     Ok(bound)
 }
 
-fn bound_to(alloc: Global, param: &Param, piece: Option<&Piece>) -> Result<Setting, BindFault>
+/// What one parameter of a template is bound to: what is given for it, or else its default. What is not known yet is `Later`, and
+/// breaks no constraint.
+///
+/// # Errors
+///
+/// The first in this order: `Missing`, `NotANumber`, `TooShort`, `TooLong`, `TooSmall`, `TooLarge`, `NotAllowed`, `BadPattern`,
+/// `NoMatch`. `NoMemory` may come anywhere.
+pub fn bound_to(alloc: Global, param: &Param, piece: Option<&Piece>) -> Result<Setting, BindFault>
     ensures { Binds (bound_to param.now (option_map (λ p. p.now) piece.entry)) result }
 {
     match piece {

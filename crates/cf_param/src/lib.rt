@@ -7,6 +7,6 @@ mod fault;
 mod offered;
 mod patterns;
 
-pub use binding::bind;
+pub use binding::{bind, bound_to};
 pub use fault::BindFault;
 pub use offered::{Given, Piece};

@@ -238,7 +238,7 @@ module _
           by_wanted (wanted_at m (plan_of source (seen_in s.before))) refl (subst (λ g. In q (terms_of (wanted_in g (seen_in s.before) m)).needs) h.works i) where
             by_wanted : (o : Option Wanted) → wanted_at m (plan_of source (seen_in s.before)) ≡ o → In q (terms_of o).needs → rank q < rank m
             by_wanted None e j = elim j [ ]
-            by_wanted (Some w) e j = needed_before source flat (seen_in s.before) m q w e j
+            by_wanted (Some w) e j = needed_before source (seen_in s.before) m q w e j
 
       same_resource : (r : Held) → In r s.made → (q : List ℕ) → is_physical_of r.physical (resource_at q s) ≡ true → q ≡ r.path
       same_resource r i q e = by_found (current_at q s.made) refl (subst (λ hs. is_physical_of r.physical (option_or (current_at q s.made) (current_at q hs)) ≡ true) h.none_held e) where

@@ -1,101 +1,125 @@
 -- What a source wants is the same where of no path more is seen than that nothing is known of it.
-use Rattle.std.proofs.Common.{◌≡◌, ℕ, zero, suc, Bool, true, false, List, [], ◌∷◌, ◌++◌, Option, Some, None, Result, Ok, Err, cond, length, map, refl, ap}
+use Rattle.std.proofs.Common.{◌≡◌, ℕ, Bool, true, false, List, [], ◌∷◌, ◌++◌, Option, Some, None, cond, map, refl, ap, ◌∙◌}
 use Rattle.std.specs.Prelude.{fold}
 use Rattle.std.specs.Option.{option_map_or}
 use Rattle.std.specs.Str.{bytes_eq}
 use Rattle.cf_tree.specs.Keys.{put, value_at}
-use Rattle.cf_tree.specs.Named.{found}
-use Rattle.cf_tree.specs.declared.bound.Setting.{Setting}
-use Rattle.cf_tree.specs.declared.bound.Verdict.{Verdict}
 use Rattle.cf_tree.specs.declared.source.Source.{Source}
-use Rattle.cf_tree.specs.declared.template.Res.{Res}
-use Rattle.cf_eval.specs.declared.env.Sight.{Sight}
-use Rattle.cf_eval.specs.Env.{conditions_of}
-use Rattle.cf_eval.specs.Outcome.{Outcome, got, later, bad}
-use Rattle.cf_graph.specs.Needs.{Tangle, needs_of}
-use Rattle.cf_param.specs.Binding.{binding_of}
-use Rattle.cf_param.specs.declared.fault.BindFault.{BindFault}
+use Rattle.cf_eval.specs.declared.env.OutputSight.{OutputSight}
+use Rattle.cf_eval.specs.Scope.{Scope}
 use Rattle.cf_schema.specs.declared.described.Schema.{Schema}
-use Rattle.cf_desired.specs.Names.{path_in, pseudo_of}
-use Rattle.cf_desired.specs.Evaluate.{resource_scope}
-use Rattle.cf_desired.specs.declared.flaw.Flaw.TheVariants as flaw
-use Rattle.cf_desired.specs.declared.wanted.Plan.{Plan}
-use Rattle.cf_desired.specs.declared.wanted.Wanted.{Wanted}
-use Rattle.cf_desired.specs.Plan.{Course, Entering, Laying, Scoping, Seen, bound_despite, bound_or_later, bound_plan, decided_plan, first_later, is_stack, laid, no_plan, not_made, plan_of, planned, root_of, seen_as, template_named, verdict_from, with_member, with_nested, with_outputs, with_resource}
-use Rattle.cf_desired.specs.Whole.{wanted_at}
-use Rattle.cf_change.specs.Changes.{Found, found_at, found_by, found_with, next_path}
+use Rattle.cf_desired.specs.Given.{Given, given_in, settings_for}
+use Rattle.cf_desired.specs.Met.{Met, a_flaw, a_stack, bind_flaw, flaw_inside, flaw_met, flaws_of, met_along, met_inside, met_in, offers_flaw, outputs_met, outputs_wanted, scope_after}
+use Rattle.cf_desired.specs.Names.{path_in}
+use Rattle.cf_desired.specs.Plan.{outputs_in, plan_by, plan_from, plan_of, props_at, wanted_of}
+use Rattle.cf_desired.specs.Seeing.{Seen, first_sights, made_sight, nested_sight, output_sights, outputs_inside, outputs_of, own_ids, seen_as, sights_after, unmade_sights}
+use Rattle.cf_desired.specs.Shape.{given_root, shape_of}
+use Rattle.cf_desired.specs.Stack.{Sights, Scoping, Stack, Verdicts, scoping}
+use Rattle.cf_desired.specs.Valued.{evaluated_at, resources_in, valued_along, valued_inside, valued_in}
+use Rattle.cf_desired.specs.Work.{Member, Nesting, Work, Inside, Body, Shape, no_work, resource, nested, shut, barred, halted, opened}
+use Rattle.cf_desired.specs.Work as inside
+use Rattle.cf_desired.specs.declared.wanted.Evaluated.{Evaluated}
+use Rattle.cf_desired.proofs.Flawless.{flawless_clear}
+use Rattle.cf_desired.proofs.Puts.{value_put}
+use Rattle.cf_desired.proofs.ShapeStays.{shape_stays}
+use Rattle.cf_change.specs.Changes.{Found, found_next, found_of, found_with}
 
-module _ (seen other : Seen) (alike : (p : List ℕ) → seen_as (value_at p seen) ≡ seen_as (value_at p other)) (source : Source) (number : ℕ) where
-  resource_alike : (e : Entering) (scope : Scoping) (conds : List (List ℕ × Verdict)) (c : Course) (r : Res) (ids : List (List ℕ))
-      → with_resource e scope conds seen c r ids ≡ with_resource e scope conds other c r ids
-  resource_alike e scope conds c r ids =
-      ap (λ (t : Sight). record (with_resource e scope conds other c r ids) { sights = put r.name t c.sights }) (alike (path_in e.path r.name))
+module _ (source : Source) (seen other : Seen) (alike : (p : List ℕ) → seen_as (value_at p seen) ≡ seen_as (value_at p other)) where
+  made_alike : (t : Stack) (ids : List (List ℕ)) → map (made_sight t seen) ids ≡ map (made_sight t other) ids
+  made_alike t [] = refl
+  made_alike t (id ∷ ids) = λ i. (id, alike (path_in t.path id) i) ∷ made_alike t ids i
 
-  module _ (lay below : Option Laying) (same : lay ≡ below) (e : Entering) where
-    member_alike : (scope : Scoping) (conds : List (List ℕ × Verdict)) (c : Course) (m : List ℕ × List (List ℕ))
-        → with_member lay source seen number e scope conds c m ≡ with_member below source other number e scope conds c m
-    member_alike scope conds c m = by (found (λ r. r.name) m.0 e.template.resources)
-      where
-        of_kind : (r : Res) (b : Bool)
-            → cond b (with_nested lay source number e scope conds c r m.1) (with_resource e scope conds seen c r m.1)
-            ≡ cond b (with_nested below source number e scope conds c r m.1) (with_resource e scope conds other c r m.1)
-        of_kind r true = ap (λ (l : Option Laying). with_nested l source number e scope conds c r m.1) same
-        of_kind r false = resource_alike e scope conds c r m.1
+  first_alike : (t : Stack) (conds : Verdicts) (ids : List (List ℕ)) → first_sights t conds seen ids ≡ first_sights t conds other ids
+  first_alike t conds ids = ap (λ (s : Sights). s ++ unmade_sights t conds) (made_alike t ids)
 
-        by : (o : Option Res)
-            → option_map_or (λ r. cond (is_stack r) (with_nested lay source number e scope conds c r m.1) (with_resource e scope conds seen c r m.1)) o c
-            ≡ option_map_or (λ r. cond (is_stack r) (with_nested below source number e scope conds c r m.1) (with_resource e scope conds other c r m.1)) o c
-        by None = refl
-        by (Some r) = of_kind r (is_stack r)
+  mutual
+    after_alike : (over : Scoping) (s : Sights) (w : Work) → sights_after source seen over s w ≡ sights_after source other over s w
+    after_alike over s no_work = refl
+    after_alike over s (resource m w) = after_alike over s w
+    after_alike over s (nested n i w) =
+        after_alike over (nested_sight source n (outputs_inside source seen (over s) i) s) w
+        ∙ ap (λ (os : List (List ℕ × OutputSight)). sights_after source other over (nested_sight source n os s) w) (inside_alike (over s) i)
 
-    planned_alike : (bound : List (List ℕ × Setting)) (conds : List (List ℕ × Verdict)) (p : Plan) (o : Result (List (List ℕ × List (List ℕ))) Tangle)
-        → planned lay source seen number e bound conds p o ≡ planned below source other number e bound conds p o
-    planned_alike bound conds p (Err t) = refl
-    planned_alike bound conds p (Ok order) =
-        let scope : Scoping = λ sights. resource_scope e.template bound conds (pseudo_of e.stack number) sights source.imports in
-        let course : Course = record { plan = p; sights = not_made conds e.template; stands = []; broken = [] } in
-        ap (λ (f : Course → List ℕ × List (List ℕ) → Course). with_outputs e scope conds (fold f course order))
-        (λ i c m. member_alike scope conds c m i)
+    inside_alike : (s : Scope) (i : Inside) → outputs_inside source seen s i ≡ outputs_inside source other s i
+    inside_alike s (shut f) = refl
+    inside_alike s (inside.given_by form b) = outputs_alike (given_in s form) b
 
-    decided_alike : (bound : List (List ℕ × Setting)) (p : Plan) (o : Outcome (List (List ℕ × Option Bool)))
-        → decided_plan lay source seen number e bound p o ≡ decided_plan below source other number e bound p o
-    decided_alike bound p (bad s) = refl
-    decided_alike bound p later = refl
-    decided_alike bound p (got conds) =
-        let verdicts : List (List ℕ × Verdict) = map (λ c. (c.0, verdict_from c.1)) conds in
-        ap (option_map_or (λ (name : List ℕ). record p { flaws = p.flaws ++ flaw.DynamicCondition e.path name ∷ [] }) (first_later conds))
-        (planned_alike bound verdicts p (needs_of e.template verdicts))
+    outputs_alike : (g : Given) (b : Body) → outputs_of source seen g b ≡ outputs_of source other g b
+    outputs_alike g (barred f) = refl
+    outputs_alike g (halted t f) = refl
+    outputs_alike g (opened t conds w) =
+        ap (λ (s : Sights). output_sights t conds (scoping source t conds (settings_for t.template.params g) s))
+        (after_alike (scoping source t conds (settings_for t.template.params g)) (first_sights t conds seen (own_ids w)) w
+        ∙ ap (λ (s : Sights). sights_after source other (scoping source t conds (settings_for t.template.params g)) s w) (first_alike t conds (own_ids w)))
 
-    bound_alike : (p : Plan) (bound : List (List ℕ × Setting)) → bound_plan lay source seen number e p bound ≡ bound_plan below source other number e p bound
-    bound_alike p bound = decided_alike bound p (conditions_of e.template bound (pseudo_of e.stack number))
+  scope_alike : (g : Given) (t : Stack) (conds : Verdicts) (w : Work) → scope_after source seen g t conds w ≡ scope_after source other g t conds w
+  scope_alike g t conds w =
+      ap (λ (s : Sights). scoping source t conds (settings_for t.template.params g) s)
+      (after_alike (scoping source t conds (settings_for t.template.params g)) (first_sights t conds seen (own_ids w)) w
+      ∙ ap (λ (s : Sights). sights_after source other (scoping source t conds (settings_for t.template.params g)) s w) (first_alike t conds (own_ids w)))
 
-    later_alike : (p : Plan) (o : Result (List (List ℕ × Setting)) BindFault)
-        → bound_or_later lay source seen number e p o ≡ bound_or_later below source other number e p o
-    later_alike p (Ok bound) = bound_alike p bound
-    later_alike p (Err f) = by (bound_despite (length e.given) e.template.params e.given (Err f))
-      where
-        by : (o : Option (List (List ℕ × Setting)))
-            → option_map_or (bound_plan lay source seen number e (record p { flaws = p.flaws ++ flaw.Bind e.path f ∷ [] })) o
-            (record p { flaws = p.flaws ++ flaw.Bind e.path f ∷ [] })
-            ≡ option_map_or (bound_plan below source other number e (record p { flaws = p.flaws ++ flaw.Bind e.path f ∷ [] })) o
-            (record p { flaws = p.flaws ++ flaw.Bind e.path f ∷ [] })
-        by None = refl
-        by (Some bound) = bound_alike (record p { flaws = p.flaws ++ flaw.Bind e.path f ∷ [] }) bound
+  mutual
+    values_along : (path : List ℕ) (over : Scoping) (s : Sights) (w : Work) → valued_along source seen path over s w ≡ valued_along source other path over s w
+    values_along path over s no_work = refl
+    values_along path over s (resource m w) = ap (λ (rs : List (Member × Evaluated)). (m, evaluated_at path (over s) m) ∷ rs) (values_along path over s w)
+    values_along path over s (nested n i w) =
+        let rest : valued_along source seen path over (nested_sight source n (outputs_inside source seen (over s) i) s) w
+        ≡ valued_along source other path over (nested_sight source n (outputs_inside source other (over s) i) s) w =
+        values_along path over (nested_sight source n (outputs_inside source seen (over s) i) s) w
+        ∙ ap (λ (os : List (List ℕ × OutputSight)). valued_along source other path over (nested_sight source n os s) w) (inside_alike (over s) i) in
+        λ j. values_inside (over s) i j ++ rest j
 
-  laid_alike : (n : ℕ) → laid n source seen number ≡ laid n source other number
-  laid_alike zero =
-      λ i e templates members. later_alike None None refl e (no_plan templates members []) (binding_of e.template.params e.given) i
-  laid_alike (suc n) =
-      λ i e templates members.
-      later_alike (Some (laid n source seen number)) (Some (laid n source other number)) (ap (λ (l : Laying). Some l) (laid_alike n)) e
-      (no_plan templates members []) (binding_of e.template.params e.given) i
+    values_inside : (s : Scope) (i : Inside) → valued_inside source seen s i ≡ valued_inside source other s i
+    values_inside s (shut f) = refl
+    values_inside s (inside.given_by form b) = values_in (given_in s form) b
 
-pub plan_alike : (seen other : Seen) → ((p : List ℕ) → seen_as (value_at p seen) ≡ seen_as (value_at p other)) → (source : Source)
-    → plan_of source seen ≡ plan_of source other
-plan_alike seen other alike source =
-    ap (λ (lay : Laying).
-    option_map_or (λ t. lay (root_of source t) 1 (length t.resources)) (template_named source.root source)
-    (no_plan 0 0 (flaw.TemplateMissing source.root ∷ []))) (laid_alike seen other alike source source.number 7)
+    values_in : (g : Given) (b : Body) → valued_in source seen g b ≡ valued_in source other g b
+    values_in g (barred f) = refl
+    values_in g (halted t f) = refl
+    values_in g (opened t conds w) =
+        values_along t.path (scoping source t conds (settings_for t.template.params g)) (first_sights t conds seen (own_ids w)) w
+        ∙ ap (λ (s : Sights). valued_along source other t.path (scoping source t conds (settings_for t.template.params g)) s w) (first_alike t conds (own_ids w))
+
+  mutual
+    mets_along : (path : List ℕ) (over : Scoping) (s : Sights) (w : Work) → met_along source seen path over s w ≡ met_along source other path over s w
+    mets_along path over s no_work = refl
+    mets_along path over s (resource m w) = ap (λ (ms : List Met). map (λ f. a_flaw f) (flaws_of (evaluated_at path (over s) m)) ++ ms) (mets_along path over s w)
+    mets_along path over s (nested n i w) =
+        let rest : met_along source seen path over (nested_sight source n (outputs_inside source seen (over s) i) s) w
+        ≡ met_along source other path over (nested_sight source n (outputs_inside source other (over s) i) s) w =
+        mets_along path over (nested_sight source n (outputs_inside source seen (over s) i) s) w
+        ∙ ap (λ (os : List (List ℕ × OutputSight)). met_along source other path over (nested_sight source n os s) w) (inside_alike (over s) i) in
+        λ j. a_stack n (flaw_inside path (over s) i) ∷ (mets_inside path (over s) i j ++ rest j)
+
+    mets_inside : (path : List ℕ) (s : Scope) (i : Inside) → met_inside source seen path s i ≡ met_inside source other path s i
+    mets_inside path s (shut f) = refl
+    mets_inside path s (inside.given_by form b) = ap (λ (ms : List Met). flaw_met (offers_flaw path s form) ++ ms) (mets_in (given_in s form) b)
+
+    mets_in : (g : Given) (b : Body) → met_in source seen g b ≡ met_in source other g b
+    mets_in g (barred f) = refl
+    mets_in g (halted t f) = refl
+    mets_in g (opened t conds w) =
+        let along : met_along source seen t.path (scoping source t conds (settings_for t.template.params g)) (first_sights t conds seen (own_ids w)) w
+        ≡ met_along source other t.path (scoping source t conds (settings_for t.template.params g)) (first_sights t conds other (own_ids w)) w =
+        mets_along t.path (scoping source t conds (settings_for t.template.params g)) (first_sights t conds seen (own_ids w)) w
+        ∙ ap (λ (s : Sights). met_along source other t.path (scoping source t conds (settings_for t.template.params g)) s w) (first_alike t conds (own_ids w)) in
+        λ j. flaw_met (bind_flaw t g) ++ (along j ++ outputs_met t conds (scope_alike g t conds w j))
+
+  wanted_alike : (g : Given) (b : Body) → outputs_in source seen g b ≡ outputs_in source other g b
+  wanted_alike g (barred f) = refl
+  wanted_alike g (halted t f) = refl
+  wanted_alike g (opened t conds w) = ap (outputs_wanted t conds) (scope_alike g t conds w)
+
+  values_alike : (shape : Shape) → plan_by source shape seen ≡ plan_by source shape other
+  values_alike shape =
+      λ j. plan_from shape (values_in (given_root source) shape j) (wanted_alike (given_root source) shape j) (mets_in (given_root source) shape j)
+
+-- where nothing was known of any path and the plan had no flaw, no more of it is known now
+pub plan_alike : (seen : Seen) → ((p : List ℕ) → seen_as (value_at p seen) ≡ seen_as None) → (source : Source) → (plan_of source []).flaws ≡ []
+    → plan_of source seen ≡ plan_of source []
+plan_alike seen blank source none =
+    ap (λ (shape : Shape). plan_by source shape seen) (shape_stays source [] seen (λ p. (tt, tt)) (flawless_clear source (shape_of source []) [] none))
+    ∙ values_alike source seen [] blank (shape_of source [])
 
 -- Where nothing is held, nothing is known of any path.
 abbrev IsBlankAt : List ℕ → Seen → Type 0
@@ -104,42 +128,29 @@ IsBlankAt p seen = seen_as (value_at p seen) ≡ seen_as None
 abbrev IsBlank : Seen → Type 0
 IsBlank seen = (p : List ℕ) → IsBlankAt p seen
 
-blank_more : (p q : List ℕ) (seen : Seen) → IsBlankAt p seen → IsBlankAt p (seen ++ (q, record { physical = None; attrs = None }) ∷ [])
-blank_more p q [] e = by (bytes_eq p q)
+blank_put : (p q : List ℕ) (seen : Seen) → IsBlankAt p seen → IsBlankAt p (put q (record { physical = None; attrs = None }) seen)
+blank_put p q seen e = ap seen_as (value_put p q (record { physical = None; attrs = None }) seen) ∙ by (bytes_eq p q)
   where
-    by : (b : Bool) → seen_as (cond b (Some (record { physical = None; attrs = None })) None) ≡ seen_as None
+    by : (b : Bool) → seen_as (cond b (Some (record { physical = None; attrs = None })) (value_at p seen)) ≡ seen_as None
     by true = refl
-    by false = refl
-blank_more p q (s ∷ rest) e = by (blank_more p q rest) (bytes_eq p s.0) e
-  where
-    by : (IsBlankAt p rest → IsBlankAt p (rest ++ (q, record { physical = None; attrs = None }) ∷ [])) → (b : Bool)
-        → seen_as (cond b (Some s.1) (value_at p rest)) ≡ seen_as None
-        → seen_as (cond b (Some s.1) (value_at p (rest ++ (q, record { physical = None; attrs = None }) ∷ []))) ≡ seen_as None
-    by on true h = h
-    by on false h = on h
+    by false = e
 
 abbrev IsNew : Found → Type 0
 IsNew f = IsBlank f.seen × (f.clash ≡ [])
 
-module _ (schemas : List Schema) (source : Source) where
-  new_with : (f : Found) (w : Wanted) → IsNew f → IsNew (found_with schemas [] f w)
-  new_with f w new = (λ p. blank_more p w.path f.seen (new.0 p), new.1)
-
-  new_at : (f : Found) (path : List ℕ) → IsNew f → IsNew (found_at schemas [] source f path)
-  new_at f path new = by (wanted_at path (plan_of source f.seen))
+module _ (schemas : List Schema) (source : Source) (shape : Shape) where
+  new_next : (f : Found) (m : Member) → IsNew f → IsNew (found_next schemas [] source shape f m)
+  new_next f m new = by (props_at source shape f.seen m.path)
     where
-      by : (o : Option Wanted) → IsNew (option_map_or (found_with schemas [] f) o f)
+      by : (o : Option Evaluated) → IsNew (option_map_or (λ v. found_with schemas [] f (wanted_of (m, v))) o f)
       by None = new
-      by (Some w) = new_with f w new
+      by (Some v) = (λ p. blank_put p m.path f.seen (new.0 p), new.1)
 
-  pub new_by : (n : ℕ) (f : Found) → IsNew f → IsNew (found_by n schemas [] source f)
-  new_by zero f new = new
-  new_by (suc n) f new = by (new_by n) (next_path source f)
-    where
-      by : ((g : Found) → IsNew g → IsNew (found_by n schemas [] source g)) → (o : Option (List ℕ))
-          → IsNew (option_map_or (λ path. found_by n schemas [] source (found_at schemas [] source f path)) o f)
-      by on None = new
-      by on (Some path) = on (found_at schemas [] source f path) (new_at f path new)
+  new_among : (ms : List Member) (f : Found) → IsNew f → IsNew (fold (found_next schemas [] source shape) f ms)
+  new_among [] f new = new
+  new_among (m ∷ ms) f new = new_among ms (found_next schemas [] source shape f m) (new_next f m new)
 
-  pub new_first : IsNew (record { rows = []; seen = []; clash = [] })
-  new_first = (λ p. refl, refl)
+-- over nothing that is held, nothing is known of what is found
+pub new_found : (schemas : List Schema) (source : Source) → IsNew (found_of schemas [] source)
+new_found schemas source =
+    new_among schemas source (shape_of source []) (resources_in (shape_of source [])) (record { rows = []; seen = []; clash = [] }) (λ p. refl, refl)

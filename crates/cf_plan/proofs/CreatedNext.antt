@@ -12,12 +12,12 @@ use Rattle.cf_tree.specs.Lists.{is_among}
 use Rattle.cf_desired.specs.declared.wanted.Evaluated.{Evaluated}
 use Rattle.cf_desired.specs.declared.wanted.Evaluated.TheVariants.{Flawed as flawed, Known as evaluated}
 use Rattle.cf_desired.specs.declared.wanted.Wanted.{Wanted}
-use Rattle.cf_desired.specs.Plan.{Seen, plan_of}
+use Rattle.cf_desired.specs.Seeing.{Seen}
+use Rattle.cf_desired.specs.Plan.{plan_of}
 use Rattle.cf_desired.specs.Whole.{is_wanted_at, wanted_at, known_props_from}
-use Rattle.cf_desired.specs.Stays.{without_props, other_flaws, is_shown, is_settled, ComeFirst}
-use Rattle.cf_desired.proofs.StaysKept.{terms_kept}
-use Rattle.cf_desired.proofs.StaysFilled.{among_pass, needed_known}
-use Rattle.cf_desired.proofs.StaysFirst.{needs_first}
+use Rattle.cf_desired.specs.Stays.{other_flaws, is_shown, is_settled}
+use Rattle.cf_desired.proofs.Planned.{WantedFirst, needed_flat, terms_kept, wanted_first, without_props}
+use Rattle.cf_desired.proofs.Puts.{among_pass}
 use Rattle.cf_stacks.specs.declared.held.Held.{Held}
 use Rattle.cf_stacks.specs.declared.state.StackState.{StackState}
 use Rattle.cf_stacks.specs.declared.state.World.{World}
@@ -49,7 +49,7 @@ module _ (s : StackState) (all : List Wanted) where
 
   -- those before this list are done, and what is not made is found in it
   pub record Walked (before : List (List ℕ)) (ws : List Wanted) : Type 0 where
-    pub first : ComeFirst before ws
+    pub first : WantedFirst before ws
     pub done : (q : List ℕ) → is_among q before ≡ true → IsDone s q
     pub left : (p : List ℕ) → current_at p s.made ≡ None → find (is_wanted_at p) all ≡ find (is_wanted_at p) ws
 
@@ -148,13 +148,13 @@ module _ (source : Source) (s : StackState) (h : IsRightCreate source s) where
       let terms = terms_kept source h.0.flat before now in
       let v : IsAlso w (wanted_at w.path (plan_of source now)) =
       also w (wanted_at w.path (plan_of source now))
-      (terms_at_path w.path (plan_of source now).wanted ∙ ap (find (is_wanted_at w.path)) terms.wanted ∙ sym (terms_at_path w.path ordered) ∙ ap (option_map without_props) u.found) in
+      (terms_at_path w.path (plan_of source now).wanted ∙ ap (find (is_wanted_at w.path)) terms ∙ sym (terms_at_path w.path ordered) ∙ ap (option_map without_props) u.found) in
       let seen : list_all (is_shown now) v.other.needs ≡ true =
       ap (list_all (is_shown now)) v.same
       ∙ pass_all (is_shown now) w.needs (λ q i.
       let m = made_at source s h.0 q (u.needs q (in_among q w.needs i)) in
       ap (λ o. is_some (option_and_then (λ x. x.physical) o) && is_some (option_and_then (λ x. x.attrs) o)) (shown_at q s.made ∙ ap (option_map shown) m.1)) in
-      let settled = needed_known source h.0.flat now (subst (λ p. other_flaws p ≡ []) (plan_shown source s h.0) n) w.path v.other v.there_too seen in
+      let settled = needed_flat source h.0.flat now (subst (λ p. other_flaws p ≡ []) (plan_shown source s h.0) n) w.path v.other v.there_too seen in
       settled_known v.other.kind v.other.props settled (ap found_in (sym v.there_too) ∙ sym (said_now source s h.0 w.path) ∙ e)
 
   goes_from :
@@ -175,7 +175,7 @@ module _ (source : Source) (s : StackState) (h : IsRightCreate source s) where
 
 pub goes_on : CreateGoesOn
 goes_on schemas name x source s h n good =
-    by_walk (walk s (ordered source s h) [] (ordered source s h) (record { first = needs_first source h.0.flat (seen_in s.before); done = λ q g. absurd (true≢false (sym g)); left = λ p m. refl })) where
+    by_walk (walk s (ordered source s h) [] (ordered source s h) (record { first = wanted_first source (seen_in s.before); done = λ q g. absurd (true≢false (sym g)); left = λ p m. refl })) where
       by_walk : ((p : List ℕ) → In p (map (λ w. w.path) (plan_of source (seen_in s.before)).wanted) → IsDone s p) ⊎ IsFirst s (plan_of source (seen_in s.before)).wanted → AllDone s ⊎ ((path : List ℕ) × IsNext s path)
       by_walk (inl d) = inl (λ p i. d p (subst (λ g. In p (map (λ x. x.path) (plan_in g (seen_in s.before)).wanted)) h.0.going i))
       by_walk (inr u) = inr (goes_from source s h schemas name x n good u (evaluated_at u.wanted.path s) refl)

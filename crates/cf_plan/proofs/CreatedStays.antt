@@ -12,11 +12,12 @@ use Rattle.cf_stacks.specs.Fold.{seen_in}
 use Rattle.cf_desired.specs.declared.wanted.Evaluated.TheVariants.{Flawed as flawed, Known as evaluated}
 use Rattle.cf_desired.specs.declared.wanted.Wanted.{Wanted}
 use Rattle.cf_desired.specs.declared.wanted.Evaluated.{Evaluated}
-use Rattle.cf_desired.specs.Plan.{Seen, plan_of}
+use Rattle.cf_desired.specs.Seeing.{Seen}
+use Rattle.cf_desired.specs.Plan.{plan_of}
 use Rattle.cf_desired.specs.Whole.{is_wanted_at, wanted_at, known_of, known_props_from}
 use Rattle.cf_desired.specs.Templates.{IsFlat}
-use Rattle.cf_desired.specs.Stays.{SeesMore, without_props, props_known}
-use Rattle.cf_desired.proofs.StaysKept.{terms_kept, known_kept}
+use Rattle.cf_desired.specs.Stays.{SeesMore, props_known}
+use Rattle.cf_desired.proofs.Planned.{known_flat, terms_kept, without_props}
 use Rattle.cf_plan.specs.Forward.{In, here, there, Finding, Later, Known, finding, known_or_later, plan_in, evaluated_at}
 use Rattle.cf_plan.specs.Created.{IsCreating}
 
@@ -75,9 +76,9 @@ found_stays source flat a b more path k ps h =
     let q = plan_of source b in
     let f = is_found k ps (wanted_at path p) h in
     let known : props_known path p ≡ Some ps = ap (option_and_then (λ w. known_of w.props)) f.there ∙ f.props in
-    let kept : props_known path q ≡ Some ps = subst (λ o. Keeps o (props_known path q)) known ((known_kept source flat a b more).props path) in
+    let kept : props_known path q ≡ Some ps = subst (λ o. Keeps o (props_known path q)) known ((known_flat source flat a b more).props path) in
     let kinds : option_map (λ w. w.kind) (wanted_at path q) ≡ option_map (λ w. w.kind) (wanted_at path p) =
-    kinds_at path q.wanted ∙ ap (λ ws. option_map (λ w. w.kind) (find (is_wanted_at path) ws)) ((terms_kept source flat a b).wanted) ∙ sym (kinds_at path p.wanted) in
+    kinds_at path q.wanted ∙ ap (λ ws. option_map (λ w. w.kind) (find (is_wanted_at path) ws)) (terms_kept source flat a b) ∙ sym (kinds_at path p.wanted) in
     found_again k ps (wanted_at path p) (wanted_at path q) kinds refl kept (ap (option_map (λ w. w.kind)) f.there ∙ ap (λ l. Some l) f.kind)
 
 -- what the template of a create says of a path, over what is shown of these resources

@@ -17,12 +17,11 @@ use Rattle.cf_stacks.specs.Fold.{seen_in, seen_now, is_right_at}
 use Rattle.cf_desired.specs.declared.wanted.Plan.{Plan}
 use Rattle.cf_desired.specs.declared.wanted.Wanted.{Wanted}
 use Rattle.cf_desired.specs.declared.seen.SeenAt.{SeenAt}
-use Rattle.cf_desired.specs.Plan.{Seen, plan_of}
+use Rattle.cf_desired.specs.Seeing.{Seen}
+use Rattle.cf_desired.specs.Plan.{plan_of}
 use Rattle.cf_desired.specs.Whole.{Right, is_wanted_at, wanted_at, known_of, right_of, whole_of}
-use Rattle.cf_desired.specs.Stays.{without_props, is_seen_at}
-use Rattle.cf_desired.proofs.StaysKept.{terms_kept}
-use Rattle.cf_desired.proofs.StaysWhole.{known_whole}
-use Rattle.cf_desired.proofs.StaysClear.{seen_known}
+use Rattle.cf_desired.proofs.AllKnown.{known_whole}
+use Rattle.cf_desired.proofs.Planned.{is_seen_at, plan_known, terms_kept, without_props}
 use Rattle.cf_plan.specs.Forward.{In, here, there, is_made, is_updated, is_right, plan_in, plan_now, wanted_paths, IsDone}
 use Rattle.cf_plan.specs.Created.{IsCreating, CreatedIsWhole}
 use Rattle.cf_plan.proofs.CreatedSeen.{shown, shown_at}
@@ -110,7 +109,7 @@ plan_shown source s c = ap (λ g. plan_in g (seen_now s)) c.going ∙ ap (plan_o
 paths_shown : (source : Source) (s : StackState) → IsCreating source s → map (λ w. w.path) (plan_of source (seen_in s.made)).wanted ≡ wanted_paths s
 paths_shown source s c =
     paths_without (plan_of source (seen_in s.made)).wanted
-    ∙ ap (map (λ w. w.path)) ((terms_kept source c.flat (seen_in s.before) (seen_in s.made)).wanted)
+    ∙ ap (map (λ w. w.path)) (terms_kept source c.flat (seen_in s.before) (seen_in s.made))
     ∙ sym (paths_without (plan_of source (seen_in s.before)).wanted)
     ∙ ap (λ g. map (λ w. w.path) (plan_in g (seen_in s.before)).wanted) (sym c.going)
 
@@ -129,7 +128,7 @@ created_whole source s h done none =
     λ p i. made_at source s c p (done p (subst (In p) paths i)) in
     let shows : list_all (is_seen_at seen) plan.wanted ≡ true =
     all_seen seen plan.wanted (λ p i. ((each p i).0, shown_at p s.made ∙ ap (option_map shown) ((each p i).1))) in
-    let whole = known_whole source seen (seen_known source c.flat seen shows (subst (λ p. p.flaws ≡ []) (plan_shown source s c) none)) in (
+    let whole = known_whole plan (plan_known source seen shows (subst (λ p. p.flaws ≡ []) (plan_shown source s c) none)) in (
       whole.0,
       ap (whole_of source) (shown_now source s c) ∙ whole.1,
       record {

@@ -9,7 +9,7 @@ use Rattle.std.proofs.lemmas.Bool.{and_from, and_right, eq-eqb, eqb-true}
 use Rattle.cf_tree.specs.Keys.{value_at}
 use Rattle.cf_tree.specs.declared.request.Request.{Request}
 use Rattle.cf_tree.specs.declared.request.Request.TheVariants as request
-use Rattle.cf_desired.proofs.StaysSeen.{value_put}
+use Rattle.cf_desired.proofs.Puts.{value_put}
 use Rattle.cf_schema.specs.declared.described.Schema.{Schema}
 use Rattle.cf_entry.specs.Entry.{IsProper}
 use Rattle.cf_entry.specs.Status.{is_end}

@@ -26,7 +26,7 @@ use Rattle.cf_plan.specs.declared.preparing.PrepareFault.{PrepareFault}
 use Rattle.cf_plan.specs.declared.preparing.PrepareFault.TheVariants as fault
 use Rattle.cf_plan.specs.declared.preparing.StackFault.TheVariants.{WrongStatus}
 use Rattle.cf_plan.specs.declared.preparing.Wish.{Wish}
-use Rattle.cf_plan.proofs.BlankSeen.{new_by, new_first, plan_alike}
+use Rattle.cf_plan.proofs.BlankSeen.{new_found, plan_alike}
 
 some_none : {A B : Type 0} (a : A) → Some a ≡ None → B
 some_none a e = absurd cc
@@ -104,13 +104,13 @@ module _ (schemas : List Schema) (x : World) (w : Wish) (none : refusal_of x w �
     same_plan : plan_of (source_by x w) (seen_before schemas (known_stack w.stack x) (source_by x w)) ≡ first_plan x w
     same_plan =
         ap (λ (hs : List HeldAt). plan_of (source_by x w) (found_of schemas hs (source_by x w)).seen) held_none
-        ∙ plan_alike (found_of schemas [] (source_by x w)).seen []
-        (new_by schemas (source_by x w) 2000 (record { rows = []; seen = []; clash = [] }) (new_first schemas (source_by x w))).0 (source_by x w)
+        ∙ plan_alike (found_of schemas [] (source_by x w)).seen
+        (new_found schemas (source_by x w)).0 (source_by x w) no_flaw
 
     no_clash : (found_of schemas (held_by (known_stack w.stack x)) (source_by x w)).clash ≡ []
     no_clash =
         ap (λ (hs : List HeldAt). (found_of schemas hs (source_by x w)).clash) held_none
-        ∙ (new_by schemas (source_by x w) 2000 (record { rows = []; seen = []; clash = [] }) (new_first schemas (source_by x w))).1
+        ∙ (new_found schemas (source_by x w)).1
 
     accepted : IsAccepted schemas (kinds_in x) w.stack x (known_stack w.stack x) (source_by x w)
     accepted = record {

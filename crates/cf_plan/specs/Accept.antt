@@ -19,7 +19,8 @@ use Rattle.cf_stacks.specs.Words.{is_pinned}
 use Rattle.cf_tree.specs.Named.{all_differ}
 use Rattle.cf_tree.specs.Lists.{is_among}
 use Rattle.cf_change.specs.Changes.{HeldAt, Changes, changes_of, found_of, is_empty}
-use Rattle.cf_desired.specs.Plan.{Seen, plan_of}
+use Rattle.cf_desired.specs.Seeing.{Seen}
+use Rattle.cf_desired.specs.Plan.{plan_of}
 
 -- What a stack holds, as a change set compares it: the resource of each path, and none that is superseded.
 abbrev pub held_as : Held → HeldAt

@@ -11,7 +11,7 @@ use Rattle.cf_tree.specs.declared.source.Source.{Source}
 use Rattle.cf_stacks.specs.declared.held.Held.{Held}
 use Rattle.cf_stacks.specs.declared.state.StackState.{StackState}
 use Rattle.cf_stacks.specs.declared.state.World.{World}
-use Rattle.cf_desired.specs.Plan.{Seen}
+use Rattle.cf_desired.specs.Seeing.{Seen}
 use Rattle.cf_desired.specs.Whole.{Right, Whole, whole_of}
 use Rattle.cf_stacks.specs.Words.{current_at}
 use Rattle.cf_stacks.specs.Operation.{Call, Response, call_at, replies_in, is_of, is_success}

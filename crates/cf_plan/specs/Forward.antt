@@ -32,7 +32,8 @@ use Rattle.cf_desired.specs.declared.flaw.Flaw.{Flaw}
 use Rattle.cf_desired.specs.declared.wanted.Evaluated.{Evaluated}
 use Rattle.cf_desired.specs.declared.wanted.Inner.{Inner}
 use Rattle.cf_desired.specs.declared.wanted.Plan.{Plan}
-use Rattle.cf_desired.specs.Plan.{Seen, plan_of, no_plan}
+use Rattle.cf_desired.specs.Seeing.{Seen}
+use Rattle.cf_desired.specs.Plan.{plan_of, no_plan}
 use Rattle.cf_desired.specs.Whole.{wanted_at, known_props_from}
 use Rattle.cf_desired.specs.FlawText.{flaw_text}
 use Rattle.cf_stacks.specs.Words.{current_at, has_physical, is_update, is_pinned}

@@ -1,11 +1,16 @@
 -- The next step of a creation, as it is decided: what may begin, and on which lane (this project's own).
-use Rattle.std.specs.Prelude.{◌≡◌, ◌↔◌, ◌⊎◌, ℕ, ◌+◌, Bool, false, ◌&&◌, not, List, [], ◌∷◌, ◌++◌, Option, Some, None, IsTrue, fold, flat_map, is_some}
+use Rattle.std.specs.Prelude.{◌≡◌, ◌↔◌, ◌⊎◌, ⊤, ℕ, ◌+◌, Bool, false, ◌&&◌, not, List, [], ◌∷◌, ◌++◌, Option, Some, None, IsTrue, fold, flat_map, is_some}
 use Rattle.std.specs.Option.{unwrap_or}
 use Rattle.cf_tree.specs.Keys.{put}
 use Rattle.cf_tree.specs.declared.request.Request.{Request}
 use Rattle.cf_tree.specs.declared.request.Request.TheVariants as request
 use Rattle.cf_schema.specs.declared.described.Schema.{Schema}
 use Rattle.cf_schema.specs.Kinds.{with_kind}
+use Rattle.cf_tree.specs.declared.source.Source.{Source}
+use Rattle.cf_desired.specs.declared.shape.Shape as laid
+use Rattle.cf_desired.specs.Kept.{IsShape}
+use Rattle.cf_desired.specs.Seeing.{Seen}
+use Rattle.cf_desired.specs.Shape.{shape_of}
 use Rattle.cf_entry.specs.declared.status.Status.TheVariants as status
 use Rattle.cf_stacks.specs.declared.held.Held.{Held}
 use Rattle.cf_stacks.specs.declared.held.Pending.{Pending}
@@ -40,6 +45,13 @@ IsCreation x number = (name : List ℕ) × (s : StackState) × (stack_of_operati
 -- the step is chosen on a stack, in its stage
 abbrev pub IsChosenOn : List Schema → List ℕ → World → List ℕ → StackState → Next → Type 0
 IsChosenOn schemas name x out s n = (stage : Stage) × (stage_of s.status ≡ Some stage) × IsChosen schemas name x out s stage n
+
+-- a shape that is a source's, whatever is seen
+abbrev pub IsShapeFor : Option laid.Shape → Option Source → Type 0
+IsShapeFor (Some shape) (Some source) = (seen : Seen) → IsShape shape (shape_of source seen)
+IsShapeFor None None = ⊤
+IsShapeFor (Some shape) None = ⊥
+IsShapeFor None (Some source) = ⊥
 
 -- the terms that the operation's source gives a path join those of other paths
 abbrev pub with_terms : StackState → List (List ℕ × Terms) → List ℕ → List (List ℕ × Terms)

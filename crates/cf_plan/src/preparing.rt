@@ -3,7 +3,7 @@ ghost use Rattle.std.specs.Prelude.{◌≡◌, ℕ, List, [], IfOk, None, Some};
 ghost use Rattle.std.specs.Option.{option_copied};
 ghost use Rattle.cf_tree.specs.Lists.{is_among};
 ghost use Rattle.cf_desired.specs.Plan.{plan_of};
-ghost use Rattle.cf_desired.specs.Templates.{IsFlat, templates_of};
+ghost use Rattle.cf_desired.specs.Templates.{templates_of};
 ghost use Rattle.cf_stacks.specs.Fold.{source_for};
 ghost use Rattle.cf_plan.specs.Follow.{MayFollow};
 ghost use Rattle.cf_plan.specs.declared.preparing.StackFault.TheVariants.{WrongStatus};
@@ -158,7 +158,6 @@ fn first_plan(
     number: u64,
 ) -> Result<Plan, AllocError>
     requires templates { templates.now ≡ templates_of wish.now.source }
-    requires flat { IsFlat wish.now.source }
     ensures { IfOk result (λ p. p ≡ plan_of (source_for wish.now.stack number wish.now.source) []) }
 {
     let source = source_by(alloc, wish, number)?;
@@ -201,7 +200,6 @@ fn prepare_new(
     number: u64,
 ) -> Result<Order, PrepareFault>
     requires templates { templates.now ≡ templates_of wish.now.source }
-    requires flat { IsFlat wish.now.source }
     ensures { TestsAs (plan_refusal (kinds_in world.now) (plan_of (source_for wish.now.stack number wish.now.source) []))
         (IsOrderFor number wish.now) result }
 {
@@ -230,7 +228,7 @@ fn wrong_status(status: Status) -> PrepareFault
 /// follow where the stack holds nothing and the source imports and exports as it may; these are not
 /// tested yet.
 ///
-/// `templates` are the templates of the wish's source, whose root template holds no nested stack.
+/// `templates` are the templates of the wish's source.
 /// A create asks nothing of the schemas.
 ///
 /// # Errors
@@ -248,7 +246,6 @@ pub fn prepare(
     schemas: &Schemas,
 ) -> Result<Order, PrepareFault>
     requires templates { templates.now ≡ templates_of wish.now.source }
-    requires flat { IsFlat wish.now.source }
     ensures prepares { PreparesAs world.now wish.now result }
     ensures follows { IfOk result (λ order. WishShares schemas.now world.now wish.now → (out : List ℕ) → MayFollow schemas.now world.now out order.entry) }
 {

@@ -9,13 +9,14 @@ ghost use Rattle.cf_desired.specs.Plan.{no_plan};
 ghost use Rattle.cf_schema.specs.declared.described.Schema.{Schema};
 ghost use Rattle.cf_stacks.specs.Status.{Forward, Back};
 ghost use Rattle.cf_stacks.specs.Fold.{terms_at};
+ghost use Rattle.cf_stacks.specs.declared.state.StackState.{StackState};
 ghost use Rattle.cf_plan.specs.declared.next.Next.TheVariants as next;
 ghost use Rattle.cf_plan.specs.Forward.{plan_before, plan_in, plan_now, AllDone, HasFailed, IsCause};
 ghost use Rattle.cf_plan.specs.Done.{AreDone};
 ghost use Rattle.cf_plan.specs.Chosen.{IsChosen, IsNext, entry_of, leases_of};
 ghost use Rattle.cf_plan.specs.Follow.{MayFollow};
 ghost use Rattle.cf_plan.specs.Taking.{AreTerms, better, better_if, first_by, is_token_before, is_repeat_home};
-ghost use Rattle.cf_plan.specs.Stepping.{schemas_of, Creates, IsCreation, IsChosenOn, start_of, starts_at, starts_in, with_terms, terms_asked, AreOpen, lane_for, is_start_home, place_in_path, is_start_before, is_over, Begins, Waits};
+ghost use Rattle.cf_plan.specs.Stepping.{IsShapeFor, schemas_of, Creates, IsCreation, IsChosenOn, start_of, starts_at, starts_in, with_terms, terms_asked, AreOpen, lane_for, is_start_home, place_in_path, is_start_before, is_over, Begins, Waits};
 
 use crate::back::{first_repeat, home_of};
 use crate::cause::are_all_done;
@@ -25,10 +26,10 @@ use crate::next::{Homes, Next, again, leases_of, next_back, stack_of_operation, 
 use crate::progress::{Progress, progress_of};
 use crate::repeats::{none_out, waits_for_repeats};
 use crate::starts::starts_of;
-use cf_desired::{Plan, Seen};
+use cf_desired::{Plan, Seen, Shape};
 use cf_entry::{Cause, Phase, Status};
 use cf_schema::Schemas;
-use cf_stacks::{StackState, Terms, World, seen_in, seen_now};
+use cf_stacks::{StackState, Terms, World, seen_in, seen_now, terms_by};
 use cf_tree::{ByName, Listing, Names, Request, TryClone, Txt};
 use std::alloc::{AllocError, Global};
 
@@ -95,12 +96,26 @@ pub fn plan_now(alloc: Global, stack: &StackState) -> Result<Plan, AllocError>
     plan_in(alloc, stack, &seen)
 }
 
-/// The policies and needs that the source of the operation gives a path.
-fn terms_at(alloc: Global, stack: &StackState, path: &Txt) -> Result<Terms, AllocError>
-    ensures { IfOk result (λ terms. terms ≡ terms_at path.now stack.now) }
+/// The shape of the source of a stack's operation, where it has one.
+fn shape_in<'a>(
+    alloc: Global,
+    stack: &'a StackState,
+    seen: &'a Seen,
+) -> Result<Option<Shape<'a>>, AllocError>
+    ensures { IfOk result (λ shape. IsShapeFor shape stack.now.going) }
 {
     match &stack.going {
-        Some(going) => going.terms(alloc, path),
+        Some(going) => Ok(Some(going.shape(alloc, seen)?)),
+        None => Ok(None),
+    }
+}
+
+/// The policies and needs that the source of an operation gives a path, by its shape.
+fn terms_in(alloc: Global, shape: &Option<Shape>, path: &Txt) -> Result<Terms, AllocError>
+    ensures { IfOk result (λ terms. (s : StackState) → IsShapeFor shape.now s.going → terms ≡ terms_at path.now s) }
+{
+    match shape {
+        Some(shape) => terms_by(alloc, shape, path),
         None => Ok(Terms::usual(alloc)),
     }
 }
@@ -108,13 +123,13 @@ fn terms_at(alloc: Global, stack: &StackState, path: &Txt) -> Result<Terms, Allo
 /// Adds the terms of a path. After an error nothing is said of the map.
 fn add_terms(
     alloc: Global,
-    stack: &StackState,
+    shape: &Option<Shape>,
     terms: &mut ByName<Terms>,
     path: &Txt,
 ) -> Result<(), AllocError>
-    ensures { IfOk result (λ _. terms.new ≡ with_terms stack.now terms.old path.now) }
+    ensures { IfOk result (λ _. (s : StackState) → IsShapeFor shape.now s.going → terms.new ≡ with_terms s terms.old path.now) }
 {
-    let given = terms_at(alloc, stack, path)?;
+    let given = terms_in(alloc, shape, path)?;
     terms.insert(path.try_clone(alloc)?, given)
 }
 
@@ -122,12 +137,14 @@ fn add_terms(
 fn terms_asked(alloc: Global, stack: &StackState) -> Result<ByName<Terms>, AllocError>
     ensures { IfOk result (λ terms. terms ≡ terms_asked stack.now) }
 {
+    let seen = Seen::new(alloc);
+    let shape = shape_in(alloc, stack, &seen)?;
     let mut terms = ByName::new(alloc);
     for held in stack.made.as_slice() {
-        add_terms(alloc, stack, &mut terms, &held.path)?;
+        add_terms(alloc, &shape, &mut terms, &held.path)?;
     }
     for pending in stack.tokens.as_slice() {
-        add_terms(alloc, stack, &mut terms, &pending.path)?;
+        add_terms(alloc, &shape, &mut terms, &pending.path)?;
     }
     Ok(terms)
 }

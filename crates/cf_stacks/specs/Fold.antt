@@ -40,7 +40,8 @@ use Rattle.cf_stacks.specs.declared.state.World.{World}
 use Rattle.cf_stacks.specs.Status.{begun, turned}
 use Rattle.cf_desired.specs.declared.seen.SeenAt.{SeenAt}
 use Rattle.cf_desired.specs.declared.wanted.Wanted.{Wanted}
-use Rattle.cf_desired.specs.Plan.{Seen, plan_of}
+use Rattle.cf_desired.specs.Seeing.{Seen}
+use Rattle.cf_desired.specs.Plan.{plan_of}
 use Rattle.cf_desired.specs.Whole.{Right, Whole, wanted_at, whole_of, export_names_of}
 use Rattle.cf_stacks.specs.Words.{stack_at, stack_of_operation, where_going, has_physical, current_at, resource_at, resources_of, without, where_physical, has_token, pending_of, without_token, is_on, is_create, is_create_at}
 use Rattle.cf_stacks.specs.Event.{lines_of, event_line}

@@ -1,6 +1,10 @@
 //! The source that an operation works by, with its templates.
 ghost use Rattle.std.specs.Prelude.{◌≡◌, IfOk, Some};
-ghost use Rattle.cf_desired.specs.Plan.{Seen, plan_of};
+ghost use Rattle.cf_desired.specs.Kept.{IsShape};
+ghost use Rattle.cf_desired.specs.Seeing.{Seen};
+ghost use Rattle.cf_desired.specs.Shape.{shape_of};
+ghost use Rattle.cf_tree.specs.declared.source.Source.{Source};
+ghost use Rattle.cf_desired.specs.Plan.{plan_of};
 ghost use Rattle.cf_desired.specs.Templates.{IsFlat, templates_of};
 ghost use Rattle.cf_desired.specs.Whole.{export_names_of, wanted_at};
 ghost use Rattle.cf_stacks.specs.Changing.{Steps};
@@ -9,7 +13,8 @@ ghost use Rattle.cf_stacks.specs.Fold.{empty_whole, terms_of, whole_over};
 use crate::fault::StepFault;
 use crate::terms::Terms;
 use cf_desired::{
-    Plan, Seen, WholePlan, export_names, is_flat_source, plan, templates_of, terms_at, whole,
+    Plan, Seen, Shape, WholePlan, export_names, is_flat_source, plan, shape_of, templates_of,
+    terms_at, whole,
 };
 use cf_export::Outputs;
 use cf_tree::{Listing, Names, Source, Templates, TryClone, Txt};
@@ -90,19 +95,20 @@ impl Going {
         plan(alloc, &self.read.source, &self.read.templates, seen)
     }
 
+    /// Its shape over what is seen, and over whatever else is seen.
+    pub fn shape<'a>(&'a self, alloc: Global, seen: &'a Seen) -> Result<Shape<'a>, AllocError>
+        ensures { IfOk result (λ shape. (any : Seen) → IsShape shape (shape_of self.now any)) }
+    {
+        shape_of(alloc, &self.read.source, &self.read.templates, seen)
+    }
+
     /// The policies and needs that it gives a path; they don't rest on what is seen.
-    #[tactic(auto, using(crate::proofs::Termed::terms_so, crate::proofs::Termed::no_terms))]
     pub fn terms(&self, alloc: Global, path: &Txt) -> Result<Terms, AllocError>
         ensures { IfOk result (λ terms. (seen : Seen) → terms ≡ terms_of (wanted_at path.now (plan_of self.now seen))) }
     {
-        match terms_at(alloc, &self.read.source, &self.read.templates, path)? {
-            Some(terms) => Ok(Terms {
-                needs: terms.needs,
-                deletion: terms.deletion,
-                replace: terms.replace,
-            }),
-            None => Ok(Terms::usual(alloc)),
-        }
+        let seen = Seen::new(alloc);
+        let shape = self.shape(alloc, &seen)?;
+        terms_by(alloc, &shape, path)
     }
 
     /// All that it wants over what is seen; nothing where not all of that is known.
@@ -127,6 +133,24 @@ impl Going {
         let names = export_names(alloc, &plan);
         drop(plan);
         names
+    }
+}
+
+/// The policies and needs that a source gives a path, by its shape.
+///
+/// # Errors
+///
+/// Only for want of memory.
+pub fn terms_by(alloc: Global, shape: &Shape, path: &Txt) -> Result<Terms, AllocError>
+    ensures { IfOk result (λ terms. (source : Source) (seen : Seen) → IsShape shape.now (shape_of source seen) → terms ≡ terms_of (wanted_at path.now (plan_of source seen))) }
+{
+    match terms_at(alloc, shape, path)? {
+        Some(terms) => Ok(Terms {
+            needs: terms.needs,
+            deletion: terms.deletion,
+            replace: terms.replace,
+        }),
+        None => Ok(Terms::usual(alloc)),
     }
 }
 

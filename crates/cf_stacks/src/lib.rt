@@ -34,7 +34,7 @@ pub use attrs::Attrs;
 pub use awaited::{AnswerParts, AnswerRoom, AnswerRooms, ResourceParts, StackParts};
 pub use cf_export::{Output, Outputs};
 pub use fault::StepFault;
-pub use going::Going;
+pub use going::{Going, terms_by};
 pub use held::{
     Abandoned, GivenUp, Held, HeldStatus, Helds, KeptSet, KeptSets, Leftover, Leftovers, Pending,
     Pendings,

@@ -4,7 +4,7 @@ use crate::library::Library;
 use crate::line::Line;
 use crate::spelled::add_source;
 use crate::words::Words;
-use cf_desired::{Flaw, is_flat_source, templates_of};
+use cf_desired::{Flaw, templates_of};
 use cf_entry::{Begun, Entry};
 use cf_eval::EvalWhy;
 use cf_graph::GraphFault;
@@ -159,12 +159,8 @@ fn add_answer(line: &mut Line, answer: Result<Order, PrepareFault>) {
 fn add_prepared(line: &mut Line, world: &World, wish: &Wish) {
     match templates_of(line.alloc, &wish.source) {
         Ok(templates) => {
-            if is_flat_source(&wish.source, &templates) {
-                let schemas = Schemas::new(line.alloc);
-                add_answer(line, prepare(line.alloc, world, wish, &templates, &schemas));
-            } else {
-                line.word("Nested");
-            }
+            let schemas = Schemas::new(line.alloc);
+            add_answer(line, prepare(line.alloc, world, wish, &templates, &schemas));
             drop(templates);
         }
         Err(_) => line.lose(),

@@ -1,4 +1,5 @@
 //! What a row is answered.
+use crate::changes::changes_line;
 use crate::commands::{command_line, workers_line};
 use crate::contents::contents;
 use crate::entries::entry_line;
@@ -50,6 +51,7 @@ fn tell(told: &mut Told, kind: Kind, text: &str, given: &str) {
         Kind::Shipped => shipped(told, text),
         Kind::Plan => plan_line(told, text, given),
         Kind::Terms => terms_line(told, text, given),
+        Kind::Changes => changes_line(told, text, given),
         Kind::Words => command_line(told, text),
         Kind::Workers => workers_line(told, text),
         Kind::Exit => exit_line(told, text, given),

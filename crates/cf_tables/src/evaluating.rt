@@ -279,6 +279,7 @@ fn output(alloc: Global, value: &Expr, env: &Env) -> OutputSight {
     match eval(alloc, value, env) {
         Ok(Got::Value(Val::Text(text))) => OutputSight::Made { value: Some(text) },
         Ok(Got::NoValue) => OutputSight::NotMade,
+        Err(EvalFault::Bad { why, stack, at }) => OutputSight::Broken { why, stack, at },
         other => {
             drop(other);
             OutputSight::Made { value: None }

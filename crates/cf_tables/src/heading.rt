@@ -46,6 +46,8 @@ pub enum Kind {
     Plan,
     /// What a template says of a path besides its properties.
     Terms,
+    /// What a template changes of what a stack holds.
+    Changes,
     /// What the words of a command line ask for.
     Words,
     /// The number of workers that a word names.
@@ -147,6 +149,7 @@ fn kind_of(word: &str) -> Kind {
         "change" => Kind::Change,
         "plan" => Kind::Plan,
         "terms" => Kind::Terms,
+        "changes" => Kind::Changes,
         "words" => Kind::Words,
         "workers" => Kind::Workers,
         "exit" => Kind::Exit,

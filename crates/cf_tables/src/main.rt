@@ -1,5 +1,5 @@
 //! Tables of the template language and of what the engine reads and says: rows of templates, parameters, schemas,
-//! expressions, plans, command lines and exits, each with the answer that the rules give it.
+//! expressions, plans, change sets, command lines and exits, each with the answer that the rules give it.
 //!
 //! The program reads a table line by line from its input. It answers each row by the calls that the engine uses, prints the
 //! rows that are answered otherwise, and in the end how many rows there were. Its functions promise nothing: what they call
@@ -9,6 +9,7 @@
 #![tactic(auto)]
 
 mod answer;
+mod changes;
 mod commands;
 mod contents;
 mod entries;
@@ -18,6 +19,7 @@ mod fault;
 mod formed;
 mod given;
 mod heading;
+mod held;
 mod json;
 mod lanes;
 mod ordering;

@@ -8,15 +8,16 @@
 //!
 //! The resources follow in the order of work, each with its type, its policies, what it needs and its properties; the
 //! outputs, and behind `as` the names that they are exported by; the exports with their values, and then all their names;
-//! the outputs that are not made; and the flaws in the order in which they are met. A resource or an output at fault tells
-//! its flaw by its number.
+//! each nested stack by the path of its stack resource, with what that needs and why its parameters can't be bound; the
+//! outputs that are not made; and the flaws in the order in which they are met. A resource, an output or a nested stack at
+//! fault tells its flaw by its number.
 use crate::pieces::cut;
 use crate::scene::{Scene, scene_of};
 use crate::told::Told;
-use crate::wanted::{push_plan, push_terms, push_whole};
+use crate::wanted::{push_plan, push_stack, push_terms, push_whole};
 use cf_desired::{
-    Desired, DesiredFault, Flaw, Plan, Terms, WholePlan, desired, export_names, is_flat_source,
-    plan, plan_text, templates_of, terms_at, whole,
+    Desired, DesiredFault, Flaw, Inner, Plan, Terms, WholePlan, desired, export_names, plan,
+    plan_text, shape_of, templates_of, terms_at, whole,
 };
 use cf_eval::EvalFault;
 use cf_rows::Memory;
@@ -28,28 +29,20 @@ pub fn plan_line(told: &mut Told, template: &str, words: &str) {
     let scene = scene_of(&mut told.memory, template, words);
     let flaw = flaw_over(&mut told.memory, &scene);
     match plan_over(told.memory.alloc, &scene) {
-        Ok(Some(plan)) => {
+        Ok(plan) => {
             told_over(told, &plan, flaw.as_ref());
             drop(plan);
         }
-        Ok(None) => told.put("nested"),
         Err(_) => told.memory.lose(),
     }
     drop(flaw);
     drop(scene);
 }
 
-/// The plan of a template; none of one with nested stacks.
-fn plan_over(alloc: Global, scene: &Scene) -> Result<Option<Plan>, AllocError> {
+/// The plan of a template.
+fn plan_over(alloc: Global, scene: &Scene) -> Result<Plan, AllocError> {
     let templates = templates_of(alloc, &scene.source)?;
-    let plan = if is_flat_source(&scene.source, &templates) {
-        match plan(alloc, &scene.source, &templates, &scene.seen) {
-            Ok(plan) => Ok(Some(plan)),
-            Err(failed) => Err(failed),
-        }
-    } else {
-        Ok(None)
-    };
+    let plan = plan(alloc, &scene.source, &templates, &scene.seen);
     drop(templates);
     plan
 }
@@ -65,11 +58,7 @@ pub fn first_flaw(memory: &mut Memory, template: &str, words: &str) -> Option<Fl
 fn flaw_over(memory: &mut Memory, scene: &Scene) -> Option<Flaw> {
     match templates_of(memory.alloc, &scene.source) {
         Ok(templates) => {
-            let flaw = if is_flat_source(&scene.source, &templates) {
-                flaw_in(desired(memory.alloc, &scene.source, &templates, &scene.seen))
-            } else {
-                None
-            };
+            let flaw = flaw_in(desired(memory.alloc, &scene.source, &templates, &scene.seen));
             drop(templates);
             flaw
         }
@@ -95,20 +84,25 @@ pub fn terms_line(told: &mut Told, text: &str, words: &str) {
     let (path, template) = cut(text);
     let path = told.memory.text(path);
     let scene = scene_of(&mut told.memory, template, words);
-    match templates_of(told.memory.alloc, &scene.source) {
-        Ok(templates) => {
-            if is_flat_source(&scene.source, &templates) {
-                let terms = terms_at(told.memory.alloc, &scene.source, &templates, &path);
-                told_terms(told, terms);
-            } else {
-                told.put("nested");
-            }
-            drop(templates);
-        }
-        Err(_) => told.memory.lose(),
-    }
+    let terms = terms_over(told.memory.alloc, &scene, &path);
+    told_terms(told, terms);
     drop(scene);
     drop(path);
+}
+
+/// What the shape of a template has at a path.
+fn terms_over(alloc: Global, scene: &Scene, path: &Txt) -> Result<Option<Terms>, AllocError> {
+    let templates = templates_of(alloc, &scene.source)?;
+    let terms = match shape_of(alloc, &scene.source, &templates, &scene.seen) {
+        Ok(shape) => {
+            let terms = terms_at(alloc, &shape, path);
+            drop(shape);
+            terms
+        }
+        Err(failed) => Err(failed),
+    };
+    drop(templates);
+    terms
 }
 
 fn told_terms(told: &mut Told, terms: Result<Option<Terms>, AllocError>) {
@@ -131,6 +125,7 @@ fn told_over(told: &mut Told, plan: &Plan, flaw: Option<&Flaw>) {
         None => wholeness(told, plan),
     }
     add_exports(told, plan);
+    add_stacks(told, plan.flaws.as_slice(), plan.nested.as_slice());
     add_list(told, "; unmade ", &plan.unmade);
     add_flaws(told, plan);
 }
@@ -177,7 +172,8 @@ fn refusal(told: &mut Told, plan: &Plan, flaw: &Flaw) {
     }
 }
 
-fn push_flaw(told: &mut Told, flaw: &Flaw) {
+/// Adds a flaw by its name and fields.
+pub fn push_flaw(told: &mut Told, flaw: &Flaw) {
     match plan_text(told.memory.alloc, flaw) {
         Ok(text) => {
             told.put(text.as_str());
@@ -188,7 +184,7 @@ fn push_flaw(told: &mut Told, flaw: &Flaw) {
 }
 
 /// A refusal as a flaw, but for want of memory.
-fn flaw_of(fault: DesiredFault) -> Option<Flaw> {
+pub fn flaw_of(fault: DesiredFault) -> Option<Flaw> {
     match fault {
         DesiredFault::Bind { at, fault } => Some(Flaw::Bind { at, fault }),
         DesiredFault::Eval {
@@ -218,6 +214,13 @@ fn add_exports(told: &mut Told, plan: &Plan) {
             drop(exports);
         }
         Err(_) => told.memory.lose(),
+    }
+}
+
+/// Adds the nested stacks.
+fn add_stacks(told: &mut Told, flaws: &[Flaw], nested: &[Inner]) {
+    for inner in nested {
+        push_stack(told, flaws, inner);
     }
 }
 

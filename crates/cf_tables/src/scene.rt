@@ -3,10 +3,12 @@
 //! Behind ` <- ` a row says it in words between ` & `, each one of these:
 //!
 //! - `K=V` gives a parameter its text;
-//! - `A is ID` says that the resource `A` has this physical id, and `A is ID with {..}` that it has these attributes too;
+//! - `A is ID` says that the resource at the path `A` has this physical id, and `A is ID with {..}` that it has these attributes too;
 //!   the id `?` is not known yet;
-//! - `import N=V` is an export of another stack.
+//! - `import N=V` is an export of another stack;
+//! - `text N=TEMPLATE` is a further text of the source, in which `<<TEXT*NUMBER>>` may stand as in a piece.
 use crate::evaluating::object_of;
+use crate::stretch::stretched;
 use cf_desired::{Seen, SeenAt};
 use cf_rows::Memory;
 use cf_tree::{Bytes, Pairs, Source, Texts};
@@ -26,7 +28,7 @@ pub fn scene_of(memory: &mut Memory, template: &str, words: &str) -> Scene {
     };
     if !words.is_empty() {
         for word in words.split(" & ") {
-            add(memory, &mut scene, word);
+            add_word(memory, &mut scene, word);
         }
     }
     scene
@@ -34,9 +36,7 @@ pub fn scene_of(memory: &mut Memory, template: &str, words: &str) -> Scene {
 
 fn source_of(memory: &mut Memory, template: &str) -> Source {
     let mut texts = Texts::new(memory.alloc);
-    let name = memory.text("page");
-    let bytes = Bytes::from_vec(memory.bytes(template.as_bytes()));
-    memory.note(texts.insert(name, bytes).is_err());
+    add_text(memory, &mut texts, "page", template);
     Source {
         root: memory.text("page"),
         texts,
@@ -47,9 +47,21 @@ fn source_of(memory: &mut Memory, template: &str) -> Source {
     }
 }
 
-fn add(memory: &mut Memory, scene: &mut Scene, word: &str) {
+fn add_text(memory: &mut Memory, texts: &mut Texts, name: &str, template: &str) {
+    let name = memory.text(name);
+    let bytes = Bytes::from_vec(memory.bytes(template.as_bytes()));
+    memory.note(texts.insert(name, bytes).is_err());
+}
+
+/// Adds what a word says.
+pub fn add_word(memory: &mut Memory, scene: &mut Scene, word: &str) {
     if let Some(import) = word.strip_prefix("import ") {
         add_pair(memory, &mut scene.source.imports, import);
+    } else if let Some(text) = word.strip_prefix("text ") {
+        let (name, template) = text.split_once('=').unwrap_or((text, ""));
+        let template = stretched(memory, template);
+        add_text(memory, &mut scene.source.texts, name, template.as_str());
+        drop(template);
     } else if let Some((path, told)) = word.split_once(" is ") {
         let path = memory.text(path);
         let at = seen_at(memory, told);
@@ -59,7 +71,8 @@ fn add(memory: &mut Memory, scene: &mut Scene, word: &str) {
     }
 }
 
-fn add_pair(memory: &mut Memory, pairs: &mut Pairs, word: &str) {
+/// Adds the name and the value of a word `N=V`.
+pub fn add_pair(memory: &mut Memory, pairs: &mut Pairs, word: &str) {
     let (name, value) = word.split_once('=').unwrap_or((word, ""));
     let name = memory.text(name);
     let value = memory.text(value);

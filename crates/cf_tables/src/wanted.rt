@@ -2,7 +2,7 @@
 use crate::json::{push_object, push_value};
 use crate::told::Told;
 use cf_desired::{
-    Evaluated, Exporting, Flaw, Plan, Prop, Right, Terms, Wanted, WantedOutput, WholePlan,
+    Evaluated, Exporting, Flaw, Inner, Plan, Prop, Right, Terms, Wanted, WantedOutput, WholePlan,
 };
 use cf_export::Output;
 use cf_tree::{Deletion, Names, Replace, Txt};
@@ -49,6 +49,17 @@ pub fn push_terms(told: &mut Told, terms: &Terms) {
     told.put(terms.kind.as_str());
     told.put(policies(terms.deletion, terms.replace));
     push_needs(told, &terms.needs);
+}
+
+/// A nested stack: the path of its stack resource, what that needs, and why its parameters can't be bound.
+pub fn push_stack(told: &mut Told, flaws: &[Flaw], inner: &Inner) {
+    told.put("; stack ");
+    told.put(inner.path.as_str());
+    push_needs(told, &inner.needs);
+    if let Some(flaw) = &inner.fault {
+        told.put(" ");
+        numbered(told, flaws, flaw);
+    }
 }
 
 fn push_needs(told: &mut Told, needs: &Names) {

@@ -8,7 +8,8 @@ use Rattle.cf_tree.specs.Keys.{value_at}
 use Rattle.cf_tree.specs.declared.template.Template.{Template}
 use Rattle.cf_template.specs.Refusals.{Reading}
 use Rattle.cf_template.specs.Whole.{template_of}
-use Rattle.cf_desired.specs.Plan.{accepted, plan_of, template_named}
+use Rattle.cf_desired.specs.Templates.{accepted, template_named}
+use Rattle.cf_desired.specs.Plan.{plan_of}
 use Rattle.cf_desired.specs.Templates.{IsFlat, is_flat}
 use Rattle.cf_stacks.specs.Fold.{source_for}
 use Rattle.cf_plan.proofs.Listed.{same_bytes}

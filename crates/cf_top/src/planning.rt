@@ -4,7 +4,6 @@ ghost use Rattle.std.specs.Option.{option_copied};
 ghost use Rattle.cf_tree.specs.Lists.{is_among};
 ghost use Rattle.cf_template.specs.Whole.{template_of};
 ghost use Rattle.cf_desired.specs.Plan.{plan_of};
-ghost use Rattle.cf_desired.specs.Templates.{IsFlat};
 ghost use Rattle.cf_stacks.specs.Fold.{source_for};
 ghost use Rattle.cf_top.specs.Lanes.{kinds_of};
 ghost use Rattle.cf_top.specs.Refusals.{TestsAs, first_unknown, is_unknown, plan_refusal, refusal_of, sooner, source_of, template_refusal};
@@ -80,7 +79,6 @@ fn examine_source<H: Handler>(
     source: Source,
     number: u64,
 ) -> Result<Source, Exit>
-    requires flat { IsFlat source }
     requires written { source.number ≡ 0 }
     ensures { TestsAs (plan_refusal (kinds_of (map H.schema_of lanes.now)) (plan_of (source_for source.stack number source) []))
         (λ s. s ≡ source) result }
@@ -101,7 +99,6 @@ fn examine_source<H: Handler>(
 
 /// Refuses a source for what it wants before anything is made.
 fn test_source<H: Handler>(alloc: Global, lanes: &[H], source: &Source) -> Result<(), Exit>
-    requires { IsFlat source.now }
     ensures { TestsAs (plan_refusal (kinds_of (map H.schema_of lanes.now)) (plan_of source.now [])) (λ _. Unit {0}) result }
 {
     match first_plan(alloc, source) {
@@ -161,7 +158,6 @@ fn fill_source(
 
 /// What a source wants before anything is made.
 fn first_plan(alloc: Global, source: &Source) -> Result<Plan, AllocError>
-    requires { IsFlat source.now }
     ensures { IfOk result (λ p. p ≡ plan_of source.now []) }
 {
     let templates = templates_of(alloc, source)?;

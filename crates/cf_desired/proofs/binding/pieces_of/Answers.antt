@@ -2,7 +2,7 @@ use Rattle.std.proofs.Common.{◌≡◌, ◌∙◌, ℕ, List, Bool, length, tak
 use Rattle.std.specs.Bool.{IsTrue}
 use Rattle.std.proofs.Math.Seq.{take-length}
 use Rattle.cf_tree.specs.Keys.{ascends}
-use Rattle.cf_desired.specs.Flat.{piece_of}
+use Rattle.cf_desired.specs.Kept.{piece_of}
 use Rattle.cf_desired.proofs.Pieces.{pieces_ascend}
 use Rattle.cf_desired.proofs.binding.pieces_of.Goals as goal
 

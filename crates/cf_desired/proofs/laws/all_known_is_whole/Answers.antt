@@ -1,4 +1,4 @@
-use Rattle.cf_desired.proofs.StaysWhole.{known_whole}
+use Rattle.cf_desired.proofs.AllKnown.{known_whole}
 use Rattle.cf_desired.proofs.laws.all_known_is_whole.Goals as goal
 
 pub returns : goal.returns

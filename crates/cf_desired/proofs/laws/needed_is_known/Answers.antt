@@ -1,4 +1,4 @@
-use Rattle.cf_desired.proofs.StaysFilled.{needed_known}
+use Rattle.cf_desired.proofs.NeededKnown.{needed_known}
 use Rattle.cf_desired.proofs.laws.needed_is_known.Goals as goal
 
 pub returns : goal.returns

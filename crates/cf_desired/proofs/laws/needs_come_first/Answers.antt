@@ -1,4 +1,4 @@
-use Rattle.cf_desired.proofs.StaysFirst.{needs_first}
+use Rattle.cf_desired.proofs.ComeFirst.{needs_first}
 use Rattle.cf_desired.proofs.laws.needs_come_first.Goals as goal
 
 pub returns : goal.returns

@@ -1,4 +1,4 @@
-use Rattle.cf_desired.proofs.StaysRests.{needs_suffice}
+use Rattle.cf_desired.proofs.NeedsMatter.{needs_suffice}
 use Rattle.cf_desired.proofs.laws.needs_matter.Goals as goal
 
 pub returns : goal.returns

@@ -1,4 +1,4 @@
-use Rattle.cf_desired.proofs.StaysClear.{seen_known}
+use Rattle.cf_desired.proofs.SeenKnown.{seen_known}
 use Rattle.cf_desired.proofs.laws.seen_is_known.Goals as goal
 
 pub returns : goal.returns

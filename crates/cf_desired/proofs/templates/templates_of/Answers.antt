@@ -5,8 +5,7 @@ use Rattle.std.proofs.lemmas.List.{take_more}
 use Rattle.std.proofs.lemmas.List.Elements.{filter_map-append}
 use Rattle.cf_template.specs.Whole.{template_of}
 use Rattle.cf_tree.specs.Keys.{ascends}
-use Rattle.cf_desired.specs.Plan.{accepted}
-use Rattle.cf_desired.specs.Templates.{template_under}
+use Rattle.cf_desired.specs.Templates.{accepted, template_under}
 use Rattle.cf_desired.proofs.Kept.{kept_ascend}
 use Rattle.cf_desired.proofs.templates.templates_of.Goals as goal
 

@@ -5,8 +5,8 @@ use Rattle.cf_tree.specs.Form.{field_of, fields_in}
 use Rattle.cf_tree.specs.Keys.{ascends}
 use Rattle.cf_tree.specs.declared.expr.ExprPair.{ExprPair}
 use Rattle.cf_eval.specs.Env.{scope_in}
-use Rattle.cf_desired.specs.Evaluate.{props_in}
-use Rattle.cf_desired.specs.Flat.{evaluated_as, taken}
+use Rattle.cf_desired.specs.Kept.{taken}
+use Rattle.cf_desired.specs.Stack.{props_in}
 use Rattle.cf_desired.proofs.Ordered.{InOrder, known_in_order, one_taken, prop_step}
 use Rattle.cf_desired.proofs.Properties.{props_after}
 use Rattle.cf_desired.proofs.told.properties.Goals as goal
@@ -29,7 +29,7 @@ loop-prop-preserved c =
     let split : drop i items ≡ c.prop-item.result ∷ left = drop_more items i c.prop-item.result c.loop-prop-test.true ∙ ap (λ (p : ExprPair). p ∷ left) (sym c.prop-item.is) in
     let s = scope_in c.args.env.now in
     let stack = c.args.env.now.stack.now in
-    prop_step s stack c.loop-prop.known c.add_prop.new.known (field_of c.prop-item.result) (fields_in left) c.in-Ok.got (evaluated_as stack (props_in s c.args.props.now)) c.in-Ok.ensures
+    prop_step s stack c.loop-prop.known c.add_prop.new.known (field_of c.prop-item.result) (fields_in left) c.in-Ok.got (props_in stack s c.args.props.now) c.in-Ok.ensures
     (c.loop-prop.invariant.0 ∙ ap (λ (ps : List ExprPair). props_after s stack (fields_in ps) c.loop-prop.known) split)
     (subst (λ (ps : List ExprPair). InOrder c.loop-prop.known (fields_in ps)) split c.loop-prop.invariant.1)
     (c.in_ok-add_prop-in-Ok.ensures ∙ ap (λ (name : List ℕ). c.loop-prop.known ++ taken name c.in-Ok.got) c.in_ok-try_clone-in-Ok.ensures)

@@ -1,13 +1,12 @@
 use Rattle.std.proofs.Common.{◌≡◌, drop}
 use Rattle.cf_tree.specs.Form.{fields_in}
 use Rattle.cf_eval.specs.Env.{scope_in}
-use Rattle.cf_desired.specs.Evaluate.{props_in}
-use Rattle.cf_desired.specs.Flat.{evaluated_as}
+use Rattle.cf_desired.specs.Stack.{props_in}
 use Rattle.cf_desired.proofs.Ordered.{InOrder}
 use Rattle.cf_desired.proofs.Properties.{props_after}
 use Rattle.cf_desired.proofs.told.properties.Given as goal
 
 abbrev pub invariant-loop-prop : goal.invariant-loop-prop
 invariant-loop-prop l =
-    (evaluated_as l.env.stack.now (props_in (scope_in l.env) l.props) ≡ props_after (scope_in l.env) l.env.stack.now (fields_in (drop l.prop-index l.prop-items)) l.known)
+    (props_in l.env.stack.now (scope_in l.env) l.props ≡ props_after (scope_in l.env) l.env.stack.now (fields_in (drop l.prop-index l.prop-items)) l.known)
     × InOrder l.known (fields_in (drop l.prop-index l.prop-items))

@@ -4,7 +4,7 @@ use Rattle.cf_eval.specs.Conditions.{condition_found, decided_by, test_found}
 use Rattle.cf_eval.specs.Deciding.{ground_of, left_of, Apart, IsSettled, IsNoted}
 use Rattle.cf_tree.specs.Keys.{put}
 use Rattle.cf_eval.specs.Gives.{Stops}
-use Rattle.cf_eval.proofs.Noting.{asked_fresh, looked_at, stop_asked, stop_bad, open_less, one_at_least, descended, noted_all, apart_enter, pushed}
+use Rattle.cf_eval.proofs.Noting.{asked_fresh, looked_at, stop_asked, stop_bad, stop_below, open_less, one_at_least, descended, noted_all, apart_enter, pushed}
 use Rattle.cf_eval.proofs.decide.+decide.Goals as goal
 
 pub decide-enter-requires : goal.decide-enter-requires
@@ -38,6 +38,14 @@ decide-returns-in-Bad t c =
     let under = c.args.under.now.items in
     let agrees = looked_at s conds c.deciding.done c.deciding.invariant.0.right c.args.left under c.args.cond.now c.deciding.invariant.0.apart c.requires.enough in
     stop_bad (condition_found c.args.left s conds under) _ _ c.in-Bad.why c.in-Bad.at (rw c.in-Bad.is at c.in-Err.ensures) agrees
+
+pub decide-returns-in-Below : goal.decide-returns-in-Below
+decide-returns-in-Below t c =
+    let s = ground_of c.args.ground.now in
+    let conds = c.args.ground.now.conds.now in
+    let under = c.args.under.now.items in
+    let agrees = looked_at s conds c.deciding.done c.deciding.invariant.0.right c.args.left under c.args.cond.now c.deciding.invariant.0.apart c.requires.enough in
+    stop_below (condition_found c.args.left s conds under) _ _ c.in-Below.why c.in-Below.stack c.in-Below.at (rw c.in-Below.is at c.in-Err.ensures) agrees
 
 pub decide-deciding-smaller : goal.decide-deciding-smaller
 decide-deciding-smaller t c =

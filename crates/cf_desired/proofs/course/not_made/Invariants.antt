@@ -1,8 +1,0 @@
-use Rattle.std.proofs.Common.{◌≡◌, [], not, take}
-use Rattle.std.specs.Prelude.{filter, fold}
-use Rattle.cf_graph.specs.Needs.{is_made}
-use Rattle.cf_desired.specs.Plan.{with_not_made}
-use Rattle.cf_desired.proofs.course.not_made.Given as goal
-
-abbrev pub invariant-loop-resource : goal.invariant-loop-resource
-invariant-loop-resource l = l.sights ≡ fold with_not_made [] (filter (λ r. not (is_made l.conds r)) (take l.resource-index l.resource-items))

@@ -1,0 +1,236 @@
+-- What the code keeps: what its types stand for, and how its answers are those of the definitions (this project's own).
+use Rattle.std.specs.Borrow.{Bor}
+use Rattle.std.specs.Prelude.{◌≡◌, ℕ, ◌+◌, ◌-◌, length, Bool, true, false, List, [], ◌∷◌, ◌++◌, Option, Some, None, Result, Ok, Err, map, option_map}
+use Rattle.std.specs.Option.{option_copied, option_or}
+use Rattle.cf_tree.specs.Datum.{Data}
+use Rattle.cf_tree.specs.Keys.{put}
+use Rattle.cf_tree.specs.Value.{datum_of}
+use Rattle.cf_tree.specs.declared.source.Source.{Source}
+use Rattle.cf_tree.specs.declared.template.Template.{Template}
+use Rattle.cf_eval.specs.declared.env.OutputSight.{OutputSight}
+use Rattle.cf_eval.specs.declared.fault.EvalFault.{EvalFault}
+use Rattle.cf_eval.specs.declared.fault.EvalFault.TheVariants as unvalued
+use Rattle.cf_eval.specs.declared.fault.EvalWhy.TheVariants.{UnknownName}
+use Rattle.cf_eval.specs.declared.got.Got.{Got}
+use Rattle.cf_eval.specs.declared.got.Got.TheVariants as it
+use Rattle.cf_eval.specs.Outcome.{Outcome, Stop, got, later, bad, fault, undecided, below}
+use Rattle.cf_eval.specs.Scope.{Scope}
+use Rattle.cf_eval.specs.Texts.{Found}
+use Rattle.cf_param.specs.declared.fault.BindFault.{BindFault}
+use Rattle.cf_param.specs.declared.fault.BindFault.TheVariants as unbound
+use Rattle.cf_param.specs.declared.offered.Piece.{Piece}
+use Rattle.cf_param.specs.declared.offered.Piece.TheVariants.{Text}
+use Rattle.cf_desired.specs.declared.decision.Decision.{Decision}
+use Rattle.cf_desired.specs.declared.decision.Decision.TheVariants as decision
+use Rattle.cf_desired.specs.declared.flaw.Flaw.{Flaw}
+use Rattle.cf_desired.specs.declared.flaw.Flaw.TheVariants as flaw
+use Rattle.cf_desired.specs.declared.frames.Frame as kept_frame
+use Rattle.cf_desired.specs.declared.ground.Ground.{Ground}
+use Rattle.cf_desired.specs.declared.laying.Contents.{Contents}
+use Rattle.cf_desired.specs.declared.laying.Count.{Count}
+use Rattle.cf_desired.specs.declared.laying.Course as kept_course
+use Rattle.cf_desired.specs.declared.laying.Entering as kept_entering
+use Rattle.cf_desired.specs.declared.laying.Laid.{Laid}
+use Rattle.cf_desired.specs.declared.offers.Offer.{Offer}
+use Rattle.cf_desired.specs.declared.offers.Offer.TheVariants as offer
+use Rattle.cf_desired.specs.declared.offers.Offered as kept_offered
+use Rattle.cf_desired.specs.declared.offers.Taken.{Taken}
+use Rattle.cf_desired.specs.declared.shape.Entry as kept_entry
+use Rattle.cf_desired.specs.declared.shape.Entry.TheVariants as entry
+use Rattle.cf_desired.specs.declared.shape.Member as kept_member
+use Rattle.cf_desired.specs.declared.shape.Nesting as kept_nesting
+use Rattle.cf_desired.specs.declared.shape.Shape as kept_shape
+use Rattle.cf_desired.specs.declared.shape.Stack as kept_stack
+use Rattle.cf_desired.specs.declared.shape.Turn as kept_turn
+use Rattle.cf_desired.specs.declared.shape.Turn.TheVariants as turn
+use Rattle.cf_desired.specs.declared.told.Blame.{Blame}
+use Rattle.cf_desired.specs.declared.told.Told.{Told}
+use Rattle.cf_desired.specs.declared.told.Told.TheVariants as told
+use Rattle.cf_desired.specs.declared.urls.Url as kept_url
+use Rattle.cf_desired.specs.declared.urls.Url.TheVariants as named
+use Rattle.cf_desired.specs.Names.{path_in}
+use Rattle.cf_desired.specs.Given.{Given, Offers, given_by, kind_stop, offers_stop, pieces, unknown, with_piece}
+use Rattle.cf_desired.specs.Laying.{Path, Way, way_shut, way_barred, way_entered}
+use Rattle.cf_desired.specs.declared.laying.Way as kept_way
+use Rattle.cf_desired.specs.declared.laying.Way.TheVariants as way
+use Rattle.cf_tree.specs.Forms.{Form}
+use Rattle.cf_tree.specs.declared.template.Res.{Res}
+use Rattle.cf_desired.specs.Seeing.{Seen, by_names, output_sights, outputs_inside, outputs_of, seen_nested}
+use Rattle.cf_desired.specs.Shape.{Entering, entering_below, laid, Url, url, no_url, members_in, members_inside, paths_in, paths_inside, templates_in, templates_inside}
+use Rattle.cf_desired.specs.Stack.{Scoping, Stack, Verdicts, Sights, flaw_at, resource_scope, stop_in}
+use Rattle.cf_desired.specs.Turns.{Entry, Frame, Turn, the_root, through, a_resource, a_shut, a_barred, a_halted, an_opened, a_closed, turns_in, turns_inside}
+use Rattle.cf_desired.specs.Work.{Member, Nesting, Inside, Body, barred, shut}
+
+-- the given texts, as binding takes them
+abbrev pub piece_of : List ℕ × List ℕ → List ℕ × Piece
+piece_of g = (g.0, Text g.1)
+
+-- want of memory, of which nothing is said
+abbrev pub is_no_memory : BindFault → Bool
+is_no_memory unbound.NoMemory = true
+is_no_memory _ = false
+
+-- why an evaluation stops in the stack at a path, in which stack and at which place; and as a flaw
+abbrev pub blame_at : List ℕ → Stop → Blame
+blame_at stack (fault why at) = record { why = why; stack = stack; at = at }
+blame_at stack (undecided name at) = record { why = UnknownName; stack = stack; at = at }
+blame_at stack (below why path at) = record { why = why; stack = path; at = at }
+
+abbrev pub flaw_by : Blame → Flaw
+flaw_by b = flaw.Eval b.why b.stack b.at
+
+abbrev pub IsBlameOf : EvalFault → Blame → Type 0
+IsBlameOf (unvalued.Bad why stack at) b = b ≡ record { why = why; stack = stack; at = at }
+IsBlameOf unvalued.NoMemory b = ⊥
+
+-- what an evaluated property adds: nothing where it is left out
+abbrev pub taken : List ℕ → Got → List (List ℕ × Option Data)
+taken name (it.Value v) = (name, Some (datum_of v)) ∷ []
+taken name it.NoValue = []
+taken name it.Later = (name, None) ∷ []
+
+-- what is wanted as a text
+abbrev pub told_as : List ℕ → Outcome (List ℕ) → Told
+told_as stack (got t) = told.Text t
+told_as stack later = told.Later
+told_as stack (bad s) = told.Bad (blame_at stack s)
+
+-- what is given for parameters, its fault, and what one more member adds
+abbrev pub offer_in : Offer → Given
+offer_in (offer.Pieces ps) = pieces ps
+offer_in offer.Unknown = unknown
+
+pub record IsOffers (stack : List ℕ) (o : Outcome Offers) (r : kept_offered.Offered) : Type 0 where
+  pub given : offer_in r.given ≡ given_by o
+  pub flaw : r.flaw ≡ option_map (flaw_at stack) (offers_stop o)
+
+pub record Takes (stack name at : List ℕ) (f : Found) (old new : Taken) : Type 0 where
+  pub pieces : new.pieces.items ≡ old.pieces.items ++ with_piece name f []
+  pub part : new.part ≡ option_or old.part (option_map (blame_at stack) (stop_in f))
+  pub kind : new.kind ≡ option_or old.kind (option_map (blame_at stack) (kind_stop at f))
+
+abbrev pub url_in : kept_url.Url → Url
+url_in (named.Named name) = url name
+url_in (named.Flawed f) = no_url f
+
+-- a stack, a template that is entered, a resource and a nested stack in the order of work, a turn
+abbrev pub stack_in : kept_stack.Stack → Stack
+stack_in s = record { path = s.path; name = s.name; template = s.template.now }
+
+abbrev pub entering_in : kept_entering.Entering → Entering
+entering_in e = record { stack = stack_in e.stack; deletion = e.deletion; replace = e.replace; needs = e.needs }
+
+abbrev pub member_in : kept_member.Member → Member
+member_in m = record {
+  path = m.path;
+  id = m.resource.now.name;
+  kind = m.resource.now.kind;
+  deletion = m.deletion;
+  replace = m.replace;
+  needs = m.needs;
+  props = m.resource.now.props;
+  unnamed = m.unnamed;
+}
+
+abbrev pub nesting_in : kept_nesting.Nesting → Nesting
+nesting_in n = record { path = n.path; id = n.id; name = n.name; needs = n.needs }
+
+abbrev pub entry_in : kept_entry.Entry → Entry
+entry_in entry.Root = the_root
+entry_in (entry.Nested n form) = through (nesting_in n) (option_copied form)
+
+abbrev pub turn_in : kept_turn.Turn → Turn
+turn_in (turn.Resource m) = a_resource (member_in m)
+turn_in (turn.Shut n f) = a_shut (nesting_in n) f
+turn_in (turn.Barred e f) = a_barred (entry_in e) f
+turn_in (turn.Halted e t f) = a_halted (entry_in e) (stack_in t) f
+turn_in (turn.Opened e t conds own) = an_opened (entry_in e) (stack_in t) conds own
+turn_in turn.Closed = a_closed
+
+-- the shape is that of the definitions
+pub record IsShape (s : kept_shape.Shape) (b : Body) : Type 0 where
+  pub turns : map turn_in s.turns ≡ turns_in the_root b
+  pub templates : s.templates ≡ templates_in b
+  pub members : s.members ≡ members_in b
+
+-- the templates that are open, the last one first
+abbrev pub frame_in : kept_frame.Frame → Frame
+frame_in f = record {
+  entry = entry_in f.entry.now;
+  stack = stack_in f.stack.now;
+  conds = f.conds.now;
+  bound = f.bound;
+  pseudo = f.pseudo;
+  sights = f.sights;
+}
+
+abbrev pub frames_in : List kept_frame.Frame → List Frame
+frames_in [] = []
+frames_in (f ∷ fs) = frames_in fs ++ frame_in f ∷ []
+
+-- what resources and outputs are evaluated over
+abbrev pub scope_by : Ground → Sights → Scope
+scope_by g sights = resource_scope g.stack.now.template.now g.bound.now g.conds.now g.pseudo.now sights g.source.now.imports
+
+-- whether work on a template can begin
+abbrev pub decision_in : Decision → Result (Verdicts × List (List ℕ × List (List ℕ))) Flaw
+decision_in (decision.Halted f) = Err f
+decision_in (decision.Opened conds order) = Ok (conds, order.entries)
+
+-- what is known along the order of work
+abbrev pub course_in : kept_course.Course → Path
+course_in c = record {
+  turns = map turn_in c.turns;
+  sights = c.sights;
+  stands = c.stands;
+  paths = c.paths;
+  templates = c.count.templates;
+  members = c.count.members;
+}
+
+-- what was laid out: these turns, outputs, paths, and so many templates and resources
+pub record IsLaidAs (ts : List Turn) (os : List (List ℕ × OutputSight)) (ps : List (List ℕ)) (n k : ℕ) (l : Laid) : Type 0 where
+  pub turns : map turn_in l.turns ≡ ts
+  pub outputs : l.outputs ≡ os
+  pub paths : l.paths ≡ ps
+  pub templates : l.count.templates ≡ n
+  pub members : l.count.members ≡ k
+
+-- a template that was entered where so many had been before, and what is in a nested stack
+abbrev pub IsLaid : Source → Seen → Entry → Given → Count → Body → Laid → Type 0
+IsLaid source seen e g c b l =
+    IsLaidAs (turns_in e b) (by_names (outputs_of source seen g b)) (paths_in b) (c.templates + templates_in b) (c.members + members_in b) l
+
+abbrev pub IsWithin : Source → Seen → Scope → Nesting → Count → Inside → Laid → Type 0
+IsWithin source seen s n c i l =
+    IsLaidAs (turns_inside n i) (by_names (outputs_inside source seen s i)) (paths_inside i) (c.templates + templates_inside i) (c.members + members_inside i) l
+
+-- what is in a template that was opened, where its work came to this
+pub record IsContents (t : Stack) (conds : Verdicts) (over : Scoping) (ids : List (List ℕ)) (p : Path) (k : Contents) : Type 0 where
+  pub own : k.own ≡ ids
+  pub laid : IsLaidAs p.turns (by_names (output_sights t conds (over p.sights))) (map (path_in t.path) ids ++ p.paths) p.templates p.members k.laid
+
+-- the course behind a nested stack that was laid out
+pub record IsJoined (source : Source) (n : Nesting) (l : Laid) (old new : kept_course.Course) : Type 0 where
+  pub turns : map turn_in new.turns ≡ map turn_in old.turns ++ map turn_in l.turns
+  pub sights : new.sights ≡ seen_nested source n l.outputs old.sights
+  pub stands : new.stands ≡ put n.id (l.paths ++ n.needs) old.stands
+  pub paths : new.paths ≡ old.paths ++ (l.paths ++ n.needs)
+  pub count : new.count ≡ l.count
+
+-- the template of a nested stack, behind a reference
+abbrev pub enterable_in : Result (Bor Template) Flaw → Result Template Flaw
+enterable_in (Ok t) = Ok t.now
+enterable_in (Err f) = Err f
+
+-- what becomes of a nested stack, and what is laid out then
+abbrev pub way_in : kept_way.Way → Way
+way_in (way.Shut f) = way_shut f
+way_in (way.Barred f) = way_barred f
+way_in (way.Entered t g) = way_entered t.now (offer_in g)
+
+abbrev pub WayLaid : Source → Seen → Scope → Entering → Nesting → Option Form → Res → ℕ → Count → Way → Laid → Type 0
+WayLaid source seen s e n form r left c (way_shut f) l = IsWithin source seen s n c (shut f) l
+WayLaid source seen s e n form r left c (way_barred f) l = IsLaid source seen (through n form) unknown c (barred f) l
+WayLaid source seen s e n form r left c (way_entered t g) l =
+    IsLaid source seen (through n form) g c (laid (left - 1) source seen (entering_below e n r t) g (c.templates + 1) (c.members + length t.resources)) l

@@ -1,0 +1,757 @@
+//! The shape of a source, laid out template by template.
+ghost use Rattle.std.specs.Prelude.{◌≡◌, ◌+◌, [], ◌∷◌, ◌++◌, IfOk, codes, fold, length, map};
+ghost use Rattle.std.specs.Option.{option_copied};
+ghost use Rattle.cf_eval.specs.Env.{scope_in};
+ghost use Rattle.cf_template.proofs.Ordered.{AreOrdered};
+ghost use Rattle.cf_desired.specs.Kept.{IsContents, IsJoined, IsLaid, IsShape, IsWithin, WayLaid, course_in, enterable_in, entering_in, entry_in, nesting_in, offer_in, scope_by, stack_in, way_in};
+ghost use Rattle.cf_desired.specs.Laying.{IsWay, begun, below, entered_by, entered_way, few, step_by, way_by, with_member, with_nested};
+ghost use Rattle.cf_desired.specs.Listed.{stands_by};
+ghost use Rattle.cf_desired.specs.Given.{Given, given_in};
+ghost use Rattle.cf_desired.specs.Seeing.{Seen, by_names, output_sights};
+ghost use Rattle.cf_tree.specs.Keys.{value_at};
+ghost use Rattle.cf_eval.specs.Scope.{Scope};
+ghost use Rattle.cf_tree.specs.declared.source.Source.{Source};
+ghost use Rattle.cf_desired.specs.Shape.{entering_below, given_root, laid, own_in, root_of, shape_of};
+ghost use Rattle.cf_desired.specs.Templates.{template_named, templates_of};
+ghost use Rattle.cf_desired.specs.Names.{path_in};
+ghost use Rattle.cf_desired.specs.Turns.{the_root, through};
+ghost use Rattle.cf_desired.specs.declared.shape.Turn.TheVariants.{Closed};
+ghost use Rattle.cf_desired.specs.Work.{barred, halted, shut};
+ghost use Rattle.cf_desired.specs.declared.flaw.Flaw.TheVariants as flaw;
+
+use crate::binding::{pieces_of, settings};
+use crate::decision::{Decision, decide};
+use crate::flaw::Flaw;
+use crate::ground::{Ground, env_over};
+use crate::members::{member_by, nesting_by, unnamed};
+use crate::names::path_in;
+use crate::offers::{Offer, offered_by};
+use crate::outputs::output_sights;
+use crate::pseudo::pseudo_of;
+use crate::seen::Seen;
+use crate::shape::{Entry, Nesting, Shape, Stack, Turn};
+use crate::sights::{add_nested, first_sights};
+use crate::templates::{is_stack, template_named};
+use crate::urls::{Url, has_stack_shape, property, template_url};
+use cf_eval::{Env, OutputSight, Sight};
+use cf_graph::Needs;
+use cf_tree::{
+    ByName, CondMap, Deletion, Expr, Listing, Names, Replace, Res, Source, Template, Templates, Txt,
+};
+use std::alloc::{AllocError, Global};
+
+/// How deep a nested stack may lie below the root.
+const DEPTH: usize = 7;
+
+/// How many templates may be entered.
+const TEMPLATES: u64 = 16;
+
+/// How many resources these may have, each counted as often as it is entered.
+const MEMBERS: u64 = 2000;
+
+/// What a shape is laid out over.
+#[derive(Drop)]
+struct Laying<'a> {
+    source: &'a Source,
+    templates: &'a Templates,
+    seen: &'a Seen,
+}
+
+/// A stack, with the policies and the needs around it.
+#[derive(Drop)]
+pub(crate) struct Entering<'a> {
+    pub stack: Stack<'a>,
+    pub deletion: Option<Deletion>,
+    pub replace: Option<Replace>,
+    pub needs: Names,
+}
+
+/// How many templates were entered, and how many resources these have.
+#[derive(Clone, Copy)]
+pub(crate) struct Count {
+    pub templates: u64,
+    pub members: u64,
+}
+
+/// What was laid out: its turns, what is seen of its outputs, and the paths in it.
+#[derive(Drop)]
+pub(crate) struct Laid<'a> {
+    pub turns: Listing<Turn<'a>>,
+    pub outputs: ByName<OutputSight>,
+    pub paths: Names,
+    pub count: Count,
+}
+
+/// What is known along the order of work in a template: what is seen of its resources, the paths that logical ids stand for, and
+/// those of its nested stacks.
+#[derive(Drop)]
+pub(crate) struct Course<'a> {
+    pub turns: Listing<Turn<'a>>,
+    pub sights: ByName<Sight>,
+    pub stands: ByName<Names>,
+    pub paths: Names,
+    pub count: Count,
+}
+
+/// What is in a template that was opened: the logical ids of its own resources, and what was laid out along the order of work.
+#[derive(Drop)]
+pub(crate) struct Contents<'a> {
+    pub own: Names,
+    pub laid: Laid<'a>,
+}
+
+/// A nested stack, with its stack resource and what its parameters are given.
+#[derive(Drop)]
+pub(crate) struct Inner<'a> {
+    pub nesting: Nesting,
+    pub resource: &'a Res,
+    pub form: Option<&'a Expr>,
+}
+
+/// What becomes of a nested stack.
+#[derive(Drop)]
+pub(crate) enum Way<'a> {
+    /// Its stack resource has a flaw.
+    Shut {
+        flaw: Flaw,
+    },
+    /// Its template can't be entered.
+    Barred {
+        flaw: Flaw,
+    },
+    /// Its template is entered, with what its parameters are given.
+    Entered {
+        template: &'a Template,
+        given: Offer,
+    },
+}
+
+/// The shape of a source over what is seen before an operation.
+///
+/// # Errors
+///
+/// Only for want of memory.
+pub fn shape_of<'a>(
+    alloc: Global,
+    source: &'a Source,
+    templates: &'a Templates,
+    seen: &'a Seen,
+) -> Result<Shape<'a>, AllocError>
+    requires templates { templates.now ≡ templates_of source.now }
+    ensures { IfOk result (λ s. IsShape s (shape_of source.now seen.now)) }
+{
+    let entry = Entry::Root;
+    let count = Count {
+        templates: 0,
+        members: 0,
+    };
+    let Some(template) = template_named(source, templates, &source.root) else {
+        let name = source.root.try_clone(alloc)?;
+        let laid = barred(alloc, entry, Flaw::TemplateMissing { name }, count)?;
+        return Ok(shape_from(laid));
+    };
+    let laying = Laying {
+        source,
+        templates,
+        seen,
+    };
+    let entering = root_entering(alloc, source, template)?;
+    let given = Offer::Pieces {
+        pieces: pieces_of(alloc, &source.given)?,
+    };
+    let laid = lay(alloc, &laying, entering, entry, &given, DEPTH, count)?;
+    Ok(shape_from(laid))
+}
+
+fn shape_from(laid: Laid) -> Shape
+    ensures turns { result.turns ≡ laid.entry.turns }
+    ensures templates { result.templates ≡ laid.entry.count.templates }
+    ensures members { result.members ≡ laid.entry.count.members }
+{
+    Shape {
+        turns: laid.turns,
+        templates: laid.count.templates,
+        members: laid.count.members,
+    }
+}
+
+/// The root template, as it is entered.
+fn root_entering<'a>(
+    alloc: Global,
+    source: &Source,
+    template: &'a Template,
+) -> Result<Entering<'a>, AllocError>
+    ensures { IfOk result (λ e. entering_in e ≡ root_of source.now template.now) }
+{
+    Ok(Entering {
+        stack: Stack {
+            path: Txt::from_str(alloc, "")?,
+            name: source.stack.try_clone(alloc)?,
+            template,
+        },
+        deletion: None,
+        replace: None,
+        needs: Names::new(alloc),
+    })
+}
+
+/// A template that is entered: its conditions decided, its order found, then its resources in this order, then what is seen of its
+/// outputs. So many stacks may lie below one another in it.
+#[cycle(laying)]
+fn lay<'a>(
+    alloc: Global,
+    laying: &Laying<'a>,
+    entering: Entering<'a>,
+    entry: Entry<'a>,
+    given: &Offer,
+    left: usize,
+    count: Count,
+) -> Result<Laid<'a>, AllocError>
+    requires templates { laying.now.templates.now ≡ templates_of laying.now.source.now }
+    requires ordered { AreOrdered entering.stack.template.now.resources }
+    requires few { few (count.templates + 1) (count.members + length entering.stack.template.now.resources) }
+    ensures laid { IfOk result (IsLaid laying.now.source.now laying.now.seen.now (entry_in entry.entry) (offer_in given.now) count
+        (laid left laying.now.source.now laying.now.seen.now (entering_in entering.entry) (offer_in given.now) (count.templates + 1) (count.members + length entering.entry.stack.template.now.resources))) }
+    ensures few { IfOk result (λ l. few l.count.templates l.count.members) }
+{
+    let source = laying.source;
+    let bound = settings(alloc, &entering.stack.template.params, given)?;
+    let pseudo = pseudo_of(alloc, &entering.stack.name, source.number)?;
+    match decide(alloc, &entering.stack, &bound, &pseudo)? {
+        Decision::Halted { flaw } => halted(alloc, entry, entering.stack, flaw, count),
+        Decision::Opened { conds, order } => {
+            let ground = Ground {
+                source,
+                stack: &entering.stack,
+                bound: &bound,
+                conds: &conds,
+                pseudo: &pseudo,
+            };
+            let contents = contents_of(alloc, laying, &entering, &ground, &order, left, count)?;
+            let turn = Turn::Opened {
+                entry,
+                stack: entering.stack,
+                conds,
+                own: contents.own,
+            };
+            opened(alloc, turn, contents.laid)
+        }
+    }
+}
+
+/// What is in a template: its own logical ids are found first, then its resources come one after another, then what is seen of its
+/// outputs. Large values are let go here and not in `lay`, which owns many.
+#[cycle(laying)]
+fn contents_of<'a>(
+    alloc: Global,
+    laying: &Laying<'a>,
+    entering: &Entering<'a>,
+    ground: &Ground,
+    order: &Needs,
+    left: usize,
+    count: Count,
+) -> Result<Contents<'a>, AllocError>
+    requires templates { laying.now.templates.now ≡ templates_of laying.now.source.now }
+    requires stack { stack_in ground.now.stack.now ≡ stack_in entering.now.stack }
+    requires source { ground.now.source.now ≡ laying.now.source.now }
+    requires few { few (count.templates + 1) (count.members + length ground.now.stack.now.template.now.resources) }
+    ensures contents { IfOk result (IsContents (stack_in ground.now.stack.now) ground.now.conds.now (scope_by ground.now) (own_in ground.now.stack.now.template.now order.now.entries)
+        (fold (step_by (below left laying.now.source.now laying.now.seen.now) laying.now.source.now laying.now.seen.now (entering_in entering.now) ground.now.conds.now (scope_by ground.now))
+        (begun laying.now.seen.now (stack_in ground.now.stack.now) ground.now.conds.now (own_in ground.now.stack.now.template.now order.now.entries) count.templates count.members) order.now.entries)) }
+    ensures few { IfOk result (λ k. few k.laid.count.templates k.laid.count.members) }
+{
+    let own = own_ids(alloc, ground.stack.template, order)?;
+    let mut course = begun(alloc, laying.seen, ground, &own, count)?;
+    work(alloc, laying, entering, ground, order, left, &mut course)?;
+    gathered(alloc, ground, own, course)
+}
+
+/// What a course came to, with what is seen of the outputs behind it and with the paths of the template's own resources.
+fn gathered<'a>(
+    alloc: Global,
+    ground: &Ground,
+    own: Names,
+    course: Course<'a>,
+) -> Result<Contents<'a>, AllocError>
+    ensures contents { IfOk result (IsContents (stack_in ground.now.stack.now) ground.now.conds.now (scope_by ground.now) own (course_in course.entry)) }
+    ensures count { IfOk result (λ k. k.laid.count ≡ course.entry.count) }
+{
+    let outputs = outputs_behind(alloc, ground, &course.sights)?;
+    let paths = all_paths(alloc, ground.stack, &own, &course.paths)?;
+    Ok(Contents {
+        own,
+        laid: Laid {
+            turns: course.turns,
+            outputs,
+            paths,
+            count: course.count,
+        },
+    })
+}
+
+/// A template in which nothing can be done.
+fn halted<'a>(
+    alloc: Global,
+    entry: Entry<'a>,
+    stack: Stack<'a>,
+    flaw: Flaw,
+    count: Count,
+) -> Result<Laid<'a>, AllocError>
+    requires few { few (count.templates + 1) (count.members + length stack.template.now.resources) }
+    ensures laid { IfOk result (λ l. (source : Source) (seen : Seen) (g : Given) → IsLaid source seen (entry_in entry.entry) g count (halted (stack_in stack.entry) flaw) l) }
+    ensures few { IfOk result (λ l. few l.count.templates l.count.members) }
+{
+    let members = count.members + stack.template.resources.len() as u64;
+    let mut turns = Listing::new(alloc);
+    turns.push(Turn::Halted { entry, stack, flaw })?;
+    Ok(Laid {
+        turns,
+        outputs: ByName::new(alloc),
+        paths: Names::new(alloc),
+        count: Count {
+            templates: count.templates + 1,
+            members,
+        },
+    })
+}
+
+/// What is seen of a template's outputs, where this is seen of its resources.
+fn outputs_behind(
+    alloc: Global,
+    ground: &Ground,
+    sights: &ByName<Sight>,
+) -> Result<ByName<OutputSight>, AllocError>
+    ensures { IfOk result (λ os. os ≡ by_names (output_sights (stack_in ground.now.stack.now) ground.now.conds.now (scope_by ground.now sights.now))) }
+{
+    output_sights(alloc, ground.stack, ground.conds, &env_over(ground, sights))
+}
+
+/// A template of which all has come.
+fn opened<'a>(alloc: Global, turn: Turn<'a>, laid: Laid<'a>) -> Result<Laid<'a>, AllocError>
+    ensures turns { IfOk result (λ l. l.turns ≡ turn.entry ∷ (laid.entry.turns ++ Closed ∷ [])) }
+    ensures outputs { IfOk result (λ l. l.outputs ≡ laid.entry.outputs) }
+    ensures paths { IfOk result (λ l. l.paths ≡ laid.entry.paths) }
+    ensures count { IfOk result (λ l. l.count ≡ laid.entry.count) }
+{
+    Ok(Laid {
+        turns: between(alloc, turn, laid.turns)?,
+        outputs: laid.outputs,
+        paths: laid.paths,
+        count: laid.count,
+    })
+}
+
+/// Turns between that which opens their template and that which closes it.
+fn between<'a>(
+    alloc: Global,
+    turn: Turn<'a>,
+    inner: Listing<Turn<'a>>,
+) -> Result<Listing<Turn<'a>>, AllocError>
+    ensures { IfOk result (λ turns. turns ≡ turn.entry ∷ (inner.entry ++ Closed ∷ [])) }
+{
+    let mut turns = Listing::new(alloc);
+    turns.push(turn)?;
+    turns.append(inner)?;
+    turns.push(Turn::Closed)?;
+    Ok(turns)
+}
+
+/// The logical ids of a template's own resources in the order of work.
+fn own_ids(alloc: Global, template: &Template, order: &Needs) -> Result<Names, AllocError>
+    ensures { IfOk result (λ ids. ids ≡ own_in template.now order.now.entries) }
+{
+    let mut own = Names::new(alloc);
+    for (id, _) in order.iter() {
+        if let Some(resource) = template.resources.find(id.as_str()) {
+            if !is_stack(resource) {
+                own.push(resource.name.try_clone(alloc)?)?;
+            }
+        }
+    }
+    Ok(own)
+}
+
+/// What is known before the first resource of a template comes.
+fn begun<'a>(
+    alloc: Global,
+    seen: &Seen,
+    ground: &Ground,
+    own: &Names,
+    count: Count,
+) -> Result<Course<'a>, AllocError>
+    requires few { few (count.templates + 1) (count.members + length ground.now.stack.now.template.now.resources) }
+    ensures { IfOk result (λ c. course_in c ≡ begun seen.now (stack_in ground.now.stack.now) ground.now.conds.now own.now count.templates count.members) }
+{
+    let stack = ground.stack;
+    Ok(Course {
+        turns: Listing::new(alloc),
+        sights: first_sights(alloc, stack, ground.conds, seen, own)?,
+        stands: first_stands(alloc, stack, own)?,
+        paths: Names::new(alloc),
+        count: Count {
+            templates: count.templates + 1,
+            members: count.members + stack.template.resources.len() as u64,
+        },
+    })
+}
+
+/// The paths that logical ids stand for: that of a resource for its own.
+fn first_stands(alloc: Global, stack: &Stack, own: &Names) -> Result<ByName<Names>, AllocError>
+    ensures { IfOk result (λ s. s ≡ stands_by (stack_in stack.now) own.now) }
+{
+    let mut stands = ByName::new(alloc);
+    for id in own.as_slice() {
+        let mut paths = Names::new(alloc);
+        paths.push(path_in(alloc, &stack.path, id)?)?;
+        stands.insert(id.try_clone(alloc)?, paths)?;
+    }
+    Ok(stands)
+}
+
+/// The paths of a template's own resources, and those in its nested stacks.
+fn all_paths(alloc: Global, stack: &Stack, own: &Names, below: &Names) -> Result<Names, AllocError>
+    ensures { IfOk result (λ ps. ps ≡ map (path_in stack.now.path) own.now ++ below.now) }
+{
+    let mut paths = Names::new(alloc);
+    for id in own.as_slice() {
+        paths.push(path_in(alloc, &stack.path, id)?)?;
+    }
+    add_all(alloc, &mut paths, below)?;
+    Ok(paths)
+}
+
+/// Adds paths behind others.
+fn add_all(alloc: Global, paths: &mut Names, others: &Names) -> Result<(), AllocError>
+    ensures { IfOk result (λ _. paths.new ≡ paths.old ++ others.now) }
+{
+    for path in others.as_slice() {
+        paths.push(path.try_clone(alloc)?)?;
+    }
+    Ok(())
+}
+
+/// Takes the resources of a template one after another.
+#[cycle(laying)]
+fn work<'a>(
+    alloc: Global,
+    laying: &Laying<'a>,
+    entering: &Entering<'a>,
+    ground: &Ground,
+    order: &Needs,
+    left: usize,
+    course: &mut Course<'a>,
+) -> Result<(), AllocError>
+    requires templates { laying.now.templates.now ≡ templates_of laying.now.source.now }
+    requires stack { stack_in ground.now.stack.now ≡ stack_in entering.now.stack }
+    requires source { ground.now.source.now ≡ laying.now.source.now }
+    requires few { few course.old.count.templates course.old.count.members }
+    ensures course { IfOk result (λ _. course_in course.new ≡ fold (step_by (below left laying.now.source.now laying.now.seen.now) laying.now.source.now laying.now.seen.now (entering_in entering.now) ground.now.conds.now (scope_by ground.now)) (course_in course.old) order.now.entries) }
+    ensures few { IfOk result (λ _. few course.new.count.templates course.new.count.members) }
+{
+    for (id, ids) in order.iter() {
+        step(alloc, laying, entering, ground, (id, ids), left, course)?;
+    }
+    Ok(())
+}
+
+/// Takes one resource of a template, with the logical ids that it needs.
+#[cycle(laying)]
+fn step<'a>(
+    alloc: Global,
+    laying: &Laying<'a>,
+    entering: &Entering<'a>,
+    ground: &Ground,
+    row: (&Txt, &Names),
+    left: usize,
+    course: &mut Course<'a>,
+) -> Result<(), AllocError>
+    requires templates { laying.now.templates.now ≡ templates_of laying.now.source.now }
+    requires stack { stack_in ground.now.stack.now ≡ stack_in entering.now.stack }
+    requires source { ground.now.source.now ≡ laying.now.source.now }
+    requires few { few course.old.count.templates course.old.count.members }
+    ensures course { IfOk result (λ _. course_in course.new ≡ step_by (below left laying.now.source.now laying.now.seen.now) laying.now.source.now laying.now.seen.now (entering_in entering.now) ground.now.conds.now (scope_by ground.now) (course_in course.old) (row.entry.0.now, row.entry.1.now)) }
+    ensures few { IfOk result (λ _. few course.new.count.templates course.new.count.members) }
+{
+    let (id, ids) = row;
+    match entering.stack.template.resources.find(id.as_str()) {
+        Some(resource) => {
+            if is_stack(resource) {
+                nest(alloc, laying, entering, ground, resource, ids, left, course)
+            } else {
+                add_member(alloc, entering, ground.conds, resource, ids, course)
+            }
+        }
+        None => Ok(()),
+    }
+}
+
+/// Adds one more resource.
+fn add_member<'a>(
+    alloc: Global,
+    entering: &Entering<'a>,
+    conds: &CondMap,
+    resource: &'a Res,
+    ids: &Names,
+    course: &mut Course<'a>,
+) -> Result<(), AllocError>
+    ensures course { IfOk result (λ _. course_in course.new ≡ with_member (entering_in entering.now) conds.now (course_in course.old) ids.now resource.now) }
+    ensures count { IfOk result (λ _. course.new.count ≡ course.old.count) }
+{
+    let member = member_by(alloc, entering, conds, &course.stands, resource, ids)?;
+    course.turns.push(Turn::Resource { member })
+}
+
+/// Lays out a nested stack.
+#[cycle(laying)]
+#[tactic(auto, using(crate::proofs::LaidOut::way_fits, crate::proofs::LaidOut::way_laid, crate::proofs::LaidOut::nested_so))]
+fn nest<'a>(
+    alloc: Global,
+    laying: &Laying<'a>,
+    entering: &Entering<'a>,
+    ground: &Ground,
+    resource: &'a Res,
+    ids: &Names,
+    left: usize,
+    course: &mut Course<'a>,
+) -> Result<(), AllocError>
+    requires templates { laying.now.templates.now ≡ templates_of laying.now.source.now }
+    requires stack { stack_in ground.now.stack.now ≡ stack_in entering.now.stack }
+    requires source { ground.now.source.now ≡ laying.now.source.now }
+    requires few { few course.old.count.templates course.old.count.members }
+    ensures course { IfOk result (λ _. course_in course.new ≡ with_nested (below left laying.now.source.now laying.now.seen.now) laying.now.source.now laying.now.seen.now (entering_in entering.now) ground.now.conds.now (scope_by ground.now) (course_in course.old) ids.now resource.now) }
+    ensures few { IfOk result (λ _. few course.new.count.templates course.new.count.members) }
+{
+    let nesting = nesting_by(alloc, entering, &course.stands, resource, ids)?;
+    let inner = Inner {
+        nesting: nesting.try_clone(alloc)?,
+        resource,
+        form: property(&resource.props, "Parameters"),
+    };
+    let unnamed = unnamed(alloc, &entering.stack, ground.conds, resource)?;
+    let env = env_over(ground, &course.sights);
+    let way = way_into(alloc, laying, &env, &inner, unnamed, left, course.count)?;
+    let laid = within(alloc, laying, entering, inner, way, left, course.count)?;
+    join(alloc, laying.source, &nesting, laid, course)
+}
+
+/// Adds a nested stack that was laid out.
+fn join<'a>(
+    alloc: Global,
+    source: &Source,
+    nesting: &Nesting,
+    laid: Laid<'a>,
+    course: &mut Course<'a>,
+) -> Result<(), AllocError>
+    ensures { IfOk result (λ _. IsJoined source.now (nesting_in nesting.now) laid.entry course.old course.new) }
+{
+    let mut paths = laid.paths;
+    add_all(alloc, &mut paths, &nesting.needs)?;
+    add_all(alloc, &mut course.paths, &paths)?;
+    course.turns.append(laid.turns)?;
+    add_nested(alloc, source, nesting, laid.outputs, &mut course.sights)?;
+    course.stands.insert(nesting.id.try_clone(alloc)?, paths)?;
+    course.count = laid.count;
+    Ok(())
+}
+
+/// What becomes of a nested stack: its condition counts first, then the properties that it may have, then its template's name, then
+/// the limits.
+fn way_into<'a>(
+    alloc: Global,
+    laying: &Laying<'a>,
+    env: &Env,
+    inner: &Inner<'a>,
+    unnamed: Option<Flaw>,
+    left: usize,
+    count: Count,
+) -> Result<Way<'a>, AllocError>
+    requires templates { laying.now.templates.now ≡ templates_of laying.now.source.now }
+    requires form { option_copied inner.now.form ≡ value_at (codes "Parameters") inner.now.resource.now.props }
+    requires few { few count.templates count.members }
+    ensures { IfOk result (λ w. way_in w ≡ way_by left laying.now.source.now env.now.stack.now (scope_in env.now) count.templates count.members inner.now.nesting.path inner.now.resource.now unnamed) }
+{
+    if let Some(flaw) = unnamed {
+        return Ok(Way::Shut { flaw });
+    }
+    let path = &inner.nesting.path;
+    if !has_stack_shape(inner.resource) {
+        let path = path.try_clone(alloc)?;
+        return Ok(Way::Shut {
+            flaw: Flaw::Shape { path },
+        });
+    }
+    match template_url(alloc, inner.resource, path, env)? {
+        Url::Named { name } => way_by_name(alloc, laying, env, inner, &name, left, count),
+        Url::Flawed { flaw } => Ok(Way::Barred { flaw }),
+    }
+}
+
+/// What becomes of a nested stack whose template has this name.
+fn way_by_name<'a>(
+    alloc: Global,
+    laying: &Laying<'a>,
+    env: &Env,
+    inner: &Inner<'a>,
+    name: &Txt,
+    left: usize,
+    count: Count,
+) -> Result<Way<'a>, AllocError>
+    requires templates { laying.now.templates.now ≡ templates_of laying.now.source.now }
+    requires few { few count.templates count.members }
+    ensures { IfOk result (λ w. way_in w ≡ entered_way (given_in (scope_in env.now) (option_copied inner.now.form)) (entered_by left inner.now.nesting.path name.now count.templates count.members (template_named name.now laying.now.source.now))) }
+{
+    match enterable(alloc, laying, &inner.nesting.path, name, left, count)? {
+        Ok(template) => {
+            let offered = offered_by(alloc, inner.form, env)?;
+            Ok(Way::Entered {
+                template,
+                given: offered.given,
+            })
+        }
+        Err(flaw) => Ok(Way::Barred { flaw }),
+    }
+}
+
+/// How the template of a nested stack comes to be entered.
+fn entry_of(inner: Inner) -> Entry
+    ensures { entry_in result ≡ through (nesting_in inner.entry.nesting) (option_copied inner.entry.form) }
+{
+    Entry::Nested {
+        nesting: inner.nesting,
+        form: inner.form,
+    }
+}
+
+/// A nested stack whose stack resource has a flaw.
+fn shut<'a>(
+    alloc: Global,
+    nesting: Nesting,
+    flaw: Flaw,
+    count: Count,
+) -> Result<Laid<'a>, AllocError>
+    ensures laid { IfOk result (λ l. (source : Source) (seen : Seen) (s : Scope) → IsWithin source seen s (nesting_in nesting) count (shut flaw) l) }
+    ensures count { IfOk result (λ l. l.count ≡ count) }
+{
+    let mut turns = Listing::new(alloc);
+    turns.push(Turn::Shut { nesting, flaw })?;
+    Ok(nothing_laid(alloc, turns, count))
+}
+
+/// A template that can't be entered.
+fn barred<'a>(
+    alloc: Global,
+    entry: Entry<'a>,
+    flaw: Flaw,
+    count: Count,
+) -> Result<Laid<'a>, AllocError>
+    ensures laid { IfOk result (λ l. (source : Source) (seen : Seen) (g : Given) → IsLaid source seen (entry_in entry.entry) g count (barred flaw) l) }
+    ensures count { IfOk result (λ l. l.count ≡ count) }
+{
+    let mut turns = Listing::new(alloc);
+    turns.push(Turn::Barred { entry, flaw })?;
+    Ok(nothing_laid(alloc, turns, count))
+}
+
+/// Turns with which no template was opened.
+fn nothing_laid<'a>(alloc: Global, turns: Listing<Turn<'a>>, count: Count) -> Laid<'a>
+    ensures turns { result.turns ≡ turns.entry }
+    ensures outputs { result.outputs ≡ [] }
+    ensures paths { result.paths ≡ [] }
+    ensures count { result.count ≡ count }
+{
+    Laid {
+        turns,
+        outputs: ByName::new(alloc),
+        paths: Names::new(alloc),
+        count,
+    }
+}
+
+/// What is in a nested stack.
+#[cycle(laying)]
+fn within<'a>(
+    alloc: Global,
+    laying: &Laying<'a>,
+    entering: &Entering<'a>,
+    inner: Inner<'a>,
+    way: Way<'a>,
+    left: usize,
+    count: Count,
+) -> Result<Laid<'a>, AllocError>
+    requires templates { laying.now.templates.now ≡ templates_of laying.now.source.now }
+    requires few { few count.templates count.members }
+    requires fits { IsWay left count.templates count.members (way_in way) }
+    ensures laid { IfOk result (λ l. (s : Scope) → WayLaid laying.now.source.now laying.now.seen.now s (entering_in entering.now) (nesting_in inner.entry.nesting) (option_copied inner.entry.form) inner.entry.resource.now left count (way_in way.entry) l) }
+    ensures few { IfOk result (λ l. few l.count.templates l.count.members) }
+{
+    match way {
+        Way::Shut { flaw } => shut(alloc, inner.nesting, flaw, count),
+        Way::Barred { flaw } => barred(alloc, entry_of(inner), flaw, count),
+        Way::Entered { template, given } => {
+            let below = entering_below(alloc, entering, &inner, template)?;
+            lay(
+                alloc,
+                laying,
+                below,
+                entry_of(inner),
+                &given,
+                left - 1,
+                count,
+            )
+        }
+    }
+}
+
+/// The template of a name, or the limit that keeps from entering it, or that it is not there.
+fn enterable<'a>(
+    alloc: Global,
+    laying: &Laying<'a>,
+    path: &Txt,
+    name: &Txt,
+    left: usize,
+    count: Count,
+) -> Result<Result<&'a Template, Flaw>, AllocError>
+    requires templates { laying.now.templates.now ≡ templates_of laying.now.source.now }
+    requires few { few count.templates count.members }
+    ensures { IfOk result (λ r. enterable_in r ≡ entered_by left path.now name.now count.templates count.members (template_named name.now laying.now.source.now)) }
+{
+    if left == 0 {
+        let path = path.try_clone(alloc)?;
+        return Ok(Err(Flaw::TooDeep { path }));
+    }
+    let templates = count.templates + 1;
+    if templates > TEMPLATES {
+        return Ok(Err(Flaw::TooMany { count: templates }));
+    }
+    let Some(template) = template_named(laying.source, laying.templates, name) else {
+        let name = name.try_clone(alloc)?;
+        return Ok(Err(Flaw::TemplateMissing { name }));
+    };
+    let members = count.members + template.resources.len() as u64;
+    if members > MEMBERS {
+        return Ok(Err(Flaw::TooMany { count: members }));
+    }
+    Ok(Ok(template))
+}
+
+/// The template of a nested stack, as it is entered.
+fn entering_below<'a>(
+    alloc: Global,
+    entering: &Entering,
+    inner: &Inner<'a>,
+    template: &'a Template,
+) -> Result<Entering<'a>, AllocError>
+    ensures { IfOk result (λ e. entering_in e ≡ entering_below (entering_in entering.now) (nesting_in inner.now.nesting) inner.now.resource.now template.now) }
+{
+    let nesting = &inner.nesting;
+    Ok(Entering {
+        stack: Stack {
+            path: nesting.path.try_clone(alloc)?,
+            name: nesting.name.try_clone(alloc)?,
+            template,
+        },
+        deletion: inner.resource.deletion.or(entering.deletion),
+        replace: inner.resource.replace.or(entering.replace),
+        needs: nesting.needs.try_clone(alloc)?,
+    })
+}

@@ -1,0 +1,184 @@
+//! The shape of what a source wants: its resources in the order of work, with what is asked of them and what they need, and its
+//! nested stacks. No value is in it.
+ghost use Rattle.std.specs.Prelude.{◌≡◌, IfOk, map, option_map};
+ghost use Rattle.cf_desired.specs.Kept.{IsShape, member_in, nesting_in, turn_in};
+ghost use Rattle.cf_desired.specs.Plan.{member_at};
+ghost use Rattle.cf_desired.specs.Turns.{all_terms, pathed, terms_among, terms_of};
+ghost use Rattle.cf_desired.specs.Valued.{resources_in};
+ghost use Rattle.cf_desired.specs.Work.{Body};
+
+use crate::flaw::Flaw;
+use cf_tree::{CondMap, Deletion, Expr, Listing, Names, Replace, Res, Template, Txt};
+use std::alloc::{AllocError, Global};
+
+/// A template that is entered as a stack.
+#[derive(Drop)]
+pub(crate) struct Stack<'a> {
+    /// The path of its stack resource, empty for the root.
+    pub path: Txt,
+    pub name: Txt,
+    pub template: &'a Template,
+}
+
+/// A resource in the order of work.
+#[derive(Drop)]
+pub(crate) struct Member<'a> {
+    /// Its logical id, its type and its expressions.
+    pub resource: &'a Res,
+    pub path: Txt,
+    pub deletion: Deletion,
+    pub replace: Replace,
+    /// The paths that it needs.
+    pub needs: Names,
+    /// The flaw that its condition is not declared.
+    pub unnamed: Option<Flaw>,
+}
+
+/// A nested stack in the order of work.
+#[derive(Drop)]
+pub(crate) struct Nesting {
+    /// The path of its stack resource.
+    pub path: Txt,
+    /// The logical id of its stack resource.
+    pub id: Txt,
+    pub name: Txt,
+    /// The paths that its stack resource needs.
+    pub needs: Names,
+}
+
+impl Nesting {
+    /// A copy of the nested stack.
+    pub fn try_clone(&self, alloc: Global) -> Result<Nesting, AllocError>
+        ensures { IfOk result (λ n. nesting_in n ≡ nesting_in self.now) }
+    {
+        Ok(Nesting {
+            path: self.path.try_clone(alloc)?,
+            id: self.id.try_clone(alloc)?,
+            name: self.name.try_clone(alloc)?,
+            needs: self.needs.try_clone(alloc)?,
+        })
+    }
+}
+
+/// How a template comes to be entered.
+#[derive(Drop)]
+pub(crate) enum Entry<'a> {
+    /// As the root.
+    Root,
+    /// As a nested stack, with what its parameters are given.
+    Nested {
+        nesting: Nesting,
+        form: Option<&'a Expr>,
+    },
+}
+
+/// A turn of the work on a source.
+#[derive(Drop)]
+pub(crate) enum Turn<'a> {
+    /// A resource of the template that was opened last.
+    Resource {
+        member: Member<'a>,
+    },
+    /// A nested stack whose stack resource has a flaw.
+    Shut {
+        nesting: Nesting,
+        flaw: Flaw,
+    },
+    /// A template that can't be entered.
+    Barred {
+        entry: Entry<'a>,
+        flaw: Flaw,
+    },
+    /// A template whose conditions, or the needs in it, have a flaw.
+    Halted {
+        entry: Entry<'a>,
+        stack: Stack<'a>,
+        flaw: Flaw,
+    },
+    /// A template is opened: what its conditions come to, and the logical ids of its resources in the order of work.
+    Opened {
+        entry: Entry<'a>,
+        stack: Stack<'a>,
+        conds: CondMap,
+        own: Names,
+    },
+    /// All of the template that was opened last has come.
+    Closed,
+}
+
+/// What a source wants, but for values.
+#[derive(Drop)]
+pub struct Shape<'a> {
+    pub(crate) turns: Listing<Turn<'a>>,
+    /// How many templates were entered.
+    pub(crate) templates: u64,
+    /// How many resources these have, each counted as often as it was entered.
+    pub(crate) members: u64,
+}
+
+/// The type of a resource, its policies and the paths that it needs.
+#[derive(Drop)]
+pub struct Terms {
+    pub kind: Txt,
+    pub needs: Names,
+    pub deletion: Deletion,
+    pub replace: Replace,
+}
+
+/// What a shape has at a path; `None` where it has no resource there. No property is evaluated.
+///
+/// # Errors
+///
+/// Only for want of memory.
+pub fn terms_at(alloc: Global, shape: &Shape, path: &Txt) -> Result<Option<Terms>, AllocError>
+    ensures { IfOk result (λ t. (b : Body) → IsShape shape.now b → t ≡ option_map terms_of (member_at b path.now)) }
+{
+    terms_among(alloc, shape.turns.as_slice(), path)
+}
+
+fn terms_among(alloc: Global, turns: &[Turn], path: &Txt) -> Result<Option<Terms>, AllocError>
+    ensures { IfOk result (λ t. t ≡ terms_among (map turn_in turns.now) path.now) }
+{
+    for turn in turns {
+        if let Turn::Resource { member } = turn {
+            if member.path.is(path.as_str()) {
+                return Ok(Some(terms_of(alloc, member)?));
+            }
+        }
+    }
+    Ok(None)
+}
+
+/// What a shape has at each path, in the order of work.
+///
+/// # Errors
+///
+/// Only for want of memory.
+pub fn all_terms(alloc: Global, shape: &Shape) -> Result<Listing<(Txt, Terms)>, AllocError>
+    ensures { IfOk result (λ ts. (b : Body) → IsShape shape.now b → ts ≡ map pathed (resources_in b)) }
+{
+    terms_along(alloc, shape.turns.as_slice())
+}
+
+fn terms_along(alloc: Global, turns: &[Turn]) -> Result<Listing<(Txt, Terms)>, AllocError>
+    ensures { IfOk result (λ ts. ts ≡ all_terms (map turn_in turns.now)) }
+{
+    let mut terms = Listing::new(alloc);
+    for turn in turns {
+        if let Turn::Resource { member } = turn {
+            terms.push((member.path.try_clone(alloc)?, terms_of(alloc, member)?))?;
+        }
+    }
+    Ok(terms)
+}
+
+fn terms_of(alloc: Global, member: &Member) -> Result<Terms, AllocError>
+    ensures { IfOk result (λ t. t ≡ terms_of (member_in member.now)) }
+{
+    Ok(Terms {
+        kind: member.resource.kind.try_clone(alloc)?,
+        needs: member.needs.try_clone(alloc)?,
+        deletion: member.deletion,
+        replace: member.replace,
+    })
+}

@@ -1,0 +1,106 @@
+//! The names of nested templates.
+ghost use Rattle.std.specs.Prelude.{◌≡◌, IfOk};
+ghost use Rattle.std.specs.Option.{option_copied};
+ghost use Rattle.cf_tree.specs.Keys.{value_at};
+ghost use Rattle.cf_eval.specs.Env.{scope_in};
+ghost use Rattle.cf_desired.specs.Kept.{url_in};
+ghost use Rattle.std.specs.List.{list_all};
+ghost use Rattle.cf_desired.specs.Shape.{has_stack_shape, is_stack_property, no_url, url_of};
+ghost use Rattle.cf_desired.specs.declared.flaw.Flaw.TheVariants as flaw;
+
+use crate::flaw::Flaw;
+use crate::told::{blame_of, flaw_by, text_of, wrong_kind};
+use cf_eval::{Env, Got, eval};
+use cf_tree::{Expr, ExprDict, Res, Txt};
+use std::alloc::{AllocError, Global};
+
+/// The name of a nested template.
+#[derive(Drop)]
+pub(crate) enum Url {
+    Named { name: Txt },
+    Flawed { flaw: Flaw },
+}
+
+/// The name of the template of the nested stack at a path: a text; where it is left out the shape is wrong, and where it is not
+/// known yet it can't be told.
+#[tactic(auto, using(crate::proofs::UrlStops::url_stops))]
+pub(crate) fn template_url(
+    alloc: Global,
+    resource: &Res,
+    path: &Txt,
+    env: &Env,
+) -> Result<Url, AllocError>
+    ensures { IfOk result (λ u. url_in u ≡ url_of env.now.stack.now path.now (scope_in env.now) resource.now) }
+{
+    let Some(expr) = property(&resource.props, "TemplateURL") else {
+        return shapeless(alloc, path);
+    };
+    match eval(alloc, expr, env) {
+        Ok(Got::Value(value)) => match text_of(alloc, value)? {
+            Some(name) => Ok(Url::Named { name }),
+            None => Ok(Url::Flawed {
+                flaw: flaw_by(wrong_kind(alloc, env.stack, expr.at())?),
+            }),
+        },
+        Ok(Got::NoValue) => shapeless(alloc, path),
+        Ok(Got::Later) => Ok(Url::Flawed {
+            flaw: Flaw::DynamicTemplate {
+                path: path.try_clone(alloc)?,
+            },
+        }),
+        Err(fault) => Ok(Url::Flawed {
+            flaw: flaw_by(blame_of(fault)?),
+        }),
+    }
+}
+
+fn shapeless(alloc: Global, path: &Txt) -> Result<Url, AllocError>
+    ensures { IfOk result (λ u. url_in u ≡ no_url (flaw.Shape path.now)) }
+{
+    Ok(Url::Flawed {
+        flaw: Flaw::Shape {
+            path: path.try_clone(alloc)?,
+        },
+    })
+}
+
+/// Whether a nested stack has its template's name, and no property that it may not have.
+pub(crate) fn has_stack_shape(resource: &Res) -> bool
+    ensures { result ≡ has_stack_shape resource.now }
+{
+    has_stack_properties(&resource.props) && property(&resource.props, "TemplateURL").is_some()
+}
+
+fn has_stack_properties(props: &ExprDict) -> bool
+    ensures { result ≡ list_all (λ p. is_stack_property p.0) props.now }
+{
+    for pair in props.as_slice() {
+        if !is_stack_property(pair.name.as_str()) {
+            return false;
+        }
+    }
+    true
+}
+
+/// Whether a nested stack may have a property of this name.
+fn is_stack_property(name: &str) -> bool
+    ensures { result ≡ is_stack_property name.now }
+{
+    name == "NotificationARNs"
+        || name == "Parameters"
+        || name == "Tags"
+        || name == "TemplateURL"
+        || name == "TimeoutInMinutes"
+}
+
+/// The property of a name.
+pub(crate) fn property<'a>(props: &'a ExprDict, name: &str) -> Option<&'a Expr>
+    ensures { option_copied result ≡ value_at name.now props.now }
+{
+    for pair in props.as_slice() {
+        if pair.name.is(name) {
+            return Some(&pair.value);
+        }
+    }
+    None
+}
