@@ -3,6 +3,8 @@ pub mod Words
 pub mod Operation
 pub mod Event
 pub mod Fold
+pub mod PathTerms
+pub mod Termed
 pub mod Changing
 pub mod Growing
 pub mod Telling
