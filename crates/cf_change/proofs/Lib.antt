@@ -1,3 +1,4 @@
 pub mod Along
 pub mod Refused
 pub mod Shown
+pub mod Leaving

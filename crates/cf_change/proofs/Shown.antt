@@ -48,7 +48,7 @@ first_held path (h ∷ hs) = by_name (bytes_eq path h.path) (first_held path hs)
   by_name true rest = refl
   by_name false rest = rest
 
-held_there : (path : List ℕ) (hs : List HeldAt) → value_at path (held_seen hs) ≡ option_map (λ h. seen_held h None) (resource_held path hs)
+pub held_there : (path : List ℕ) (hs : List HeldAt) → value_at path (held_seen hs) ≡ option_map (λ h. seen_held h None) (resource_held path hs)
 held_there path hs = value_names path (map held_at hs) ∙ first_held path hs
 
 kept_if : {A : Type 0} (b : Bool) (a : A) → AtMost (cond b (Some a) None) (Some a)

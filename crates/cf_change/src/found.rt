@@ -18,7 +18,7 @@ use std::alloc::{AllocError, Global};
 
 /// The rows so far, what is seen, and the paths that are held with another type.
 #[derive(Drop)]
-pub(crate) struct Found {
+pub struct Found {
     pub rows: Rows,
     pub seen: Seen,
     pub clash: Names,
@@ -39,7 +39,11 @@ fn held_seen(alloc: Global, held: &[HeldAt]) -> Result<Seen, AllocError>
 }
 
 /// What a source changes of what is held, along the shape that it has over that.
-pub(crate) fn found_of(
+///
+/// # Errors
+///
+/// Only for want of memory.
+pub fn found_of(
     alloc: Global,
     schemas: &Schemas,
     held: &Listing<HeldAt>,

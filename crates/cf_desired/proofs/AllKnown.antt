@@ -34,5 +34,5 @@ known_whole p k =
           ∙ ap (λ o. whole_from p o (all_of right_output p.outputs)) rights.1
           ∙ ap (λ o. whole_from p (Some rights.0) o) outputs.1
           ∙ ap (λ o. whole_with rights.0 outputs.0 o) exports.1,
-      rights.2,
+      record { wanted = rights.2; outputs = outputs.2; exports = exports.2 },
     )

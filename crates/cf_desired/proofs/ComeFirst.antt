@@ -103,10 +103,10 @@ abbrev GoodFrom : List (List ℕ) → List (List ℕ × List (List ℕ)) → Typ
 GoodFrom placed [] = ⊤
 GoodFrom placed (m ∷ ms) = In placed m.1 × GoodFrom (placed ++ m.0 ∷ []) ms
 
-abbrev names_of : List (List ℕ × List (List ℕ)) → List (List ℕ)
+abbrev pub names_of : List (List ℕ × List (List ℕ)) → List (List ℕ)
 names_of rows = map (λ r. r.0) rows
 
-keys_among : (q : List ℕ) (rows : List (List ℕ × List (List ℕ))) → is_some (value_at q rows) ≡ is_among q (names_of rows)
+pub keys_among : (q : List ℕ) (rows : List (List ℕ × List (List ℕ))) → is_some (value_at q rows) ≡ is_among q (names_of rows)
 keys_among q [] = refl
 keys_among q (p ∷ ps) = by_name (bytes_eq q p.0) (keys_among q ps) where
   by_name : (b : Bool) → is_some (value_at q ps) ≡ is_among q (names_of ps) → is_some (cond b (Some p.1) (value_at q ps)) ≡ (b || is_among q (names_of ps))
@@ -117,7 +117,7 @@ good_and : (placed : List (List ℕ)) (rows : List (List ℕ × List (List ℕ))
 good_and placed [] r h g = (subst (λ all. In all r.1) (append-nil placed) g, tt)
 good_and placed (x ∷ rows) r h g = (h.0, good_and (placed ++ x.0 ∷ []) rows r h.1 (subst (λ all. In all r.1) (sym (append_assoc placed (x.0 ∷ []) (names_of rows))) g))
 
-find_passes : {A : Type 0} (test : A → Bool) (xs : List A) (x : A) → find test xs ≡ Some x → test x ≡ true
+pub find_passes : {A : Type 0} (test : A → Bool) (xs : List A) (x : A) → find test xs ≡ Some x → test x ≡ true
 find_passes test [] x e = let no : ⊥ = cc in absurd no
 find_passes test (y ∷ xs) x e = by_test (test y) refl e (find_passes test xs x) where
   by_test : (b : Bool) → test y ≡ b → cond b (Some y) (find test xs) ≡ Some x → (find test xs ≡ Some x → test x ≡ true) → test x ≡ true
@@ -173,7 +173,7 @@ not_made conds t k (r ∷ rs) h = by_name (bytes_eq k r.name) refl (is_made cond
   by_name false e true g ih = ap (λ b. b || is_among k (made_names t conds rs)) e ∙ ih g
   by_name false e false g ih = ih g
 
-found_name : (k : List ℕ) (rs : List Res) (r : Res) → found (λ x. x.name) k rs ≡ Some r → r.name ≡ k
+pub found_name : (k : List ℕ) (rs : List Res) (r : Res) → found (λ x. x.name) k rs ≡ Some r → r.name ≡ k
 found_name k rs r e = sym ((bytes_eq-Decides k r.name).0 (find_passes (λ x. bytes_eq k x.name) rs r e))
 
 abbrev paths_of : List Member → List (List ℕ)

@@ -12,6 +12,7 @@ pub mod ShapeStays
 pub mod Hiding
 pub mod ComeFirst
 pub mod Sorted
+pub mod Apart
 pub mod Finding
 pub mod Flawless
 pub mod Sure

@@ -1,20 +1,16 @@
 -- What of a shape rests on what is seen.
-use Rattle.std.proofs.Common.{◌≡◌, ℕ, zero, suc, List, [], ◌∷◌, ◌++◌, Bool, true, false, not, Option, Some, None, Result, Ok, Err, refl, sym, ap, ◌∙◌, true≢false}
+use Rattle.std.proofs.Common.{◌≡◌, ℕ, zero, suc, List, [], ◌∷◌, ◌++◌, Bool, true, false, Option, Some, None, Result, Ok, Err, refl, sym, ap, ◌∙◌}
 use Rattle.std.specs.Prelude.{⊤, cond, codes, nat_lt, length, ◌+◌}
-use Rattle.std.specs.Cmp.{first_so, second_so}
-use Rattle.std.specs.List.{list_all}
 use Rattle.std.specs.Option.{option_map_or}
-use Rattle.std.specs.Str.{bytes_eq}
 use Rattle.cf_tree.specs.Forms.{Form, place_of}
 use Rattle.cf_tree.specs.Keys.{value_at, put}
-use Rattle.cf_tree.specs.Named.{found}
 use Rattle.cf_tree.specs.declared.source.Source.{Source}
 use Rattle.cf_tree.specs.declared.template.Res.{Res}
 use Rattle.cf_tree.specs.declared.template.Template.{Template}
 use Rattle.cf_graph.specs.Needs.{Tangle, needs_of, resource_named}
 use Rattle.cf_desired.specs.Names.{pseudo_of}
 use Rattle.cf_desired.specs.Seeing.{Seen, first_sights, nested_sight, outputs_inside}
-use Rattle.cf_desired.specs.Templates.{is_stack, template_named, is_flat}
+use Rattle.cf_desired.specs.Templates.{is_stack, template_named}
 use Rattle.cf_desired.specs.Shape.{has_stack_shape, first_later, Entering, StandsFor, Course, Laying, first_stands, paths_inside, templates_inside, members_inside, own_in, unnamed_at, member_of, nesting_of, maybe_text, url_from, url_of, laid_within, entering_below, body_at, inside_of, nested_before, step_before, work_along, body_in_order, verdicts_of, body_decided, body_bound, laid, given_root, root_of}
 use Rattle.cf_desired.specs.Stays.{SeesMore}
 use Rattle.cf_desired.specs.declared.flaw.Flaw.{Flaw}
@@ -22,9 +18,9 @@ use Rattle.cf_desired.specs.declared.flaw.Flaw.TheVariants as flaw
 use Rattle.cf_eval.specs.Env.{conditions_of}
 use Rattle.cf_desired.specs.Given.{Given, given_in, settings_for}
 use Rattle.cf_eval.specs.Outcome.{Outcome, got, later, bad, on_got}
-use Rattle.cf_desired.specs.ShapeStays.{IsClearAlong, IsClearInside, IsClear, FlatStays, ShapeStays, UpdateStays}
-use Rattle.cf_desired.specs.Stack.{Verdicts, Settings, Sights, Scoping, scoping, value_in}
-use Rattle.cf_desired.specs.Work.{Member, Nesting, Work, Inside, Body, no_work, resource, nested, shut, barred, halted, opened}
+use Rattle.cf_desired.specs.ShapeStays.{IsClearAlong, IsClearInside, IsClear, ShapeStays, UpdateStays}
+use Rattle.cf_desired.specs.Stack.{Verdicts, Settings, Sights, Scoping, value_in}
+use Rattle.cf_desired.specs.Work.{Nesting, Work, Inside, resource, nested, shut, barred, halted, opened}
 use Rattle.cf_desired.specs.Work as inside
 use Rattle.cf_desired.proofs.Deciding.{conditions_stay}
 use Rattle.cf_desired.proofs.Keeping.{GivenKeeps, given_self, given_keeps, KeepsSights, put_keeps, first_keep, over, scope_knows, inside_keeps, names_keep}
@@ -32,57 +28,6 @@ use Rattle.cf_eval.proofs.Knowing.{Stands, itself, stands_on, plain_value_stands
 
 abbrev course : Sights → StandsFor → ℕ → ℕ → Course
 course m stands templates members = record { sights = m; stands = stands; templates = templates; members = members }
-
--- a flat template
-pub flat_found : (name : List ℕ) (rs : List Res) → list_all (λ r. not (is_stack r)) rs ≡ true → option_map_or (λ r. not (is_stack r)) (found (λ r. r.name) name rs) true ≡ true
-flat_found name [] h = refl
-flat_found name (r ∷ rs) h = either (bytes_eq name r.name) (flat_found name rs (second_so (not (is_stack r)) _ h)) where
-  either : (c : Bool) → option_map_or (λ x. not (is_stack x)) (found (λ x. x.name) name rs) true ≡ true → option_map_or (λ x. not (is_stack x)) (cond c (Some r) (found (λ x. x.name) name rs)) true ≡ true
-  either true ih = first_so (not (is_stack r)) _ h
-  either false ih = ih
-
-module _ (source : Source) (a b : Seen) (lay under : Option Laying) (e : Entering) (conds : Verdicts) (o : Scoping) where
-  flat_work : list_all (λ r. not (is_stack r)) e.stack.template.resources ≡ true → (order : List (List ℕ × List (List ℕ))) (m n : Sights) (stands : StandsFor) (templates members : ℕ)
-      → work_along under source b e conds o order (course n stands templates members) ≡ work_along lay source a e conds o order (course m stands templates members)
-  flat_work flat [] m n stands templates members = refl
-  flat_work flat (x ∷ order) m n stands templates members =
-      by_name (resource_named x.0 e.stack.template) (flat_found x.0 e.stack.template.resources flat) (flat_work flat order m n stands templates members) where
-        by_kind : (r : Res) (c : Bool) → not c ≡ true → (p q : Work) → work_along under source b e conds o order (course n stands templates members) ≡ work_along lay source a e conds o order (course m stands templates members)
-            → cond c p (resource (member_of e conds stands r) (work_along under source b e conds o order (course n stands templates members)))
-            ≡ cond c q (resource (member_of e conds stands r) (work_along lay source a e conds o order (course m stands templates members)))
-        by_kind r true h p q ih = absurd (true≢false (sym h))
-        by_kind r false h p q ih = ap (resource (member_of e conds stands r)) ih
-
-        by_name : (y : Option Res) → option_map_or (λ r. not (is_stack r)) y true ≡ true
-            → work_along under source b e conds o order (course n stands templates members) ≡ work_along lay source a e conds o order (course m stands templates members)
-            → option_map_or (λ r. step_before under source b e conds o (course n stands templates members) r (work_along under source b e conds o order)) y (work_along under source b e conds o order (course n stands templates members))
-            ≡ option_map_or (λ r. step_before lay source a e conds o (course m stands templates members) r (work_along lay source a e conds o order)) y (work_along lay source a e conds o order (course m stands templates members))
-        by_name None h ih = ih
-        by_name (Some r) h ih = by_kind r (is_stack r) h _ _ ih
-
-module _ (source : Source) (a b : Seen) (lay under : Option Laying) (e : Entering) (bound : Settings) (templates members : ℕ) (flat : list_all (λ r. not (is_stack r)) e.stack.template.resources ≡ true) where
-  flat_order : (conds : Verdicts) (r : Result (List (List ℕ × List (List ℕ))) Tangle)
-      → body_in_order under source b e bound templates members conds r ≡ body_in_order lay source a e bound templates members conds r
-  flat_order conds (Err t) = refl
-  flat_order conds (Ok order) =
-      ap (opened e.stack conds)
-      (flat_work source a b lay under e conds (scoping source e.stack conds bound) flat order (first_sights e.stack conds a (own_in e.stack.template order)) (first_sights e.stack conds b (own_in e.stack.template order)) (first_stands e.stack (own_in e.stack.template order)) templates members)
-
-  flat_decided : (o : Outcome (List (List ℕ × Option Bool))) → body_decided under source b e bound templates members o ≡ body_decided lay source a e bound templates members o
-  flat_decided (bad s) = refl
-  flat_decided later = refl
-  flat_decided (got conds) =
-      ap (option_map_or (λ name. halted e.stack (flaw.DynamicCondition e.stack.path name)) (first_later conds)) (flat_order (verdicts_of conds) (needs_of e.stack.template (verdicts_of conds)))
-
-pub flat_stays : FlatStays
-flat_stays source flat a b = either (template_named source.root source) flat where
-  either : (t : Option Template) → option_map_or is_flat t true ≡ true
-      → option_map_or (λ x. laid 7 source b (root_of source x) (given_root source) 1 (length x.resources)) t (barred (flaw.TemplateMissing source.root))
-      ≡ option_map_or (λ x. laid 7 source a (root_of source x) (given_root source) 1 (length x.resources)) t (barred (flaw.TemplateMissing source.root))
-  either None h = refl
-  either (Some t) h =
-      flat_decided source a b (Some (laid 6 source a)) (Some (laid 6 source b)) (root_of source t) (settings_for t.params (given_root source)) 1 (length t.resources) h
-      (conditions_of t (settings_for t.params (given_root source)) (pseudo_of source.stack source.number))
 
 -- nested stacks
 module _ (source : Source) (a b : Seen) (more : SeesMore a b) where

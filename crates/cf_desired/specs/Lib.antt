@@ -19,6 +19,7 @@ pub mod NeedsMatter
 pub mod ShapeStays
 pub mod KnownStays
 pub mod ComeFirst
+pub mod PathsDiffer
 pub mod NeededIsKnown
 pub mod Listed
 pub mod Turns

@@ -1,12 +1,10 @@
--- What of a shape rests on what is seen: nothing in a flat source; and where nothing hinders it, nothing that more knowledge
--- changes (this project's own laws).
+-- What of a shape rests on what is seen: where nothing hinders it, nothing that more knowledge changes (this project's own laws).
 use Rattle.std.specs.Prelude.{◌≡◌, ℕ, List, Bool, false, None, map, if◌then◌else◌, [], ◌∷◌, ⊤}
 use Rattle.cf_tree.specs.declared.source.Source.{Source}
 use Rattle.cf_eval.specs.Knows.{Keeps}
 use Rattle.cf_desired.specs.Seeing.{Seen}
 use Rattle.cf_desired.specs.Stays.{SeesMore, id_seen, attrs_seen}
 use Rattle.cf_desired.specs.declared.seen.SeenAt.{SeenAt}
-use Rattle.cf_desired.specs.Templates.{IsFlat}
 use Rattle.cf_desired.specs.Plan.{plan_by}
 use Rattle.cf_desired.specs.Shape.{shape_of}
 use Rattle.cf_desired.specs.Work.{Member, Nesting, Work, Inside, Body, Shape, no_work, resource, nested, shut, barred, halted, opened}
@@ -27,10 +25,6 @@ abbrev mutual
   IsClear (barred f) = ⊥
   IsClear (halted t f) = ⊥
   IsClear (opened t conds w) = IsClearAlong w
-
--- without nested stacks order, kinds, policies and needs don't rest on what is seen
-abbrev pub FlatStays : Type 0
-FlatStays = (source : Source) → IsFlat source → (a b : Seen) → shape_of source b ≡ shape_of source a
 
 -- what is clear over some that is seen is the same over all that shows at least as much
 abbrev pub ShapeStays : Type 0

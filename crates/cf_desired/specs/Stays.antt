@@ -58,9 +58,11 @@ pub record IsAllKnown (p : Plan) : Type 0 where
   pub outputs : IsTrue (list_all (λ o. is_some (right_output o)) p.outputs)
   pub exports : IsTrue (list_all (λ e. is_some (right_export e)) p.exports)
 
--- a whole map has just what the plan wants, path by path
-abbrev pub IsWholeOf : Plan → Whole → Type 0
-IsWholeOf p w = map (λ r. Some r) w.wanted ≡ map right_of p.wanted
+-- a whole map has just what the plan has, one by one: paths, outputs of the root, and exports
+pub record IsWholeOf (p : Plan) (w : Whole) : Type 0 where
+  pub wanted : map (λ r. Some r) w.wanted ≡ map right_of p.wanted
+  pub outputs : map (λ o. Some o) w.outputs ≡ map right_output p.outputs
+  pub exports : map (λ e. Some e) w.exports ≡ map right_export p.exports
 
 -- a plan all of which is known is whole
 abbrev pub AllKnownIsWhole : Type 0

@@ -1,9 +1,6 @@
 -- The templates of a source: a text that is refused counts as not there (this project's own); and which resources are nested
 -- stacks (User Guide: working with nested stacks).
-use Rattle.std.specs.Prelude.{ℕ, Bool, true, not, List, Option, Some, None, Result, Ok, Err, codes, filter_map, option_and_then, option_map}
-use Rattle.std.specs.List.{list_all}
-use Rattle.std.specs.Option.{option_map_or}
-use Rattle.std.specs.Bool.{IsTrue}
+use Rattle.std.specs.Prelude.{ℕ, Bool, List, Option, Some, None, Result, Ok, Err, codes, filter_map, option_and_then, option_map}
 use Rattle.std.specs.Str.{bytes_eq}
 use Rattle.cf_tree.specs.Keys.{value_at}
 use Rattle.cf_tree.specs.declared.template.Res.{Res}
@@ -30,11 +27,3 @@ templates_of source = filter_map template_under source.texts
 -- a resource that is a nested stack
 abbrev pub is_stack : Res → Bool
 is_stack r = bytes_eq r.kind (codes "AWS::CloudFormation::Stack")
-
--- a template none of whose resources is a nested stack
-abbrev pub is_flat : Template → Bool
-is_flat t = list_all (λ r. not (is_stack r)) t.resources
-
--- a source whose root template, where there is one, is flat
-abbrev pub IsFlat : Source → Type 0
-IsFlat source = IsTrue (option_map_or is_flat (template_named source.root source) true)

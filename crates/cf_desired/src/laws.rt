@@ -4,8 +4,9 @@ ghost use Rattle.cf_desired.specs.ComeFirst.{NeedsComeFirst, OrderTellsNeeds};
 ghost use Rattle.cf_desired.specs.KnownStays.{KnownStays};
 ghost use Rattle.cf_desired.specs.NeededIsKnown.{NeededIsKnown};
 ghost use Rattle.cf_desired.specs.NeedsMatter.{NeedsMatter, StackNeedsMatter};
+ghost use Rattle.cf_desired.specs.PathsDiffer.{PathsDiffer};
 ghost use Rattle.cf_desired.specs.Rests.{OutputRests, ValueRests};
-ghost use Rattle.cf_desired.specs.ShapeStays.{FlatStays, FlawlessIsClear, ForwardServes, HidingServes, ShapeStays, UpdateStays};
+ghost use Rattle.cf_desired.specs.ShapeStays.{FlawlessIsClear, ForwardServes, HidingServes, ShapeStays, UpdateStays};
 ghost use Rattle.cf_desired.specs.Stays.{AllKnownIsWhole, SeenIsKnown};
 
 /// What an expression comes to rests on what is seen of the names that it mentions alone.
@@ -29,11 +30,6 @@ pub fn needs_matter()
 /// resource needs, and on nothing else that is seen.
 pub fn stack_needs_matter()
     ensures { StackNeedsMatter }
-{}
-
-/// Without nested stacks order, kinds, policies and needs don't rest on what is seen.
-pub fn flat_stays()
-    ensures { FlatStays }
 {}
 
 /// A shape in which every template could be opened stays the same as more is seen.
@@ -79,7 +75,12 @@ pub fn order_tells_needs()
     ensures { OrderTellsNeeds }
 {}
 
-/// A plan all of whose parts are known is whole.
+/// No two resources or nested stacks of a shape have one path.
+pub fn paths_differ()
+    ensures { PathsDiffer }
+{}
+
+/// A plan all of whose parts are known is whole: its paths, its outputs and its exports.
 pub fn all_known_is_whole()
     ensures { AllKnownIsWhole }
 {}

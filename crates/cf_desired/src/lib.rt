@@ -31,8 +31,8 @@ mod whole_plan;
 pub use exports::export_names;
 pub use flaw::{Flaw, Flaws};
 pub use laws::{
-    all_known_is_whole, flat_stays, flawless_is_clear, forward_serves, hiding_serves, known_stays,
-    needed_is_known, needs_come_first, needs_matter, order_tells_needs, output_rests,
+    all_known_is_whole, flawless_is_clear, forward_serves, hiding_serves, known_stays,
+    needed_is_known, needs_come_first, needs_matter, order_tells_needs, output_rests, paths_differ,
     seen_is_known, shape_stays, stack_needs_matter, update_stays, value_rests,
 };
 pub use laying::shape_of;
@@ -40,7 +40,7 @@ pub use props::{Prop, Props};
 pub use refusal::{Desired, DesiredFault, desired};
 pub use seen::{Seen, SeenAt};
 pub use shape::{Shape, Terms, all_terms, terms_at};
-pub use templates::{is_flat, is_flat_source, templates_of};
+pub use templates::templates_of;
 pub use text::plan_text;
 pub use values::{plan, plan_by, props_at};
 pub use wanted::{Evaluated, Exporting, Inner, Plan, Wanted, WantedOutput};

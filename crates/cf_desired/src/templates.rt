@@ -1,8 +1,8 @@
 //! The templates of a source.
-ghost use Rattle.std.specs.Prelude.{◌≡◌, [], ◌∷◌, ◌++◌, IfOk, filter_map, true};
-ghost use Rattle.std.specs.Option.{option_copied, option_map_or};
+ghost use Rattle.std.specs.Prelude.{◌≡◌, [], ◌∷◌, ◌++◌, IfOk, filter_map};
+ghost use Rattle.std.specs.Option.{option_copied};
 ghost use Rattle.cf_template.specs.Whole.{template_of};
-ghost use Rattle.cf_desired.specs.Templates.{accepted, is_flat, is_stack, template_named, template_under, templates_of};
+ghost use Rattle.cf_desired.specs.Templates.{accepted, is_stack, template_named, template_under, templates_of};
 
 use cf_template::{TemplateFault, read_template};
 use cf_tree::{ByName, Bytes, Res, Source, Template, Templates, Txt};
@@ -63,29 +63,6 @@ pub(crate) fn template_named<'a>(
     // Each name has one text, since the names of the texts ascend.
     let _texts = source.texts.as_slice();
     templates.get(name.as_str())
-}
-
-/// Whether the root template of a source, where there is one, holds no nested stack.
-pub fn is_flat_source(source: &Source, templates: &Templates) -> bool
-    requires { templates.now ≡ templates_of source.now }
-    ensures { result ≡ option_map_or is_flat (template_named source.now.root source.now) true }
-{
-    match template_named(source, templates, &source.root) {
-        Some(template) => is_flat(template),
-        None => true,
-    }
-}
-
-/// Whether no resource of a template is a nested stack.
-pub fn is_flat(template: &Template) -> bool
-    ensures { result ≡ is_flat template.now }
-{
-    for resource in template.resources.as_slice() {
-        if is_stack(resource) {
-            return false;
-        }
-    }
-    true
 }
 
 /// Whether a resource is a nested stack.

@@ -1,6 +1,8 @@
 -- No two resources of a template that was read have one name: the members of a JSON object stand once each, in the order of their names.
-use Rattle.std.proofs.Common.{◌≡◌, ℕ, List, [], ◌∷◌, ◌++◌, Bool, true, false, Option, Some, None, Ok, Err, refl, sym, ap, ◌∙◌, map, option_map}
+-- And all names have the form of ids.
+use Rattle.std.proofs.Common.{◌≡◌, ℕ, List, [], ◌∷◌, ◌++◌, Bool, true, false, ◌&&◌, Option, Some, None, Ok, Err, refl, sym, ap, ◌∙◌, map, option_map}
 use Rattle.std.specs.Prelude.{⊤, cond, codes, length, nat_le, IfOk}
+use Rattle.std.specs.List.{list_all}
 use Rattle.std.specs.Str.{is_utf8}
 use Rattle.std.specs.Ordering.{nat_cmp, match_ordering}
 use Rattle.std.specs.declared.cmp.Ordering.{Ordering}
@@ -8,6 +10,7 @@ use Rattle.std.specs.declared.cmp.Ordering.TheVariants.{Less, Equal, Greater}
 use Rattle.std.specs.Cmp.Lexicographic.{slice_cmp}
 use Rattle.std.specs.Option.{option_and_then}
 use Rattle.std.proofs.lemmas.List.{append_assoc, append-nil, map-append}
+use Rattle.std.proofs.lemmas.List.Folds.{list_all-append}
 use Rattle.json.specs.Json as json
 use Rattle.serde_json.specs.Data.{Num, Data, null, boolean, number, string, array, object, Items, no_items, item, Members, no_members, member, put}
 use Rattle.serde_json.specs.Find.{get, get_member}
@@ -250,24 +253,58 @@ resources_ordered ps (member k d ms) at found h =
     ∙ ap (λ n. ascends (under_names found ++ (n, true) ∷ names_in ms)) e ∙ h))
     (resource_named ps k d (member_at at k)))
 
+-- names of the form that ids have
+abbrev pub AreNamed : List Res → Type 0
+AreNamed rs = list_all (λ r. is_name r.name) rs ≡ true
+
+provided_so : {A : Type 0} (Q : A → Type 0) (b : Bool) (e : TemplateFault) (r : Reading A) → (b ≡ true → IfOk r Q) → IfOk (provided b e r) Q
+provided_so Q true e r h = h refl
+provided_so Q false e r h = tt
+
+one_more : (found : List Res) (r : Res) → AreNamed found → is_name r.name ≡ true → AreNamed (found ++ r ∷ [])
+one_more found r h n = list_all-append (λ x. is_name x.name) found (r ∷ []) ∙ ap (λ b. b && (is_name r.name && true)) h ∙ ap (λ b. b && true) n
+
+resources_all_named : (ps : List Param) (ms : Members) (at : List ℕ) (found : List Res) → AreNamed found → IfOk (resources_in ps ms at found) AreNamed
+resources_all_named ps no_members at found h = h
+resources_all_named ps (member k d ms) at found h =
+    provided_so AreNamed (is_name k) (BadName (member_at at k)) (after (resource_of ps k d (member_at at k)) (λ r. resources_in ps ms at (found ++ r ∷ []))) (λ n.
+    then_ok (λ r. r.name ≡ k) AreNamed (resource_of ps k d (member_at at k)) (λ r. resources_in ps ms at (found ++ r ∷ []))
+    (λ r e. resources_all_named ps ms at (found ++ r ∷ []) (one_more found r h (ap is_name e ∙ n)))
+    (resource_named ps k d (member_at at k)))
+
+-- what the resources that were read have, the section has
+section_has : (P : List Res → Type 0) (ps : List Param) (ms : Members) → IfOk (resources_in ps ms (member_at [] (codes "Resources")) []) P
+    → IfOk (required_section (resources_in ps) 500 (codes "Resources") (Some (object ms))) P
+section_has P ps ms h =
+    let read = resources_in ps ms (member_at [] (codes "Resources")) [] in
+    unless_ok P (empty_fault (codes "Resources") (count ms)) (unless (count_fault (codes "Resources") 500 (count ms)) read)
+    (unless_ok P (count_fault (codes "Resources") 500 (count ms)) read h)
+
 section_ordered : (ps : List Param) (o : Option Data) → IfSome Sorted o → IfOk (required_section (resources_in ps) 500 (codes "Resources") o) AreOrdered
 section_ordered ps None s = tt
 section_ordered ps (Some (object ms)) s =
-    let read = resources_in ps ms (member_at [] (codes "Resources")) [] in
-    unless_ok AreOrdered (empty_fault (codes "Resources") (count ms)) (unless (count_fault (codes "Resources") 500 (count ms)) read)
-    (unless_ok AreOrdered (count_fault (codes "Resources") 500 (count ms)) read
-    (resources_ordered ps ms (member_at [] (codes "Resources")) [] (ascends_map (λ (p : List ℕ × Data). (p.0, true)) (λ p. refl) (pairs_in ms) ∙ s.0)))
+    section_has AreOrdered ps ms
+    (resources_ordered ps ms (member_at [] (codes "Resources")) [] (ascends_map (λ (p : List ℕ × Data). (p.0, true)) (λ p. refl) (pairs_in ms) ∙ s.0))
 section_ordered ps (Some (array ds)) s = tt
 section_ordered ps (Some null) s = tt
 section_ordered ps (Some (boolean b)) s = tt
 section_ordered ps (Some (number n)) s = tt
 section_ordered ps (Some (string t)) s = tt
 
-abbrev HasOrder : Template → Type 0
-HasOrder t = AreOrdered t.resources
+section_named : (ps : List Param) (o : Option Data) → IfOk (required_section (resources_in ps) 500 (codes "Resources") o) AreNamed
+section_named ps None = tt
+section_named ps (Some (object ms)) = section_has AreNamed ps ms (resources_all_named ps ms (member_at [] (codes "Resources")) [] refl)
+section_named ps (Some (array ds)) = tt
+section_named ps (Some null) = tt
+section_named ps (Some (boolean b)) = tt
+section_named ps (Some (number n)) = tt
+section_named ps (Some (string t)) = tt
 
--- the sections of a template one after another
-module _ (d : Data) where
+-- the sections of a template one after another, where all resources have something
+module _ (P : List Res → Type 0) (d : Data) where
+  abbrev HasAll : Template → Type 0
+  HasAll t = P t.resources
+
   abbrev Mappings : Type 0
   Mappings = List (List ℕ × List (List ℕ × List (List ℕ × tree.Data)))
 
@@ -296,28 +333,43 @@ module _ (d : Data) where
   abbrev behind_description : Reading Template
   behind_description = after (optional unread (codes "Metadata") d []) (λ _. behind_metadata)
 
-  sections_ordered : IfSome Sorted (get (codes "Resources") d) → IfOk (sections_of d) HasOrder
-  sections_ordered s =
-      after_ok HasOrder (optional plain_text (codes "Description") d []) (λ _. behind_description) (λ u.
-      after_ok HasOrder (optional unread (codes "Metadata") d []) (λ _. behind_metadata) (λ v.
-      after_ok HasOrder (section params_in 200 (codes "Parameters") (get (codes "Parameters") d)) with_params (λ params.
-      after_ok HasOrder (section mappings_in 200 (codes "Mappings") (get (codes "Mappings") d)) (with_mappings params) (λ mappings.
-      after_ok HasOrder (free_section (conds_in params) (codes "Conditions") (get (codes "Conditions") d)) (with_conds params mappings) (λ conds.
-      then_ok AreOrdered HasOrder (required_section (resources_in params) 500 (codes "Resources") (get (codes "Resources") d)) (with_resources params mappings conds)
-      (λ resources o. map_ok HasOrder _ (section (outputs_in params) 200 (codes "Outputs") (get (codes "Outputs") d)) (λ outputs. o))
-      (section_ordered params (get (codes "Resources") d) s))))))
+  sections_have : ((ps : List Param) → IfOk (required_section (resources_in ps) 500 (codes "Resources") (get (codes "Resources") d)) P) → IfOk (sections_of d) HasAll
+  sections_have h =
+      after_ok HasAll (optional plain_text (codes "Description") d []) (λ _. behind_description) (λ u.
+      after_ok HasAll (optional unread (codes "Metadata") d []) (λ _. behind_metadata) (λ v.
+      after_ok HasAll (section params_in 200 (codes "Parameters") (get (codes "Parameters") d)) with_params (λ params.
+      after_ok HasAll (section mappings_in 200 (codes "Mappings") (get (codes "Mappings") d)) (with_mappings params) (λ mappings.
+      after_ok HasAll (free_section (conds_in params) (codes "Conditions") (get (codes "Conditions") d)) (with_conds params mappings) (λ conds.
+      then_ok P HasAll (required_section (resources_in params) 500 (codes "Resources") (get (codes "Resources") d)) (with_resources params mappings conds)
+      (λ resources o. map_ok HasAll _ (section (outputs_in params) 200 (codes "Outputs") (get (codes "Outputs") d)) (λ outputs. o)) (h params))))))
+
+from_has : (Q : Template → Type 0) (ms : Members) → IfOk (sections_of (object ms)) Q → IfOk (template_from (object ms)) Q
+from_has Q ms h =
+    let read = sections_of (object ms) in
+    unless_ok Q (sections_fault ms) (provided (is_version (get (codes "AWSTemplateFormatVersion") (object ms))) BadVersion read)
+    (provided_ok Q (is_version (get (codes "AWSTemplateFormatVersion") (object ms))) BadVersion read h)
+
+abbrev HasOrder : Template → Type 0
+HasOrder t = AreOrdered t.resources
+
+abbrev HasNames : Template → Type 0
+HasNames t = AreNamed t.resources
 
 from_ordered : (d : Data) → Sorted d → IfOk (template_from d) HasOrder
-from_ordered (object ms) s =
-    let read = sections_of (object ms) in
-    unless_ok HasOrder (sections_fault ms) (provided (is_version (get (codes "AWSTemplateFormatVersion") (object ms))) BadVersion read)
-    (provided_ok HasOrder (is_version (get (codes "AWSTemplateFormatVersion") (object ms))) BadVersion read
-    (sections_ordered (object ms) (member_sorted (codes "Resources") ms s.1)))
+from_ordered (object ms) s = from_has HasOrder ms (sections_have AreOrdered (object ms) (λ ps. section_ordered ps (get (codes "Resources") (object ms)) (member_sorted (codes "Resources") ms s.1)))
 from_ordered (array ds) s = tt
 from_ordered null s = tt
 from_ordered (boolean b) s = tt
 from_ordered (number n) s = tt
 from_ordered (string t) s = tt
+
+from_named : (d : Data) → IfOk (template_from d) HasNames
+from_named (object ms) = from_has HasNames ms (sections_have AreNamed (object ms) (λ ps. section_named ps (get (codes "Resources") (object ms))))
+from_named (array ds) = tt
+from_named null = tt
+from_named (boolean b) = tt
+from_named (number n) = tt
+from_named (string t) = tt
 
 value_ordered : (o : Option Data) → IfSome Sorted o → IfOk (value_template o) HasOrder
 value_ordered None s = tt
@@ -326,3 +378,11 @@ value_ordered (Some d) s = unless_ok HasOrder (walk_fault d Root []) (template_f
 -- the resources of a template that was read stand in the order of their names
 pub template_ordered : (bytes : List ℕ) → IfOk (template_of bytes) (λ t. AreOrdered t.resources)
 template_ordered bytes = provided_ok HasOrder (nat_le (length bytes) 1048576) (TooLong (length bytes)) (value_template (json_of bytes)) (value_ordered (json_of bytes) (read_sorted bytes))
+
+value_named : (o : Option Data) → IfOk (value_template o) HasNames
+value_named None = tt
+value_named (Some d) = unless_ok HasNames (walk_fault d Root []) (template_from d) (from_named d)
+
+-- and each has a name of the form that ids have
+pub template_names : (bytes : List ℕ) → IfOk (template_of bytes) (λ t. AreNamed t.resources)
+template_names bytes = provided_ok HasNames (nat_le (length bytes) 1048576) (TooLong (length bytes)) (value_template (json_of bytes)) (value_named (json_of bytes))
