@@ -1,90 +1,90 @@
--- The policies and needs of a path, whatever is seen.
-use Rattle.std.proofs.Common.{◌≡◌, ℕ, List, [], ◌∷◌, Bool, true, false, Option, Some, None, Result, Ok, Err, IfOk, refl, ap, sym, subst, ◌∙◌, option_map, map, find}
-use Rattle.std.specs.Prelude.{cond}
-use Rattle.std.specs.Option.{option_map_or}
+-- The policies and needs of each path, put in their places one after another, are those that the source gives.
+use Rattle.std.proofs.Common.{◌≡◌, ℕ, List, [], ◌∷◌, Bool, true, false, Option, Some, None, Result, Ok, Err, IfOk, refl, sym, ap, ◌∙◌, true≢false, find, fold, map, option_map}
+use Rattle.std.specs.Prelude.{cond, is_some}
 use Rattle.std.specs.Str.{bytes_eq}
+use Rattle.std.proofs.lemmas.Slice.Eq.{bytes_eq-Decides}
+use Rattle.cf_tree.specs.Keys.{put, value_at}
 use Rattle.cf_tree.specs.declared.source.Source.{Source}
 use Rattle.cf_desired.specs.declared.shape.Shape as laid
-use Rattle.cf_desired.specs.declared.shape.Terms as planned
+use Rattle.cf_desired.specs.declared.shape.Terms as desired
 use Rattle.cf_desired.specs.declared.wanted.Wanted.{Wanted}
 use Rattle.cf_desired.specs.Kept.{IsShape}
 use Rattle.cf_desired.specs.Plan.{member_at, plan_of}
 use Rattle.cf_desired.specs.Seeing.{Seen}
 use Rattle.cf_desired.specs.Shape.{shape_of}
-use Rattle.cf_desired.specs.Templates.{IsFlat}
+use Rattle.cf_desired.specs.Turns.{pathed}
 use Rattle.cf_desired.specs.Turns as turned
-use Rattle.cf_desired.specs.Whole.{wanted_at}
 use Rattle.cf_desired.specs.Valued.{resources_in}
+use Rattle.cf_desired.specs.Whole.{wanted_at}
 use Rattle.cf_desired.specs.Work.{Body, Member}
-use Rattle.cf_desired.proofs.ShapeStays.{flat_stays}
+use Rattle.cf_desired.proofs.Puts.{value_put}
 use Rattle.cf_desired.proofs.Termed.{terms_by, wanted_terms}
 use Rattle.cf_stacks.specs.declared.terms.Terms.{Terms}
-use Rattle.cf_stacks.specs.Fold.{terms_of}
-use Rattle.cf_stacks.specs.PathTerms.{AreTermsOf}
-use Rattle.cf_stacks.specs.Termed.{policies, terms_among}
+use Rattle.cf_stacks.specs.Outset.{given_terms, put_terms, without_kind}
+use Rattle.cf_stacks.specs.Reply.{terms_of}
 
-abbrev terms_in : Option planned.Terms → Terms
-terms_in None = terms_of None
-terms_in (Some t) = record { needs = t.needs; deletion = t.deletion; replace = t.replace }
+-- of two under one name the first counts
+abbrev first : Option Terms → Option Terms → Option Terms
+first o p = cond (is_some o) o p
 
-same_terms : (o : Option Wanted) → terms_of o ≡ terms_in (option_map terms_by o)
-same_terms None = refl
-same_terms (Some w) = refl
+absent : (o : Option Terms) → is_some o ≡ false → o ≡ None
+absent None h = refl
+absent (Some s) h = absurd (true≢false h)
 
-module _ (shape : laid.Shape) (path : List ℕ) where
-  abbrev AreTerms : Option planned.Terms → Type 0
-  AreTerms o = (b : Body) → IsShape shape b → o ≡ option_map turned.terms_of (member_at b path)
+there : (o p : Option Terms) (e : Bool) (t : Terms) → (e ≡ true → is_some o ≡ true) → first o p ≡ first o (cond e (Some t) p)
+there (Some x) p e t h = refl
+there None p true t h = absurd (true≢false (sym (h refl)))
+there None p false t h = refl
 
-  so_termed : (o : Option planned.Terms) → AreTerms o → (source : Source) (seen : Seen) → IsShape shape (shape_of source seen) → terms_in o ≡ terms_of (wanted_at path (plan_of source seen))
-  so_termed o h source seen is =
-      ap terms_in (h (shape_of source seen) is ∙ sym (wanted_terms source seen (shape_of source seen) path)) ∙ sym (same_terms (wanted_at path (plan_of source seen)))
+put_there : (o p : Option Terms) (e : Bool) (t : Terms) → (e ≡ true → o ≡ None) → first (cond e (Some t) o) p ≡ first o (cond e (Some t) p)
+put_there o p true t h = sym (ap (λ (x : Option Terms). first x (Some t)) (h refl))
+put_there o p false t h = refl
 
-  pub terms_so : (t : planned.Terms) → AreTerms (Some t) → (source : Source) (seen : Seen) → IsShape shape (shape_of source seen)
-      → record { needs = t.needs; deletion = t.deletion; replace = t.replace } ≡ terms_of (wanted_at path (plan_of source seen))
-  terms_so t h = so_termed (Some t) h
+one_put : (q : List ℕ) (p : List ℕ × desired.Terms) (all : List (List ℕ × Terms)) (o : Option Terms) (b : Bool) → is_some (value_at p.0 all) ≡ b
+    → first (value_at q (cond b all (put p.0 (without_kind p.1) all))) o ≡ first (value_at q all) (cond (bytes_eq q p.0) (Some (without_kind p.1)) o)
+one_put q p all o true h =
+    there (value_at q all) o (bytes_eq q p.0) (without_kind p.1) (λ e. ap (λ (n : List ℕ). is_some (value_at n all)) ((bytes_eq-Decides q p.0).0 e) ∙ h)
+one_put q p all o false h =
+    ap (λ (x : Option Terms). first x o) (value_put q p.0 (without_kind p.1) all)
+    ∙ put_there (value_at q all) o (bytes_eq q p.0) (without_kind p.1)
+    (λ e. ap (λ (n : List ℕ). value_at n all) ((bytes_eq-Decides q p.0).0 e) ∙ absent (value_at p.0 all) h)
 
-  pub no_terms : AreTerms None → (source : Source) (seen : Seen) → IsShape shape (shape_of source seen) → terms_of None ≡ terms_of (wanted_at path (plan_of source seen))
-  no_terms h = so_termed None h
+abbrev terms_in : Option desired.Terms → Option Terms
+terms_in o = option_map without_kind o
 
--- the shape of a flat source rests on nothing that is seen
-pub flat_shape : {E : Type 0} (source : Source) → IsFlat source → (before : Seen) (r : Result laid.Shape E) → IfOk r (λ s. IsShape s (shape_of source before))
-    → IfOk r (λ s. (any : Seen) → IsShape s (shape_of source any))
-flat_shape source flat before (Err x) is = tt
-flat_shape source flat before (Ok s) is = λ any. subst (IsShape s) (flat_stays source flat any before) is
+none_more : (o : Option Terms) → o ≡ first o None
+none_more None = refl
+none_more (Some s) = refl
 
--- what is kept of a flat source's paths is what it gives them, whatever is seen
-terms_kept : (source : Source) → IsFlat source → (shape : laid.Shape) (before : Seen) → IsShape shape (shape_of source before) → (ts : List (List ℕ × planned.Terms))
-    → ((b : Body) → IsShape shape b → ts ≡ map turned.pathed (resources_in b)) → AreTermsOf source ts
-terms_kept source flat shape before is ts h seen = h (shape_of source seen) (subst (IsShape shape) (flat_stays source flat seen before) is)
+of_member : (q : List ℕ) (m : Member) (ms : List Member) (b : Bool) → bytes_eq q m.path ≡ b
+    → cond b (Some (without_kind (turned.terms_of m))) (terms_in (option_map turned.terms_of (find (λ n. bytes_eq q n.path) ms)))
+    ≡ terms_in (option_map turned.terms_of (cond b (Some m) (find (λ n. bytes_eq q n.path) ms)))
+of_member q m ms true e = refl
+of_member q m ms false e = refl
 
-found_pathed : (path : List ℕ) (ms : List Member) → option_map (λ (t : List ℕ × planned.Terms). t.1) (find (λ (t : List ℕ × planned.Terms). bytes_eq path t.0) (map turned.pathed ms)) ≡ option_map turned.terms_of (find (λ m. bytes_eq path m.path) ms)
-found_pathed path [] = refl
-found_pathed path (m ∷ ms) = either (bytes_eq path m.path) (found_pathed path ms) where
-  either : (b : Bool) → option_map (λ (t : List ℕ × planned.Terms). t.1) (find (λ (t : List ℕ × planned.Terms). bytes_eq path t.0) (map turned.pathed ms)) ≡ option_map turned.terms_of (find (λ m. bytes_eq path m.path) ms)
-      → option_map (λ (t : List ℕ × planned.Terms). t.1) (cond b (Some (turned.pathed m)) (find (λ (t : List ℕ × planned.Terms). bytes_eq path t.0) (map turned.pathed ms))) ≡ option_map turned.terms_of (cond b (Some m) (find (λ m. bytes_eq path m.path) ms))
-  either true ih = refl
-  either false ih = ih
+put_behind : (q : List ℕ) (ms : List Member) (all : List (List ℕ × Terms))
+    → value_at q (fold put_terms all (map pathed ms)) ≡ first (value_at q all) (terms_in (option_map turned.terms_of (find (λ m. bytes_eq q m.path) ms)))
+put_behind q [] all = none_more (value_at q all)
+put_behind q (m ∷ ms) all =
+    put_behind q ms (put_terms all (pathed m))
+    ∙ one_put q (pathed m) all (terms_in (option_map turned.terms_of (find (λ n. bytes_eq q n.path) ms))) (is_some (value_at m.path all)) refl
+    ∙ ap (first (value_at q all)) (of_member q m ms (bytes_eq q m.path) refl)
 
-abbrev second : Option (List ℕ × planned.Terms) → Option planned.Terms
-second o = option_map (λ (t : List ℕ × planned.Terms). t.1) o
+given_so : (o : Option Wanted) → given_terms (terms_in (option_map terms_by o)) ≡ terms_of o
+given_so None = refl
+given_so (Some w) = refl
 
-by_second : (o : Option (List ℕ × planned.Terms)) → option_map_or policies o (terms_of None) ≡ terms_in (second o)
-by_second None = refl
-by_second (Some t) = refl
+terms_given : (source : Source) (seen : Seen) (shape : laid.Shape) (ts : List (List ℕ × desired.Terms)) → IsShape shape (shape_of source seen)
+    → ((b : Body) → IsShape shape b → ts ≡ map pathed (resources_in b))
+    → (path : List ℕ) → given_terms (value_at path (fold put_terms [] ts)) ≡ terms_of (wanted_at path (plan_of source seen))
+terms_given source seen shape ts is all path =
+    ap (λ (qs : List (List ℕ × desired.Terms)). given_terms (value_at path (fold put_terms [] qs))) (all (shape_of source seen) is)
+    ∙ ap given_terms (put_behind path (resources_in (shape_of source seen)) [] ∙ ap terms_in (sym (wanted_terms source seen (shape_of source seen) path)))
+    ∙ given_so (wanted_at path (plan_of source seen))
 
-among_kept : (source : Source) (ts : List (List ℕ × planned.Terms)) → AreTermsOf source ts → (path : List ℕ) (seen : Seen) → terms_among path ts ≡ terms_of (wanted_at path (plan_of source seen))
-among_kept source ts are path seen =
-    by_second (find (λ (t : List ℕ × planned.Terms). bytes_eq path t.0) ts)
-    ∙ ap (λ (xs : List (List ℕ × planned.Terms)). terms_in (second (find (λ (t : List ℕ × planned.Terms). bytes_eq path t.0) xs))) (are seen)
-    ∙ ap terms_in (found_pathed path (resources_in (shape_of source seen)) ∙ sym (wanted_terms source seen (shape_of source seen) path))
-    ∙ sym (same_terms (wanted_at path (plan_of source seen)))
-
-pub kept_ok : {E : Type 0} (source : Source) → IsFlat source → (shape : laid.Shape) (before : Seen) → IsShape shape (shape_of source before) → (r : Result (List (List ℕ × planned.Terms)) E)
-    → IfOk r (λ ts. (b : Body) → IsShape shape b → ts ≡ map turned.pathed (resources_in b)) → IfOk r (AreTermsOf source)
-kept_ok source flat shape before is (Err e) h = tt
-kept_ok source flat shape before is (Ok ts) h = terms_kept source flat shape before is ts h
-
-pub among_ok : {E : Type 0} (source : Source) (ts : List (List ℕ × planned.Terms)) → AreTermsOf source ts → (path : List ℕ) (r : Result Terms E) → IfOk r (λ t. t ≡ terms_among path ts)
-    → IfOk r (λ t. (seen : Seen) → t ≡ terms_of (wanted_at path (plan_of source seen)))
-among_ok source ts are path (Err e) h = tt
-among_ok source ts are path (Ok t) h = λ seen. h ∙ among_kept source ts are path seen
+pub all_given : {E : Type 0} (source : Source) (seen : Seen) (shape : laid.Shape) (ts : List (List ℕ × desired.Terms)) (r : Result (List (List ℕ × Terms)) E)
+    → IfOk r (λ terms. terms ≡ fold put_terms [] ts) → IsShape shape (shape_of source seen) → ((b : Body) → IsShape shape b → ts ≡ map pathed (resources_in b))
+    → IfOk r (λ terms. (path : List ℕ) → given_terms (value_at path terms) ≡ terms_of (wanted_at path (plan_of source seen)))
+all_given source seen shape ts (Err x) put is all = tt
+all_given source seen shape ts (Ok terms) put is all =
+    λ path. ap (λ (qs : List (List ℕ × Terms)). given_terms (value_at path qs)) put ∙ terms_given source seen shape ts is all path

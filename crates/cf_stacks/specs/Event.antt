@@ -1,5 +1,5 @@
 -- The lines that `events` prints of a stack, one for each entry that concerns it (DescribeStackEvents; the form of a line is this project's own).
-use Rattle.std.specs.Prelude.{ℕ, List, [], ◌∷◌, ◌++◌, Option, Some, None, codes}
+use Rattle.std.specs.Prelude.{ℕ, List, [], ◌∷◌, ◌++◌, Option, Some, None, codes, if◌then◌else◌}
 use Rattle.std.specs.Fmt.{decimal}
 use Rattle.cf_tree.specs.Codes.{name_of}
 use Rattle.cf_tree.specs.declared.request.Request.{Request}
@@ -9,12 +9,12 @@ use Rattle.cf_entry.specs.declared.entry.Entry.{Entry}
 use Rattle.cf_entry.specs.declared.entry.Reply.{Reply}
 use Rattle.cf_entry.specs.Status.{status_name}
 use Rattle.cf_entry.specs.declared.turn.Why.{Why}
-use Rattle.cf_stacks.specs.declared.state.StackState.{StackState}
+use Rattle.cf_stacks.specs.World.{StackState}
 use Rattle.cf_stacks.specs.declared.held.Pending.{Pending}
 use Rattle.cf_entry.specs.declared.entry.Entry.TheVariants as entry
 use Rattle.cf_entry.specs.declared.entry.Reply.TheVariants as reply
 use Rattle.cf_entry.specs.declared.turn.Why.TheVariants as why
-use Rattle.cf_stacks.specs.Status.{begun, turned}
+use Rattle.cf_stacks.specs.Status.{begun, turned, is_deleted}
 use Rattle.cf_stacks.specs.Words.{pending_of}
 
 -- what a request does to a resource
@@ -48,7 +48,7 @@ abbrev pub line_in : Option (List ℕ) → List (List ℕ)
 line_in None = []
 line_in (Some line) = line ∷ []
 
--- the line of the entry at this place, over the stack as it was before it
+-- the line of the entry at this place, over the stack as it was before it; a change set has one where it makes its stack
 abbrev pub lines_of : ℕ → Entry → StackState → List (List ℕ)
 lines_of place (entry.Begin number stack kind) s = event_line place (codes "-") (status_name (begun kind)) ∷ []
 lines_of place (entry.Kept number path physical why) s = event_line place path (kept_name why) ∷ []
@@ -56,4 +56,5 @@ lines_of place (entry.Intent number token lane path request) s = event_line plac
 lines_of place (entry.Outcome number token answer before after) s = reply_line place answer (pending_of token s)
 lines_of place (entry.Phase number phase cause) s = event_line place (codes "-") (status_name (turned s.status phase)) ∷ []
 lines_of place (entry.Done number status failed) s = event_line place (codes "-") (status_name status) ∷ []
-lines_of place _ s = []
+lines_of place (entry.ChangeSet number stack source rows outputs) s = if is_deleted s.status then event_line place (codes "-") (codes "REVIEW_IN_PROGRESS") ∷ [] else []
+lines_of place (entry.Opened epoch lanes) s = []

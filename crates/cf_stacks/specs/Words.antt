@@ -1,38 +1,19 @@
--- What is asked of a world and of a stack's lists.
-use Rattle.std.specs.Prelude.{ℕ, ◌==◌, Bool, true, false, ◌&&◌, not, List, ◌++◌, Option, Some, None, find, filter, map, if◌then◌else◌}
+-- What is asked of a stack's lists.
+use Rattle.std.specs.Prelude.{ℕ, ◌==◌, Bool, true, false, ◌&&◌, not, List, [], ◌∷◌, ◌++◌, Option, Some, None, find, filter, if◌then◌else◌}
 use Rattle.std.specs.List.{list_any}
 use Rattle.std.specs.Option.{option_or, option_map_or}
 use Rattle.std.specs.Str.{bytes_eq}
-use Rattle.cf_tree.specs.Keys.{value_at}
 use Rattle.cf_tree.specs.declared.request.Request.{Request}
 use Rattle.cf_tree.specs.declared.request.Request.TheVariants as request
 use Rattle.cf_export.specs.declared.Export.{Export}
 use Rattle.cf_export.specs.Export.{pins_name}
 use Rattle.cf_stacks.specs.declared.held.Held.{Held}
 use Rattle.cf_stacks.specs.declared.held.Pending.{Pending}
-use Rattle.cf_stacks.specs.declared.state.StackState.{StackState}
-use Rattle.cf_stacks.specs.declared.state.World.{World}
-use Rattle.cf_stacks.specs.Status.{is_in_progress}
-
--- the stack of a name
-abbrev pub stack_at : List ℕ → World → Option StackState
-stack_at name x = value_at name x.stacks
+use Rattle.cf_stacks.specs.World.{StackState, World}
 
 -- the export is of this stack, and another stack pins it
 abbrev pub is_pinned : List ℕ → World → Export → Bool
 is_pinned name x e = bytes_eq name e.stack && list_any (pins_name e.name name) x.pins
-
--- the operation of this number is in progress on the stack
-abbrev pub is_going : ℕ → StackState → Bool
-is_going number s = s.operation == number && is_in_progress s.status
-
--- the stack, with its name, on which the operation of this number is in progress
-abbrev pub stack_of_operation : ℕ → World → Option (List ℕ × StackState)
-stack_of_operation number x = find (λ s. is_going number s.1) x.stacks
-
--- the stacks, where each one on which the operation is in progress is changed
-abbrev pub where_going : ℕ → (StackState → StackState) → List (List ℕ × StackState) → List (List ℕ × StackState)
-where_going number change stacks = map (λ s. if is_going number s.1 then (s.0, change s.1) else s) stacks
 
 -- a resource of this physical id, of this path
 abbrev pub has_physical : List ℕ → Held → Bool
@@ -59,11 +40,16 @@ resources_of s = s.held ++ s.made
 abbrev pub without : List ℕ → List Held → List Held
 without physical hs = filter (λ h. not (has_physical physical h)) hs
 
--- the resource of this id is changed
-abbrev pub where_physical : List ℕ → (Held → Held) → List Held → List Held
-where_physical physical change hs = map (λ h. if has_physical physical h then change h else h) hs
+-- the first that passes is changed
+abbrev pub change_first : {A : Type 0} → (A → Bool) → (A → A) → List A → List A
+change_first test change [] = []
+change_first test change (a ∷ rest) = if test a then change a ∷ rest else a ∷ change_first test change rest
 
--- the open token
+-- the resource of this id is changed; ids are distinct
+abbrev pub where_physical : List ℕ → (Held → Held) → List Held → List Held
+where_physical physical change hs = change_first (has_physical physical) change hs
+
+-- the open call of this token
 abbrev pub has_token : ℕ → Pending → Bool
 has_token token p = token == p.token
 
@@ -79,7 +65,7 @@ id_named (request.Create kind props) = None
 id_named (request.Update physical props) = Some physical
 id_named (request.Delete physical) = Some physical
 
--- the open token is of a call on this resource
+-- the open call is on this resource
 abbrev pub is_on : List ℕ → Pending → Bool
 is_on physical p = option_map_or (bytes_eq physical) (id_named p.request) false
 
@@ -91,6 +77,18 @@ abbrev pub is_create : Request → Bool
 is_create (request.Create kind props) = true
 is_create _ = false
 
--- the open token is of a create at this path
+-- the request deletes, or updates, this resource
+abbrev pub deletes : List ℕ → Request → Bool
+deletes physical (request.Delete other) = bytes_eq physical other
+deletes physical _ = false
+
+abbrev pub updates : List ℕ → Request → Bool
+updates physical (request.Update other props) = bytes_eq physical other
+updates physical _ = false
+
+-- the open call is a create, at all or at this path
+abbrev pub is_created : Pending → Bool
+is_created p = is_create p.request
+
 abbrev pub is_create_at : List ℕ → Pending → Bool
-is_create_at path p = is_create p.request && bytes_eq path p.path
+is_create_at path p = is_created p && bytes_eq path p.path

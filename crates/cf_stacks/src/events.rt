@@ -1,13 +1,17 @@
 //! The lines that tell what happened to a stack.
-ghost use Rattle.std.specs.Prelude.{◌≡◌, ◌∷◌, ◌++◌, [], IfOk, List, codes, option_copied, ℕ};
+ghost use Rattle.std.specs.Prelude.{◌≡◌, ◌∷◌, ◌++◌, [], IfOk, List, codes, option_copied, ℕ, if◌then◌else◌, false};
 ghost use Rattle.cf_stacks.specs.Event.{action_name, event_line, kept_name, line_in, lines_of, reply_line};
+ghost use Rattle.cf_stacks.specs.Fold.{is_opening};
+ghost use Rattle.cf_stacks.specs.Room.{is_intent};
+ghost use Rattle.cf_stacks.specs.State.{state_of};
+ghost use Rattle.cf_stacks.specs.Status.{is_deleted};
 
-use crate::changes::pending_with;
 use crate::held::Pending;
 use crate::lines::{answer_line, growing_line};
-use crate::state::StackState;
-use crate::statuses::{begun, turned};
-use cf_entry::{Entry, Reply, Why};
+use crate::state::State;
+use crate::statuses::{begun, is_deleted, turned};
+use crate::tokens::pending_with;
+use cf_entry::{Entry, Reply, Status, Why};
 use cf_tree::{Request, Txt};
 use std::alloc::{AllocError, Global};
 
@@ -16,17 +20,14 @@ pub(crate) fn action_name(request: &Request) -> &'static str
     ensures { result.now ≡ action_name request.now }
 {
     match request {
-        Request::Create { kind: _, props: _ } => "CREATE",
-        Request::Update {
-            physical: _,
-            props: _,
-        } => "UPDATE",
-        Request::Delete { physical: _ } => "DELETE",
+        Request::Create { .. } => "CREATE",
+        Request::Update { .. } => "UPDATE",
+        Request::Delete { .. } => "DELETE",
     }
 }
 
 /// The line for the entry at a place: of which resource, or `-`, and what happened.
-pub fn event_line(alloc: Global, place: u64, subject: &str, what: &str) -> Result<Txt, AllocError>
+fn event_line(alloc: Global, place: u64, subject: &str, what: &str) -> Result<Txt, AllocError>
     ensures { IfOk result (λ line. line ≡ event_line place subject.now what.now) }
 {
     match format!(in alloc; "event {place} {subject} {what}") {
@@ -88,59 +89,64 @@ fn going_on(alloc: Global, request: &Request, how: &str) -> Result<Txt, AllocErr
 }
 
 /// The line for a request that is made.
-fn intent_line(alloc: Global, place: u64, path: &Txt, request: &Request) -> Result<Txt, AllocError>
+pub(crate) fn intent_line(
+    alloc: Global,
+    place: u64,
+    path: &Txt,
+    request: &Request,
+) -> Result<Txt, AllocError>
     ensures { IfOk result (λ line. line ≡ event_line place path.now (action_name request.now ++ codes "_IN_PROGRESS")) }
 {
     let what = going_on(alloc, request, "_IN_PROGRESS")?;
     event_line(alloc, place, path.as_str(), what.as_str())
 }
 
-/// The line for the entry at a place, over the stack as it was before it; None where the entry has
-/// none.
-pub fn line_of(
+/// The line for a change set, where it makes its stack.
+fn reviewed_line(alloc: Global, place: u64, status: Status) -> Result<Option<Txt>, AllocError>
+    ensures { IfOk result (λ line. line_in line
+        ≡ (if is_deleted status then event_line place (codes "-") (codes "REVIEW_IN_PROGRESS") ∷ [] else [])) }
+{
+    if is_deleted(status) {
+        shown(event_line(alloc, place, "-", "REVIEW_IN_PROGRESS"))
+    } else {
+        Ok(None)
+    }
+}
+
+/// The line for the entry at a place, which is neither an opening nor an intent, over the stack as it was
+/// before it; None where the entry has none.
+pub(crate) fn line_of(
     alloc: Global,
     place: u64,
     entry: &Entry,
-    stack: &StackState,
+    stack: &State,
 ) -> Result<Option<Txt>, AllocError>
-    ensures { IfOk result (λ line. line_in line ≡ lines_of place entry.now stack.now) }
+    requires opening { is_opening entry.now ≡ false }
+    requires intent { is_intent entry.now ≡ false }
+    ensures { IfOk result (λ line. line_in line ≡ lines_of place entry.now (state_of stack.now)) }
 {
     match entry {
-        Entry::Begin {
-            number: _,
-            stack: _,
-            kind,
-        } => shown(event_line(alloc, place, "-", begun(kind).name())),
-        Entry::Kept {
-            number: _,
-            path,
-            physical: _,
-            why,
-        } => shown(event_line(alloc, place, path.as_str(), kept_name(*why))),
-        Entry::Intent {
-            number: _,
-            token: _,
-            lane: _,
-            path,
-            request,
-        } => shown(intent_line(alloc, place, path, request)),
-        Entry::Outcome {
-            number: _,
-            token,
+        Entry::Begin { kind, .. } => shown(event_line(alloc, place, "-", begun(kind).name())),
+        Entry::Kept { path, why, .. } => shown(event_line(
+            alloc,
+            place,
+            path.as_str(),
+            kept_name(*why),
+        )),
+        Entry::Outcome { token, answer, .. } => reply_line(
+            alloc,
+            place,
             answer,
-            before: _,
-            after: _,
-        } => reply_line(alloc, place, answer, pending_with(&stack.tokens, *token)),
-        Entry::Phase {
-            number: _,
-            phase,
-            cause: _,
-        } => shown(event_line(alloc, place, "-", turned(stack.status, *phase).name())),
-        Entry::Done {
-            number: _,
-            status,
-            failed: _,
-        } => shown(event_line(alloc, place, "-", status.name())),
-        _ => Ok(None),
+            pending_with(stack.tokens.as_slice(), *token),
+        ),
+        Entry::Phase { phase, .. } => shown(event_line(
+            alloc,
+            place,
+            "-",
+            turned(stack.status, *phase).name(),
+        )),
+        Entry::Done { status, .. } => shown(event_line(alloc, place, "-", status.name())),
+        Entry::ChangeSet { .. } => reviewed_line(alloc, place, stack.status),
+        Entry::Opened { .. } | Entry::Intent { .. } => unreachable!(),
     }
 }

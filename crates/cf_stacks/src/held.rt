@@ -1,10 +1,9 @@
 //! What a stack holds, and what is open or left over.
 ghost use Rattle.std.specs.Prelude.{◌≡◌, IfOk};
 
-use crate::attrs::Attrs;
 use crate::copies::copy_into;
 use cf_entry::Why;
-use cf_tree::{Deletion, Dict, Listing, Names, Replace, Request, Rows, Source, TryClone, Txt};
+use cf_tree::{Deletion, Dict, Names, Replace, Request, Rows, Source, TryClone, Txt};
 use std::alloc::{AllocError, Global};
 
 /// The status of a held resource (User Guide, resource status codes).
@@ -23,7 +22,7 @@ pub struct Held {
     pub kind: Txt,
     pub physical: Txt,
     pub props: Dict,
-    pub attrs: Attrs,
+    pub attrs: Dict,
     /// The paths that it needs.
     pub needs: Names,
     pub deletion: Deletion,
@@ -36,9 +35,6 @@ pub struct Held {
     pub superseded: bool,
 }
 
-/// Resources in the order in which they came onto the list.
-pub type Helds = Listing<Held>;
-
 /// A resource that a stack made and no longer holds: retained, failed to delete, or in doubt. The
 /// physical id is `-` where it is not known.
 #[derive(Drop)]
@@ -48,10 +44,7 @@ pub struct Leftover {
     pub why: Why,
 }
 
-/// Leftovers in the order of listing.
-pub type Leftovers = Listing<Leftover>;
-
-/// An open token: a request that was written down, and neither answered for good nor given up.
+/// An open call: a request that was written down, and neither answered for good nor given up.
 #[derive(Drop)]
 pub struct Pending {
     pub token: u64,
@@ -60,18 +53,12 @@ pub struct Pending {
     pub request: Request,
 }
 
-/// Open tokens in their order.
-pub type Pendings = Listing<Pending>;
-
 /// A create that was given up while it was in doubt.
 #[derive(Drop)]
 pub struct GivenUp {
     pub token: u64,
     pub path: Txt,
 }
-
-/// Creates that were given up, in their order.
-pub type Abandoned = Listing<GivenUp>;
 
 /// A change set that is kept (User Guide, change sets).
 #[derive(Drop)]
@@ -83,8 +70,20 @@ pub struct KeptSet {
     pub outputs: bool,
 }
 
-/// Change sets in the order of their numbers.
-pub type KeptSets = Listing<KeptSet>;
+/// The resources of a stack.
+pub type Helds = Vec<Held>;
+
+/// What a stack left over.
+pub type Leftovers = Vec<Leftover>;
+
+/// The open calls of a stack, in the order of their intents.
+pub type Pendings = Vec<Pending>;
+
+/// The creates that a stack gave up.
+pub type Abandoned = Vec<GivenUp>;
+
+/// The change sets of a stack, in the order of their numbers.
+pub type KeptSets = Vec<KeptSet>;
 
 impl Held {
     /// A resource of which nothing is known; it takes no memory.
@@ -94,7 +93,7 @@ impl Held {
             kind: Txt::new(String::new(alloc)),
             physical: Txt::new(String::new(alloc)),
             props: Dict::new(alloc),
-            attrs: Attrs::new(Dict::new(alloc)),
+            attrs: Dict::new(alloc),
             needs: Names::new(alloc),
             deletion: Deletion::Delete,
             replace: Replace::Delete,
@@ -132,6 +131,92 @@ impl TryClone for Held {
                 drop(copy);
                 Err(failed)
             }
+        }
+    }
+}
+
+/// A leftover.
+pub(crate) fn kept_leftover(
+    alloc: Global,
+    path: &Txt,
+    physical: &str,
+    why: Why,
+) -> Result<Leftover, AllocError>
+    ensures { IfOk result (λ l. l ≡ record { path = path.now; physical = physical.now; why = why }) }
+{
+    let path = path.try_clone(alloc)?;
+    match Txt::from_str(alloc, physical) {
+        Ok(physical) => Ok(Leftover {
+            path,
+            physical,
+            why,
+        }),
+        Err(failed) => Err(failed),
+    }
+}
+
+/// A call as an open one.
+pub(crate) fn open_call(
+    alloc: Global,
+    token: u64,
+    lane: &Txt,
+    path: &Txt,
+    request: &Request,
+) -> Result<Pending, AllocError>
+    ensures { IfOk result (λ p. p ≡ record { token = token; path = path.now; lane = lane.now; request = request.now }) }
+{
+    let path = path.try_clone(alloc)?;
+    let lane = lane.try_clone(alloc)?;
+    match request.try_clone(alloc) {
+        Ok(request) => Ok(Pending {
+            token,
+            path,
+            lane,
+            request,
+        }),
+        Err(failed) => Err(failed),
+    }
+}
+
+/// A create that is given up.
+pub(crate) fn given_up(alloc: Global, token: u64, path: &Txt) -> Result<GivenUp, AllocError>
+    ensures { IfOk result (λ g. g ≡ record { token = token; path = path.now }) }
+{
+    match path.try_clone(alloc) {
+        Ok(path) => Ok(GivenUp { token, path }),
+        Err(failed) => Err(failed),
+    }
+}
+
+impl TryClone for Leftover {
+    fn try_clone(&self, alloc: Global) -> Result<Leftover, AllocError> {
+        kept_leftover(alloc, &self.path, self.physical.as_str(), self.why)
+    }
+}
+
+impl TryClone for Pending {
+    fn try_clone(&self, alloc: Global) -> Result<Pending, AllocError> {
+        open_call(alloc, self.token, &self.lane, &self.path, &self.request)
+    }
+}
+
+impl TryClone for GivenUp {
+    fn try_clone(&self, alloc: Global) -> Result<GivenUp, AllocError> {
+        given_up(alloc, self.token, &self.path)
+    }
+}
+
+impl TryClone for KeptSet {
+    fn try_clone(&self, alloc: Global) -> Result<KeptSet, AllocError> {
+        let rows = self.rows.try_clone(alloc)?;
+        match self.source.try_clone(alloc) {
+            Ok(source) => Ok(KeptSet {
+                number: self.number,
+                source,
+                rows,
+                outputs: self.outputs,
+            }),
+            Err(failed) => Err(failed),
         }
     }
 }

@@ -1,49 +1,47 @@
 //! What a journal's entries leave of each stack: the types, the calls that read them, and in `specs/` the fold.
 #![tactic(auto)]
 
-mod answered;
-mod answers;
-mod attrs;
-mod awaited;
-mod awaiting;
-mod beginning;
-mod begun;
-mod changes;
-mod completing;
+mod begin;
+mod call;
 mod copies;
-mod ending;
+mod effect;
+mod end;
 mod events;
-mod fault;
-mod going;
+mod heard;
 mod held;
+mod laws;
+mod ledger;
 mod lines;
-mod longer;
-mod outcomes;
-mod own;
-mod pinned;
+mod listed;
+mod outset;
+mod ready;
+mod reply;
+mod resources;
 mod room;
 mod seen;
+mod stack;
+mod standing;
 mod state;
 mod statuses;
-mod steps;
 mod terms;
-mod told;
+mod tokens;
 mod world;
 
-pub use attrs::Attrs;
-pub use awaited::{AnswerParts, AnswerRoom, AnswerRooms, ResourceParts, StackParts};
+pub use begin::source_for;
+pub use call::{Call, Ledger, Settled};
 pub use cf_export::{Output, Outputs};
-pub use fault::StepFault;
-pub use going::{Going, terms_by};
+pub use heard::{HeardEntries, HeardEntry};
 pub use held::{
     Abandoned, GivenUp, Held, HeldStatus, Helds, KeptSet, KeptSets, Leftover, Leftovers, Pending,
     Pendings,
 };
-pub use longer::Longer;
-pub use room::{Ready, awaited_has_room};
-pub use seen::{seen_in, seen_now};
-pub use state::{StackState, Stacks, World};
-pub use steps::current_at;
+pub use laws::{awaited_stays, repeat_is_awaited, room_stays, stay_apart};
+pub use ledger::call_with;
+pub use outset::Outset;
+pub use resources::current_at;
+pub use seen::seen_in;
+pub use stack::{StackState, Stacks};
+pub use state::Lines;
+pub use statuses::{begun, is_in_progress};
 pub use terms::Terms;
-pub use told::going_stack;
-pub use world::fold;
+pub use world::{World, fold};

@@ -1,9 +1,10 @@
 //! The line for an answer, written where there is room for it.
-ghost use Rattle.std.specs.Prelude.{◌≡◌, [], ◌++◌, ◌+◌, ◌≤◌, IfOk, length, codes, string_bytes, string_len, string_capacity};
+ghost use Rattle.std.specs.Prelude.{◌≡◌, [], ◌++◌, ◌+◌, ◌≤◌, IfOk, IfSome, length, codes, option_copied, string_bytes, string_len, string_capacity};
 ghost use Rattle.cf_tree.specs.Codes.{name_of};
-ghost use Rattle.cf_stacks.specs.Event.{action_name, event_line, reply_name};
+ghost use Rattle.cf_stacks.specs.Event.{action_name, event_line, line_in, reply_line, reply_name};
 
 use crate::events::action_name;
+use crate::held::Pending;
 use cf_entry::Reply;
 use cf_tree::{Code, Request, Txt};
 use itoa::Buffer;
@@ -28,7 +29,7 @@ fn put_went(line: &mut String, request: &Request, how: &str)
     put(line, how);
 }
 
-/// The same of a request that was refused.
+/// Adds what a request does to a resource, and that it was refused with a code.
 fn put_refused(line: &mut String, request: &Request, code: Code)
     requires { string_len line.old + 46 ≤ string_capacity line.old }
     ensures { string_bytes line.new ≡ string_bytes line.old ++ (action_name request.now ++ codes "_FAILED " ++ name_of code) }
@@ -44,12 +45,9 @@ fn put_reply(line: &mut String, request: &Request, answer: &Reply)
     ensures { string_bytes line.new ≡ string_bytes line.old ++ reply_name request.now answer.now }
 {
     match answer {
-        Reply::Success {
-            physical: _,
-            attrs: _,
-        } => put_went(line, request, "_COMPLETE"),
+        Reply::Success { .. } => put_went(line, request, "_COMPLETE"),
         Reply::Failed { code } => match (request, code) {
-            (Request::Delete { physical: _ }, Code::NotFound) => put(line, "DELETE_COMPLETE"),
+            (Request::Delete { .. }, Code::NotFound) => put(line, "DELETE_COMPLETE"),
             _ => put_refused(line, request, *code),
         },
         Reply::Doubt => put_went(line, request, "_FAILED Fault"),
@@ -58,7 +56,7 @@ fn put_reply(line: &mut String, request: &Request, answer: &Reply)
 
 /// The line for an answer to a request at a path, written into a text with room for it; it takes no
 /// memory.
-pub fn answer_line(
+pub(crate) fn answer_line(
     mut line: String,
     place: u64,
     path: &str,
@@ -79,11 +77,38 @@ pub fn answer_line(
 }
 
 /// Room for the line that `events` prints of an outcome at a path.
-pub fn growing_line(alloc: Global, path: &Txt) -> Result<String, AllocError>
+pub(crate) fn growing_line(alloc: Global, path: &Txt) -> Result<String, AllocError>
     ensures { IfOk result (λ line. (string_bytes line ≡ []) × (length path.now + 100 ≤ string_capacity line)) }
 {
     match path.as_str().len().checked_add(100) {
         Some(most) => String::with_capacity(alloc, most),
         None => Err(AllocError),
+    }
+}
+
+/// The line for the answer to a call, where it is open, written into a text with room for it; it takes
+/// no memory.
+pub(crate) fn line_in_room(
+    line: String,
+    place: u64,
+    answer: &Reply,
+    pending: Option<&Pending>,
+) -> Option<Txt>
+    requires empty { string_bytes line ≡ [] }
+    requires room { IfSome (option_copied pending) (λ p. length p.path + 100 ≤ string_capacity line) }
+    ensures { line_in result ≡ reply_line place answer.now (option_copied pending.entry) }
+{
+    match pending {
+        Some(pending) => Some(answer_line(
+            line,
+            place,
+            pending.path.as_str(),
+            &pending.request,
+            answer,
+        )),
+        None => {
+            drop(line);
+            None
+        }
     }
 }

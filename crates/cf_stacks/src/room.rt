@@ -1,305 +1,214 @@
-//! The room that the world makes for its next entry.
-ghost use Rattle.std.specs.Prelude.{◌≡◌, ◌+◌, ◌≤◌, ℕ, false, All, IfErr, IfOk, None, filter, length, map};
-ghost use Rattle.cf_stacks.specs.Awaiting.{Awaits, AwaitsFor, AwaitsRequest, IsAnswerIn, IsMadeRoom, IsOutcomeBy, TakesRoom, call_of, is_unused, is_updating, number_told, room_of};
-ghost use Rattle.cf_stacks.specs.Changing.{IsFlatEntry, TellsNested};
-ghost use Rattle.cf_stacks.specs.Fold.{bare, world_after};
-ghost use Rattle.cf_stacks.specs.Room.{AwaitedHasRoom, HasRoom, IsReady, KeepsRooms, readied};
+//! What the outcome of a call takes of memory.
+ghost use Rattle.std.specs.Prelude.{◌≡◌, ◌≤◌, ◌+◌, ◌∷◌, ◌++◌, [], List, ℕ, IfOk, IfSome, true, filter, find, not, position, string_bytes, string_capacity, vec_len, vec_capacity};
+ghost use Rattle.cf_stacks.specs.Fold.{effect_at};
+ghost use Rattle.cf_stacks.specs.Room.{IsShortOutcomeOf, answer_in};
+ghost use Rattle.std.specs.List.{list_any};
+ghost use Rattle.cf_stacks.specs.Reply.{intending};
+ghost use Rattle.cf_stacks.specs.Spare.{HasSpare, IsNewRoom, IsRoomFor, LineFits, is_room_of};
+ghost use Rattle.cf_stacks.specs.State.{state_of};
 
-use crate::answered::answer_going;
-use crate::awaited::{AnswerParts, AnswerRooms};
-use crate::awaiting::{LONGEST, Sizes, take_parts};
-use crate::fault::StepFault;
-use crate::state::{Stacks, World};
-use cf_entry::{Entry, LaneNames, Reply};
-use cf_export::{Exports, Pins};
-use cf_tree::Request;
-use std::alloc::Global;
-use std::mem;
+use crate::heard::HeardEntry;
+use crate::lines::{growing_line, line_in_room};
+use crate::state::State;
+use crate::terms::Terms;
+use crate::tokens::{is_open, pending_with};
+use cf_entry::{Entry, Reply};
+use cf_tree::{Request, Txt};
+use std::alloc::{AllocError, Global};
 
-/// What an entry leaves of the world, made before the world is stepped over it.
+/// What the longest outcome of a call takes: an id has at most 1,024 bytes, attributes encode to at most
+/// 524,288, and the rest of an outcome to 38.
+const LONGEST: usize = 525_350;
+
+/// What the next outcome of a call takes of memory, whatever it is.
 #[derive(Drop)]
-pub struct Ready {
-    pub stacks: Stacks,
-    pub exports: Exports,
-    pub pins: Pins,
-    pub claims: Pins,
-    pub lanes: LaneNames,
-    pub epoch: u64,
-    pub operation: u64,
-    pub set: u64,
-    pub token: u64,
-    pub place: u64,
-    pub rooms: AnswerRooms,
+pub(crate) struct CallRoom {
+    pub(crate) token: u64,
+    /// The policies and needs of what it makes.
+    pub(crate) terms: Terms,
+    /// For the line that `events` prints.
+    pub(crate) line: String,
+    /// For the spelling of the outcome, which the stack keeps.
+    pub(crate) spelled: Vec<u8>,
 }
 
-/// The number of the operation that an outcome is of, and 0 for every other entry.
-fn number_told(entry: &Entry) -> u64
-    ensures { result ≡ number_told entry.now }
+impl CallRoom {
+    /// Room for the next outcome of a call whose policies, needs and line are made.
+    pub(crate) fn new(
+        alloc: Global,
+        token: u64,
+        terms: Terms,
+        line: String,
+    ) -> Result<CallRoom, AllocError>
+        ensures parts { IfOk result (λ r. r ≡ record { token = token; terms = terms; line = line; spelled = r.spelled }) }
+        ensures empty { IfOk result (λ r. r.spelled.items ≡ []) }
+        ensures spelled { IfOk result (λ r. 525350 ≤ vec_capacity r.spelled) }
+    {
+        match Vec::with_capacity(alloc, LONGEST) {
+            Ok(spelled) => Ok(CallRoom {
+                token,
+                terms,
+                line,
+                spelled,
+            }),
+            Err(failed) => {
+                drop(terms);
+                drop(line);
+                Err(failed)
+            }
+        }
+    }
+}
+
+/// The answer that an entry writes down, where it is an outcome; it takes no memory.
+fn reply_in(entry: Entry) -> Option<Reply>
+    ensures { result ≡ answer_in entry }
 {
     match entry {
-        Entry::Outcome {
-            number,
-            token: _,
-            answer: _,
-            before: _,
-            after: _,
-        } => *number,
-        _ => 0,
+        Entry::Outcome { answer, .. } => Some(answer),
+        _other => None,
     }
 }
 
-impl World {
-    /// What the world is, as the room for an entry keeps it.
-    fn into_ready(self) -> Ready
-        ensures { readied result ≡ record self { ready = None } }
+/// The place of the room of a call.
+fn place_of_room(rooms: &[CallRoom], token: u64) -> Option<usize>
+    ensures { result ≡ position (is_room_of token) rooms.now }
+{
+    rooms.iter().position(|room| token == room.token)
+}
+
+/// Takes the room of a call, where it is there.
+#[tactic(auto, using(crate::proofs::Closed::closed_first, crate::proofs::Closed::first_closed, crate::proofs::Closed::none_closed, crate::proofs::Closed::closed_none))]
+pub(crate) fn take_room(rooms: &mut Vec<CallRoom>, token: u64) -> Option<CallRoom>
+    ensures room { result ≡ find (is_room_of token) rooms.old.items }
+    ensures items { rooms.new.items ≡ filter (λ r. not (is_room_of token r)) rooms.old.items }
+    ensures len { IfSome result (λ _. vec_len rooms.new + 1 ≤ vec_len rooms.old) }
+    ensures capacity { vec_capacity rooms.new ≡ vec_capacity rooms.old }
+{
+    match place_of_room(rooms.as_slice(), token) {
+        Some(at) => {
+            let room = rooms.remove(at);
+            forget(rooms, token);
+            Some(room)
+        }
+        None => None,
+    }
+}
+
+/// Whether there is a room of a call.
+pub(crate) fn has_room(rooms: &[CallRoom], token: u64) -> bool
+    ensures { result ≡ list_any (is_room_of token) rooms.now }
+{
+    rooms.iter().any(|room| token == room.token)
+}
+
+/// Gives up the rooms of a call.
+pub(crate) fn forget(rooms: &mut Vec<CallRoom>, token: u64)
+    ensures items { rooms.new.items ≡ filter (λ r. not (is_room_of token r)) rooms.old.items }
+    ensures len { vec_len rooms.new ≤ vec_len rooms.old }
+    ensures capacity { vec_capacity rooms.new ≡ vec_capacity rooms.old }
+{
+    rooms.retain(|room| !(token == room.token));
+}
+
+/// Adds the room of a call, in place of another one of it; it takes no memory.
+pub(crate) fn put_room(rooms: &mut Vec<CallRoom>, room: CallRoom)
+    requires { vec_len rooms.old + 1 ≤ vec_capacity rooms.old }
+    ensures items { rooms.new.items ≡ filter (λ r. not (is_room_of room.token r)) rooms.old.items ++ room ∷ [] }
+    ensures len { vec_len rooms.new ≤ vec_len rooms.old + 1 }
+    ensures capacity { vec_capacity rooms.new ≡ vec_capacity rooms.old }
+{
+    forget(rooms, room.token);
+    rooms.push_reserved(room);
+}
+
+impl State {
+    /// Room for the line of the next outcome of a call, where it is open.
+    fn line_of_call(&self, alloc: Global, token: u64) -> Result<String, AllocError>
+        ensures empty { IfOk result (λ line. string_bytes line ≡ []) }
+        ensures line { IfOk result (λ line. LineFits token (string_capacity line) (state_of self.now)) }
     {
-        drop(self.ready);
-        Ready {
-            stacks: self.stacks,
-            exports: self.exports,
-            pins: self.pins,
-            claims: self.claims,
-            lanes: self.lanes,
-            epoch: self.epoch,
-            operation: self.operation,
-            set: self.set,
-            token: self.token,
-            place: self.place,
-            rooms: self.rooms,
+        match pending_with(self.tokens.as_slice(), token) {
+            Some(pending) => growing_line(alloc, &pending.path),
+            None => Ok(String::new(alloc)),
         }
     }
 
-    /// The world that a room keeps.
-    fn of_ready(ready: Ready) -> World
-        ensures { result ≡ readied ready }
+    /// Room for the next outcome of an open call.
+    pub(crate) fn room_of_call(&self, alloc: Global, token: u64) -> Result<CallRoom, AllocError>
+        ensures token { IfOk result (λ r. r.token ≡ token) }
+        ensures room { IfOk result (λ r. IsRoomFor (state_of self.now) r) }
     {
-        World {
-            stacks: ready.stacks,
-            exports: ready.exports,
-            pins: ready.pins,
-            claims: ready.claims,
-            lanes: ready.lanes,
-            epoch: ready.epoch,
-            operation: ready.operation,
-            set: ready.set,
-            token: ready.token,
-            place: ready.place,
-            ready: None,
-            rooms: ready.rooms,
-        }
+        let terms = self.terms_of_call(alloc, token)?;
+        let line = self.line_of_call(alloc, token)?;
+        CallRoom::new(alloc, token, terms, line)
     }
 
-    /// Gives up what an entry leaves, where it was kept.
-    fn give_up_ready(&mut self)
-        ensures { self.new ≡ record self.old { ready = None } }
-    {
-        drop(self.ready.take());
-    }
-
-    /// Keeps what an entry leaves, with room for the outcomes for which there is room. After an error the world is as it was, but
-    /// for what was kept.
-    fn make_ready(&mut self, alloc: Global, entry: &Entry) -> Result<(), StepFault>
-        ensures ready { IfOk result (λ _. IsReady self.new entry.now) }
-        ensures none { IfErr result (λ _. self.new.ready ≡ None) }
-        ensures same { self.new ≡ record self.old { ready = self.new.ready } }
-        ensures nested { TellsNested (IsFlatEntry entry.now) result }
-    {
-        self.give_up_ready();
-        let mut next = self.bare_copy(alloc)?;
-        match self.lay_out(alloc, entry, &mut next) {
-            Ok(()) => {
-                self.ready = Some(next.into_ready());
-                Ok(())
-            }
-            Err(fault) => {
-                drop(next);
-                Err(fault)
-            }
-        }
-    }
-
-    /// Steps another world over an entry, with room for the outcomes for which there is room in this one. After an error nothing
-    /// is said of it.
-    fn lay_out(&self, alloc: Global, entry: &Entry, next: &mut World) -> Result<(), StepFault>
-        ensures world { IfOk result (λ _. next.new ≡ record (world_after next.old entry.now) { rooms = next.new.rooms }) }
-        ensures made { IfOk result (λ _. All (IsMadeRoom (length (map call_of (filter is_unused self.now.rooms)) + 1) next.new.stacks next.new.place 1024 525350) next.new.rooms) }
-        ensures called { IfOk result (λ _. map call_of next.new.rooms ≡ map call_of (filter is_unused self.now.rooms)) }
-        ensures nested { TellsNested (IsFlatEntry entry.now) result }
-    {
-        next.advance(alloc, entry)?;
-        let calls = self.calls_awaited(alloc)?;
-        next.rooms = next.rooms_for(alloc, calls.as_slice(), LONGEST)?;
-        Ok(())
-    }
-
-    /// Makes room for the outcome of a call; that of an update is made for this outcome alone.
-    fn room_for_outcome(
-        &mut self,
+    /// Room for the next outcome of a call that goes out under a token that is not open.
+    fn room_of_new(
+        &self,
         alloc: Global,
-        number: u64,
         token: u64,
-        answer: &Reply,
-        entry: &Entry,
-    ) -> Result<(), StepFault>
-        requires outcome { IsOutcomeBy number token answer.now entry.now }
-        requires none { self.old.ready ≡ None }
-        ensures room { IfOk result (λ _. HasRoom self.new entry.now) }
-        ensures rooms { (n t : ℕ) → Awaits n t self.old → Awaits n t self.new }
-        ensures none { IfErr result (λ _. self.new.ready ≡ None) }
-        ensures same { self.new ≡ record self.old { ready = self.new.ready; rooms = self.new.rooms } }
-        ensures awaits { IfOk result (λ _. is_updating number token self.new.stacks ≡ false → Awaits number token self.new) }
-        ensures nested { IfErr result (λ e. e ≡ StepFault.NoMemory) }
-    {
-        if self.is_updating(number, token) {
-            drop(take_parts(&mut self.rooms, number, token));
-            return self.make_ready(alloc, entry);
-        }
-        match Sizes::of(entry, answer) {
-            Some(sizes) => {
-                self.await_outcome(alloc, number, token, sizes)?;
-                Ok(())
-            }
-            None => Err(StepFault::NoMemory),
-        }
-    }
-
-    /// Makes room for an intent, and for the outcome of its call unless that is an update.
-    #[tactic(auto, using(crate::proofs::Readied::awaits_so))]
-    fn room_for_intent(
-        &mut self,
-        alloc: Global,
-        number: u64,
-        token: u64,
+        path: &Txt,
         request: &Request,
-        entry: &Entry,
-    ) -> Result<(), StepFault>
-        requires none { self.old.ready ≡ None }
-        ensures ready { IfOk result (λ _. IsReady self.new entry.now) }
-        ensures awaits { IfOk result (λ _. AwaitsRequest number token self.new request.now) }
-        ensures rooms { (n t : ℕ) → Awaits n t self.old → Awaits n t self.new }
-        ensures none { IfErr result (λ _. self.new.ready ≡ None) }
-        ensures same { self.new ≡ record self.old { ready = self.new.ready; rooms = self.new.rooms } }
-        ensures nested { TellsNested (IsFlatEntry entry.now) result }
+    ) -> Result<CallRoom, AllocError>
+        ensures token { IfOk result (λ r. r.token ≡ token) }
+        ensures room { IfOk result (IsNewRoom path.now request.now (state_of self.now)) }
     {
-        match request {
-            Request::Update {
-                physical: _,
-                props: _,
-            } => self.make_ready(alloc, entry),
-            _ => {
-                self.await_outcome(alloc, number, token, LONGEST)?;
-                self.make_ready(alloc, entry)
+        let terms = self.terms_of_request(alloc, path, request)?;
+        let line = growing_line(alloc, path)?;
+        CallRoom::new(alloc, token, terms, line)
+    }
+
+    /// Room for the next outcome of a call that goes out, or of the one that is open under its token.
+    #[tactic(auto, using(crate::proofs::Calling::room_of_new, crate::proofs::Calling::room_of_open))]
+    pub(crate) fn room_for_call(
+        &self,
+        alloc: Global,
+        token: u64,
+        path: &Txt,
+        request: &Request,
+    ) -> Result<CallRoom, AllocError>
+        ensures token { IfOk result (λ r. r.token ≡ token) }
+        ensures room { IfOk result (λ r. (number : ℕ) (lane : List ℕ)
+            → IsRoomFor (intending number (record {
+              token = token;
+              path = path.now;
+              lane = lane;
+              request = request.now;
+            }) (state_of self.now)) r) }
+    {
+        if is_open(self.tokens.as_slice(), token) {
+            self.room_of_call(alloc, token)
+        } else {
+            self.room_of_new(alloc, token, path, request)
+        }
+    }
+
+    /// Takes the outcome of a call, for which there is room, and hears of it; it takes no memory.
+    #[tactic(auto, using(crate::proofs::Short::outcome_short))]
+    pub(crate) fn take_outcome(&mut self, place: u64, entry: Entry, room: CallRoom)
+        requires outcome { IsShortOutcomeOf room.token entry }
+        requires room { IsRoomFor (state_of self.old) room }
+        requires spare { HasSpare 2 self.old }
+        ensures state { state_of self.new ≡ (effect_at place entry (state_of self.old)).stack }
+        ensures spare { (n : ℕ) → HasSpare (n + 2) self.old → HasSpare n self.new }
+    {
+        let CallRoom {
+            token,
+            terms,
+            line,
+            spelled,
+        } = room;
+        let heard = HeardEntry::keep(token, &entry, spelled);
+        match reply_in(entry) {
+            Some(answer) => {
+                let pending = pending_with(self.tokens.as_slice(), token);
+                let line = line_in_room(line, place, &answer, pending);
+                self.take_answer(token, answer, terms);
+                self.hear(heard, line);
             }
+            None => unreachable!(),
         }
-    }
-
-    /// Makes room for a step over this entry, so that the step itself takes no memory: for an outcome what it takes, for every
-    /// other entry all that it leaves, in place of what was made so for another entry.
-    ///
-    /// With the intent of a create or of a deletion there is then room for each outcome that may follow it, within the bounds on
-    /// answers, as `awaited_has_room` says. That room stays until an outcome of the call is stepped over, whatever other entries
-    /// are stepped over before. Before a call is repeated, this makes room for its next outcome once more, by the intent that was
-    /// stepped over already. The world is otherwise as it was, also after an error, and rooms for outcomes stay then too.
-    ///
-    /// # Errors
-    ///
-    /// `Nested` comes exactly where the entry begins a creation or an update by a source whose root template holds a nested
-    /// stack. `NoMemory` comes also where the number of entries would pass 64 bits or the spelling of an outcome 2^32 bytes; and
-    /// where the world, or the one that the entry leaves, has two stacks that work under the number of a call for whose outcome
-    /// there is room, or its token is of an update: where numbers and tokens count up, neither is so.
-    pub fn room_for(&mut self, alloc: Global, entry: &Entry) -> Result<(), StepFault>
-        ensures room { IfOk result (λ _. HasRoom self.new entry.now) }
-        ensures awaits { IfOk result (λ _. AwaitsFor self.new entry.now) }
-        ensures rooms { (number token : ℕ) → Awaits number token self.old → Awaits number token self.new }
-        ensures none { IfErr result (λ _. self.new.ready ≡ None) }
-        ensures same { self.new ≡ record self.old { ready = self.new.ready; rooms = self.new.rooms } }
-        ensures nested { TellsNested (IsFlatEntry entry.now) result }
-    {
-        self.give_up_ready();
-        match entry {
-            Entry::Outcome {
-                number,
-                token,
-                answer,
-                before: _,
-                after: _,
-            } => self.room_for_outcome(alloc, *number, *token, answer, entry),
-            Entry::Intent {
-                number,
-                token,
-                lane: _,
-                path: _,
-                request,
-            } => self.room_for_intent(alloc, *number, *token, request, entry),
-            _ => self.make_ready(alloc, entry),
-        }
-    }
-
-    /// Takes what is left of the room for an outcome.
-    fn take_room(&mut self, entry: &Entry) -> Option<AnswerParts>
-        ensures given { result ≡ room_of entry.now self.old.rooms }
-        ensures taken { TakesRoom entry.now self.old.rooms self.new.rooms }
-        ensures same { self.new ≡ record self.old { rooms = self.new.rooms } }
-    {
-        match entry {
-            Entry::Outcome {
-                number,
-                token,
-                answer: _,
-                before: _,
-                after: _,
-            } => take_parts(&mut self.rooms, *number, *token),
-            _ => None,
-        }
-    }
-
-    /// Steps over an outcome with what was in the room for it.
-    #[tactic(auto, using(crate::proofs::Putting::told_ascend, crate::proofs::Laid::fits_answer, crate::proofs::Laid::alone_answer, crate::proofs::Laid::counts_answer, crate::proofs::Laid::answered_world))]
-    fn step_in(&mut self, entry: Entry, room: AnswerParts)
-        requires room { (more : ℕ) × (1 ≤ more) × IsAnswerIn more self.old room entry }
-        ensures { self.new ≡ record (world_after self.old entry) { rooms = self.old.rooms } }
-    {
-        let AnswerParts { stack, stacks } = room;
-        let number = number_told(&entry);
-        let place = self.place + 1;
-        let mut pairs = mem::replace(&mut self.stacks, stacks).into_vec();
-        answer_going(&mut pairs, place, number, entry, stack);
-        self.stacks = Stacks::from_vec(pairs);
-        self.place = place;
-        self.give_up_ready();
-    }
-
-    /// Steps over an entry for which `room_for` has made the room, or over the outcome of a call with whose intent it has. It
-    /// takes no memory.
-    pub fn step(&mut self, entry: Entry)
-        requires room { HasRoom self.old entry }
-        ensures world { bare self.new ≡ world_after self.old entry }
-        ensures rooms { KeepsRooms self.old entry self.new }
-        ensures none { self.new.ready ≡ None }
-    {
-        match self.take_room(&entry) {
-            Some(room) => self.step_in(entry, room),
-            None => match self.ready.take() {
-                Some(ready) => {
-                    drop(entry);
-                    drop(mem::replace(self, World::of_ready(ready)));
-                }
-                None => unreachable!(),
-            },
-        }
-    }
-
-    /// Gives up all room that was made: the world is what its entries leave.
-    pub fn give_up_rooms(&mut self, alloc: Global)
-        ensures { self.new ≡ bare self.old }
-    {
-        self.give_up_ready();
-        drop(mem::replace(&mut self.rooms, AnswerRooms::new(alloc)));
     }
 }
-
-/// Where the intent of a call made room for its outcome, the world has room for a step over each outcome within the bounds on
-/// answers: an id of 1,024 bytes, and attributes that encode to 524,288. This is a law; the function does nothing.
-pub fn awaited_has_room()
-    ensures { AwaitedHasRoom }
-{}

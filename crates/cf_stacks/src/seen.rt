@@ -1,9 +1,8 @@
 //! What the resources of a stack show to a template.
-ghost use Rattle.std.specs.Prelude.{◌≡◌, IfOk, filter, fold, not};
-ghost use Rattle.cf_stacks.specs.Fold.{put_seen, seen_as_held, seen_in, seen_now};
+ghost use Rattle.std.specs.Prelude.{◌≡◌, ◌++◌, IfOk, filter, fold, not};
+ghost use Rattle.cf_stacks.specs.Begin.{put_seen, seen_as_held, seen_in};
 
-use crate::held::{Held, Helds};
-use crate::state::StackState;
+use crate::held::Held;
 use cf_desired::{Seen, SeenAt};
 use cf_tree::TryClone;
 use std::alloc::{AllocError, Global};
@@ -13,7 +12,7 @@ fn shown(alloc: Global, held: &Held) -> Result<SeenAt, AllocError>
     ensures { IfOk result (λ shown. shown ≡ seen_as_held held.now) }
 {
     let physical = held.physical.try_clone(alloc)?;
-    match held.attrs.dict(alloc) {
+    match held.attrs.try_clone(alloc) {
         Ok(attrs) => Ok(SeenAt {
             physical: Some(physical),
             attrs: Some(attrs),
@@ -39,10 +38,10 @@ fn see(alloc: Global, seen: &mut Seen, held: &Held) -> Result<(), AllocError>
 
 /// Adds what a list of resources shows, but for those that are superseded. After an error nothing is
 /// said of what is seen.
-fn see_each(alloc: Global, seen: &mut Seen, helds: &Helds) -> Result<(), AllocError>
+fn see_each(alloc: Global, seen: &mut Seen, helds: &[Held]) -> Result<(), AllocError>
     ensures { IfOk result (λ _. seen.new ≡ fold put_seen seen.old (filter (λ h. not h.superseded) helds.now)) }
 {
-    for held in helds.as_slice() {
+    for held in helds {
         if !held.superseded {
             see(alloc, seen, held)?;
         }
@@ -51,7 +50,7 @@ fn see_each(alloc: Global, seen: &mut Seen, helds: &Helds) -> Result<(), AllocEr
 }
 
 /// What a list of resources shows.
-pub fn seen_in(alloc: Global, helds: &Helds) -> Result<Seen, AllocError>
+pub fn seen_in(alloc: Global, helds: &[Held]) -> Result<Seen, AllocError>
     ensures { IfOk result (λ seen. seen ≡ seen_in helds.now) }
 {
     let mut seen = Seen::new(alloc);
@@ -64,12 +63,16 @@ pub fn seen_in(alloc: Global, helds: &Helds) -> Result<Seen, AllocError>
     }
 }
 
-/// What the resources of a stack show: those that its operation made before those that it holds.
-pub fn seen_now(alloc: Global, stack: &StackState) -> Result<Seen, AllocError>
-    ensures { IfOk result (λ seen. seen ≡ seen_now stack.now) }
+/// What two lists of resources show: the first before the second.
+pub(crate) fn seen_in_both(
+    alloc: Global,
+    first: &[Held],
+    second: &[Held],
+) -> Result<Seen, AllocError>
+    ensures { IfOk result (λ seen. seen ≡ seen_in (first.now ++ second.now)) }
 {
-    let mut seen = seen_in(alloc, &stack.made)?;
-    match see_each(alloc, &mut seen, &stack.held) {
+    let mut seen = seen_in(alloc, first)?;
+    match see_each(alloc, &mut seen, second) {
         Ok(()) => Ok(seen),
         Err(failed) => {
             drop(seen);

@@ -1,234 +1,242 @@
-//! Stacks and the world of all stacks, as a journal's entries leave them.
-ghost use Rattle.std.specs.Prelude.{◌≡◌};
-ghost use Rattle.std.specs.Option.{option_copied};
+//! A stack's numbers and lists.
+ghost use Rattle.std.specs.Prelude.{◌≡◌, ◌≤◌, ◌+◌, ◌∷◌, ◌++◌, [], ℕ, IfOk, OnOk, Some, map, option_copied, true};
+ghost use Rattle.cf_stacks.specs.End.{seen_now, stopping, turning, whole_now};
+ghost use Rattle.cf_stacks.specs.Reply.{deleting, terms_at, with_status};
+ghost use Rattle.cf_stacks.specs.Spare.{HasSpare, TermsFit};
+ghost use Rattle.cf_stacks.specs.State.{state_of};
+ghost use Rattle.cf_stacks.specs.Words.{is_create};
+ghost use Rattle.cf_stacks.specs.World.{no_stack};
 
-use crate::awaited::AnswerRooms;
-use crate::going::Going;
-use crate::held::{Abandoned, Helds, KeptSets, Leftovers, Pendings};
-use crate::room::Ready;
-use cf_entry::{Entries, LaneNames, Status};
-use cf_export::{Exports, Outputs, Pins};
-use cf_tree::{ByName, Names, Source};
+use crate::call::Ledger;
+use crate::copies::{copy_into, copy_list};
+use crate::heard::HeardEntries;
+use crate::held::{Abandoned, Held, HeldStatus, Helds, KeptSets, Leftovers, Pendings};
+use crate::ledger::count_anew;
+use crate::outset::{Outset, before_in, source_in, terms_in, whole_in};
+use crate::resources::{has_physical, mark, remove, set_status};
+use crate::seen::seen_in_both;
+use crate::statuses::turned;
+use crate::terms::Terms;
+use crate::tokens::pending_with;
+use cf_desired::{Seen, WholePlan};
+use cf_entry::{Phase, Status};
+use cf_export::Outputs;
+use cf_tree::{Request, Source, Txt};
+use std::alloc::{AllocError, Global};
 
-/// A stack.
+/// Lines that `events` prints.
+pub type Lines = Vec<Txt>;
+
+/// A stack's numbers and lists.
 #[derive(Drop)]
-pub struct StackState {
-    pub status: Status,
-    /// The number of the operation that created it; 0 while it is under review.
-    pub number: u64,
-    /// The number of its last operation.
-    pub operation: u64,
-    pub held: Helds,
-    /// What it held as its last create or update began.
-    pub before: Helds,
-    /// What the operation made.
-    pub made: Helds,
-    pub leftovers: Leftovers,
-    pub tokens: Pendings,
-    pub abandoned: Abandoned,
-    /// The source that was completed last.
-    pub source: Option<Source>,
-    /// The source of its last create or update.
-    pub going: Option<Going>,
-    pub outputs: Outputs,
-    pub sets: KeptSets,
-    /// The lines that `events` prints.
-    pub events: Names,
-    /// Its entries since its last operation began that is no continued rollback, each opening since
-    /// then, and before them the intents of the calls that were open as it began.
-    pub entries: Entries,
+pub(crate) struct State {
+    pub(crate) status: Status,
+    pub(crate) number: u64,
+    pub(crate) operation: u64,
+    pub(crate) held: Helds,
+    pub(crate) made: Helds,
+    pub(crate) leftovers: Leftovers,
+    pub(crate) tokens: Pendings,
+    pub(crate) abandoned: Abandoned,
+    pub(crate) source: Option<Source>,
+    pub(crate) outset: Option<Outset>,
+    pub(crate) outputs: Outputs,
+    pub(crate) sets: KeptSets,
+    pub(crate) events: Lines,
+    pub(crate) entries: HeardEntries,
+    pub(crate) ledger: Ledger,
 }
 
-/// The stacks, by name.
-pub type Stacks = ByName<StackState>;
-
-/// The world that a journal's entries leave.
-#[derive(Drop)]
-pub struct World {
-    pub stacks: Stacks,
-    pub exports: Exports,
-    /// The exports that stacks import.
-    pub pins: Pins,
-    /// The names that operations in progress mean to export.
-    pub claims: Pins,
-    /// The lanes of the last opening.
-    pub lanes: LaneNames,
-    pub epoch: u64,
-    pub operation: u64,
-    pub set: u64,
-    pub token: u64,
-    /// How many entries there were.
-    pub place: u64,
-    /// The room for the next entry, where it was made.
-    pub ready: Option<Ready>,
-    /// The rooms for the outcomes of calls.
-    pub rooms: AnswerRooms,
-}
-
-impl World {
-    /// The stacks, by name.
-    pub fn stacks(&self) -> &Stacks
-        ensures { result.now ≡ self.now.stacks }
+impl State {
+    /// A stack of which nothing is known; it takes no memory.
+    pub(crate) fn unknown(alloc: Global) -> State
+        ensures { state_of result ≡ no_stack }
     {
-        &self.stacks
-    }
-
-    /// The exports of all stacks, by name.
-    pub fn exports(&self) -> &Exports
-        ensures { result.now ≡ self.now.exports }
-    {
-        &self.exports
-    }
-
-    /// Which stack pins which export.
-    pub fn pins(&self) -> &Pins
-        ensures { result.now ≡ self.now.pins }
-    {
-        &self.pins
-    }
-
-    /// Which stack claims which export name.
-    pub fn claims(&self) -> &Pins
-        ensures { result.now ≡ self.now.claims }
-    {
-        &self.claims
-    }
-
-    /// The lanes of the last opening, with their types.
-    pub fn lanes(&self) -> &LaneNames
-        ensures { result.now ≡ self.now.lanes }
-    {
-        &self.lanes
-    }
-
-    /// The number of the last opening.
-    pub fn epoch(&self) -> u64
-        ensures { result ≡ self.now.epoch }
-    {
-        self.epoch
-    }
-
-    /// The number of the last operation.
-    pub fn operation(&self) -> u64
-        ensures { result ≡ self.now.operation }
-    {
-        self.operation
-    }
-
-    /// The number of the last change set.
-    pub fn set(&self) -> u64
-        ensures { result ≡ self.now.set }
-    {
-        self.set
-    }
-
-    /// The number of the last request.
-    pub fn token(&self) -> u64
-        ensures { result ≡ self.now.token }
-    {
-        self.token
-    }
-}
-
-impl StackState {
-    /// Its status.
-    pub fn status(&self) -> Status
-        ensures { result ≡ self.now.status }
-    {
-        self.status
-    }
-
-    /// The number of the operation that created it.
-    pub fn number(&self) -> u64
-        ensures { result ≡ self.now.number }
-    {
-        self.number
-    }
-
-    /// What it holds.
-    pub fn held(&self) -> &Helds
-        ensures { result.now ≡ self.now.held }
-    {
-        &self.held
-    }
-
-    /// What it held before.
-    pub fn before(&self) -> &Helds
-        ensures { result.now ≡ self.now.before }
-    {
-        &self.before
-    }
-
-    /// What its operation made.
-    pub fn made(&self) -> &Helds
-        ensures { result.now ≡ self.now.made }
-    {
-        &self.made
-    }
-
-    /// Its leftovers.
-    pub fn leftovers(&self) -> &Leftovers
-        ensures { result.now ≡ self.now.leftovers }
-    {
-        &self.leftovers
-    }
-
-    /// Its open tokens.
-    pub fn tokens(&self) -> &Pendings
-        ensures { result.now ≡ self.now.tokens }
-    {
-        &self.tokens
-    }
-
-    /// The creates that were given up.
-    pub fn abandoned(&self) -> &Abandoned
-        ensures { result.now ≡ self.now.abandoned }
-    {
-        &self.abandoned
-    }
-
-    /// The source that was completed last.
-    pub fn source(&self) -> Option<&Source>
-        ensures { option_copied result ≡ self.now.source }
-    {
-        self.source.as_ref()
-    }
-
-    /// The source of its last create or update.
-    pub fn going(&self) -> Option<&Source>
-        ensures { option_copied result ≡ self.now.going }
-    {
-        match &self.going {
-            Some(going) => Some(going.source()),
-            None => None,
+        State {
+            status: Status::DeleteComplete,
+            number: 0,
+            operation: 0,
+            held: Vec::new(alloc),
+            made: Vec::new(alloc),
+            leftovers: Vec::new(alloc),
+            tokens: Vec::new(alloc),
+            abandoned: Vec::new(alloc),
+            source: None,
+            outset: None,
+            outputs: Outputs::new(alloc),
+            sets: Vec::new(alloc),
+            events: Vec::new(alloc),
+            entries: Vec::new(alloc),
+            ledger: Vec::new(alloc),
         }
     }
 
-    /// Its outputs.
-    pub fn outputs(&self) -> &Outputs
-        ensures { result.now ≡ self.now.outputs }
+    /// Copies what the stack holds and what is open into another. After an error nothing is said of
+    /// it.
+    fn copy_resources(&self, alloc: Global, copy: &mut State) -> Result<(), AllocError>
+        ensures { IfOk result (λ _. state_of copy.new
+            ≡ record (state_of copy.old) {
+              held = self.now.held.items;
+              made = self.now.made.items;
+              leftovers = self.now.leftovers.items;
+              tokens = self.now.tokens.items;
+              abandoned = self.now.abandoned.items;
+            }) }
     {
-        &self.outputs
+        copy_list(alloc, self.held.as_slice(), &mut copy.held)?;
+        copy_list(alloc, self.made.as_slice(), &mut copy.made)?;
+        copy_list(alloc, self.leftovers.as_slice(), &mut copy.leftovers)?;
+        copy_list(alloc, self.tokens.as_slice(), &mut copy.tokens)?;
+        copy_list(alloc, self.abandoned.as_slice(), &mut copy.abandoned)
     }
 
-    /// Its change sets.
-    pub fn sets(&self) -> &KeptSets
-        ensures { result.now ≡ self.now.sets }
+    /// Copies what the stack heard and its sources into another. After an error nothing is said of it.
+    fn copy_history(&self, alloc: Global, copy: &mut State) -> Result<(), AllocError>
+        ensures { IfOk result (λ _. state_of copy.new
+            ≡ record (state_of copy.old) {
+              before = (state_of self.now).before;
+              source = self.now.source;
+              going = (state_of self.now).going;
+              outputs = self.now.outputs;
+              sets = self.now.sets.items;
+              events = self.now.events.items;
+              entries = self.now.entries.items;
+              ledger = self.now.ledger.items;
+            }) }
     {
-        &self.sets
+        copy_into(alloc, &self.source, &mut copy.source)?;
+        copy_into(alloc, &self.outset, &mut copy.outset)?;
+        copy.outputs = self.outputs.try_clone(alloc)?;
+        copy_list(alloc, self.sets.as_slice(), &mut copy.sets)?;
+        copy_list(alloc, self.events.as_slice(), &mut copy.events)?;
+        copy_list(alloc, self.entries.as_slice(), &mut copy.entries)?;
+        copy_list(alloc, self.ledger.as_slice(), &mut copy.ledger)
     }
 
-    /// Its event lines.
-    pub fn events(&self) -> &Names
-        ensures { result.now ≡ self.now.events }
+    /// Makes another stack a copy of this one. After an error nothing is said of it.
+    pub(crate) fn copy_to(&self, alloc: Global, copy: &mut State) -> Result<(), AllocError>
+        ensures { IfOk result (λ _. state_of copy.new ≡ state_of self.now) }
     {
-        &self.events
+        self.copy_resources(alloc, copy)?;
+        self.copy_history(alloc, copy)?;
+        copy.status = self.status;
+        copy.number = self.number;
+        copy.operation = self.operation;
+        Ok(())
     }
 
-    /// Its entries.
-    pub fn entries(&self) -> &Entries
-        ensures { result.now ≡ self.now.entries }
+    /// Lays memory by for so many intents or outcomes. After an error the stack is as it was.
+    pub(crate) fn reserve(&mut self, more: usize) -> Result<(), AllocError>
+        ensures same { state_of self.new ≡ state_of self.old }
+        ensures spare { OnOk result (HasSpare more self.new) }
+        ensures kept { (n : ℕ) → HasSpare n self.old → HasSpare n self.new }
     {
-        &self.entries
+        self.made.reserve(more)?;
+        self.tokens.reserve(more)?;
+        self.events.reserve(more)?;
+        self.entries.reserve(more)?;
+        self.ledger.reserve(more)?;
+        Ok(())
+    }
+
+    /// The source of its last create or update.
+    pub(crate) fn going(&self) -> Option<&Source>
+        ensures { option_copied result ≡ (state_of self.now).going }
+    {
+        source_in(&self.outset)
+    }
+
+    /// What it held as that began.
+    pub(crate) fn before(&self) -> &[Held]
+        ensures { result.now ≡ (state_of self.now).before }
+    {
+        before_in(&self.outset)
+    }
+
+    /// What its resources show: those that its operation made before those that it holds.
+    pub(crate) fn seen_now(&self, alloc: Global) -> Result<Seen, AllocError>
+        ensures { IfOk result (λ seen. seen ≡ seen_now (state_of self.now)) }
+    {
+        seen_in_both(alloc, self.made.as_slice(), self.held.as_slice())
+    }
+
+    /// The policies and needs that the source of the operation gives a path over what was held
+    /// before.
+    pub(crate) fn terms_at(&self, alloc: Global, path: &Txt) -> Result<Terms, AllocError>
+        ensures { IfOk result (λ terms. terms ≡ terms_at path.now (state_of self.now)) }
+    {
+        terms_in(alloc, &self.outset, path)
+    }
+
+    /// The policies and needs of what a call is to make, if it is to make something.
+    pub(crate) fn terms_of_request(
+        &self,
+        alloc: Global,
+        path: &Txt,
+        request: &Request,
+    ) -> Result<Terms, AllocError>
+        ensures { IfOk result (λ t. is_create request.now ≡ true → t ≡ terms_at path.now (state_of self.now)) }
+    {
+        match request {
+            Request::Create { .. } => self.terms_at(alloc, path),
+            _ => Ok(Terms::usual(alloc)),
+        }
+    }
+
+    /// The policies and needs of what the call of a token makes, where it is open and makes something.
+    pub(crate) fn terms_of_call(&self, alloc: Global, token: u64) -> Result<Terms, AllocError>
+        ensures { IfOk result (λ terms. TermsFit token terms (state_of self.now)) }
+    {
+        match pending_with(self.tokens.as_slice(), token) {
+            Some(pending) => self.terms_of_request(alloc, &pending.path, &pending.request),
+            None => Ok(Terms::usual(alloc)),
+        }
+    }
+
+    /// What the source of the operation wants, all of it, over the resource of each path; nothing
+    /// where that is not known.
+    pub(crate) fn whole_now(&self, alloc: Global) -> Result<WholePlan, AllocError>
+        ensures { IfOk result (λ whole. whole ≡ whole_now (state_of self.now)) }
+    {
+        let seen = self.seen_now(alloc)?;
+        whole_in(alloc, &self.outset, &seen)
+    }
+
+    /// Gives the resource of a physical id a status.
+    pub(crate) fn set_status(&mut self, physical: &Txt, status: HeldStatus)
+        ensures state { state_of self.new ≡ with_status physical.now status (state_of self.old) }
+        ensures spare { (n : ℕ) → HasSpare n self.old → HasSpare n self.new }
+    {
+        if has_physical(self.held.as_slice(), physical) {
+            set_status(&mut self.held, physical, status);
+        } else {
+            set_status(&mut self.made, physical, status);
+        }
+    }
+
+    /// Takes the resource of a physical id off its list.
+    pub(crate) fn delete(&mut self, physical: &Txt)
+        ensures state { state_of self.new ≡ deleting physical.now (state_of self.old) }
+        ensures spare { (n : ℕ) → HasSpare n self.old → HasSpare n self.new }
+    {
+        remove(&mut self.held, physical);
+        remove(&mut self.made, physical);
+    }
+
+    /// Enters a phase, but for what a cleanup completes.
+    pub(crate) fn turn(&mut self, phase: Phase)
+        ensures { state_of self.new ≡ turning phase (state_of self.old) }
+    {
+        self.status = turned(self.status, phase);
+        count_anew(&mut self.ledger);
+    }
+
+    /// Stops in a status: each resource of which a call is open is left in doubt.
+    pub(crate) fn stop(&mut self, status: Status)
+        ensures { state_of self.new ≡ stopping status (state_of self.old) }
+    {
+        self.status = status;
+        mark(&mut self.held, self.tokens.as_slice());
+        mark(&mut self.made, self.tokens.as_slice());
     }
 }

@@ -1,7 +1,6 @@
 //! The statuses of a stack and the phases of an operation.
 ghost use Rattle.std.specs.Prelude.{◌≡◌};
-ghost use Rattle.cf_stacks.specs.Status.{begun, turned, is_in_progress};
-ghost use Rattle.cf_stacks.specs.Fold.{is_deleted};
+ghost use Rattle.cf_stacks.specs.Status.{begun, goes_back, is_deleted, is_in_progress, reviewed, turned};
 
 use cf_entry::{Begun, Phase, Status};
 
@@ -10,10 +9,10 @@ pub fn begun(kind: &Begun) -> Status
     ensures { result ≡ begun kind.now }
 {
     match kind {
-        Begun::Create { source: _ } => Status::CreateInProgress,
-        Begun::Update { source: _ } => Status::UpdateInProgress,
-        Begun::Delete { paths: _ } => Status::DeleteInProgress,
-        Begun::Continue { paths: _ } => Status::UpdateRollbackInProgress,
+        Begun::Create { .. } => Status::CreateInProgress,
+        Begun::Update { .. } => Status::UpdateInProgress,
+        Begun::Delete { .. } => Status::DeleteInProgress,
+        Begun::Continue { .. } => Status::UpdateRollbackInProgress,
     }
 }
 
@@ -50,4 +49,24 @@ pub fn is_deleted(status: Status) -> bool
     ensures { result ≡ is_deleted status }
 {
     matches!(status, Status::DeleteComplete)
+}
+
+/// Whether a stack that has this status is in its rollback.
+pub fn goes_back(status: Status) -> bool
+    ensures { result ≡ goes_back status }
+{
+    matches!(
+        status,
+        Status::RollbackInProgress | Status::UpdateRollbackInProgress
+    )
+}
+
+/// The status of a stack with a change set.
+pub fn reviewed(status: Status) -> Status
+    ensures { result ≡ reviewed status }
+{
+    match status {
+        Status::DeleteComplete => Status::ReviewInProgress,
+        _ => status,
+    }
 }

@@ -1,9 +1,9 @@
 //! What a template says of a resource besides its properties.
 ghost use Rattle.std.specs.Prelude.{◌≡◌, None};
-ghost use Rattle.cf_stacks.specs.Fold.{terms_of};
+ghost use Rattle.cf_stacks.specs.Reply.{terms_of};
 
-use cf_tree::{Deletion, Names, Replace};
-use std::alloc::Global;
+use cf_tree::{Deletion, Names, Replace, TryClone};
+use std::alloc::{AllocError, Global};
 
 /// The policies of a resource and the paths that it needs.
 #[derive(Drop)]
@@ -14,7 +14,7 @@ pub struct Terms {
 }
 
 impl Terms {
-    /// The policies and needs of a resource of which no template says any.
+    /// The policies and needs of a resource of which no template says any; it takes no memory.
     pub fn usual(alloc: Global) -> Terms
         ensures { result ≡ terms_of None }
     {
@@ -23,5 +23,16 @@ impl Terms {
             deletion: Deletion::Delete,
             replace: Replace::Delete,
         }
+    }
+}
+
+impl TryClone for Terms {
+    fn try_clone(&self, alloc: Global) -> Result<Terms, AllocError> {
+        let needs = self.needs.try_clone(alloc)?;
+        Ok(Terms {
+            needs,
+            deletion: self.deletion,
+            replace: self.replace,
+        })
     }
 }

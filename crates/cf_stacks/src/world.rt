@@ -1,318 +1,272 @@
-//! The world after each entry.
-ghost use Rattle.std.specs.Prelude.{◌≡◌, [], All, IfOk, find};
-ghost use Rattle.std.specs.Option.{unwrap_or};
-ghost use Rattle.cf_entry.specs.declared.entry.Entry.TheVariants as entry;
-ghost use Rattle.cf_tree.specs.Keys.{put, value_at};
-ghost use Rattle.cf_stacks.specs.Changing.{IsFlatEntry, Steps, TellsNested, told};
-ghost use Rattle.cf_stacks.specs.Fold.{changed_by, done_over, empty_world, exports_ended, exports_turned, fold_of, joined, no_stack, over, phase_over, pins_ended, pins_turned, repinned, set_on, source_for, world_after};
-ghost use Rattle.cf_stacks.specs.Words.{is_going, stack_of_operation};
+//! The world of all stacks, as a journal's entries leave it.
+ghost use Rattle.std.specs.Prelude.{◌≡◌, ◌+◌, ◌<◌, ◌^◌, IfOk, None, OnErr, OnOk, Some, map, option_copied, option_map};
+ghost use Rattle.cf_stacks.specs.Fold.{fold_of, world_after};
+ghost use Rattle.cf_stacks.specs.Room.{HasRoom, KeepsRooms, awaited_with, bare, stepped, with_room};
+ghost use Rattle.cf_stacks.specs.Standing.{stack_in};
+ghost use Rattle.cf_stacks.specs.World.{empty_world, stack_at, stack_of_operation};
 
-use crate::awaited::AnswerRooms;
-use crate::beginning::source_for;
-use crate::ending::{export_ended, export_turned, pin_ended, pin_turned};
-use crate::fault::StepFault;
-use crate::held::KeptSet;
-use crate::pinned::unpin;
-use crate::state::{StackState, Stacks, World};
-use crate::told::{going_stack, join_all, tell};
-use cf_entry::{Begun, Entries, Entry, LaneNames, Phase, Status};
+use crate::ready::Ready;
+use crate::stack::{StackState, Stacks};
+use crate::standing::{Fields, going_in, in_order};
+use cf_entry::{Entries, Entry, LaneNames};
 use cf_export::{Exports, Pins};
-use cf_tree::{Rows, Source, TryClone, Txt};
+use cf_tree::{TryClone, Txt};
 use std::alloc::{AllocError, Global};
+use std::marker::Model;
+use std::mem;
 
-/// Takes the stack of a name out of the map, where from then on one stands of which nothing is
-/// known; where there is none, such a one is given.
-#[tactic(auto, using(crate::proofs::Putting::put_again))]
-pub fn take_out(alloc: Global, stacks: &mut Stacks, name: &Txt) -> StackState
-    ensures stack { result ≡ unwrap_or (value_at name.now stacks.old) no_stack }
-    ensures others { (s : StackState) → put name.now s stacks.new ≡ put name.now s stacks.old }
-{
-    match stacks.replace(name.as_str(), StackState::unknown(alloc)) {
-        Ok(stack) => stack,
-        Err(unknown) => unknown,
-    }
+/// The world that a journal's entries leave, which contracts see as the record of that, with what
+/// there is room for.
+#[derive(Drop)]
+pub struct World {
+    fields: Fields,
+    ready: Option<Ready>,
+    /// No fewer than the calls that are awaited.
+    calls: u64,
 }
 
-/// Puts a stack under its name. After an error nothing is said of the map.
-pub fn put_back(
-    alloc: Global,
-    stacks: &mut Stacks,
-    name: &Txt,
-    stack: StackState,
-) -> Result<(), AllocError>
-    ensures { IfOk result (λ _. stacks.new ≡ put name.now stack stacks.old) }
-{
-    match name.try_clone(alloc) {
-        Ok(name) => stacks.insert(name, stack),
-        Err(failed) => {
-            drop(stack);
-            Err(failed)
-        }
-    }
+impl Model for World {
+    ghost use Rattle.cf_stacks.specs.Room.{Standing};
+
+    ghost Value = { Standing };
+
+    ghost use Rattle.std.specs.Coded.{codes};
+    ghost use Rattle.cf_tree.specs.Datum.{data_code};
+
+    ghost coded = { Prim.hlevel (codes, data_code) };
+
+    ghost use Rattle.cf_stacks.specs.Worlds.{IsStanding, standing_of};
+
+    ghost view = { standing_of };
+
+    ghost invariant = { IsStanding };
 }
 
-/// Changes the pins, exports and claims as the end of an operation says. After an error nothing is
-/// said of them.
-fn end_going(
-    alloc: Global,
-    stacks: &Stacks,
-    number: u64,
-    status: Status,
-    pins: &mut Pins,
-    exports: &mut Exports,
-    claims: &mut Pins,
-) -> Result<(), AllocError>
-    ensures { IfOk result (λ _. (pins.new ≡ over (λ name s all. pins_ended name status s all) (find (λ s. is_going number s.1) stacks.now) pins.old)
-        × (exports.new ≡ over (λ name s all. exports_ended name status s all) (find (λ s. is_going number s.1) stacks.now) exports.old)
-        × (claims.new ≡ over (λ name s all. repinned name [] all) (find (λ s. is_going number s.1) stacks.now) claims.old)) }
+/// Whether so many entries more can be counted, besides the outcomes of the calls that are awaited.
+fn leaves_places(place: u64, calls: u64, more: u64) -> Result<(), AllocError>
+    ensures { IfOk result (λ _. place + calls + more < 2 ^ 64) }
 {
-    if let Some((name, stack)) = going_stack(stacks, number) {
-        pin_ended(alloc, pins, name, status, stack)?;
-        export_ended(alloc, exports, name, status, stack)?;
-        unpin(claims, name);
-    }
+    let count = place.checked_add(calls).ok_or(AllocError)?;
+    count.checked_add(more).ok_or(AllocError)?;
     Ok(())
-}
-
-/// Changes the pins and exports as a later phase says. After an error nothing is said of them.
-fn turn_going(
-    alloc: Global,
-    stacks: &Stacks,
-    number: u64,
-    phase: Phase,
-    pins: &mut Pins,
-    exports: &mut Exports,
-) -> Result<(), AllocError>
-    ensures { IfOk result (λ _. (pins.new ≡ over (λ name s all. pins_turned name phase s all) (find (λ s. is_going number s.1) stacks.now) pins.old)
-        × (exports.new ≡ over (λ name s all. exports_turned name phase s all) (find (λ s. is_going number s.1) stacks.now) exports.old)) }
-{
-    if let Some((name, stack)) = going_stack(stacks, number) {
-        pin_turned(alloc, pins, name, phase, stack)?;
-        export_turned(alloc, exports, name, phase, stack)?;
-    }
-    Ok(())
-}
-
-/// The change set of an entry.
-fn kept_set(
-    alloc: Global,
-    number: u64,
-    name: &Txt,
-    source: &Source,
-    rows: &Rows,
-    outputs: bool,
-) -> Result<KeptSet, AllocError>
-    ensures { IfOk result (λ s. s ≡ record { number = number; source = source_for name.now 0 source.now; rows = rows.now; outputs = outputs }) }
-{
-    let rows = rows.try_clone(alloc)?;
-    match source_for(alloc, name, 0, source) {
-        Ok(source) => Ok(KeptSet {
-            number,
-            source,
-            rows,
-            outputs,
-        }),
-        Err(failed) => Err(failed),
-    }
 }
 
 impl World {
     /// The world before the first entry; it takes no memory.
     pub fn new(alloc: Global) -> World
-        ensures { result ≡ empty_world }
+        ensures { result ≡ bare empty_world }
     {
         World {
-            stacks: Stacks::new(alloc),
-            exports: Exports::new(alloc),
-            pins: Pins::new(alloc),
-            claims: Pins::new(alloc),
-            lanes: LaneNames::new(alloc),
-            epoch: 0,
-            operation: 0,
-            set: 0,
-            token: 0,
-            place: 0,
+            fields: Fields {
+                stacks: Stacks::new(alloc),
+                exports: Exports::new(alloc),
+                pins: Pins::new(alloc),
+                claims: Pins::new(alloc),
+                lanes: LaneNames::new(alloc),
+                epoch: 0,
+                operation: 0,
+                set: 0,
+                token: 0,
+                place: 0,
+            },
             ready: None,
-            rooms: AnswerRooms::new(alloc),
+            calls: 0,
         }
     }
 
-    /// Opens the world anew over these lanes; every stack hears of it. After an error nothing is
-    /// said of the world.
-    fn open(
-        &mut self,
-        alloc: Global,
-        entry: &Entry,
-        epoch: u64,
-        lanes: &LaneNames,
-    ) -> Result<(), AllocError>
-        ensures { IfOk result (λ _. self.new ≡ record self.old { epoch = epoch; lanes = lanes.now; stacks = joined entry.now self.old.stacks }) }
+    /// The stacks, by name.
+    pub fn stacks(&self) -> &Stacks
+        ensures { map stack_in result.now ≡ self.now.world.stacks }
     {
-        self.lanes = lanes.try_clone(alloc)?;
-        self.epoch = epoch;
-        join_all(alloc, entry, &mut self.stacks)
+        &self.fields.stacks
     }
 
-    /// Writes down that an operation entered a phase. After an error nothing is said of the world.
-    #[tactic(auto, using(crate::proofs::Over::over_turned))]
-    fn enter_phase(
-        &mut self,
-        alloc: Global,
-        place: u64,
-        entry: &Entry,
-        number: u64,
-        phase: Phase,
-    ) -> Result<(), AllocError>
-        ensures { IfOk result (λ _. self.new ≡ over (λ name s y. phase_over name phase s y) (stack_of_operation number self.old)
-            (record self.old { stacks = told place number entry.now self.old.stacks })) }
+    /// The stack of a name.
+    pub fn stack(&self, name: &str) -> Option<&StackState>
+        ensures { option_map (λ s. s.stack) (option_copied result) ≡ stack_at name.now self.now.world }
     {
-        turn_going(
-            alloc,
-            &self.stacks,
-            number,
-            phase,
-            &mut self.pins,
-            &mut self.exports,
-        )?;
-        tell(alloc, place, number, entry, &mut self.stacks)
+        self.fields.stacks.get(name)
     }
 
-    /// Writes down that an operation ended. After an error nothing is said of the world.
-    #[tactic(auto, using(crate::proofs::Over::over_ended))]
-    fn end_operation(
-        &mut self,
-        alloc: Global,
-        place: u64,
-        entry: &Entry,
-        number: u64,
-        status: Status,
-    ) -> Result<(), AllocError>
-        ensures { IfOk result (λ _. self.new ≡ over (λ name s y. done_over name status s y) (stack_of_operation number self.old)
-            (record self.old { stacks = told place number entry.now self.old.stacks })) }
+    /// The stack, with its name, on which the operation of a number is in progress.
+    pub fn stack_of_operation(&self, number: u64) -> Option<&(Txt, StackState)>
+        ensures { option_map stack_in (option_copied result) ≡ stack_of_operation number self.now.world }
     {
-        end_going(
-            alloc,
-            &self.stacks,
-            number,
-            status,
-            &mut self.pins,
-            &mut self.exports,
-            &mut self.claims,
-        )?;
-        tell(alloc, place, number, entry, &mut self.stacks)
+        going_in(self.fields.stacks.as_slice(), number)
     }
 
-    /// Keeps a change set of the stack of a name. After an error nothing is said of the world.
-    fn keep_set(
-        &mut self,
-        alloc: Global,
-        place: u64,
-        name: &Txt,
-        set: KeptSet,
-    ) -> Result<(), AllocError>
-        ensures { IfOk result (λ _. self.new ≡ set_on place name.now set self.old) }
+    /// The exports of all stacks, by name.
+    pub fn exports(&self) -> &Exports
+        ensures { result.now ≡ self.now.world.exports }
     {
-        self.set = set.number;
-        let mut stack = take_out(alloc, &mut self.stacks, name);
-        match stack.review(alloc, place, set) {
-            Ok(()) => {
-                put_back(alloc, &mut self.stacks, name, stack)?;
+        &self.fields.exports
+    }
+
+    /// Which stack pins which export.
+    pub fn pins(&self) -> &Pins
+        ensures { result.now ≡ self.now.world.pins }
+    {
+        &self.fields.pins
+    }
+
+    /// Which stack claims which export name.
+    pub fn claims(&self) -> &Pins
+        ensures { result.now ≡ self.now.world.claims }
+    {
+        &self.fields.claims
+    }
+
+    /// The lanes of the last opening, with their types.
+    pub fn lanes(&self) -> &LaneNames
+        ensures { result.now ≡ self.now.world.lanes }
+    {
+        &self.fields.lanes
+    }
+
+    /// The number of the last opening.
+    pub fn epoch(&self) -> u64
+        ensures { result ≡ self.now.world.epoch }
+    {
+        self.fields.epoch
+    }
+
+    /// The number of the last operation.
+    pub fn operation(&self) -> u64
+        ensures { result ≡ self.now.world.operation }
+    {
+        self.fields.operation
+    }
+
+    /// The number of the last change set.
+    pub fn set(&self) -> u64
+        ensures { result ≡ self.now.world.set }
+    {
+        self.fields.set
+    }
+
+    /// The number of the last call.
+    pub fn token(&self) -> u64
+        ensures { result ≡ self.now.world.token }
+    {
+        self.fields.token
+    }
+
+    /// Gives up the room for an entry.
+    fn give_up(&mut self)
+        ensures { self.new ≡ record self.old { ready = None } }
+    {
+        drop(self.ready.take());
+    }
+
+    /// Makes room for the next outcome of a call that is open already, where the entry is its intent.
+    /// After an error the world is as it was, and no call has lost its room.
+    fn await_again(&mut self, alloc: Global, entry: &Entry) -> Result<(), AllocError>
+        requires { self.old.ready ≡ None }
+        ensures ok { OnOk result (self.new ≡ record self.old { awaited = awaited_with entry.now self.old }) }
+        ensures err { OnErr result (self.new ≡ self.old) }
+    {
+        match entry {
+            Entry::Intent { token, .. } => {
+                leaves_places(self.fields.place, self.calls, 1)?;
+                in_order(&self.fields.stacks);
+                self.fields.await_again(alloc, *token)?;
+                self.calls += 1;
+                Ok(())
+            }
+            _ => Ok(()),
+        }
+    }
+
+    /// Prepares an entry. After an error the world is as it was.
+    fn prepare(&mut self, alloc: Global, entry: &Entry) -> Result<(), AllocError>
+        requires { self.old.ready ≡ None }
+        ensures ok { OnOk result (self.new ≡ record self.old { ready = Some entry.now }) }
+        ensures err { OnErr result (self.new ≡ self.old) }
+    {
+        leaves_places(self.fields.place, self.calls, 2)?;
+        let copy = entry.try_clone(alloc)?;
+        match self.fields.prepare(alloc, entry) {
+            Ok(work) => {
+                drop(mem::replace(&mut self.ready, Some(Ready { entry: copy, work })));
                 Ok(())
             }
             Err(failed) => {
-                drop(stack);
+                drop(copy);
                 Err(failed)
             }
         }
     }
 
-    /// Changes the world as an entry at a place says. After an error nothing is said of the world.
-    fn change(&mut self, alloc: Global, place: u64, entry: &Entry) -> Result<(), StepFault>
-        ensures { Steps (IsFlatEntry entry.now) (λ _. self.new ≡ changed_by place self.old entry.now) result }
-    {
-        match entry {
-            Entry::Opened { epoch, lanes } => self.open(alloc, entry, *epoch, lanes)?,
-            Entry::Begin {
-                number,
-                stack,
-                kind,
-            } => self.begin(alloc, place, entry, *number, stack, kind)?,
-            Entry::Kept {
-                number,
-                path: _,
-                physical: _,
-                why: _,
-            } => tell(alloc, place, *number, entry, &mut self.stacks)?,
-            Entry::Intent {
-                number,
-                token,
-                lane: _,
-                path: _,
-                request: _,
-            } => {
-                self.token = *token;
-                tell(alloc, place, *number, entry, &mut self.stacks)?
-            }
-            Entry::Outcome {
-                number,
-                token: _,
-                answer: _,
-                before: _,
-                after: _,
-            } => tell(alloc, place, *number, entry, &mut self.stacks)?,
-            Entry::Phase {
-                number,
-                phase,
-                cause: _,
-            } => self.enter_phase(alloc, place, entry, *number, *phase)?,
-            Entry::Done {
-                number,
-                status,
-                failed: _,
-            } => self.end_operation(alloc, place, entry, *number, *status)?,
-            Entry::ChangeSet {
-                number,
-                stack,
-                source,
-                rows,
-                outputs,
-            } => {
-                let set = kept_set(alloc, *number, stack, source, rows, *outputs)?;
-                self.keep_set(alloc, place, stack, set)?
-            }
-        }
-        Ok(())
-    }
-
-    /// The world after one more entry, whatever room was made. After an error nothing is said of the world.
+    /// Makes room for a step over this entry, so that the step itself takes no memory, in place of what
+    /// was made so for another entry. With an intent there is then room for each outcome that may
+    /// follow it, within the bounds on answers: an id of 1,024 bytes, and attributes that encode to
+    /// 524,288. That room stays until an outcome of the call is stepped over, whatever other entries
+    /// are stepped over before. Before a call is repeated, this makes room for its next outcome once
+    /// more, by the intent that was stepped over already.
+    ///
+    /// After an error there is no room for an entry; the world is as it was, and no call has lost its
+    /// room.
     ///
     /// # Errors
     ///
-    /// `Nested` comes exactly where the entry begins a creation or an update by a source whose root
-    /// template holds a nested stack; `NoMemory` also where the number of entries passes 64 bits.
-    #[tactic(auto, using(crate::proofs::Over::place_kept))]
-    pub(crate) fn advance(&mut self, alloc: Global, entry: &Entry) -> Result<(), StepFault>
-        ensures world { IfOk result (λ _. self.new ≡ world_after self.old entry.now) }
-        ensures nested { TellsNested (IsFlatEntry entry.now) result }
+    /// For want of memory; and where the number of entries comes to 2^63.
+    pub fn room_for(&mut self, alloc: Global, entry: &Entry) -> Result<(), AllocError>
+        ensures ok { OnOk result (self.new ≡ with_room entry.now self.old) }
+        ensures err { OnErr result (KeepsRooms self.old entry.now self.new) }
     {
-        match self.place.checked_add(1) {
-            Some(place) => {
-                self.change(alloc, place, entry)?;
-                self.place = place;
-                self.give_up_rooms(alloc);
+        self.give_up();
+        self.await_again(alloc, entry)?;
+        self.prepare(alloc, entry)
+    }
+
+    /// Steps over an entry for which there is room; it takes no memory.
+    pub fn step(&mut self, entry: Entry)
+        requires { HasRoom self.old entry }
+        ensures { self.new ≡ stepped self.old entry }
+    {
+        match self.fields.awaited_call(&entry) {
+            Some((number, token)) => {
+                drop(self.ready.take());
+                in_order(&self.fields.stacks);
+                self.fields.step_answer(number, token, entry);
+                self.calls -= 1;
+            }
+            None => match self.ready.take() {
+                Some(ready) => {
+                    self.fields.apply(entry, ready);
+                    self.calls += 1;
+                }
+                None => unreachable!(),
+            },
+        }
+    }
+}
+
+impl World {
+    /// Makes room for an entry and steps over it. After an error the world is as it was.
+    #[tactic(auto, using(crate::proofs::Folded::room_made))]
+    fn take(&mut self, alloc: Global, entry: Entry) -> Result<(), AllocError>
+        ensures { IfOk result (λ _. self.new.world ≡ world_after self.old.world entry) }
+    {
+        match self.room_for(alloc, &entry) {
+            Ok(()) => {
+                self.step(entry);
                 Ok(())
             }
-            None => Err(StepFault::NoMemory),
+            Err(failed) => {
+                drop(entry);
+                Err(failed)
+            }
         }
     }
 
-    /// The world after these entries more. After an error nothing is said of the world.
-    fn advance_over(&mut self, alloc: Global, entries: &Entries) -> Result<(), StepFault>
-        ensures world { IfOk result (λ _. self.new ≡ fold_of self.old entries.now) }
-        ensures nested { TellsNested (All IsFlatEntry entries.now) result }
+    /// Steps over entries. After an error the world is as some of them leave it.
+    #[tactic(auto, using(crate::proofs::Folded::folded_more))]
+    fn take_all(&mut self, alloc: Global, entries: Vec<Entry>) -> Result<(), AllocError>
+        ensures { IfOk result (λ _. self.new.world ≡ fold_of self.old.world entries.items) }
     {
-        for entry in entries.as_slice() {
-            self.advance(alloc, entry)?;
+        for entry in entries {
+            self.take(alloc, entry)?;
         }
         Ok(())
     }
@@ -322,19 +276,16 @@ impl World {
 ///
 /// # Errors
 ///
-/// `Nested` comes only where one of the entries begins a creation or an update by a source whose
-/// root template holds a nested stack, and with such an entry there is no world; `NoMemory` also
-/// where the number of entries passes 64 bits.
-pub fn fold(alloc: Global, entries: &Entries) -> Result<World, StepFault>
-    ensures world { IfOk result (λ world. world ≡ fold_of empty_world entries.now) }
-    ensures nested { TellsNested (All IsFlatEntry entries.now) result }
+/// For want of memory; and where the number of entries comes to 2^63.
+pub fn fold(alloc: Global, entries: Entries) -> Result<World, AllocError>
+    ensures { IfOk result (λ world. world.world ≡ fold_of empty_world entries) }
 {
     let mut world = World::new(alloc);
-    match world.advance_over(alloc, entries) {
+    match world.take_all(alloc, entries.into_vec()) {
         Ok(()) => Ok(world),
-        Err(fault) => {
+        Err(failed) => {
             drop(world);
-            Err(fault)
+            Err(failed)
         }
     }
 }

@@ -1,5 +1,5 @@
 use Rattle.std.proofs.Common.{◌≡◌, drop, filter, fold, not}
-use Rattle.cf_stacks.specs.Fold.{put_seen}
+use Rattle.cf_stacks.specs.Begin.{put_seen}
 use Rattle.cf_stacks.proofs.seen.see_each.Given as goal
 
 abbrev pub invariant-loop-held : goal.invariant-loop-held
