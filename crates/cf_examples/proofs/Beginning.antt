@@ -4,13 +4,11 @@ use Rattle.std.specs.Str.{bytes_eq}
 use Rattle.std.specs.Prelude.{if◌then◌else◌, not}
 use Rattle.cf_tree.specs.Keys.{value_at}
 use Rattle.cf_tree.specs.declared.source.Source.{Source}
-use Rattle.cf_stacks.specs.declared.state.StackState.{StackState}
-use Rattle.cf_stacks.specs.declared.state.World.{World}
-use Rattle.cf_stacks.specs.Words.{stack_at}
+use Rattle.cf_stacks.specs.World.{StackState, World, stack_at}
 use Rattle.cf_plan.specs.Follow.{HasLanes}
+use Rattle.cf_plan.specs.Accept.{ImportsWhatItUses, with_imports, exports_of_others, without_import}
 use Rattle.cf_desired.specs.Seeing.{Seen}
 use Rattle.cf_desired.specs.Plan.{plan_of}
-use Rattle.cf_plan.specs.Accept.{ImportsWhatItUses, with_imports, exports_of_others, without_import}
 
 nothing_at : (n v : List ℕ) (imports : List (List ℕ × List ℕ)) → imports ≡ [] → value_at n imports ≡ Some v → ⊥
 nothing_at n v imports none e = let z = sym (ap (value_at n) none) ∙ e in cc

@@ -7,18 +7,15 @@ use Rattle.cf_handler.specs.declared.settled.Settlement.{Settlement}
 use Rattle.cf_handler.specs.Lane.{live_of, settlement_of}
 use Rattle.cf_handler.specs.Fence.{Flying, Raised, SettledBy, FlyingOn}
 use Rattle.cf_stacks.specs.declared.held.Pending.{Pending}
-use Rattle.cf_stacks.specs.declared.state.StackState.{StackState}
-use Rattle.cf_stacks.specs.declared.state.World.{World}
-use Rattle.cf_stacks.specs.Operation.{Call}
-use Rattle.cf_stacks.specs.Words.{stack_at}
-use Rattle.cf_tree.specs.Named.{all_differ}
+use Rattle.cf_stacks.specs.World.{StackState, World, stack_at, empty_world, known_stack}
 use Rattle.cf_stacks.specs.Status.{Forward, is_in_progress}
-use Rattle.cf_stacks.specs.Fold.{empty_world, fold_of, world_after, known_stack}
+use Rattle.cf_stacks.specs.Fold.{fold_of, world_after}
 use Rattle.cf_plan.specs.Forward.{In, here, HasFailed, AllDone, IsDone, is_made}
 use Rattle.cf_plan.specs.Follow.{MayFollow, MayRepeat, IsLaneFor}
 use Rattle.cf_plan.specs.Lanes.{Lane, IsAnswered}
 use Rattle.cf_plan.specs.Agrees.{Ties, FitsCall, IsAccounted}
 use Rattle.cf_plan.specs.Life.{Life, Lease, MayHappen, IsLife, AreLeased, Holds}
+use Rattle.cf_tree.specs.Named.{all_differ}
 use Rattle.cf_plan.specs.Life as life
 use Rattle.cf_examples.specs.Given.{file, file_attrs, schemas}
 use Rattle.cf_examples.specs.FirstResource.{opened, begun, intended, done, web}
@@ -169,14 +166,11 @@ goes_on = (opening_again, (raising_again, (repeating, (acting, (settling, (endin
 abbrev f1 : Lane
 f1 = files_with [] (late ∷ []) 1
 
-late_call : Call
-late_call = record { number = 1; token = 1; lane = codes "f1"; path = codes "Web"; request = late.request }
-
 fits : FitsCall crashed.entries world_3 (codes "f1") 1 late.request
-unfolding computing late_call
+unfolding computing
 fits = record {
   number = lit≤ tt;
-  written = λ c e. subst (λ q. (q.lane ≡ codes "f1") × (q.request ≡ late.request)) (some_is {a = late_call} e) (refl, refl);
+  written = λ c e. subst (λ q. (q.lane ≡ codes "f1") × (q.request ≡ late.request)) (some_is {a = pending} e) (refl, refl);
   is_open = λ p e. subst (λ q. (q.lane ≡ codes "f1") × (q.request ≡ late.request)) (some_is {a = pending} e) (refl, refl);
 }
 

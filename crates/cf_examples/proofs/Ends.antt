@@ -8,7 +8,16 @@ use Rattle.cf_tree.specs.declared.request.Request.TheVariants as request
 use Rattle.cf_tree.specs.declared.code.Code.TheVariants as code
 use Rattle.cf_entry.specs.declared.entry.Reply.TheVariants as reply
 use Rattle.cf_stacks.specs.declared.held.HeldStatus.TheVariants as held
-use Rattle.cf_stacks.specs.Operation.{Call, Response}
+use Rattle.cf_stacks.specs.declared.call.Call.{Call}
+use Rattle.cf_stacks.specs.declared.call.Settled.TheVariants as settled
+use Rattle.cf_entry.specs.declared.status.Status.TheVariants as status
+use Rattle.cf_stacks.specs.Operation.{Response}
+use Rattle.cf_stacks.specs.Words.{current_at}
+use Rattle.cf_stacks.specs.World.{StackState, empty_world, known_stack}
+use Rattle.cf_stacks.specs.Fold.{fold_of}
+use Rattle.cf_stacks.specs.Begin.{source_for}
+use Rattle.cf_plan.specs.Forward.{In, here, there}
+use Rattle.cf_plan.specs.Ends.{IsLive, Sees, right_at, IsWholeLive, IsComplete, IsRestored, IsCleared, IsBlamedFor, IsBlamed}
 use Rattle.cf_examples.specs.RollbackFailed as unblamed
 use Rattle.cf_examples.proofs.Retained as deleted
 use Rattle.cf_examples.proofs.Skipped as unskipped
@@ -17,11 +26,6 @@ use Rattle.cf_handler.specs.Lane.{Live}
 use Rattle.cf_desired.specs.Seeing.{Seen}
 use Rattle.cf_desired.specs.Whole.{Right, Whole}
 use Rattle.cf_stacks.specs.declared.held.Held.{Held}
-use Rattle.cf_stacks.specs.Words.{current_at}
-use Rattle.cf_stacks.specs.declared.state.StackState.{StackState}
-use Rattle.cf_stacks.specs.Fold.{empty_world, fold_of, known_stack, source_for}
-use Rattle.cf_plan.specs.Forward.{In, here, there}
-use Rattle.cf_plan.specs.Ends.{IsLive, Sees, right_at, IsWholeLive, IsComplete, IsRestored, IsCleared, IsBlamedFor, IsBlamed}
 use Rattle.cf_examples.specs.Given.{file, note, file_props, file_attrs, note_props, note_attrs}
 use Rattle.cf_examples.specs.Replacement.{second}
 use Rattle.cf_examples.specs.Ends.{files_replaced, notes_replaced, files_restored, lanes_replaced, lanes_restored, IsPromised, ReplacementIsComplete, LateEffectIsRestored, RollbackIsRestored, DeletionIsCleared, FailuresAreBlamed, FailedRollbackIsBlamed, FailedDeletionIsBlamed}
@@ -165,20 +169,20 @@ abbrev reply_3 : Response
 reply_3 = record { token = 3; answer = reply.Failed code.AccessDenied; before = 0; after = 1 }
 
 abbrev call_2 : Call
-call_2 = record { number = 1; token = 2; lane = codes "r1"; path = codes "B"; request = request.Create note (note_props (codes "b") (codes "u")) }
+call_2 = record { number = 1; token = 2; lane = codes "r1"; path = codes "B"; request = request.Create note (note_props (codes "b") (codes "u")); status = status.CreateInProgress; fresh = false; doubts = 0; answer = Some (settled.Failed code.ServiceLimitExceeded) }
 
 abbrev call_3 : Call
-call_3 = record { number = 1; token = 3; lane = codes "f1"; path = codes "A"; request = request.Delete (codes "f1:1") }
+call_3 = record { number = 1; token = 3; lane = codes "f1"; path = codes "A"; request = request.Delete (codes "f1:1"); status = status.RollbackInProgress; fresh = true; doubts = 0; answer = Some (settled.Failed code.AccessDenied) }
 
 -- who is blamed: each path has a refused call of the operation, and the count rose
 abbrev stack_unblamed : StackState
 stack_unblamed = known_stack (codes "s") (fold_of empty_world unblamed.run)
 
-blamed : IsBlamed stack_unblamed.entries 1 (codes "A" ∷ codes "B" ∷ [])
+blamed : IsBlamed stack_unblamed (codes "A" ∷ codes "B" ∷ [])
 unfolding computing
 blamed = record {
   some = λ e. true≢false (ap is_none e);
-  each = λ path i. either (IsBlamedFor stack_unblamed.entries 1) {a = codes "A"} {b = codes "B"}
+  each = λ path i. either (IsBlamedFor stack_unblamed) {a = codes "A"} {b = codes "B"}
       (record { reply = reply_3; call = call_3; of_call = refl; at_path = refl; stands = there (there here); failed = refl; rose = λ _. lit≤ tt })
       (record { reply = reply_2; call = call_2; of_call = refl; at_path = refl; stands = there here; failed = refl; rose = λ _. lit≤ tt }) path i;
 }
@@ -192,12 +196,12 @@ abbrev reply_doubted : Response
 reply_doubted = record { token = 2; answer = reply.Doubt; before = 0; after = 1 }
 
 abbrev call_doubted : Call
-call_doubted = record { number = 2; token = 2; lane = codes "f1"; path = codes "A"; request = request.Update (codes "f1:1") (file_props (codes "a") (codes "y")) }
+call_doubted = record late.call_2 { fresh = false; doubts = 3 }
 
-doubted : IsBlamed unskipped.stack_15_s.entries 2 (codes "A" ∷ [])
+doubted : IsBlamed unskipped.stack_15_s (codes "A" ∷ [])
 doubted = record {
   some = λ e. true≢false (ap is_none e);
-  each = λ path i. only (IsBlamedFor unskipped.stack_15_s.entries 2) {a = codes "A"} (record { reply = reply_doubted; call = call_doubted; of_call = refl; at_path = refl; stands = here; failed = refl; rose = λ _. lit≤ tt }) path i;
+  each = λ path i. only (IsBlamedFor unskipped.stack_15_s) {a = codes "A"} (record { reply = reply_doubted; call = call_doubted; of_call = refl; at_path = refl; stands = here; failed = refl; rose = λ _. lit≤ tt }) path i;
 }
 
 pub failed_rollback_is_blamed : FailedRollbackIsBlamed
@@ -207,12 +211,12 @@ abbrev reply_lost : Response
 reply_lost = record { token = 1; answer = reply.Doubt; before = 6; after = 7 }
 
 abbrev call_lost : Call
-call_lost = record { number = 1; token = 1; lane = codes "f1"; path = codes "A"; request = request.Create file (file_props (codes "a") (codes "x")) }
+call_lost = record late.call_1 { fresh = false; doubts = 3 }
 
-lost : IsBlamed undeleted.stack_16_s.entries 2 (codes "A" ∷ [])
+lost : IsBlamed undeleted.stack_16_s (codes "A" ∷ [])
 lost = record {
   some = λ e. true≢false (ap is_none e);
-  each = λ path i. only (IsBlamedFor undeleted.stack_16_s.entries 2) {a = codes "A"} (record { reply = reply_lost; call = call_lost; of_call = refl; at_path = refl; stands = here; failed = refl; rose = λ _. lit≤ tt }) path i;
+  each = λ path i. only (IsBlamedFor undeleted.stack_16_s) {a = codes "A"} (record { reply = reply_lost; call = call_lost; of_call = refl; at_path = refl; stands = here; failed = refl; rose = λ _. lit≤ tt }) path i;
 }
 
 pub failed_deletion_is_blamed : FailedDeletionIsBlamed

@@ -9,13 +9,12 @@ use Rattle.cf_tree.specs.Keys.{bytes_lt, value_at}
 use Rattle.cf_tree.specs.Lists.{first_in}
 use Rattle.cf_schema.specs.declared.described.Schema.{Schema}
 use Rattle.cf_stacks.specs.declared.held.Held.{Held}
-use Rattle.cf_stacks.specs.declared.state.StackState.{StackState}
-use Rattle.cf_stacks.specs.declared.state.World.{World}
+use Rattle.cf_stacks.specs.World.{StackState, World}
 use Rattle.cf_stacks.specs.Words.{current_at}
+use Rattle.cf_plan.specs.Forward.{IsDone, is_made, is_updated, is_right, Finding, Bad, Later, Known, evaluated_at, was_updated_at, wanted_paths, plan_now, first_failing, lost_exports, HasFailed, IsBadPath, IsBadOutput}
 use Rattle.cf_desired.specs.declared.flaw.Flaw.{Flaw}
 use Rattle.cf_desired.specs.declared.wanted.Inner.{Inner}
 use Rattle.cf_export.specs.declared.Export.{Export}
-use Rattle.cf_plan.specs.Forward.{IsDone, is_made, is_updated, is_right, Finding, Bad, Later, Known, evaluated_at, was_updated_at, wanted_paths, plan_now, first_failing, lost_exports, HasFailed, IsBadPath, IsBadOutput}
 use Rattle.cf_examples.proofs.Lists.{each_passes}
 
 -- the text of a property
@@ -32,9 +31,9 @@ not_done_new p s made updated held (is_right h i needs e sure right) = absurd (c
 pub not_done_other : (p : List ℕ) (s : StackState) (test : List (List ℕ × Data) → Bool) (h : Held) (k : List ℕ) (props : List (List ℕ × Data)) → current_at p s.made ≡ None → was_updated_at p s ≡ false → current_at p s.held ≡ Some h → evaluated_at p s ≡ Known k props → test h.props ≡ true → test props ≡ false → ¬ IsDone s p
 not_done_other p s test h k props made updated held now old new (is_made r e) = absurd (cc)
 not_done_other p s test h k props made updated held now old new (is_updated e) = absurd (true≢false (sym e ∙ updated))
-not_done_other p s test h k props made updated held now old new (is_right {k = k'} g i needs e sure right) =
+not_done_other p s test h k props made updated held now old new (is_right g i needs e sure right) =
     let same : h ≡ g = cc in
-    let equal : Known k props ≡ Known k' g.props = sym now ∙ right in
+    let equal : Known k props ≡ Known g.kind g.props = sym now ∙ right in
     let props_equal : props ≡ g.props = cc in
     absurd (true≢false (sym old ∙ ap (λ (q : Held). test q.props) same ∙ ap test (sym props_equal) ∙ new))
 

@@ -1,17 +1,18 @@
 -- A call breaks off after it acted: it is repeated and answers; then another resource is refused, and the first is given back what it had.
-use Rattle.std.proofs.Common.{◌≡◌, refl, [], ◌∷◌, ◌++◌, Some, false, inl, inr, ap, lit≤}
+use Rattle.std.proofs.Common.{◌≡◌, refl, [], ◌∷◌, ◌++◌, Some, false, inl, inr, ap, lit≤, None, true}
 use Rattle.std.specs.Prelude.{codes, take, drop}
 use Rattle.cf_tree.specs.declared.request.Request.TheVariants as request
 use Rattle.cf_tree.specs.declared.code.Code.TheVariants as code
 use Rattle.cf_entry.specs.declared.turn.Reason.TheVariants as reason
+use Rattle.cf_stacks.specs.declared.call.Call.{Call}
+use Rattle.cf_stacks.specs.declared.call.Settled.TheVariants as settled
 use Rattle.cf_stacks.specs.declared.held.Held.{Held}
-use Rattle.cf_stacks.specs.declared.state.World.{World}
-use Rattle.cf_stacks.specs.declared.state.StackState.{StackState}
-use Rattle.cf_stacks.specs.Fold.{empty_world, source_for, no_stack}
+use Rattle.cf_stacks.specs.World.{World, StackState, empty_world, no_stack}
+use Rattle.cf_stacks.specs.Begin.{source_for}
 use Rattle.cf_stacks.specs.Status.{Forward, Back, BackClean}
-use Rattle.cf_schema.specs.declared.changed.Difference.TheVariants.{Same, Update, Replace}
 use Rattle.cf_plan.specs.Forward.{here, there, HasFailed, IsReady, AllDone, IsDone, is_made, is_updated}
 use Rattle.cf_plan.specs.Follow.{MayFollow}
+use Rattle.cf_schema.specs.declared.changed.Difference.TheVariants.{Same, Update, Replace}
 use Rattle.cf_examples.specs.Given.{schemas, file, note, file_props, note_props, file_attrs, note_attrs, lane_pair, report_of}
 use Rattle.cf_examples.proofs.Computing.{computing}
 use Rattle.cf_examples.proofs.Lists.{in_none, only, either}
@@ -57,8 +58,11 @@ may_intended_a : MayFollow schemas world_2 [] intended_a
 unfolding computing
 may_intended_a = ((codes "s"), stack_2_s, Forward, refl, refl, record { next = refl; free = refl; home = refl; fits = refl; no_repeat = refl; chosen = (sound_2, ready_2_A, not_done_new (codes "A") stack_2_s refl refl refl, (refl, tt)) })
 
+abbrev pub call_1 : Call
+call_1 = record { number = 1; token = 1; lane = (codes "f1"); path = (codes "A"); request = (request.Create file (file_props (codes "a") (codes "x"))); status = status.CreateInProgress; fresh = true; doubts = 0; answer = None }
+
 abbrev stack_3_s : StackState
-stack_3_s = record stack_2_s { tokens = (record { token = 1; path = (codes "A"); lane = (codes "f1"); request = (request.Create file (file_props (codes "a") (codes "x"))) } ∷ []); events = stack_2_s.events ++ (codes "event 3 A CREATE_IN_PROGRESS") ∷ []; entries = stack_2_s.entries ++ intended_a ∷ [] }
+stack_3_s = record stack_2_s { tokens = (record { token = 1; path = (codes "A"); lane = (codes "f1"); request = (request.Create file (file_props (codes "a") (codes "x"))) } ∷ []); events = stack_2_s.events ++ (codes "event 3 A CREATE_IN_PROGRESS") ∷ []; entries = stack_2_s.entries ++ intended_a ∷ []; ledger = (call_1 ∷ []) }
 
 abbrev world_3 : World
 world_3 = record world_2 { stacks = (((codes "s"), stack_3_s) ∷ []); token = 1; place = 3 }
@@ -71,7 +75,7 @@ abbrev a_1 : Held
 a_1 = record { path = (codes "A"); kind = file; physical = (codes "f1:1"); props = (file_props (codes "a") (codes "x")); attrs = (file_attrs (codes "f1:1") 1 (codes "a") (codes "x")); needs = []; deletion = deletion.Delete; replace = replace.Delete; status = held.CreateComplete; unsure = false; superseded = false }
 
 abbrev stack_4_s : StackState
-stack_4_s = record stack_3_s { made = (a_1 ∷ []); tokens = []; events = stack_3_s.events ++ (codes "event 4 A CREATE_COMPLETE") ∷ []; entries = stack_3_s.entries ++ made_a ∷ [] }
+stack_4_s = record stack_3_s { made = (a_1 ∷ []); tokens = []; events = stack_3_s.events ++ (codes "event 4 A CREATE_COMPLETE") ∷ []; entries = stack_3_s.entries ++ made_a ∷ []; ledger = (record call_1 { answer = Some settled.Success } ∷ []) }
 
 abbrev world_4 : World
 world_4 = record world_3 { stacks = (((codes "s"), stack_4_s) ∷ []); place = 4 }
@@ -88,8 +92,11 @@ may_intended_b : MayFollow schemas world_4 [] intended_b
 unfolding computing
 may_intended_b = ((codes "s"), stack_4_s, Forward, refl, refl, record { next = refl; free = refl; home = refl; fits = refl; no_repeat = refl; chosen = (sound_4, ready_4_B, not_done_new (codes "B") stack_4_s refl refl refl, (refl, tt)) })
 
+abbrev pub call_2 : Call
+call_2 = record { number = 1; token = 2; lane = (codes "r1"); path = (codes "B"); request = (request.Create note (note_props (codes "b") (codes "u"))); status = status.CreateInProgress; fresh = true; doubts = 0; answer = None }
+
 abbrev stack_5_s : StackState
-stack_5_s = record stack_4_s { tokens = (record { token = 2; path = (codes "B"); lane = (codes "r1"); request = (request.Create note (note_props (codes "b") (codes "u"))) } ∷ []); events = stack_4_s.events ++ (codes "event 5 B CREATE_IN_PROGRESS") ∷ []; entries = stack_4_s.entries ++ intended_b ∷ [] }
+stack_5_s = record stack_4_s { tokens = (record { token = 2; path = (codes "B"); lane = (codes "r1"); request = (request.Create note (note_props (codes "b") (codes "u"))) } ∷ []); events = stack_4_s.events ++ (codes "event 5 B CREATE_IN_PROGRESS") ∷ []; entries = stack_4_s.entries ++ intended_b ∷ []; ledger = (record call_1 { answer = Some settled.Success } ∷ call_2 ∷ []) }
 
 abbrev world_5 : World
 world_5 = record world_4 { stacks = (((codes "s"), stack_5_s) ∷ []); token = 2; place = 5 }
@@ -102,7 +109,7 @@ abbrev pub b_1 : Held
 b_1 = record { path = (codes "B"); kind = note; physical = (codes "r1:2"); props = (note_props (codes "b") (codes "u")); attrs = (note_attrs (codes "r1:2") 1 (codes "b") (codes "u")); needs = ((codes "A") ∷ []); deletion = deletion.Delete; replace = replace.Delete; status = held.CreateComplete; unsure = false; superseded = false }
 
 abbrev stack_6_s : StackState
-stack_6_s = record stack_5_s { made = (a_1 ∷ b_1 ∷ []); tokens = []; events = stack_5_s.events ++ (codes "event 6 B CREATE_COMPLETE") ∷ []; entries = stack_5_s.entries ++ made_b ∷ [] }
+stack_6_s = record stack_5_s { made = (a_1 ∷ b_1 ∷ []); tokens = []; events = stack_5_s.events ++ (codes "event 6 B CREATE_COMPLETE") ∷ []; entries = stack_5_s.entries ++ made_b ∷ []; ledger = (record call_1 { answer = Some settled.Success } ∷ record call_2 { answer = Some settled.Success } ∷ []) }
 
 abbrev world_6 : World
 world_6 = record world_5 { stacks = (((codes "s"), stack_6_s) ∷ []); place = 6 }
@@ -130,7 +137,7 @@ unfolding computing
 may_updating = (refl, refl, record { no_flaw = refl; known_types = refl; same_types = refl; imports = no_imports _ _ _ _ refl refl; free = refl; not_in_use = refl; changing = inr (inl refl) })
 
 abbrev stack_8_s : StackState
-stack_8_s = record stack_7_s { status = status.UpdateInProgress; operation = 2; before = (a_1 ∷ b_1 ∷ []); going = Some (source_for (codes "s") 1 second); events = stack_7_s.events ++ (codes "event 8 - UPDATE_IN_PROGRESS") ∷ []; entries = (updating ∷ []) }
+stack_8_s = record stack_7_s { status = status.UpdateInProgress; operation = 2; before = (a_1 ∷ b_1 ∷ []); going = Some (source_for (codes "s") 1 second); events = stack_7_s.events ++ (codes "event 8 - UPDATE_IN_PROGRESS") ∷ []; entries = (updating ∷ []); ledger = [] }
 
 abbrev world_8 : World
 world_8 = record world_7 { stacks = (((codes "s"), stack_8_s) ∷ []); operation = 2; place = 8 }
@@ -147,8 +154,11 @@ may_intended_change : MayFollow schemas world_8 [] intended_change
 unfolding computing
 may_intended_change = ((codes "s"), stack_8_s, Forward, refl, refl, record { next = refl; free = refl; home = refl; fits = ((codes "1", refl), refl); no_repeat = refl; chosen = (sound_8, ready_8_A, not_done_other (codes "A") stack_8_s (same_at (codes "Content") (codes "x")) _ _ _ refl refl refl refl refl refl, (_, refl, refl, refl, ((λ e. let z : Update ≡ Replace = e in cc), inr (λ e. let z : Update ≡ Same = e in cc)), refl)) })
 
+abbrev pub call_3 : Call
+call_3 = record { number = 2; token = 3; lane = (codes "f1"); path = (codes "A"); request = (request.Update (codes "f1:1") (file_props (codes "a") (codes "y"))); status = status.UpdateInProgress; fresh = true; doubts = 0; answer = None }
+
 abbrev pub stack_9_s : StackState
-stack_9_s = record stack_8_s { tokens = (record { token = 3; path = (codes "A"); lane = (codes "f1"); request = (request.Update (codes "f1:1") (file_props (codes "a") (codes "y"))) } ∷ []); events = stack_8_s.events ++ (codes "event 9 A UPDATE_IN_PROGRESS") ∷ []; entries = stack_8_s.entries ++ intended_change ∷ [] }
+stack_9_s = record stack_8_s { tokens = (record { token = 3; path = (codes "A"); lane = (codes "f1"); request = (request.Update (codes "f1:1") (file_props (codes "a") (codes "y"))) } ∷ []); events = stack_8_s.events ++ (codes "event 9 A UPDATE_IN_PROGRESS") ∷ []; entries = stack_8_s.entries ++ intended_change ∷ []; ledger = (call_3 ∷ []) }
 
 abbrev pub world_9 : World
 world_9 = record world_8 { stacks = (((codes "s"), stack_9_s) ∷ []); token = 3; place = 9 }
@@ -158,7 +168,7 @@ unfolding computing
 may_broken_off = ((codes "s"), stack_9_s, Forward, refl, refl, (refl, refl, (lit≤ tt, λ _. lit≤ tt)))
 
 abbrev stack_10_s : StackState
-stack_10_s = record stack_9_s { events = stack_9_s.events ++ (codes "event 10 A UPDATE_FAILED Fault") ∷ []; entries = stack_9_s.entries ++ broken_off ∷ [] }
+stack_10_s = record stack_9_s { events = stack_9_s.events ++ (codes "event 10 A UPDATE_FAILED Fault") ∷ []; entries = stack_9_s.entries ++ broken_off ∷ []; ledger = (record call_3 { doubts = 1 } ∷ []) }
 
 abbrev world_10 : World
 world_10 = record world_9 { stacks = (((codes "s"), stack_10_s) ∷ []); place = 10 }
@@ -171,7 +181,7 @@ abbrev pub a_2 : Held
 a_2 = record { path = (codes "A"); kind = file; physical = (codes "f1:1"); props = (file_props (codes "a") (codes "y")); attrs = (file_attrs (codes "f1:1") 1 (codes "a") (codes "y")); needs = []; deletion = deletion.Delete; replace = replace.Delete; status = held.UpdateComplete; unsure = false; superseded = false }
 
 abbrev stack_11_s : StackState
-stack_11_s = record stack_10_s { held = (a_2 ∷ b_1 ∷ []); tokens = []; events = stack_10_s.events ++ (codes "event 11 A UPDATE_COMPLETE") ∷ []; entries = stack_10_s.entries ++ repeated ∷ [] }
+stack_11_s = record stack_10_s { held = (a_2 ∷ b_1 ∷ []); tokens = []; events = stack_10_s.events ++ (codes "event 11 A UPDATE_COMPLETE") ∷ []; entries = stack_10_s.entries ++ repeated ∷ []; ledger = (record call_3 { doubts = 1; answer = Some settled.Success } ∷ []) }
 
 abbrev world_11 : World
 world_11 = record world_10 { stacks = (((codes "s"), stack_11_s) ∷ []); place = 11 }
@@ -188,8 +198,11 @@ may_intended_other : MayFollow schemas world_11 [] intended_other
 unfolding computing
 may_intended_other = ((codes "s"), stack_11_s, Forward, refl, refl, record { next = refl; free = refl; home = refl; fits = ((codes "2", refl), refl); no_repeat = refl; chosen = (sound_11, ready_11_B, not_done_other (codes "B") stack_11_s (same_at (codes "Value") (codes "u")) _ _ _ refl refl refl refl refl refl, (_, refl, refl, refl, ((λ e. let z : Update ≡ Replace = e in cc), inr (λ e. let z : Update ≡ Same = e in cc)), refl)) })
 
+abbrev pub call_4 : Call
+call_4 = record { number = 2; token = 4; lane = (codes "r1"); path = (codes "B"); request = (request.Update (codes "r1:2") (note_props (codes "b") (codes "w"))); status = status.UpdateInProgress; fresh = true; doubts = 0; answer = None }
+
 abbrev stack_12_s : StackState
-stack_12_s = record stack_11_s { tokens = (record { token = 4; path = (codes "B"); lane = (codes "r1"); request = (request.Update (codes "r1:2") (note_props (codes "b") (codes "w"))) } ∷ []); events = stack_11_s.events ++ (codes "event 12 B UPDATE_IN_PROGRESS") ∷ []; entries = stack_11_s.entries ++ intended_other ∷ [] }
+stack_12_s = record stack_11_s { tokens = (record { token = 4; path = (codes "B"); lane = (codes "r1"); request = (request.Update (codes "r1:2") (note_props (codes "b") (codes "w"))) } ∷ []); events = stack_11_s.events ++ (codes "event 12 B UPDATE_IN_PROGRESS") ∷ []; entries = stack_11_s.entries ++ intended_other ∷ []; ledger = (record call_3 { doubts = 1; answer = Some settled.Success } ∷ call_4 ∷ []) }
 
 abbrev world_12 : World
 world_12 = record world_11 { stacks = (((codes "s"), stack_12_s) ∷ []); token = 4; place = 12 }
@@ -199,7 +212,7 @@ unfolding computing
 may_refused = ((codes "s"), stack_12_s, Forward, refl, refl, (refl, refl, (lit≤ tt, λ _. lit≤ tt)))
 
 abbrev stack_13_s : StackState
-stack_13_s = record stack_12_s { tokens = []; events = stack_12_s.events ++ (codes "event 13 B UPDATE_FAILED ServiceInternalError") ∷ []; entries = stack_12_s.entries ++ refused ∷ [] }
+stack_13_s = record stack_12_s { tokens = []; events = stack_12_s.events ++ (codes "event 13 B UPDATE_FAILED ServiceInternalError") ∷ []; entries = stack_12_s.entries ++ refused ∷ []; ledger = (record call_3 { doubts = 1; answer = Some settled.Success } ∷ record call_4 { answer = Some (settled.Failed code.ServiceInternalError) } ∷ []) }
 
 abbrev world_13 : World
 world_13 = record world_12 { stacks = (((codes "s"), stack_13_s) ∷ []); place = 13 }
@@ -209,7 +222,7 @@ unfolding computing
 may_turned = ((codes "s"), stack_13_s, Forward, refl, refl, (refl, (refl, (inl ((4, (reason.Code code.ServiceInternalError)), refl)), (4, refl, refl))))
 
 abbrev stack_14_s : StackState
-stack_14_s = record stack_13_s { status = status.UpdateRollbackInProgress; events = stack_13_s.events ++ (codes "event 14 - UPDATE_ROLLBACK_IN_PROGRESS") ∷ []; entries = stack_13_s.entries ++ turned ∷ [] }
+stack_14_s = record stack_13_s { status = status.UpdateRollbackInProgress; events = stack_13_s.events ++ (codes "event 14 - UPDATE_ROLLBACK_IN_PROGRESS") ∷ []; entries = stack_13_s.entries ++ turned ∷ []; ledger = (record call_3 { fresh = false; answer = Some settled.Success } ∷ record call_4 { fresh = false; answer = Some (settled.Failed code.ServiceInternalError) } ∷ []) }
 
 abbrev world_14 : World
 world_14 = record world_13 { stacks = (((codes "s"), stack_14_s) ∷ []); place = 14 }
@@ -218,8 +231,11 @@ may_intended_restore : MayFollow schemas world_14 [] intended_restore
 unfolding computing
 may_intended_restore = ((codes "s"), stack_14_s, Back, refl, refl, record { next = refl; free = refl; home = refl; fits = ((codes "1", refl), refl); no_repeat = refl; chosen = inr (refl, _, (here, refl, refl, refl), refl, refl, refl, refl) })
 
+abbrev pub call_5 : Call
+call_5 = record { number = 2; token = 5; lane = (codes "f1"); path = (codes "A"); request = (request.Update (codes "f1:1") (file_props (codes "a") (codes "x"))); status = status.UpdateRollbackInProgress; fresh = true; doubts = 0; answer = None }
+
 abbrev stack_15_s : StackState
-stack_15_s = record stack_14_s { tokens = (record { token = 5; path = (codes "A"); lane = (codes "f1"); request = (request.Update (codes "f1:1") (file_props (codes "a") (codes "x"))) } ∷ []); events = stack_14_s.events ++ (codes "event 15 A UPDATE_IN_PROGRESS") ∷ []; entries = stack_14_s.entries ++ intended_restore ∷ [] }
+stack_15_s = record stack_14_s { tokens = (record { token = 5; path = (codes "A"); lane = (codes "f1"); request = (request.Update (codes "f1:1") (file_props (codes "a") (codes "x"))) } ∷ []); events = stack_14_s.events ++ (codes "event 15 A UPDATE_IN_PROGRESS") ∷ []; entries = stack_14_s.entries ++ intended_restore ∷ []; ledger = (record call_3 { fresh = false; answer = Some settled.Success } ∷ record call_4 { fresh = false; answer = Some (settled.Failed code.ServiceInternalError) } ∷ call_5 ∷ []) }
 
 abbrev world_15 : World
 world_15 = record world_14 { stacks = (((codes "s"), stack_15_s) ∷ []); token = 5; place = 15 }
@@ -232,7 +248,7 @@ abbrev a_3 : Held
 a_3 = record { path = (codes "A"); kind = file; physical = (codes "f1:1"); props = (file_props (codes "a") (codes "x")); attrs = (file_attrs (codes "f1:1") 1 (codes "a") (codes "x")); needs = []; deletion = deletion.Delete; replace = replace.Delete; status = held.UpdateComplete; unsure = false; superseded = false }
 
 abbrev stack_16_s : StackState
-stack_16_s = record stack_15_s { held = (a_3 ∷ b_1 ∷ []); tokens = []; events = stack_15_s.events ++ (codes "event 16 A UPDATE_COMPLETE") ∷ []; entries = stack_15_s.entries ++ restored ∷ [] }
+stack_16_s = record stack_15_s { held = (a_3 ∷ b_1 ∷ []); tokens = []; events = stack_15_s.events ++ (codes "event 16 A UPDATE_COMPLETE") ∷ []; entries = stack_15_s.entries ++ restored ∷ []; ledger = (record call_3 { fresh = false; answer = Some settled.Success } ∷ record call_4 { fresh = false; answer = Some (settled.Failed code.ServiceInternalError) } ∷ record call_5 { answer = Some settled.Success } ∷ []) }
 
 abbrev world_16 : World
 world_16 = record world_15 { stacks = (((codes "s"), stack_16_s) ∷ []); place = 16 }
@@ -242,7 +258,7 @@ unfolding computing
 may_cleaning = ((codes "s"), stack_16_s, Back, refl, refl, (refl, (refl, refl, nothing_to_restore stack_16_s refl, refl)))
 
 abbrev stack_17_s : StackState
-stack_17_s = record stack_16_s { status = status.UpdateRollbackCompleteCleanupInProgress; events = stack_16_s.events ++ (codes "event 17 - UPDATE_ROLLBACK_COMPLETE_CLEANUP_IN_PROGRESS") ∷ []; entries = stack_16_s.entries ++ cleaning ∷ [] }
+stack_17_s = record stack_16_s { status = status.UpdateRollbackCompleteCleanupInProgress; events = stack_16_s.events ++ (codes "event 17 - UPDATE_ROLLBACK_COMPLETE_CLEANUP_IN_PROGRESS") ∷ []; entries = stack_16_s.entries ++ cleaning ∷ []; ledger = (record call_3 { fresh = false; answer = Some settled.Success } ∷ record call_4 { fresh = false; answer = Some (settled.Failed code.ServiceInternalError) } ∷ record call_5 { fresh = false; answer = Some settled.Success } ∷ []) }
 
 abbrev world_17 : World
 world_17 = record world_16 { stacks = (((codes "s"), stack_17_s) ∷ []); place = 17 }

@@ -2,6 +2,7 @@
 use Rattle.std.proofs.Common.{inr, ◌∙◌, ap, ◌≡◌, refl, List, [], ◌∷◌, Some, None, true, false, ℕ, inl, sym, subst, lit≤, Bool, true≢false}
 use Rattle.std.specs.Prelude.{codes, option_map, if◌then◌else◌}
 use Rattle.cf_tree.specs.declared.request.Answer.TheVariants as answer
+use Rattle.cf_entry.specs.declared.status.Status.TheVariants as status
 use Rattle.std.specs.Prelude.{map, ◌==◌, ◌≤◌}
 use Rattle.std.specs.Str.{bytes_eq}
 use Rattle.cf_handler.specs.declared.settled.Settlement.{Settlement}
@@ -10,25 +11,26 @@ use Rattle.cf_handler.specs.Lane.{Live, live_of, is_used, settlement_of}
 use Rattle.cf_handler.specs.Fence.{Flying, Raised, SettledBy, live_at}
 use Rattle.cf_stacks.specs.declared.held.Held.{Held}
 use Rattle.cf_stacks.specs.declared.held.Pending.{Pending}
-use Rattle.cf_stacks.specs.Operation.{Call, Response, call_at}
-use Rattle.cf_stacks.specs.Words.{stack_at, current_at}
-use Rattle.cf_tree.specs.Named.{all_differ}
-use Rattle.cf_stacks.specs.declared.state.World.{World}
-use Rattle.cf_stacks.specs.Fold.{empty_world, fold_of, known_stack, source_for}
-use Rattle.cf_stacks.specs.declared.state.StackState.{StackState}
-use Rattle.std.proofs.lemmas.Slice.Eq.{bytes_eq-Decides}
+use Rattle.cf_stacks.specs.declared.call.Call.{Call}
+use Rattle.cf_stacks.specs.Operation.{Response}
+use Rattle.cf_stacks.specs.World.{stack_at, World, empty_world, known_stack, StackState}
+use Rattle.cf_stacks.specs.Words.{current_at}
+use Rattle.cf_stacks.specs.Fold.{fold_of}
+use Rattle.cf_stacks.specs.Begin.{source_for}
 use Rattle.cf_plan.specs.Forward.{In, here}
-use Rattle.cf_plan.specs.Lanes.{Lane, AreLanes, AreSchemas, lane_at, open_at, IsAnswered, told_of, Effect, Nothing, Made, Set, effect_of, ids_of, IsHome}
-use Rattle.cf_plan.specs.Agrees.{Ties, FitsCall, IsListed, IsAccounted}
+use Rattle.cf_plan.specs.Lanes.{Lane, AreLanes, AreSchemas, lane_at, open_at, IsAnswered, told_of, LiveChange, change_of, Nothing, Made, Set, ids_of, IsHome}
+use Rattle.cf_plan.specs.Agrees.{Ties, FitsCall, IsListed, IsAccounted, call_at}
 use Rattle.cf_plan.specs.Life.{Life, Lease, MayHappen, IsLife, AreLeased, IsGoing, IsStart, Holds, AreHandedIn, named_lane}
+use Rattle.cf_plan.specs.Ends.{IsLive, Sees, right_at, IsWholeLive, IsComplete}
+use Rattle.cf_plan.specs.Promise.{Promised}
+use Rattle.cf_tree.specs.Named.{all_differ}
+use Rattle.std.proofs.lemmas.Slice.Eq.{bytes_eq-Decides}
 use Rattle.cf_plan.specs.Life as life
 use Rattle.cf_tree.specs.Keys.{value_at}
 use Rattle.cf_tree.specs.declared.template.Deletion.TheVariants as deletion
 use Rattle.cf_tree.specs.declared.template.Replace.TheVariants as replace
 use Rattle.cf_desired.specs.Seeing.{Seen}
 use Rattle.cf_desired.specs.Whole.{Right, Whole}
-use Rattle.cf_plan.specs.Ends.{IsLive, Sees, right_at, IsWholeLive, IsComplete}
-use Rattle.cf_plan.specs.Promise.{Promised}
 use Rattle.cf_examples.proofs.Standing.{held_there, wanted_there}
 use Rattle.cf_examples.specs.Given.{file, file_props, file_attrs, schemas}
 use Rattle.cf_examples.specs.FirstResource.{source, opened, begun, intended, answered, done, run, app, web, world}
@@ -126,8 +128,9 @@ f1 = files_with (made ∷ []) [] 1
 abbrev web_live : Live
 web_live = record { id = codes "f1:1"; kind = file; props = file_props (codes "web.txt") (codes "hello"); attrs = file_attrs (codes "f1:1") 5 (codes "web.txt") (codes "hello") }
 
-abbrev made_call : Call
-made_call = record { number = 1; token = 1; lane = codes "f1"; path = codes "Web"; request = made.request }
+-- the call as its intent wrote it down
+abbrev pending : Pending
+pending = record { token = 1; path = codes "Web"; lane = codes "f1"; request = made.request }
 
 none_open : (token : ℕ) (p : Pending) → open_at token world ≡ Some p → ⊥
 none_open token p e = let z : None ≡ Some p = e in cc
@@ -142,17 +145,17 @@ home id l h = (found_passes (λ (q : Lane). bytes_eq l.name q.name) end.lanes l 
 abbrev reply_1 : Response
 reply_1 = record { token = 1; answer = told_of made.settlement; before = 0; after = 0 }
 
-is_made_call : (c : Call) → call_at 1 run ≡ Some c → made_call ≡ c
-is_made_call c e = some_is e
+is_written : (c : Pending) → call_at 1 run ≡ Some c → pending ≡ c
+is_written c e = some_is e
 
 fits : FitsCall run world (codes "f1") 1 made.request
 fits = record {
   number = lit≤ tt;
-  written = λ c e. subst (λ q. (q.lane ≡ codes "f1") × (q.request ≡ made.request)) (is_made_call c e) (refl, refl);
+  written = λ c e. subst (λ q. (q.lane ≡ codes "f1") × (q.request ≡ made.request)) (is_written c e) (refl, refl);
   is_open = λ p e. absurd (none_open 1 p e);
 }
 
-answered_at : (c : Call) (l : Lane) → call_at 1 run ≡ Some c → lane_at c.lane end.lanes ≡ Some l → option_map told_of (settlement_of 1 l.state.state.settled) ≡ Some reply_1.answer
+answered_at : (c : Pending) (l : Lane) → call_at 1 run ≡ Some c → lane_at c.lane end.lanes ≡ Some l → option_map told_of (settlement_of 1 l.state.state.settled) ≡ Some reply_1.answer
 answered_at c l e at_lane = only (λ (q : Lane). option_map told_of (settlement_of 1 q.state.state.settled) ≡ Some reply_1.answer) {a = f1} refl l (found_passes (λ (q : Lane). bytes_eq c.lane q.name) end.lanes l at_lane).1
 
 same_as_web : (v : Live) → live_at web.physical f1.state ≡ Some v → (v.props ≡ web.props) × (v.attrs ≡ web.attrs)
@@ -254,8 +257,9 @@ promises = λ name s. subst (λ x. stack_at name x ≡ Some s → Promised s.sta
 abbrev world_3 : World
 world_3 = fold_of empty_world unwritten.entries
 
-abbrev pending : Pending
-pending = record { token = 1; path = codes "Web"; lane = codes "f1"; request = made.request }
+-- the row of the call in the ledger of its stack
+abbrev made_call : Call
+made_call = record { number = 1; token = 1; lane = codes "f1"; path = codes "Web"; request = made.request; status = status.CreateInProgress; fresh = true; doubts = 0; answer = None }
 
 is_pending : (p : Pending) → open_at p.token world_3 ≡ Some p → p ≡ pending
 unfolding computing
@@ -271,25 +275,25 @@ open_fits : FitsCall unwritten.entries world_3 (codes "f1") 1 made.request
 unfolding computing
 open_fits = record {
   number = lit≤ tt;
-  written = λ c e. subst (λ q. (q.lane ≡ codes "f1") × (q.request ≡ made.request)) (some_is {a = made_call} e) (refl, refl);
+  written = λ c e. subst (λ q. (q.lane ≡ codes "f1") × (q.request ≡ made.request)) (some_is {a = pending} e) (refl, refl);
   is_open = λ p e. subst (λ q. (q.lane ≡ codes "f1") × (q.request ≡ made.request)) (some_is {a = pending} e) (refl, refl);
 }
 
 -- what the answer did
-abbrev IsDoneBy : Lane → Effect → Type 0
+abbrev IsDoneBy : Lane → LiveChange → Type 0
 IsDoneBy l Nothing = Unit {0}
 IsDoneBy l (Made id k props attrs) = (live_at id l.state ≡ Some (record { id = id; kind = k; props = props; attrs = attrs })) × ¬ In id (ids_of world_3)
 IsDoneBy l (Set id props attrs) = ⊥
 
-done_by : IsDoneBy f1 (effect_of made.request made.settlement)
+done_by : IsDoneBy f1 (change_of made.request made.settlement)
 unfolding computing
 done_by = (refl, λ i. in_none i)
 
-made_done : {p : Pending} {l : Lane} {s : Settlement} → IsAnswered world_3 unwritten.lanes p l s → IsDoneBy l (effect_of p.request s)
+made_done : {p : Pending} {l : Lane} {s : Settlement} → IsAnswered world_3 unwritten.lanes p l s → IsDoneBy l (change_of p.request s)
 made_done {p} {l} {s} a =
     let there_is = is_f1 p.lane l a.at_home in
     let is_open = is_pending p a.is_open in
-    subst (λ q. IsDoneBy q (effect_of p.request s)) (sym there_is) (subst (λ (q : Pending). IsDoneBy f1 (effect_of q.request s)) (sym is_open) (subst (λ (q : Settlement). IsDoneBy f1 (effect_of pending.request q)) (is_made p.token l s (ap (λ (q : Pending). q.token) is_open) there_is a.settled) done_by))
+    subst (λ q. IsDoneBy q (change_of p.request s)) (sym there_is) (subst (λ (q : Pending). IsDoneBy f1 (change_of q.request s)) (sym is_open) (subst (λ (q : Settlement). IsDoneBy f1 (change_of pending.request q)) (is_made p.token l s (ap (λ (q : Pending). q.token) is_open) there_is a.settled) done_by))
 
 born_of : IsAnswered world_3 unwritten.lanes pending f1 made.settlement
 unfolding computing

@@ -1,9 +1,8 @@
 -- The first resource.
 use Rattle.std.proofs.Common.{List, ℕ, refl, [], ◌∷◌, inl, inr, sym, lit≤, true≢false}
 use Rattle.std.specs.Prelude.{codes}
-use Rattle.cf_stacks.specs.declared.state.World.{World}
-use Rattle.cf_stacks.specs.declared.state.StackState.{StackState}
-use Rattle.cf_stacks.specs.Fold.{empty_world, world_after, known_stack}
+use Rattle.cf_stacks.specs.World.{World, StackState, empty_world, known_stack}
+use Rattle.cf_stacks.specs.Fold.{world_after}
 use Rattle.cf_stacks.specs.Status.{Forward}
 use Rattle.cf_plan.specs.Forward.{here, HasFailed, IsReady, AllDone, IsDone, is_made}
 use Rattle.cf_plan.specs.Follow.{MayFollow}

@@ -11,18 +11,16 @@ use Rattle.cf_handler.specs.Lane.{Live, live_of, is_used, settlement_of}
 use Rattle.cf_handler.specs.Fence.{Raised, Untouched, SettledBy, FlyingOn, left_by, live_at}
 use Rattle.cf_stacks.specs.declared.held.Held.{Held}
 use Rattle.cf_stacks.specs.declared.held.Pending.{Pending}
-use Rattle.cf_stacks.specs.declared.state.StackState.{StackState}
-use Rattle.cf_stacks.specs.declared.state.World.{World}
-use Rattle.cf_stacks.specs.Operation.{Call, Response, call_at, is_doubt}
-use Rattle.cf_stacks.specs.Words.{stack_at}
-use Rattle.cf_tree.specs.Named.{all_differ}
+use Rattle.cf_stacks.specs.World.{StackState, World, stack_at, empty_world}
+use Rattle.cf_stacks.specs.Operation.{Response, is_doubt}
 use Rattle.cf_stacks.specs.Status.{Stage, Forward, Back, stage_of}
-use Rattle.cf_stacks.specs.Fold.{empty_world, fold_of}
+use Rattle.cf_stacks.specs.Fold.{fold_of}
 use Rattle.cf_plan.specs.Forward.{In, here, HasFailed}
-use Rattle.cf_plan.specs.Follow.{MayFollow, MayRepeat, is_lane_out}
-use Rattle.cf_plan.specs.Lanes.{Lane, IsAnswered, lane_at, open_at, told_of, gone_by, Effect, Nothing, Made, Set, effect_of, IsHome}
-use Rattle.cf_plan.specs.Agrees.{Ties, FitsCall, IsListed, IsAccounted, IsChanged}
+use Rattle.cf_plan.specs.Follow.{MayFollow, MayRepeat, is_lane_leased}
+use Rattle.cf_plan.specs.Lanes.{Lane, IsAnswered, lane_at, open_at, told_of, gone_by, LiveChange, change_of, Nothing, Made, Set, IsHome}
+use Rattle.cf_plan.specs.Agrees.{Ties, FitsCall, IsListed, IsAccounted, IsChanged, call_at}
 use Rattle.cf_plan.specs.Life.{Life, Lease, CallEnd, Event, End, Whole, MayHappen, IsLife, MayBeRepeated, MayLeave, AreLeased, IsGoing, Holds, life_after, world_of, named_lane, first_again, repeated as repeating, changing, replied_to}
+use Rattle.cf_tree.specs.Named.{all_differ}
 use Rattle.cf_plan.specs.Life as life
 use Rattle.cf_examples.specs.Given.{file, file_props, file_attrs, schemas}
 use Rattle.cf_examples.specs.LateEffect.{opened, begun, intended, made, created, updating, intended_change, broken_once, broken_twice, broken_thrice, turned, repeated, intended_restore, restored, cleaning, rolled_back}
@@ -33,7 +31,7 @@ use Rattle.cf_examples.proofs.Lists.{some_is, in_none, only, either, none, more,
 use Rattle.cf_examples.proofs.Failing.{not_failed}
 use Rattle.cf_examples.proofs.Refusing.{fold_more, legal_front}
 use Rattle.cf_examples.proofs.FirstLife.{handed_in, named_lanes, described_lanes}
-use Rattle.cf_examples.proofs.LateEffect.{legal, may_opened, may_begun, may_intended, may_made, may_created, may_updating, may_intended_change, may_broken_once, may_broken_twice, may_broken_thrice, may_turned, may_repeated, may_intended_restore, may_restored, may_cleaning, may_rolled_back, leads_1, leads_2, leads_3, leads_4, leads_5, leads_6, leads_7, leads_8, leads_9, leads_10, leads_11, leads_12, leads_13, leads_14, leads_15, leads_16, world_1, world_2, world_3, world_4, world_5, world_6, world_7, world_8, world_9, world_10, world_11, world_12, world_13, world_14, world_15, world_16, stack_8_s, stack_9_s, stack_11_s, a_1}
+use Rattle.cf_examples.proofs.LateEffect.{legal, may_opened, may_begun, may_intended, may_made, may_created, may_updating, may_intended_change, may_broken_once, may_broken_twice, may_broken_thrice, may_turned, may_repeated, may_intended_restore, may_restored, may_cleaning, may_rolled_back, leads_1, leads_2, leads_3, leads_4, leads_5, leads_6, leads_7, leads_8, leads_9, leads_10, leads_11, leads_12, leads_13, leads_14, leads_15, leads_16, world_1, world_2, world_3, world_4, world_5, world_6, world_7, world_8, world_9, world_10, world_11, world_12, world_13, world_14, world_15, world_16, stack_8_s, stack_9_s, stack_11_s, a_1, call_2}
 
 -- A step of a life.
 lives_step : (l m : Life) (e : Event) (es : List Event) (last : Life) → MayHappen schemas l e → life_after l e ≡ m → IsLife schemas m es last → IsLife schemas l (e ∷ es) last
@@ -238,12 +236,12 @@ unfolding computing
 sound_9 = not_failed schemas (codes "s") world_9 stack_9_s (record { calls = refl; paths = refl; inner = refl; flaws = refl; exports = refl })
 
 -- the open call may be made again
-may_again : (l : Life) (x : World) (s : StackState) (stage : Stage) → world_of l ≡ x → l.leases ≡ [] → stack_at (codes "s") x ≡ Some s → stage_of s.status ≡ Some stage → MayRepeat schemas (codes "s") x [] s stage pending → is_lane_out [] x (codes "f1") ≡ false → MayBeRepeated schemas l 2 (codes "s") s stage pending
+may_again : (l : Life) (x : World) (s : StackState) (stage : Stage) → world_of l ≡ x → l.leases ≡ [] → stack_at (codes "s") x ≡ Some s → stage_of s.status ≡ Some stage → MayRepeat schemas (codes "s") x [] s stage pending → is_lane_leased [] x (codes "f1") ≡ false → MayBeRepeated schemas l 2 (codes "s") s stage pending
 may_again l x s stage is none_out there_is at may home = record {
   stands = subst (λ y. stack_at (codes "s") y ≡ Some s) (sym is) there_is;
   at_stage = at;
   of_token = refl;
-  at_home = subst (λ y. is_lane_out (map (λ (q : Lease). q.token) l.leases) y (codes "f1") ≡ false) (sym is) (subst (λ ls. is_lane_out (map (λ (q : Lease). q.token) ls) x (codes "f1") ≡ false) (sym none_out) home);
+  at_home = subst (λ y. is_lane_leased (map (λ (q : Lease). q.token) l.leases) y (codes "f1") ≡ false) (sym is) (subst (λ ls. is_lane_leased (map (λ (q : Lease). q.token) ls) x (codes "f1") ≡ false) (sym none_out) home);
   may = subst (λ y. MayRepeat schemas (codes "s") y (map (λ (q : Lease). q.token) l.leases) s stage pending) (sym is) (subst (λ ls. MayRepeat schemas (codes "s") x (map (λ (q : Lease). q.token) ls) s stage pending) (sym none_out) may);
 }
 
@@ -443,16 +441,13 @@ at_home P p id l h = subst P (sym (is_f1 l.name l h.handed_in)) p
 is_pending : (token : ℕ) (p : Pending) → open_at token world_11 ≡ Some p → p ≡ pending
 is_pending token p e = only (λ (q : Pending). q ≡ pending) {a = pending} refl p (found_passes (λ (q : Pending). token == q.token) (pending ∷ []) p e).1
 
-abbrev call_1 : Call
-call_1 = record { number = 1; token = 1; lane = codes "f1"; path = codes "A"; request = creation.request }
-
-abbrev call_2 : Call
-call_2 = record { number = 2; token = 2; lane = codes "f1"; path = codes "A"; request = change.request }
+abbrev creating : Pending
+creating = record { token = 1; path = codes "A"; lane = codes "f1"; request = creation.request }
 
 fits_1 : FitsCall until_turned world_11 (codes "f1") 1 creation.request
 fits_1 = record {
   number = lit≤ tt;
-  written = λ c e. subst (λ q. (q.lane ≡ codes "f1") × (q.request ≡ creation.request)) (some_is {a = call_1} e) (refl, refl);
+  written = λ c e. subst (λ q. (q.lane ≡ codes "f1") × (q.request ≡ creation.request)) (some_is {a = creating} e) (refl, refl);
   is_open = λ p e. absurd (not_open p e);
 }
   where
@@ -462,7 +457,7 @@ fits_1 = record {
 fits_2 : FitsCall until_turned world_11 (codes "f1") 2 change.request
 fits_2 = record {
   number = lit≤ tt;
-  written = λ c e. subst (λ q. (q.lane ≡ codes "f1") × (q.request ≡ change.request)) (some_is {a = call_2} e) (refl, refl);
+  written = λ c e. subst (λ q. (q.lane ≡ codes "f1") × (q.request ≡ change.request)) (some_is {a = pending} e) (refl, refl);
   is_open = λ p e. subst (λ q. (q.lane ≡ codes "f1") × (q.request ≡ change.request)) (some_is {a = pending} e) (refl, refl);
 }
 
@@ -470,14 +465,14 @@ fits_2 = record {
 is_change : {p : Pending} {l : Lane} {s : Settlement} → IsAnswered world_11 acted.lanes p l s → change.settlement ≡ s
 is_change {p} {l} {s} a = some_is (subst (λ (t : ℕ). settlement_of t f1.state.state.settled ≡ Some s) (ap (λ (q : Pending). q.token) (is_pending p.token p a.is_open)) (subst (λ (q : Lane). settlement_of p.token q.state.state.settled ≡ Some s) (is_f1 p.lane l a.at_home) a.settled))
 
-abbrev IsDoneBy : Lane → Effect → Type 0
+abbrev IsDoneBy : Lane → LiveChange → Type 0
 IsDoneBy l Nothing = Unit {0}
 IsDoneBy l (Made id k props attrs) = ⊥
 IsDoneBy l (Set id props attrs) = (v : Live) × (live_at id l.state ≡ Some v) × (v.props ≡ props) × (v.attrs ≡ attrs)
 
-done_by : {p : Pending} {l : Lane} {s : Settlement} → IsAnswered world_11 acted.lanes p l s → IsDoneBy l (effect_of p.request s)
+done_by : {p : Pending} {l : Lane} {s : Settlement} → IsAnswered world_11 acted.lanes p l s → IsDoneBy l (change_of p.request s)
 done_by {p} {l} {s} a =
-    subst (λ q. IsDoneBy q (effect_of p.request s)) (sym (is_f1 p.lane l a.at_home)) (subst (λ (q : Pending). IsDoneBy f1 (effect_of q.request s)) (sym (is_pending p.token p a.is_open)) (subst (λ (q : Settlement). IsDoneBy f1 (effect_of pending.request q)) (is_change a) (live_y, refl, refl, refl)))
+    subst (λ q. IsDoneBy q (change_of p.request s)) (sym (is_f1 p.lane l a.at_home)) (subst (λ (q : Pending). IsDoneBy f1 (change_of q.request s)) (sym (is_pending p.token p a.is_open)) (subst (λ (q : Settlement). IsDoneBy f1 (change_of pending.request q)) (is_change a) (live_y, refl, refl, refl)))
 
 takes_nothing : {p : Pending} {l : Lane} {s : Settlement} {id : List ℕ} → IsAnswered world_11 acted.lanes p l s → gone_by p.request s ≡ Some id → ⊥
 takes_nothing {p} {l} {s} {id} a e = not_there (subst (λ (q : Settlement). gone_by pending.request q ≡ Some id) (sym (is_change a)) (subst (λ (q : Pending). gone_by q.request s ≡ Some id) (is_pending p.token p a.is_open) e))
@@ -494,7 +489,7 @@ reply_1 = record { token = 1; answer = told_of creation.settlement; before = 0; 
 abbrev doubt : ℕ → ℕ → Response
 doubt before after = record { token = 2; answer = reply.Doubt; before = before; after = after }
 
-abbrev IsToldOf : Call → Lane → Response → Type 0
+abbrev IsToldOf : Pending → Lane → Response → Type 0
 IsToldOf c l q = is_doubt q.answer ≡ false → call_at q.token until_turned ≡ Some c → option_map told_of (settlement_of q.token l.state.state.settled) ≡ Some q.answer
 
 ties : Ties until_turned world_11 acted.lanes
@@ -524,7 +519,7 @@ abbrev AreLeasedIn : World → Type 0
 AreLeasedIn x = (q : Lease) → In q acted.leases → FitsCall until_turned x q.lane q.token q.request × IsAccounted x q.token q.request × IsGoing x q
 
 leased_in : AreLeasedIn world_11
-leased_in = λ q i. only (λ (r : Lease). FitsCall until_turned world_11 r.lane r.token r.request × IsAccounted world_11 r.token r.request × IsGoing world_11 r) {a = lease} (fits_2, inl (pending, refl), record { name = codes "s"; stack = stack_11_s; call = call_2; stands = refl; in_progress = refl; number = refl; written = refl; lane = refl }) q i
+leased_in = λ q i. only (λ (r : Lease). FitsCall until_turned world_11 r.lane r.token r.request × IsAccounted world_11 r.token r.request × IsGoing world_11 r) {a = lease} (fits_2, inl (pending, refl), record { name = codes "s"; stack = stack_11_s; call = record call_2 { fresh = false }; stands = refl; in_progress = refl; number = refl; written = refl; lane = refl }) q i
 
 leased_there : AreLeasedIn (world_of acted)
 leased_there = subst AreLeasedIn (sym arrives_11) leased_in

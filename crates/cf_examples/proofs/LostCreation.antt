@@ -1,10 +1,8 @@
 -- A creation stays in doubt, in its rollback and in the deletion of its stack: a deletion that keeps its path lists it without an id.
-use Rattle.std.proofs.Common.{refl, [], ◌∷◌, ◌++◌, inl, inr, ap, lit≤}
+use Rattle.std.proofs.Common.{refl, [], ◌∷◌, ◌++◌, inl, inr, ap, lit≤, false}
 use Rattle.std.specs.Prelude.{codes, take, drop}
 use Rattle.cf_entry.specs.declared.turn.Reason.TheVariants as reason
-use Rattle.cf_stacks.specs.declared.state.World.{World}
-use Rattle.cf_stacks.specs.declared.state.StackState.{StackState}
-use Rattle.cf_stacks.specs.Fold.{empty_world}
+use Rattle.cf_stacks.specs.World.{World, StackState, empty_world}
 use Rattle.cf_stacks.specs.Status.{Forward, Back, Gone}
 use Rattle.cf_plan.specs.Follow.{MayFollow}
 use Rattle.cf_examples.specs.Given.{schemas, report_of}
@@ -13,15 +11,15 @@ use Rattle.cf_examples.proofs.Ending.{end_of_rollback, end_of_deletion, end_of_f
 use Rattle.cf_entry.specs.declared.status.Status.TheVariants as status
 use Rattle.cf_entry.specs.declared.turn.Why.TheVariants as why
 use Rattle.cf_examples.proofs.Refusing.{are_failed, IsRun, ended, step, joined}
-use Rattle.cf_examples.specs.LostCreation.{intended, broken_once, broken_twice, broken_thrice, turned, broken_back_once, broken_back_twice, broken_back_thrice, failed, deleting, broken_gone_once, broken_gone_twice, broken_gone_thrice, undeleted, deleting_without, kept, deleted, Legal, Fails, Shows, run}
-use Rattle.cf_examples.proofs.LateEffect.{until_3, stack_3_s, world_3}
+use Rattle.cf_examples.specs.LostCreation.{broken_once, broken_twice, broken_thrice, turned, broken_back_once, broken_back_twice, broken_back_thrice, failed, deleting, broken_gone_once, broken_gone_twice, broken_gone_thrice, undeleted, deleting_without, kept, deleted, Legal, Fails, Shows, run}
+use Rattle.cf_examples.proofs.LateEffect.{until_3, stack_3_s, world_3, call_1}
 
 may_broken_once : MayFollow schemas world_3 (1 ∷ []) broken_once
 unfolding computing
 may_broken_once = ((codes "s"), stack_3_s, Forward, refl, refl, (refl, refl, (lit≤ tt, λ _. lit≤ tt)))
 
 abbrev stack_4_s : StackState
-stack_4_s = record stack_3_s { events = stack_3_s.events ++ (codes "event 4 A CREATE_FAILED Fault") ∷ []; entries = stack_3_s.entries ++ broken_once ∷ [] }
+stack_4_s = record stack_3_s { events = stack_3_s.events ++ (codes "event 4 A CREATE_FAILED Fault") ∷ []; entries = stack_3_s.entries ++ broken_once ∷ []; ledger = (record call_1 { doubts = 1 } ∷ []) }
 
 abbrev world_4 : World
 world_4 = record world_3 { stacks = (((codes "s"), stack_4_s) ∷ []); place = 4 }
@@ -31,7 +29,7 @@ unfolding computing
 may_broken_twice = ((codes "s"), stack_4_s, Forward, refl, refl, (refl, refl, (lit≤ tt, λ _. lit≤ tt)))
 
 abbrev stack_5_s : StackState
-stack_5_s = record stack_4_s { events = stack_4_s.events ++ (codes "event 5 A CREATE_FAILED Fault") ∷ []; entries = stack_4_s.entries ++ broken_twice ∷ [] }
+stack_5_s = record stack_4_s { events = stack_4_s.events ++ (codes "event 5 A CREATE_FAILED Fault") ∷ []; entries = stack_4_s.entries ++ broken_twice ∷ []; ledger = (record call_1 { doubts = 2 } ∷ []) }
 
 abbrev world_5 : World
 world_5 = record world_4 { stacks = (((codes "s"), stack_5_s) ∷ []); place = 5 }
@@ -41,7 +39,7 @@ unfolding computing
 may_broken_thrice = ((codes "s"), stack_5_s, Forward, refl, refl, (refl, refl, (lit≤ tt, λ _. lit≤ tt)))
 
 abbrev stack_6_s : StackState
-stack_6_s = record stack_5_s { events = stack_5_s.events ++ (codes "event 6 A CREATE_FAILED Fault") ∷ []; entries = stack_5_s.entries ++ broken_thrice ∷ [] }
+stack_6_s = record stack_5_s { events = stack_5_s.events ++ (codes "event 6 A CREATE_FAILED Fault") ∷ []; entries = stack_5_s.entries ++ broken_thrice ∷ []; ledger = (record call_1 { doubts = 3 } ∷ []) }
 
 abbrev world_6 : World
 world_6 = record world_5 { stacks = (((codes "s"), stack_6_s) ∷ []); place = 6 }
@@ -51,7 +49,7 @@ unfolding computing
 may_turned = ((codes "s"), stack_6_s, Forward, refl, refl, (refl, (refl, (inl ((1, reason.Fault), refl)), (1, refl, refl))))
 
 abbrev stack_7_s : StackState
-stack_7_s = record stack_6_s { status = status.RollbackInProgress; events = stack_6_s.events ++ (codes "event 7 - ROLLBACK_IN_PROGRESS") ∷ []; entries = stack_6_s.entries ++ turned ∷ [] }
+stack_7_s = record stack_6_s { status = status.RollbackInProgress; events = stack_6_s.events ++ (codes "event 7 - ROLLBACK_IN_PROGRESS") ∷ []; entries = stack_6_s.entries ++ turned ∷ []; ledger = (record call_1 { fresh = false } ∷ []) }
 
 abbrev world_7 : World
 world_7 = record world_6 { stacks = (((codes "s"), stack_7_s) ∷ []); place = 7 }
@@ -61,7 +59,7 @@ unfolding computing
 may_broken_back_once = ((codes "s"), stack_7_s, Back, refl, refl, (refl, refl, (lit≤ tt, λ _. lit≤ tt)))
 
 abbrev stack_8_s : StackState
-stack_8_s = record stack_7_s { events = stack_7_s.events ++ (codes "event 8 A CREATE_FAILED Fault") ∷ []; entries = stack_7_s.entries ++ broken_back_once ∷ [] }
+stack_8_s = record stack_7_s { events = stack_7_s.events ++ (codes "event 8 A CREATE_FAILED Fault") ∷ []; entries = stack_7_s.entries ++ broken_back_once ∷ []; ledger = (record call_1 { fresh = false; doubts = 1 } ∷ []) }
 
 abbrev world_8 : World
 world_8 = record world_7 { stacks = (((codes "s"), stack_8_s) ∷ []); place = 8 }
@@ -71,7 +69,7 @@ unfolding computing
 may_broken_back_twice = ((codes "s"), stack_8_s, Back, refl, refl, (refl, refl, (lit≤ tt, λ _. lit≤ tt)))
 
 abbrev stack_9_s : StackState
-stack_9_s = record stack_8_s { events = stack_8_s.events ++ (codes "event 9 A CREATE_FAILED Fault") ∷ []; entries = stack_8_s.entries ++ broken_back_twice ∷ [] }
+stack_9_s = record stack_8_s { events = stack_8_s.events ++ (codes "event 9 A CREATE_FAILED Fault") ∷ []; entries = stack_8_s.entries ++ broken_back_twice ∷ []; ledger = (record call_1 { fresh = false; doubts = 2 } ∷ []) }
 
 abbrev world_9 : World
 world_9 = record world_8 { stacks = (((codes "s"), stack_9_s) ∷ []); place = 9 }
@@ -81,7 +79,7 @@ unfolding computing
 may_broken_back_thrice = ((codes "s"), stack_9_s, Back, refl, refl, (refl, refl, (lit≤ tt, λ _. lit≤ tt)))
 
 abbrev stack_10_s : StackState
-stack_10_s = record stack_9_s { events = stack_9_s.events ++ (codes "event 10 A CREATE_FAILED Fault") ∷ []; entries = stack_9_s.entries ++ broken_back_thrice ∷ [] }
+stack_10_s = record stack_9_s { events = stack_9_s.events ++ (codes "event 10 A CREATE_FAILED Fault") ∷ []; entries = stack_9_s.entries ++ broken_back_thrice ∷ []; ledger = (record call_1 { fresh = false; doubts = 3 } ∷ []) }
 
 abbrev world_10 : World
 world_10 = record world_9 { stacks = (((codes "s"), stack_10_s) ∷ []); place = 10 }
@@ -101,7 +99,7 @@ unfolding computing
 may_deleting = (refl, refl, (refl, refl, refl))
 
 abbrev stack_12_s : StackState
-stack_12_s = record stack_11_s { status = status.DeleteInProgress; operation = 2; events = stack_11_s.events ++ (codes "event 12 - DELETE_IN_PROGRESS") ∷ []; entries = (intended ∷ deleting ∷ []) }
+stack_12_s = record stack_11_s { status = status.DeleteInProgress; operation = 2; events = stack_11_s.events ++ (codes "event 12 - DELETE_IN_PROGRESS") ∷ []; entries = (deleting ∷ []); ledger = (record call_1 { fresh = false } ∷ []) }
 
 abbrev world_12 : World
 world_12 = record world_11 { stacks = (((codes "s"), stack_12_s) ∷ []); operation = 2; place = 12 }
@@ -111,7 +109,7 @@ unfolding computing
 may_broken_gone_once = ((codes "s"), stack_12_s, Gone, refl, refl, (refl, refl, (lit≤ tt, λ _. lit≤ tt)))
 
 abbrev stack_13_s : StackState
-stack_13_s = record stack_12_s { events = stack_12_s.events ++ (codes "event 13 A CREATE_FAILED Fault") ∷ []; entries = stack_12_s.entries ++ broken_gone_once ∷ [] }
+stack_13_s = record stack_12_s { events = stack_12_s.events ++ (codes "event 13 A CREATE_FAILED Fault") ∷ []; entries = stack_12_s.entries ++ broken_gone_once ∷ []; ledger = (record call_1 { fresh = false; doubts = 1 } ∷ []) }
 
 abbrev world_13 : World
 world_13 = record world_12 { stacks = (((codes "s"), stack_13_s) ∷ []); place = 13 }
@@ -121,7 +119,7 @@ unfolding computing
 may_broken_gone_twice = ((codes "s"), stack_13_s, Gone, refl, refl, (refl, refl, (lit≤ tt, λ _. lit≤ tt)))
 
 abbrev stack_14_s : StackState
-stack_14_s = record stack_13_s { events = stack_13_s.events ++ (codes "event 14 A CREATE_FAILED Fault") ∷ []; entries = stack_13_s.entries ++ broken_gone_twice ∷ [] }
+stack_14_s = record stack_13_s { events = stack_13_s.events ++ (codes "event 14 A CREATE_FAILED Fault") ∷ []; entries = stack_13_s.entries ++ broken_gone_twice ∷ []; ledger = (record call_1 { fresh = false; doubts = 2 } ∷ []) }
 
 abbrev world_14 : World
 world_14 = record world_13 { stacks = (((codes "s"), stack_14_s) ∷ []); place = 14 }
@@ -131,7 +129,7 @@ unfolding computing
 may_broken_gone_thrice = ((codes "s"), stack_14_s, Gone, refl, refl, (refl, refl, (lit≤ tt, λ _. lit≤ tt)))
 
 abbrev stack_15_s : StackState
-stack_15_s = record stack_14_s { events = stack_14_s.events ++ (codes "event 15 A CREATE_FAILED Fault") ∷ []; entries = stack_14_s.entries ++ broken_gone_thrice ∷ [] }
+stack_15_s = record stack_14_s { events = stack_14_s.events ++ (codes "event 15 A CREATE_FAILED Fault") ∷ []; entries = stack_14_s.entries ++ broken_gone_thrice ∷ []; ledger = (record call_1 { fresh = false; doubts = 3 } ∷ []) }
 
 abbrev world_15 : World
 world_15 = record world_14 { stacks = (((codes "s"), stack_15_s) ∷ []); place = 15 }
@@ -151,7 +149,7 @@ unfolding computing
 may_deleting_without = (refl, refl, (refl, refl, refl))
 
 abbrev stack_17_s : StackState
-stack_17_s = record stack_16_s { status = status.DeleteInProgress; operation = 3; events = stack_16_s.events ++ (codes "event 17 - DELETE_IN_PROGRESS") ∷ []; entries = (intended ∷ deleting_without ∷ []) }
+stack_17_s = record stack_16_s { status = status.DeleteInProgress; operation = 3; events = stack_16_s.events ++ (codes "event 17 - DELETE_IN_PROGRESS") ∷ []; entries = (deleting_without ∷ []); ledger = (record call_1 { fresh = false } ∷ []) }
 
 abbrev world_17 : World
 world_17 = record world_16 { stacks = (((codes "s"), stack_17_s) ∷ []); operation = 3; place = 17 }

@@ -1,13 +1,14 @@
 -- An update makes a resource and is refused at another: what it made is deleted in the cleanup of the rollback, and not before.
-use Rattle.std.proofs.Common.{◌≡◌, refl, List, [], ◌∷◌, ◌++◌, Some, false, ℕ, inl, inr, ap, lit≤}
+use Rattle.std.proofs.Common.{◌≡◌, refl, List, [], ◌∷◌, ◌++◌, Some, false, ℕ, inl, inr, ap, lit≤, None, true}
 use Rattle.std.specs.Prelude.{codes, take, drop}
 use Rattle.cf_tree.specs.declared.request.Request.TheVariants as request
 use Rattle.cf_tree.specs.declared.code.Code.TheVariants as code
 use Rattle.cf_entry.specs.declared.turn.Reason.TheVariants as reason
+use Rattle.cf_stacks.specs.declared.call.Call.{Call}
+use Rattle.cf_stacks.specs.declared.call.Settled.TheVariants as settled
 use Rattle.cf_stacks.specs.declared.held.Held.{Held}
-use Rattle.cf_stacks.specs.declared.state.World.{World}
-use Rattle.cf_stacks.specs.declared.state.StackState.{StackState}
-use Rattle.cf_stacks.specs.Fold.{empty_world, source_for, no_stack}
+use Rattle.cf_stacks.specs.World.{World, StackState, empty_world, no_stack}
+use Rattle.cf_stacks.specs.Begin.{source_for}
 use Rattle.cf_stacks.specs.Status.{Forward, Back, BackClean}
 use Rattle.cf_plan.specs.Forward.{here, there, HasFailed, IsReady, AllDone, IsDone, is_made}
 use Rattle.cf_plan.specs.Follow.{MayFollow}
@@ -57,8 +58,11 @@ may_intended : MayFollow schemas world_2 [] intended
 unfolding computing
 may_intended = ((codes "s"), stack_2_s, Forward, refl, refl, record { next = refl; free = refl; home = refl; fits = refl; no_repeat = refl; chosen = (sound_2, ready_2_A, not_done_new (codes "A") stack_2_s refl refl refl, (refl, tt)) })
 
+abbrev pub call_1 : Call
+call_1 = record { number = 1; token = 1; lane = (codes "f1"); path = (codes "A"); request = (request.Create file (file_props (codes "a") (codes "x"))); status = status.CreateInProgress; fresh = true; doubts = 0; answer = None }
+
 abbrev stack_3_s : StackState
-stack_3_s = record stack_2_s { tokens = (record { token = 1; path = (codes "A"); lane = (codes "f1"); request = (request.Create file (file_props (codes "a") (codes "x"))) } ∷ []); events = stack_2_s.events ++ (codes "event 3 A CREATE_IN_PROGRESS") ∷ []; entries = stack_2_s.entries ++ intended ∷ [] }
+stack_3_s = record stack_2_s { tokens = (record { token = 1; path = (codes "A"); lane = (codes "f1"); request = (request.Create file (file_props (codes "a") (codes "x"))) } ∷ []); events = stack_2_s.events ++ (codes "event 3 A CREATE_IN_PROGRESS") ∷ []; entries = stack_2_s.entries ++ intended ∷ []; ledger = (call_1 ∷ []) }
 
 abbrev world_3 : World
 world_3 = record world_2 { stacks = (((codes "s"), stack_3_s) ∷ []); token = 1; place = 3 }
@@ -71,7 +75,7 @@ abbrev a_1 : Held
 a_1 = record { path = (codes "A"); kind = file; physical = (codes "f1:1"); props = (file_props (codes "a") (codes "x")); attrs = (file_attrs (codes "f1:1") 1 (codes "a") (codes "x")); needs = []; deletion = deletion.Delete; replace = replace.Delete; status = held.CreateComplete; unsure = false; superseded = false }
 
 abbrev stack_4_s : StackState
-stack_4_s = record stack_3_s { made = (a_1 ∷ []); tokens = []; events = stack_3_s.events ++ (codes "event 4 A CREATE_COMPLETE") ∷ []; entries = stack_3_s.entries ++ made ∷ [] }
+stack_4_s = record stack_3_s { made = (a_1 ∷ []); tokens = []; events = stack_3_s.events ++ (codes "event 4 A CREATE_COMPLETE") ∷ []; entries = stack_3_s.entries ++ made ∷ []; ledger = (record call_1 { answer = Some settled.Success } ∷ []) }
 
 abbrev world_4 : World
 world_4 = record world_3 { stacks = (((codes "s"), stack_4_s) ∷ []); place = 4 }
@@ -99,7 +103,7 @@ unfolding computing
 may_updating = (refl, refl, record { no_flaw = refl; known_types = refl; same_types = refl; imports = no_imports _ _ _ _ refl refl; free = refl; not_in_use = refl; changing = inr (inl refl) })
 
 abbrev stack_6_s : StackState
-stack_6_s = record stack_5_s { status = status.UpdateInProgress; operation = 2; before = (a_1 ∷ []); going = Some (source_for (codes "s") 1 second); events = stack_5_s.events ++ (codes "event 6 - UPDATE_IN_PROGRESS") ∷ []; entries = (updating ∷ []) }
+stack_6_s = record stack_5_s { status = status.UpdateInProgress; operation = 2; before = (a_1 ∷ []); going = Some (source_for (codes "s") 1 second); events = stack_5_s.events ++ (codes "event 6 - UPDATE_IN_PROGRESS") ∷ []; entries = (updating ∷ []); ledger = [] }
 
 abbrev world_6 : World
 world_6 = record world_5 { stacks = (((codes "s"), stack_6_s) ∷ []); operation = 2; place = 6 }
@@ -116,8 +120,11 @@ may_intended_new : MayFollow schemas world_6 [] intended_new
 unfolding computing
 may_intended_new = ((codes "s"), stack_6_s, Forward, refl, refl, record { next = refl; free = refl; home = refl; fits = refl; no_repeat = refl; chosen = (sound_6, ready_6_A, not_done_other (codes "A") stack_6_s (same_at (codes "Path") (codes "a")) _ _ _ refl refl refl refl refl refl, (refl, inl refl)) })
 
+abbrev pub call_2 : Call
+call_2 = record { number = 2; token = 2; lane = (codes "f1"); path = (codes "A"); request = (request.Create file (file_props (codes "b") (codes "x"))); status = status.UpdateInProgress; fresh = true; doubts = 0; answer = None }
+
 abbrev stack_7_s : StackState
-stack_7_s = record stack_6_s { tokens = (record { token = 2; path = (codes "A"); lane = (codes "f1"); request = (request.Create file (file_props (codes "b") (codes "x"))) } ∷ []); events = stack_6_s.events ++ (codes "event 7 A CREATE_IN_PROGRESS") ∷ []; entries = stack_6_s.entries ++ intended_new ∷ [] }
+stack_7_s = record stack_6_s { tokens = (record { token = 2; path = (codes "A"); lane = (codes "f1"); request = (request.Create file (file_props (codes "b") (codes "x"))) } ∷ []); events = stack_6_s.events ++ (codes "event 7 A CREATE_IN_PROGRESS") ∷ []; entries = stack_6_s.entries ++ intended_new ∷ []; ledger = (call_2 ∷ []) }
 
 abbrev world_7 : World
 world_7 = record world_6 { stacks = (((codes "s"), stack_7_s) ∷ []); token = 2; place = 7 }
@@ -130,7 +137,7 @@ abbrev a_2 : Held
 a_2 = record { path = (codes "A"); kind = file; physical = (codes "f1:2"); props = (file_props (codes "b") (codes "x")); attrs = (file_attrs (codes "f1:2") 1 (codes "b") (codes "x")); needs = []; deletion = deletion.Delete; replace = replace.Delete; status = held.UpdateComplete; unsure = false; superseded = false }
 
 abbrev stack_8_s : StackState
-stack_8_s = record stack_7_s { made = (a_2 ∷ []); tokens = []; events = stack_7_s.events ++ (codes "event 8 A CREATE_COMPLETE") ∷ []; entries = stack_7_s.entries ++ made_new ∷ [] }
+stack_8_s = record stack_7_s { made = (a_2 ∷ []); tokens = []; events = stack_7_s.events ++ (codes "event 8 A CREATE_COMPLETE") ∷ []; entries = stack_7_s.entries ++ made_new ∷ []; ledger = (record call_2 { answer = Some settled.Success } ∷ []) }
 
 abbrev world_8 : World
 world_8 = record world_7 { stacks = (((codes "s"), stack_8_s) ∷ []); place = 8 }
@@ -147,8 +154,11 @@ may_intended_other : MayFollow schemas world_8 [] intended_other
 unfolding computing
 may_intended_other = ((codes "s"), stack_8_s, Forward, refl, refl, record { next = refl; free = refl; home = refl; fits = refl; no_repeat = refl; chosen = (sound_8, ready_8_B, not_done_new (codes "B") stack_8_s refl refl refl, (refl, tt)) })
 
+abbrev pub call_3 : Call
+call_3 = record { number = 2; token = 3; lane = (codes "r1"); path = (codes "B"); request = (request.Create note (note_props (codes "b") (codes "u"))); status = status.UpdateInProgress; fresh = true; doubts = 0; answer = None }
+
 abbrev stack_9_s : StackState
-stack_9_s = record stack_8_s { tokens = (record { token = 3; path = (codes "B"); lane = (codes "r1"); request = (request.Create note (note_props (codes "b") (codes "u"))) } ∷ []); events = stack_8_s.events ++ (codes "event 9 B CREATE_IN_PROGRESS") ∷ []; entries = stack_8_s.entries ++ intended_other ∷ [] }
+stack_9_s = record stack_8_s { tokens = (record { token = 3; path = (codes "B"); lane = (codes "r1"); request = (request.Create note (note_props (codes "b") (codes "u"))) } ∷ []); events = stack_8_s.events ++ (codes "event 9 B CREATE_IN_PROGRESS") ∷ []; entries = stack_8_s.entries ++ intended_other ∷ []; ledger = (record call_2 { answer = Some settled.Success } ∷ call_3 ∷ []) }
 
 abbrev world_9 : World
 world_9 = record world_8 { stacks = (((codes "s"), stack_9_s) ∷ []); token = 3; place = 9 }
@@ -158,7 +168,7 @@ unfolding computing
 may_refused = ((codes "s"), stack_9_s, Forward, refl, refl, (refl, refl, (lit≤ tt, λ _. lit≤ tt)))
 
 abbrev stack_10_s : StackState
-stack_10_s = record stack_9_s { tokens = []; events = stack_9_s.events ++ (codes "event 10 B CREATE_FAILED AccessDenied") ∷ []; entries = stack_9_s.entries ++ refused ∷ [] }
+stack_10_s = record stack_9_s { tokens = []; events = stack_9_s.events ++ (codes "event 10 B CREATE_FAILED AccessDenied") ∷ []; entries = stack_9_s.entries ++ refused ∷ []; ledger = (record call_2 { answer = Some settled.Success } ∷ record call_3 { answer = Some (settled.Failed code.AccessDenied) } ∷ []) }
 
 abbrev world_10 : World
 world_10 = record world_9 { stacks = (((codes "s"), stack_10_s) ∷ []); place = 10 }
@@ -168,7 +178,7 @@ unfolding computing
 may_turned = ((codes "s"), stack_10_s, Forward, refl, refl, (refl, (refl, (inl ((3, (reason.Code code.AccessDenied)), refl)), (3, refl, refl))))
 
 abbrev stack_11_s : StackState
-stack_11_s = record stack_10_s { status = status.UpdateRollbackInProgress; events = stack_10_s.events ++ (codes "event 11 - UPDATE_ROLLBACK_IN_PROGRESS") ∷ []; entries = stack_10_s.entries ++ turned ∷ [] }
+stack_11_s = record stack_10_s { status = status.UpdateRollbackInProgress; events = stack_10_s.events ++ (codes "event 11 - UPDATE_ROLLBACK_IN_PROGRESS") ∷ []; entries = stack_10_s.entries ++ turned ∷ []; ledger = (record call_2 { fresh = false; answer = Some settled.Success } ∷ record call_3 { fresh = false; answer = Some (settled.Failed code.AccessDenied) } ∷ []) }
 
 abbrev world_11 : World
 world_11 = record world_10 { stacks = (((codes "s"), stack_11_s) ∷ []); place = 11 }
@@ -187,8 +197,11 @@ may_intended_deletion : MayFollow schemas world_12 [] intended_deletion
 unfolding computing
 may_intended_deletion = ((codes "s"), stack_12_s, BackClean, refl, refl, record { next = refl; free = refl; home = refl; fits = ((codes "2", refl), refl); no_repeat = refl; chosen = (_, (here, refl), refl, refl, refl) })
 
+abbrev pub call_4 : Call
+call_4 = record { number = 2; token = 4; lane = (codes "f1"); path = (codes "A"); request = (request.Delete (codes "f1:2")); status = status.UpdateRollbackCompleteCleanupInProgress; fresh = true; doubts = 0; answer = None }
+
 abbrev stack_13_s : StackState
-stack_13_s = record stack_12_s { tokens = (record { token = 4; path = (codes "A"); lane = (codes "f1"); request = (request.Delete (codes "f1:2")) } ∷ []); events = stack_12_s.events ++ (codes "event 13 A DELETE_IN_PROGRESS") ∷ []; entries = stack_12_s.entries ++ intended_deletion ∷ [] }
+stack_13_s = record stack_12_s { tokens = (record { token = 4; path = (codes "A"); lane = (codes "f1"); request = (request.Delete (codes "f1:2")) } ∷ []); events = stack_12_s.events ++ (codes "event 13 A DELETE_IN_PROGRESS") ∷ []; entries = stack_12_s.entries ++ intended_deletion ∷ []; ledger = (record call_2 { fresh = false; answer = Some settled.Success } ∷ record call_3 { fresh = false; answer = Some (settled.Failed code.AccessDenied) } ∷ call_4 ∷ []) }
 
 abbrev world_13 : World
 world_13 = record world_12 { stacks = (((codes "s"), stack_13_s) ∷ []); token = 4; place = 13 }
@@ -198,7 +211,7 @@ unfolding computing
 may_deleted = ((codes "s"), stack_13_s, BackClean, refl, refl, (refl, refl, lit≤ tt))
 
 abbrev stack_14_s : StackState
-stack_14_s = record stack_13_s { made = []; tokens = []; events = stack_13_s.events ++ (codes "event 14 A DELETE_COMPLETE") ∷ []; entries = stack_13_s.entries ++ deleted ∷ [] }
+stack_14_s = record stack_13_s { made = []; tokens = []; events = stack_13_s.events ++ (codes "event 14 A DELETE_COMPLETE") ∷ []; entries = stack_13_s.entries ++ deleted ∷ []; ledger = (record call_2 { fresh = false; answer = Some settled.Success } ∷ record call_3 { fresh = false; answer = Some (settled.Failed code.AccessDenied) } ∷ record call_4 { answer = Some settled.Success } ∷ []) }
 
 abbrev world_14 : World
 world_14 = record world_13 { stacks = (((codes "s"), stack_14_s) ∷ []); place = 14 }

@@ -1,11 +1,12 @@
 -- A nested stack gets the length of a file of the stack around it as its parameter.
-use Rattle.std.proofs.Common.{◌≡◌, refl, List, [], ◌∷◌, ◌++◌, Some, false, inl, ap, lit≤, ℕ}
+use Rattle.std.proofs.Common.{◌≡◌, refl, List, [], ◌∷◌, ◌++◌, Some, false, inl, ap, lit≤, ℕ, None, true}
 use Rattle.std.specs.Prelude.{codes, take, drop}
 use Rattle.cf_tree.specs.declared.request.Request.TheVariants as request
+use Rattle.cf_stacks.specs.declared.call.Call.{Call}
+use Rattle.cf_stacks.specs.declared.call.Settled.TheVariants as settled
 use Rattle.cf_stacks.specs.declared.held.Held.{Held}
-use Rattle.cf_stacks.specs.declared.state.World.{World}
-use Rattle.cf_stacks.specs.declared.state.StackState.{StackState}
-use Rattle.cf_stacks.specs.Fold.{empty_world, source_for, no_stack}
+use Rattle.cf_stacks.specs.World.{World, StackState, empty_world, no_stack}
+use Rattle.cf_stacks.specs.Begin.{source_for}
 use Rattle.cf_stacks.specs.Status.{Forward}
 use Rattle.cf_plan.specs.Forward.{here, there, HasFailed, IsReady, AllDone, IsDone, is_made}
 use Rattle.cf_plan.specs.Follow.{MayFollow}
@@ -56,8 +57,11 @@ may_intended_file : MayFollow schemas world_2 [] intended_file
 unfolding computing
 may_intended_file = ((codes "top"), stack_2_top, Forward, refl, refl, record { next = refl; free = refl; home = refl; fits = refl; no_repeat = refl; chosen = (sound_2, ready_2_Src, not_done_new (codes "Src") stack_2_top refl refl refl, (refl, tt)) })
 
+abbrev pub call_1 : Call
+call_1 = record { number = 1; token = 1; lane = (codes "f1"); path = (codes "Src"); request = (request.Create file (file_props (codes "s") (codes "12"))); status = status.CreateInProgress; fresh = true; doubts = 0; answer = None }
+
 abbrev stack_3_top : StackState
-stack_3_top = record stack_2_top { tokens = (record { token = 1; path = (codes "Src"); lane = (codes "f1"); request = (request.Create file (file_props (codes "s") (codes "12"))) } ∷ []); events = stack_2_top.events ++ (codes "event 3 Src CREATE_IN_PROGRESS") ∷ []; entries = stack_2_top.entries ++ intended_file ∷ [] }
+stack_3_top = record stack_2_top { tokens = (record { token = 1; path = (codes "Src"); lane = (codes "f1"); request = (request.Create file (file_props (codes "s") (codes "12"))) } ∷ []); events = stack_2_top.events ++ (codes "event 3 Src CREATE_IN_PROGRESS") ∷ []; entries = stack_2_top.entries ++ intended_file ∷ []; ledger = (call_1 ∷ []) }
 
 abbrev world_3 : World
 world_3 = record world_2 { stacks = (((codes "top"), stack_3_top) ∷ []); token = 1; place = 3 }
@@ -70,7 +74,7 @@ abbrev src_1 : Held
 src_1 = record { path = (codes "Src"); kind = file; physical = (codes "f1:1"); props = (file_props (codes "s") (codes "12")); attrs = (file_attrs (codes "f1:1") 2 (codes "s") (codes "12")); needs = []; deletion = deletion.Delete; replace = replace.Delete; status = held.CreateComplete; unsure = false; superseded = false }
 
 abbrev stack_4_top : StackState
-stack_4_top = record stack_3_top { made = (src_1 ∷ []); tokens = []; events = stack_3_top.events ++ (codes "event 4 Src CREATE_COMPLETE") ∷ []; entries = stack_3_top.entries ++ made_file ∷ [] }
+stack_4_top = record stack_3_top { made = (src_1 ∷ []); tokens = []; events = stack_3_top.events ++ (codes "event 4 Src CREATE_COMPLETE") ∷ []; entries = stack_3_top.entries ++ made_file ∷ []; ledger = (record call_1 { answer = Some settled.Success } ∷ []) }
 
 abbrev world_4 : World
 world_4 = record world_3 { stacks = (((codes "top"), stack_4_top) ∷ []); place = 4 }
@@ -87,8 +91,11 @@ may_intended_record : MayFollow schemas world_4 [] intended_record
 unfolding computing
 may_intended_record = ((codes "top"), stack_4_top, Forward, refl, refl, record { next = refl; free = refl; home = refl; fits = refl; no_repeat = refl; chosen = (sound_4, ready_4_Child_Rec, not_done_new (codes "Child/Rec") stack_4_top refl refl refl, (refl, tt)) })
 
+abbrev pub call_2 : Call
+call_2 = record { number = 1; token = 2; lane = (codes "r1"); path = (codes "Child/Rec"); request = (request.Create note (note_props (codes "k") (codes "2"))); status = status.CreateInProgress; fresh = true; doubts = 0; answer = None }
+
 abbrev stack_5_top : StackState
-stack_5_top = record stack_4_top { tokens = (record { token = 2; path = (codes "Child/Rec"); lane = (codes "r1"); request = (request.Create note (note_props (codes "k") (codes "2"))) } ∷ []); events = stack_4_top.events ++ (codes "event 5 Child/Rec CREATE_IN_PROGRESS") ∷ []; entries = stack_4_top.entries ++ intended_record ∷ [] }
+stack_5_top = record stack_4_top { tokens = (record { token = 2; path = (codes "Child/Rec"); lane = (codes "r1"); request = (request.Create note (note_props (codes "k") (codes "2"))) } ∷ []); events = stack_4_top.events ++ (codes "event 5 Child/Rec CREATE_IN_PROGRESS") ∷ []; entries = stack_4_top.entries ++ intended_record ∷ []; ledger = (record call_1 { answer = Some settled.Success } ∷ call_2 ∷ []) }
 
 abbrev world_5 : World
 world_5 = record world_4 { stacks = (((codes "top"), stack_5_top) ∷ []); token = 2; place = 5 }
@@ -101,7 +108,7 @@ abbrev child_rec_1 : Held
 child_rec_1 = record { path = (codes "Child/Rec"); kind = note; physical = (codes "r1:2"); props = (note_props (codes "k") (codes "2")); attrs = (note_attrs (codes "r1:2") 1 (codes "k") (codes "2")); needs = ((codes "Src") ∷ []); deletion = deletion.Delete; replace = replace.Delete; status = held.CreateComplete; unsure = false; superseded = false }
 
 abbrev stack_6_top : StackState
-stack_6_top = record stack_5_top { made = (src_1 ∷ child_rec_1 ∷ []); tokens = []; events = stack_5_top.events ++ (codes "event 6 Child/Rec CREATE_COMPLETE") ∷ []; entries = stack_5_top.entries ++ made_record ∷ [] }
+stack_6_top = record stack_5_top { made = (src_1 ∷ child_rec_1 ∷ []); tokens = []; events = stack_5_top.events ++ (codes "event 6 Child/Rec CREATE_COMPLETE") ∷ []; entries = stack_5_top.entries ++ made_record ∷ []; ledger = (record call_1 { answer = Some settled.Success } ∷ record call_2 { answer = Some settled.Success } ∷ []) }
 
 abbrev world_6 : World
 world_6 = record world_5 { stacks = (((codes "top"), stack_6_top) ∷ []); place = 6 }

@@ -1,16 +1,18 @@
 -- An update that is answered NotUpdatable where a conditional property differs becomes a replacement.
-use Rattle.std.proofs.Common.{◌≡◌, refl, [], ◌∷◌, ◌++◌, Some, true, false, inl, inr, ap, lit≤}
+use Rattle.std.proofs.Common.{◌≡◌, refl, [], ◌∷◌, ◌++◌, Some, true, false, inl, inr, ap, lit≤, None}
 use Rattle.std.specs.Prelude.{codes}
 use Rattle.cf_tree.specs.Datum.{text}
 use Rattle.cf_tree.specs.declared.request.Request.TheVariants as request
+use Rattle.cf_stacks.specs.declared.call.Call.{Call}
+use Rattle.cf_stacks.specs.declared.call.Settled.TheVariants as settled
+use Rattle.cf_tree.specs.declared.code.Code.TheVariants as code
 use Rattle.cf_stacks.specs.declared.held.Held.{Held}
-use Rattle.cf_stacks.specs.declared.state.World.{World}
-use Rattle.cf_stacks.specs.declared.state.StackState.{StackState}
-use Rattle.cf_stacks.specs.Fold.{empty_world, source_for, no_stack}
+use Rattle.cf_stacks.specs.World.{World, StackState, empty_world, no_stack}
+use Rattle.cf_stacks.specs.Begin.{source_for}
 use Rattle.cf_stacks.specs.Status.{Forward, Clean}
-use Rattle.cf_schema.specs.declared.changed.Difference.TheVariants.{Same, MayReplace, Replace}
 use Rattle.cf_plan.specs.Forward.{here, HasFailed, IsReady, AllDone, IsDone, is_made}
 use Rattle.cf_plan.specs.Follow.{MayFollow}
+use Rattle.cf_schema.specs.declared.changed.Difference.TheVariants.{Same, MayReplace, Replace}
 use Rattle.cf_examples.specs.Given.{schemas, note, note_props, note_attrs, lane_pair, report_of}
 use Rattle.cf_examples.proofs.Computing.{computing}
 use Rattle.cf_examples.proofs.Lists.{in_none, only}
@@ -56,8 +58,11 @@ may_intended : MayFollow schemas world_2 [] intended
 unfolding computing
 may_intended = ((codes "s"), stack_2_s, Forward, refl, refl, record { next = refl; free = refl; home = refl; fits = refl; no_repeat = refl; chosen = (sound_2, ready_2_K, not_done_new (codes "K") stack_2_s refl refl refl, (refl, tt)) })
 
+abbrev pub call_1 : Call
+call_1 = record { number = 1; token = 1; lane = (codes "r1"); path = (codes "K"); request = (request.Create note ((codes "Class", text (codes "sealed")) ∷ (note_props (codes "k") (codes "v")))); status = status.CreateInProgress; fresh = true; doubts = 0; answer = None }
+
 abbrev stack_3_s : StackState
-stack_3_s = record stack_2_s { tokens = (record { token = 1; path = (codes "K"); lane = (codes "r1"); request = (request.Create note ((codes "Class", text (codes "sealed")) ∷ (note_props (codes "k") (codes "v")))) } ∷ []); events = stack_2_s.events ++ (codes "event 3 K CREATE_IN_PROGRESS") ∷ []; entries = stack_2_s.entries ++ intended ∷ [] }
+stack_3_s = record stack_2_s { tokens = (record { token = 1; path = (codes "K"); lane = (codes "r1"); request = (request.Create note ((codes "Class", text (codes "sealed")) ∷ (note_props (codes "k") (codes "v")))) } ∷ []); events = stack_2_s.events ++ (codes "event 3 K CREATE_IN_PROGRESS") ∷ []; entries = stack_2_s.entries ++ intended ∷ []; ledger = (call_1 ∷ []) }
 
 abbrev world_3 : World
 world_3 = record world_2 { stacks = (((codes "s"), stack_3_s) ∷ []); token = 1; place = 3 }
@@ -70,7 +75,7 @@ abbrev k_1 : Held
 k_1 = record { path = (codes "K"); kind = note; physical = (codes "r1:1"); props = ((codes "Class", text (codes "sealed")) ∷ (note_props (codes "k") (codes "v"))); attrs = ((codes "Class", text (codes "sealed")) ∷ (note_attrs (codes "r1:1") 1 (codes "k") (codes "v"))); needs = []; deletion = deletion.Delete; replace = replace.Delete; status = held.CreateComplete; unsure = false; superseded = false }
 
 abbrev stack_4_s : StackState
-stack_4_s = record stack_3_s { made = (k_1 ∷ []); tokens = []; events = stack_3_s.events ++ (codes "event 4 K CREATE_COMPLETE") ∷ []; entries = stack_3_s.entries ++ made ∷ [] }
+stack_4_s = record stack_3_s { made = (k_1 ∷ []); tokens = []; events = stack_3_s.events ++ (codes "event 4 K CREATE_COMPLETE") ∷ []; entries = stack_3_s.entries ++ made ∷ []; ledger = (record call_1 { answer = Some settled.Success } ∷ []) }
 
 abbrev world_4 : World
 world_4 = record world_3 { stacks = (((codes "s"), stack_4_s) ∷ []); place = 4 }
@@ -98,7 +103,7 @@ unfolding computing
 may_updating = (refl, refl, record { no_flaw = refl; known_types = refl; same_types = refl; imports = no_imports _ _ _ _ refl refl; free = refl; not_in_use = refl; changing = inr (inl refl) })
 
 abbrev stack_6_s : StackState
-stack_6_s = record stack_5_s { status = status.UpdateInProgress; operation = 2; before = (k_1 ∷ []); going = Some (source_for (codes "s") 1 second); events = stack_5_s.events ++ (codes "event 6 - UPDATE_IN_PROGRESS") ∷ []; entries = (updating ∷ []) }
+stack_6_s = record stack_5_s { status = status.UpdateInProgress; operation = 2; before = (k_1 ∷ []); going = Some (source_for (codes "s") 1 second); events = stack_5_s.events ++ (codes "event 6 - UPDATE_IN_PROGRESS") ∷ []; entries = (updating ∷ []); ledger = [] }
 
 abbrev world_6 : World
 world_6 = record world_5 { stacks = (((codes "s"), stack_6_s) ∷ []); operation = 2; place = 6 }
@@ -115,8 +120,11 @@ may_intended_change : MayFollow schemas world_6 [] intended_change
 unfolding computing
 may_intended_change = ((codes "s"), stack_6_s, Forward, refl, refl, record { next = refl; free = refl; home = refl; fits = ((codes "1", refl), refl); no_repeat = refl; chosen = (sound_6, ready_6_K, not_done_other (codes "K") stack_6_s (same_at (codes "Class") (codes "sealed")) _ _ _ refl refl refl refl refl refl, (_, refl, refl, refl, ((λ e. let z : MayReplace ≡ Replace = e in cc), inr (λ e. let z : MayReplace ≡ Same = e in cc)), refl)) })
 
+abbrev pub call_2 : Call
+call_2 = record { number = 2; token = 2; lane = (codes "r1"); path = (codes "K"); request = (request.Update (codes "r1:1") ((codes "Class", text (codes "plain")) ∷ (note_props (codes "k") (codes "v")))); status = status.UpdateInProgress; fresh = true; doubts = 0; answer = None }
+
 abbrev stack_7_s : StackState
-stack_7_s = record stack_6_s { tokens = (record { token = 2; path = (codes "K"); lane = (codes "r1"); request = (request.Update (codes "r1:1") ((codes "Class", text (codes "plain")) ∷ (note_props (codes "k") (codes "v")))) } ∷ []); events = stack_6_s.events ++ (codes "event 7 K UPDATE_IN_PROGRESS") ∷ []; entries = stack_6_s.entries ++ intended_change ∷ [] }
+stack_7_s = record stack_6_s { tokens = (record { token = 2; path = (codes "K"); lane = (codes "r1"); request = (request.Update (codes "r1:1") ((codes "Class", text (codes "plain")) ∷ (note_props (codes "k") (codes "v")))) } ∷ []); events = stack_6_s.events ++ (codes "event 7 K UPDATE_IN_PROGRESS") ∷ []; entries = stack_6_s.entries ++ intended_change ∷ []; ledger = (call_2 ∷ []) }
 
 abbrev world_7 : World
 world_7 = record world_6 { stacks = (((codes "s"), stack_7_s) ∷ []); token = 2; place = 7 }
@@ -126,7 +134,7 @@ unfolding computing
 may_not_updatable = ((codes "s"), stack_7_s, Forward, refl, refl, (refl, refl, (lit≤ tt, λ _. lit≤ tt)))
 
 abbrev stack_8_s : StackState
-stack_8_s = record stack_7_s { tokens = []; events = stack_7_s.events ++ (codes "event 8 K UPDATE_FAILED NotUpdatable") ∷ []; entries = stack_7_s.entries ++ not_updatable ∷ [] }
+stack_8_s = record stack_7_s { tokens = []; events = stack_7_s.events ++ (codes "event 8 K UPDATE_FAILED NotUpdatable") ∷ []; entries = stack_7_s.entries ++ not_updatable ∷ []; ledger = (record call_2 { answer = Some (settled.Failed code.NotUpdatable) } ∷ []) }
 
 abbrev world_8 : World
 world_8 = record world_7 { stacks = (((codes "s"), stack_8_s) ∷ []); place = 8 }
@@ -143,8 +151,11 @@ may_intended_new : MayFollow schemas world_8 [] intended_new
 unfolding computing
 may_intended_new = ((codes "s"), stack_8_s, Forward, refl, refl, record { next = refl; free = refl; home = refl; fits = refl; no_repeat = refl; chosen = (sound_8, ready_8_K, not_done_other (codes "K") stack_8_s (same_at (codes "Class") (codes "sealed")) _ _ _ refl refl refl refl refl refl, (refl, inr (refl, refl))) })
 
+abbrev pub call_3 : Call
+call_3 = record { number = 2; token = 3; lane = (codes "r1"); path = (codes "K"); request = (request.Create note ((codes "Class", text (codes "plain")) ∷ (note_props (codes "k") (codes "v")))); status = status.UpdateInProgress; fresh = true; doubts = 0; answer = None }
+
 abbrev stack_9_s : StackState
-stack_9_s = record stack_8_s { tokens = (record { token = 3; path = (codes "K"); lane = (codes "r1"); request = (request.Create note ((codes "Class", text (codes "plain")) ∷ (note_props (codes "k") (codes "v")))) } ∷ []); events = stack_8_s.events ++ (codes "event 9 K CREATE_IN_PROGRESS") ∷ []; entries = stack_8_s.entries ++ intended_new ∷ [] }
+stack_9_s = record stack_8_s { tokens = (record { token = 3; path = (codes "K"); lane = (codes "r1"); request = (request.Create note ((codes "Class", text (codes "plain")) ∷ (note_props (codes "k") (codes "v")))) } ∷ []); events = stack_8_s.events ++ (codes "event 9 K CREATE_IN_PROGRESS") ∷ []; entries = stack_8_s.entries ++ intended_new ∷ []; ledger = (record call_2 { answer = Some (settled.Failed code.NotUpdatable) } ∷ call_3 ∷ []) }
 
 abbrev world_9 : World
 world_9 = record world_8 { stacks = (((codes "s"), stack_9_s) ∷ []); token = 3; place = 9 }
@@ -157,7 +168,7 @@ abbrev k_2 : Held
 k_2 = record { path = (codes "K"); kind = note; physical = (codes "r1:3"); props = ((codes "Class", text (codes "plain")) ∷ (note_props (codes "k") (codes "v"))); attrs = ((codes "Class", text (codes "plain")) ∷ (note_attrs (codes "r1:3") 1 (codes "k") (codes "v"))); needs = []; deletion = deletion.Delete; replace = replace.Delete; status = held.UpdateComplete; unsure = false; superseded = false }
 
 abbrev stack_10_s : StackState
-stack_10_s = record stack_9_s { made = (k_2 ∷ []); tokens = []; events = stack_9_s.events ++ (codes "event 10 K CREATE_COMPLETE") ∷ []; entries = stack_9_s.entries ++ made_new ∷ [] }
+stack_10_s = record stack_9_s { made = (k_2 ∷ []); tokens = []; events = stack_9_s.events ++ (codes "event 10 K CREATE_COMPLETE") ∷ []; entries = stack_9_s.entries ++ made_new ∷ []; ledger = (record call_2 { answer = Some (settled.Failed code.NotUpdatable) } ∷ record call_3 { answer = Some settled.Success } ∷ []) }
 
 abbrev world_10 : World
 world_10 = record world_9 { stacks = (((codes "s"), stack_10_s) ∷ []); place = 10 }
@@ -178,7 +189,7 @@ abbrev k_3 : Held
 k_3 = record { path = (codes "K"); kind = note; physical = (codes "r1:1"); props = ((codes "Class", text (codes "sealed")) ∷ (note_props (codes "k") (codes "v"))); attrs = ((codes "Class", text (codes "sealed")) ∷ (note_attrs (codes "r1:1") 1 (codes "k") (codes "v"))); needs = []; deletion = deletion.Delete; replace = replace.Delete; status = held.CreateComplete; unsure = false; superseded = true }
 
 abbrev stack_11_s : StackState
-stack_11_s = record stack_10_s { status = status.UpdateCompleteCleanupInProgress; held = (k_3 ∷ k_2 ∷ []); made = []; source = Some (source_for (codes "s") 1 second); events = stack_10_s.events ++ (codes "event 11 - UPDATE_COMPLETE_CLEANUP_IN_PROGRESS") ∷ []; entries = stack_10_s.entries ++ cleaning ∷ [] }
+stack_11_s = record stack_10_s { status = status.UpdateCompleteCleanupInProgress; held = (k_3 ∷ k_2 ∷ []); made = []; source = Some (source_for (codes "s") 1 second); events = stack_10_s.events ++ (codes "event 11 - UPDATE_COMPLETE_CLEANUP_IN_PROGRESS") ∷ []; entries = stack_10_s.entries ++ cleaning ∷ []; ledger = (record call_2 { fresh = false; answer = Some (settled.Failed code.NotUpdatable) } ∷ record call_3 { fresh = false; answer = Some settled.Success } ∷ []) }
 
 abbrev world_11 : World
 world_11 = record world_10 { stacks = (((codes "s"), stack_11_s) ∷ []); place = 11 }
@@ -187,8 +198,11 @@ may_intended_deletion : MayFollow schemas world_11 [] intended_deletion
 unfolding computing
 may_intended_deletion = ((codes "s"), stack_11_s, Clean, refl, refl, record { next = refl; free = refl; home = refl; fits = ((codes "1", refl), refl); no_repeat = refl; chosen = (_, (here, refl, refl), refl, refl, refl) })
 
+abbrev pub call_4 : Call
+call_4 = record { number = 2; token = 4; lane = (codes "r1"); path = (codes "K"); request = (request.Delete (codes "r1:1")); status = status.UpdateCompleteCleanupInProgress; fresh = true; doubts = 0; answer = None }
+
 abbrev stack_12_s : StackState
-stack_12_s = record stack_11_s { tokens = (record { token = 4; path = (codes "K"); lane = (codes "r1"); request = (request.Delete (codes "r1:1")) } ∷ []); events = stack_11_s.events ++ (codes "event 12 K DELETE_IN_PROGRESS") ∷ []; entries = stack_11_s.entries ++ intended_deletion ∷ [] }
+stack_12_s = record stack_11_s { tokens = (record { token = 4; path = (codes "K"); lane = (codes "r1"); request = (request.Delete (codes "r1:1")) } ∷ []); events = stack_11_s.events ++ (codes "event 12 K DELETE_IN_PROGRESS") ∷ []; entries = stack_11_s.entries ++ intended_deletion ∷ []; ledger = (record call_2 { fresh = false; answer = Some (settled.Failed code.NotUpdatable) } ∷ record call_3 { fresh = false; answer = Some settled.Success } ∷ call_4 ∷ []) }
 
 abbrev world_12 : World
 world_12 = record world_11 { stacks = (((codes "s"), stack_12_s) ∷ []); token = 4; place = 12 }
@@ -198,7 +212,7 @@ unfolding computing
 may_deleted = ((codes "s"), stack_12_s, Clean, refl, refl, (refl, refl, lit≤ tt))
 
 abbrev stack_13_s : StackState
-stack_13_s = record stack_12_s { held = (k_2 ∷ []); tokens = []; events = stack_12_s.events ++ (codes "event 13 K DELETE_COMPLETE") ∷ []; entries = stack_12_s.entries ++ deleted ∷ [] }
+stack_13_s = record stack_12_s { held = (k_2 ∷ []); tokens = []; events = stack_12_s.events ++ (codes "event 13 K DELETE_COMPLETE") ∷ []; entries = stack_12_s.entries ++ deleted ∷ []; ledger = (record call_2 { fresh = false; answer = Some (settled.Failed code.NotUpdatable) } ∷ record call_3 { fresh = false; answer = Some settled.Success } ∷ record call_4 { answer = Some settled.Success } ∷ []) }
 
 abbrev world_13 : World
 world_13 = record world_12 { stacks = (((codes "s"), stack_13_s) ∷ []); place = 13 }

@@ -1,16 +1,17 @@
 -- A stack exports the length of a file, and another one imports it: an update that would change the length is taken back.
-use Rattle.std.proofs.Common.{◌≡◌, refl, List, [], ◌∷◌, ◌++◌, Some, None, false, ℕ, inl, inr, ap, lit≤, true≢false}
+use Rattle.std.proofs.Common.{◌≡◌, refl, List, [], ◌∷◌, ◌++◌, Some, None, false, ℕ, inl, inr, ap, lit≤, true≢false, true}
 use Rattle.std.specs.Prelude.{codes, length, take, drop}
 use Rattle.cf_desired.specs.declared.wanted.Plan.{Plan}
 use Rattle.cf_tree.specs.declared.request.Request.TheVariants as request
+use Rattle.cf_stacks.specs.declared.call.Call.{Call}
+use Rattle.cf_stacks.specs.declared.call.Settled.TheVariants as settled
 use Rattle.cf_stacks.specs.declared.held.Held.{Held}
-use Rattle.cf_stacks.specs.declared.state.World.{World}
-use Rattle.cf_stacks.specs.declared.state.StackState.{StackState}
-use Rattle.cf_stacks.specs.Fold.{empty_world, source_for, no_stack}
+use Rattle.cf_stacks.specs.World.{World, StackState, empty_world, no_stack}
+use Rattle.cf_stacks.specs.Begin.{source_for}
 use Rattle.cf_stacks.specs.Status.{Forward, Back, BackClean}
-use Rattle.cf_schema.specs.declared.changed.Difference.TheVariants.{Same, Update, Replace}
 use Rattle.cf_plan.specs.Forward.{here, HasFailed, IsReady, AllDone, IsDone, is_made, is_updated}
 use Rattle.cf_plan.specs.Follow.{MayFollow}
+use Rattle.cf_schema.specs.declared.changed.Difference.TheVariants.{Same, Update, Replace}
 use Rattle.cf_examples.specs.Given.{schemas, file, note, file_props, note_props, file_attrs, note_attrs, lane_pair, report_of}
 use Rattle.cf_examples.proofs.Computing.{computing}
 use Rattle.cf_examples.proofs.Lists.{in_none, only}
@@ -59,8 +60,11 @@ may_intended_file : MayFollow schemas world_2 [] intended_file
 unfolding computing
 may_intended_file = ((codes "site"), stack_2_site, Forward, refl, refl, record { next = refl; free = refl; home = refl; fits = refl; no_repeat = refl; chosen = (sound_2, ready_2_A, not_done_new (codes "A") stack_2_site refl refl refl, (refl, tt)) })
 
+abbrev pub call_1 : Call
+call_1 = record { number = 1; token = 1; lane = (codes "f1"); path = (codes "A"); request = (request.Create file (file_props (codes "a") (codes "xx"))); status = status.CreateInProgress; fresh = true; doubts = 0; answer = None }
+
 abbrev stack_3_site : StackState
-stack_3_site = record stack_2_site { tokens = (record { token = 1; path = (codes "A"); lane = (codes "f1"); request = (request.Create file (file_props (codes "a") (codes "xx"))) } ∷ []); events = stack_2_site.events ++ (codes "event 3 A CREATE_IN_PROGRESS") ∷ []; entries = stack_2_site.entries ++ intended_file ∷ [] }
+stack_3_site = record stack_2_site { tokens = (record { token = 1; path = (codes "A"); lane = (codes "f1"); request = (request.Create file (file_props (codes "a") (codes "xx"))) } ∷ []); events = stack_2_site.events ++ (codes "event 3 A CREATE_IN_PROGRESS") ∷ []; entries = stack_2_site.entries ++ intended_file ∷ []; ledger = (call_1 ∷ []) }
 
 abbrev world_3 : World
 world_3 = record world_2 { stacks = (((codes "site"), stack_3_site) ∷ []); token = 1; place = 3 }
@@ -73,7 +77,7 @@ abbrev a_1 : Held
 a_1 = record { path = (codes "A"); kind = file; physical = (codes "f1:1"); props = (file_props (codes "a") (codes "xx")); attrs = (file_attrs (codes "f1:1") 2 (codes "a") (codes "xx")); needs = []; deletion = deletion.Delete; replace = replace.Delete; status = held.CreateComplete; unsure = false; superseded = false }
 
 abbrev stack_4_site : StackState
-stack_4_site = record stack_3_site { made = (a_1 ∷ []); tokens = []; events = stack_3_site.events ++ (codes "event 4 A CREATE_COMPLETE") ∷ []; entries = stack_3_site.entries ++ made_file ∷ [] }
+stack_4_site = record stack_3_site { made = (a_1 ∷ []); tokens = []; events = stack_3_site.events ++ (codes "event 4 A CREATE_COMPLETE") ∷ []; entries = stack_3_site.entries ++ made_file ∷ []; ledger = (record call_1 { answer = Some settled.Success } ∷ []) }
 
 abbrev world_4 : World
 world_4 = record world_3 { stacks = (((codes "site"), stack_4_site) ∷ []); place = 4 }
@@ -124,8 +128,11 @@ may_intended_record = ((codes "user"), stack_6_user, Forward, refl, refl, record
 abbrev stack_7_site : StackState
 stack_7_site = stack_6_site
 
+abbrev pub call_2 : Call
+call_2 = record { number = 2; token = 2; lane = (codes "r1"); path = (codes "U"); request = (request.Create note (note_props (codes "u") (codes "2"))); status = status.CreateInProgress; fresh = true; doubts = 0; answer = None }
+
 abbrev stack_7_user : StackState
-stack_7_user = record stack_6_user { tokens = (record { token = 2; path = (codes "U"); lane = (codes "r1"); request = (request.Create note (note_props (codes "u") (codes "2"))) } ∷ []); events = stack_6_user.events ++ (codes "event 7 U CREATE_IN_PROGRESS") ∷ []; entries = stack_6_user.entries ++ intended_record ∷ [] }
+stack_7_user = record stack_6_user { tokens = (record { token = 2; path = (codes "U"); lane = (codes "r1"); request = (request.Create note (note_props (codes "u") (codes "2"))) } ∷ []); events = stack_6_user.events ++ (codes "event 7 U CREATE_IN_PROGRESS") ∷ []; entries = stack_6_user.entries ++ intended_record ∷ []; ledger = (call_2 ∷ []) }
 
 abbrev world_7 : World
 world_7 = record world_6 { stacks = (((codes "site"), stack_7_site) ∷ ((codes "user"), stack_7_user) ∷ []); token = 2; place = 7 }
@@ -141,7 +148,7 @@ abbrev u_1 : Held
 u_1 = record { path = (codes "U"); kind = note; physical = (codes "r1:2"); props = (note_props (codes "u") (codes "2")); attrs = (note_attrs (codes "r1:2") 1 (codes "u") (codes "2")); needs = []; deletion = deletion.Delete; replace = replace.Delete; status = held.CreateComplete; unsure = false; superseded = false }
 
 abbrev stack_8_user : StackState
-stack_8_user = record stack_7_user { made = (u_1 ∷ []); tokens = []; events = stack_7_user.events ++ (codes "event 8 U CREATE_COMPLETE") ∷ []; entries = stack_7_user.entries ++ made_record ∷ [] }
+stack_8_user = record stack_7_user { made = (u_1 ∷ []); tokens = []; events = stack_7_user.events ++ (codes "event 8 U CREATE_COMPLETE") ∷ []; entries = stack_7_user.entries ++ made_record ∷ []; ledger = (record call_2 { answer = Some settled.Success } ∷ []) }
 
 abbrev world_8 : World
 world_8 = record world_7 { stacks = (((codes "site"), stack_8_site) ∷ ((codes "user"), stack_8_user) ∷ []); place = 8 }
@@ -172,7 +179,7 @@ unfolding computing
 may_updating = (refl, refl, record { no_flaw = refl; known_types = refl; same_types = refl; imports = no_imports _ _ _ _ refl refl; free = refl; not_in_use = refl; changing = inr (inl refl) })
 
 abbrev stack_10_site : StackState
-stack_10_site = record stack_9_site { status = status.UpdateInProgress; operation = 3; before = (a_1 ∷ []); going = Some (source_for (codes "site") 1 second); events = stack_9_site.events ++ (codes "event 10 - UPDATE_IN_PROGRESS") ∷ []; entries = (updating ∷ []) }
+stack_10_site = record stack_9_site { status = status.UpdateInProgress; operation = 3; before = (a_1 ∷ []); going = Some (source_for (codes "site") 1 second); events = stack_9_site.events ++ (codes "event 10 - UPDATE_IN_PROGRESS") ∷ []; entries = (updating ∷ []); ledger = [] }
 
 abbrev stack_10_user : StackState
 stack_10_user = stack_9_user
@@ -192,8 +199,11 @@ may_intended_change : MayFollow schemas world_10 [] intended_change
 unfolding computing
 may_intended_change = ((codes "site"), stack_10_site, Forward, refl, refl, record { next = refl; free = refl; home = refl; fits = ((codes "1", refl), refl); no_repeat = refl; chosen = (sound_10, ready_10_A, not_done_other (codes "A") stack_10_site (same_at (codes "Content") (codes "xx")) _ _ _ refl refl refl refl refl refl, (_, refl, refl, refl, ((λ e. let z : Update ≡ Replace = e in cc), inr (λ e. let z : Update ≡ Same = e in cc)), refl)) })
 
+abbrev pub call_3 : Call
+call_3 = record { number = 3; token = 3; lane = (codes "f1"); path = (codes "A"); request = (request.Update (codes "f1:1") (file_props (codes "a") (codes "xxx"))); status = status.UpdateInProgress; fresh = true; doubts = 0; answer = None }
+
 abbrev stack_11_site : StackState
-stack_11_site = record stack_10_site { tokens = (record { token = 3; path = (codes "A"); lane = (codes "f1"); request = (request.Update (codes "f1:1") (file_props (codes "a") (codes "xxx"))) } ∷ []); events = stack_10_site.events ++ (codes "event 11 A UPDATE_IN_PROGRESS") ∷ []; entries = stack_10_site.entries ++ intended_change ∷ [] }
+stack_11_site = record stack_10_site { tokens = (record { token = 3; path = (codes "A"); lane = (codes "f1"); request = (request.Update (codes "f1:1") (file_props (codes "a") (codes "xxx"))) } ∷ []); events = stack_10_site.events ++ (codes "event 11 A UPDATE_IN_PROGRESS") ∷ []; entries = stack_10_site.entries ++ intended_change ∷ []; ledger = (call_3 ∷ []) }
 
 abbrev stack_11_user : StackState
 stack_11_user = stack_10_user
@@ -209,7 +219,7 @@ abbrev a_2 : Held
 a_2 = record { path = (codes "A"); kind = file; physical = (codes "f1:1"); props = (file_props (codes "a") (codes "xxx")); attrs = (file_attrs (codes "f1:1") 3 (codes "a") (codes "xxx")); needs = []; deletion = deletion.Delete; replace = replace.Delete; status = held.UpdateComplete; unsure = false; superseded = false }
 
 abbrev stack_12_site : StackState
-stack_12_site = record stack_11_site { held = (a_2 ∷ []); tokens = []; events = stack_11_site.events ++ (codes "event 12 A UPDATE_COMPLETE") ∷ []; entries = stack_11_site.entries ++ changed ∷ [] }
+stack_12_site = record stack_11_site { held = (a_2 ∷ []); tokens = []; events = stack_11_site.events ++ (codes "event 12 A UPDATE_COMPLETE") ∷ []; entries = stack_11_site.entries ++ changed ∷ []; ledger = (record call_3 { answer = Some settled.Success } ∷ []) }
 
 abbrev stack_12_user : StackState
 stack_12_user = stack_11_user
@@ -226,7 +236,7 @@ unfolding computing
 may_turned = ((codes "site"), stack_12_site, Forward, refl, refl, (refl, (refl, inr (inr (inr (codes "site-total", (all_done_12, refl)))), (refl, no_bad stack_12_site refl refl, no_bad_output stack_12_site refl, (all_done_12, refl)))))
 
 abbrev stack_13_site : StackState
-stack_13_site = record stack_12_site { status = status.UpdateRollbackInProgress; events = stack_12_site.events ++ (codes "event 13 - UPDATE_ROLLBACK_IN_PROGRESS") ∷ []; entries = stack_12_site.entries ++ turned ∷ [] }
+stack_13_site = record stack_12_site { status = status.UpdateRollbackInProgress; events = stack_12_site.events ++ (codes "event 13 - UPDATE_ROLLBACK_IN_PROGRESS") ∷ []; entries = stack_12_site.entries ++ turned ∷ []; ledger = (record call_3 { fresh = false; answer = Some settled.Success } ∷ []) }
 
 abbrev stack_13_user : StackState
 stack_13_user = stack_12_user
@@ -238,8 +248,11 @@ may_intended_restore : MayFollow schemas world_13 [] intended_restore
 unfolding computing
 may_intended_restore = ((codes "site"), stack_13_site, Back, refl, refl, record { next = refl; free = refl; home = refl; fits = ((codes "1", refl), refl); no_repeat = refl; chosen = inr (refl, _, (here, refl, refl, refl), refl, refl, refl, refl) })
 
+abbrev pub call_4 : Call
+call_4 = record { number = 3; token = 4; lane = (codes "f1"); path = (codes "A"); request = (request.Update (codes "f1:1") (file_props (codes "a") (codes "xx"))); status = status.UpdateRollbackInProgress; fresh = true; doubts = 0; answer = None }
+
 abbrev stack_14_site : StackState
-stack_14_site = record stack_13_site { tokens = (record { token = 4; path = (codes "A"); lane = (codes "f1"); request = (request.Update (codes "f1:1") (file_props (codes "a") (codes "xx"))) } ∷ []); events = stack_13_site.events ++ (codes "event 14 A UPDATE_IN_PROGRESS") ∷ []; entries = stack_13_site.entries ++ intended_restore ∷ [] }
+stack_14_site = record stack_13_site { tokens = (record { token = 4; path = (codes "A"); lane = (codes "f1"); request = (request.Update (codes "f1:1") (file_props (codes "a") (codes "xx"))) } ∷ []); events = stack_13_site.events ++ (codes "event 14 A UPDATE_IN_PROGRESS") ∷ []; entries = stack_13_site.entries ++ intended_restore ∷ []; ledger = (record call_3 { fresh = false; answer = Some settled.Success } ∷ call_4 ∷ []) }
 
 abbrev stack_14_user : StackState
 stack_14_user = stack_13_user
@@ -255,7 +268,7 @@ abbrev a_3 : Held
 a_3 = record { path = (codes "A"); kind = file; physical = (codes "f1:1"); props = (file_props (codes "a") (codes "xx")); attrs = (file_attrs (codes "f1:1") 2 (codes "a") (codes "xx")); needs = []; deletion = deletion.Delete; replace = replace.Delete; status = held.UpdateComplete; unsure = false; superseded = false }
 
 abbrev stack_15_site : StackState
-stack_15_site = record stack_14_site { held = (a_3 ∷ []); tokens = []; events = stack_14_site.events ++ (codes "event 15 A UPDATE_COMPLETE") ∷ []; entries = stack_14_site.entries ++ restored ∷ [] }
+stack_15_site = record stack_14_site { held = (a_3 ∷ []); tokens = []; events = stack_14_site.events ++ (codes "event 15 A UPDATE_COMPLETE") ∷ []; entries = stack_14_site.entries ++ restored ∷ []; ledger = (record call_3 { fresh = false; answer = Some settled.Success } ∷ record call_4 { answer = Some settled.Success } ∷ []) }
 
 abbrev stack_15_user : StackState
 stack_15_user = stack_14_user
@@ -268,7 +281,7 @@ unfolding computing
 may_cleaning = ((codes "site"), stack_15_site, Back, refl, refl, (refl, (refl, refl, nothing_to_restore stack_15_site refl, refl)))
 
 abbrev stack_16_site : StackState
-stack_16_site = record stack_15_site { status = status.UpdateRollbackCompleteCleanupInProgress; events = stack_15_site.events ++ (codes "event 16 - UPDATE_ROLLBACK_COMPLETE_CLEANUP_IN_PROGRESS") ∷ []; entries = stack_15_site.entries ++ cleaning ∷ [] }
+stack_16_site = record stack_15_site { status = status.UpdateRollbackCompleteCleanupInProgress; events = stack_15_site.events ++ (codes "event 16 - UPDATE_ROLLBACK_COMPLETE_CLEANUP_IN_PROGRESS") ∷ []; entries = stack_15_site.entries ++ cleaning ∷ []; ledger = (record call_3 { fresh = false; answer = Some settled.Success } ∷ record call_4 { fresh = false; answer = Some settled.Success } ∷ []) }
 
 abbrev stack_16_user : StackState
 stack_16_user = stack_15_user

@@ -7,18 +7,19 @@ use Rattle.std.specs.Str.{bytes_eq}
 use Rattle.std.proofs.lemmas.Slice.Eq.{bytes_eq-Decides}
 use Rattle.cf_tree.specs.Lists.{is_among}
 use Rattle.cf_stacks.specs.declared.held.Held.{Held}
-use Rattle.cf_stacks.specs.Operation.{Call, Response, call_of, replies_in, own_of, refusals_of}
+use Rattle.cf_stacks.specs.declared.call.Call.{Call}
+use Rattle.cf_stacks.specs.Operation.{Response, replies_in, own_of}
+use Rattle.cf_stacks.specs.Calls.{call_of, refusals_of}
 use Rattle.cf_plan.specs.Forward.{In, here}
-use Rattle.cf_stacks.specs.Fold.{empty_world, world_after, fold_of}
+use Rattle.cf_stacks.specs.World.{empty_world, StackState, World, stack_of_operation}
+use Rattle.cf_stacks.specs.Fold.{world_after, fold_of}
+use Rattle.cf_stacks.specs.Status.{Stage, stage_of}
+use Rattle.cf_stacks.specs.Words.{resources_of}
+use Rattle.cf_plan.specs.Follow.{MayFollow, IsLegal, MayFollowIn, MayFollowOn, is_failed_path, is_bad_last, last_at, has_path}
 use Rattle.cf_examples.specs.Given.{schemas, IsRefusedAfter}
 use Rattle.cf_examples.proofs.Lists.{some_is, each_passes, found_passes, some_passes, in_more, in_behind, in_parts, in_mapped, and_true}
 use Rattle.cf_schema.specs.declared.described.Schema.{Schema}
 use Rattle.cf_entry.specs.declared.entry.Entry.{Entry}
-use Rattle.cf_stacks.specs.declared.state.StackState.{StackState}
-use Rattle.cf_stacks.specs.declared.state.World.{World}
-use Rattle.cf_stacks.specs.Status.{Stage, stage_of}
-use Rattle.cf_stacks.specs.Words.{stack_of_operation, resources_of}
-use Rattle.cf_plan.specs.Follow.{MayFollow, IsLegal, MayFollowIn, MayFollowOn, is_failed_path, is_bad_last, last_at, has_path}
 
 abbrev FollowsAs : List Schema → World → List ℕ → Entry → List ℕ × StackState → Type 0
 FollowsAs schemas x out e named = (stage : Stage) → stage_of named.1.status ≡ Some stage → MayFollowIn schemas named.0 x out named.1 stage e

@@ -2,14 +2,15 @@
 use Rattle.std.proofs.Common.{◌≡◌, refl, List, [], ◌∷◌, ◌++◌, Some, None, true, false, ℕ, inl, inr, ap, lit≤, true≢false}
 use Rattle.std.specs.Prelude.{codes, take, drop}
 use Rattle.cf_tree.specs.declared.request.Request.TheVariants as request
+use Rattle.cf_stacks.specs.declared.call.Call.{Call}
+use Rattle.cf_stacks.specs.declared.call.Settled.TheVariants as settled
 use Rattle.cf_stacks.specs.declared.held.Held.{Held}
-use Rattle.cf_stacks.specs.declared.state.World.{World}
-use Rattle.cf_stacks.specs.declared.state.StackState.{StackState}
-use Rattle.cf_stacks.specs.Fold.{empty_world, source_for, no_stack}
+use Rattle.cf_stacks.specs.World.{World, StackState, empty_world, no_stack}
+use Rattle.cf_stacks.specs.Begin.{source_for}
 use Rattle.cf_stacks.specs.Status.{Forward, Clean}
-use Rattle.cf_schema.specs.declared.changed.Difference.TheVariants.{Same, Update, Replace}
 use Rattle.cf_plan.specs.Forward.{here, there, HasFailed, IsReady, AllDone, IsDone, is_made, is_updated}
 use Rattle.cf_plan.specs.Follow.{MayFollow}
+use Rattle.cf_schema.specs.declared.changed.Difference.TheVariants.{Same, Update, Replace}
 use Rattle.cf_examples.specs.Given.{schemas, file, note, file_props, note_props, file_attrs, note_attrs, lane_pair, report_of}
 use Rattle.cf_examples.proofs.Computing.{computing}
 use Rattle.cf_examples.proofs.Lists.{in_none, only, either}
@@ -58,8 +59,11 @@ may_intended_web : MayFollow schemas world_2 [] intended_web
 unfolding computing
 may_intended_web = ((codes "app"), stack_2_app, Forward, refl, refl, record { next = refl; free = refl; home = refl; fits = refl; no_repeat = refl; chosen = (sound_2, ready_2_Web, not_done_new (codes "Web") stack_2_app refl refl refl, (refl, tt)) })
 
+abbrev pub call_1 : Call
+call_1 = record { number = 1; token = 1; lane = (codes "f1"); path = (codes "Web"); request = (request.Create file (file_props (codes "web.txt") (codes "x"))); status = status.CreateInProgress; fresh = true; doubts = 0; answer = None }
+
 abbrev stack_3_app : StackState
-stack_3_app = record stack_2_app { tokens = (record { token = 1; path = (codes "Web"); lane = (codes "f1"); request = (request.Create file (file_props (codes "web.txt") (codes "x"))) } ∷ []); events = stack_2_app.events ++ (codes "event 3 Web CREATE_IN_PROGRESS") ∷ []; entries = stack_2_app.entries ++ intended_web ∷ [] }
+stack_3_app = record stack_2_app { tokens = (record { token = 1; path = (codes "Web"); lane = (codes "f1"); request = (request.Create file (file_props (codes "web.txt") (codes "x"))) } ∷ []); events = stack_2_app.events ++ (codes "event 3 Web CREATE_IN_PROGRESS") ∷ []; entries = stack_2_app.entries ++ intended_web ∷ []; ledger = (call_1 ∷ []) }
 
 abbrev world_3 : World
 world_3 = record world_2 { stacks = (((codes "app"), stack_3_app) ∷ []); token = 1; place = 3 }
@@ -72,7 +76,7 @@ abbrev web_1 : Held
 web_1 = record { path = (codes "Web"); kind = file; physical = (codes "f1:1"); props = (file_props (codes "web.txt") (codes "x")); attrs = (file_attrs (codes "f1:1") 1 (codes "web.txt") (codes "x")); needs = []; deletion = deletion.Delete; replace = replace.Delete; status = held.CreateComplete; unsure = false; superseded = false }
 
 abbrev stack_4_app : StackState
-stack_4_app = record stack_3_app { made = (web_1 ∷ []); tokens = []; events = stack_3_app.events ++ (codes "event 4 Web CREATE_COMPLETE") ∷ []; entries = stack_3_app.entries ++ made_web ∷ [] }
+stack_4_app = record stack_3_app { made = (web_1 ∷ []); tokens = []; events = stack_3_app.events ++ (codes "event 4 Web CREATE_COMPLETE") ∷ []; entries = stack_3_app.entries ++ made_web ∷ []; ledger = (record call_1 { answer = Some settled.Success } ∷ []) }
 
 abbrev world_4 : World
 world_4 = record world_3 { stacks = (((codes "app"), stack_4_app) ∷ []); place = 4 }
@@ -89,8 +93,11 @@ may_intended_ptr : MayFollow schemas world_4 [] intended_ptr
 unfolding computing
 may_intended_ptr = ((codes "app"), stack_4_app, Forward, refl, refl, record { next = refl; free = refl; home = refl; fits = refl; no_repeat = refl; chosen = (sound_4, ready_4_Ptr, not_done_new (codes "Ptr") stack_4_app refl refl refl, (refl, tt)) })
 
+abbrev pub call_2 : Call
+call_2 = record { number = 1; token = 2; lane = (codes "r1"); path = (codes "Ptr"); request = (request.Create note (note_props (codes "p") (codes "f1:1"))); status = status.CreateInProgress; fresh = true; doubts = 0; answer = None }
+
 abbrev stack_5_app : StackState
-stack_5_app = record stack_4_app { tokens = (record { token = 2; path = (codes "Ptr"); lane = (codes "r1"); request = (request.Create note (note_props (codes "p") (codes "f1:1"))) } ∷ []); events = stack_4_app.events ++ (codes "event 5 Ptr CREATE_IN_PROGRESS") ∷ []; entries = stack_4_app.entries ++ intended_ptr ∷ [] }
+stack_5_app = record stack_4_app { tokens = (record { token = 2; path = (codes "Ptr"); lane = (codes "r1"); request = (request.Create note (note_props (codes "p") (codes "f1:1"))) } ∷ []); events = stack_4_app.events ++ (codes "event 5 Ptr CREATE_IN_PROGRESS") ∷ []; entries = stack_4_app.entries ++ intended_ptr ∷ []; ledger = (record call_1 { answer = Some settled.Success } ∷ call_2 ∷ []) }
 
 abbrev world_5 : World
 world_5 = record world_4 { stacks = (((codes "app"), stack_5_app) ∷ []); token = 2; place = 5 }
@@ -103,7 +110,7 @@ abbrev ptr_1 : Held
 ptr_1 = record { path = (codes "Ptr"); kind = note; physical = (codes "r1:2"); props = (note_props (codes "p") (codes "f1:1")); attrs = (note_attrs (codes "r1:2") 4 (codes "p") (codes "f1:1")); needs = ((codes "Web") ∷ []); deletion = deletion.Delete; replace = replace.Delete; status = held.CreateComplete; unsure = false; superseded = false }
 
 abbrev stack_6_app : StackState
-stack_6_app = record stack_5_app { made = (web_1 ∷ ptr_1 ∷ []); tokens = []; events = stack_5_app.events ++ (codes "event 6 Ptr CREATE_COMPLETE") ∷ []; entries = stack_5_app.entries ++ made_ptr ∷ [] }
+stack_6_app = record stack_5_app { made = (web_1 ∷ ptr_1 ∷ []); tokens = []; events = stack_5_app.events ++ (codes "event 6 Ptr CREATE_COMPLETE") ∷ []; entries = stack_5_app.entries ++ made_ptr ∷ []; ledger = (record call_1 { answer = Some settled.Success } ∷ record call_2 { answer = Some settled.Success } ∷ []) }
 
 abbrev world_6 : World
 world_6 = record world_5 { stacks = (((codes "app"), stack_6_app) ∷ []); place = 6 }
@@ -131,7 +138,7 @@ unfolding computing
 may_updating = (refl, refl, record { no_flaw = refl; known_types = refl; same_types = refl; imports = no_imports _ _ _ _ refl refl; free = refl; not_in_use = refl; changing = inr (inl refl) })
 
 abbrev stack_8_app : StackState
-stack_8_app = record stack_7_app { status = status.UpdateInProgress; operation = 2; before = (web_1 ∷ ptr_1 ∷ []); going = Some (source_for (codes "app") 1 second); events = stack_7_app.events ++ (codes "event 8 - UPDATE_IN_PROGRESS") ∷ []; entries = (updating ∷ []) }
+stack_8_app = record stack_7_app { status = status.UpdateInProgress; operation = 2; before = (web_1 ∷ ptr_1 ∷ []); going = Some (source_for (codes "app") 1 second); events = stack_7_app.events ++ (codes "event 8 - UPDATE_IN_PROGRESS") ∷ []; entries = (updating ∷ []); ledger = [] }
 
 abbrev world_8 : World
 world_8 = record world_7 { stacks = (((codes "app"), stack_8_app) ∷ []); operation = 2; place = 8 }
@@ -148,8 +155,11 @@ may_intended_new : MayFollow schemas world_8 [] intended_new
 unfolding computing
 may_intended_new = ((codes "app"), stack_8_app, Forward, refl, refl, record { next = refl; free = refl; home = refl; fits = refl; no_repeat = refl; chosen = (sound_8, ready_8_Web, not_done_other (codes "Web") stack_8_app (same_at (codes "Path") (codes "web.txt")) _ _ _ refl refl refl refl refl refl, (refl, inl refl)) })
 
+abbrev pub call_3 : Call
+call_3 = record { number = 2; token = 3; lane = (codes "f1"); path = (codes "Web"); request = (request.Create file (file_props (codes "new.txt") (codes "x"))); status = status.UpdateInProgress; fresh = true; doubts = 0; answer = None }
+
 abbrev stack_9_app : StackState
-stack_9_app = record stack_8_app { tokens = (record { token = 3; path = (codes "Web"); lane = (codes "f1"); request = (request.Create file (file_props (codes "new.txt") (codes "x"))) } ∷ []); events = stack_8_app.events ++ (codes "event 9 Web CREATE_IN_PROGRESS") ∷ []; entries = stack_8_app.entries ++ intended_new ∷ [] }
+stack_9_app = record stack_8_app { tokens = (record { token = 3; path = (codes "Web"); lane = (codes "f1"); request = (request.Create file (file_props (codes "new.txt") (codes "x"))) } ∷ []); events = stack_8_app.events ++ (codes "event 9 Web CREATE_IN_PROGRESS") ∷ []; entries = stack_8_app.entries ++ intended_new ∷ []; ledger = (call_3 ∷ []) }
 
 abbrev world_9 : World
 world_9 = record world_8 { stacks = (((codes "app"), stack_9_app) ∷ []); token = 3; place = 9 }
@@ -162,7 +172,7 @@ abbrev web_2 : Held
 web_2 = record { path = (codes "Web"); kind = file; physical = (codes "f1:3"); props = (file_props (codes "new.txt") (codes "x")); attrs = (file_attrs (codes "f1:3") 1 (codes "new.txt") (codes "x")); needs = []; deletion = deletion.Delete; replace = replace.Delete; status = held.UpdateComplete; unsure = false; superseded = false }
 
 abbrev stack_10_app : StackState
-stack_10_app = record stack_9_app { made = (web_2 ∷ []); tokens = []; events = stack_9_app.events ++ (codes "event 10 Web CREATE_COMPLETE") ∷ []; entries = stack_9_app.entries ++ made_new ∷ [] }
+stack_10_app = record stack_9_app { made = (web_2 ∷ []); tokens = []; events = stack_9_app.events ++ (codes "event 10 Web CREATE_COMPLETE") ∷ []; entries = stack_9_app.entries ++ made_new ∷ []; ledger = (record call_3 { answer = Some settled.Success } ∷ []) }
 
 abbrev world_10 : World
 world_10 = record world_9 { stacks = (((codes "app"), stack_10_app) ∷ []); place = 10 }
@@ -179,8 +189,11 @@ may_intended_change : MayFollow schemas world_10 [] intended_change
 unfolding computing
 may_intended_change = ((codes "app"), stack_10_app, Forward, refl, refl, record { next = refl; free = refl; home = refl; fits = ((codes "2", refl), refl); no_repeat = refl; chosen = (sound_10, ready_10_Ptr, not_done_other (codes "Ptr") stack_10_app (same_at (codes "Value") (codes "f1:1")) _ _ _ refl refl refl refl refl refl, (_, refl, refl, refl, ((λ e. let z : Update ≡ Replace = e in cc), inr (λ e. let z : Update ≡ Same = e in cc)), refl)) })
 
+abbrev pub call_4 : Call
+call_4 = record { number = 2; token = 4; lane = (codes "r1"); path = (codes "Ptr"); request = (request.Update (codes "r1:2") (note_props (codes "p") (codes "f1:3"))); status = status.UpdateInProgress; fresh = true; doubts = 0; answer = None }
+
 abbrev stack_11_app : StackState
-stack_11_app = record stack_10_app { tokens = (record { token = 4; path = (codes "Ptr"); lane = (codes "r1"); request = (request.Update (codes "r1:2") (note_props (codes "p") (codes "f1:3"))) } ∷ []); events = stack_10_app.events ++ (codes "event 11 Ptr UPDATE_IN_PROGRESS") ∷ []; entries = stack_10_app.entries ++ intended_change ∷ [] }
+stack_11_app = record stack_10_app { tokens = (record { token = 4; path = (codes "Ptr"); lane = (codes "r1"); request = (request.Update (codes "r1:2") (note_props (codes "p") (codes "f1:3"))) } ∷ []); events = stack_10_app.events ++ (codes "event 11 Ptr UPDATE_IN_PROGRESS") ∷ []; entries = stack_10_app.entries ++ intended_change ∷ []; ledger = (record call_3 { answer = Some settled.Success } ∷ call_4 ∷ []) }
 
 abbrev world_11 : World
 world_11 = record world_10 { stacks = (((codes "app"), stack_11_app) ∷ []); token = 4; place = 11 }
@@ -193,7 +206,7 @@ abbrev ptr_2 : Held
 ptr_2 = record { path = (codes "Ptr"); kind = note; physical = (codes "r1:2"); props = (note_props (codes "p") (codes "f1:3")); attrs = (note_attrs (codes "r1:2") 4 (codes "p") (codes "f1:3")); needs = ((codes "Web") ∷ []); deletion = deletion.Delete; replace = replace.Delete; status = held.UpdateComplete; unsure = false; superseded = false }
 
 abbrev stack_12_app : StackState
-stack_12_app = record stack_11_app { held = (web_1 ∷ ptr_2 ∷ []); tokens = []; events = stack_11_app.events ++ (codes "event 12 Ptr UPDATE_COMPLETE") ∷ []; entries = stack_11_app.entries ++ changed_ptr ∷ [] }
+stack_12_app = record stack_11_app { held = (web_1 ∷ ptr_2 ∷ []); tokens = []; events = stack_11_app.events ++ (codes "event 12 Ptr UPDATE_COMPLETE") ∷ []; entries = stack_11_app.entries ++ changed_ptr ∷ []; ledger = (record call_3 { answer = Some settled.Success } ∷ record call_4 { answer = Some settled.Success } ∷ []) }
 
 abbrev world_12 : World
 world_12 = record world_11 { stacks = (((codes "app"), stack_12_app) ∷ []); place = 12 }
@@ -214,7 +227,7 @@ abbrev web_3 : Held
 web_3 = record { path = (codes "Web"); kind = file; physical = (codes "f1:1"); props = (file_props (codes "web.txt") (codes "x")); attrs = (file_attrs (codes "f1:1") 1 (codes "web.txt") (codes "x")); needs = []; deletion = deletion.Delete; replace = replace.Delete; status = held.CreateComplete; unsure = false; superseded = true }
 
 abbrev stack_13_app : StackState
-stack_13_app = record stack_12_app { status = status.UpdateCompleteCleanupInProgress; held = (web_3 ∷ ptr_2 ∷ web_2 ∷ []); made = []; source = Some (source_for (codes "app") 1 second); events = stack_12_app.events ++ (codes "event 13 - UPDATE_COMPLETE_CLEANUP_IN_PROGRESS") ∷ []; entries = stack_12_app.entries ++ cleaning ∷ [] }
+stack_13_app = record stack_12_app { status = status.UpdateCompleteCleanupInProgress; held = (web_3 ∷ ptr_2 ∷ web_2 ∷ []); made = []; source = Some (source_for (codes "app") 1 second); events = stack_12_app.events ++ (codes "event 13 - UPDATE_COMPLETE_CLEANUP_IN_PROGRESS") ∷ []; entries = stack_12_app.entries ++ cleaning ∷ []; ledger = (record call_3 { fresh = false; answer = Some settled.Success } ∷ record call_4 { fresh = false; answer = Some settled.Success } ∷ []) }
 
 abbrev world_13 : World
 world_13 = record world_12 { stacks = (((codes "app"), stack_13_app) ∷ []); place = 13 }
@@ -223,8 +236,11 @@ may_intended_deletion : MayFollow schemas world_13 [] intended_deletion
 unfolding computing
 may_intended_deletion = ((codes "app"), stack_13_app, Clean, refl, refl, record { next = refl; free = refl; home = refl; fits = ((codes "1", refl), refl); no_repeat = refl; chosen = (_, (here, refl, refl), refl, refl, refl) })
 
+abbrev pub call_5 : Call
+call_5 = record { number = 2; token = 5; lane = (codes "f1"); path = (codes "Web"); request = (request.Delete (codes "f1:1")); status = status.UpdateCompleteCleanupInProgress; fresh = true; doubts = 0; answer = None }
+
 abbrev stack_14_app : StackState
-stack_14_app = record stack_13_app { tokens = (record { token = 5; path = (codes "Web"); lane = (codes "f1"); request = (request.Delete (codes "f1:1")) } ∷ []); events = stack_13_app.events ++ (codes "event 14 Web DELETE_IN_PROGRESS") ∷ []; entries = stack_13_app.entries ++ intended_deletion ∷ [] }
+stack_14_app = record stack_13_app { tokens = (record { token = 5; path = (codes "Web"); lane = (codes "f1"); request = (request.Delete (codes "f1:1")) } ∷ []); events = stack_13_app.events ++ (codes "event 14 Web DELETE_IN_PROGRESS") ∷ []; entries = stack_13_app.entries ++ intended_deletion ∷ []; ledger = (record call_3 { fresh = false; answer = Some settled.Success } ∷ record call_4 { fresh = false; answer = Some settled.Success } ∷ call_5 ∷ []) }
 
 abbrev world_14 : World
 world_14 = record world_13 { stacks = (((codes "app"), stack_14_app) ∷ []); token = 5; place = 14 }
@@ -234,7 +250,7 @@ unfolding computing
 may_deleted = ((codes "app"), stack_14_app, Clean, refl, refl, (refl, refl, lit≤ tt))
 
 abbrev stack_15_app : StackState
-stack_15_app = record stack_14_app { held = (ptr_2 ∷ web_2 ∷ []); tokens = []; events = stack_14_app.events ++ (codes "event 15 Web DELETE_COMPLETE") ∷ []; entries = stack_14_app.entries ++ deleted ∷ [] }
+stack_15_app = record stack_14_app { held = (ptr_2 ∷ web_2 ∷ []); tokens = []; events = stack_14_app.events ++ (codes "event 15 Web DELETE_COMPLETE") ∷ []; entries = stack_14_app.entries ++ deleted ∷ []; ledger = (record call_3 { fresh = false; answer = Some settled.Success } ∷ record call_4 { fresh = false; answer = Some settled.Success } ∷ record call_5 { answer = Some settled.Success } ∷ []) }
 
 abbrev world_15 : World
 world_15 = record world_14 { stacks = (((codes "app"), stack_15_app) ∷ []); place = 15 }
@@ -315,7 +331,7 @@ unfolding computing
 may_updating_both = (refl, refl, record { no_flaw = refl; known_types = refl; same_types = refl; imports = no_imports _ _ _ _ refl refl; free = refl; not_in_use = refl; changing = inr (inl refl) })
 
 abbrev stack_b8_app : StackState
-stack_b8_app = record stack_7_app { status = status.UpdateInProgress; operation = 2; before = (web_1 ∷ ptr_1 ∷ []); going = Some (source_for (codes "app") 1 third); entries = (updating_both ∷ []); events = stack_7_app.events ++ (codes "event 8 - UPDATE_IN_PROGRESS") ∷ [] }
+stack_b8_app = record stack_7_app { status = status.UpdateInProgress; operation = 2; before = (web_1 ∷ ptr_1 ∷ []); going = Some (source_for (codes "app") 1 third); entries = (updating_both ∷ []); events = stack_7_app.events ++ (codes "event 8 - UPDATE_IN_PROGRESS") ∷ []; ledger = [] }
 
 abbrev world_b8 : World
 world_b8 = record world_7 { stacks = (((codes "app"), stack_b8_app) ∷ []); operation = 2; place = 8 }
@@ -332,8 +348,11 @@ may_b_intended_new : MayFollow schemas world_b8 [] intended_new
 unfolding computing
 may_b_intended_new = ((codes "app"), stack_b8_app, Forward, refl, refl, record { next = refl; free = refl; home = refl; fits = refl; no_repeat = refl; chosen = (sound_b8, ready_b8_Web, not_done_other (codes "Web") stack_b8_app (same_at (codes "Path") (codes "web.txt")) _ _ _ refl refl refl refl refl refl, (refl, inl refl)) })
 
+abbrev pub call_b3 : Call
+call_b3 = record { number = 2; token = 3; lane = (codes "f1"); path = (codes "Web"); request = (request.Create file (file_props (codes "new.txt") (codes "x"))); status = status.UpdateInProgress; fresh = true; doubts = 0; answer = None }
+
 abbrev stack_b9_app : StackState
-stack_b9_app = record stack_b8_app { tokens = (record { token = 3; path = (codes "Web"); lane = (codes "f1"); request = (request.Create file (file_props (codes "new.txt") (codes "x"))) } ∷ []); events = stack_b8_app.events ++ (codes "event 9 Web CREATE_IN_PROGRESS") ∷ []; entries = stack_b8_app.entries ++ intended_new ∷ [] }
+stack_b9_app = record stack_b8_app { tokens = (record { token = 3; path = (codes "Web"); lane = (codes "f1"); request = (request.Create file (file_props (codes "new.txt") (codes "x"))) } ∷ []); events = stack_b8_app.events ++ (codes "event 9 Web CREATE_IN_PROGRESS") ∷ []; entries = stack_b8_app.entries ++ intended_new ∷ []; ledger = (call_b3 ∷ []) }
 
 abbrev world_b9 : World
 world_b9 = record world_b8 { stacks = (((codes "app"), stack_b9_app) ∷ []); token = 3; place = 9 }
@@ -343,7 +362,7 @@ unfolding computing
 may_b_made_new = ((codes "app"), stack_b9_app, Forward, refl, refl, (refl, refl, lit≤ tt))
 
 abbrev stack_b10_app : StackState
-stack_b10_app = record stack_b9_app { made = (web_2 ∷ []); tokens = []; events = stack_b9_app.events ++ (codes "event 10 Web CREATE_COMPLETE") ∷ []; entries = stack_b9_app.entries ++ made_new ∷ [] }
+stack_b10_app = record stack_b9_app { made = (web_2 ∷ []); tokens = []; events = stack_b9_app.events ++ (codes "event 10 Web CREATE_COMPLETE") ∷ []; entries = stack_b9_app.entries ++ made_new ∷ []; ledger = (record call_b3 { answer = Some settled.Success } ∷ []) }
 
 abbrev world_b10 : World
 world_b10 = record world_b9 { stacks = (((codes "app"), stack_b10_app) ∷ []); place = 10 }

@@ -1,17 +1,17 @@
 -- An update is refused at its second resource, and so is the restore of the first: a continued rollback skips it.
-use Rattle.std.proofs.Common.{◌≡◌, refl, [], ◌∷◌, ◌++◌, true, false, inl, inr, ap, lit≤, true≢false}
+use Rattle.std.proofs.Common.{◌≡◌, refl, [], ◌∷◌, ◌++◌, true, false, inl, inr, ap, lit≤, true≢false, Some, None}
 use Rattle.std.specs.Prelude.{codes, take, drop}
 use Rattle.cf_tree.specs.declared.request.Request.TheVariants as request
 use Rattle.cf_tree.specs.declared.code.Code.TheVariants as code
 use Rattle.cf_entry.specs.declared.turn.Reason.TheVariants as reason
+use Rattle.cf_stacks.specs.declared.call.Call.{Call}
+use Rattle.cf_stacks.specs.declared.call.Settled.TheVariants as settled
 use Rattle.cf_stacks.specs.declared.held.Held.{Held}
-use Rattle.cf_stacks.specs.declared.state.World.{World}
-use Rattle.cf_stacks.specs.declared.state.StackState.{StackState}
-use Rattle.cf_stacks.specs.Fold.{empty_world}
+use Rattle.cf_stacks.specs.World.{World, StackState, empty_world}
 use Rattle.cf_stacks.specs.Status.{Forward, Back, BackClean}
-use Rattle.cf_schema.specs.declared.changed.Difference.TheVariants.{Same, Update, Replace}
 use Rattle.cf_plan.specs.Forward.{here, there, HasFailed, IsReady, IsDone, is_updated}
 use Rattle.cf_plan.specs.Follow.{MayFollow, IsNamedLane}
+use Rattle.cf_schema.specs.declared.changed.Difference.TheVariants.{Same, Update, Replace}
 use Rattle.cf_examples.specs.Given.{schemas, file, note, file_props, note_props, file_attrs, lane_pair, report_of}
 use Rattle.cf_examples.proofs.Computing.{computing}
 use Rattle.cf_examples.proofs.Lists.{in_none, only, either}
@@ -24,14 +24,14 @@ use Rattle.cf_stacks.specs.declared.held.HeldStatus.TheVariants as held
 use Rattle.cf_examples.proofs.Refusing.{are_failed, IsRun, ended, step, joined}
 use Rattle.cf_examples.proofs.Beginning.{opens_one}
 use Rattle.cf_examples.specs.RestoreRefused.{changed, intended_other, refused, turned, intended_restore, unrestored, failed, opened_again, continued, cleaning, rolled_back, Legal, Fails, Shows, run}
-use Rattle.cf_examples.proofs.FaultRepeated.{until_9, a_2, b_1, stack_9_s, world_9}
+use Rattle.cf_examples.proofs.FaultRepeated.{until_9, a_2, b_1, stack_9_s, world_9, call_3}
 
 may_changed : MayFollow schemas world_9 (3 ∷ []) changed
 unfolding computing
 may_changed = ((codes "s"), stack_9_s, Forward, refl, refl, (refl, refl, lit≤ tt))
 
 abbrev stack_10_s : StackState
-stack_10_s = record stack_9_s { held = (a_2 ∷ b_1 ∷ []); tokens = []; events = stack_9_s.events ++ (codes "event 10 A UPDATE_COMPLETE") ∷ []; entries = stack_9_s.entries ++ changed ∷ [] }
+stack_10_s = record stack_9_s { held = (a_2 ∷ b_1 ∷ []); tokens = []; events = stack_9_s.events ++ (codes "event 10 A UPDATE_COMPLETE") ∷ []; entries = stack_9_s.entries ++ changed ∷ []; ledger = (record call_3 { answer = Some settled.Success } ∷ []) }
 
 abbrev world_10 : World
 world_10 = record world_9 { stacks = (((codes "s"), stack_10_s) ∷ []); place = 10 }
@@ -48,8 +48,11 @@ may_intended_other : MayFollow schemas world_10 [] intended_other
 unfolding computing
 may_intended_other = ((codes "s"), stack_10_s, Forward, refl, refl, record { next = refl; free = refl; home = refl; fits = ((codes "2", refl), refl); no_repeat = refl; chosen = (sound_10, ready_10_B, not_done_other (codes "B") stack_10_s (same_at (codes "Value") (codes "u")) _ _ _ refl refl refl refl refl refl, (_, refl, refl, refl, ((λ e. let z : Update ≡ Replace = e in cc), inr (λ e. let z : Update ≡ Same = e in cc)), refl)) })
 
+abbrev pub call_4 : Call
+call_4 = record { number = 2; token = 4; lane = (codes "r1"); path = (codes "B"); request = (request.Update (codes "r1:2") (note_props (codes "b") (codes "w"))); status = status.UpdateInProgress; fresh = true; doubts = 0; answer = None }
+
 abbrev stack_11_s : StackState
-stack_11_s = record stack_10_s { tokens = (record { token = 4; path = (codes "B"); lane = (codes "r1"); request = (request.Update (codes "r1:2") (note_props (codes "b") (codes "w"))) } ∷ []); events = stack_10_s.events ++ (codes "event 11 B UPDATE_IN_PROGRESS") ∷ []; entries = stack_10_s.entries ++ intended_other ∷ [] }
+stack_11_s = record stack_10_s { tokens = (record { token = 4; path = (codes "B"); lane = (codes "r1"); request = (request.Update (codes "r1:2") (note_props (codes "b") (codes "w"))) } ∷ []); events = stack_10_s.events ++ (codes "event 11 B UPDATE_IN_PROGRESS") ∷ []; entries = stack_10_s.entries ++ intended_other ∷ []; ledger = (record call_3 { answer = Some settled.Success } ∷ call_4 ∷ []) }
 
 abbrev world_11 : World
 world_11 = record world_10 { stacks = (((codes "s"), stack_11_s) ∷ []); token = 4; place = 11 }
@@ -59,7 +62,7 @@ unfolding computing
 may_refused = ((codes "s"), stack_11_s, Forward, refl, refl, (refl, refl, (lit≤ tt, λ _. lit≤ tt)))
 
 abbrev stack_12_s : StackState
-stack_12_s = record stack_11_s { tokens = []; events = stack_11_s.events ++ (codes "event 12 B UPDATE_FAILED ServiceInternalError") ∷ []; entries = stack_11_s.entries ++ refused ∷ [] }
+stack_12_s = record stack_11_s { tokens = []; events = stack_11_s.events ++ (codes "event 12 B UPDATE_FAILED ServiceInternalError") ∷ []; entries = stack_11_s.entries ++ refused ∷ []; ledger = (record call_3 { answer = Some settled.Success } ∷ record call_4 { answer = Some (settled.Failed code.ServiceInternalError) } ∷ []) }
 
 abbrev world_12 : World
 world_12 = record world_11 { stacks = (((codes "s"), stack_12_s) ∷ []); place = 12 }
@@ -69,7 +72,7 @@ unfolding computing
 may_turned = ((codes "s"), stack_12_s, Forward, refl, refl, (refl, (refl, (inl ((4, (reason.Code code.ServiceInternalError)), refl)), (4, refl, refl))))
 
 abbrev stack_13_s : StackState
-stack_13_s = record stack_12_s { status = status.UpdateRollbackInProgress; events = stack_12_s.events ++ (codes "event 13 - UPDATE_ROLLBACK_IN_PROGRESS") ∷ []; entries = stack_12_s.entries ++ turned ∷ [] }
+stack_13_s = record stack_12_s { status = status.UpdateRollbackInProgress; events = stack_12_s.events ++ (codes "event 13 - UPDATE_ROLLBACK_IN_PROGRESS") ∷ []; entries = stack_12_s.entries ++ turned ∷ []; ledger = (record call_3 { fresh = false; answer = Some settled.Success } ∷ record call_4 { fresh = false; answer = Some (settled.Failed code.ServiceInternalError) } ∷ []) }
 
 abbrev world_13 : World
 world_13 = record world_12 { stacks = (((codes "s"), stack_13_s) ∷ []); place = 13 }
@@ -78,8 +81,11 @@ may_intended_restore : MayFollow schemas world_13 [] intended_restore
 unfolding computing
 may_intended_restore = ((codes "s"), stack_13_s, Back, refl, refl, record { next = refl; free = refl; home = refl; fits = ((codes "1", refl), refl); no_repeat = refl; chosen = inr (refl, _, (here, refl, refl, refl), refl, refl, refl, refl) })
 
+abbrev pub call_5 : Call
+call_5 = record { number = 2; token = 5; lane = (codes "f1"); path = (codes "A"); request = (request.Update (codes "f1:1") (file_props (codes "a") (codes "x"))); status = status.UpdateRollbackInProgress; fresh = true; doubts = 0; answer = None }
+
 abbrev stack_14_s : StackState
-stack_14_s = record stack_13_s { tokens = (record { token = 5; path = (codes "A"); lane = (codes "f1"); request = (request.Update (codes "f1:1") (file_props (codes "a") (codes "x"))) } ∷ []); events = stack_13_s.events ++ (codes "event 14 A UPDATE_IN_PROGRESS") ∷ []; entries = stack_13_s.entries ++ intended_restore ∷ [] }
+stack_14_s = record stack_13_s { tokens = (record { token = 5; path = (codes "A"); lane = (codes "f1"); request = (request.Update (codes "f1:1") (file_props (codes "a") (codes "x"))) } ∷ []); events = stack_13_s.events ++ (codes "event 14 A UPDATE_IN_PROGRESS") ∷ []; entries = stack_13_s.entries ++ intended_restore ∷ []; ledger = (record call_3 { fresh = false; answer = Some settled.Success } ∷ record call_4 { fresh = false; answer = Some (settled.Failed code.ServiceInternalError) } ∷ call_5 ∷ []) }
 
 abbrev world_14 : World
 world_14 = record world_13 { stacks = (((codes "s"), stack_14_s) ∷ []); token = 5; place = 14 }
@@ -92,7 +98,7 @@ abbrev a_3 : Held
 a_3 = record { path = (codes "A"); kind = file; physical = (codes "f1:1"); props = (file_props (codes "a") (codes "y")); attrs = (file_attrs (codes "f1:1") 1 (codes "a") (codes "y")); needs = []; deletion = deletion.Delete; replace = replace.Delete; status = held.UpdateFailed; unsure = false; superseded = false }
 
 abbrev stack_15_s : StackState
-stack_15_s = record stack_14_s { held = (a_3 ∷ b_1 ∷ []); tokens = []; events = stack_14_s.events ++ (codes "event 15 A UPDATE_FAILED AccessDenied") ∷ []; entries = stack_14_s.entries ++ unrestored ∷ [] }
+stack_15_s = record stack_14_s { held = (a_3 ∷ b_1 ∷ []); tokens = []; events = stack_14_s.events ++ (codes "event 15 A UPDATE_FAILED AccessDenied") ∷ []; entries = stack_14_s.entries ++ unrestored ∷ []; ledger = (record call_3 { fresh = false; answer = Some settled.Success } ∷ record call_4 { fresh = false; answer = Some (settled.Failed code.ServiceInternalError) } ∷ record call_5 { answer = Some (settled.Failed code.AccessDenied) } ∷ []) }
 
 abbrev world_15 : World
 world_15 = record world_14 { stacks = (((codes "s"), stack_15_s) ∷ []); place = 15 }
@@ -112,7 +118,7 @@ unfolding computing
 may_opened_again = (refl, refl, opens_one _ world_16 (codes "s") stack_16_s refl ((λ h i. either (λ (g : Held). IsNamedLane (lane_pair (codes "f1") file ∷ lane_pair (codes "r1") note ∷ []) g.physical g.kind) (lane_pair (codes "f1") file, here, (codes "1", refl), refl) (lane_pair (codes "r1") note, there here, (codes "2", refl), refl) h i), (λ p i. absurd (in_none i))))
 
 abbrev stack_17_s : StackState
-stack_17_s = record stack_16_s { entries = stack_16_s.entries ++ opened_again ∷ [] }
+stack_17_s = record stack_16_s { entries = stack_16_s.entries ++ opened_again ∷ []; ledger = (record call_3 { fresh = false; answer = Some settled.Success } ∷ record call_4 { fresh = false; answer = Some (settled.Failed code.ServiceInternalError) } ∷ record call_5 { fresh = false; answer = Some (settled.Failed code.AccessDenied) } ∷ []) }
 
 abbrev world_17 : World
 world_17 = record world_16 { stacks = (((codes "s"), stack_17_s) ∷ []); epoch = 2; place = 17 }

@@ -1,16 +1,17 @@
 -- A stack is deleted: what needs the file goes first, and the file is kept by its policy.
-use Rattle.std.proofs.Common.{◌≡◌, refl, List, [], ◌∷◌, ◌++◌, Some, None, false, ℕ, inl, inr, ap, lit≤, true≢false}
+use Rattle.std.proofs.Common.{◌≡◌, refl, List, [], ◌∷◌, ◌++◌, Some, None, false, ℕ, inl, inr, ap, lit≤, true≢false, true}
 use Rattle.std.specs.Prelude.{codes, take, drop}
 use Rattle.cf_plan.specs.Between.{is_needed_by_held}
-use Rattle.std.specs.Str.{bytes_eq}
-use Rattle.cf_tree.specs.declared.request.Request.TheVariants as request
-use Rattle.cf_stacks.specs.declared.held.Held.{Held}
-use Rattle.cf_stacks.specs.declared.state.World.{World}
-use Rattle.cf_stacks.specs.declared.state.StackState.{StackState}
-use Rattle.cf_stacks.specs.Fold.{empty_world, source_for, no_stack}
+use Rattle.cf_stacks.specs.declared.call.Call.{Call}
+use Rattle.cf_stacks.specs.declared.call.Settled.TheVariants as settled
+use Rattle.cf_stacks.specs.World.{World, StackState, empty_world, no_stack}
+use Rattle.cf_stacks.specs.Begin.{source_for}
 use Rattle.cf_stacks.specs.Status.{Forward, Gone}
 use Rattle.cf_plan.specs.Forward.{here, there, HasFailed, IsReady, AllDone, IsDone, is_made}
 use Rattle.cf_plan.specs.Follow.{MayFollow}
+use Rattle.std.specs.Str.{bytes_eq}
+use Rattle.cf_tree.specs.declared.request.Request.TheVariants as request
+use Rattle.cf_stacks.specs.declared.held.Held.{Held}
 use Rattle.cf_examples.specs.Given.{schemas, file, note, file_props, note_props, file_attrs, note_attrs, lane_pair, report_of}
 use Rattle.cf_examples.proofs.Computing.{computing}
 use Rattle.cf_examples.proofs.Lists.{in_none, only, either, not_empty}
@@ -58,8 +59,11 @@ may_intended_a : MayFollow schemas world_2 [] intended_a
 unfolding computing
 may_intended_a = ((codes "s"), stack_2_s, Forward, refl, refl, record { next = refl; free = refl; home = refl; fits = refl; no_repeat = refl; chosen = (sound_2, ready_2_A, not_done_new (codes "A") stack_2_s refl refl refl, (refl, tt)) })
 
+abbrev pub call_1 : Call
+call_1 = record { number = 1; token = 1; lane = (codes "f1"); path = (codes "A"); request = (request.Create file (file_props (codes "a") (codes "x"))); status = status.CreateInProgress; fresh = true; doubts = 0; answer = None }
+
 abbrev stack_3_s : StackState
-stack_3_s = record stack_2_s { tokens = (record { token = 1; path = (codes "A"); lane = (codes "f1"); request = (request.Create file (file_props (codes "a") (codes "x"))) } ∷ []); events = stack_2_s.events ++ (codes "event 3 A CREATE_IN_PROGRESS") ∷ []; entries = stack_2_s.entries ++ intended_a ∷ [] }
+stack_3_s = record stack_2_s { tokens = (record { token = 1; path = (codes "A"); lane = (codes "f1"); request = (request.Create file (file_props (codes "a") (codes "x"))) } ∷ []); events = stack_2_s.events ++ (codes "event 3 A CREATE_IN_PROGRESS") ∷ []; entries = stack_2_s.entries ++ intended_a ∷ []; ledger = (call_1 ∷ []) }
 
 abbrev world_3 : World
 world_3 = record world_2 { stacks = (((codes "s"), stack_3_s) ∷ []); token = 1; place = 3 }
@@ -72,7 +76,7 @@ abbrev a_1 : Held
 a_1 = record { path = (codes "A"); kind = file; physical = (codes "f1:1"); props = (file_props (codes "a") (codes "x")); attrs = (file_attrs (codes "f1:1") 1 (codes "a") (codes "x")); needs = []; deletion = deletion.Retain; replace = replace.Delete; status = held.CreateComplete; unsure = false; superseded = false }
 
 abbrev stack_4_s : StackState
-stack_4_s = record stack_3_s { made = (a_1 ∷ []); tokens = []; events = stack_3_s.events ++ (codes "event 4 A CREATE_COMPLETE") ∷ []; entries = stack_3_s.entries ++ made_a ∷ [] }
+stack_4_s = record stack_3_s { made = (a_1 ∷ []); tokens = []; events = stack_3_s.events ++ (codes "event 4 A CREATE_COMPLETE") ∷ []; entries = stack_3_s.entries ++ made_a ∷ []; ledger = (record call_1 { answer = Some settled.Success } ∷ []) }
 
 abbrev world_4 : World
 world_4 = record world_3 { stacks = (((codes "s"), stack_4_s) ∷ []); place = 4 }
@@ -89,8 +93,11 @@ may_intended_b : MayFollow schemas world_4 [] intended_b
 unfolding computing
 may_intended_b = ((codes "s"), stack_4_s, Forward, refl, refl, record { next = refl; free = refl; home = refl; fits = refl; no_repeat = refl; chosen = (sound_4, ready_4_B, not_done_new (codes "B") stack_4_s refl refl refl, (refl, tt)) })
 
+abbrev pub call_2 : Call
+call_2 = record { number = 1; token = 2; lane = (codes "r1"); path = (codes "B"); request = (request.Create note (note_props (codes "b") (codes "u"))); status = status.CreateInProgress; fresh = true; doubts = 0; answer = None }
+
 abbrev stack_5_s : StackState
-stack_5_s = record stack_4_s { tokens = (record { token = 2; path = (codes "B"); lane = (codes "r1"); request = (request.Create note (note_props (codes "b") (codes "u"))) } ∷ []); events = stack_4_s.events ++ (codes "event 5 B CREATE_IN_PROGRESS") ∷ []; entries = stack_4_s.entries ++ intended_b ∷ [] }
+stack_5_s = record stack_4_s { tokens = (record { token = 2; path = (codes "B"); lane = (codes "r1"); request = (request.Create note (note_props (codes "b") (codes "u"))) } ∷ []); events = stack_4_s.events ++ (codes "event 5 B CREATE_IN_PROGRESS") ∷ []; entries = stack_4_s.entries ++ intended_b ∷ []; ledger = (record call_1 { answer = Some settled.Success } ∷ call_2 ∷ []) }
 
 abbrev world_5 : World
 world_5 = record world_4 { stacks = (((codes "s"), stack_5_s) ∷ []); token = 2; place = 5 }
@@ -103,7 +110,7 @@ abbrev b_1 : Held
 b_1 = record { path = (codes "B"); kind = note; physical = (codes "r1:2"); props = (note_props (codes "b") (codes "u")); attrs = (note_attrs (codes "r1:2") 1 (codes "b") (codes "u")); needs = ((codes "A") ∷ []); deletion = deletion.Delete; replace = replace.Delete; status = held.CreateComplete; unsure = false; superseded = false }
 
 abbrev stack_6_s : StackState
-stack_6_s = record stack_5_s { made = (a_1 ∷ b_1 ∷ []); tokens = []; events = stack_5_s.events ++ (codes "event 6 B CREATE_COMPLETE") ∷ []; entries = stack_5_s.entries ++ made_b ∷ [] }
+stack_6_s = record stack_5_s { made = (a_1 ∷ b_1 ∷ []); tokens = []; events = stack_5_s.events ++ (codes "event 6 B CREATE_COMPLETE") ∷ []; entries = stack_5_s.entries ++ made_b ∷ []; ledger = (record call_1 { answer = Some settled.Success } ∷ record call_2 { answer = Some settled.Success } ∷ []) }
 
 abbrev world_6 : World
 world_6 = record world_5 { stacks = (((codes "s"), stack_6_s) ∷ []); place = 6 }
@@ -131,7 +138,7 @@ unfolding computing
 may_deleting = (refl, refl, (refl, refl, refl))
 
 abbrev stack_8_s : StackState
-stack_8_s = record stack_7_s { status = status.DeleteInProgress; operation = 2; events = stack_7_s.events ++ (codes "event 8 - DELETE_IN_PROGRESS") ∷ []; entries = (deleting ∷ []) }
+stack_8_s = record stack_7_s { status = status.DeleteInProgress; operation = 2; events = stack_7_s.events ++ (codes "event 8 - DELETE_IN_PROGRESS") ∷ []; entries = (deleting ∷ []); ledger = [] }
 
 abbrev world_8 : World
 world_8 = record world_7 { stacks = (((codes "s"), stack_8_s) ∷ []); operation = 2; place = 8 }
@@ -140,8 +147,11 @@ may_intended_deletion : MayFollow schemas world_8 [] intended_deletion
 unfolding computing
 may_intended_deletion = ((codes "s"), stack_8_s, Gone, refl, refl, record { next = refl; free = refl; home = refl; fits = ((codes "2", refl), refl); no_repeat = refl; chosen = (_, (there here, refl, refl, refl), refl, refl, refl) })
 
+abbrev pub call_3 : Call
+call_3 = record { number = 2; token = 3; lane = (codes "r1"); path = (codes "B"); request = (request.Delete (codes "r1:2")); status = status.DeleteInProgress; fresh = true; doubts = 0; answer = None }
+
 abbrev stack_9_s : StackState
-stack_9_s = record stack_8_s { tokens = (record { token = 3; path = (codes "B"); lane = (codes "r1"); request = (request.Delete (codes "r1:2")) } ∷ []); events = stack_8_s.events ++ (codes "event 9 B DELETE_IN_PROGRESS") ∷ []; entries = stack_8_s.entries ++ intended_deletion ∷ [] }
+stack_9_s = record stack_8_s { tokens = (record { token = 3; path = (codes "B"); lane = (codes "r1"); request = (request.Delete (codes "r1:2")) } ∷ []); events = stack_8_s.events ++ (codes "event 9 B DELETE_IN_PROGRESS") ∷ []; entries = stack_8_s.entries ++ intended_deletion ∷ []; ledger = (call_3 ∷ []) }
 
 abbrev world_9 : World
 world_9 = record world_8 { stacks = (((codes "s"), stack_9_s) ∷ []); token = 3; place = 9 }
@@ -151,7 +161,7 @@ unfolding computing
 may_deleted_b = ((codes "s"), stack_9_s, Gone, refl, refl, (refl, refl, lit≤ tt))
 
 abbrev stack_10_s : StackState
-stack_10_s = record stack_9_s { held = (a_1 ∷ []); tokens = []; events = stack_9_s.events ++ (codes "event 10 B DELETE_COMPLETE") ∷ []; entries = stack_9_s.entries ++ deleted_b ∷ [] }
+stack_10_s = record stack_9_s { held = (a_1 ∷ []); tokens = []; events = stack_9_s.events ++ (codes "event 10 B DELETE_COMPLETE") ∷ []; entries = stack_9_s.entries ++ deleted_b ∷ []; ledger = (record call_3 { answer = Some settled.Success } ∷ []) }
 
 abbrev world_10 : World
 world_10 = record world_9 { stacks = (((codes "s"), stack_10_s) ∷ []); place = 10 }
@@ -171,7 +181,7 @@ unfolding computing
 may_deleted = ((codes "s"), stack_11_s, Gone, refl, refl, (refl, end_of_deletion schemas (codes "s") world_11 stack_11_s refl refl refl, refl, refl))
 
 abbrev pub stack_12_s : StackState
-stack_12_s = record stack_11_s { status = status.DeleteComplete; source = None; events = stack_11_s.events ++ (codes "event 12 - DELETE_COMPLETE") ∷ []; entries = stack_11_s.entries ++ deleted ∷ [] }
+stack_12_s = record stack_11_s { status = status.DeleteComplete; events = stack_11_s.events ++ (codes "event 12 - DELETE_COMPLETE") ∷ []; entries = stack_11_s.entries ++ deleted ∷ [] }
 
 abbrev world_12 : World
 world_12 = record world_11 { stacks = (((codes "s"), stack_12_s) ∷ []); place = 12 }

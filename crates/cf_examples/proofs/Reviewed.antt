@@ -1,11 +1,12 @@
 -- A change set: another path replaces the file, and what refers to it may be replaced.
-use Rattle.std.proofs.Common.{refl, List, [], ◌∷◌, ◌++◌, Some, true, false, ℕ, inl, inr, sym, ap, lit≤}
+use Rattle.std.proofs.Common.{refl, List, [], ◌∷◌, ◌++◌, Some, true, false, ℕ, inl, inr, sym, ap, lit≤, None}
 use Rattle.std.specs.Prelude.{codes, take, drop}
 use Rattle.cf_tree.specs.declared.request.Request.TheVariants as request
+use Rattle.cf_stacks.specs.declared.call.Call.{Call}
+use Rattle.cf_stacks.specs.declared.call.Settled.TheVariants as settled
 use Rattle.cf_stacks.specs.declared.held.Held.{Held}
-use Rattle.cf_stacks.specs.declared.state.World.{World}
-use Rattle.cf_stacks.specs.declared.state.StackState.{StackState}
-use Rattle.cf_stacks.specs.Fold.{empty_world, source_for, no_stack}
+use Rattle.cf_stacks.specs.World.{World, StackState, empty_world, no_stack}
+use Rattle.cf_stacks.specs.Begin.{source_for}
 use Rattle.cf_stacks.specs.Status.{Forward, Clean}
 use Rattle.cf_plan.specs.Forward.{here, there, HasFailed, IsReady, AllDone, IsDone, is_made}
 use Rattle.cf_plan.specs.Follow.{MayFollow}
@@ -55,8 +56,11 @@ may_intended_web : MayFollow schemas world_2 [] intended_web
 unfolding computing
 may_intended_web = ((codes "app"), stack_2_app, Forward, refl, refl, record { next = refl; free = refl; home = refl; fits = refl; no_repeat = refl; chosen = (sound_2, ready_2_Web, not_done_new (codes "Web") stack_2_app refl refl refl, (refl, tt)) })
 
+abbrev pub call_1 : Call
+call_1 = record { number = 1; token = 1; lane = (codes "f1"); path = (codes "Web"); request = (request.Create file (file_props (codes "a") (codes "x"))); status = status.CreateInProgress; fresh = true; doubts = 0; answer = None }
+
 abbrev stack_3_app : StackState
-stack_3_app = record stack_2_app { tokens = (record { token = 1; path = (codes "Web"); lane = (codes "f1"); request = (request.Create file (file_props (codes "a") (codes "x"))) } ∷ []); events = stack_2_app.events ++ (codes "event 3 Web CREATE_IN_PROGRESS") ∷ []; entries = stack_2_app.entries ++ intended_web ∷ [] }
+stack_3_app = record stack_2_app { tokens = (record { token = 1; path = (codes "Web"); lane = (codes "f1"); request = (request.Create file (file_props (codes "a") (codes "x"))) } ∷ []); events = stack_2_app.events ++ (codes "event 3 Web CREATE_IN_PROGRESS") ∷ []; entries = stack_2_app.entries ++ intended_web ∷ []; ledger = (call_1 ∷ []) }
 
 abbrev world_3 : World
 world_3 = record world_2 { stacks = (((codes "app"), stack_3_app) ∷ []); token = 1; place = 3 }
@@ -69,7 +73,7 @@ abbrev web_1 : Held
 web_1 = record { path = (codes "Web"); kind = file; physical = (codes "f1:1"); props = (file_props (codes "a") (codes "x")); attrs = (file_attrs (codes "f1:1") 1 (codes "a") (codes "x")); needs = []; deletion = deletion.Delete; replace = replace.Delete; status = held.CreateComplete; unsure = false; superseded = false }
 
 abbrev stack_4_app : StackState
-stack_4_app = record stack_3_app { made = (web_1 ∷ []); tokens = []; events = stack_3_app.events ++ (codes "event 4 Web CREATE_COMPLETE") ∷ []; entries = stack_3_app.entries ++ made_web ∷ [] }
+stack_4_app = record stack_3_app { made = (web_1 ∷ []); tokens = []; events = stack_3_app.events ++ (codes "event 4 Web CREATE_COMPLETE") ∷ []; entries = stack_3_app.entries ++ made_web ∷ []; ledger = (record call_1 { answer = Some settled.Success } ∷ []) }
 
 abbrev world_4 : World
 world_4 = record world_3 { stacks = (((codes "app"), stack_4_app) ∷ []); place = 4 }
@@ -86,8 +90,11 @@ may_intended_rec : MayFollow schemas world_4 [] intended_rec
 unfolding computing
 may_intended_rec = ((codes "app"), stack_4_app, Forward, refl, refl, record { next = refl; free = refl; home = refl; fits = refl; no_repeat = refl; chosen = (sound_4, ready_4_Rec, not_done_new (codes "Rec") stack_4_app refl refl refl, (refl, tt)) })
 
+abbrev pub call_2 : Call
+call_2 = record { number = 1; token = 2; lane = (codes "r1"); path = (codes "Rec"); request = (request.Create note (note_props (codes "f1:1") (codes "v"))); status = status.CreateInProgress; fresh = true; doubts = 0; answer = None }
+
 abbrev stack_5_app : StackState
-stack_5_app = record stack_4_app { tokens = (record { token = 2; path = (codes "Rec"); lane = (codes "r1"); request = (request.Create note (note_props (codes "f1:1") (codes "v"))) } ∷ []); events = stack_4_app.events ++ (codes "event 5 Rec CREATE_IN_PROGRESS") ∷ []; entries = stack_4_app.entries ++ intended_rec ∷ [] }
+stack_5_app = record stack_4_app { tokens = (record { token = 2; path = (codes "Rec"); lane = (codes "r1"); request = (request.Create note (note_props (codes "f1:1") (codes "v"))) } ∷ []); events = stack_4_app.events ++ (codes "event 5 Rec CREATE_IN_PROGRESS") ∷ []; entries = stack_4_app.entries ++ intended_rec ∷ []; ledger = (record call_1 { answer = Some settled.Success } ∷ call_2 ∷ []) }
 
 abbrev world_5 : World
 world_5 = record world_4 { stacks = (((codes "app"), stack_5_app) ∷ []); token = 2; place = 5 }
@@ -100,7 +107,7 @@ abbrev rec_1 : Held
 rec_1 = record { path = (codes "Rec"); kind = note; physical = (codes "r1:2"); props = (note_props (codes "f1:1") (codes "v")); attrs = (note_attrs (codes "r1:2") 1 (codes "f1:1") (codes "v")); needs = ((codes "Web") ∷ []); deletion = deletion.Delete; replace = replace.Delete; status = held.CreateComplete; unsure = false; superseded = false }
 
 abbrev stack_6_app : StackState
-stack_6_app = record stack_5_app { made = (web_1 ∷ rec_1 ∷ []); tokens = []; events = stack_5_app.events ++ (codes "event 6 Rec CREATE_COMPLETE") ∷ []; entries = stack_5_app.entries ++ made_rec ∷ [] }
+stack_6_app = record stack_5_app { made = (web_1 ∷ rec_1 ∷ []); tokens = []; events = stack_5_app.events ++ (codes "event 6 Rec CREATE_COMPLETE") ∷ []; entries = stack_5_app.entries ++ made_rec ∷ []; ledger = (record call_1 { answer = Some settled.Success } ∷ record call_2 { answer = Some settled.Success } ∷ []) }
 
 abbrev world_6 : World
 world_6 = record world_5 { stacks = (((codes "app"), stack_6_app) ∷ []); place = 6 }
@@ -168,7 +175,7 @@ unfolding computing
 may_updating = (refl, refl, record { no_flaw = refl; known_types = refl; same_types = refl; imports = no_imports _ _ _ _ refl refl; free = refl; not_in_use = refl; changing = inr (inl refl) })
 
 abbrev stack_9_app : StackState
-stack_9_app = record stack_8_app { status = status.UpdateInProgress; operation = 2; before = (web_1 ∷ rec_1 ∷ []); going = Some (source_for (codes "app") 1 second); sets = []; entries = (updating ∷ []); events = stack_8_app.events ++ (codes "event 9 - UPDATE_IN_PROGRESS") ∷ [] }
+stack_9_app = record stack_8_app { status = status.UpdateInProgress; operation = 2; before = (web_1 ∷ rec_1 ∷ []); going = Some (source_for (codes "app") 1 second); sets = []; entries = (updating ∷ []); events = stack_8_app.events ++ (codes "event 9 - UPDATE_IN_PROGRESS") ∷ []; ledger = [] }
 
 abbrev world_9 : World
 world_9 = record world_8 { stacks = (((codes "app"), stack_9_app) ∷ []); operation = 2; place = 9 }
@@ -185,8 +192,11 @@ may_intended_web_new : MayFollow schemas world_9 [] intended_web_new
 unfolding computing
 may_intended_web_new = ((codes "app"), stack_9_app, Forward, refl, refl, record { next = refl; free = refl; home = refl; fits = refl; no_repeat = refl; chosen = (sound_9, ready_9_Web, not_done_other (codes "Web") stack_9_app (same_at (codes "Path") (codes "a")) _ _ _ refl refl refl refl refl refl, (refl, inl refl)) })
 
+abbrev pub call_3 : Call
+call_3 = record { number = 2; token = 3; lane = (codes "f1"); path = (codes "Web"); request = (request.Create file (file_props (codes "b") (codes "x"))); status = status.UpdateInProgress; fresh = true; doubts = 0; answer = None }
+
 abbrev stack_10_app : StackState
-stack_10_app = record stack_9_app { tokens = (record { token = 3; path = (codes "Web"); lane = (codes "f1"); request = (request.Create file (file_props (codes "b") (codes "x"))) } ∷ []); events = stack_9_app.events ++ (codes "event 10 Web CREATE_IN_PROGRESS") ∷ []; entries = stack_9_app.entries ++ intended_web_new ∷ [] }
+stack_10_app = record stack_9_app { tokens = (record { token = 3; path = (codes "Web"); lane = (codes "f1"); request = (request.Create file (file_props (codes "b") (codes "x"))) } ∷ []); events = stack_9_app.events ++ (codes "event 10 Web CREATE_IN_PROGRESS") ∷ []; entries = stack_9_app.entries ++ intended_web_new ∷ []; ledger = (call_3 ∷ []) }
 
 abbrev world_10 : World
 world_10 = record world_9 { stacks = (((codes "app"), stack_10_app) ∷ []); token = 3; place = 10 }
@@ -199,7 +209,7 @@ unfolding computing
 may_made_web_new = ((codes "app"), stack_10_app, Forward, refl, refl, (refl, refl, lit≤ tt))
 
 abbrev stack_11_app : StackState
-stack_11_app = record stack_10_app { made = (web_2 ∷ []); tokens = []; events = stack_10_app.events ++ (codes "event 11 Web CREATE_COMPLETE") ∷ []; entries = stack_10_app.entries ++ made_web_new ∷ [] }
+stack_11_app = record stack_10_app { made = (web_2 ∷ []); tokens = []; events = stack_10_app.events ++ (codes "event 11 Web CREATE_COMPLETE") ∷ []; entries = stack_10_app.entries ++ made_web_new ∷ []; ledger = (record call_3 { answer = Some settled.Success } ∷ []) }
 
 abbrev world_11 : World
 world_11 = record world_10 { stacks = (((codes "app"), stack_11_app) ∷ []); place = 11 }
@@ -216,8 +226,11 @@ may_intended_rec_new : MayFollow schemas world_11 [] intended_rec_new
 unfolding computing
 may_intended_rec_new = ((codes "app"), stack_11_app, Forward, refl, refl, record { next = refl; free = refl; home = refl; fits = refl; no_repeat = refl; chosen = (sound_11, ready_11_Rec, not_done_other (codes "Rec") stack_11_app (same_at (codes "Key") (codes "f1:1")) _ _ _ refl refl refl refl refl refl, (refl, inl refl)) })
 
+abbrev pub call_4 : Call
+call_4 = record { number = 2; token = 4; lane = (codes "r1"); path = (codes "Rec"); request = (request.Create note (note_props (codes "f1:3") (codes "v"))); status = status.UpdateInProgress; fresh = true; doubts = 0; answer = None }
+
 abbrev stack_12_app : StackState
-stack_12_app = record stack_11_app { tokens = (record { token = 4; path = (codes "Rec"); lane = (codes "r1"); request = (request.Create note (note_props (codes "f1:3") (codes "v"))) } ∷ []); events = stack_11_app.events ++ (codes "event 12 Rec CREATE_IN_PROGRESS") ∷ []; entries = stack_11_app.entries ++ intended_rec_new ∷ [] }
+stack_12_app = record stack_11_app { tokens = (record { token = 4; path = (codes "Rec"); lane = (codes "r1"); request = (request.Create note (note_props (codes "f1:3") (codes "v"))) } ∷ []); events = stack_11_app.events ++ (codes "event 12 Rec CREATE_IN_PROGRESS") ∷ []; entries = stack_11_app.entries ++ intended_rec_new ∷ []; ledger = (record call_3 { answer = Some settled.Success } ∷ call_4 ∷ []) }
 
 abbrev world_12 : World
 world_12 = record world_11 { stacks = (((codes "app"), stack_12_app) ∷ []); token = 4; place = 12 }
@@ -230,7 +243,7 @@ unfolding computing
 may_made_rec_new = ((codes "app"), stack_12_app, Forward, refl, refl, (refl, refl, lit≤ tt))
 
 abbrev stack_13_app : StackState
-stack_13_app = record stack_12_app { made = (web_2 ∷ rec_2 ∷ []); tokens = []; events = stack_12_app.events ++ (codes "event 13 Rec CREATE_COMPLETE") ∷ []; entries = stack_12_app.entries ++ made_rec_new ∷ [] }
+stack_13_app = record stack_12_app { made = (web_2 ∷ rec_2 ∷ []); tokens = []; events = stack_12_app.events ++ (codes "event 13 Rec CREATE_COMPLETE") ∷ []; entries = stack_12_app.entries ++ made_rec_new ∷ []; ledger = (record call_3 { answer = Some settled.Success } ∷ record call_4 { answer = Some settled.Success } ∷ []) }
 
 abbrev world_13 : World
 world_13 = record world_12 { stacks = (((codes "app"), stack_13_app) ∷ []); place = 13 }
@@ -254,7 +267,7 @@ abbrev rec_3 : Held
 rec_3 = record { path = (codes "Rec"); kind = note; physical = (codes "r1:2"); props = (note_props (codes "f1:1") (codes "v")); attrs = (note_attrs (codes "r1:2") 1 (codes "f1:1") (codes "v")); needs = ((codes "Web") ∷ []); deletion = deletion.Delete; replace = replace.Delete; status = held.CreateComplete; unsure = false; superseded = true }
 
 abbrev stack_14_app : StackState
-stack_14_app = record stack_13_app { status = status.UpdateCompleteCleanupInProgress; held = (web_3 ∷ rec_3 ∷ web_2 ∷ rec_2 ∷ []); made = []; source = Some (source_for (codes "app") 1 second); events = stack_13_app.events ++ (codes "event 14 - UPDATE_COMPLETE_CLEANUP_IN_PROGRESS") ∷ []; entries = stack_13_app.entries ++ cleaning ∷ [] }
+stack_14_app = record stack_13_app { status = status.UpdateCompleteCleanupInProgress; held = (web_3 ∷ rec_3 ∷ web_2 ∷ rec_2 ∷ []); made = []; source = Some (source_for (codes "app") 1 second); events = stack_13_app.events ++ (codes "event 14 - UPDATE_COMPLETE_CLEANUP_IN_PROGRESS") ∷ []; entries = stack_13_app.entries ++ cleaning ∷ []; ledger = (record call_3 { fresh = false; answer = Some settled.Success } ∷ record call_4 { fresh = false; answer = Some settled.Success } ∷ []) }
 
 abbrev world_14 : World
 world_14 = record world_13 { stacks = (((codes "app"), stack_14_app) ∷ []); place = 14 }
@@ -263,8 +276,11 @@ may_intended_rec_gone : MayFollow schemas world_14 [] intended_rec_gone
 unfolding computing
 may_intended_rec_gone = ((codes "app"), stack_14_app, Clean, refl, refl, record { next = refl; free = refl; home = refl; fits = ((codes "2", refl), refl); no_repeat = refl; chosen = (_, (there here, refl, refl), refl, refl, refl) })
 
+abbrev pub call_5 : Call
+call_5 = record { number = 2; token = 5; lane = (codes "r1"); path = (codes "Rec"); request = (request.Delete (codes "r1:2")); status = status.UpdateCompleteCleanupInProgress; fresh = true; doubts = 0; answer = None }
+
 abbrev stack_15_app : StackState
-stack_15_app = record stack_14_app { tokens = (record { token = 5; path = (codes "Rec"); lane = (codes "r1"); request = (request.Delete (codes "r1:2")) } ∷ []); events = stack_14_app.events ++ (codes "event 15 Rec DELETE_IN_PROGRESS") ∷ []; entries = stack_14_app.entries ++ intended_rec_gone ∷ [] }
+stack_15_app = record stack_14_app { tokens = (record { token = 5; path = (codes "Rec"); lane = (codes "r1"); request = (request.Delete (codes "r1:2")) } ∷ []); events = stack_14_app.events ++ (codes "event 15 Rec DELETE_IN_PROGRESS") ∷ []; entries = stack_14_app.entries ++ intended_rec_gone ∷ []; ledger = (record call_3 { fresh = false; answer = Some settled.Success } ∷ record call_4 { fresh = false; answer = Some settled.Success } ∷ call_5 ∷ []) }
 
 abbrev world_15 : World
 world_15 = record world_14 { stacks = (((codes "app"), stack_15_app) ∷ []); token = 5; place = 15 }
@@ -274,7 +290,7 @@ unfolding computing
 may_rec_gone = ((codes "app"), stack_15_app, Clean, refl, refl, (refl, refl, lit≤ tt))
 
 abbrev stack_16_app : StackState
-stack_16_app = record stack_15_app { held = (web_3 ∷ web_2 ∷ rec_2 ∷ []); tokens = []; events = stack_15_app.events ++ (codes "event 16 Rec DELETE_COMPLETE") ∷ []; entries = stack_15_app.entries ++ rec_gone ∷ [] }
+stack_16_app = record stack_15_app { held = (web_3 ∷ web_2 ∷ rec_2 ∷ []); tokens = []; events = stack_15_app.events ++ (codes "event 16 Rec DELETE_COMPLETE") ∷ []; entries = stack_15_app.entries ++ rec_gone ∷ []; ledger = (record call_3 { fresh = false; answer = Some settled.Success } ∷ record call_4 { fresh = false; answer = Some settled.Success } ∷ record call_5 { answer = Some settled.Success } ∷ []) }
 
 abbrev world_16 : World
 world_16 = record world_15 { stacks = (((codes "app"), stack_16_app) ∷ []); place = 16 }
@@ -283,8 +299,11 @@ may_intended_web_gone : MayFollow schemas world_16 [] intended_web_gone
 unfolding computing
 may_intended_web_gone = ((codes "app"), stack_16_app, Clean, refl, refl, record { next = refl; free = refl; home = refl; fits = ((codes "1", refl), refl); no_repeat = refl; chosen = (_, (here, refl, refl), refl, refl, refl) })
 
+abbrev pub call_6 : Call
+call_6 = record { number = 2; token = 6; lane = (codes "f1"); path = (codes "Web"); request = (request.Delete (codes "f1:1")); status = status.UpdateCompleteCleanupInProgress; fresh = true; doubts = 0; answer = None }
+
 abbrev stack_17_app : StackState
-stack_17_app = record stack_16_app { tokens = (record { token = 6; path = (codes "Web"); lane = (codes "f1"); request = (request.Delete (codes "f1:1")) } ∷ []); events = stack_16_app.events ++ (codes "event 17 Web DELETE_IN_PROGRESS") ∷ []; entries = stack_16_app.entries ++ intended_web_gone ∷ [] }
+stack_17_app = record stack_16_app { tokens = (record { token = 6; path = (codes "Web"); lane = (codes "f1"); request = (request.Delete (codes "f1:1")) } ∷ []); events = stack_16_app.events ++ (codes "event 17 Web DELETE_IN_PROGRESS") ∷ []; entries = stack_16_app.entries ++ intended_web_gone ∷ []; ledger = (record call_3 { fresh = false; answer = Some settled.Success } ∷ record call_4 { fresh = false; answer = Some settled.Success } ∷ record call_5 { answer = Some settled.Success } ∷ call_6 ∷ []) }
 
 abbrev world_17 : World
 world_17 = record world_16 { stacks = (((codes "app"), stack_17_app) ∷ []); token = 6; place = 17 }
@@ -294,7 +313,7 @@ unfolding computing
 may_web_gone = ((codes "app"), stack_17_app, Clean, refl, refl, (refl, refl, lit≤ tt))
 
 abbrev stack_18_app : StackState
-stack_18_app = record stack_17_app { held = (web_2 ∷ rec_2 ∷ []); tokens = []; events = stack_17_app.events ++ (codes "event 18 Web DELETE_COMPLETE") ∷ []; entries = stack_17_app.entries ++ web_gone ∷ [] }
+stack_18_app = record stack_17_app { held = (web_2 ∷ rec_2 ∷ []); tokens = []; events = stack_17_app.events ++ (codes "event 18 Web DELETE_COMPLETE") ∷ []; entries = stack_17_app.entries ++ web_gone ∷ []; ledger = (record call_3 { fresh = false; answer = Some settled.Success } ∷ record call_4 { fresh = false; answer = Some settled.Success } ∷ record call_5 { answer = Some settled.Success } ∷ record call_6 { answer = Some settled.Success } ∷ []) }
 
 abbrev world_18 : World
 world_18 = record world_17 { stacks = (((codes "app"), stack_18_app) ∷ []); place = 18 }

@@ -1,5 +1,5 @@
 -- A site, a stack that imports its value, and their deletion.
-use Rattle.std.proofs.Common.{◌≡◌, refl, List, [], ◌∷◌, ◌++◌, Some, None, false, ℕ, inl, ap, lit≤, true≢false}
+use Rattle.std.proofs.Common.{◌≡◌, refl, List, [], ◌∷◌, ◌++◌, Some, None, false, ℕ, inl, ap, lit≤, true≢false, true}
 use Rattle.std.specs.Prelude.{codes, length, take, drop}
 use Rattle.std.specs.Str.{bytes_eq}
 use Rattle.cf_tree.specs.declared.request.Request.TheVariants as request
@@ -10,11 +10,12 @@ use Rattle.cf_entry.specs.declared.entry.Begun.TheVariants as begin
 use Rattle.cf_entry.specs.declared.status.Status.TheVariants as status
 use Rattle.cf_entry.specs.declared.turn.Why.TheVariants as why
 use Rattle.cf_desired.specs.declared.wanted.Plan.{Plan}
+use Rattle.cf_stacks.specs.declared.call.Call.{Call}
+use Rattle.cf_stacks.specs.declared.call.Settled.TheVariants as settled
 use Rattle.cf_stacks.specs.declared.held.Held.{Held}
 use Rattle.cf_stacks.specs.declared.held.HeldStatus.TheVariants as held
-use Rattle.cf_stacks.specs.declared.state.World.{World}
-use Rattle.cf_stacks.specs.declared.state.StackState.{StackState}
-use Rattle.cf_stacks.specs.Fold.{empty_world, source_for, no_stack}
+use Rattle.cf_stacks.specs.World.{World, StackState, empty_world, no_stack}
+use Rattle.cf_stacks.specs.Begin.{source_for}
 use Rattle.cf_stacks.specs.Status.{Forward, Gone}
 use Rattle.cf_plan.specs.Between.{is_needed_by_held}
 use Rattle.cf_plan.specs.Forward.{here, there, HasFailed, IsReady, AllDone, IsDone, is_made}
@@ -60,8 +61,11 @@ may_intended_audit : MayFollow schemas world_2 [] intended_audit
 unfolding computing
 may_intended_audit = ((codes "site"), stack_2_site, Forward, refl, refl, record { next = refl; free = refl; home = refl; fits = refl; no_repeat = refl; chosen = (sound_2, ready_2_Audit, not_done_new (codes "Audit") stack_2_site refl refl refl, (refl, tt)) })
 
+abbrev pub call_1 : Call
+call_1 = record { number = 1; token = 1; lane = (codes "f1"); path = (codes "Audit"); request = (request.Create file (file_props (codes "audit.txt") (codes "on"))); status = status.CreateInProgress; fresh = true; doubts = 0; answer = None }
+
 abbrev stack_3_site : StackState
-stack_3_site = record stack_2_site { tokens = (record { token = 1; path = (codes "Audit"); lane = (codes "f1"); request = (request.Create file (file_props (codes "audit.txt") (codes "on"))) } ∷ []); events = stack_2_site.events ++ (codes "event 3 Audit CREATE_IN_PROGRESS") ∷ []; entries = stack_2_site.entries ++ intended_audit ∷ [] }
+stack_3_site = record stack_2_site { tokens = (record { token = 1; path = (codes "Audit"); lane = (codes "f1"); request = (request.Create file (file_props (codes "audit.txt") (codes "on"))) } ∷ []); events = stack_2_site.events ++ (codes "event 3 Audit CREATE_IN_PROGRESS") ∷ []; entries = stack_2_site.entries ++ intended_audit ∷ []; ledger = (call_1 ∷ []) }
 
 abbrev world_3 : World
 world_3 = record world_2 { stacks = (((codes "site"), stack_3_site) ∷ []); token = 1; place = 3 }
@@ -74,7 +78,7 @@ unfolding computing
 may_made_audit = ((codes "site"), stack_3_site, Forward, refl, refl, (refl, refl, lit≤ tt))
 
 abbrev stack_4_site : StackState
-stack_4_site = record stack_3_site { made = (audit_1 ∷ []); tokens = []; events = stack_3_site.events ++ (codes "event 4 Audit CREATE_COMPLETE") ∷ []; entries = stack_3_site.entries ++ made_audit ∷ [] }
+stack_4_site = record stack_3_site { made = (audit_1 ∷ []); tokens = []; events = stack_3_site.events ++ (codes "event 4 Audit CREATE_COMPLETE") ∷ []; entries = stack_3_site.entries ++ made_audit ∷ []; ledger = (record call_1 { answer = Some settled.Success } ∷ []) }
 
 abbrev world_4 : World
 world_4 = record world_3 { stacks = (((codes "site"), stack_4_site) ∷ []); place = 4 }
@@ -91,8 +95,11 @@ may_intended_conf : MayFollow schemas world_4 [] intended_conf
 unfolding computing
 may_intended_conf = ((codes "site"), stack_4_site, Forward, refl, refl, record { next = refl; free = refl; home = refl; fits = refl; no_repeat = refl; chosen = (sound_4, ready_4_Conf, not_done_new (codes "Conf") stack_4_site refl refl refl, (refl, tt)) })
 
+abbrev pub call_2 : Call
+call_2 = record { number = 1; token = 2; lane = (codes "f1"); path = (codes "Conf"); request = (request.Create file (file_props (codes "site.conf") (codes "stage=prod\ndepth=8"))); status = status.CreateInProgress; fresh = true; doubts = 0; answer = None }
+
 abbrev stack_5_site : StackState
-stack_5_site = record stack_4_site { tokens = (record { token = 2; path = (codes "Conf"); lane = (codes "f1"); request = (request.Create file (file_props (codes "site.conf") (codes "stage=prod\ndepth=8"))) } ∷ []); events = stack_4_site.events ++ (codes "event 5 Conf CREATE_IN_PROGRESS") ∷ []; entries = stack_4_site.entries ++ intended_conf ∷ [] }
+stack_5_site = record stack_4_site { tokens = (record { token = 2; path = (codes "Conf"); lane = (codes "f1"); request = (request.Create file (file_props (codes "site.conf") (codes "stage=prod\ndepth=8"))) } ∷ []); events = stack_4_site.events ++ (codes "event 5 Conf CREATE_IN_PROGRESS") ∷ []; entries = stack_4_site.entries ++ intended_conf ∷ []; ledger = (record call_1 { answer = Some settled.Success } ∷ call_2 ∷ []) }
 
 abbrev world_5 : World
 world_5 = record world_4 { stacks = (((codes "site"), stack_5_site) ∷ []); token = 2; place = 5 }
@@ -105,7 +112,7 @@ unfolding computing
 may_made_conf = ((codes "site"), stack_5_site, Forward, refl, refl, (refl, refl, lit≤ tt))
 
 abbrev stack_6_site : StackState
-stack_6_site = record stack_5_site { made = (audit_1 ∷ conf_1 ∷ []); tokens = []; events = stack_5_site.events ++ (codes "event 6 Conf CREATE_COMPLETE") ∷ []; entries = stack_5_site.entries ++ made_conf ∷ [] }
+stack_6_site = record stack_5_site { made = (audit_1 ∷ conf_1 ∷ []); tokens = []; events = stack_5_site.events ++ (codes "event 6 Conf CREATE_COMPLETE") ∷ []; entries = stack_5_site.entries ++ made_conf ∷ []; ledger = (record call_1 { answer = Some settled.Success } ∷ record call_2 { answer = Some settled.Success } ∷ []) }
 
 abbrev world_6 : World
 world_6 = record world_5 { stacks = (((codes "site"), stack_6_site) ∷ []); place = 6 }
@@ -122,8 +129,11 @@ may_intended_home : MayFollow schemas world_6 [] intended_home
 unfolding computing
 may_intended_home = ((codes "site"), stack_6_site, Forward, refl, refl, record { next = refl; free = refl; home = refl; fits = refl; no_repeat = refl; chosen = (sound_6, ready_6_Home, not_done_new (codes "Home") stack_6_site refl refl refl, (refl, tt)) })
 
+abbrev pub call_3 : Call
+call_3 = record { number = 1; token = 3; lane = (codes "f1"); path = (codes "Home"); request = (request.Create file (file_props (codes "home.txt") (codes "beta"))); status = status.CreateInProgress; fresh = true; doubts = 0; answer = None }
+
 abbrev stack_7_site : StackState
-stack_7_site = record stack_6_site { tokens = (record { token = 3; path = (codes "Home"); lane = (codes "f1"); request = (request.Create file (file_props (codes "home.txt") (codes "beta"))) } ∷ []); events = stack_6_site.events ++ (codes "event 7 Home CREATE_IN_PROGRESS") ∷ []; entries = stack_6_site.entries ++ intended_home ∷ [] }
+stack_7_site = record stack_6_site { tokens = (record { token = 3; path = (codes "Home"); lane = (codes "f1"); request = (request.Create file (file_props (codes "home.txt") (codes "beta"))) } ∷ []); events = stack_6_site.events ++ (codes "event 7 Home CREATE_IN_PROGRESS") ∷ []; entries = stack_6_site.entries ++ intended_home ∷ []; ledger = (record call_1 { answer = Some settled.Success } ∷ record call_2 { answer = Some settled.Success } ∷ call_3 ∷ []) }
 
 abbrev world_7 : World
 world_7 = record world_6 { stacks = (((codes "site"), stack_7_site) ∷ []); token = 3; place = 7 }
@@ -136,7 +146,7 @@ unfolding computing
 may_made_home = ((codes "site"), stack_7_site, Forward, refl, refl, (refl, refl, lit≤ tt))
 
 abbrev stack_8_site : StackState
-stack_8_site = record stack_7_site { made = (audit_1 ∷ conf_1 ∷ home_1 ∷ []); tokens = []; events = stack_7_site.events ++ (codes "event 8 Home CREATE_COMPLETE") ∷ []; entries = stack_7_site.entries ++ made_home ∷ [] }
+stack_8_site = record stack_7_site { made = (audit_1 ∷ conf_1 ∷ home_1 ∷ []); tokens = []; events = stack_7_site.events ++ (codes "event 8 Home CREATE_COMPLETE") ∷ []; entries = stack_7_site.entries ++ made_home ∷ []; ledger = (record call_1 { answer = Some settled.Success } ∷ record call_2 { answer = Some settled.Success } ∷ record call_3 { answer = Some settled.Success } ∷ []) }
 
 abbrev world_8 : World
 world_8 = record world_7 { stacks = (((codes "site"), stack_8_site) ∷ []); place = 8 }
@@ -153,8 +163,11 @@ may_intended_main : MayFollow schemas world_8 [] intended_main
 unfolding computing
 may_intended_main = ((codes "site"), stack_8_site, Forward, refl, refl, record { next = refl; free = refl; home = refl; fits = refl; no_repeat = refl; chosen = (sound_8, ready_8_Main, not_done_new (codes "Main") stack_8_site refl refl refl, (refl, tt)) })
 
+abbrev pub call_4 : Call
+call_4 = record { number = 1; token = 4; lane = (codes "r1"); path = (codes "Main"); request = (request.Create note (note_props (codes "main") (codes "f1:2"))); status = status.CreateInProgress; fresh = true; doubts = 0; answer = None }
+
 abbrev stack_9_site : StackState
-stack_9_site = record stack_8_site { tokens = (record { token = 4; path = (codes "Main"); lane = (codes "r1"); request = (request.Create note (note_props (codes "main") (codes "f1:2"))) } ∷ []); events = stack_8_site.events ++ (codes "event 9 Main CREATE_IN_PROGRESS") ∷ []; entries = stack_8_site.entries ++ intended_main ∷ [] }
+stack_9_site = record stack_8_site { tokens = (record { token = 4; path = (codes "Main"); lane = (codes "r1"); request = (request.Create note (note_props (codes "main") (codes "f1:2"))) } ∷ []); events = stack_8_site.events ++ (codes "event 9 Main CREATE_IN_PROGRESS") ∷ []; entries = stack_8_site.entries ++ intended_main ∷ []; ledger = (record call_1 { answer = Some settled.Success } ∷ record call_2 { answer = Some settled.Success } ∷ record call_3 { answer = Some settled.Success } ∷ call_4 ∷ []) }
 
 abbrev world_9 : World
 world_9 = record world_8 { stacks = (((codes "site"), stack_9_site) ∷ []); token = 4; place = 9 }
@@ -167,7 +180,7 @@ unfolding computing
 may_made_main = ((codes "site"), stack_9_site, Forward, refl, refl, (refl, refl, lit≤ tt))
 
 abbrev stack_10_site : StackState
-stack_10_site = record stack_9_site { made = (audit_1 ∷ conf_1 ∷ home_1 ∷ main_1 ∷ []); tokens = []; events = stack_9_site.events ++ (codes "event 10 Main CREATE_COMPLETE") ∷ []; entries = stack_9_site.entries ++ made_main ∷ [] }
+stack_10_site = record stack_9_site { made = (audit_1 ∷ conf_1 ∷ home_1 ∷ main_1 ∷ []); tokens = []; events = stack_9_site.events ++ (codes "event 10 Main CREATE_COMPLETE") ∷ []; entries = stack_9_site.entries ++ made_main ∷ []; ledger = (record call_1 { answer = Some settled.Success } ∷ record call_2 { answer = Some settled.Success } ∷ record call_3 { answer = Some settled.Success } ∷ record call_4 { answer = Some settled.Success } ∷ []) }
 
 abbrev world_10 : World
 world_10 = record world_9 { stacks = (((codes "site"), stack_10_site) ∷ []); place = 10 }
@@ -184,8 +197,11 @@ may_intended_size : MayFollow schemas world_10 [] intended_size
 unfolding computing
 may_intended_size = ((codes "site"), stack_10_site, Forward, refl, refl, record { next = refl; free = refl; home = refl; fits = refl; no_repeat = refl; chosen = (sound_10, ready_10_Size, not_done_new (codes "Size") stack_10_site refl refl refl, (refl, tt)) })
 
+abbrev pub call_5 : Call
+call_5 = record { number = 1; token = 5; lane = (codes "r1"); path = (codes "Size"); request = (request.Create note (note_props (codes "size") (codes "18/4"))); status = status.CreateInProgress; fresh = true; doubts = 0; answer = None }
+
 abbrev stack_11_site : StackState
-stack_11_site = record stack_10_site { tokens = (record { token = 5; path = (codes "Size"); lane = (codes "r1"); request = (request.Create note (note_props (codes "size") (codes "18/4"))) } ∷ []); events = stack_10_site.events ++ (codes "event 11 Size CREATE_IN_PROGRESS") ∷ []; entries = stack_10_site.entries ++ intended_size ∷ [] }
+stack_11_site = record stack_10_site { tokens = (record { token = 5; path = (codes "Size"); lane = (codes "r1"); request = (request.Create note (note_props (codes "size") (codes "18/4"))) } ∷ []); events = stack_10_site.events ++ (codes "event 11 Size CREATE_IN_PROGRESS") ∷ []; entries = stack_10_site.entries ++ intended_size ∷ []; ledger = (record call_1 { answer = Some settled.Success } ∷ record call_2 { answer = Some settled.Success } ∷ record call_3 { answer = Some settled.Success } ∷ record call_4 { answer = Some settled.Success } ∷ call_5 ∷ []) }
 
 abbrev world_11 : World
 world_11 = record world_10 { stacks = (((codes "site"), stack_11_site) ∷ []); token = 5; place = 11 }
@@ -198,7 +214,7 @@ unfolding computing
 may_made_size = ((codes "site"), stack_11_site, Forward, refl, refl, (refl, refl, lit≤ tt))
 
 abbrev stack_12_site : StackState
-stack_12_site = record stack_11_site { made = (audit_1 ∷ conf_1 ∷ home_1 ∷ main_1 ∷ size_1 ∷ []); tokens = []; events = stack_11_site.events ++ (codes "event 12 Size CREATE_COMPLETE") ∷ []; entries = stack_11_site.entries ++ made_size ∷ [] }
+stack_12_site = record stack_11_site { made = (audit_1 ∷ conf_1 ∷ home_1 ∷ main_1 ∷ size_1 ∷ []); tokens = []; events = stack_11_site.events ++ (codes "event 12 Size CREATE_COMPLETE") ∷ []; entries = stack_11_site.entries ++ made_size ∷ []; ledger = (record call_1 { answer = Some settled.Success } ∷ record call_2 { answer = Some settled.Success } ∷ record call_3 { answer = Some settled.Success } ∷ record call_4 { answer = Some settled.Success } ∷ record call_5 { answer = Some settled.Success } ∷ []) }
 
 abbrev world_12 : World
 world_12 = record world_11 { stacks = (((codes "site"), stack_12_site) ∷ []); place = 12 }
@@ -243,8 +259,11 @@ may_intended_use : MayFollow schemas world_14 [] intended_use
 unfolding computing
 may_intended_use = ((codes "user"), stack_14_user, Forward, refl, refl, record { next = refl; free = refl; home = refl; fits = refl; no_repeat = refl; chosen = (sound_14, ready_14_Use, not_done_new (codes "Use") stack_14_user refl refl refl, (refl, tt)) })
 
+abbrev pub call_6 : Call
+call_6 = record { number = 2; token = 6; lane = (codes "r1"); path = (codes "Use"); request = (request.Create note (note_props (codes "u") (codes "18/4"))); status = status.CreateInProgress; fresh = true; doubts = 0; answer = None }
+
 abbrev stack_15_user : StackState
-stack_15_user = record stack_14_user { tokens = (record { token = 6; path = (codes "Use"); lane = (codes "r1"); request = (request.Create note (note_props (codes "u") (codes "18/4"))) } ∷ []); events = stack_14_user.events ++ (codes "event 15 Use CREATE_IN_PROGRESS") ∷ []; entries = stack_14_user.entries ++ intended_use ∷ [] }
+stack_15_user = record stack_14_user { tokens = (record { token = 6; path = (codes "Use"); lane = (codes "r1"); request = (request.Create note (note_props (codes "u") (codes "18/4"))) } ∷ []); events = stack_14_user.events ++ (codes "event 15 Use CREATE_IN_PROGRESS") ∷ []; entries = stack_14_user.entries ++ intended_use ∷ []; ledger = (call_6 ∷ []) }
 
 abbrev world_15 : World
 world_15 = record world_14 { stacks = (((codes "site"), stack_13_site) ∷ ((codes "user"), stack_15_user) ∷ []); token = 6; place = 15 }
@@ -257,7 +276,7 @@ unfolding computing
 may_made_use = ((codes "user"), stack_15_user, Forward, refl, refl, (refl, refl, lit≤ tt))
 
 abbrev stack_16_user : StackState
-stack_16_user = record stack_15_user { made = (use_1 ∷ []); tokens = []; events = stack_15_user.events ++ (codes "event 16 Use CREATE_COMPLETE") ∷ []; entries = stack_15_user.entries ++ made_use ∷ [] }
+stack_16_user = record stack_15_user { made = (use_1 ∷ []); tokens = []; events = stack_15_user.events ++ (codes "event 16 Use CREATE_COMPLETE") ∷ []; entries = stack_15_user.entries ++ made_use ∷ []; ledger = (record call_6 { answer = Some settled.Success } ∷ []) }
 
 abbrev world_16 : World
 world_16 = record world_15 { stacks = (((codes "site"), stack_13_site) ∷ ((codes "user"), stack_16_user) ∷ []); place = 16 }
@@ -285,7 +304,7 @@ unfolding computing
 may_deleting_user = (refl, refl, (refl, refl, refl))
 
 abbrev stack_18_user : StackState
-stack_18_user = record stack_17_user { status = status.DeleteInProgress; operation = 3; entries = (deleting_user ∷ []); events = stack_17_user.events ++ (codes "event 18 - DELETE_IN_PROGRESS") ∷ [] }
+stack_18_user = record stack_17_user { status = status.DeleteInProgress; operation = 3; entries = (deleting_user ∷ []); events = stack_17_user.events ++ (codes "event 18 - DELETE_IN_PROGRESS") ∷ []; ledger = [] }
 
 abbrev world_18 : World
 world_18 = record world_17 { stacks = (((codes "site"), stack_13_site) ∷ ((codes "user"), stack_18_user) ∷ []); operation = 3; place = 18 }
@@ -294,8 +313,11 @@ may_intended_use_gone : MayFollow schemas world_18 [] intended_use_gone
 unfolding computing
 may_intended_use_gone = ((codes "user"), stack_18_user, Gone, refl, refl, record { next = refl; free = refl; home = refl; fits = ((codes "6", refl), refl); no_repeat = refl; chosen = (_, (here, refl, refl, refl), refl, refl, refl) })
 
+abbrev pub call_7 : Call
+call_7 = record { number = 3; token = 7; lane = (codes "r1"); path = (codes "Use"); request = (request.Delete (codes "r1:6")); status = status.DeleteInProgress; fresh = true; doubts = 0; answer = None }
+
 abbrev stack_19_user : StackState
-stack_19_user = record stack_18_user { tokens = (record { token = 7; path = (codes "Use"); lane = (codes "r1"); request = (request.Delete (codes "r1:6")) } ∷ []); events = stack_18_user.events ++ (codes "event 19 Use DELETE_IN_PROGRESS") ∷ []; entries = stack_18_user.entries ++ intended_use_gone ∷ [] }
+stack_19_user = record stack_18_user { tokens = (record { token = 7; path = (codes "Use"); lane = (codes "r1"); request = (request.Delete (codes "r1:6")) } ∷ []); events = stack_18_user.events ++ (codes "event 19 Use DELETE_IN_PROGRESS") ∷ []; entries = stack_18_user.entries ++ intended_use_gone ∷ []; ledger = (call_7 ∷ []) }
 
 abbrev world_19 : World
 world_19 = record world_18 { stacks = (((codes "site"), stack_13_site) ∷ ((codes "user"), stack_19_user) ∷ []); token = 7; place = 19 }
@@ -305,7 +327,7 @@ unfolding computing
 may_use_gone = ((codes "user"), stack_19_user, Gone, refl, refl, (refl, refl, lit≤ tt))
 
 abbrev stack_20_user : StackState
-stack_20_user = record stack_19_user { held = []; tokens = []; events = stack_19_user.events ++ (codes "event 20 Use DELETE_COMPLETE") ∷ []; entries = stack_19_user.entries ++ use_gone ∷ [] }
+stack_20_user = record stack_19_user { held = []; tokens = []; events = stack_19_user.events ++ (codes "event 20 Use DELETE_COMPLETE") ∷ []; entries = stack_19_user.entries ++ use_gone ∷ []; ledger = (record call_7 { answer = Some settled.Success } ∷ []) }
 
 abbrev world_20 : World
 world_20 = record world_19 { stacks = (((codes "site"), stack_13_site) ∷ ((codes "user"), stack_20_user) ∷ []); place = 20 }
@@ -315,7 +337,7 @@ unfolding computing
 may_user_gone = ((codes "user"), stack_20_user, Gone, refl, refl, (refl, end_of_deletion schemas (codes "user") world_20 stack_20_user refl refl refl, refl, refl))
 
 abbrev stack_21_user : StackState
-stack_21_user = record stack_20_user { status = status.DeleteComplete; source = None; events = stack_20_user.events ++ (codes "event 21 - DELETE_COMPLETE") ∷ []; entries = stack_20_user.entries ++ user_gone ∷ [] }
+stack_21_user = record stack_20_user { status = status.DeleteComplete; events = stack_20_user.events ++ (codes "event 21 - DELETE_COMPLETE") ∷ []; entries = stack_20_user.entries ++ user_gone ∷ [] }
 
 abbrev world_21 : World
 world_21 = record world_20 { stacks = (((codes "site"), stack_13_site) ∷ ((codes "user"), stack_21_user) ∷ []); pins = []; place = 21 }
@@ -325,7 +347,7 @@ unfolding computing
 may_deleting_site = (refl, refl, (refl, refl, refl))
 
 abbrev stack_22_site : StackState
-stack_22_site = record stack_13_site { status = status.DeleteInProgress; operation = 4; entries = (deleting_site ∷ []); outputs = []; events = stack_13_site.events ++ (codes "event 22 - DELETE_IN_PROGRESS") ∷ [] }
+stack_22_site = record stack_13_site { status = status.DeleteInProgress; operation = 4; entries = (deleting_site ∷ []); outputs = []; events = stack_13_site.events ++ (codes "event 22 - DELETE_IN_PROGRESS") ∷ []; ledger = [] }
 
 abbrev world_22 : World
 world_22 = record world_21 { stacks = (((codes "site"), stack_22_site) ∷ ((codes "user"), stack_21_user) ∷ []); operation = 4; exports = []; place = 22 }
@@ -344,8 +366,11 @@ may_intended_main_gone : MayFollow schemas world_23 [] intended_main_gone
 unfolding computing
 may_intended_main_gone = ((codes "site"), stack_23_site, Gone, refl, refl, record { next = refl; free = refl; home = refl; fits = ((codes "4", refl), refl); no_repeat = refl; chosen = (_, (there (there here), refl, refl, refl), refl, refl, refl) })
 
+abbrev pub call_8 : Call
+call_8 = record { number = 4; token = 8; lane = (codes "r1"); path = (codes "Main"); request = (request.Delete (codes "r1:4")); status = status.DeleteInProgress; fresh = true; doubts = 0; answer = None }
+
 abbrev stack_24_site : StackState
-stack_24_site = record stack_23_site { tokens = (record { token = 8; path = (codes "Main"); lane = (codes "r1"); request = (request.Delete (codes "r1:4")) } ∷ []); events = stack_23_site.events ++ (codes "event 24 Main DELETE_IN_PROGRESS") ∷ []; entries = stack_23_site.entries ++ intended_main_gone ∷ [] }
+stack_24_site = record stack_23_site { tokens = (record { token = 8; path = (codes "Main"); lane = (codes "r1"); request = (request.Delete (codes "r1:4")) } ∷ []); events = stack_23_site.events ++ (codes "event 24 Main DELETE_IN_PROGRESS") ∷ []; entries = stack_23_site.entries ++ intended_main_gone ∷ []; ledger = (call_8 ∷ []) }
 
 abbrev world_24 : World
 world_24 = record world_23 { stacks = (((codes "site"), stack_24_site) ∷ ((codes "user"), stack_21_user) ∷ []); token = 8; place = 24 }
@@ -355,7 +380,7 @@ unfolding computing
 may_main_gone = ((codes "site"), stack_24_site, Gone, refl, refl, (refl, refl, lit≤ tt))
 
 abbrev stack_25_site : StackState
-stack_25_site = record stack_24_site { held = (conf_1 ∷ home_1 ∷ size_1 ∷ []); tokens = []; events = stack_24_site.events ++ (codes "event 25 Main DELETE_COMPLETE") ∷ []; entries = stack_24_site.entries ++ main_gone ∷ [] }
+stack_25_site = record stack_24_site { held = (conf_1 ∷ home_1 ∷ size_1 ∷ []); tokens = []; events = stack_24_site.events ++ (codes "event 25 Main DELETE_COMPLETE") ∷ []; entries = stack_24_site.entries ++ main_gone ∷ []; ledger = (record call_8 { answer = Some settled.Success } ∷ []) }
 
 abbrev world_25 : World
 world_25 = record world_24 { stacks = (((codes "site"), stack_25_site) ∷ ((codes "user"), stack_21_user) ∷ []); place = 25 }
@@ -364,8 +389,11 @@ may_intended_size_gone : MayFollow schemas world_25 [] intended_size_gone
 unfolding computing
 may_intended_size_gone = ((codes "site"), stack_25_site, Gone, refl, refl, record { next = refl; free = refl; home = refl; fits = ((codes "5", refl), refl); no_repeat = refl; chosen = (_, (there (there here), refl, refl, refl), refl, refl, refl) })
 
+abbrev pub call_9 : Call
+call_9 = record { number = 4; token = 9; lane = (codes "r1"); path = (codes "Size"); request = (request.Delete (codes "r1:5")); status = status.DeleteInProgress; fresh = true; doubts = 0; answer = None }
+
 abbrev stack_26_site : StackState
-stack_26_site = record stack_25_site { tokens = (record { token = 9; path = (codes "Size"); lane = (codes "r1"); request = (request.Delete (codes "r1:5")) } ∷ []); events = stack_25_site.events ++ (codes "event 26 Size DELETE_IN_PROGRESS") ∷ []; entries = stack_25_site.entries ++ intended_size_gone ∷ [] }
+stack_26_site = record stack_25_site { tokens = (record { token = 9; path = (codes "Size"); lane = (codes "r1"); request = (request.Delete (codes "r1:5")) } ∷ []); events = stack_25_site.events ++ (codes "event 26 Size DELETE_IN_PROGRESS") ∷ []; entries = stack_25_site.entries ++ intended_size_gone ∷ []; ledger = (record call_8 { answer = Some settled.Success } ∷ call_9 ∷ []) }
 
 abbrev world_26 : World
 world_26 = record world_25 { stacks = (((codes "site"), stack_26_site) ∷ ((codes "user"), stack_21_user) ∷ []); token = 9; place = 26 }
@@ -375,7 +403,7 @@ unfolding computing
 may_size_gone = ((codes "site"), stack_26_site, Gone, refl, refl, (refl, refl, lit≤ tt))
 
 abbrev stack_27_site : StackState
-stack_27_site = record stack_26_site { held = (conf_1 ∷ home_1 ∷ []); tokens = []; events = stack_26_site.events ++ (codes "event 27 Size DELETE_COMPLETE") ∷ []; entries = stack_26_site.entries ++ size_gone ∷ [] }
+stack_27_site = record stack_26_site { held = (conf_1 ∷ home_1 ∷ []); tokens = []; events = stack_26_site.events ++ (codes "event 27 Size DELETE_COMPLETE") ∷ []; entries = stack_26_site.entries ++ size_gone ∷ []; ledger = (record call_8 { answer = Some settled.Success } ∷ record call_9 { answer = Some settled.Success } ∷ []) }
 
 abbrev world_27 : World
 world_27 = record world_26 { stacks = (((codes "site"), stack_27_site) ∷ ((codes "user"), stack_21_user) ∷ []); place = 27 }
@@ -384,8 +412,11 @@ may_intended_home_gone : MayFollow schemas world_27 [] intended_home_gone
 unfolding computing
 may_intended_home_gone = ((codes "site"), stack_27_site, Gone, refl, refl, record { next = refl; free = refl; home = refl; fits = ((codes "3", refl), refl); no_repeat = refl; chosen = (_, (there here, refl, refl, refl), refl, refl, refl) })
 
+abbrev pub call_10 : Call
+call_10 = record { number = 4; token = 10; lane = (codes "f1"); path = (codes "Home"); request = (request.Delete (codes "f1:3")); status = status.DeleteInProgress; fresh = true; doubts = 0; answer = None }
+
 abbrev stack_28_site : StackState
-stack_28_site = record stack_27_site { tokens = (record { token = 10; path = (codes "Home"); lane = (codes "f1"); request = (request.Delete (codes "f1:3")) } ∷ []); events = stack_27_site.events ++ (codes "event 28 Home DELETE_IN_PROGRESS") ∷ []; entries = stack_27_site.entries ++ intended_home_gone ∷ [] }
+stack_28_site = record stack_27_site { tokens = (record { token = 10; path = (codes "Home"); lane = (codes "f1"); request = (request.Delete (codes "f1:3")) } ∷ []); events = stack_27_site.events ++ (codes "event 28 Home DELETE_IN_PROGRESS") ∷ []; entries = stack_27_site.entries ++ intended_home_gone ∷ []; ledger = (record call_8 { answer = Some settled.Success } ∷ record call_9 { answer = Some settled.Success } ∷ call_10 ∷ []) }
 
 abbrev world_28 : World
 world_28 = record world_27 { stacks = (((codes "site"), stack_28_site) ∷ ((codes "user"), stack_21_user) ∷ []); token = 10; place = 28 }
@@ -395,7 +426,7 @@ unfolding computing
 may_home_gone = ((codes "site"), stack_28_site, Gone, refl, refl, (refl, refl, lit≤ tt))
 
 abbrev stack_29_site : StackState
-stack_29_site = record stack_28_site { held = (conf_1 ∷ []); tokens = []; events = stack_28_site.events ++ (codes "event 29 Home DELETE_COMPLETE") ∷ []; entries = stack_28_site.entries ++ home_gone ∷ [] }
+stack_29_site = record stack_28_site { held = (conf_1 ∷ []); tokens = []; events = stack_28_site.events ++ (codes "event 29 Home DELETE_COMPLETE") ∷ []; entries = stack_28_site.entries ++ home_gone ∷ []; ledger = (record call_8 { answer = Some settled.Success } ∷ record call_9 { answer = Some settled.Success } ∷ record call_10 { answer = Some settled.Success } ∷ []) }
 
 abbrev world_29 : World
 world_29 = record world_28 { stacks = (((codes "site"), stack_29_site) ∷ ((codes "user"), stack_21_user) ∷ []); place = 29 }
@@ -404,8 +435,11 @@ may_intended_conf_gone : MayFollow schemas world_29 [] intended_conf_gone
 unfolding computing
 may_intended_conf_gone = ((codes "site"), stack_29_site, Gone, refl, refl, record { next = refl; free = refl; home = refl; fits = ((codes "2", refl), refl); no_repeat = refl; chosen = (_, (here, refl, refl, refl), refl, refl, refl) })
 
+abbrev pub call_11 : Call
+call_11 = record { number = 4; token = 11; lane = (codes "f1"); path = (codes "Conf"); request = (request.Delete (codes "f1:2")); status = status.DeleteInProgress; fresh = true; doubts = 0; answer = None }
+
 abbrev stack_30_site : StackState
-stack_30_site = record stack_29_site { tokens = (record { token = 11; path = (codes "Conf"); lane = (codes "f1"); request = (request.Delete (codes "f1:2")) } ∷ []); events = stack_29_site.events ++ (codes "event 30 Conf DELETE_IN_PROGRESS") ∷ []; entries = stack_29_site.entries ++ intended_conf_gone ∷ [] }
+stack_30_site = record stack_29_site { tokens = (record { token = 11; path = (codes "Conf"); lane = (codes "f1"); request = (request.Delete (codes "f1:2")) } ∷ []); events = stack_29_site.events ++ (codes "event 30 Conf DELETE_IN_PROGRESS") ∷ []; entries = stack_29_site.entries ++ intended_conf_gone ∷ []; ledger = (record call_8 { answer = Some settled.Success } ∷ record call_9 { answer = Some settled.Success } ∷ record call_10 { answer = Some settled.Success } ∷ call_11 ∷ []) }
 
 abbrev world_30 : World
 world_30 = record world_29 { stacks = (((codes "site"), stack_30_site) ∷ ((codes "user"), stack_21_user) ∷ []); token = 11; place = 30 }
@@ -415,7 +449,7 @@ unfolding computing
 may_conf_gone = ((codes "site"), stack_30_site, Gone, refl, refl, (refl, refl, lit≤ tt))
 
 abbrev stack_31_site : StackState
-stack_31_site = record stack_30_site { held = []; tokens = []; events = stack_30_site.events ++ (codes "event 31 Conf DELETE_COMPLETE") ∷ []; entries = stack_30_site.entries ++ conf_gone ∷ [] }
+stack_31_site = record stack_30_site { held = []; tokens = []; events = stack_30_site.events ++ (codes "event 31 Conf DELETE_COMPLETE") ∷ []; entries = stack_30_site.entries ++ conf_gone ∷ []; ledger = (record call_8 { answer = Some settled.Success } ∷ record call_9 { answer = Some settled.Success } ∷ record call_10 { answer = Some settled.Success } ∷ record call_11 { answer = Some settled.Success } ∷ []) }
 
 abbrev world_31 : World
 world_31 = record world_30 { stacks = (((codes "site"), stack_31_site) ∷ ((codes "user"), stack_21_user) ∷ []); place = 31 }
@@ -425,7 +459,7 @@ unfolding computing
 may_site_gone = ((codes "site"), stack_31_site, Gone, refl, refl, (refl, end_of_deletion schemas (codes "site") world_31 stack_31_site refl refl refl, refl, refl))
 
 abbrev stack_32_site : StackState
-stack_32_site = record stack_31_site { status = status.DeleteComplete; source = None; events = stack_31_site.events ++ (codes "event 32 - DELETE_COMPLETE") ∷ []; entries = stack_31_site.entries ++ site_gone ∷ [] }
+stack_32_site = record stack_31_site { status = status.DeleteComplete; events = stack_31_site.events ++ (codes "event 32 - DELETE_COMPLETE") ∷ []; entries = stack_31_site.entries ++ site_gone ∷ [] }
 
 abbrev world_32 : World
 world_32 = record world_31 { stacks = (((codes "site"), stack_32_site) ∷ ((codes "user"), stack_21_user) ∷ []); place = 32 }

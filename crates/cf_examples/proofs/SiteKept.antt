@@ -1,16 +1,17 @@
 -- An update of the site whose exported value is imported, taken back.
-use Rattle.std.proofs.Common.{◌≡◌, refl, [], ◌∷◌, ◌++◌, Some, false, inl, inr, ap, lit≤}
+use Rattle.std.proofs.Common.{◌≡◌, refl, [], ◌∷◌, ◌++◌, Some, false, inl, inr, ap, lit≤, None, true}
 use Rattle.std.specs.Prelude.{codes, drop}
 use Rattle.cf_tree.specs.declared.request.Request.TheVariants as request
 use Rattle.cf_tree.specs.declared.template.Deletion.TheVariants as deletion
 use Rattle.cf_tree.specs.declared.template.Replace.TheVariants as replace
 use Rattle.cf_schema.specs.declared.changed.Difference.TheVariants.{Same, Update, Replace}
 use Rattle.cf_entry.specs.declared.status.Status.TheVariants as status
+use Rattle.cf_stacks.specs.declared.call.Call.{Call}
+use Rattle.cf_stacks.specs.declared.call.Settled.TheVariants as settled
 use Rattle.cf_stacks.specs.declared.held.Held.{Held}
 use Rattle.cf_stacks.specs.declared.held.HeldStatus.TheVariants as held
-use Rattle.cf_stacks.specs.declared.state.World.{World}
-use Rattle.cf_stacks.specs.declared.state.StackState.{StackState}
-use Rattle.cf_stacks.specs.Fold.{empty_world, source_for}
+use Rattle.cf_stacks.specs.World.{World, StackState, empty_world}
+use Rattle.cf_stacks.specs.Begin.{source_for}
 use Rattle.cf_stacks.specs.Status.{Forward, Back, BackClean}
 use Rattle.cf_plan.specs.Forward.{here, there, HasFailed, IsReady, AllDone, IsDone, is_updated, is_right}
 use Rattle.cf_plan.specs.Follow.{MayFollow}
@@ -29,7 +30,7 @@ unfolding computing
 may_updating = (refl, refl, record { no_flaw = refl; known_types = refl; same_types = refl; imports = no_imports (codes "site") world_17 (source_for (codes "site") 1 other_hosts) _ refl refl; free = refl; not_in_use = refl; changing = inr (inl refl) })
 
 abbrev stack_18_site : StackState
-stack_18_site = record stack_13_site { status = status.UpdateInProgress; operation = 3; before = (audit_1 ∷ conf_1 ∷ home_1 ∷ main_1 ∷ size_1 ∷ []); going = Some (source_for (codes "site") 1 other_hosts); entries = (updating ∷ []); events = stack_13_site.events ++ (codes "event 18 - UPDATE_IN_PROGRESS") ∷ [] }
+stack_18_site = record stack_13_site { status = status.UpdateInProgress; operation = 3; before = (audit_1 ∷ conf_1 ∷ home_1 ∷ main_1 ∷ size_1 ∷ []); going = Some (source_for (codes "site") 1 other_hosts); entries = (updating ∷ []); events = stack_13_site.events ++ (codes "event 18 - UPDATE_IN_PROGRESS") ∷ []; ledger = [] }
 
 abbrev world_18 : World
 world_18 = record world_17 { stacks = (((codes "site"), stack_18_site) ∷ ((codes "user"), stack_17_user) ∷ []); claims = (record { stack = (codes "site"); name = (codes "site-total") } ∷ []); operation = 3; place = 18 }
@@ -50,8 +51,11 @@ may_intended_home_change : MayFollow schemas world_18 [] intended_home_change
 unfolding computing
 may_intended_home_change = ((codes "site"), stack_18_site, Forward, refl, refl, record { next = refl; free = refl; home = refl; fits = ((codes "3", refl), refl); no_repeat = refl; chosen = (sound_18, ready_18_Home, not_done_other (codes "Home") stack_18_site (same_at (codes "Content") (codes "beta")) _ _ _ refl refl refl refl refl refl, (_, refl, refl, refl, ((λ e. let z : Update ≡ Replace = e in cc), inr (λ e. let z : Update ≡ Same = e in cc)), refl)) })
 
+abbrev pub call_7 : Call
+call_7 = record { number = 3; token = 7; lane = (codes "f1"); path = (codes "Home"); request = (request.Update (codes "f1:3") (file_props (codes "home.txt") (codes "b"))); status = status.UpdateInProgress; fresh = true; doubts = 0; answer = None }
+
 abbrev stack_19_site : StackState
-stack_19_site = record stack_18_site { tokens = (record { token = 7; path = (codes "Home"); lane = (codes "f1"); request = (request.Update (codes "f1:3") (file_props (codes "home.txt") (codes "b"))) } ∷ []); events = stack_18_site.events ++ (codes "event 19 Home UPDATE_IN_PROGRESS") ∷ []; entries = stack_18_site.entries ++ intended_home_change ∷ [] }
+stack_19_site = record stack_18_site { tokens = (record { token = 7; path = (codes "Home"); lane = (codes "f1"); request = (request.Update (codes "f1:3") (file_props (codes "home.txt") (codes "b"))) } ∷ []); events = stack_18_site.events ++ (codes "event 19 Home UPDATE_IN_PROGRESS") ∷ []; entries = stack_18_site.entries ++ intended_home_change ∷ []; ledger = (call_7 ∷ []) }
 
 abbrev world_19 : World
 world_19 = record world_18 { stacks = (((codes "site"), stack_19_site) ∷ ((codes "user"), stack_17_user) ∷ []); token = 7; place = 19 }
@@ -64,7 +68,7 @@ unfolding computing
 may_changed_home = ((codes "site"), stack_19_site, Forward, refl, refl, (refl, refl, lit≤ tt))
 
 abbrev stack_20_site : StackState
-stack_20_site = record stack_19_site { held = (audit_1 ∷ conf_1 ∷ home_2 ∷ main_1 ∷ size_1 ∷ []); tokens = []; events = stack_19_site.events ++ (codes "event 20 Home UPDATE_COMPLETE") ∷ []; entries = stack_19_site.entries ++ changed_home ∷ [] }
+stack_20_site = record stack_19_site { held = (audit_1 ∷ conf_1 ∷ home_2 ∷ main_1 ∷ size_1 ∷ []); tokens = []; events = stack_19_site.events ++ (codes "event 20 Home UPDATE_COMPLETE") ∷ []; entries = stack_19_site.entries ++ changed_home ∷ []; ledger = (record call_7 { answer = Some settled.Success } ∷ []) }
 
 abbrev world_20 : World
 world_20 = record world_19 { stacks = (((codes "site"), stack_20_site) ∷ ((codes "user"), stack_17_user) ∷ []); place = 20 }
@@ -85,8 +89,11 @@ may_intended_size_change : MayFollow schemas world_20 [] intended_size_change
 unfolding computing
 may_intended_size_change = ((codes "site"), stack_20_site, Forward, refl, refl, record { next = refl; free = refl; home = refl; fits = ((codes "5", refl), refl); no_repeat = refl; chosen = (sound_20, ready_20_Size, not_done_other (codes "Size") stack_20_site (same_at (codes "Value") (codes "18/4")) _ _ _ refl refl refl refl refl refl, (_, refl, refl, refl, ((λ e. let z : Update ≡ Replace = e in cc), inr (λ e. let z : Update ≡ Same = e in cc)), refl)) })
 
+abbrev pub call_8 : Call
+call_8 = record { number = 3; token = 8; lane = (codes "r1"); path = (codes "Size"); request = (request.Update (codes "r1:5") (note_props (codes "size") (codes "18/1"))); status = status.UpdateInProgress; fresh = true; doubts = 0; answer = None }
+
 abbrev stack_21_site : StackState
-stack_21_site = record stack_20_site { tokens = (record { token = 8; path = (codes "Size"); lane = (codes "r1"); request = (request.Update (codes "r1:5") (note_props (codes "size") (codes "18/1"))) } ∷ []); events = stack_20_site.events ++ (codes "event 21 Size UPDATE_IN_PROGRESS") ∷ []; entries = stack_20_site.entries ++ intended_size_change ∷ [] }
+stack_21_site = record stack_20_site { tokens = (record { token = 8; path = (codes "Size"); lane = (codes "r1"); request = (request.Update (codes "r1:5") (note_props (codes "size") (codes "18/1"))) } ∷ []); events = stack_20_site.events ++ (codes "event 21 Size UPDATE_IN_PROGRESS") ∷ []; entries = stack_20_site.entries ++ intended_size_change ∷ []; ledger = (record call_7 { answer = Some settled.Success } ∷ call_8 ∷ []) }
 
 abbrev world_21 : World
 world_21 = record world_20 { stacks = (((codes "site"), stack_21_site) ∷ ((codes "user"), stack_17_user) ∷ []); token = 8; place = 21 }
@@ -99,7 +106,7 @@ unfolding computing
 may_changed_size = ((codes "site"), stack_21_site, Forward, refl, refl, (refl, refl, lit≤ tt))
 
 abbrev stack_22_site : StackState
-stack_22_site = record stack_21_site { held = (audit_1 ∷ conf_1 ∷ home_2 ∷ main_1 ∷ size_2 ∷ []); tokens = []; events = stack_21_site.events ++ (codes "event 22 Size UPDATE_COMPLETE") ∷ []; entries = stack_21_site.entries ++ changed_size ∷ [] }
+stack_22_site = record stack_21_site { held = (audit_1 ∷ conf_1 ∷ home_2 ∷ main_1 ∷ size_2 ∷ []); tokens = []; events = stack_21_site.events ++ (codes "event 22 Size UPDATE_COMPLETE") ∷ []; entries = stack_21_site.entries ++ changed_size ∷ []; ledger = (record call_7 { answer = Some settled.Success } ∷ record call_8 { answer = Some settled.Success } ∷ []) }
 
 abbrev world_22 : World
 world_22 = record world_21 { stacks = (((codes "site"), stack_22_site) ∷ ((codes "user"), stack_17_user) ∷ []); place = 22 }
@@ -125,7 +132,7 @@ unfolding computing
 may_turned = ((codes "site"), stack_22_site, Forward, refl, refl, (refl, (refl, inr (inr (inr (codes "site-total", (all_done_22, refl)))), (refl, no_bad stack_22_site refl refl, no_bad_output stack_22_site refl, (all_done_22, refl)))))
 
 abbrev stack_23_site : StackState
-stack_23_site = record stack_22_site { status = status.UpdateRollbackInProgress; events = stack_22_site.events ++ (codes "event 23 - UPDATE_ROLLBACK_IN_PROGRESS") ∷ []; entries = stack_22_site.entries ++ turned ∷ [] }
+stack_23_site = record stack_22_site { status = status.UpdateRollbackInProgress; events = stack_22_site.events ++ (codes "event 23 - UPDATE_ROLLBACK_IN_PROGRESS") ∷ []; entries = stack_22_site.entries ++ turned ∷ []; ledger = (record call_7 { fresh = false; answer = Some settled.Success } ∷ record call_8 { fresh = false; answer = Some settled.Success } ∷ []) }
 
 abbrev world_23 : World
 world_23 = record world_22 { stacks = (((codes "site"), stack_23_site) ∷ ((codes "user"), stack_17_user) ∷ []); place = 23 }
@@ -134,8 +141,11 @@ may_intended_home_restore : MayFollow schemas world_23 [] intended_home_restore
 unfolding computing
 may_intended_home_restore = ((codes "site"), stack_23_site, Back, refl, refl, record { next = refl; free = refl; home = refl; fits = ((codes "3", refl), refl); no_repeat = refl; chosen = inr (refl, _, (there (there here), refl, refl, refl), refl, refl, refl, refl) })
 
+abbrev pub call_9 : Call
+call_9 = record { number = 3; token = 9; lane = (codes "f1"); path = (codes "Home"); request = (request.Update (codes "f1:3") (file_props (codes "home.txt") (codes "beta"))); status = status.UpdateRollbackInProgress; fresh = true; doubts = 0; answer = None }
+
 abbrev stack_24_site : StackState
-stack_24_site = record stack_23_site { tokens = (record { token = 9; path = (codes "Home"); lane = (codes "f1"); request = (request.Update (codes "f1:3") (file_props (codes "home.txt") (codes "beta"))) } ∷ []); events = stack_23_site.events ++ (codes "event 24 Home UPDATE_IN_PROGRESS") ∷ []; entries = stack_23_site.entries ++ intended_home_restore ∷ [] }
+stack_24_site = record stack_23_site { tokens = (record { token = 9; path = (codes "Home"); lane = (codes "f1"); request = (request.Update (codes "f1:3") (file_props (codes "home.txt") (codes "beta"))) } ∷ []); events = stack_23_site.events ++ (codes "event 24 Home UPDATE_IN_PROGRESS") ∷ []; entries = stack_23_site.entries ++ intended_home_restore ∷ []; ledger = (record call_7 { fresh = false; answer = Some settled.Success } ∷ record call_8 { fresh = false; answer = Some settled.Success } ∷ call_9 ∷ []) }
 
 abbrev world_24 : World
 world_24 = record world_23 { stacks = (((codes "site"), stack_24_site) ∷ ((codes "user"), stack_17_user) ∷ []); token = 9; place = 24 }
@@ -148,7 +158,7 @@ unfolding computing
 may_restored_home = ((codes "site"), stack_24_site, Back, refl, refl, (refl, refl, lit≤ tt))
 
 abbrev stack_25_site : StackState
-stack_25_site = record stack_24_site { held = (audit_1 ∷ conf_1 ∷ home_3 ∷ main_1 ∷ size_2 ∷ []); tokens = []; events = stack_24_site.events ++ (codes "event 25 Home UPDATE_COMPLETE") ∷ []; entries = stack_24_site.entries ++ restored_home ∷ [] }
+stack_25_site = record stack_24_site { held = (audit_1 ∷ conf_1 ∷ home_3 ∷ main_1 ∷ size_2 ∷ []); tokens = []; events = stack_24_site.events ++ (codes "event 25 Home UPDATE_COMPLETE") ∷ []; entries = stack_24_site.entries ++ restored_home ∷ []; ledger = (record call_7 { fresh = false; answer = Some settled.Success } ∷ record call_8 { fresh = false; answer = Some settled.Success } ∷ record call_9 { answer = Some settled.Success } ∷ []) }
 
 abbrev world_25 : World
 world_25 = record world_24 { stacks = (((codes "site"), stack_25_site) ∷ ((codes "user"), stack_17_user) ∷ []); place = 25 }
@@ -157,8 +167,11 @@ may_intended_size_restore : MayFollow schemas world_25 [] intended_size_restore
 unfolding computing
 may_intended_size_restore = ((codes "site"), stack_25_site, Back, refl, refl, record { next = refl; free = refl; home = refl; fits = ((codes "5", refl), refl); no_repeat = refl; chosen = inr (refl, _, (there (there (there (there here))), refl, refl, refl), refl, refl, refl, refl) })
 
+abbrev pub call_10 : Call
+call_10 = record { number = 3; token = 10; lane = (codes "r1"); path = (codes "Size"); request = (request.Update (codes "r1:5") (note_props (codes "size") (codes "18/4"))); status = status.UpdateRollbackInProgress; fresh = true; doubts = 0; answer = None }
+
 abbrev stack_26_site : StackState
-stack_26_site = record stack_25_site { tokens = (record { token = 10; path = (codes "Size"); lane = (codes "r1"); request = (request.Update (codes "r1:5") (note_props (codes "size") (codes "18/4"))) } ∷ []); events = stack_25_site.events ++ (codes "event 26 Size UPDATE_IN_PROGRESS") ∷ []; entries = stack_25_site.entries ++ intended_size_restore ∷ [] }
+stack_26_site = record stack_25_site { tokens = (record { token = 10; path = (codes "Size"); lane = (codes "r1"); request = (request.Update (codes "r1:5") (note_props (codes "size") (codes "18/4"))) } ∷ []); events = stack_25_site.events ++ (codes "event 26 Size UPDATE_IN_PROGRESS") ∷ []; entries = stack_25_site.entries ++ intended_size_restore ∷ []; ledger = (record call_7 { fresh = false; answer = Some settled.Success } ∷ record call_8 { fresh = false; answer = Some settled.Success } ∷ record call_9 { answer = Some settled.Success } ∷ call_10 ∷ []) }
 
 abbrev world_26 : World
 world_26 = record world_25 { stacks = (((codes "site"), stack_26_site) ∷ ((codes "user"), stack_17_user) ∷ []); token = 10; place = 26 }
@@ -171,7 +184,7 @@ unfolding computing
 may_restored_size = ((codes "site"), stack_26_site, Back, refl, refl, (refl, refl, lit≤ tt))
 
 abbrev stack_27_site : StackState
-stack_27_site = record stack_26_site { held = (audit_1 ∷ conf_1 ∷ home_3 ∷ main_1 ∷ size_3 ∷ []); tokens = []; events = stack_26_site.events ++ (codes "event 27 Size UPDATE_COMPLETE") ∷ []; entries = stack_26_site.entries ++ restored_size ∷ [] }
+stack_27_site = record stack_26_site { held = (audit_1 ∷ conf_1 ∷ home_3 ∷ main_1 ∷ size_3 ∷ []); tokens = []; events = stack_26_site.events ++ (codes "event 27 Size UPDATE_COMPLETE") ∷ []; entries = stack_26_site.entries ++ restored_size ∷ []; ledger = (record call_7 { fresh = false; answer = Some settled.Success } ∷ record call_8 { fresh = false; answer = Some settled.Success } ∷ record call_9 { answer = Some settled.Success } ∷ record call_10 { answer = Some settled.Success } ∷ []) }
 
 abbrev world_27 : World
 world_27 = record world_26 { stacks = (((codes "site"), stack_27_site) ∷ ((codes "user"), stack_17_user) ∷ []); place = 27 }
@@ -181,7 +194,7 @@ unfolding computing
 may_cleaning = ((codes "site"), stack_27_site, Back, refl, refl, (refl, (refl, refl, nothing_to_restore stack_27_site refl, refl)))
 
 abbrev stack_28_site : StackState
-stack_28_site = record stack_27_site { status = status.UpdateRollbackCompleteCleanupInProgress; events = stack_27_site.events ++ (codes "event 28 - UPDATE_ROLLBACK_COMPLETE_CLEANUP_IN_PROGRESS") ∷ []; entries = stack_27_site.entries ++ cleaning ∷ [] }
+stack_28_site = record stack_27_site { status = status.UpdateRollbackCompleteCleanupInProgress; events = stack_27_site.events ++ (codes "event 28 - UPDATE_ROLLBACK_COMPLETE_CLEANUP_IN_PROGRESS") ∷ []; entries = stack_27_site.entries ++ cleaning ∷ []; ledger = (record call_7 { fresh = false; answer = Some settled.Success } ∷ record call_8 { fresh = false; answer = Some settled.Success } ∷ record call_9 { fresh = false; answer = Some settled.Success } ∷ record call_10 { fresh = false; answer = Some settled.Success } ∷ []) }
 
 abbrev world_28 : World
 world_28 = record world_27 { stacks = (((codes "site"), stack_28_site) ∷ ((codes "user"), stack_17_user) ∷ []); place = 28 }

@@ -2,9 +2,7 @@
 use Rattle.std.proofs.Common.{◌≡◌, refl, List, [], ◌∷◌, ◌++◌, true, false, ℕ, inl, inr, sym, ap, lit≤, true≢false}
 use Rattle.std.specs.Prelude.{codes, take, drop}
 use Rattle.cf_stacks.specs.declared.held.Held.{Held}
-use Rattle.cf_stacks.specs.declared.state.World.{World}
-use Rattle.cf_stacks.specs.declared.state.StackState.{StackState}
-use Rattle.cf_stacks.specs.Fold.{empty_world}
+use Rattle.cf_stacks.specs.World.{World, StackState, empty_world}
 use Rattle.cf_stacks.specs.Status.{Back, BackClean}
 use Rattle.cf_plan.specs.Forward.{In, here}
 use Rattle.cf_plan.specs.Follow.{MayFollow, IsNamedLane, IsLaneFor}
@@ -22,14 +20,14 @@ use Rattle.cf_stacks.specs.declared.held.HeldStatus.TheVariants as held
 use Rattle.cf_examples.proofs.Refusing.{are_failed, refused_at, IsRun, ended, step, joined, followed}
 use Rattle.cf_examples.proofs.Beginning.{no_imports, opens_one}
 use Rattle.cf_examples.specs.Skipped.{broken_back_once, broken_back_twice, broken_back_thrice, failed, opened_again, continued, cleaning, rolled_back, until_opened_again, run, rows, reviewed, ReviewIsLegal, Legal, Fails, Shows, SkipsAnother, ContinuedAtOnce, UnsureLeftOut}
-use Rattle.cf_examples.proofs.LateEffect.{until_11, stack_11_s, world_11}
+use Rattle.cf_examples.proofs.LateEffect.{until_11, stack_11_s, world_11, call_2}
 
 may_broken_back_once : MayFollow schemas world_11 (2 ∷ []) broken_back_once
 unfolding computing
 may_broken_back_once = ((codes "s"), stack_11_s, Back, refl, refl, (refl, refl, (lit≤ tt, λ _. lit≤ tt)))
 
 abbrev stack_12_s : StackState
-stack_12_s = record stack_11_s { events = stack_11_s.events ++ (codes "event 12 A UPDATE_FAILED Fault") ∷ []; entries = stack_11_s.entries ++ broken_back_once ∷ [] }
+stack_12_s = record stack_11_s { events = stack_11_s.events ++ (codes "event 12 A UPDATE_FAILED Fault") ∷ []; entries = stack_11_s.entries ++ broken_back_once ∷ []; ledger = (record call_2 { fresh = false; doubts = 1 } ∷ []) }
 
 abbrev world_12 : World
 world_12 = record world_11 { stacks = (((codes "s"), stack_12_s) ∷ []); place = 12 }
@@ -39,7 +37,7 @@ unfolding computing
 may_broken_back_twice = ((codes "s"), stack_12_s, Back, refl, refl, (refl, refl, (lit≤ tt, λ _. lit≤ tt)))
 
 abbrev stack_13_s : StackState
-stack_13_s = record stack_12_s { events = stack_12_s.events ++ (codes "event 13 A UPDATE_FAILED Fault") ∷ []; entries = stack_12_s.entries ++ broken_back_twice ∷ [] }
+stack_13_s = record stack_12_s { events = stack_12_s.events ++ (codes "event 13 A UPDATE_FAILED Fault") ∷ []; entries = stack_12_s.entries ++ broken_back_twice ∷ []; ledger = (record call_2 { fresh = false; doubts = 2 } ∷ []) }
 
 abbrev world_13 : World
 world_13 = record world_12 { stacks = (((codes "s"), stack_13_s) ∷ []); place = 13 }
@@ -49,7 +47,7 @@ unfolding computing
 may_broken_back_thrice = ((codes "s"), stack_13_s, Back, refl, refl, (refl, refl, (lit≤ tt, λ _. lit≤ tt)))
 
 abbrev stack_14_s : StackState
-stack_14_s = record stack_13_s { events = stack_13_s.events ++ (codes "event 14 A UPDATE_FAILED Fault") ∷ []; entries = stack_13_s.entries ++ broken_back_thrice ∷ [] }
+stack_14_s = record stack_13_s { events = stack_13_s.events ++ (codes "event 14 A UPDATE_FAILED Fault") ∷ []; entries = stack_13_s.entries ++ broken_back_thrice ∷ []; ledger = (record call_2 { fresh = false; doubts = 3 } ∷ []) }
 
 abbrev world_14 : World
 world_14 = record world_13 { stacks = (((codes "s"), stack_14_s) ∷ []); place = 14 }
@@ -72,7 +70,7 @@ unfolding computing
 may_opened_again = (refl, refl, opens_one _ world_15 (codes "s") stack_15_s refl ((λ h i. only (λ (g : Held). IsNamedLane (lane_pair (codes "f1") file ∷ []) g.physical g.kind) (lane_pair (codes "f1") file, here, (codes "1", refl), refl) h i), (λ p i. only (λ (q : Pending). (l : List ℕ × List ℕ) × In l (lane_pair (codes "f1") file ∷ []) × IsLaneFor q l) (lane_pair (codes "f1") file, here, (refl, tt)) p i)))
 
 abbrev stack_16_s : StackState
-stack_16_s = record stack_15_s { entries = stack_15_s.entries ++ opened_again ∷ [] }
+stack_16_s = record stack_15_s { entries = stack_15_s.entries ++ opened_again ∷ []; ledger = (record call_2 { fresh = false } ∷ []) }
 
 abbrev world_16 : World
 world_16 = record world_15 { stacks = (((codes "s"), stack_16_s) ∷ []); epoch = 2; place = 16 }

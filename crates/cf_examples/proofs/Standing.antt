@@ -6,7 +6,7 @@ use Rattle.std.proofs.lemmas.Slice.Eq.{bytes_eq-Decides}
 use Rattle.cf_desired.specs.Whole.{Right}
 use Rattle.cf_stacks.specs.declared.held.Held.{Held}
 use Rattle.cf_stacks.specs.Words.{current_at, is_current_at}
-use Rattle.cf_stacks.specs.Fold.{is_right_at}
+use Rattle.cf_stacks.specs.End.{is_right_at}
 use Rattle.cf_plan.specs.Forward.{In}
 use Rattle.cf_examples.proofs.Lists.{and_true, found_passes}
 

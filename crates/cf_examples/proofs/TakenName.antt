@@ -1,13 +1,14 @@
 -- A file is moved onto the name of another one: the handler refuses, and the update is taken back.
-use Rattle.std.proofs.Common.{refl, List, [], ◌∷◌, ◌++◌, Some, false, ℕ, inl, inr, ap, lit≤}
+use Rattle.std.proofs.Common.{refl, List, [], ◌∷◌, ◌++◌, Some, false, ℕ, inl, inr, ap, lit≤, None, true}
 use Rattle.std.specs.Prelude.{codes, take, drop}
 use Rattle.cf_tree.specs.declared.request.Request.TheVariants as request
 use Rattle.cf_tree.specs.declared.code.Code.TheVariants as code
 use Rattle.cf_entry.specs.declared.turn.Reason.TheVariants as reason
+use Rattle.cf_stacks.specs.declared.call.Call.{Call}
+use Rattle.cf_stacks.specs.declared.call.Settled.TheVariants as settled
 use Rattle.cf_stacks.specs.declared.held.Held.{Held}
-use Rattle.cf_stacks.specs.declared.state.World.{World}
-use Rattle.cf_stacks.specs.declared.state.StackState.{StackState}
-use Rattle.cf_stacks.specs.Fold.{empty_world, source_for, no_stack}
+use Rattle.cf_stacks.specs.World.{World, StackState, empty_world, no_stack}
+use Rattle.cf_stacks.specs.Begin.{source_for}
 use Rattle.cf_stacks.specs.Status.{Forward, Back, BackClean}
 use Rattle.cf_plan.specs.Forward.{here, there, HasFailed, IsReady, AllDone, IsDone, is_made}
 use Rattle.cf_plan.specs.Follow.{MayFollow}
@@ -57,8 +58,11 @@ may_intended_a : MayFollow schemas world_2 [] intended_a
 unfolding computing
 may_intended_a = ((codes "two"), stack_2_two, Forward, refl, refl, record { next = refl; free = refl; home = refl; fits = refl; no_repeat = refl; chosen = (sound_2, ready_2_A, not_done_new (codes "A") stack_2_two refl refl refl, (refl, tt)) })
 
+abbrev pub call_1 : Call
+call_1 = record { number = 1; token = 1; lane = (codes "f1"); path = (codes "A"); request = (request.Create file (file_props (codes "a") (codes "x"))); status = status.CreateInProgress; fresh = true; doubts = 0; answer = None }
+
 abbrev stack_3_two : StackState
-stack_3_two = record stack_2_two { tokens = (record { token = 1; path = (codes "A"); lane = (codes "f1"); request = (request.Create file (file_props (codes "a") (codes "x"))) } ∷ []); events = stack_2_two.events ++ (codes "event 3 A CREATE_IN_PROGRESS") ∷ []; entries = stack_2_two.entries ++ intended_a ∷ [] }
+stack_3_two = record stack_2_two { tokens = (record { token = 1; path = (codes "A"); lane = (codes "f1"); request = (request.Create file (file_props (codes "a") (codes "x"))) } ∷ []); events = stack_2_two.events ++ (codes "event 3 A CREATE_IN_PROGRESS") ∷ []; entries = stack_2_two.entries ++ intended_a ∷ []; ledger = (call_1 ∷ []) }
 
 abbrev world_3 : World
 world_3 = record world_2 { stacks = (((codes "two"), stack_3_two) ∷ []); token = 1; place = 3 }
@@ -71,7 +75,7 @@ abbrev a_1 : Held
 a_1 = record { path = (codes "A"); kind = file; physical = (codes "f1:1"); props = (file_props (codes "a") (codes "x")); attrs = (file_attrs (codes "f1:1") 1 (codes "a") (codes "x")); needs = []; deletion = deletion.Delete; replace = replace.Delete; status = held.CreateComplete; unsure = false; superseded = false }
 
 abbrev stack_4_two : StackState
-stack_4_two = record stack_3_two { made = (a_1 ∷ []); tokens = []; events = stack_3_two.events ++ (codes "event 4 A CREATE_COMPLETE") ∷ []; entries = stack_3_two.entries ++ made_a ∷ [] }
+stack_4_two = record stack_3_two { made = (a_1 ∷ []); tokens = []; events = stack_3_two.events ++ (codes "event 4 A CREATE_COMPLETE") ∷ []; entries = stack_3_two.entries ++ made_a ∷ []; ledger = (record call_1 { answer = Some settled.Success } ∷ []) }
 
 abbrev world_4 : World
 world_4 = record world_3 { stacks = (((codes "two"), stack_4_two) ∷ []); place = 4 }
@@ -88,8 +92,11 @@ may_intended_b : MayFollow schemas world_4 [] intended_b
 unfolding computing
 may_intended_b = ((codes "two"), stack_4_two, Forward, refl, refl, record { next = refl; free = refl; home = refl; fits = refl; no_repeat = refl; chosen = (sound_4, ready_4_B, not_done_new (codes "B") stack_4_two refl refl refl, (refl, tt)) })
 
+abbrev pub call_2 : Call
+call_2 = record { number = 1; token = 2; lane = (codes "f1"); path = (codes "B"); request = (request.Create file (file_props (codes "b") (codes "y"))); status = status.CreateInProgress; fresh = true; doubts = 0; answer = None }
+
 abbrev stack_5_two : StackState
-stack_5_two = record stack_4_two { tokens = (record { token = 2; path = (codes "B"); lane = (codes "f1"); request = (request.Create file (file_props (codes "b") (codes "y"))) } ∷ []); events = stack_4_two.events ++ (codes "event 5 B CREATE_IN_PROGRESS") ∷ []; entries = stack_4_two.entries ++ intended_b ∷ [] }
+stack_5_two = record stack_4_two { tokens = (record { token = 2; path = (codes "B"); lane = (codes "f1"); request = (request.Create file (file_props (codes "b") (codes "y"))) } ∷ []); events = stack_4_two.events ++ (codes "event 5 B CREATE_IN_PROGRESS") ∷ []; entries = stack_4_two.entries ++ intended_b ∷ []; ledger = (record call_1 { answer = Some settled.Success } ∷ call_2 ∷ []) }
 
 abbrev world_5 : World
 world_5 = record world_4 { stacks = (((codes "two"), stack_5_two) ∷ []); token = 2; place = 5 }
@@ -102,7 +109,7 @@ abbrev b_1 : Held
 b_1 = record { path = (codes "B"); kind = file; physical = (codes "f1:2"); props = (file_props (codes "b") (codes "y")); attrs = (file_attrs (codes "f1:2") 1 (codes "b") (codes "y")); needs = []; deletion = deletion.Delete; replace = replace.Delete; status = held.CreateComplete; unsure = false; superseded = false }
 
 abbrev stack_6_two : StackState
-stack_6_two = record stack_5_two { made = (a_1 ∷ b_1 ∷ []); tokens = []; events = stack_5_two.events ++ (codes "event 6 B CREATE_COMPLETE") ∷ []; entries = stack_5_two.entries ++ made_b ∷ [] }
+stack_6_two = record stack_5_two { made = (a_1 ∷ b_1 ∷ []); tokens = []; events = stack_5_two.events ++ (codes "event 6 B CREATE_COMPLETE") ∷ []; entries = stack_5_two.entries ++ made_b ∷ []; ledger = (record call_1 { answer = Some settled.Success } ∷ record call_2 { answer = Some settled.Success } ∷ []) }
 
 abbrev world_6 : World
 world_6 = record world_5 { stacks = (((codes "two"), stack_6_two) ∷ []); place = 6 }
@@ -130,7 +137,7 @@ unfolding computing
 may_updating = (refl, refl, record { no_flaw = refl; known_types = refl; same_types = refl; imports = no_imports _ _ _ _ refl refl; free = refl; not_in_use = refl; changing = inr (inl refl) })
 
 abbrev stack_8_two : StackState
-stack_8_two = record stack_7_two { status = status.UpdateInProgress; operation = 2; before = (a_1 ∷ b_1 ∷ []); going = Some (source_for (codes "two") 1 second); events = stack_7_two.events ++ (codes "event 8 - UPDATE_IN_PROGRESS") ∷ []; entries = (updating ∷ []) }
+stack_8_two = record stack_7_two { status = status.UpdateInProgress; operation = 2; before = (a_1 ∷ b_1 ∷ []); going = Some (source_for (codes "two") 1 second); events = stack_7_two.events ++ (codes "event 8 - UPDATE_IN_PROGRESS") ∷ []; entries = (updating ∷ []); ledger = [] }
 
 abbrev world_8 : World
 world_8 = record world_7 { stacks = (((codes "two"), stack_8_two) ∷ []); operation = 2; place = 8 }
@@ -147,8 +154,11 @@ may_intended_move : MayFollow schemas world_8 [] intended_move
 unfolding computing
 may_intended_move = ((codes "two"), stack_8_two, Forward, refl, refl, record { next = refl; free = refl; home = refl; fits = refl; no_repeat = refl; chosen = (sound_8, ready_8_A, not_done_other (codes "A") stack_8_two (same_at (codes "Path") (codes "a")) _ _ _ refl refl refl refl refl refl, (refl, inl refl)) })
 
+abbrev pub call_3 : Call
+call_3 = record { number = 2; token = 3; lane = (codes "f1"); path = (codes "A"); request = (request.Create file (file_props (codes "b") (codes "x"))); status = status.UpdateInProgress; fresh = true; doubts = 0; answer = None }
+
 abbrev stack_9_two : StackState
-stack_9_two = record stack_8_two { tokens = (record { token = 3; path = (codes "A"); lane = (codes "f1"); request = (request.Create file (file_props (codes "b") (codes "x"))) } ∷ []); events = stack_8_two.events ++ (codes "event 9 A CREATE_IN_PROGRESS") ∷ []; entries = stack_8_two.entries ++ intended_move ∷ [] }
+stack_9_two = record stack_8_two { tokens = (record { token = 3; path = (codes "A"); lane = (codes "f1"); request = (request.Create file (file_props (codes "b") (codes "x"))) } ∷ []); events = stack_8_two.events ++ (codes "event 9 A CREATE_IN_PROGRESS") ∷ []; entries = stack_8_two.entries ++ intended_move ∷ []; ledger = (call_3 ∷ []) }
 
 abbrev world_9 : World
 world_9 = record world_8 { stacks = (((codes "two"), stack_9_two) ∷ []); token = 3; place = 9 }
@@ -158,7 +168,7 @@ unfolding computing
 may_refused = ((codes "two"), stack_9_two, Forward, refl, refl, (refl, refl, (lit≤ tt, λ _. lit≤ tt)))
 
 abbrev stack_10_two : StackState
-stack_10_two = record stack_9_two { tokens = []; events = stack_9_two.events ++ (codes "event 10 A CREATE_FAILED AlreadyExists") ∷ []; entries = stack_9_two.entries ++ refused ∷ [] }
+stack_10_two = record stack_9_two { tokens = []; events = stack_9_two.events ++ (codes "event 10 A CREATE_FAILED AlreadyExists") ∷ []; entries = stack_9_two.entries ++ refused ∷ []; ledger = (record call_3 { answer = Some (settled.Failed code.AlreadyExists) } ∷ []) }
 
 abbrev world_10 : World
 world_10 = record world_9 { stacks = (((codes "two"), stack_10_two) ∷ []); place = 10 }
@@ -168,7 +178,7 @@ unfolding computing
 may_turned = ((codes "two"), stack_10_two, Forward, refl, refl, (refl, (refl, (inl ((3, (reason.Code code.AlreadyExists)), refl)), (3, refl, refl))))
 
 abbrev stack_11_two : StackState
-stack_11_two = record stack_10_two { status = status.UpdateRollbackInProgress; events = stack_10_two.events ++ (codes "event 11 - UPDATE_ROLLBACK_IN_PROGRESS") ∷ []; entries = stack_10_two.entries ++ turned ∷ [] }
+stack_11_two = record stack_10_two { status = status.UpdateRollbackInProgress; events = stack_10_two.events ++ (codes "event 11 - UPDATE_ROLLBACK_IN_PROGRESS") ∷ []; entries = stack_10_two.entries ++ turned ∷ []; ledger = (record call_3 { fresh = false; answer = Some (settled.Failed code.AlreadyExists) } ∷ []) }
 
 abbrev world_11 : World
 world_11 = record world_10 { stacks = (((codes "two"), stack_11_two) ∷ []); place = 11 }

@@ -1,11 +1,13 @@
 -- An update leaves a file out, and its deletion is refused three times: it is left over, and the update is complete.
-use Rattle.std.proofs.Common.{refl, List, [], ◌∷◌, ◌++◌, Some, true, false, ℕ, inl, inr, ap, lit≤, arith}
+use Rattle.std.proofs.Common.{refl, List, [], ◌∷◌, ◌++◌, Some, true, false, ℕ, inl, inr, ap, lit≤, arith, None}
 use Rattle.std.specs.Prelude.{codes, ◌≤◌, take, drop}
 use Rattle.cf_tree.specs.declared.request.Request.TheVariants as request
+use Rattle.cf_stacks.specs.declared.call.Call.{Call}
+use Rattle.cf_stacks.specs.declared.call.Settled.TheVariants as settled
+use Rattle.cf_tree.specs.declared.code.Code.TheVariants as code
 use Rattle.cf_stacks.specs.declared.held.Held.{Held}
-use Rattle.cf_stacks.specs.declared.state.World.{World}
-use Rattle.cf_stacks.specs.declared.state.StackState.{StackState}
-use Rattle.cf_stacks.specs.Fold.{empty_world, source_for, no_stack}
+use Rattle.cf_stacks.specs.World.{World, StackState, empty_world, no_stack}
+use Rattle.cf_stacks.specs.Begin.{source_for}
 use Rattle.cf_stacks.specs.Status.{Forward, Clean}
 use Rattle.cf_plan.specs.Forward.{here, there, HasFailed, IsReady, AllDone, IsDone, is_made, is_right}
 use Rattle.cf_plan.specs.Follow.{MayFollow}
@@ -56,8 +58,11 @@ may_intended_a : MayFollow schemas world_2 [] intended_a
 unfolding computing
 may_intended_a = ((codes "s"), stack_2_s, Forward, refl, refl, record { next = refl; free = refl; home = refl; fits = refl; no_repeat = refl; chosen = (sound_2, ready_2_A, not_done_new (codes "A") stack_2_s refl refl refl, (refl, tt)) })
 
+abbrev pub call_1 : Call
+call_1 = record { number = 1; token = 1; lane = (codes "f1"); path = (codes "A"); request = (request.Create file (file_props (codes "a") (codes "x"))); status = status.CreateInProgress; fresh = true; doubts = 0; answer = None }
+
 abbrev stack_3_s : StackState
-stack_3_s = record stack_2_s { tokens = (record { token = 1; path = (codes "A"); lane = (codes "f1"); request = (request.Create file (file_props (codes "a") (codes "x"))) } ∷ []); events = stack_2_s.events ++ (codes "event 3 A CREATE_IN_PROGRESS") ∷ []; entries = stack_2_s.entries ++ intended_a ∷ [] }
+stack_3_s = record stack_2_s { tokens = (record { token = 1; path = (codes "A"); lane = (codes "f1"); request = (request.Create file (file_props (codes "a") (codes "x"))) } ∷ []); events = stack_2_s.events ++ (codes "event 3 A CREATE_IN_PROGRESS") ∷ []; entries = stack_2_s.entries ++ intended_a ∷ []; ledger = (call_1 ∷ []) }
 
 abbrev world_3 : World
 world_3 = record world_2 { stacks = (((codes "s"), stack_3_s) ∷ []); token = 1; place = 3 }
@@ -70,7 +75,7 @@ abbrev a_1 : Held
 a_1 = record { path = (codes "A"); kind = file; physical = (codes "f1:1"); props = (file_props (codes "a") (codes "x")); attrs = (file_attrs (codes "f1:1") 1 (codes "a") (codes "x")); needs = []; deletion = deletion.Delete; replace = replace.Delete; status = held.CreateComplete; unsure = false; superseded = false }
 
 abbrev stack_4_s : StackState
-stack_4_s = record stack_3_s { made = (a_1 ∷ []); tokens = []; events = stack_3_s.events ++ (codes "event 4 A CREATE_COMPLETE") ∷ []; entries = stack_3_s.entries ++ made_a ∷ [] }
+stack_4_s = record stack_3_s { made = (a_1 ∷ []); tokens = []; events = stack_3_s.events ++ (codes "event 4 A CREATE_COMPLETE") ∷ []; entries = stack_3_s.entries ++ made_a ∷ []; ledger = (record call_1 { answer = Some settled.Success } ∷ []) }
 
 abbrev world_4 : World
 world_4 = record world_3 { stacks = (((codes "s"), stack_4_s) ∷ []); place = 4 }
@@ -87,8 +92,11 @@ may_intended_b : MayFollow schemas world_4 [] intended_b
 unfolding computing
 may_intended_b = ((codes "s"), stack_4_s, Forward, refl, refl, record { next = refl; free = refl; home = refl; fits = refl; no_repeat = refl; chosen = (sound_4, ready_4_B, not_done_new (codes "B") stack_4_s refl refl refl, (refl, tt)) })
 
+abbrev pub call_2 : Call
+call_2 = record { number = 1; token = 2; lane = (codes "f1"); path = (codes "B"); request = (request.Create file (file_props (codes "b") (codes "y"))); status = status.CreateInProgress; fresh = true; doubts = 0; answer = None }
+
 abbrev stack_5_s : StackState
-stack_5_s = record stack_4_s { tokens = (record { token = 2; path = (codes "B"); lane = (codes "f1"); request = (request.Create file (file_props (codes "b") (codes "y"))) } ∷ []); events = stack_4_s.events ++ (codes "event 5 B CREATE_IN_PROGRESS") ∷ []; entries = stack_4_s.entries ++ intended_b ∷ [] }
+stack_5_s = record stack_4_s { tokens = (record { token = 2; path = (codes "B"); lane = (codes "f1"); request = (request.Create file (file_props (codes "b") (codes "y"))) } ∷ []); events = stack_4_s.events ++ (codes "event 5 B CREATE_IN_PROGRESS") ∷ []; entries = stack_4_s.entries ++ intended_b ∷ []; ledger = (record call_1 { answer = Some settled.Success } ∷ call_2 ∷ []) }
 
 abbrev world_5 : World
 world_5 = record world_4 { stacks = (((codes "s"), stack_5_s) ∷ []); token = 2; place = 5 }
@@ -101,7 +109,7 @@ abbrev b_1 : Held
 b_1 = record { path = (codes "B"); kind = file; physical = (codes "f1:2"); props = (file_props (codes "b") (codes "y")); attrs = (file_attrs (codes "f1:2") 1 (codes "b") (codes "y")); needs = []; deletion = deletion.Delete; replace = replace.Delete; status = held.CreateComplete; unsure = false; superseded = false }
 
 abbrev stack_6_s : StackState
-stack_6_s = record stack_5_s { made = (a_1 ∷ b_1 ∷ []); tokens = []; events = stack_5_s.events ++ (codes "event 6 B CREATE_COMPLETE") ∷ []; entries = stack_5_s.entries ++ made_b ∷ [] }
+stack_6_s = record stack_5_s { made = (a_1 ∷ b_1 ∷ []); tokens = []; events = stack_5_s.events ++ (codes "event 6 B CREATE_COMPLETE") ∷ []; entries = stack_5_s.entries ++ made_b ∷ []; ledger = (record call_1 { answer = Some settled.Success } ∷ record call_2 { answer = Some settled.Success } ∷ []) }
 
 abbrev world_6 : World
 world_6 = record world_5 { stacks = (((codes "s"), stack_6_s) ∷ []); place = 6 }
@@ -129,7 +137,7 @@ unfolding computing
 may_updating = (refl, refl, record { no_flaw = refl; known_types = refl; same_types = refl; imports = no_imports _ _ _ _ refl refl; free = refl; not_in_use = refl; changing = inr (inl refl) })
 
 abbrev stack_8_s : StackState
-stack_8_s = record stack_7_s { status = status.UpdateInProgress; operation = 2; before = (a_1 ∷ b_1 ∷ []); going = Some (source_for (codes "s") 1 second); events = stack_7_s.events ++ (codes "event 8 - UPDATE_IN_PROGRESS") ∷ []; entries = (updating ∷ []) }
+stack_8_s = record stack_7_s { status = status.UpdateInProgress; operation = 2; before = (a_1 ∷ b_1 ∷ []); going = Some (source_for (codes "s") 1 second); events = stack_7_s.events ++ (codes "event 8 - UPDATE_IN_PROGRESS") ∷ []; entries = (updating ∷ []); ledger = [] }
 
 abbrev world_8 : World
 world_8 = record world_7 { stacks = (((codes "s"), stack_8_s) ∷ []); operation = 2; place = 8 }
@@ -159,8 +167,11 @@ may_intended_once : MayFollow schemas world_9 [] intended_once
 unfolding computing
 may_intended_once = ((codes "s"), stack_9_s, Clean, refl, refl, record { next = refl; free = refl; home = refl; fits = ((codes "2", refl), refl); no_repeat = refl; chosen = (_, (there here, refl, refl), refl, refl, refl) })
 
+abbrev pub call_3 : Call
+call_3 = record { number = 2; token = 3; lane = (codes "f1"); path = (codes "B"); request = (request.Delete (codes "f1:2")); status = status.UpdateCompleteCleanupInProgress; fresh = true; doubts = 0; answer = None }
+
 abbrev stack_10_s : StackState
-stack_10_s = record stack_9_s { tokens = (record { token = 3; path = (codes "B"); lane = (codes "f1"); request = (request.Delete (codes "f1:2")) } ∷ []); events = stack_9_s.events ++ (codes "event 10 B DELETE_IN_PROGRESS") ∷ []; entries = stack_9_s.entries ++ intended_once ∷ [] }
+stack_10_s = record stack_9_s { tokens = (record { token = 3; path = (codes "B"); lane = (codes "f1"); request = (request.Delete (codes "f1:2")) } ∷ []); events = stack_9_s.events ++ (codes "event 10 B DELETE_IN_PROGRESS") ∷ []; entries = stack_9_s.entries ++ intended_once ∷ []; ledger = (call_3 ∷ []) }
 
 abbrev world_10 : World
 world_10 = record world_9 { stacks = (((codes "s"), stack_10_s) ∷ []); token = 3; place = 10 }
@@ -173,7 +184,7 @@ abbrev b_3 : Held
 b_3 = record { path = (codes "B"); kind = file; physical = (codes "f1:2"); props = (file_props (codes "b") (codes "y")); attrs = (file_attrs (codes "f1:2") 1 (codes "b") (codes "y")); needs = []; deletion = deletion.Delete; replace = replace.Delete; status = held.DeleteFailed; unsure = false; superseded = true }
 
 abbrev stack_11_s : StackState
-stack_11_s = record stack_10_s { held = (a_1 ∷ b_3 ∷ []); tokens = []; events = stack_10_s.events ++ (codes "event 11 B DELETE_FAILED AccessDenied") ∷ []; entries = stack_10_s.entries ++ refused_once ∷ [] }
+stack_11_s = record stack_10_s { held = (a_1 ∷ b_3 ∷ []); tokens = []; events = stack_10_s.events ++ (codes "event 11 B DELETE_FAILED AccessDenied") ∷ []; entries = stack_10_s.entries ++ refused_once ∷ []; ledger = (record call_3 { answer = Some (settled.Failed code.AccessDenied) } ∷ []) }
 
 abbrev world_11 : World
 world_11 = record world_10 { stacks = (((codes "s"), stack_11_s) ∷ []); place = 11 }
@@ -182,8 +193,11 @@ may_intended_twice : MayFollow schemas world_11 [] intended_twice
 unfolding computing
 may_intended_twice = ((codes "s"), stack_11_s, Clean, refl, refl, record { next = refl; free = refl; home = refl; fits = ((codes "2", refl), refl); no_repeat = refl; chosen = (_, (there here, refl, refl), refl, refl, refl) })
 
+abbrev pub call_4 : Call
+call_4 = record { number = 2; token = 4; lane = (codes "f1"); path = (codes "B"); request = (request.Delete (codes "f1:2")); status = status.UpdateCompleteCleanupInProgress; fresh = true; doubts = 0; answer = None }
+
 abbrev stack_12_s : StackState
-stack_12_s = record stack_11_s { tokens = (record { token = 4; path = (codes "B"); lane = (codes "f1"); request = (request.Delete (codes "f1:2")) } ∷ []); events = stack_11_s.events ++ (codes "event 12 B DELETE_IN_PROGRESS") ∷ []; entries = stack_11_s.entries ++ intended_twice ∷ [] }
+stack_12_s = record stack_11_s { tokens = (record { token = 4; path = (codes "B"); lane = (codes "f1"); request = (request.Delete (codes "f1:2")) } ∷ []); events = stack_11_s.events ++ (codes "event 12 B DELETE_IN_PROGRESS") ∷ []; entries = stack_11_s.entries ++ intended_twice ∷ []; ledger = (record call_3 { answer = Some (settled.Failed code.AccessDenied) } ∷ call_4 ∷ []) }
 
 abbrev world_12 : World
 world_12 = record world_11 { stacks = (((codes "s"), stack_12_s) ∷ []); token = 4; place = 12 }
@@ -193,7 +207,7 @@ unfolding computing
 may_refused_twice = ((codes "s"), stack_12_s, Clean, refl, refl, (refl, refl, (lit≤ tt, λ _. lit≤ tt)))
 
 abbrev stack_13_s : StackState
-stack_13_s = record stack_12_s { tokens = []; events = stack_12_s.events ++ (codes "event 13 B DELETE_FAILED AccessDenied") ∷ []; entries = stack_12_s.entries ++ refused_twice ∷ [] }
+stack_13_s = record stack_12_s { tokens = []; events = stack_12_s.events ++ (codes "event 13 B DELETE_FAILED AccessDenied") ∷ []; entries = stack_12_s.entries ++ refused_twice ∷ []; ledger = (record call_3 { answer = Some (settled.Failed code.AccessDenied) } ∷ record call_4 { answer = Some (settled.Failed code.AccessDenied) } ∷ []) }
 
 abbrev world_13 : World
 world_13 = record world_12 { stacks = (((codes "s"), stack_13_s) ∷ []); place = 13 }
@@ -202,8 +216,11 @@ may_intended_thrice : MayFollow schemas world_13 [] intended_thrice
 unfolding computing
 may_intended_thrice = ((codes "s"), stack_13_s, Clean, refl, refl, record { next = refl; free = refl; home = refl; fits = ((codes "2", refl), refl); no_repeat = refl; chosen = (_, (there here, refl, refl), refl, refl, refl) })
 
+abbrev pub call_5 : Call
+call_5 = record { number = 2; token = 5; lane = (codes "f1"); path = (codes "B"); request = (request.Delete (codes "f1:2")); status = status.UpdateCompleteCleanupInProgress; fresh = true; doubts = 0; answer = None }
+
 abbrev stack_14_s : StackState
-stack_14_s = record stack_13_s { tokens = (record { token = 5; path = (codes "B"); lane = (codes "f1"); request = (request.Delete (codes "f1:2")) } ∷ []); events = stack_13_s.events ++ (codes "event 14 B DELETE_IN_PROGRESS") ∷ []; entries = stack_13_s.entries ++ intended_thrice ∷ [] }
+stack_14_s = record stack_13_s { tokens = (record { token = 5; path = (codes "B"); lane = (codes "f1"); request = (request.Delete (codes "f1:2")) } ∷ []); events = stack_13_s.events ++ (codes "event 14 B DELETE_IN_PROGRESS") ∷ []; entries = stack_13_s.entries ++ intended_thrice ∷ []; ledger = (record call_3 { answer = Some (settled.Failed code.AccessDenied) } ∷ record call_4 { answer = Some (settled.Failed code.AccessDenied) } ∷ call_5 ∷ []) }
 
 abbrev world_14 : World
 world_14 = record world_13 { stacks = (((codes "s"), stack_14_s) ∷ []); token = 5; place = 14 }
@@ -213,7 +230,7 @@ unfolding computing
 may_refused_thrice = ((codes "s"), stack_14_s, Clean, refl, refl, (refl, refl, (lit≤ tt, λ _. lit≤ tt)))
 
 abbrev stack_15_s : StackState
-stack_15_s = record stack_14_s { tokens = []; events = stack_14_s.events ++ (codes "event 15 B DELETE_FAILED AccessDenied") ∷ []; entries = stack_14_s.entries ++ refused_thrice ∷ [] }
+stack_15_s = record stack_14_s { tokens = []; events = stack_14_s.events ++ (codes "event 15 B DELETE_FAILED AccessDenied") ∷ []; entries = stack_14_s.entries ++ refused_thrice ∷ []; ledger = (record call_3 { answer = Some (settled.Failed code.AccessDenied) } ∷ record call_4 { answer = Some (settled.Failed code.AccessDenied) } ∷ record call_5 { answer = Some (settled.Failed code.AccessDenied) } ∷ []) }
 
 abbrev world_15 : World
 world_15 = record world_14 { stacks = (((codes "s"), stack_15_s) ∷ []); place = 15 }

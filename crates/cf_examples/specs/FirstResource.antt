@@ -1,5 +1,5 @@
 -- The first resource: a stack of one file.
-use Rattle.std.specs.Prelude.{◌≡◌, List, [], ◌∷◌, codes, Some, None, false}
+use Rattle.std.specs.Prelude.{◌≡◌, List, [], ◌∷◌, codes, Some, false, true}
 use Rattle.cf_tree.specs.declared.request.Request.TheVariants as request
 use Rattle.cf_tree.specs.declared.source.Source.{Source}
 use Rattle.cf_tree.specs.declared.template.Deletion.TheVariants as deletion
@@ -9,11 +9,13 @@ use Rattle.cf_entry.specs.declared.entry.Entry.TheVariants as entry
 use Rattle.cf_entry.specs.declared.entry.Begun.TheVariants as begin
 use Rattle.cf_entry.specs.declared.entry.Reply.TheVariants as reply
 use Rattle.cf_entry.specs.declared.status.Status.TheVariants as status
+use Rattle.cf_stacks.specs.declared.call.Call.{Call}
+use Rattle.cf_stacks.specs.declared.call.Settled.TheVariants as settled
 use Rattle.cf_stacks.specs.declared.held.Held.{Held}
 use Rattle.cf_stacks.specs.declared.held.HeldStatus.TheVariants as held
-use Rattle.cf_stacks.specs.declared.state.StackState.{StackState}
-use Rattle.cf_stacks.specs.declared.state.World.{World}
-use Rattle.cf_stacks.specs.Fold.{empty_world, fold_of, source_for}
+use Rattle.cf_stacks.specs.World.{StackState, World, empty_world}
+use Rattle.cf_stacks.specs.Fold.{fold_of}
+use Rattle.cf_stacks.specs.Begin.{source_for}
 use Rattle.cf_plan.specs.Follow.{IsLegal}
 use Rattle.cf_examples.specs.Given.{file, file_props, file_attrs, schemas, source_of, IsRefusedAfter}
 
@@ -56,6 +58,20 @@ web = record {
   superseded = false;
 }
 
+-- the call that made it
+abbrev pub call : Call
+call = record {
+  number = 1;
+  token = 1;
+  lane = codes "f1";
+  path = codes "Web";
+  request = request.Create file (file_props (codes "web.txt") (codes "hello"));
+  status = status.CreateInProgress;
+  fresh = true;
+  doubts = 0;
+  answer = Some settled.Success;
+}
+
 abbrev pub app : StackState
 app = record {
   status = status.CreateComplete;
@@ -75,6 +91,7 @@ app = record {
       codes "event 2 - CREATE_IN_PROGRESS" ∷ codes "event 3 Web CREATE_IN_PROGRESS" ∷ codes "event 4 Web CREATE_COMPLETE"
       ∷ codes "event 5 - CREATE_COMPLETE" ∷ [];
   entries = begun ∷ intended ∷ answered ∷ done ∷ [];
+  ledger = call ∷ [];
 }
 
 abbrev pub world : World
@@ -90,8 +107,6 @@ world =
       set = 0;
       token = 1;
       place = 5;
-      ready = None;
-      rooms = [];
     }
 
 abbrev pub Leaves : Type 0

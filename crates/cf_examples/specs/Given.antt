@@ -1,5 +1,5 @@
 -- What the worked runs share: the two shipped types, and the parts of their entries.
-use Rattle.std.specs.Prelude.{ℕ, List, [], ◌∷◌, codes, pos, Bool, ◌||◌, ◌&&◌, map, filter, find, fold, reverse, ◌++◌}
+use Rattle.std.specs.Prelude.{ℕ, List, [], ◌∷◌, codes, pos, Bool, true, false, ◌==◌, ◌||◌, ◌&&◌, if◌then◌else◌, map, filter, find, fold, reverse, ◌++◌}
 use Rattle.std.specs.Option.{option_map_or}
 use Rattle.std.specs.Str.{bytes_eq}
 use Rattle.cf_tree.specs.Keys.{bytes_lt}
@@ -9,18 +9,17 @@ use Rattle.cf_tree.specs.Lists.{insert_by}
 use Rattle.cf_export.specs.declared.Output.{Output}
 use Rattle.cf_entry.specs.declared.entry.Entry.{Entry}
 use Rattle.cf_entry.specs.declared.status.Status.{Status}
+use Rattle.cf_entry.specs.declared.status.Status.TheVariants as status
 use Rattle.cf_stacks.specs.declared.held.Held.{Held}
 use Rattle.cf_stacks.specs.declared.held.HeldStatus.{HeldStatus}
 use Rattle.cf_stacks.specs.declared.held.Leftover.{Leftover}
-use Rattle.cf_stacks.specs.declared.state.StackState.{StackState}
-use Rattle.cf_stacks.specs.declared.state.World.{World}
-use Rattle.cf_stacks.specs.Fold.{empty_world, known_stack}
+use Rattle.cf_stacks.specs.World.{StackState, World, empty_world, known_stack}
 use Rattle.cf_plan.specs.Accept.{exports_by}
 use Rattle.cf_plan.specs.Follow.{IsLegal, failed_in, is_done_entry}
+use Rattle.cf_plan.specs.Lanes.{Lane}
 use Rattle.cf_handler.specs.declared.settled.Settled.{Settled}
 use Rattle.cf_handler.specs.Fence.{Flying}
 use Rattle.cf_handler.specs.Shipped.{file_schema, record_schema}
-use Rattle.cf_plan.specs.Lanes.{Lane}
 use Rattle.cf_schema.specs.declared.described.Schema.{Schema}
 
 -- a file, of which another path needs a new one
@@ -96,13 +95,23 @@ is_line_before a b = bytes_lt a.path b.path || (bytes_eq a.path b.path && bytes_
 abbrev pub last_failed : StackState → List (List ℕ)
 last_failed s = option_map_or failed_in (find is_done_entry (reverse s.entries)) []
 
+-- The source whose parameters are told: the one that was completed last, where it is this stack's and not that of one that
+-- had the name before; none once all was taken back or deleted (DescribeStacks).
+abbrev pub tells_parameters : Status → Bool
+tells_parameters status.RollbackComplete = false
+tells_parameters status.DeleteComplete = false
+tells_parameters _ = true
+
+abbrev pub given_by : StackState → Source → List (List ℕ × List ℕ)
+given_by s source = if source.number == s.number && tells_parameters s.status then source.given else []
+
 abbrev pub report_from : List ℕ → World → StackState → Report
 report_from name x s = record {
   status = s.status;
   number = s.number;
   resources = fold (insert_by is_line_before) [] (map line s.held);
   made = map line s.made;
-  given = option_map_or (λ source. source.given) s.source [];
+  given = option_map_or (given_by s) s.source [];
   outputs = s.outputs;
   leftovers = s.leftovers;
   failed = last_failed s;

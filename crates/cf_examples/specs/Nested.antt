@@ -8,7 +8,9 @@ use Rattle.cf_entry.specs.declared.entry.Begun.TheVariants as begin
 use Rattle.cf_entry.specs.declared.entry.Reply.TheVariants as reply
 use Rattle.cf_entry.specs.declared.status.Status.TheVariants as status
 use Rattle.cf_stacks.specs.declared.held.HeldStatus.TheVariants as held
-use Rattle.cf_stacks.specs.Fold.{empty_world, fold_of}
+use Rattle.cf_stacks.specs.World.{empty_world}
+use Rattle.cf_stacks.specs.Fold.{fold_of}
+use Rattle.cf_plan.specs.Follow.{IsLegal}
 use Rattle.cf_eval.specs.declared.fault.EvalWhy.TheVariants.{UnknownAttribute}
 use Rattle.cf_desired.specs.declared.flaw.Flaw.TheVariants as flaw
 use Rattle.cf_desired.specs.declared.wanted.Evaluated.TheVariants.{Flawed as flawed}
@@ -16,7 +18,6 @@ use Rattle.cf_desired.specs.Seeing.{Seen}
 use Rattle.cf_desired.specs.Plan.{plan_of}
 use Rattle.cf_desired.specs.Whole.{wanted_at}
 use Rattle.cf_desired.specs.FlawText.{flaw_text}
-use Rattle.cf_plan.specs.Follow.{IsLegal}
 use Rattle.cf_examples.specs.Given.{file, note, file_props, file_attrs, note_props, note_attrs, schemas, lane_pair, report_of, bare, IsRefusedAfter}
 
 abbrev pub first : Source

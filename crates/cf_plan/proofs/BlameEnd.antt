@@ -1,20 +1,17 @@
 -- Where the rollback of a creation ends and something is left, paths are failed, and each is blamed.
 use Rattle.std.proofs.Common.{◌≡◌, ℕ, ◌+◌, ◌<◌, ◌≤◌, ◌==◌, ◌⊎◌, inl, inr, List, [], ◌∷◌, ◌++◌, Bool, true, false, not, ◌&&◌, ◌||◌, Option, Some, None, refl, sym, ap, subst, ◌∙◌, true≢false, filter, find, arith}
-use Rattle.std.proofs.lemmas.Bool.{or_left, or_right, and_from}
-use Rattle.std.specs.Prelude.{cond, reverse, nat_lt, length}
+use Rattle.std.proofs.lemmas.Bool.{or_left, or_right, and_from, eq-eqb, eqb-true}
+use Rattle.std.specs.Prelude.{reverse, nat_lt, length}
 use Rattle.std.specs.List.{list_any}
-use Rattle.std.specs.Option.{option_or}
+use Rattle.std.specs.Option.{option_or, option_map_or}
 use Rattle.std.specs.Str.{bytes_eq}
 use Rattle.std.specs.Cmp.{first_so, second_so}
 use Rattle.std.proofs.lemmas.Slice.Eq.{bytes_eq-Decides}
-use Rattle.std.proofs.lemmas.List.{append-nil}
 use Rattle.std.proofs.lemmas.Bool.Decides.{nat_tests}
-use Rattle.cf_tree.specs.declared.request.Request.{Request}
 use Rattle.cf_tree.specs.declared.request.Request.TheVariants as request
 use Rattle.cf_tree.specs.declared.source.Source.{Source}
 use Rattle.cf_schema.specs.declared.described.Schema.{Schema}
 use Rattle.cf_change.specs.Changes.{is_empty}
-use Rattle.cf_entry.specs.declared.entry.Entry.{Entry}
 use Rattle.cf_entry.specs.declared.entry.Entry.TheVariants as entry
 use Rattle.cf_entry.specs.declared.entry.Reply.{Reply}
 use Rattle.cf_entry.specs.declared.entry.Reply.TheVariants as reply
@@ -22,28 +19,30 @@ use Rattle.cf_entry.specs.declared.status.Status.TheVariants as status
 use Rattle.cf_entry.specs.declared.turn.Why.TheVariants as why
 use Rattle.cf_stacks.specs.declared.held.Held.{Held}
 use Rattle.cf_stacks.specs.declared.held.Pending.{Pending}
-use Rattle.cf_stacks.specs.declared.state.StackState.{StackState}
-use Rattle.cf_stacks.specs.declared.state.World.{World}
+use Rattle.cf_stacks.specs.World.{StackState, World}
 use Rattle.cf_stacks.specs.Status.{Back}
-use Rattle.cf_stacks.specs.Words.{current_at, resource_at, resources_of, is_current_at, is_create}
-use Rattle.cf_stacks.specs.Operation.{Call, Response, own_of, now_of, after_last, is_turn_or_opening, calls_in, replies_in, reply_in, is_of, call_of, is_doubt, is_success, is_refusal, refuses, was_refused, deletes, deletions_of, refusals_of, doubts_of, is_new}
-use Rattle.cf_stacks.specs.Fold.{is_physical_of, seen_in, terms_of, wanted_in}
+use Rattle.cf_stacks.specs.Words.{current_at, resource_at, resources_of, is_current_at, is_create, deletes}
+use Rattle.cf_stacks.specs.declared.call.Call.{Call}
+use Rattle.cf_stacks.specs.Operation.{Response, own_of, replies_in}
+use Rattle.cf_stacks.specs.Calls.{call_of, is_call, is_success, own_calls, was_refused, deletions_of, refusals_of, doubts_of}
+use Rattle.cf_stacks.specs.End.{is_physical_of}
+use Rattle.cf_stacks.specs.Begin.{seen_in}
+use Rattle.cf_stacks.specs.Reply.{terms_of, wanted_in}
 use Rattle.cf_desired.specs.Plan.{plan_of}
-use Rattle.cf_desired.specs.Templates.{IsFlat}
 use Rattle.cf_desired.specs.Whole.{wanted_at}
 use Rattle.cf_desired.specs.declared.wanted.Wanted.{Wanted}
 use Rattle.cf_plan.specs.Between.{needs_at, is_at_one, is_needed_by_made, is_needed_by_create}
-use Rattle.cf_plan.specs.Forward.{In, here, there}
+use Rattle.cf_plan.specs.Forward.{In, here}
 use Rattle.cf_plan.specs.Ends.{IsBlamedFor}
-use Rattle.cf_plan.specs.Follow.{IsAtEnd, is_failed_path, is_bad_last, is_bad_outcome, last_at, has_path, is_not_needed, is_untried, keeps, MayDelete, is_out, calls_out, is_lane_out, waits_for_repeats, may_repeat, is_free, is_cleared}
+use Rattle.cf_plan.specs.Follow.{IsAtEnd, is_failed_path, is_bad_last, is_bad_outcome, last_at, has_path, settled_by, is_not_needed, is_untried, keeps, MayDelete, is_in_flight, calls_in_flight, is_repeated, is_lane_leased, waits_for_repeats, may_repeat, is_free, is_cleared}
 use Rattle.cf_plan.specs.Run.{Told}
 use Rattle.cf_plan.proofs.CreatedStays.{found_one}
 use Rattle.cf_plan.proofs.CreatedRight.{in_filter}
-use Rattle.cf_plan.proofs.RunLists.{none_false, or_true, in_back, in_reversed, to_reversed, any_of, some_of, none_any, greatest, some_counted, one_counted, in_mapped, to_mapped}
+use Rattle.cf_plan.proofs.RunLists.{none_false, or_true, in_back, in_reversed, to_reversed, any_of, some_of, none_any, greatest, some_counted, one_counted, found_same, is_found_in}
 use Rattle.cf_plan.proofs.BlameOrder.{place_of, needed_before}
-use Rattle.cf_plan.proofs.BlameLanes.{number_same}
-use Rattle.cf_plan.proofs.BlameBooks.{last_of, is_bad_of, HasOrigin, call_found, IsOpen}
-use Rattle.cf_plan.proofs.BlameCourse.{IsCourse, calls_now, own_replies_now, replies_now}
+use Rattle.cf_plan.proofs.BlameBooks.{call_for, is_call_at, is_bad_answer, last_of, is_bad_of, HasOrigin, IsOpen}
+use Rattle.cf_plan.proofs.BlameRows.{asked, asked_in, into_mapped, found_asked, asked_at, asked_bad, refusal_fails, none_below}
+use Rattle.cf_plan.proofs.BlameCourse.{IsCourse, answers}
 
 above_none : (n : ℕ) → nat_lt n 3 ≡ false → 0 < n
 above_none n e = grind (arith, nat_tests)
@@ -57,45 +56,29 @@ above_is n e = grind (arith, nat_tests)
 not_none : (n : ℕ) → (n == 0) ≡ false → 0 < n
 not_none n e = grind (arith, nat_tests)
 
--- what stands behind the last that passes is of the list
-behind_in : {A : Type 0} (test : A → Bool) (xs : List A) (y : A) → In y (after_last test xs) → In y xs
-behind_in test [] y i = i
-behind_in {A} test (x ∷ xs) y i = by_tests (list_any test xs) (test x) i (behind_in test xs y) where
-  by_tests : (b c : Bool) → In y (cond b (after_last test xs) (cond c xs (x ∷ xs))) → (In y (after_last test xs) → In y xs) → In y (x ∷ xs)
-  by_tests true c j ih = there (ih j)
-  by_tests false true j ih = there j
-  by_tests false false j ih = j
-
-refusal_fails : (q : Request) (a : Reply) → is_refusal q a ≡ true → is_success a ≡ false
-refusal_fails (request.Create k props) (reply.Success physical attrs) e = let no : ⊥ = cc in absurd no
-refusal_fails (request.Update id props) (reply.Success physical attrs) e = let no : ⊥ = cc in absurd no
-refusal_fails (request.Delete id) (reply.Success physical attrs) e = let no : ⊥ = cc in absurd no
-refusal_fails q (reply.Failed c) e = refl
-refusal_fails q reply.Doubt e = refl
-
-bad_fails : (c : Call) (a : Reply) → is_bad_outcome (Some c) a ≡ true → is_success a ≡ false
+bad_fails : (c : Call) (a : Reply) → is_bad_outcome (Some c) a ≡ true → is_success (settled_by a) ≡ false
 bad_fails c (reply.Success physical attrs) e = refusal_fails c.request (reply.Success physical attrs) e
 bad_fails c (reply.Failed x) e = refl
 bad_fails c reply.Doubt e = refl
 
-none_out_in : (cs : List Call) → filter (λ c. is_out [] c.token) cs ≡ []
+none_out_in : (cs : List Call) → filter (λ c. is_in_flight [] c.token) cs ≡ []
 none_out_in [] = refl
 none_out_in (c ∷ cs) = none_out_in cs
 
-no_lane_out : (x : World) (lane : List ℕ) → is_lane_out [] x lane ≡ false
+no_lane_out : (x : World) (lane : List ℕ) → is_lane_leased [] x lane ≡ false
 no_lane_out x lane = by_stacks x.stacks where
-  by_stacks : (stacks : List (List ℕ × StackState)) → list_any (λ s. list_any (λ c. bytes_eq lane c.lane) (calls_out [] s.1)) stacks ≡ false
+  by_stacks : (stacks : List (List ℕ × StackState)) → list_any (λ s. list_any (λ c. bytes_eq lane c.lane) (calls_in_flight [] s.1)) stacks ≡ false
   by_stacks [] = refl
-  by_stacks (s ∷ stacks) = ap (λ cs. list_any (λ c. bytes_eq lane c.lane) cs || list_any (λ s. list_any (λ c. bytes_eq lane c.lane) (calls_out [] s.1)) stacks) (none_out_in (calls_in (s.1).entries)) ∙ by_stacks stacks
+  by_stacks (s ∷ stacks) = ap (λ cs. list_any (λ c. bytes_eq lane c.lane) cs || list_any (λ s. list_any (λ c. bytes_eq lane c.lane) (calls_in_flight [] s.1)) stacks) (none_out_in (s.1).ledger) ∙ by_stacks stacks
 
 module _
-    (schemas : List Schema) (names : List (List ℕ)) (x : World) (told : Told) (number : ℕ) (name : List ℕ) (source : Source) (flat : IsFlat source)
-    (s : StackState) (h : IsCourse names x told number name source s) where
-  abbrev calls : List Call
-  calls = calls_in s.entries
+    (schemas : List Schema) (names : List (List ℕ)) (x : World) (told : Told) (number : ℕ) (name : List ℕ) (source : Source) (s : StackState)
+    (h : IsCourse names x told number name source s) where
+  abbrev calls : List Pending
+  calls = asked_in s.ledger
 
   abbrev replies : List Response
-  replies = replies_in s.entries
+  replies = replies_in (own_of s)
 
   one_path : (id a b : List ℕ) → HasOrigin names told calls s.tokens id a → HasOrigin names told calls s.tokens id b → a ≡ b
   one_path id a b o p =
@@ -103,66 +86,75 @@ module _
       (h.booked).distinct o.call p.call (o.created).called (p.created).called ((h.tell).once id o.call p.call o.created p.created) in
       sym o.at_path ∙ ap (λ c. c.path) same ∙ p.at_path
 
-  bad_is : (o : Option Response) → is_bad_last s o ≡ is_bad_of calls o
-  bad_is None = refl
-  bad_is (Some r) = refl
+  -- a row is found by its token, or one of the same call
+  row_of : (token : ℕ) (c : Call) → In c s.ledger → token ≡ c.token → (d : Call) × (call_of token s ≡ Some d) × (d.path ≡ c.path)
+  row_of token c i e =
+      let f = is_found_in (is_call token) s.ledger c i (eq-eqb token c.token e) in
+      let one = found_one (is_call token) s.ledger f.0 f.1 in
+      let same : asked f.0 ≡ asked c =
+      (h.booked).distinct (asked f.0) (asked c) (into_mapped asked s.ledger f.0 one.0) (into_mapped asked s.ledger c i) (sym (eqb-true token (f.0).token one.1) ∙ e) in
+      (f.0, f.1, ap (λ p. p.path) same)
 
-  last_is : (path : List ℕ) → last_at path s ≡ last_of path calls (reverse replies)
-  last_is path = ap (λ rs. find (λ r. has_path path (call_of r.token s)) (reverse rs)) h.own_replies
+  bad_is : (o : Option Response) → is_bad_of calls o ≡ is_bad_last s o
+  bad_is None = refl
+  bad_is (Some r) = ap (λ c. is_bad_answer c r.answer) (found_asked r.token s.ledger) ∙ asked_bad (call_of r.token s) r.answer
+
+  last_is : (path : List ℕ) → last_of path calls (answers s) ≡ last_at path s
+  last_is path =
+      found_same (λ r. is_call_at path (call_for r.token calls)) (λ r. has_path path (call_of r.token s)) (answers s)
+      (λ r i. ap (is_call_at path) (found_asked r.token s.ledger) ∙ asked_at path (call_of r.token s))
 
   -- a resource that is held or made is made
   resource_made : (r : Held) → In r (resources_of s) → In r s.made
   resource_made r i = subst (λ hs. In r (hs ++ s.made)) h.none_held i
 
-  -- a failed path is blamed
-  module _ (e : Entry) (own : is_of number e ≡ true) (none : replies_in (e ∷ []) ≡ []) (no_call : calls_in (e ∷ []) ≡ []) (t : StackState) (operation : t.operation ≡ number) (entries : t.entries ≡ s.entries ++ e ∷ []) where
+  -- a deletion of a resource, by its row
+  deletion_row : (physical : List ℕ) (c : Call) → In c (deletions_of physical s) → In c s.ledger × (deletes physical c.request ≡ true)
+  deletion_row physical c i =
+      let k = in_filter (λ z. deletes physical z.request) (own_calls s) c i in
+      ((in_filter (λ z. z.number == s.operation) s.ledger c k.0).0, k.1)
+
+  -- a failed path is blamed, also where the calls and answers are as before
+  module _ (t : StackState) (ledger : t.ledger ≡ s.ledger) (stand : replies_in (own_of t) ≡ replies) where
     blamed_by :
-        (path : List ℕ) (r : Response) (c : Call) → In r replies → In c calls → c.token ≡ r.token → c.path ≡ path → is_success r.answer ≡ false
-        → IsBlamedFor t.entries t.operation path
-    blamed_by path r c i j d p f = record {
+        (path : List ℕ) (r : Response) (c : Call) → In r replies → call_of r.token s ≡ Some c → c.path ≡ path → is_success (settled_by r.answer) ≡ false → IsBlamedFor t path
+    blamed_by path r c i d p f = record {
       reply = r;
       call = c;
-      of_call =
-          ap (λ cs. find (λ z. r.token == z.token) cs) (calls_now names x told number name source s h e own t operation entries ∙ ap (λ cs. calls ++ cs) no_call ∙ append-nil calls)
-          ∙ call_found calls (h.booked).distinct c r.token j d;
+      of_call = ap (λ cs. find (is_call r.token) cs) ledger ∙ d;
       at_path = p;
-      stands =
-          subst (In r)
-          (sym (own_replies_now names x told number name source s h e own t operation entries ∙ replies_now names x told number name source s h e own t operation entries
-          ∙ ap (λ rs. replies ++ rs) none ∙ append-nil replies)) i;
+      stands = subst (In r) (sym stand) i;
       failed = f;
       rose = (h.booked).risen r (to_reversed r replies i) f;
     }
 
-    blamed_last : (path : List ℕ) (o : Option Response) → last_at path s ≡ o → is_bad_last s o ≡ true → IsBlamedFor t.entries t.operation path
+    blamed_last : (path : List ℕ) (o : Option Response) → last_at path s ≡ o → is_bad_last s o ≡ true → IsBlamedFor t path
     blamed_last path None d b = let no : ⊥ = cc in absurd no
     blamed_last path (Some r) d b = by_call (call_of r.token s) refl one.1 b where
-      one : In r (reverse (replies_in (own_of s))) × (has_path path (call_of r.token s) ≡ true)
-      one = found_one (λ z. has_path path (call_of z.token s)) (reverse (replies_in (own_of s))) r d
+      one : In r (reverse replies) × (has_path path (call_of r.token s) ≡ true)
+      one = found_one (λ z. has_path path (call_of z.token s)) (reverse replies) r d
 
-      by_call : (o : Option Call) → call_of r.token s ≡ o → has_path path o ≡ true → is_bad_outcome o r.answer ≡ true → IsBlamedFor t.entries t.operation path
+      by_call : (o : Option Call) → call_of r.token s ≡ o → has_path path o ≡ true → is_bad_outcome o r.answer ≡ true → IsBlamedFor t path
       by_call None f g k = let no : ⊥ = cc in absurd no
-      by_call (Some c) f g k =
-          let found = found_one (λ z. r.token == z.token) calls c f in
-          blamed_by path r c (subst (In r) h.own_replies (in_reversed r (replies_in (own_of s)) one.0)) found.0 (sym (number_same r.token c.token found.1))
-          (sym ((bytes_eq-Decides path c.path).0 g)) (bad_fails c r.answer k)
+      by_call (Some c) f g k = blamed_by path r c (in_reversed r replies one.0) f (sym ((bytes_eq-Decides path c.path).0 g)) (bad_fails c r.answer k)
 
-    blamed_resource : (path : List ℕ) (r : Held) → In r s.made → path ≡ r.path → 0 < refusals_of r.physical s → IsBlamedFor t.entries t.operation path
+    blamed_resource : (path : List ℕ) (r : Held) → In r s.made → path ≡ r.path → 0 < refusals_of r.physical s → IsBlamedFor t path
     blamed_resource path r i d l =
-        let c = one_counted (was_refused s) (deletions_of r.physical s) l in
-        let k = in_filter (λ z. deletes r.physical z.request) (calls_in (own_of s)) c.one c.of_list in
-        let called : In c.one calls = subst (In c.one) h.own_calls k.0 in
-        let a = some_of (refuses c.one) replies c.passes in
-        let both : is_refusal (c.one).request (a.one).answer ≡ true = second_so ((c.one).token == (a.one).token) _ a.passes in
-        blamed_by path a.one c.one a.of_list called (number_same (c.one).token (a.one).token (first_so ((c.one).token == (a.one).token) _ a.passes))
-        (one_path r.physical (c.one).path r.path ((h.booked).deleted c.one r.physical called k.1) ((h.booked).made_by r i) ∙ sym d)
-        (refusal_fails (c.one).request (a.one).answer both)
+        let c = one_counted was_refused (deletions_of r.physical s) l in
+        let k = deletion_row r.physical c.one c.of_list in
+        let a = (h.rows).refused c.one k.0 c.passes in
+        let row = row_of (a.0).token c.one k.0 a.2 in
+        blamed_by path a.0 row.0 (in_reversed a.0 replies a.1) row.1
+        (row.2
+        ∙ one_path r.physical (c.one).path r.path ((h.booked).deleted (asked c.one) r.physical (into_mapped asked s.ledger c.one k.0) k.1) ((h.booked).made_by r i)
+        ∙ sym d)
+        a.3
 
-    pub blamed_path : (path : List ℕ) → is_failed_path s path ≡ true → IsBlamedFor t.entries t.operation path
+    pub blamed_path : (path : List ℕ) → is_failed_path s path ≡ true → IsBlamedFor t path
     blamed_path path f = by_cause (or_true (is_bad_last s (last_at path s)) _ f) where
       by_cause :
           (is_bad_last s (last_at path s) ≡ true) ⊎ (list_any (λ r. bytes_eq path r.path && nat_lt 0 (refusals_of r.physical s)) (resources_of s) ≡ true)
-          → IsBlamedFor t.entries t.operation path
+          → IsBlamedFor t path
       by_cause (inl b) = blamed_last path (last_at path s) refl b
       by_cause (inr b) =
           let p = some_of (λ r. bytes_eq path r.path && nat_lt 0 (refusals_of r.physical s)) (resources_of s) b in
@@ -176,15 +168,16 @@ module _
 
     -- an open call has three doubts
     open_fails : (p : Pending) → In p s.tokens → Fails
-    open_fails p i =
-        let three : nat_lt (doubts_of p.token s) 3 ≡ false = none_false (nat_lt (doubts_of p.token s) 3) (λ e. at_end.1 p (i, e)) in
-        let r = one_counted (λ z. p.token == z.token && is_doubt z.answer) (replies_in (now_of s)) (above_none (doubts_of p.token s) three) in
-        let m = in_mapped reply_in (now_of s) r.one r.of_list in
-        let there_is : In r.one replies = to_mapped reply_in s.entries m.one r.one (behind_in is_turn_or_opening s.entries m.one m.of_list) m.same in
-        let token : (r.one).token ≡ p.token = sym (number_same p.token (r.one).token (first_so (p.token == (r.one).token) _ r.passes)) in
-        let bad : is_bad_last s (last_at p.path s) ≡ true =
-        bad_is (last_at p.path s) ∙ ap (is_bad_of calls) (last_is p.path) ∙ (h.booked).bad p r.one i (to_reversed r.one replies there_is) token in
-        (p.path, or_left (is_bad_last s (last_at p.path s)) _ bad)
+    open_fails p i = by_row (call_of p.token s) refl (above_none (doubts_of p.token s) (none_false (nat_lt (doubts_of p.token s) 3) (λ e. at_end.1 p (i, e)))) where
+      by_row : (o : Option Call) → call_of p.token s ≡ o → 0 < option_map_or (λ c. c.doubts) o 0 → Fails
+      by_row None e l = absurd (none_below l)
+      by_row (Some c) e l =
+          let one = found_one (is_call p.token) s.ledger c e in
+          let r = (h.rows).doubted c one.0 l in
+          let token : (r.0).token ≡ p.token = r.2 ∙ sym (eqb-true p.token c.token one.1) in
+          let bad : is_bad_last s (last_at p.path s) ≡ true =
+          ap (is_bad_last s) (sym (last_is p.path)) ∙ sym (bad_is (last_of p.path calls (answers s))) ∙ (h.booked).bad p r.0 i r.1 token in
+          (p.path, or_left (is_bad_last s (last_at p.path s)) _ bad)
 
     -- what is made and was to be deleted was refused
     module _ (none_open : s.tokens ≡ []) where
@@ -194,19 +187,19 @@ module _
         or_right (is_bad_last s (last_at r.path s)) _ (any_of (λ z. bytes_eq r.path z.path && nat_lt 0 (refusals_of z.physical s)) (resources_of s) r (in_back r s.held s.made i)
             (and_from (bytes_eq r.path r.path) (nat_lt 0 (refusals_of r.physical s)) ((bytes_eq-Decides r.path r.path).1 refl) (is_above (refusals_of r.physical s) (counted (deletions_of r.physical s) refl (not_none (length (deletions_of r.physical s)) e))))),
       ) where
-        was_closed : (c : Call) → IsOpen c.token s.tokens ⊎ (list_any (refuses c) (reverse replies) ≡ true) → was_refused s c ≡ true
+        was_closed : (c : Call) → IsOpen c.token s.tokens ⊎ (was_refused c ≡ true) → was_refused c ≡ true
         was_closed c (inl o) = absurd (elim (subst (In o.0) none_open o.1) [ ])
-        was_closed c (inr d) = let p = some_of (refuses c) (reverse replies) d in any_of (refuses c) replies p.one (in_reversed p.one replies p.of_list) p.passes
+        was_closed c (inr d) = d
 
         counted : (cs : List Call) → deletions_of r.physical s ≡ cs → 0 < length cs → 0 < refusals_of r.physical s
-        counted [] d l = absurd (omega arith)
+        counted [] d l = absurd (none_below l)
         counted (c ∷ cs) d l =
             let of_list : In c (deletions_of r.physical s) = subst (In c) (sym d) here in
-            let k = in_filter (λ z. deletes r.physical z.request) (calls_in (own_of s)) c of_list in
-            some_counted (was_refused s) (deletions_of r.physical s) c of_list (was_closed c ((h.booked).tried c r (subst (In c) h.own_calls k.0) i k.1))
+            let k = deletion_row r.physical c of_list in
+            some_counted was_refused (deletions_of r.physical s) c of_list (was_closed c ((h.rows).tried c r k.0 i k.1))
 
       no_repeat : waits_for_repeats Back [] s ≡ false
-      no_repeat = ap (λ cs. list_any (λ c. nat_lt 0 (doubts_of c.token s) || not (is_new c.token s)) cs || list_any (may_repeat Back [] s) s.tokens) (none_out_in calls) ∙ ap (list_any (may_repeat Back [] s)) none_open
+      no_repeat = ap (λ cs. list_any is_repeated cs || list_any (may_repeat Back [] s) s.tokens) (none_out_in s.ledger) ∙ ap (list_any (may_repeat Back [] s)) none_open
 
       free : (path : List ℕ) → is_free path s ≡ true
       free path = ap (λ ts. not (list_any (λ p. bytes_eq path p.path) ts)) none_open

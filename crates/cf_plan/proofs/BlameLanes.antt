@@ -3,9 +3,8 @@ use Rattle.std.proofs.Common.{◌≡◌, ◌≢◌, ℕ, ◌+◌, ◌<◌, ◌�
 use Rattle.std.specs.Prelude.{cond, length, slice_index_or}
 use Rattle.std.specs.List.{list_all}
 use Rattle.std.specs.Str.{bytes_eq}
-use Rattle.std.proofs.lemmas.Bool.Decides.{nat_tests}
 use Rattle.std.proofs.lemmas.List.{get_or-set_other, length-set}
-use Rattle.std.proofs.lemmas.Bool.{cases_eq, or_right}
+use Rattle.std.proofs.lemmas.Bool.{cases_eq, or_right, eqb-true}
 use Rattle.cf_tree.specs.Datum.{Data}
 use Rattle.cf_tree.specs.Named.{all_differ}
 use Rattle.cf_tree.specs.declared.request.Request.{Request}
@@ -21,17 +20,10 @@ use Rattle.cf_entry.specs.declared.entry.Reply.{Reply}
 use Rattle.cf_entry.specs.declared.entry.Reply.TheVariants as reply
 use Rattle.cf_stacks.specs.declared.held.Pending.{Pending}
 use Rattle.cf_stacks.specs.Words.{is_create}
-use Rattle.cf_stacks.specs.Operation.{Call}
 use Rattle.cf_plan.specs.Forward.{In}
 use Rattle.cf_plan.specs.Run.{Told, answer_as, IsAsked, AreFresh}
 use Rattle.cf_plan.proofs.RunLanes.{same_lane, bytes_named, lane_named, one_place, settled_still, settled_now, used_in}
 use Rattle.cf_plan.proofs.RunLists.{in_front, in_one, in_either}
-
-pub same_number : (m n : ℕ) → m ≡ n → (m == n) ≡ true
-same_number m n e = grind (arith, nat_tests)
-
-pub number_same : (m n : ℕ) → (m == n) ≡ true → m ≡ n
-number_same m n e = grind (arith, nat_tests)
 
 -- what is settled with one more call was so before, or it is that one
 settled_or :
@@ -39,7 +31,7 @@ settled_or :
     → (settlement_of t ss ≡ Some v) ⊎ ((t ≡ x.token) × (x.settlement ≡ v))
 settled_or t [] x v e = by_test (t == x.token) refl e where
   by_test : (b : Bool) → (t == x.token) ≡ b → cond b (Some x.settlement) None ≡ Some v → (None ≡ Some v) ⊎ ((t ≡ x.token) × (x.settlement ≡ v))
-  by_test true d g = inr (number_same t x.token d, let same : x.settlement ≡ v = cc in same)
+  by_test true d g = inr (eqb-true t x.token d, let same : x.settlement ≡ v = cc in same)
   by_test false d g = inl g
 settled_or t (s ∷ ss) x v e = by_test (t == s.token) e (settled_or t ss x v) where
   by_test :
@@ -78,7 +70,7 @@ module _ (name : List ℕ) (before after : LaneState) (token : ℕ) (r : Request
   told_success physical attrs m = (moved_by (Success physical attrs) _ refl m).1
 
 -- the lane of a call has settled it as a create of this id
-pub record IsCreated (names : List (List ℕ)) (told : Told) (calls : List Call) (id : List ℕ) (c : Call) : Type 0 where
+pub record IsCreated (names : List (List ℕ)) (told : Told) (calls : List Pending) (id : List ℕ) (c : Pending) : Type 0 where
   pub called : In c calls
   pub create : is_create c.request ≡ true
   pub place : ℕ
@@ -90,14 +82,14 @@ pub record IsCreated (names : List (List ℕ)) (told : Told) (calls : List Call)
   pub settled : settlement_of c.token lane.settled ≡ Some (Success id attrs)
 
 -- each lane tells, no token to come is settled, and each created id is of its lane and of one call
-pub record AreTold (names : List (List ℕ)) (told : Told) (last : ℕ) (calls : List Call) : Type 0 where
+pub record AreTold (names : List (List ℕ)) (told : Told) (last : ℕ) (calls : List Pending) : Type 0 where
   pub fresh : AreFresh last told
   pub tells : (k : ℕ) → k < length told → (lane : LaneState) × (slice_index_or told k None ≡ Some lane)
-  pub of_lane : (id : List ℕ) (c : Call) → IsCreated names told calls id c → IsOfLane c.lane id
-  pub once : (id : List ℕ) (c d : Call) → IsCreated names told calls id c → IsCreated names told calls id d → c.token ≡ d.token
+  pub of_lane : (id : List ℕ) (c : Pending) → IsCreated names told calls id c → IsOfLane c.lane id
+  pub once : (id : List ℕ) (c d : Pending) → IsCreated names told calls id c → IsCreated names told calls id d → c.token ≡ d.token
 
-module _ (names : List (List ℕ)) (told : Told) (last : ℕ) (calls : List Call) (h : AreTold names told last calls) (n : Call) (new : n.token ≡ last + 1) where
-  pub created_more : (id : List ℕ) (c : Call) → IsCreated names told calls id c → IsCreated names told (calls ++ n ∷ []) id c
+module _ (names : List (List ℕ)) (told : Told) (last : ℕ) (calls : List Pending) (h : AreTold names told last calls) (n : Pending) (new : n.token ≡ last + 1) where
+  pub created_more : (id : List ℕ) (c : Pending) → IsCreated names told calls id c → IsCreated names told (calls ++ n ∷ []) id c
   created_more id c k = record {
     called = in_front c calls (n ∷ []) k.called;
     create = k.create;
@@ -111,7 +103,7 @@ module _ (names : List (List ℕ)) (told : Told) (last : ℕ) (calls : List Call
   }
 
   -- what is called anew isn't settled
-  created_before : (id : List ℕ) (c : Call) → IsCreated names told (calls ++ n ∷ []) id c → IsCreated names told calls id c
+  created_before : (id : List ℕ) (c : Pending) → IsCreated names told (calls ++ n ∷ []) id c → IsCreated names told calls id c
   created_before id c k = record {
     called = by_place (in_either c calls (n ∷ []) k.called);
     create = k.create;
@@ -140,10 +132,9 @@ module _ (names : List (List ℕ)) (told : Told) (last : ℕ) (calls : List Call
 
 module _
     (names : List (List ℕ)) (named : list_all is_lane_name names ≡ true) (differ : all_differ bytes_eq names ≡ true) (told told' : Told)
-    (counts counts' : List ℕ) (last : ℕ) (calls : List Call) (h : AreTold names told last calls)
-    (distinct : (c d : Call) → In c calls → In d calls → c.token ≡ d.token → c ≡ d) (p : Pending) (low : p.token ≤ last) (c0 : Call)
-    (called : In c0 calls) (token_is : c0.token ≡ p.token) (lane_is : c0.lane ≡ p.lane) (request_is : c0.request ≡ p.request) (a : Reply)
-    (before after : ℕ) (asked : IsAsked names told told' counts counts' p (answer_as a) before after) where
+    (counts counts' : List ℕ) (last : ℕ) (calls : List Pending) (h : AreTold names told last calls)
+    (distinct : (c d : Pending) → In c calls → In d calls → c.token ≡ d.token → c ≡ d) (p : Pending) (low : p.token ≤ last) (called : In p calls)
+    (a : Reply) (before after : ℕ) (asked : IsAsked names told told' counts counts' p (answer_as a) before after) where
   abbrev k : ℕ
   k = asked.0
 
@@ -175,7 +166,7 @@ module _
   there_is j lane e g = let both : Some lane ≡ Some now.0 = sym g ∙ ap (λ i. slice_index_or told' i None) e ∙ now.1 in cc
 
   -- what was created stays so
-  pub created_still : (id : List ℕ) (c : Call) → IsCreated names told calls id c → IsCreated names told' calls id c
+  pub created_still : (id : List ℕ) (c : Pending) → IsCreated names told calls id c → IsCreated names told' calls id c
   created_still id c g = by_place (cases_eq g.place k) where
     with_lane : (lane : LaneState) → slice_index_or told' g.place None ≡ Some lane → settlement_of c.token lane.settled ≡ Some (Success id g.attrs) → IsCreated names told' calls id c
     with_lane lane e d = record { called = g.called; create = g.create; place = g.place; within = g.within; named = g.named; lane = lane; tells = e; attrs = g.attrs; settled = d }
@@ -187,7 +178,7 @@ module _
         (still c.token (Success id g.attrs) (ap (λ l. settlement_of c.token l.settled) (sym (there_was g.place g.lane e g.tells)) ∙ g.settled))
 
   -- the create of this call, whose id is new in its lane
-  record IsNew (id : List ℕ) (c : Call) : Type 0 where
+  record IsNew (id : List ℕ) (c : Pending) : Type 0 where
     pub token : c.token ≡ p.token
     pub lane : c.lane ≡ name
     pub of_lane : IsOfLane name id
@@ -200,7 +191,7 @@ module _
   may_new (request.Update physical props) lane id attrs e m = let no : ⊥ = cc in absurd no
   may_new (request.Delete physical) lane id attrs e m = let no : ⊥ = cc in absurd no
 
-  created_or : (id : List ℕ) (c : Call) → IsCreated names told' calls id c → IsCreated names told calls id c ⊎ IsNew id c
+  created_or : (id : List ℕ) (c : Pending) → IsCreated names told' calls id c → IsCreated names told calls id c ⊎ IsNew id c
   created_or id c g = by_place (cases_eq g.place k) where
     with_lane : (lane : LaneState) → slice_index_or told g.place None ≡ Some lane → settlement_of c.token lane.settled ≡ Some (Success id g.attrs) → IsCreated names told calls id c
     with_lane lane e d = record { called = g.called; create = g.create; place = g.place; within = g.within; named = g.named; lane = lane; tells = e; attrs = g.attrs; settled = d }
@@ -210,9 +201,9 @@ module _
 
     new : c.token ≡ p.token → MaySettle name was.0 p.request (Success id g.attrs) → IsNew id c
     new t m =
-        let same : c ≡ c0 = distinct c c0 g.called called (t ∙ sym token_is) in
-        let may = may_new p.request was.0 id g.attrs (ap is_create (sym request_is ∙ ap (λ x. x.request) (sym same)) ∙ g.create) m in
-        record { token = t; lane = ap (λ x. x.lane) same ∙ lane_is ∙ sym asked.3; of_lane = may.0; unused = may.1 }
+        let same : c ≡ p = distinct c p g.called called t in
+        let may = may_new p.request was.0 id g.attrs (ap (λ x. is_create x.request) (sym same) ∙ g.create) m in
+        record { token = t; lane = ap (λ x. x.lane) same ∙ sym asked.3; of_lane = may.0; unused = may.1 }
 
     by_settled :
         g.place ≡ k → (s : Settlement) → MaySettle name was.0 p.request s
@@ -231,7 +222,7 @@ module _
     by_place (inl e) = by_move e (ap (λ l. settlement_of c.token l.settled) (sym (there_is g.place g.lane e g.tells)) ∙ g.settled) move
 
   -- an id that was created isn't new
-  not_new : (id : List ℕ) (c d : Call) → IsCreated names told calls id c → IsNew id d → ⊥
+  not_new : (id : List ℕ) (c d : Pending) → IsCreated names told calls id c → IsNew id d → ⊥
   not_new id c d g n =
       let o = h.of_lane id c g in
       let other = slice_index_or names g.place [] in
@@ -283,11 +274,11 @@ module _
     of_lane = λ id c g. of_lane_by id c (created_or id c g);
     once = λ id c d g e. once_by id c d (created_or id c g) (created_or id d e);
   } where
-    of_lane_by : (id : List ℕ) (c : Call) → IsCreated names told calls id c ⊎ IsNew id c → IsOfLane c.lane id
+    of_lane_by : (id : List ℕ) (c : Pending) → IsCreated names told calls id c ⊎ IsNew id c → IsOfLane c.lane id
     of_lane_by id c (inl g) = h.of_lane id c g
     of_lane_by id c (inr n) = subst (λ l. IsOfLane l id) (sym n.lane) n.of_lane
 
-    once_by : (id : List ℕ) (c d : Call) → IsCreated names told calls id c ⊎ IsNew id c → IsCreated names told calls id d ⊎ IsNew id d → c.token ≡ d.token
+    once_by : (id : List ℕ) (c d : Pending) → IsCreated names told calls id c ⊎ IsNew id c → IsCreated names told calls id d ⊎ IsNew id d → c.token ≡ d.token
     once_by id c d (inl g) (inl e) = h.once id c d g e
     once_by id c d (inl g) (inr n) = absurd (not_new id c d g n)
     once_by id c d (inr n) (inl e) = absurd (not_new id d c e n)
@@ -295,17 +286,15 @@ module _
 
   -- a create that succeeded has created its id
   pub created_now :
-      (physical : List ℕ) (attrs : List (List ℕ × Data)) → a ≡ reply.Success physical attrs → is_create p.request ≡ true → IsCreated names told' calls physical c0
+      (physical : List ℕ) (attrs : List (List ℕ × Data)) → a ≡ reply.Success physical attrs → is_create p.request ≡ true → IsCreated names told' calls physical p
   created_now physical attrs e r = record {
     called = called;
-    create = ap is_create request_is ∙ r;
+    create = r;
     place = k;
     within = asked.1;
-    named = asked.3 ∙ sym lane_is;
+    named = asked.3;
     lane = now.0;
     tells = now.1;
     attrs = attrs;
-    settled =
-        ap (λ t. settlement_of t (now.0).settled) token_is
-        ∙ told_success name was.0 now.0 p.token p.request physical attrs (subst (λ x. LaneMove name was.0 now.0 p.token p.request (answer_as x)) e now.2);
+    settled = told_success name was.0 now.0 p.token p.request physical attrs (subst (λ x. LaneMove name was.0 now.0 p.token p.request (answer_as x)) e now.2);
   }

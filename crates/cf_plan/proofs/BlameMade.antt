@@ -1,8 +1,8 @@
 -- What an answer makes of a stack that creates: what it made stays, joins, or leaves.
-use Rattle.std.proofs.Common.{◌≡◌, ℕ, ◌⊎◌, inl, inr, List, [], Bool, true, false, not, refl, sym, ap, subst, ◌∙◌, true≢false}
+use Rattle.std.proofs.Common.{◌≡◌, ℕ, inl, inr, List, [], ◌∷◌, Bool, true, false, not, refl, sym, ap, subst, ◌∙◌, true≢false}
 use Rattle.std.specs.Prelude.{cond}
+use Rattle.std.specs.List.{list_any}
 use Rattle.std.proofs.lemmas.Slice.Eq.{bytes_eq-Decides}
-use Rattle.cf_tree.specs.Datum.{Data}
 use Rattle.cf_tree.specs.declared.request.Request.{Request}
 use Rattle.cf_tree.specs.declared.request.Request.TheVariants as request
 use Rattle.cf_tree.specs.declared.code.Code.{Code}
@@ -12,154 +12,133 @@ use Rattle.cf_entry.specs.declared.entry.Reply.TheVariants as reply
 use Rattle.cf_stacks.specs.declared.held.Held.{Held}
 use Rattle.cf_stacks.specs.declared.held.HeldStatus.TheVariants as held
 use Rattle.cf_stacks.specs.declared.held.Pending.{Pending}
-use Rattle.cf_stacks.specs.declared.terms.Terms.{Terms}
-use Rattle.cf_stacks.specs.declared.state.StackState.{StackState}
-use Rattle.cf_stacks.specs.Words.{is_create, has_physical, where_physical, without, current_at}
-use Rattle.cf_stacks.specs.Operation.{is_refusal, deletes}
-use Rattle.cf_stacks.specs.Fold.{answered_in, with_status, updating, answered, is_restore, made_of, status_made}
-use Rattle.cf_plan.specs.Forward.{In}
+use Rattle.cf_stacks.specs.World.{StackState}
+use Rattle.cf_stacks.specs.Words.{is_create, has_physical, where_physical, without, current_at, deletes}
+use Rattle.cf_stacks.specs.Calls.{is_refusal}
+use Rattle.cf_stacks.specs.Reply.{with_status, updating, changing, deleting, answered, made_of, status_made, terms_at}
+use Rattle.cf_plan.specs.Forward.{In, here, there}
+use Rattle.cf_plan.specs.Follow.{settled_by}
 use Rattle.cf_plan.proofs.CreatedStays.{in_more}
 use Rattle.cf_plan.proofs.CreatedRight.{in_filter, not_so}
-use Rattle.cf_plan.proofs.CreatedEnd.{in_changed}
-use Rattle.cf_plan.proofs.BlameAnswer.{From, old, new}
+use Rattle.cf_plan.proofs.BlameAnswer.{From, old, new, StaysTried}
 
 -- a deletion that fails finds nothing, or is refused
-deletion_failed :
-    (c : Code) (id : List ℕ) (restore : Bool) (hs : List Held)
-    → (answered_in (request.Delete id) (reply.Failed c) restore hs ≡ without id hs)
-    ⊎ ((answered_in (request.Delete id) (reply.Failed c) restore hs ≡ with_status id held.DeleteFailed hs) × (is_refusal (request.Delete id) (reply.Failed c) ≡ true))
-deletion_failed code.NotFound id restore hs = inl refl
-deletion_failed code.NotUpdatable id restore hs = inr (refl, refl)
-deletion_failed code.InvalidRequest id restore hs = inr (refl, refl)
-deletion_failed code.AccessDenied id restore hs = inr (refl, refl)
-deletion_failed code.InvalidCredentials id restore hs = inr (refl, refl)
-deletion_failed code.AlreadyExists id restore hs = inr (refl, refl)
-deletion_failed code.ResourceConflict id restore hs = inr (refl, refl)
-deletion_failed code.Throttling id restore hs = inr (refl, refl)
-deletion_failed code.ServiceLimitExceeded id restore hs = inr (refl, refl)
-deletion_failed code.NotStabilized id restore hs = inr (refl, refl)
-deletion_failed code.GeneralServiceException id restore hs = inr (refl, refl)
-deletion_failed code.ServiceInternalError id restore hs = inr (refl, refl)
-deletion_failed code.NetworkFailure id restore hs = inr (refl, refl)
-deletion_failed code.InternalFailure id restore hs = inr (refl, refl)
+data Failing (b : Bool) (path id : List ℕ) (c : Code) (s : StackState) : Type 0 where
+  nothing_found : answered b path (request.Delete id) (reply.Failed c) s ≡ deleting id s → Failing b path id c s
+  refused :
+      answered b path (request.Delete id) (reply.Failed c) s ≡ with_status id held.DeleteFailed s
+      → is_refusal (request.Delete id) (settled_by (reply.Failed c)) ≡ true → Failing b path id c s
+
+deletion_failed : (b : Bool) (path id : List ℕ) (c : Code) (s : StackState) → Failing b path id c s
+deletion_failed b path id code.NotFound s = nothing_found refl
+deletion_failed b path id c s = refused refl refl
+
+-- what a stack that creates is left with: as it was, but for what it has made
+pub record IsLeft (s t : StackState) : Type 0 where
+  pub as_was : t ≡ record s { held = t.held; made = t.made }
+  pub none_held : s.held ≡ [] → t.held ≡ []
+
+itself : (s : StackState) → IsLeft s s
+itself s = record { as_was = refl; none_held = λ e. e }
+
+changing_left : (id : List ℕ) (f : Held → Held) (s : StackState) → IsLeft s (changing id f s)
+changing_left id f s = by_test (list_any (has_physical id) s.held) where
+  by_test : (b : Bool) → IsLeft s (cond b (record s { held = where_physical id f s.held }) (record s { made = where_physical id f s.made }))
+  by_test true = record { as_was = refl; none_held = λ e. ap (where_physical id f) e }
+  by_test false = record { as_was = refl; none_held = λ e. e }
+
+deleting_left : (id : List ℕ) (s : StackState) → IsLeft s (deleting id s)
+deleting_left id s = record { as_was = refl; none_held = λ e. ap (without id) e }
+
+-- an answer changes nothing but resources, and nothing is held by then where nothing was
+pub answered_left : (b : Bool) (path : List ℕ) (r : Request) (a : Reply) (s : StackState) → IsLeft s (answered b path r a s)
+answered_left b path (request.Create k props) (reply.Success physical attrs) s = record { as_was = refl; none_held = λ e. e }
+answered_left b path (request.Create k props) (reply.Failed c) s = itself s
+answered_left b path (request.Create k props) reply.Doubt s = itself s
+answered_left b path (request.Update id props) (reply.Success physical attrs) s = changing_left id (updating props attrs) s
+answered_left b path (request.Update id props) (reply.Failed c) s = by_restore b where
+  by_restore : (b : Bool) → IsLeft s (answered b path (request.Update id props) (reply.Failed c) s)
+  by_restore true = changing_left id (λ h. record h { status = held.UpdateFailed }) s
+  by_restore false = itself s
+answered_left b path (request.Update id props) reply.Doubt s = itself s
+answered_left b path (request.Delete id) (reply.Success physical attrs) s = deleting_left id s
+answered_left b path (request.Delete id) (reply.Failed c) s = by_failing (deletion_failed b path id c s) where
+  by_failing : Failing b path id c s → IsLeft s (answered b path (request.Delete id) (reply.Failed c) s)
+  by_failing (nothing_found e) = subst (IsLeft s) (sym e) (deleting_left id s)
+  by_failing (refused e k) = subst (IsLeft s) (sym e) (changing_left id (λ h. record h { status = held.DeleteFailed }) s)
+answered_left b path (request.Delete id) reply.Doubt s = itself s
 
 -- a resource of the same id and path
-pub record IsLike (hs : List Held) (r' : Held) : Type 0 where
+record IsLike (hs : List Held) (r' : Held) : Type 0 where
   pub one : Held
   pub of_list : In one hs
   pub physical : one.physical ≡ r'.physical
   pub path : one.path ≡ r'.path
 
+same_one : (hs : List Held) (r : Held) → In r hs → IsLike hs r
+same_one hs r i = record { one = r; of_list = i; physical = refl; path = refl }
+
+further : (h : Held) (hs : List Held) (r : Held) → IsLike hs r → IsLike (h ∷ hs) r
+further h hs r k = record { one = k.one; of_list = there k.of_list; physical = k.physical; path = k.path }
+
 module _ (id : List ℕ) (f : Held → Held) (same_id : (r : Held) → (f r).physical ≡ r.physical) (same_path : (r : Held) → (f r).path ≡ r.path) where
-  changed_like : (hs : List Held) (r' : Held) → In r' (where_physical id f hs) → IsLike hs r'
-  changed_like hs r' i =
-      let k = in_changed (λ r. cond (has_physical id r) (f r) r) hs r' i in
-      record {
-        one = k.one;
-        of_list = k.of_list;
-        physical = sym (id_with (has_physical id k.one) k.one) ∙ ap (λ r. r.physical) k.same;
-        path = sym (path_with (has_physical id k.one) k.one) ∙ ap (λ r. r.path) k.same;
-      } where
-        id_with : (b : Bool) (r : Held) → (cond b (f r) r).physical ≡ r.physical
-        id_with true r = same_id r
-        id_with false r = refl
+  changed_like : (hs : List Held) (r : Held) → In r (where_physical id f hs) → IsLike hs r
+  changed_like [] r i = elim i [ ]
+  changed_like (h ∷ hs) r i = by_test (has_physical id h) r i (changed_like hs r) where
+    by_test : (b : Bool) (r : Held) → In r (cond b (f h ∷ hs) (h ∷ where_physical id f hs)) → (In r (where_physical id f hs) → IsLike hs r) → IsLike (h ∷ hs) r
+    by_test true r here ih = record { one = h; of_list = here; physical = sym (same_id h); path = sym (same_path h) }
+    by_test true r (there j) ih = same_one (h ∷ hs) r (there j)
+    by_test false r here ih = same_one (h ∷ hs) r here
+    by_test false r (there j) ih = further h hs r (ih j)
 
-        path_with : (b : Bool) (r : Held) → (cond b (f r) r).path ≡ r.path
-        path_with true r = same_path r
-        path_with false r = refl
-
-module _ (p : Pending) (a : Reply) (made : List Held) where
-  -- where the call isn't a deletion
-  not_deleted : (r' : Held) → IsLike made r' → ((id : List ℕ) → deletes id p.request ≡ true → ⊥) → From p a made r'
-  not_deleted r' k n = old k.one k.of_list k.physical k.path (λ d. absurd (n r'.physical d))
-
-  itself : (r' : Held) → In r' made → IsLike made r'
-  itself r' i = record { one = r'; of_list = i; physical = refl; path = refl }
-
-  -- what is deleted is gone
-  without_from : (id : List ℕ) → p.request ≡ request.Delete id → (r' : Held) → In r' (without id made) → From p a made r'
-  without_from id e r' i =
-      let k = in_filter (λ r. not (has_physical id r)) made r' i in
-      old r' k.0 refl refl
-      (λ d.
-      let same : r'.physical ≡ id = (bytes_eq-Decides r'.physical id).0 (ap (deletes r'.physical) (sym e) ∙ d) in
-      absurd (true≢false (sym ((bytes_eq-Decides id r'.physical).1 (sym same)) ∙ not_so _ k.1)))
-
-  status_from :
-      (id : List ℕ) → (is_refusal p.request a ≡ true) → (r' : Held) → In r' (with_status id held.DeleteFailed made) → From p a made r'
-  status_from id e r' i =
-      let k = changed_like id (λ r. record r { status = held.DeleteFailed }) (λ r. refl) (λ r. refl) made r' i in
-      old k.one k.of_list k.physical k.path (λ d. inr e)
-
-  updated_from : (id : List ℕ) (props : List (List ℕ × Data)) → p.request ≡ request.Update id props → (physical : List ℕ) → deletes physical p.request ≡ true → ⊥
-  updated_from id props e physical d = let no : false ≡ true = ap (deletes physical) (sym e) ∙ d in true≢false (sym no)
-
-  created_from : (k : List ℕ) (props : List (List ℕ × Data)) → p.request ≡ request.Create k props → (physical : List ℕ) → deletes physical p.request ≡ true → ⊥
-  created_from k props e physical d = let no : false ≡ true = ap (deletes physical) (sym e) ∙ d in true≢false (sym no)
+  changing_like : (s : StackState) (r : Held) → In r (changing id f s).made → IsLike s.made r
+  changing_like s r i = by_test (list_any (has_physical id) s.held) i where
+    by_test :
+        (b : Bool) → In r (cond b (record s { held = where_physical id f s.held }) (record s { made = where_physical id f s.made })).made → IsLike s.made r
+    by_test true j = same_one s.made r j
+    by_test false j = changed_like s.made r j
 
 -- each resource that is made by then is as it was, or is made by this answer
+module _ (p : Pending) (a : Reply) (made : List Held) where
+  from_like : (r : Held) → IsLike made r → StaysTried p a r.physical → From p a made r
+  from_like r k t = old k.one k.of_list k.physical k.path t
+
+  -- what is deleted is gone
+  without_from : (id : List ℕ) → p.request ≡ request.Delete id → (r : Held) → In r (without id made) → From p a made r
+  without_from id e r i =
+      let k = in_filter (λ x. not (has_physical id x)) made r i in
+      old r k.0 refl refl
+      (λ d.
+      let same : r.physical ≡ id = (bytes_eq-Decides r.physical id).0 (ap (deletes r.physical) (sym e) ∙ d) in
+      absurd (true≢false (sym ((bytes_eq-Decides id r.physical).1 (sym same)) ∙ not_so _ k.1)))
+
+  no_deletion : (q : Request) → p.request ≡ q → ((id : List ℕ) → deletes id q ≡ false) → (physical : List ℕ) → StaysTried p a physical
+  no_deletion q e n physical d = absurd (true≢false (sym (ap (deletes physical) (sym e) ∙ d) ∙ n physical))
+
 pub answered_from :
-    (t : Terms) (p : Pending) (r : Request) (a : Reply) (s : StackState) → p.request ≡ r → (r' : Held) → In r' (answered t p r a s).made → From p a s.made r'
-answered_from t p (request.Create k props) (reply.Success physical attrs) s e r' i =
-    in_more (From p (reply.Success physical attrs) s.made) (made_of p.path k physical props attrs (status_made (current_at p.path s.held)) t) s.made
-    (λ x j. not_deleted p (reply.Success physical attrs) s.made x (itself p (reply.Success physical attrs) s.made x j) (created_from p (reply.Success physical attrs) s.made k props e))
-    (new attrs (ap is_create e) refl refl) r' i
-answered_from t p (request.Create k props) (reply.Failed c) s e r' i =
-    not_deleted p (reply.Failed c) s.made r' (itself p (reply.Failed c) s.made r' i) (created_from p (reply.Failed c) s.made k props e)
-answered_from t p (request.Create k props) reply.Doubt s e r' i =
-    not_deleted p reply.Doubt s.made r' (itself p reply.Doubt s.made r' i) (created_from p reply.Doubt s.made k props e)
-answered_from t p (request.Update id props) (reply.Success physical attrs) s e r' i =
-    not_deleted p (reply.Success physical attrs) s.made r' (changed_like id (updating id props attrs) (λ r. refl) (λ r. refl) s.made r' i)
-    (updated_from p (reply.Success physical attrs) s.made id props e)
-answered_from t p (request.Update id props) (reply.Failed c) s e r' i =
-    not_deleted p (reply.Failed c) s.made r' (by_restore (is_restore p.token s) i) (updated_from p (reply.Failed c) s.made id props e) where
-      by_restore : (b : Bool) → In r' (cond b (with_status id held.UpdateFailed s.made) s.made) → IsLike s.made r'
-      by_restore true j = changed_like id (λ r. record r { status = held.UpdateFailed }) (λ r. refl) (λ r. refl) s.made r' j
-      by_restore false j = itself p (reply.Failed c) s.made r' j
-answered_from t p (request.Update id props) reply.Doubt s e r' i =
-    not_deleted p reply.Doubt s.made r' (itself p reply.Doubt s.made r' i) (updated_from p reply.Doubt s.made id props e)
-answered_from t p (request.Delete id) (reply.Success physical attrs) s e r' i = without_from p (reply.Success physical attrs) s.made id e r' i
-answered_from t p (request.Delete id) (reply.Failed c) s e r' i = by_code (deletion_failed c id (is_restore p.token s) s.made) where
-  by_code :
-      (answered_in (request.Delete id) (reply.Failed c) (is_restore p.token s) s.made ≡ without id s.made)
-      ⊎ ((answered_in (request.Delete id) (reply.Failed c) (is_restore p.token s) s.made ≡ with_status id held.DeleteFailed s.made)
-      × (is_refusal (request.Delete id) (reply.Failed c) ≡ true)) → From p (reply.Failed c) s.made r'
-  by_code (inl d) = without_from p (reply.Failed c) s.made id e r' (subst (In r') d i)
-  by_code (inr d) = status_from p (reply.Failed c) s.made id (ap (λ r. is_refusal r (reply.Failed c)) e ∙ d.1) r' (subst (In r') d.0 i)
-answered_from t p (request.Delete id) reply.Doubt s e r' i = old r' i refl refl (λ d. inl refl)
-
--- nothing is held by then where nothing was
-none_in : (r : Request) (a : Reply) (restore : Bool) → answered_in r a restore [] ≡ []
-none_in (request.Create k props) (reply.Success physical attrs) restore = refl
-none_in (request.Create k props) (reply.Failed c) restore = refl
-none_in (request.Create k props) reply.Doubt restore = refl
-none_in (request.Update id props) (reply.Success physical attrs) restore = refl
-none_in (request.Update id props) (reply.Failed c) true = refl
-none_in (request.Update id props) (reply.Failed c) false = refl
-none_in (request.Update id props) reply.Doubt restore = refl
-none_in (request.Delete id) (reply.Success physical attrs) restore = refl
-none_in (request.Delete id) (reply.Failed c) restore = by_code (deletion_failed c id restore []) where
-  by_code :
-      (answered_in (request.Delete id) (reply.Failed c) restore [] ≡ without id [])
-      ⊎ ((answered_in (request.Delete id) (reply.Failed c) restore [] ≡ with_status id held.DeleteFailed [])
-      × (is_refusal (request.Delete id) (reply.Failed c) ≡ true)) → answered_in (request.Delete id) (reply.Failed c) restore [] ≡ []
-  by_code (inl d) = d
-  by_code (inr d) = d.0
-none_in (request.Delete id) reply.Doubt restore = refl
-
-pub answered_none : (t : Terms) (p : Pending) (r : Request) (a : Reply) (s : StackState) → s.held ≡ [] → (answered t p r a s).held ≡ []
-answered_none t p (request.Create k props) (reply.Success physical attrs) s e = e
-answered_none t p (request.Create k props) (reply.Failed c) s e = e
-answered_none t p (request.Create k props) reply.Doubt s e = e
-answered_none t p (request.Update id props) a s e = ap (answered_in (request.Update id props) a (is_restore p.token s)) e ∙ none_in (request.Update id props) a (is_restore p.token s)
-answered_none t p (request.Delete id) a s e = ap (answered_in (request.Delete id) a (is_restore p.token s)) e ∙ none_in (request.Delete id) a (is_restore p.token s)
-
--- an answer changes nothing but resources
-pub answered_frame :
-    (t : Terms) (p : Pending) (r : Request) (a : Reply) (s : StackState)
-    → answered t p r a s ≡ record s { held = (answered t p r a s).held; made = (answered t p r a s).made }
-answered_frame t p (request.Create k props) (reply.Success physical attrs) s = refl
-answered_frame t p (request.Create k props) (reply.Failed c) s = refl
-answered_frame t p (request.Create k props) reply.Doubt s = refl
-answered_frame t p (request.Update id props) a s = refl
-answered_frame t p (request.Delete id) a s = refl
+    (b : Bool) (p : Pending) (r : Request) (a : Reply) (s : StackState) → p.request ≡ r → (x : Held) → In x (answered b p.path r a s).made → From p a s.made x
+answered_from b p (request.Create k props) (reply.Success physical attrs) s e x i =
+    in_more (From p (reply.Success physical attrs) s.made) (made_of (terms_at p.path s) (status_made (current_at p.path s.held)) p.path k props physical attrs) s.made
+    (λ y j. from_like p (reply.Success physical attrs) s.made y (same_one s.made y j) (no_deletion p (reply.Success physical attrs) s.made (request.Create k props) e (λ id. refl) y.physical))
+    (new attrs (ap is_create e) refl refl) x i
+answered_from b p (request.Create k props) (reply.Failed c) s e x i =
+    from_like p (reply.Failed c) s.made x (same_one s.made x i) (no_deletion p (reply.Failed c) s.made (request.Create k props) e (λ id. refl) x.physical)
+answered_from b p (request.Create k props) reply.Doubt s e x i = from_like p reply.Doubt s.made x (same_one s.made x i) (λ d. inl refl)
+answered_from b p (request.Update id props) (reply.Success physical attrs) s e x i =
+    from_like p (reply.Success physical attrs) s.made x (changing_like id (updating props attrs) (λ r. refl) (λ r. refl) s x i)
+    (no_deletion p (reply.Success physical attrs) s.made (request.Update id props) e (λ id. refl) x.physical)
+answered_from b p (request.Update id props) (reply.Failed c) s e x i =
+    from_like p (reply.Failed c) s.made x (by_restore b i) (no_deletion p (reply.Failed c) s.made (request.Update id props) e (λ id. refl) x.physical) where
+      by_restore : (b : Bool) → In x (answered b p.path (request.Update id props) (reply.Failed c) s).made → IsLike s.made x
+      by_restore true j = changing_like id (λ r. record r { status = held.UpdateFailed }) (λ r. refl) (λ r. refl) s x j
+      by_restore false j = same_one s.made x j
+answered_from b p (request.Update id props) reply.Doubt s e x i = from_like p reply.Doubt s.made x (same_one s.made x i) (λ d. inl refl)
+answered_from b p (request.Delete id) (reply.Success physical attrs) s e x i = without_from p (reply.Success physical attrs) s.made id e x i
+answered_from b p (request.Delete id) (reply.Failed c) s e x i = by_failing (deletion_failed b p.path id c s) where
+  by_failing : Failing b p.path id c s → From p (reply.Failed c) s.made x
+  by_failing (nothing_found d) = without_from p (reply.Failed c) s.made id e x (subst (λ t. In x t.made) d i)
+  by_failing (refused d k) =
+      from_like p (reply.Failed c) s.made x
+      (changing_like id (λ r. record r { status = held.DeleteFailed }) (λ r. refl) (λ r. refl) s x (subst (λ t. In x t.made) d i))
+      (λ f. inr (ap (λ q. is_refusal q (settled_by (reply.Failed c))) e ∙ k))
+answered_from b p (request.Delete id) reply.Doubt s e x i = from_like p reply.Doubt s.made x (same_one s.made x i) (λ d. inl refl)

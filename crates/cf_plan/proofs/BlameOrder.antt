@@ -1,5 +1,5 @@
 -- A plan wants each path behind those that it needs.
-use Rattle.std.proofs.Common.{◌≡◌, ℕ, suc, ◌<◌, ◌⊎◌, inl, inr, List, [], ◌∷◌, ◌++◌, Bool, true, false, ◌||◌, Option, Some, None, refl, sym, subst, ◌∙◌, true≢false, find, arith}
+use Rattle.std.proofs.Common.{◌≡◌, ℕ, suc, ◌<◌, ◌⊎◌, inl, inr, List, [], ◌∷◌, ◌++◌, Bool, true, false, ◌||◌, Some, refl, sym, subst, true≢false, find, arith}
 use Rattle.std.specs.Prelude.{⊤, cond}
 use Rattle.std.specs.Str.{bytes_eq}
 use Rattle.std.proofs.lemmas.Slice.Eq.{bytes_eq-Decides}
@@ -13,7 +13,7 @@ use Rattle.cf_desired.specs.Whole.{is_wanted_at, wanted_at}
 use Rattle.cf_desired.proofs.ComeFirst.{among_split}
 use Rattle.cf_desired.proofs.Planned.{WantedFirst, wanted_first}
 use Rattle.cf_desired.proofs.Puts.{among_pass}
-use Rattle.cf_plan.specs.Forward.{In, here, there}
+use Rattle.cf_plan.specs.Forward.{In}
 use Rattle.cf_plan.proofs.RunLists.{any_of}
 
 -- what each needs is wanted before it, or is among these

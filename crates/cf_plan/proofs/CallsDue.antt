@@ -10,14 +10,13 @@ use Rattle.cf_tree.specs.declared.request.Request.TheVariants as request
 use Rattle.cf_schema.specs.declared.described.Schema.{Schema}
 use Rattle.cf_handler.specs.Move.{IsOfLane}
 use Rattle.cf_stacks.specs.declared.held.Pending.{Pending}
-use Rattle.cf_stacks.specs.declared.state.StackState.{StackState}
-use Rattle.cf_stacks.specs.declared.state.World.{World}
+use Rattle.cf_stacks.specs.World.{StackState, World}
 use Rattle.cf_stacks.specs.Status.{Stage, Forward}
 use Rattle.cf_plan.specs.declared.next.Next.{Next}
 use Rattle.cf_plan.specs.declared.next.Next.TheVariants as next
 use Rattle.cf_plan.specs.declared.stepping.Start.{Start}
 use Rattle.cf_plan.specs.Forward.{In}
-use Rattle.cf_plan.specs.Follow.{FitsLane, IntendsIn, MayIntend, is_free, is_lane_of, is_lane_out, may_repeat, waits_for_repeats}
+use Rattle.cf_plan.specs.Follow.{FitsLane, IntendsIn, MayIntend, is_free, is_lane_of, is_lane_leased, may_repeat, waits_for_repeats}
 use Rattle.cf_plan.specs.Chosen.{first_home}
 use Rattle.cf_plan.specs.Taking.{is_home_of, is_of_lane}
 use Rattle.cf_plan.specs.Due.{IsCallDueIn, IsDueIn, with_call, with_call_on, with_calls_on, with_repeat, with_repeats, with_start, with_starts}
@@ -63,7 +62,7 @@ found_some f test (x ∷ xs) e = by (found_some f test xs) (test x) e
 
 module _ (x : World) (out : List ℕ) where
   abbrev is_home_for : List ℕ → List ℕ × List ℕ → Bool
-  is_home_for k l = bytes_eq k l.1 && not (is_lane_out out x l.0)
+  is_home_for k l = bytes_eq k l.1 && not (is_lane_leased out x l.0)
 
   abbrev pub CallOn : List ℕ → Request → List ℕ → List ℕ × List ℕ → Next → Type 0
   CallOn path r id l n = (is_home_of out x id l ≡ true) × (n ≡ next.Step path l.0 (x.token + 1) r false)
@@ -99,53 +98,53 @@ module _ (x : World) (out : List ℕ) where
 
   -- A lane at home that fits.
   home_fits : (id : List ℕ) (l : List ℕ × List ℕ) → In l x.lanes → is_home_of out x id l ≡ true
-      → (IsOfLane l.0 id × (list_any (λ m. bytes_eq l.0 m.0) x.lanes ≡ true)) × (is_lane_out out x l.0 ≡ false)
+      → (IsOfLane l.0 id × (list_any (λ m. bytes_eq l.0 m.0) x.lanes ≡ true)) × (is_lane_leased out x l.0 ≡ false)
   home_fits id l i home = (
     (
-      (of_lane_is l.0 id).0 (first_so (is_of_lane l.0 id) (not (is_lane_out out x l.0)) home),
+      (of_lane_is l.0 id).0 (first_so (is_of_lane l.0 id) (not (is_lane_leased out x l.0)) home),
       any_in (λ (m : List ℕ × List ℕ). bytes_eq l.0 m.0) l x.lanes i ((bytes_eq-Decides l.0 l.0).1 refl),
     ),
-    is_so (is_lane_out out x l.0) (second_so (is_of_lane l.0 id) (not (is_lane_out out x l.0)) home),
+    is_so (is_lane_leased out x l.0) (second_so (is_of_lane l.0 id) (not (is_lane_leased out x l.0)) home),
   )
 
-  fits_home : (id lane : List ℕ) → IsOfLane lane id → list_any (λ m. bytes_eq lane m.0) x.lanes ≡ true → is_lane_out out x lane ≡ false
+  fits_home : (id lane : List ℕ) → IsOfLane lane id → list_any (λ m. bytes_eq lane m.0) x.lanes ≡ true → is_lane_leased out x lane ≡ false
       → (l : List ℕ × List ℕ) × In l x.lanes × (is_home_of out x id l ≡ true) × (lane ≡ l.0)
   fits_home id lane of there_is home =
       let l = in_any (λ (m : List ℕ × List ℕ). bytes_eq lane m.0) x.lanes there_is in
       let same : lane ≡ l.0.0 = (bytes_eq-Decides lane l.0.0).0 l.2 in (
         l.0,
         l.1,
-        subst (λ (n : List ℕ). (is_of_lane n id && not (is_lane_out out x n)) ≡ true) same
-            (and_from (is_of_lane lane id) (not (is_lane_out out x lane)) ((of_lane_is lane id).1 of) (not_so (is_lane_out out x lane) home)),
+        subst (λ (n : List ℕ). (is_of_lane n id && not (is_lane_leased out x n)) ≡ true) same
+            (and_from (is_of_lane lane id) (not (is_lane_leased out x lane)) ((of_lane_is lane id).1 of) (not_so (is_lane_leased out x lane) home)),
         same,
       )
 
   made_fits : (k : List ℕ) → is_some (first_home k out x) ≡ true
-      → (lane : List ℕ) × (list_any (is_lane_of lane k) x.lanes ≡ true) × (is_lane_out out x lane ≡ false)
+      → (lane : List ℕ) × (list_any (is_lane_of lane k) x.lanes ≡ true) × (is_lane_leased out x lane ≡ false)
   made_fits k e =
       let l = in_any (is_home_for k) x.lanes (some_found (λ (m : List ℕ × List ℕ). m.0) (is_home_for k) x.lanes e) in (
         l.0.0,
         any_in (is_lane_of l.0.0 k) l.0 x.lanes l.1
             (and_from (bytes_eq l.0.0 l.0.0) (bytes_eq k l.0.1) ((bytes_eq-Decides l.0.0 l.0.0).1 refl)
-            (first_so (bytes_eq k l.0.1) (not (is_lane_out out x l.0.0)) l.2)),
-        is_so (is_lane_out out x l.0.0) (second_so (bytes_eq k l.0.1) (not (is_lane_out out x l.0.0)) l.2),
+            (first_so (bytes_eq k l.0.1) (not (is_lane_leased out x l.0.0)) l.2)),
+        is_so (is_lane_leased out x l.0.0) (second_so (bytes_eq k l.0.1) (not (is_lane_leased out x l.0.0)) l.2),
       )
 
-  fits_made : (k lane : List ℕ) → list_any (is_lane_of lane k) x.lanes ≡ true → is_lane_out out x lane ≡ false → is_some (first_home k out x) ≡ true
+  fits_made : (k lane : List ℕ) → list_any (is_lane_of lane k) x.lanes ≡ true → is_lane_leased out x lane ≡ false → is_some (first_home k out x) ≡ true
   fits_made k lane fits home =
       let l = in_any (is_lane_of lane k) x.lanes fits in
       let same : lane ≡ l.0.0 = (bytes_eq-Decides lane l.0.0).0 (first_so (bytes_eq lane l.0.0) (bytes_eq k l.0.1) l.2) in
       found_some (λ (m : List ℕ × List ℕ). m.0) (is_home_for k) x.lanes
       (any_in (is_home_for k) l.0 x.lanes l.1
-      (and_from (bytes_eq k l.0.1) (not (is_lane_out out x l.0.0)) (second_so (bytes_eq lane l.0.0) (bytes_eq k l.0.1) l.2)
-      (not_so (is_lane_out out x l.0.0) (subst (λ (m : List ℕ). is_lane_out out x m ≡ false) same home))))
+      (and_from (bytes_eq k l.0.1) (not (is_lane_leased out x l.0.0)) (second_so (bytes_eq lane l.0.0) (bytes_eq k l.0.1) l.2)
+      (not_so (is_lane_leased out x l.0.0) (subst (λ (m : List ℕ). is_lane_leased out x m ≡ false) same home))))
 
   module _ (schemas : List Schema) (name : List ℕ) (s : StackState) (stage : Stage) where
     -- what is asked of a new call besides its lane and token
     abbrev pub Wanted : List ℕ → Request → Type 0
     Wanted path r = IntendsIn stage schemas name x s path r × (is_free path s ≡ true) × (waits_for_repeats stage out s ≡ false)
 
-    intent : (path lane : List ℕ) (r : Request) → Wanted path r → FitsLane x lane r → is_lane_out out x lane ≡ false
+    intent : (path lane : List ℕ) (r : Request) → Wanted path r → FitsLane x lane r → is_lane_leased out x lane ≡ false
         → MayIntend schemas name x out s stage (x.token + 1) lane path r
     intent path lane r w fits home = record { next = refl; free = w.1; home = home; fits = fits; no_repeat = w.2; chosen = w.0 }
 

@@ -19,16 +19,15 @@ use Rattle.cf_desired.specs.declared.wanted.Plan.{Plan}
 use Rattle.cf_desired.specs.declared.wanted.Wanted.{Wanted}
 use Rattle.cf_desired.specs.Whole.{wanted_at, known_props_from}
 use Rattle.cf_schema.specs.declared.described.Schema.{Schema}
-use Rattle.cf_stacks.specs.declared.state.StackState.{StackState}
-use Rattle.cf_stacks.specs.declared.state.World.{World}
+use Rattle.cf_stacks.specs.World.{StackState, World}
 use Rattle.cf_plan.specs.declared.cause.Failure.{Failure}
 use Rattle.cf_plan.specs.declared.cause.Failure.TheVariants.{Nothing}
 use Rattle.cf_plan.specs.Between.{needs_at}
-use Rattle.cf_plan.specs.Forward.{In, here, there, Finding, Bad, Later, Known, finding, known_or_later, AllDone, HasFailed, IsBadAt, IsBadOutput, IsBadPath, IsCause, IsLostExport, first_failing, is_lost, path_of_token, plan_before, plan_now}
-use Rattle.cf_plan.specs.Done.{AreDone, are_met, needs_by}
+use Rattle.cf_plan.specs.Forward.{In, here, there, Finding, Bad, Later, finding, known_or_later, AllDone, HasFailed, IsBadAt, IsBadOutput, IsBadPath, IsCause, IsLostExport, first_failing, is_lost, path_of_token, plan_now}
+use Rattle.cf_plan.specs.Done.{AreDone, HasTerms, are_met, needs_by}
 use Rattle.cf_plan.specs.Failed.{are_all_done, flaw_by, flaw_found, flaw_in, flaws_found, inner_found, least}
-use Rattle.cf_plan.specs.Causes.{TellsFailure, end_failure, failure_of_call, of_export, or_call, or_flaw, or_path, plan_failure}
-use Rattle.cf_plan.proofs.Doing.{all_met, met_all, needs_are}
+use Rattle.cf_plan.specs.Causes.{IsFailureOf, end_failure, failure_of_call, of_export, or_call, or_flaw, or_path, plan_failure}
+use Rattle.cf_plan.proofs.Doing.{all_met, met_all}
 use Rattle.cf_plan.proofs.Least.{least_in, least_low, least_none}
 use Rattle.cf_plan.proofs.Listed.{in_cons, in_map, in_none}
 
@@ -130,17 +129,17 @@ pub are_all : (ws : List Wanted) (done : List (List ℕ)) → ((p : List ℕ) �
 are_all [] done h = refl
 are_all (w ∷ ws) done h = and_from (is_among w.path done) (list_all (λ v. is_among v.path done) ws) (h w.path here) (are_all ws done (λ p i. h p (there i)))
 
-module _ (schemas : List Schema) (name : List ℕ) (x : World) (s : StackState) (done : List (List ℕ)) (are : AreDone s done) where
+module _ (schemas : List Schema) (name : List ℕ) (x : World) (s : StackState) (done : List (List ℕ)) (are : AreDone s done) (terms : Plan) (terms_are : HasTerms s terms) where
   abbrev flaws : List (List ℕ × Flaw)
-  flaws = flaws_found (plan_before s) (plan_now s) done
+  flaws = flaws_found terms (plan_now s) done
 
   to_bad : (a : List ℕ × Flaw) → In a flaws → IsBadPath s a.0 a.1
-  to_bad a i = elim (in_either a (filter_map (flaw_found (plan_before s) (plan_now s) done) (plan_before s).wanted) (filter_map (inner_found done) (plan_now s).nested) i) [
+  to_bad a i = elim (in_either a (filter_map (flaw_found terms (plan_now s) done) terms.wanted) (filter_map (inner_found done) (plan_now s).nested) i) [
     | inl j ↦ (
-        let (w, at, e) = in_mapped (flaw_found (plan_before s) (plan_now s) done) a (plan_before s).wanted j in
-        let (met, same, flaw) = test_found (are_met w.path (plan_before s) done) w.path (flaw_by w.path (plan_now s)) a e in
-        let wanted = in_map (λ (v : Wanted). v.path) w (plan_before s).wanted at in
-        let ready = λ (q : List ℕ) (m : In q (needs_at w.path s)). (are q).1 (all_met (needs_by w.path (plan_before s)) done met q (subst (In q) (sym (needs_are s w.path)) m)) in
+        let (w, at, e) = in_mapped (flaw_found terms (plan_now s) done) a terms.wanted j in
+        let (met, same, flaw) = test_found (are_met w.path terms done) w.path (flaw_by w.path (plan_now s)) a e in
+        let wanted = subst (In w.path) terms_are.paths (in_map (λ (v : Wanted). v.path) w terms.wanted at) in
+        let ready = λ (q : List ℕ) (m : In q (needs_at w.path s)). (are q).1 (all_met (needs_by w.path terms) done met q (subst (In q) (sym (terms_are.needs w.path)) m)) in
         let bad = (flaw_of (wanted_at w.path (plan_now s)) a.1).0 flaw in
         inl (subst (λ p. IsBadAt s p a.1) same ((wanted, ready), bad)))
     | inr j ↦ (
@@ -151,26 +150,26 @@ module _ (schemas : List Schema) (name : List ℕ) (x : World) (s : StackState) 
 
   from_bad : (p : List ℕ) (f : Flaw) → IsBadPath s p f → In (p, f) flaws
   from_bad p f (inl ((wanted, ready), bad)) =
-      let (w, at, same) = map_in (λ (v : Wanted). v.path) p (plan_before s).wanted wanted in
-      let met = subst (λ ns. list_all (λ m. is_among m done) ns ≡ true) (sym (needs_are s p)) (met_all (needs_at p s) done (λ q m. (are q).0 (ready q m))) in
+      let (w, at, same) = map_in (λ (v : Wanted). v.path) p terms.wanted (subst (In p) (sym terms_are.paths) wanted) in
+      let met = subst (λ ns. list_all (λ m. is_among m done) ns ≡ true) (sym (terms_are.needs p)) (met_all (needs_at p s) done (λ q m. (are q).0 (ready q m))) in
       let flaw = (flaw_of (wanted_at p (plan_now s)) f).1 bad in
-      let here_found : flaw_found (plan_before s) (plan_now s) done w ≡ Some (p, f) =
-      subst (λ q. where_met (are_met q (plan_before s) done) q (flaw_by q (plan_now s)) ≡ Some (p, f)) (sym same)
-      (found_test (are_met p (plan_before s) done) p (flaw_by p (plan_now s)) f met flaw) in
-      in_left (p, f) (filter_map (flaw_found (plan_before s) (plan_now s) done) (plan_before s).wanted) (filter_map (inner_found done) (plan_now s).nested)
-      (mapped_in (flaw_found (plan_before s) (plan_now s) done) (p, f) w (plan_before s).wanted at here_found)
+      let here_found : flaw_found terms (plan_now s) done w ≡ Some (p, f) =
+      subst (λ q. where_met (are_met q terms done) q (flaw_by q (plan_now s)) ≡ Some (p, f)) (sym same)
+      (found_test (are_met p terms done) p (flaw_by p (plan_now s)) f met flaw) in
+      in_left (p, f) (filter_map (flaw_found terms (plan_now s) done) terms.wanted) (filter_map (inner_found done) (plan_now s).nested)
+      (mapped_in (flaw_found terms (plan_now s) done) (p, f) w terms.wanted at here_found)
   from_bad p f (inr (n, at, same, ready, flaw)) =
       let met = met_all n.needs done (λ q m. (are q).0 (ready q m)) in
       let here_found : inner_found done n ≡ Some (p, f) =
       found_test (list_all (λ m. is_among m done) n.needs) n.path n.fault f met flaw ∙ ap (λ q. Some (q, f)) same in
-      in_right (p, f) (filter_map (flaw_found (plan_before s) (plan_now s) done) (plan_before s).wanted) (filter_map (inner_found done) (plan_now s).nested)
+      in_right (p, f) (filter_map (flaw_found terms (plan_now s) done) terms.wanted) (filter_map (inner_found done) (plan_now s).nested)
       (mapped_in (inner_found done) (p, f) n (plan_now s).nested at here_found)
 
-  to_all : are_all_done (plan_before s) done ≡ true → AllDone s
-  to_all e p i = (are p).1 (all_are (plan_before s).wanted done e p i)
+  to_all : are_all_done terms done ≡ true → AllDone s
+  to_all e p i = (are p).1 (all_are terms.wanted done e p (subst (In p) (sym terms_are.paths) i))
 
-  from_all : AllDone s → are_all_done (plan_before s) done ≡ true
-  from_all h = are_all (plan_before s).wanted done (λ p i. (are p).0 (h p i))
+  from_all : AllDone s → are_all_done terms done ≡ true
+  from_all h = are_all terms.wanted done (λ p i. (are p).0 (h p (subst (In p) terms_are.paths i)))
 
   abbrev NoBad : Type 0
   NoBad = (q : List ℕ) (other : Flaw) → IsBadPath s q other → ⊥
@@ -184,7 +183,7 @@ module _ (schemas : List Schema) (name : List ℕ) (x : World) (s : StackState) 
   not_failed f n o l (inr (inr (inr (export, b)))) = l export b
 
   -- where nothing failed and no path is at fault, only what comes behind all paths can fail
-  by_export : (o : Option Export) → find (is_lost name x (plan_now s)) x.exports ≡ o → first_failing schemas s ≡ None → NoBad → AllDone s → first_in (plan_now s).flaws ≡ None → TellsFailure schemas name x s (of_export o)
+  by_export : (o : Option Export) → find (is_lost name x (plan_now s)) x.exports ≡ o → first_failing schemas s ≡ None → NoBad → AllDone s → first_in (plan_now s).flaws ≡ None → IsFailureOf schemas name x s (of_export o)
   by_export (Some e) k f n d g =
       let lost : IsLostExport name x s e.name = (d, ap (option_map (λ c. c.name)) (first_found (is_lost name x (plan_now s)) x.exports ∙ k)) in
       (inr (inr (inr (e.name, lost))), (f, n, (λ other b. none-some other (sym g ∙ b.1)), lost))
@@ -192,21 +191,21 @@ module _ (schemas : List Schema) (name : List ℕ) (x : World) (s : StackState) 
       not_failed f n (λ fault b. none-some fault (sym g ∙ b.1))
       (λ export l. none-some export (ap (option_map (λ (c : Export). c.name)) (sym (first_found (is_lost name x (plan_now s)) x.exports ∙ k)) ∙ l.1))
 
-  by_flaw : (o : Option Flaw) → first_in (plan_now s).flaws ≡ o → first_failing schemas s ≡ None → NoBad → AllDone s → TellsFailure schemas name x s (or_flaw o (of_export (find (is_lost name x (plan_now s)) x.exports)))
+  by_flaw : (o : Option Flaw) → first_in (plan_now s).flaws ≡ o → first_failing schemas s ≡ None → NoBad → AllDone s → IsFailureOf schemas name x s (or_flaw o (of_export (find (is_lost name x (plan_now s)) x.exports)))
   by_flaw (Some fault) k f n d = (inr (inr (inl (fault, (d, k)))), (fault, refl, f, inr ((d, k), n)))
   by_flaw None k f n d = by_export (find (is_lost name x (plan_now s)) x.exports) refl f n d k
 
-  by_all : (b : Bool) → are_all_done (plan_before s) done ≡ b → first_failing schemas s ≡ None → NoBad → TellsFailure schemas name x s (if b then end_failure name x (plan_now s) else Nothing)
+  by_all : (b : Bool) → are_all_done terms done ≡ b → first_failing schemas s ≡ None → NoBad → IsFailureOf schemas name x s (if b then end_failure name x (plan_now s) else Nothing)
   by_all true k f n = by_flaw (first_in (plan_now s).flaws) refl f n (to_all k)
   by_all false k f n = not_failed f n (λ fault b. true≢false (sym (from_all b.0) ∙ k)) (λ export l. true≢false (sym (from_all l.0) ∙ k))
 
-  by_path : (o : Option (List ℕ × Flaw)) → least flaws ≡ o → first_failing schemas s ≡ None → TellsFailure schemas name x s (or_path o (if are_all_done (plan_before s) done then end_failure name x (plan_now s) else Nothing))
+  by_path : (o : Option (List ℕ × Flaw)) → least flaws ≡ o → first_failing schemas s ≡ None → IsFailureOf schemas name x s (or_path o (if are_all_done terms done then end_failure name x (plan_now s) else Nothing))
   by_path (Some a) k f =
       let bad = to_bad a (least_in flaws a k) in
       (inr (inl (a.0, a.1, bad)), (a.1, refl, f, inl (a.0, bad, λ q other b. least_low flaws a k (q, other) (from_bad q other b))))
-  by_path None k f = by_all (are_all_done (plan_before s) done) refl f (λ q other b. least_none flaws k (q, other) (from_bad q other b))
+  by_path None k f = by_all (are_all_done terms done) refl f (λ q other b. least_none flaws k (q, other) (from_bad q other b))
 
-  by_call : (a : ℕ × Reason) (o : Option (List ℕ)) → first_failing schemas s ≡ Some a → path_of_token a.0 s ≡ o → TellsFailure schemas name x s (failure_of_call o a.1)
+  by_call : (a : ℕ × Reason) (o : Option (List ℕ)) → first_failing schemas s ≡ Some a → path_of_token a.0 s ≡ o → IsFailureOf schemas name x s (failure_of_call o a.1)
   by_call a (Some path) f k = (inl (a, f), (a.0, f, k))
   by_call a None f k = (inl (a, f), none_told)
     where
@@ -215,17 +214,16 @@ module _ (schemas : List Schema) (name : List ℕ) (x : World) (s : StackState) 
       none_told (cause.Plan text) (fault, e, g, h) = none-some a (sym g ∙ f)
       none_told (cause.Export export) (g, h, i, j) = none-some a (sym g ∙ f)
 
-  pub tells : (o : Option (ℕ × Reason)) → first_failing schemas s ≡ o → TellsFailure schemas name x s (or_call o s (plan_failure name x (plan_before s) (plan_now s) done))
+  pub tells : (o : Option (ℕ × Reason)) → first_failing schemas s ≡ o → IsFailureOf schemas name x s (or_call o s (plan_failure name x terms (plan_now s) done))
   tells (Some a) f = by_call a (path_of_token a.0 s) f refl
   tells None f = by_path (least flaws) refl f
 
 pub tells_by :
-    (schemas : List Schema) (name : List ℕ) (x : World) (s : StackState) (before now : Plan) (done : List (List ℕ)) → before ≡ plan_before s →
+    (schemas : List Schema) (name : List ℕ) (x : World) (s : StackState) (terms now : Plan) (done : List (List ℕ)) → HasTerms s terms →
     now ≡ plan_now s → AreDone s done → (o : Option (ℕ × Reason)) → first_failing schemas s ≡ o →
-    TellsFailure schemas name x s (or_call o s (plan_failure name x before now done))
-tells_by schemas name x s before now done e f are o g =
-    subst (λ b. TellsFailure schemas name x s (or_call o s (plan_failure name x b now done))) (sym e)
-    (subst (λ n. TellsFailure schemas name x s (or_call o s (plan_failure name x (plan_before s) n done))) (sym f) (tells schemas name x s done are o g))
+    IsFailureOf schemas name x s (or_call o s (plan_failure name x terms now done))
+tells_by schemas name x s terms now done terms_are f are o g =
+    subst (λ n. IsFailureOf schemas name x s (or_call o s (plan_failure name x terms n done))) (sym f) (tells schemas name x s done are terms terms_are o g)
 
 pub told : (r : Result Failure AllocError) (v : Failure) (P : Failure → Type 0) → IfOk r (λ f. f ≡ v) → P v → IfOk r P
 told (Ok f) v P e p = subst P (sym e) p
@@ -233,7 +231,8 @@ told (Err a) v P e p = tt
 
 -- all wanted paths are among those that are done just where all are done
 pub all_done_is :
-    (s : StackState) (before : Plan) (done : List (List ℕ)) → before ≡ plan_before s → AreDone s done → IsTrue (are_all_done before done) ↔ AllDone s
-all_done_is s before done e are =
-    subst (λ b. IsTrue (are_all_done b done) ↔ AllDone s) (sym e)
-    ((λ t p i. (are p).1 (all_are (plan_before s).wanted done t p i)), λ h. are_all (plan_before s).wanted done (λ p i. (are p).0 (h p i)))
+    (s : StackState) (terms : Plan) (done : List (List ℕ)) → HasTerms s terms → AreDone s done → IsTrue (are_all_done terms done) ↔ AllDone s
+all_done_is s terms done terms_are are = (
+  λ t p i. (are p).1 (all_are terms.wanted done t p (subst (In p) (sym terms_are.paths) i)),
+  λ h. are_all terms.wanted done (λ p i. (are p).0 (h p (subst (In p) terms_are.paths i))),
+)

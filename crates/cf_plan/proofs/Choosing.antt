@@ -18,15 +18,14 @@ use Rattle.cf_entry.specs.declared.turn.Cause.{Cause}
 use Rattle.cf_change.specs.Changes.{is_empty}
 use Rattle.cf_stacks.specs.declared.held.Held.{Held}
 use Rattle.cf_stacks.specs.declared.held.Pending.{Pending}
-use Rattle.cf_stacks.specs.declared.state.StackState.{StackState}
-use Rattle.cf_stacks.specs.declared.state.World.{World}
+use Rattle.cf_stacks.specs.World.{StackState, World}
 use Rattle.cf_stacks.specs.Status.{Forward, Back, Gone, stage_of}
 use Rattle.cf_plan.specs.Forward.{In}
-use Rattle.cf_plan.specs.Follow.{is_not_needed, is_untried, is_free, may_repeat, is_repeat_out, waits_for_repeats, is_lane_out, MayIntend, MayKeep, MayTurn, IntendsDeletion, IntendsRestore}
+use Rattle.cf_plan.specs.Follow.{is_not_needed, is_untried, is_free, may_repeat, is_repeat_in_flight, waits_for_repeats, is_lane_leased, MayIntend, MayKeep, MayTurn, IntendsDeletion, IntendsRestore}
 use Rattle.cf_plan.specs.declared.next.Next.{Next}
 use Rattle.cf_plan.specs.declared.next.Next.TheVariants as next
-use Rattle.cf_plan.specs.Chosen.{MayStart, MayCallAgain, Place, place_of, is_sooner, is_placed_before}
-use Rattle.cf_plan.specs.Taking.{is_of_lane, is_home_of, is_repeat_home, can_go, may_go, is_token_before, is_held_before}
+use Rattle.cf_plan.specs.Chosen.{MayStart, MayCallAgain, Place, place_of, precedes, is_placed_before}
+use Rattle.cf_plan.specs.Taking.{is_of_lane, is_home_of, is_repeat_home, can_roll_back, may_roll_back, is_token_before, is_held_before}
 use Rattle.cf_plan.proofs.Members.{not_both, any_in, in_any, in_none}
 use Rattle.cf_plan.proofs.Firsts.{IsFirstOf}
 use Rattle.cf_plan.proofs.OfLane.{of_lane_is}
@@ -52,29 +51,29 @@ emptied (a ∷ as') e = absurd (true≢false (sym e))
 
 module _ (schemas : List Schema) (name : List ℕ) (x : World) (out : List ℕ) (s : StackState) where
   -- a resource that may go, by what tells it
-  go_by : (r : Held) → is_not_needed s r ≡ true → is_untried s r ≡ true → is_free r.path s ≡ true → can_go out x r ≡ true → may_go out x s r ≡ true
+  go_by : (r : Held) → is_not_needed s r ≡ true → is_untried s r ≡ true → is_free r.path s ≡ true → can_roll_back out x r ≡ true → may_roll_back out x s r ≡ true
   go_by r a b c d = and_from (is_not_needed s r) _ a (and_from (is_untried s r) _ b (and_from (is_free r.path s) _ c d))
 
   -- a lane of the opening that fits and is at home
-  pub home_by : (id lane : List ℕ) → IsOfLane lane id → list_any (λ l. bytes_eq lane l.0) x.lanes ≡ true → is_lane_out out x lane ≡ false
+  pub home_by : (id lane : List ℕ) → IsOfLane lane id → list_any (λ l. bytes_eq lane l.0) x.lanes ≡ true → is_lane_leased out x lane ≡ false
       → list_any (is_home_of out x id) x.lanes ≡ true
   home_by id lane of there_is home =
       let l = in_any (λ (m : List ℕ × List ℕ). bytes_eq lane m.0) x.lanes there_is in
       let same : lane ≡ l.0.0 = (bytes_eq-Decides lane l.0.0).0 l.2 in
       any_in (is_home_of out x id) l.0 x.lanes l.1
-      (subst (λ (n : List ℕ). (is_of_lane n id && not (is_lane_out out x n)) ≡ true) same
-      (and_from (is_of_lane lane id) _ ((of_lane_is lane id).1 of) (not_so (is_lane_out out x lane) home)))
+      (subst (λ (n : List ℕ). (is_of_lane n id && not (is_lane_leased out x n)) ≡ true) same
+      (and_from (is_of_lane lane id) _ ((of_lane_is lane id).1 of) (not_so (is_lane_leased out x lane) home)))
 
   -- a made resource that may go, at this path and of this id
   abbrev pub Goes : List ℕ → List ℕ → Type 0
-  Goes path id = (r : Held) × In r s.made × (may_go out x s r ≡ true) × (path ≡ r.path) × (id ≡ r.physical)
+  Goes path id = (r : Held) × In r s.made × (may_roll_back out x s r ≡ true) × (path ≡ r.path) × (id ≡ r.physical)
 
   abbrev Waits : Type 0
   Waits = waits_for_repeats Back out s ≡ true
 
   -- an open token whose call may be made again makes the rollback wait
   pub waits_by : (p : Pending) → In p s.tokens → may_repeat Back out s p ≡ true → Waits
-  waits_by p i t = by (is_repeat_out out s) (any_in (may_repeat Back out s) p s.tokens i t)
+  waits_by p i t = by (is_repeat_in_flight out s) (any_in (may_repeat Back out s) p s.tokens i t)
     where
       by : (b : Bool) → list_any (may_repeat Back out s) s.tokens ≡ true → (b || list_any (may_repeat Back out s) s.tokens) ≡ true
       by true e = refl
@@ -99,7 +98,7 @@ module _ (schemas : List Schema) (name : List ℕ) (x : World) (out : List ℕ) 
         by (inr e) = absurd e
         by (inl (r, (status_is, i, not_needed, untried), not_kept, at_path, of_id)) =
             let home = home_by id lane w.fits.0 w.fits.1 w.home in
-            let can : can_go out x r ≡ true = rw not_kept (subst (λ (k : List ℕ). list_any (is_home_of out x k) x.lanes ≡ true) of_id home) in
+            let can : can_roll_back out x r ≡ true = rw not_kept (subst (λ (k : List ℕ). list_any (is_home_of out x k) x.lanes ≡ true) of_id home) in
             let free : is_free r.path s ≡ true = subst (λ (k : List ℕ). is_free k s ≡ true) at_path w.free in
             (id, refl, (r, i, go_by r not_needed untried free can, at_path, of_id))
 
@@ -142,15 +141,15 @@ module _ (schemas : List Schema) (name : List ℕ) (x : World) (out : List ℕ) 
   pub repeat_passes : (path lane : List ℕ) (token : ℕ) (r : Request) (w : MayCallAgain schemas name x out s Back path lane token r)
       → is_repeat_home out x s (record { token = token; path = path; lane = lane; request = r }) ≡ true
   repeat_passes path lane token r w =
-      and_from (may_repeat Back out s (record { token = token; path = path; lane = lane; request = r })) _ w.repeats.1 (not_so (is_lane_out out x lane) w.home)
+      and_from (may_repeat Back out s (record { token = token; path = path; lane = lane; request = r })) _ w.repeats.1 (not_so (is_lane_leased out x lane) w.home)
 
   -- the first repeat
   pub repeat_first : (p : Pending) → IsFirstOf is_token_before (is_repeat_home out x s) s.tokens (Some p)
       → (m : Next) → Starts m → is_placed_before (place_of m) (place_of (next.Step p.path p.lane p.token p.request true)) ≡ false
   repeat_first p f (next.Step path lane token r true) w =
-      let not_sooner : nat_lt token p.token ≡ false =
+      let not_before : nat_lt token p.token ≡ false =
       f.2 (record { token = token; path = path; lane = lane; request = r }) w.repeats.0 (repeat_passes path lane token r w) in
-      rw not_sooner (and_no (token == p.token) false refl)
+      rw not_before (and_no (token == p.token) false refl)
   repeat_first p f (next.Step path lane token r false) w = refl
   repeat_first p f (next.Keep path id why) w = refl
   repeat_first p f (next.Turn phase cause) w = refl
@@ -167,13 +166,13 @@ module _ (schemas : List Schema) (name : List ℕ) (x : World) (out : List ℕ) 
   abbrev place_at : List ℕ → List ℕ → Place
   place_at path id = record { rank = 1; token = 0; path = path; physical = id }
 
-  going_later : (r : Held) → IsFirstOf is_held_before (may_go out x s) s.made (Some r) → (path id : List ℕ) → Goes schemas name x out s path id
-      → is_sooner (path, id) (r.path, r.physical) ≡ false
+  going_later : (r : Held) → IsFirstOf is_held_before (may_roll_back out x s) s.made (Some r) → (path id : List ℕ) → Goes schemas name x out s path id
+      → precedes (path, id) (r.path, r.physical) ≡ false
   going_later r f path id (q, i, may, at_path, of_id) =
       rw at_path (rw of_id (f.2 q i may))
 
   -- the first resource that goes
-  pub go_first : (r : Held) → waits_for_repeats Back out s ≡ false → IsFirstOf is_held_before (may_go out x s) s.made (Some r)
+  pub go_first : (r : Held) → waits_for_repeats Back out s ≡ false → IsFirstOf is_held_before (may_roll_back out x s) s.made (Some r)
       → (m : Next) → Starts m → is_placed_before (place_of m) (place_at r.path r.physical) ≡ false
   go_first r idle f (next.Step path lane token q true) w = absurd (no_repeat idle path lane token q w)
   go_first r idle f (next.Step path lane token q false) w =
@@ -188,12 +187,12 @@ module _ (schemas : List Schema) (name : List ℕ) (x : World) (out : List ℕ) 
   go_first r idle f next.Wait w = refl
 
   -- where nothing goes, nothing is deleted or kept
-  pub none_goes : IsFirstOf is_held_before (may_go out x s) s.made None → (path id : List ℕ) → Goes schemas name x out s path id → ⊥
-  none_goes f path id (q, i, may, at_path, of_id) = not_both (may_go out x s q) may (f q i)
+  pub none_goes : IsFirstOf is_held_before (may_roll_back out x s) s.made None → (path id : List ℕ) → Goes schemas name x out s path id → ⊥
+  none_goes f path id (q, i, may, at_path, of_id) = not_both (may_roll_back out x s q) may (f q i)
 
   -- the end, where nothing goes
   pub end_first : (state : Status) (failed : List (List ℕ)) → waits_for_repeats Back out s ≡ false
-      → IsFirstOf is_held_before (may_go out x s) s.made None
+      → IsFirstOf is_held_before (may_roll_back out x s) s.made None
       → (m : Next) → Starts m → is_placed_before (place_of m) (place_of (next.End state failed)) ≡ false
   end_first state failed idle f (next.Step path lane token q true) w = absurd (no_repeat idle path lane token q w)
   end_first state failed idle f (next.Step path lane token q false) w =

@@ -18,12 +18,12 @@ use Rattle.cf_desired.specs.Seeing.{Seen}
 use Rattle.cf_desired.specs.Whole.{Right, Whole, is_wanted_at, wanted_at, whole_of}
 use Rattle.cf_stacks.specs.declared.held.Held.{Held}
 use Rattle.cf_stacks.specs.declared.held.Pending.{Pending}
-use Rattle.cf_stacks.specs.declared.state.StackState.{StackState}
+use Rattle.cf_stacks.specs.World.{StackState, World}
 use Rattle.cf_stacks.specs.Words.{current_at, is_current_at}
+use Rattle.cf_stacks.specs.Begin.{put_seen, seen_in}
+use Rattle.cf_stacks.specs.End.{seen_now, is_physical_of, is_right_at, as_wanted, settled_in, completing, whole_over, empty_whole, ended_effect}
 use Rattle.cf_schema.specs.declared.described.Schema.{Schema}
-use Rattle.cf_stacks.specs.declared.state.World.{World}
 use Rattle.cf_plan.specs.Follow.{EndsAs}
-use Rattle.cf_stacks.specs.Fold.{put_seen, seen_in, seen_now, is_physical_of, is_right_at, as_wanted, settled_in, completing, ended, whole_over, empty_whole}
 use Rattle.cf_plan.specs.Forward.{In, here, there, plan_now, AllDone}
 use Rattle.cf_plan.specs.Ends.{right_at}
 use Rattle.cf_plan.specs.Created.{IsCreating, IsRightCreate, IsSaid, IsMadeOf, IsHeldAs, IsWholeHeld, CreateEndsWhole}
@@ -204,13 +204,16 @@ module _ (source : Source) (s : StackState) (h : IsRightCreate source s) (whole 
   held_shown = all_shown settle s.made shows
 
 -- how a create ends, where no call is open
+abbrev pub ended : StackState → StackState
+ended s = (ended_effect status.CreateComplete s).stack
+
 pub ended_as :
     (source : Source) (s : StackState) → IsCreating source s → s.tokens ≡ [] → (whole : Whole) → whole_of source (seen_in (s.made ++ [])) ≡ Some whole
-    → ended status.CreateComplete s ≡ completing whole (record s { tokens = []; held = []; going = Some source; status = status.CreateComplete })
+    → ended s ≡ completing whole (record s { tokens = []; held = []; going = Some source; status = status.CreateComplete })
 ended_as source s c none whole e =
-    ap (λ ts. ended status.CreateComplete (record s { tokens = ts })) none
-    ∙ ap (λ hs. ended status.CreateComplete (record s { tokens = []; held = hs })) c.none_held
-    ∙ ap (λ g. ended status.CreateComplete (record s { tokens = []; held = []; going = g })) c.going
+    ap (λ ts. ended (record s { tokens = ts })) none
+    ∙ ap (λ hs. ended (record s { tokens = []; held = hs })) c.none_held
+    ∙ ap (λ g. ended (record s { tokens = []; held = []; going = g })) c.going
     ∙ ap (λ ms. completing (whole_over (Some source) (seen_in (ms ++ []))) (record s { tokens = []; held = []; going = Some source; status = status.CreateComplete; made = ms })) (map-id s.made)
     ∙ ap (λ o. completing (unwrap_or o empty_whole) (record s { tokens = []; held = []; going = Some source; status = status.CreateComplete })) e
 
@@ -218,7 +221,7 @@ ended_as source s c none whole e =
 pub ends_over :
     (schemas : List Schema) (name : List ℕ) (x : World) (source : Source) (s : StackState) → IsRightCreate source s
     → EndsAs schemas name x s status.CreateInProgress status.CreateComplete → (whole : Whole) × (whole_of source (seen_now s) ≡ Some whole)
-    × (whole_of source (seen_in (ended status.CreateComplete s).held) ≡ Some whole) × IsWholeHeld source whole (ended status.CreateComplete s)
+    × (whole_of source (seen_in (ended s).held) ≡ Some whole) × IsWholeHeld source whole (ended s)
 ends_over schemas name x source s h ends =
     let none = none_first (plan_now s).flaws (λ f e. ends.0 (inr (inr (inl (f, (ends.1, e)))))) in
     let w = created_whole source s h ends.1 none in

@@ -1,35 +1,44 @@
 -- A create that has not failed is done, or has a path that can be made next: the first that is not made, in the order of work.
-use Rattle.std.proofs.Common.{◌≡◌, ℕ, List, [], ◌∷◌, ◌++◌, Bool, true, false, ◌&&◌, ◌||◌, ◌⊎◌, inl, inr, Option, Some, None, refl, sym, ap, subst, ◌∙◌, true≢false, map, find, option_map}
+use Rattle.std.proofs.Common.{◌≡◌, ℕ, List, [], ◌∷◌, ◌++◌, Bool, true, false, ◌&&◌, ◌||◌, not, ◌⊎◌, inl, inr, Option, Some, None, refl, sym, ap, subst, ◌∙◌, true≢false, map, find, option_map}
 use Rattle.std.specs.Prelude.{cond, is_some}
 use Rattle.std.specs.List.{list_all}
 use Rattle.std.specs.Option.{option_and_then, option_map_or}
 use Rattle.std.specs.Str.{bytes_eq}
+use Rattle.std.specs.Cmp.{first_so, second_so}
 use Rattle.std.proofs.lemmas.Slice.Eq.{bytes_eq-Decides}
 use Rattle.std.proofs.lemmas.List.Folds.{list_any-append}
 use Rattle.cf_tree.specs.Datum.{Data}
 use Rattle.cf_tree.specs.declared.source.Source.{Source}
 use Rattle.cf_tree.specs.Lists.{is_among}
+use Rattle.cf_desired.specs.declared.flaw.Flaw.{Flaw}
 use Rattle.cf_desired.specs.declared.wanted.Evaluated.{Evaluated}
 use Rattle.cf_desired.specs.declared.wanted.Evaluated.TheVariants.{Flawed as flawed, Known as evaluated}
+use Rattle.cf_desired.specs.declared.wanted.Inner.{Inner}
+use Rattle.cf_desired.specs.declared.wanted.Plan.{Plan}
 use Rattle.cf_desired.specs.declared.wanted.Wanted.{Wanted}
+use Rattle.cf_desired.specs.Met.{bind_flaw_in}
+use Rattle.cf_desired.specs.NeededIsKnown.{is_bound}
+use Rattle.cf_desired.specs.Shape.{given_root, shape_of}
 use Rattle.cf_desired.specs.Seeing.{Seen}
 use Rattle.cf_desired.specs.Plan.{plan_of}
 use Rattle.cf_desired.specs.Whole.{is_wanted_at, wanted_at, known_props_from}
-use Rattle.cf_desired.specs.Stays.{other_flaws, is_shown, is_settled}
-use Rattle.cf_desired.proofs.Planned.{WantedFirst, needed_flat, terms_kept, wanted_first, without_props}
+use Rattle.cf_desired.specs.Stays.{is_shown, is_settled}
+use Rattle.cf_desired.proofs.Planned.{WantedFirst, wanted_first}
+use Rattle.cf_desired.proofs.Termed.{terms_by}
 use Rattle.cf_desired.proofs.Puts.{among_pass}
 use Rattle.cf_stacks.specs.declared.held.Held.{Held}
-use Rattle.cf_stacks.specs.declared.state.StackState.{StackState}
-use Rattle.cf_stacks.specs.declared.state.World.{World}
-use Rattle.cf_schema.specs.declared.described.Schema.{Schema}
+use Rattle.cf_stacks.specs.World.{StackState, World}
 use Rattle.cf_stacks.specs.Words.{current_at}
-use Rattle.cf_stacks.specs.Fold.{seen_in, terms_of, wanted_in}
+use Rattle.cf_stacks.specs.Begin.{seen_in}
+use Rattle.cf_stacks.specs.Reply.{terms_of, wanted_in}
+use Rattle.cf_schema.specs.declared.described.Schema.{Schema}
 use Rattle.cf_plan.specs.Between.{needs_at}
 use Rattle.cf_plan.specs.Forward.{In, here, there, Finding, Bad, Later, Known, finding, known_or_later, plan_in, plan_now, evaluated_at, IsDone, is_made, IsReady, AllDone, HasFailed}
 use Rattle.cf_plan.specs.Created.{IsRightCreate, IsNext, CreateGoesOn}
 use Rattle.cf_plan.proofs.CreatedSeen.{shown, shown_at}
 use Rattle.cf_plan.proofs.CreatedStays.{found_one, said_now, found_in}
 use Rattle.cf_plan.proofs.CreatedWhole.{made_at, in_map, plan_shown}
+use Rattle.cf_plan.proofs.OneShape.{needed_settled, root_bound, terms_same}
 
 in_among : (q : List ℕ) (qs : List (List ℕ)) → In q qs → is_among q qs ≡ true
 in_among q (k ∷ qs) here = ap (λ b. b || is_among q qs) ((bytes_eq-Decides q q).1 refl)
@@ -91,30 +100,25 @@ module _ (s : StackState) (all : List Wanted) where
           needs = λ q g. h.done q (among_pass (λ p. is_among p before) w.needs q h.first.0 g);
         })
 
--- terms are found alike
-term_with :
-    (b : Bool) (w : Wanted) (o p : Option Wanted) → option_map without_props o ≡ p → option_map without_props (cond b (Some w) o) ≡ cond b (Some (without_props w)) p
-term_with true w o p h = refl
-term_with false w o p h = h
-
-terms_at_path : (path : List ℕ) (ws : List Wanted) → option_map without_props (find (is_wanted_at path) ws) ≡ find (is_wanted_at path) (map without_props ws)
-terms_at_path path [] = refl
-terms_at_path path (w ∷ ws) = term_with (is_wanted_at path w) w (find (is_wanted_at path) ws) (find (is_wanted_at path) (map without_props ws)) (terms_at_path path ws)
-
 -- a path that is wanted with the same needs
 pub record IsAlso (w : Wanted) (o : Option Wanted) : Type 0 where
   pub other : Wanted
   pub there_too : o ≡ Some other
   pub same : other.needs ≡ w.needs
 
-also : (w : Wanted) (o : Option Wanted) → option_map without_props o ≡ Some (without_props w) → IsAlso w o
+also : (w : Wanted) (o : Option Wanted) → option_map terms_by o ≡ Some (terms_by w) → IsAlso w o
 also w None h = let no : ⊥ = cc in absurd no
 also w (Some v) h = record { other = v; there_too = refl; same = ap (λ o. option_map_or (λ x. x.needs) o v.needs) h }
 
 -- what passes, one by one
-pass_all : (test : List ℕ → Bool) (qs : List (List ℕ)) → ((q : List ℕ) → In q qs → test q ≡ true) → list_all test qs ≡ true
+pass_all : {A : Type 0} (test : A → Bool) (qs : List A) → ((q : A) → In q qs → test q ≡ true) → list_all test qs ≡ true
 pass_all test [] h = refl
 pass_all test (q ∷ qs) h = ap (λ b. b && list_all test qs) (h q here) ∙ pass_all test qs (λ p i. h p (there i))
+
+passes : {A : Type 0} (test : A → Bool) (qs : List A) (q : A) → list_all test qs ≡ true → In q qs → test q ≡ true
+passes test (p ∷ qs) q h here = first_so (test q) (list_all test qs) h
+passes test (p ∷ qs) q h (there i) = passes test qs q (second_so (test p) (list_all test qs) h) i
+passes test [] q h i = elim i [ ]
 
 -- properties that are known or at fault are not Later
 settled_known : (k : List ℕ) (v : Evaluated) → is_settled v ≡ true → finding k v ≡ Later → ⊥
@@ -136,33 +140,62 @@ module _ (source : Source) (s : StackState) (h : IsRightCreate source s) where
       let w = u.wanted in
       let one = found_one (is_wanted_at w.path) ordered w u.found in
       let needs : needs_at w.path s ≡ w.needs = ap (λ g. (terms_of (wanted_in g before w.path)).needs) h.0.going ∙ ap (λ o. (terms_of o).needs) u.found in (
-        subst (λ g. In w.path (map (λ x. x.path) (plan_in g before).wanted)) (sym h.0.going) (in_map (λ x. x.path) w ordered one.0),
+        subst (λ g. In w.path (map (λ x. x.path) (plan_in g before before).wanted)) (sym h.0.going) (in_map (λ x. x.path) w ordered one.0),
         λ q i. u.needs q (in_among q w.needs (subst (In q) needs i)),
       )
 
-  -- what it needs is seen, so that its properties are not Later
-  first_known : other_flaws (plan_now s) ≡ [] → (u : IsFirst s ordered) → evaluated_at u.wanted.path s ≡ Later → ⊥
-  first_known n u e =
-      let w = u.wanted in
-      let now : Seen = seen_in s.made in
-      let terms = terms_kept source h.0.flat before now in
-      let v : IsAlso w (wanted_at w.path (plan_of source now)) =
-      also w (wanted_at w.path (plan_of source now))
-      (terms_at_path w.path (plan_of source now).wanted ∙ ap (find (is_wanted_at w.path)) terms ∙ sym (terms_at_path w.path ordered) ∙ ap (option_map without_props) u.found) in
-      let seen : list_all (is_shown now) v.other.needs ≡ true =
-      ap (list_all (is_shown now)) v.same
-      ∙ pass_all (is_shown now) w.needs (λ q i.
-      let m = made_at source s h.0 q (u.needs q (in_among q w.needs i)) in
-      ap (λ o. is_some (option_and_then (λ x. x.physical) o) && is_some (option_and_then (λ x. x.attrs) o)) (shown_at q s.made ∙ ap (option_map shown) m.1)) in
-      let settled = needed_flat source h.0.flat now (subst (λ p. other_flaws p ≡ []) (plan_shown source s h.0) n) w.path v.other v.there_too seen in
-      settled_known v.other.kind v.other.props settled (ap found_in (sym v.there_too) ∙ sym (said_now source s h.0 w.path) ∙ e)
+  abbrev now : Seen
+  now = seen_in s.made
+
+  -- the parameters of the root are bound
+  abbrev IsRootBound : Type 0
+  IsRootBound = bind_flaw_in (given_root source) (shape_of source now) ≡ None
+
+  -- what is done is shown, and what is shown is done
+  done_shown : (q : List ℕ) → IsDone s q → is_shown now q ≡ true
+  done_shown q d =
+      let m = made_at source s h.0 q d in
+      ap (λ o. is_some (option_and_then (λ x. x.physical) o) && is_some (option_and_then (λ x. x.attrs) o)) (shown_at q s.made ∙ ap (option_map shown) m.1)
+
+  shown_done : (q : List ℕ) → is_shown now q ≡ true → IsDone s q
+  shown_done q e = by_made (current_at q s.made) refl where
+    by_made : (o : Option Held) → current_at q s.made ≡ o → IsDone s q
+    by_made (Some r) m = is_made r m
+    by_made None m =
+        absurd (true≢false (sym e ∙ ap (λ o. is_some (option_and_then (λ x. x.physical) o) && is_some (option_and_then (λ x. x.attrs) o)) (shown_at q s.made ∙ ap (option_map shown) m)))
+
+  module _ (schemas : List Schema) (name : List ℕ) (x : World) (good : HasFailed schemas name x s → ⊥) where
+    -- while it has not failed, the parameters of each nested stack are bound whose needs are done
+    one_bound : (i : Inner) → In i (plan_now s).nested → is_bound now i ≡ true
+    one_bound i j = by_shown (list_all (is_shown now) i.needs) refl where
+      by_fault : list_all (is_shown now) i.needs ≡ true → (o : Option Flaw) → i.fault ≡ o → not (is_some o) ≡ true
+      by_fault e None g = refl
+      by_fault e (Some f) g = absurd (good (inr (inl (i.path, f, inr (i, j, refl, (λ q k. shown_done q (passes (is_shown now) i.needs q e k)), g)))))
+
+      by_shown : (b : Bool) → list_all (is_shown now) i.needs ≡ b → (not b || not (is_some i.fault)) ≡ true
+      by_shown false e = refl
+      by_shown true e = by_fault e i.fault refl
+
+    all_bound : list_all (is_bound now) (plan_of source now).nested ≡ true
+    all_bound = subst (λ (p : Plan). list_all (is_bound now) p.nested ≡ true) (plan_shown source s h.0) (pass_all (is_bound now) (plan_now s).nested one_bound)
+
+    -- what it needs is seen, so that its properties are not Later
+    first_known : IsRootBound → (u : IsFirst s ordered) → evaluated_at u.wanted.path s ≡ Later → ⊥
+    first_known root u e =
+        let w = u.wanted in
+        let v : IsAlso w (wanted_at w.path (plan_of source now)) =
+        also w (wanted_at w.path (plan_of source now)) (terms_same source h.0.one_shape now before w.path ∙ ap (option_map terms_by) u.found) in
+        let seen : list_all (is_shown now) v.other.needs ≡ true =
+        ap (list_all (is_shown now)) v.same ∙ pass_all (is_shown now) w.needs (λ q i. done_shown q (u.needs q (in_among q w.needs i))) in
+        let settled = needed_settled source now root all_bound w.path v.other v.there_too seen in
+        settled_known v.other.kind v.other.props settled (ap found_in (sym v.there_too) ∙ sym (said_now source s h.0 w.path) ∙ e)
 
   goes_from :
-      (schemas : List Schema) (name : List ℕ) (x : World) → other_flaws (plan_now s) ≡ [] → (HasFailed schemas name x s → ⊥) → (u : IsFirst s ordered) → (f : Finding)
+      (schemas : List Schema) (name : List ℕ) (x : World) → IsRootBound → (HasFailed schemas name x s → ⊥) → (u : IsFirst s ordered) → (f : Finding)
       → evaluated_at u.wanted.path s ≡ f → (path : List ℕ) × IsNext s path
-  goes_from schemas name x n good u (Bad fault) e = absurd (good (inr (inl (u.wanted.path, fault, inl (first_ready u, e)))))
-  goes_from schemas name x n good u Later e = absurd (first_known n u e)
-  goes_from schemas name x n good u (Known k props) e = (
+  goes_from schemas name x root good u (Bad fault) e = absurd (good (inr (inl (u.wanted.path, fault, inl (first_ready u, e)))))
+  goes_from schemas name x root good u Later e = absurd (first_known schemas name x good root u e)
+  goes_from schemas name x root good u (Known k props) e = (
     u.wanted.path,
     record {
       ready = first_ready u;
@@ -173,9 +206,15 @@ module _ (source : Source) (s : StackState) (h : IsRightCreate source s) where
     },
   )
 
+  -- all is done, or a path can be made next, where the parameters of the root are bound
+  goes_bound :
+      (schemas : List Schema) (name : List ℕ) (x : World) → IsRootBound → (HasFailed schemas name x s → ⊥) → AllDone s ⊎ ((path : List ℕ) × IsNext s path)
+  goes_bound schemas name x root good =
+      by_walk (walk s ordered [] ordered (record { first = wanted_first source before; done = λ q g. absurd (true≢false (sym g)); left = λ p m. refl })) where
+        by_walk : ((p : List ℕ) → In p (map (λ w. w.path) ordered) → IsDone s p) ⊎ IsFirst s ordered → AllDone s ⊎ ((path : List ℕ) × IsNext s path)
+        by_walk (inl d) = inl (λ p i. d p (subst (λ g. In p (map (λ x. x.path) (plan_in g before before).wanted)) h.0.going i))
+        by_walk (inr u) = inr (goes_from schemas name x root good u (evaluated_at u.wanted.path s) refl)
+
 pub goes_on : CreateGoesOn
-goes_on schemas name x source s h n good =
-    by_walk (walk s (ordered source s h) [] (ordered source s h) (record { first = wanted_first source (seen_in s.before); done = λ q g. absurd (true≢false (sym g)); left = λ p m. refl })) where
-      by_walk : ((p : List ℕ) → In p (map (λ w. w.path) (plan_of source (seen_in s.before)).wanted) → IsDone s p) ⊎ IsFirst s (plan_of source (seen_in s.before)).wanted → AllDone s ⊎ ((path : List ℕ) × IsNext s path)
-      by_walk (inl d) = inl (λ p i. d p (subst (λ g. In p (map (λ x. x.path) (plan_in g (seen_in s.before)).wanted)) h.0.going i))
-      by_walk (inr u) = inr (goes_from source s h schemas name x n good u (evaluated_at u.wanted.path s) refl)
+goes_on schemas name x source s h none good =
+    goes_bound source s h schemas name x (ap (bind_flaw_in (given_root source)) (h.0.one_shape (now source s h)) ∙ root_bound source [] none) good

@@ -1,5 +1,5 @@
 -- What was made stays right when one more is made.
-use Rattle.std.proofs.Common.{◌≡◌, ℕ, List, [], ◌∷◌, ◌++◌, Bool, true, false, Option, Some, None, refl, sym, ap, subst, ◌∙◌, map, find, option_map}
+use Rattle.std.proofs.Common.{◌≡◌, ℕ, List, [], ◌∷◌, ◌++◌, Bool, true, false, Option, Some, None, refl, sym, ap, subst, ◌∙◌, find, option_map}
 use Rattle.std.specs.Prelude.{cond}
 use Rattle.std.specs.Option.{option_map_or, option_and_then}
 use Rattle.std.proofs.lemmas.List.{append-nil}
@@ -7,19 +7,21 @@ use Rattle.cf_tree.specs.Datum.{Data}
 use Rattle.cf_tree.specs.declared.source.Source.{Source}
 use Rattle.cf_eval.specs.Knows.{Keeps}
 use Rattle.cf_stacks.specs.declared.held.Held.{Held}
-use Rattle.cf_stacks.specs.declared.state.StackState.{StackState}
-use Rattle.cf_stacks.specs.Fold.{seen_in}
-use Rattle.cf_desired.specs.declared.wanted.Evaluated.TheVariants.{Flawed as flawed, Known as evaluated}
+use Rattle.cf_stacks.specs.World.{StackState}
+use Rattle.cf_stacks.specs.Begin.{seen_in}
 use Rattle.cf_desired.specs.declared.wanted.Wanted.{Wanted}
+use Rattle.cf_desired.specs.declared.wanted.Evaluated.TheVariants.{Flawed as flawed, Known as evaluated}
 use Rattle.cf_desired.specs.declared.wanted.Evaluated.{Evaluated}
 use Rattle.cf_desired.specs.Seeing.{Seen}
-use Rattle.cf_desired.specs.Plan.{plan_of}
-use Rattle.cf_desired.specs.Whole.{is_wanted_at, wanted_at, known_of, known_props_from}
-use Rattle.cf_desired.specs.Templates.{IsFlat}
+use Rattle.cf_desired.specs.declared.wanted.Plan.{Plan}
+use Rattle.cf_desired.specs.Plan.{plan_by, plan_of}
+use Rattle.cf_desired.specs.Shape.{shape_of}
+use Rattle.cf_desired.specs.Whole.{wanted_at, known_of, known_props_from}
 use Rattle.cf_desired.specs.Stays.{SeesMore, props_known}
-use Rattle.cf_desired.proofs.Planned.{known_flat, terms_kept, without_props}
+use Rattle.cf_desired.proofs.Termed.{terms_by}
 use Rattle.cf_plan.specs.Forward.{In, here, there, Finding, Later, Known, finding, known_or_later, plan_in, evaluated_at}
-use Rattle.cf_plan.specs.Created.{IsCreating}
+use Rattle.cf_plan.specs.Created.{HasOneShape, IsCreating}
+use Rattle.cf_plan.proofs.OneShape.{known_stays, plan_same, terms_same}
 
 -- what a plan says of a path
 abbrev pub found_in : Option Wanted → Finding
@@ -48,38 +50,31 @@ pub is_found : (k : List ℕ) (ps : List (List ℕ × Data)) (o : Option Wanted)
 is_found k ps None h = let no : ⊥ = cc in absurd no
 is_found k ps (Some w) h = let parts = known_from k w.kind ps w.props h in record { wanted = w; there = refl; kind = parts.0; props = parts.1 }
 
-kind_with :
-    (b : Bool) (w : Wanted) (o p : Option Wanted) → option_map (λ x. x.kind) o ≡ option_map (λ x. x.kind) p
-    → option_map (λ x. x.kind) (cond b (Some w) o) ≡ option_map (λ x. x.kind) (cond b (Some (without_props w)) p)
-kind_with true w o p h = refl
-kind_with false w o p h = h
-
-kinds_at :
-    (path : List ℕ) (ws : List Wanted)
-    → option_map (λ w. w.kind) (find (is_wanted_at path) ws) ≡ option_map (λ w. w.kind) (find (is_wanted_at path) (map without_props ws))
-kinds_at path [] = refl
-kinds_at path (w ∷ ws) =
-    kind_with (is_wanted_at path w) w (find (is_wanted_at path) ws) (find (is_wanted_at path) (map without_props ws)) (kinds_at path ws)
+-- the kind of a path is told by its terms
+kind_by : (o p : Option Wanted) → option_map terms_by o ≡ option_map terms_by p → option_map (λ w. w.kind) o ≡ option_map (λ w. w.kind) p
+kind_by None None e = refl
+kind_by None (Some w) e = let no : ⊥ = cc in absurd no
+kind_by (Some v) None e = let no : ⊥ = cc in absurd no
+kind_by (Some v) (Some w) e = ap (λ k. Some k) (ap (λ o. option_map_or (λ t. t.kind) o v.kind) e)
 
 found_again :
-    (k : List ℕ) (ps : List (List ℕ × Data)) (o p : Option Wanted) → option_map (λ w. w.kind) p ≡ option_map (λ w. w.kind) o → o ≡ o
-    → option_and_then (λ w. known_of w.props) p ≡ Some ps → option_map (λ w. w.kind) o ≡ Some k → found_in p ≡ Known k ps
-found_again k ps o None e u h g = let no : ⊥ = cc in absurd no
-found_again k ps o (Some w) e u h g = let same : w.kind ≡ k = cc in subst (λ l. finding w.kind w.props ≡ Known l ps) same (known_to w.kind ps w.props h)
+    (k : List ℕ) (ps : List (List ℕ × Data)) (p : Option Wanted) → option_and_then (λ w. known_of w.props) p ≡ Some ps
+    → option_map (λ w. w.kind) p ≡ Some k → found_in p ≡ Known k ps
+found_again k ps None h g = let no : ⊥ = cc in absurd no
+found_again k ps (Some w) h g = let is : w.kind ≡ k = cc in subst (λ l. finding w.kind w.props ≡ Known l ps) is (known_to w.kind ps w.props h)
 
 -- what is known of a path is known where more is seen
 pub found_stays :
-    (source : Source) → IsFlat source → (a b : Seen) → SeesMore a b → (path k : List ℕ) (ps : List (List ℕ × Data))
+    (source : Source) → HasOneShape source → (a b : Seen) → SeesMore a b → (path k : List ℕ) (ps : List (List ℕ × Data))
     → found_in (wanted_at path (plan_of source a)) ≡ Known k ps → found_in (wanted_at path (plan_of source b)) ≡ Known k ps
-found_stays source flat a b more path k ps h =
+found_stays source one a b more path k ps h =
     let p = plan_of source a in
     let q = plan_of source b in
     let f = is_found k ps (wanted_at path p) h in
     let known : props_known path p ≡ Some ps = ap (option_and_then (λ w. known_of w.props)) f.there ∙ f.props in
-    let kept : props_known path q ≡ Some ps = subst (λ o. Keeps o (props_known path q)) known ((known_flat source flat a b more).props path) in
-    let kinds : option_map (λ w. w.kind) (wanted_at path q) ≡ option_map (λ w. w.kind) (wanted_at path p) =
-    kinds_at path q.wanted ∙ ap (λ ws. option_map (λ w. w.kind) (find (is_wanted_at path) ws)) (terms_kept source flat a b) ∙ sym (kinds_at path p.wanted) in
-    found_again k ps (wanted_at path p) (wanted_at path q) kinds refl kept (ap (option_map (λ w. w.kind)) f.there ∙ ap (λ l. Some l) f.kind)
+    let kept : props_known path q ≡ Some ps = subst (λ o. Keeps o (props_known path q)) known ((known_stays source one a b more).props path) in
+    let kinds : option_map (λ w. w.kind) (wanted_at path p) ≡ option_map (λ w. w.kind) (wanted_at path q) = kind_by (wanted_at path p) (wanted_at path q) (terms_same source one a b path) in
+    found_again k ps (wanted_at path q) kept (sym kinds ∙ ap (option_map (λ w. w.kind)) f.there ∙ ap (λ l. Some l) f.kind)
 
 -- what the template of a create says of a path, over what is shown of these resources
 abbrev pub said : Source → List Held → List ℕ → Finding
@@ -87,8 +82,10 @@ said source hs path = found_in (wanted_at path (plan_of source (seen_in hs)))
 
 pub said_now : (source : Source) (s : StackState) → IsCreating source s → (path : List ℕ) → evaluated_at path s ≡ said source s.made path
 said_now source s c path =
-    ap (λ g. found_in (wanted_at path (plan_in g (seen_in (s.made ++ s.held))))) c.going
-    ∙ ap (λ hs. said source (s.made ++ hs) path) c.none_held ∙ ap (λ hs. said source hs path) (append-nil s.made)
+    ap (λ g. found_in (wanted_at path (plan_in g (seen_in s.before) (seen_in (s.made ++ s.held))))) c.going
+    ∙ ap (λ hs. found_in (wanted_at path (plan_by source (shape_of source (seen_in s.before)) (seen_in (s.made ++ hs))))) c.none_held
+    ∙ ap (λ hs. found_in (wanted_at path (plan_by source (shape_of source (seen_in s.before)) (seen_in hs)))) (append-nil s.made)
+    ∙ ap (λ (p : Plan). found_in (wanted_at path p)) (plan_same source c.one_shape (seen_in s.before) (seen_in s.made))
 
 -- one of a list with one more at its end
 pub in_more : {A : Type 0} (P : A → Type 0) (x : A) (xs : List A) → ((a : A) → In a xs → P a) → P x → (a : A) → In a (xs ++ x ∷ []) → P a

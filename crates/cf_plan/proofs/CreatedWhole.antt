@@ -10,22 +10,26 @@ use Rattle.cf_tree.specs.Datum.{Data}
 use Rattle.cf_tree.specs.Keys.{value_at}
 use Rattle.cf_tree.specs.declared.source.Source.{Source}
 use Rattle.cf_stacks.specs.declared.held.Held.{Held}
-use Rattle.cf_stacks.specs.declared.state.StackState.{StackState}
+use Rattle.cf_stacks.specs.World.{StackState}
 use Rattle.cf_stacks.specs.Words.{current_at, is_update}
-use Rattle.cf_stacks.specs.Operation.{Call, calls_in, own_of, succeeded}
-use Rattle.cf_stacks.specs.Fold.{seen_in, seen_now, is_right_at}
+use Rattle.cf_stacks.specs.declared.call.Call.{Call}
+use Rattle.cf_stacks.specs.Calls.{own_calls, succeeded}
+use Rattle.cf_stacks.specs.Begin.{seen_in}
+use Rattle.cf_stacks.specs.End.{seen_now, is_right_at}
 use Rattle.cf_desired.specs.declared.wanted.Plan.{Plan}
 use Rattle.cf_desired.specs.declared.wanted.Wanted.{Wanted}
 use Rattle.cf_desired.specs.declared.seen.SeenAt.{SeenAt}
 use Rattle.cf_desired.specs.Seeing.{Seen}
-use Rattle.cf_desired.specs.Plan.{plan_of}
+use Rattle.cf_desired.specs.Plan.{plan_by, plan_of}
+use Rattle.cf_desired.specs.Shape.{shape_of}
 use Rattle.cf_desired.specs.Whole.{Right, is_wanted_at, wanted_at, known_of, right_of, whole_of}
 use Rattle.cf_desired.proofs.AllKnown.{known_whole}
-use Rattle.cf_desired.proofs.Planned.{is_seen_at, plan_known, terms_kept, without_props}
+use Rattle.cf_desired.proofs.Planned.{is_seen_at, plan_known}
 use Rattle.cf_plan.specs.Forward.{In, here, there, is_made, is_updated, is_right, plan_in, plan_now, wanted_paths, IsDone}
 use Rattle.cf_plan.specs.Created.{IsCreating, CreatedIsWhole}
 use Rattle.cf_plan.proofs.CreatedSeen.{shown, shown_at}
 use Rattle.cf_plan.proofs.CreatedStays.{IsFound, is_found, said_now, found_one}
+use Rattle.cf_plan.proofs.OneShape.{paths_same, plan_same}
 
 abbrev right_with : Wanted → List (List ℕ × Data) → Right
 right_with w props = record { path = w.path; kind = w.kind; deletion = w.deletion; replace = w.replace; needs = w.needs; props = props }
@@ -48,7 +52,7 @@ none_updated path good (c ∷ cs) h =
 -- where nothing is held and nothing was updated, what is done is made
 pub made_at : (source : Source) (s : StackState) → IsCreating source s → (p : List ℕ) → IsDone s p → (r : Held) × (current_at p s.made ≡ Some r)
 made_at source s c p (is_made r e) = (r, e)
-made_at source s c p (is_updated e) = absurd (true≢false (sym e ∙ none_updated p (succeeded s) (calls_in (own_of s)) c.no_update))
+made_at source s c p (is_updated e) = absurd (true≢false (sym e ∙ none_updated p succeeded (own_calls s) c.no_update))
 made_at source s c p (is_right h i done e u k) = let no : None ≡ Some h = sym (ap (current_at p) c.none_held) ∙ e in let never : ⊥ = cc in absurd never
 
 seen_of : (o : Option SeenAt) (h : Held) → o ≡ Some (shown h) → (is_some (option_and_then (λ s. s.physical) o) && is_some (option_and_then (λ s. s.attrs) o)) ≡ true
@@ -61,10 +65,6 @@ all_seen seen [] h = refl
 all_seen seen (w ∷ ws) h =
     let first = h w.path here in
     ap (λ b. b && list_all (is_seen_at seen) ws) (seen_of (value_at w.path seen) first.0 first.1) ∙ all_seen seen ws (λ p i. h p (there i))
-
-paths_without : (ws : List Wanted) → map (λ w. w.path) ws ≡ map (λ w. w.path) (map without_props ws)
-paths_without [] = refl
-paths_without (w ∷ ws) = ap (λ ps. w.path ∷ ps) (paths_without ws)
 
 right_path : (w : Wanted) (r : Right) → right_of w ≡ Some r → r.path ≡ w.path
 right_path w r e = ap (λ o. option_map_or (λ x. x.path) o w.path) (sym e) ∙ by_props (known_of w.props) where
@@ -104,14 +104,15 @@ pub shown_now : (source : Source) (s : StackState) → IsCreating source s → s
 shown_now source s c = ap (λ hs. seen_in (s.made ++ hs)) c.none_held ∙ ap seen_in (append-nil s.made)
 
 pub plan_shown : (source : Source) (s : StackState) → IsCreating source s → plan_now s ≡ plan_of source (seen_in s.made)
-plan_shown source s c = ap (λ g. plan_in g (seen_now s)) c.going ∙ ap (plan_of source) (shown_now source s c)
+plan_shown source s c =
+    ap (λ g. plan_in g (seen_in s.before) (seen_now s)) c.going
+    ∙ ap (plan_by source (shape_of source (seen_in s.before))) (shown_now source s c)
+    ∙ plan_same source c.one_shape (seen_in s.before) (seen_in s.made)
 
 paths_shown : (source : Source) (s : StackState) → IsCreating source s → map (λ w. w.path) (plan_of source (seen_in s.made)).wanted ≡ wanted_paths s
 paths_shown source s c =
-    paths_without (plan_of source (seen_in s.made)).wanted
-    ∙ ap (map (λ w. w.path)) (terms_kept source c.flat (seen_in s.before) (seen_in s.made))
-    ∙ sym (paths_without (plan_of source (seen_in s.before)).wanted)
-    ∙ ap (λ g. map (λ w. w.path) (plan_in g (seen_in s.before)).wanted) (sym c.going)
+    paths_same source c.one_shape (seen_in s.made) (seen_in s.before)
+    ∙ ap (λ g. map (λ w. w.path) (plan_in g (seen_in s.before) (seen_in s.before)).wanted) (sym c.going)
 
 -- the paths of the plan of now are those that are wanted
 pub paths_now : (source : Source) (s : StackState) → IsCreating source s → map (λ w. w.path) (plan_now s).wanted ≡ wanted_paths s
@@ -135,12 +136,12 @@ created_whole source s h done none =
         made = λ r i.
             let f : IsFound r.kind r.props (wanted_at r.path plan) = is_found r.kind r.props (wanted_at r.path plan) (sym (said_now source s c r.path) ∙ right.right r i) in (
               right_with f.wanted r.props,
-              rights_at r.path whole.0.wanted plan.wanted whole.2 ∙ ap (option_and_then right_of) f.there ∙ ap (option_map (right_with f.wanted)) f.props,
+              rights_at r.path whole.0.wanted plan.wanted whole.2.wanted ∙ ap (option_and_then right_of) f.there ∙ ap (option_map (right_with f.wanted)) f.props,
               f.kind,
               refl,
             );
         nothing_else = λ path x e.
-            let before = found_before right_of (wanted_at path plan) x (sym (rights_at path whole.0.wanted plan.wanted whole.2) ∙ e) in
+            let before = found_before right_of (wanted_at path plan) x (sym (rights_at path whole.0.wanted plan.wanted whole.2.wanted) ∙ e) in
             let one = found_one (is_wanted_at path) plan.wanted before.0 before.1 in
             let m = each before.0.path (in_map (λ w. w.path) before.0 plan.wanted one.0) in
             (m.0, ap (λ p. current_at p s.made) ((bytes_eq-Decides path before.0.path).0 one.1) ∙ m.1);

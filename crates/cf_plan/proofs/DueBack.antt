@@ -12,15 +12,14 @@ use Rattle.cf_entry.specs.declared.status.Status.TheVariants as status
 use Rattle.cf_entry.specs.declared.turn.Why.{Why}
 use Rattle.cf_entry.specs.declared.turn.Why.TheVariants as why
 use Rattle.cf_stacks.specs.declared.held.Held.{Held}
-use Rattle.cf_stacks.specs.declared.state.StackState.{StackState}
-use Rattle.cf_stacks.specs.declared.state.World.{World}
+use Rattle.cf_stacks.specs.World.{StackState, World}
 use Rattle.cf_stacks.specs.Status.{Back, Gone}
 use Rattle.cf_plan.specs.declared.next.Next.{Next}
 use Rattle.cf_plan.specs.declared.next.Next.TheVariants as next
 use Rattle.cf_plan.specs.Forward.{In, here, there}
 use Rattle.cf_plan.specs.Follow.{AreFailed, EndsAs, IntendsDeletion, IntendsRestore, MayKeep, is_cleared, is_free, is_not_needed, is_retained, is_untried, waits_for_repeats}
-use Rattle.cf_plan.specs.Taking.{EndsBack, is_ended, is_held_before, may_go}
-use Rattle.cf_plan.specs.Due.{AreDueIn, IsCallDueIn, IsDueIn, IsListed, goes, with_call, with_due, with_gone, with_going, with_goings, with_repeats}
+use Rattle.cf_plan.specs.Taking.{EndsBack, is_ended, is_held_before, may_roll_back}
+use Rattle.cf_plan.specs.Due.{AreDueIn, IsCallDueIn, IsDueIn, IsListed, is_to_roll_back, with_call, with_due, with_removal, with_rollback, with_rollbacks, with_repeats}
 use Rattle.cf_plan.proofs.Members.{in_first, in_none, not_both}
 use Rattle.cf_plan.proofs.Listed.{in_cons}
 use Rattle.cf_plan.proofs.Firsts.{IsFirstOf, first_found}
@@ -90,12 +89,12 @@ module _ (x : World) (out : List ℕ) (s : StackState) where
   IsGone r n = ((is_retained r.deletion ≡ true) × (n ≡ keep r)) ⊎ ((is_retained r.deletion ≡ false) × IsCall x out r.path (request.Delete r.physical) n)
 
   abbrev GoesBy : Held → Next → Type 0
-  GoesBy r n = (goes s r ≡ true) × IsGone r n
+  GoesBy r n = (is_to_roll_back s r ≡ true) × IsGone r n
 
   abbrev IsGoing : Next → Type 0
   IsGoing n = (r : Held) × In r s.made × GoesBy r n
 
-  adds_gone : (ns : List Next) (r : Held) → Adds ns (with_gone out x ns r) (IsGone r)
+  adds_gone : (ns : List Next) (r : Held) → Adds ns (with_removal out x ns r) (IsGone r)
   adds_gone ns r = by (is_retained r.deletion) refl
     where
       by : (b : Bool) → is_retained r.deletion ≡ b → Adds ns (cond b (with_due ns (keep r)) (with_call out x r.path ns (request.Delete r.physical))) (IsGone r)
@@ -106,11 +105,11 @@ module _ (x : World) (out : List ℕ) (s : StackState) where
           adds_as (IsCall x out r.path (request.Delete r.physical)) (IsGone r) (adds_call x out r.path (request.Delete r.physical) ns) (λ n c. inr (q, c))
           (λ n g. elim g [ inl k ↦ absurd (not_both (is_retained r.deletion) k.0 q) | inr k ↦ k.1 ])
 
-  adds_goings : (ns : List Next) → Adds ns (with_goings out x s ns) IsGoing
+  adds_goings : (ns : List Next) → Adds ns (with_rollbacks out x s ns) IsGoing
   adds_goings ns =
-      adds_all (with_going out x s) GoesBy (λ ms r. adds_if (IsGone r) (goes s r) (adds_gone ms r)) s.made ns
+      adds_all (with_rollback out x s) GoesBy (λ ms r. adds_if (IsGone r) (is_to_roll_back s r) (adds_gone ms r)) s.made ns
 
-  goes_by : (r : Held) → is_not_needed s r ≡ true → is_untried s r ≡ true → is_free r.path s ≡ true → goes s r ≡ true
+  goes_by : (r : Held) → is_not_needed s r ≡ true → is_untried s r ≡ true → is_free r.path s ≡ true → is_to_roll_back s r ≡ true
   goes_by r a b c = and_from (is_not_needed s r) (is_untried s r && is_free r.path s) a (and_from (is_untried s r) (is_free r.path s) b c)
 
 module _ (schemas : List Schema) (name : List ℕ) (x : World) (out : List ℕ) (s : StackState) (rolling : s.status ≡ status.RollbackInProgress) where
@@ -145,7 +144,7 @@ module _ (schemas : List Schema) (name : List ℕ) (x : World) (out : List ℕ) 
   -- Else what goes, and the end.
   module _ (idle : waits_for_repeats Back out s ≡ false) where
     abbrev begun : List Next
-    begun = with_goings out x s []
+    begun = with_rollbacks out x s []
 
     adds_begun : Adds [] begun (IsGoing x out s)
     adds_begun = adds_goings x out s []
@@ -246,7 +245,7 @@ module _ (schemas : List Schema) (name : List ℕ) (x : World) (out : List ℕ) 
             let parts = ended_parts schemas name x s rolling out ended in (
               parts.0,
               at_end schemas name x s rolling parts.1
-                  (subst (IsFirstOf is_held_before (may_go [] x s) s.made) parts.2 (first_found is_held_before helds_in_order (may_go [] x s) s.made)),
+                  (subst (IsFirstOf is_held_before (may_roll_back [] x s) s.made) parts.2 (first_found is_held_before helds_in_order (may_roll_back [] x s) s.made)),
               subst (λ (t : Status). EndsAs schemas name x s t state) (sym rolling) ending,
               failing,
             )

@@ -14,14 +14,13 @@ use Rattle.cf_entry.specs.declared.turn.Why.TheVariants as why
 use Rattle.cf_entry.specs.declared.turn.Phase.{Phase}
 use Rattle.cf_entry.specs.declared.turn.Phase.TheVariants as phase
 use Rattle.cf_entry.specs.declared.turn.Cause.{Cause}
-use Rattle.cf_stacks.specs.declared.state.StackState.{StackState}
-use Rattle.cf_stacks.specs.declared.state.World.{World}
+use Rattle.cf_stacks.specs.World.{StackState, World}
 use Rattle.cf_stacks.specs.Status.{Forward, Back, Gone, stage_of}
 use Rattle.cf_plan.specs.declared.next.Next.{Next}
 use Rattle.cf_plan.specs.declared.next.Next.TheVariants as next
 use Rattle.cf_plan.specs.declared.stepping.Start.{Start}
 use Rattle.cf_plan.specs.Forward.{AllDone, HasFailed, In, IsCause, here}
-use Rattle.cf_plan.specs.Follow.{AreFailed, EndsAs, IsAtEnd, MayKeep, MayStep, MayTurn, is_repeat_out, may_repeat, none_out, waits_for_repeats}
+use Rattle.cf_plan.specs.Follow.{AreFailed, EndsAs, IsAtEnd, MayKeep, MayStep, MayTurn, is_repeat_in_flight, may_repeat, none_in_flight, waits_for_repeats}
 use Rattle.cf_plan.specs.Stepping.{AreOpen, is_over}
 use Rattle.cf_plan.specs.Due.{AreDueIn, IsCallDueIn, IsDueIn, IsListed, with_due, with_repeats, with_starts}
 use Rattle.cf_plan.proofs.Members.{false_from, in_any, in_none, in_first, not_both}
@@ -95,7 +94,7 @@ module _ (schemas : List Schema) (name : List ℕ) (x : World) (out : List ℕ) 
     no_call : (path lane : List ℕ) (token : ℕ) (r : Request) → IsCallDueIn schemas name x out s Forward path lane token r → ⊥
     no_call path lane token r w = (due_call x out schemas name s Forward path lane token r w).0.0.0 failed
 
-    all_failed : (dues : List Next) → ((c : Cause) → none_out out s ≡ true → IsCause schemas name x s c → IsListed dues (next.Turn phase.Back (Some c)))
+    all_failed : (dues : List Next) → ((c : Cause) → none_in_flight out s ≡ true → IsCause schemas name x s c → IsListed dues (next.Turn phase.Back (Some c)))
         → (n : Next) → Due n → IsListed dues n
     all_failed dues turns (next.Step path lane token r true) w = absurd (w.0 failed)
     all_failed dues turns (next.Step path lane token r false) w = absurd (no_call path lane token r w)
@@ -106,14 +105,14 @@ module _ (schemas : List Schema) (name : List ℕ) (x : World) (out : List ℕ) 
     all_failed dues turns (next.End state paths) w = absurd ((ends_whole state w.2).1 failed)
     all_failed dues turns next.Wait w = absurd w
 
-    pub turn_due : (c : Cause) → IsCause schemas name x s c → none_out out s ≡ true → AllDue (next.Turn phase.Back (Some c) ∷ [])
+    pub turn_due : (c : Cause) → IsCause schemas name x s c → none_in_flight out s ≡ true → AllDue (next.Turn phase.Back (Some c) ∷ [])
     turn_due c cause none = record {
       due = in_first Due (next.Turn phase.Back (Some c)) [] (none, (ap stage_of creating, failed, cause)) (λ n i. absurd (in_none i));
       all = all_failed (next.Turn phase.Back (Some c) ∷ []) (λ d idle is. (Some c, here));
       ordered = refl;
     }
 
-    pub none_due : ((c : Cause) → none_out out s ≡ true → IsCause schemas name x s c → ⊥) → AllDue []
+    pub none_due : ((c : Cause) → none_in_flight out s ≡ true → IsCause schemas name x s c → ⊥) → AllDue []
     none_due apart = record { due = λ n i. absurd (in_none i); all = all_failed [] (λ c idle is. absurd (apart c idle is)); ordered = refl }
 
   -- Where it has not failed.
@@ -158,24 +157,24 @@ module _ (schemas : List Schema) (name : List ℕ) (x : World) (out : List ℕ) 
         nothing (entry.ChangeSet number stack source rows outputs) w = w
 
     idle_at_end : IsAtEnd schemas name x s Forward → waits_for_repeats Back [] s ≡ false
-    idle_at_end ended = false_from (waits_for_repeats Back [] s) (λ t. by (or_cases (is_repeat_out [] s) (list_any (may_repeat Back [] s) s.tokens) t))
+    idle_at_end ended = false_from (waits_for_repeats Back [] s) (λ t. by (or_cases (is_repeat_in_flight [] s) (list_any (may_repeat Back [] s) s.tokens) t))
       where
-        by : (is_repeat_out [] s ≡ true) ⊎ (list_any (may_repeat Back [] s) s.tokens ≡ true) → ⊥
-        by (inl t) = not_both (is_repeat_out [] s) t (no_repeat_out s)
+        by : (is_repeat_in_flight [] s ≡ true) ⊎ (list_any (may_repeat Back [] s) s.tokens ≡ true) → ⊥
+        by (inl t) = not_both (is_repeat_in_flight [] s) t (no_repeat_out s)
         by (inr t) = let p = in_any (may_repeat Back [] s) s.tokens t in ended.1 p.0 (going, p.1, p.2)
 
     module _ (d : Bool) (told : (d ≡ true) ↔ AllDone s) where
-      over : none_out out s ≡ true → IsAtEnd schemas name x s Forward → AllDone s → is_over out s d ≡ true
+      over : none_in_flight out s ≡ true → IsAtEnd schemas name x s Forward → AllDone s → is_over out s d ≡ true
       over none ended all =
-          and_from d (none_out out s && not (waits_for_repeats Back [] s)) (told.1 all)
-          (and_from (none_out out s) (not (waits_for_repeats Back [] s)) none (not_so (waits_for_repeats Back [] s) (idle_at_end ended)))
+          and_from d (none_in_flight out s && not (waits_for_repeats Back [] s)) (told.1 all)
+          (and_from (none_in_flight out s) (not (waits_for_repeats Back [] s)) none (not_so (waits_for_repeats Back [] s) (idle_at_end ended)))
 
       end_due : is_over out s d ≡ true → Due end
       end_due o =
-          let rest = second_so d (none_out out s && not (waits_for_repeats Back [] s)) o in
-          let all = told.0 (first_so d (none_out out s && not (waits_for_repeats Back [] s)) o) in (
-            first_so (none_out out s) (not (waits_for_repeats Back [] s)) rest,
-            at_end all (is_so (waits_for_repeats Back [] s) (second_so (none_out out s) (not (waits_for_repeats Back [] s)) rest)),
+          let rest = second_so d (none_in_flight out s && not (waits_for_repeats Back [] s)) o in
+          let all = told.0 (first_so d (none_in_flight out s && not (waits_for_repeats Back [] s)) o) in (
+            first_so (none_in_flight out s) (not (waits_for_repeats Back [] s)) rest,
+            at_end all (is_so (waits_for_repeats Back [] s) (second_so (none_in_flight out s) (not (waits_for_repeats Back [] s)) rest)),
             subst (λ (t : Status). EndsAs schemas name x s t status.CreateComplete) (sym creating) (going, all),
             refl,
           )

@@ -16,9 +16,11 @@ use Rattle.cf_entry.specs.declared.entry.Entry.TheVariants as entry
 use Rattle.cf_entry.specs.declared.entry.Reply.{Reply}
 use Rattle.cf_entry.specs.declared.status.Status.TheVariants as status
 use Rattle.cf_stacks.specs.declared.held.Held.{Held}
-use Rattle.cf_stacks.specs.declared.state.StackState.{StackState}
+use Rattle.cf_stacks.specs.World.{StackState}
 use Rattle.cf_stacks.specs.Words.{resources_of}
-use Rattle.cf_stacks.specs.Operation.{Call, Response, call_of, replies_in, is_of, refusals_of}
+use Rattle.cf_stacks.specs.declared.call.Call.{Call}
+use Rattle.cf_stacks.specs.Operation.{Response, replies_in, is_of}
+use Rattle.cf_stacks.specs.Calls.{call_of, refusals_of}
 use Rattle.cf_plan.specs.Forward.{In, here, there}
 use Rattle.cf_plan.specs.Follow.{is_bad_outcome, has_path, last_at, is_bad_last, is_failed_path, AreFailed}
 use Rattle.cf_plan.specs.Blaming.{Verdicts, noted, noted_call, verdicts_of, blamed, blames_of, bad_among}

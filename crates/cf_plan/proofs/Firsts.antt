@@ -2,7 +2,7 @@
 use Rattle.std.proofs.Common.{◌≡◌, ◌⊎◌, inl, inr, ℕ, ◌<◌, ◌+◌, length, take, get_or, Bool, true, false, List, [], ◌∷◌, Option, Some, None, fold, cond, refl, ap, sym, ◌∙◌, subst}
 use Rattle.std.proofs.lemmas.List.Sums.{fold_more}
 use Rattle.cf_plan.specs.Forward.{In, here, there}
-use Rattle.cf_plan.specs.Taking.{better_if, first_by}
+use Rattle.cf_plan.specs.Taking.{min_of_passing, min_by}
 use Rattle.cf_plan.proofs.Members.{false_from, not_both, in_none, in_first}
 
 -- one of those that pass, before which none of these stands; or none passes
@@ -22,7 +22,7 @@ module _ {A : Type 0} (before : A → A → Bool) (order : IsOrder before) (test
     least : (a : A) → In a xs → test a ≡ true → before a r ≡ false
 
   abbrev Walks : A → List A → Type 0
-  Walks b xs = (r : A) × (fold (better_if before test) (Some b) xs ≡ Some r) × Ends b xs r
+  Walks b xs = (r : A) × (fold (min_of_passing before test) (Some b) xs ≡ Some r) × Ends b xs r
 
   -- what stands before the one that is taken stands not before the last
   not_before : (x b r : A) → before x b ≡ true → (r ≡ x) ⊎ (before r x ≡ true) → before x r ≡ false
@@ -49,7 +49,7 @@ module _ {A : Type 0} (before : A → A → Bool) (order : IsOrder before) (test
     toward r (inr w) = inr w.2
 
     walks_by : Walks b xs → Walks x xs → (p : Bool) → test x ≡ p → (q : Bool) → before x b ≡ q
-        → (r : A) × (fold (better_if before test) (cond p (cond q (Some x) (Some b)) (Some b)) xs ≡ Some r) × Ends b (x ∷ xs) r
+        → (r : A) × (fold (min_of_passing before test) (cond p (cond q (Some x) (Some b)) (Some b)) xs ≡ Some r) × Ends b (x ∷ xs) r
     walks_by old new true t true l = (
       new.0,
       new.1,
@@ -79,7 +79,7 @@ module _ {A : Type 0} (before : A → A → Bool) (order : IsOrder before) (test
   walks [] b = (b, refl, record { which = inl refl; least = λ a i. absurd (in_none i) })
   walks (x ∷ xs) b = walks_by x xs b (walks xs b) (walks xs x) (test x) refl (before x b) refl
 
-  begun : (x : A) (xs : List A) → test x ≡ true → Walks x xs → IsFirstOf before test (x ∷ xs) (fold (better_if before test) (Some x) xs)
+  begun : (x : A) (xs : List A) → test x ≡ true → Walks x xs → IsFirstOf before test (x ∷ xs) (fold (min_of_passing before test) (Some x) xs)
   begun x xs t (r, e, ends) =
       let first : IsFirstOf before test (x ∷ xs) (Some r) =
       (first_in r ends.which, first_passes r ends.which, in_first (λ a. test a ≡ true → before a r ≡ false) x xs (λ _. first_least r ends.which) ends.least)
@@ -101,17 +101,17 @@ module _ {A : Type 0} (before : A → A → Bool) (order : IsOrder before) (test
   more x xs None n f = in_first (λ a. test a ≡ false) x xs n f
   more x xs (Some r) n f = (there f.0, f.1, in_first (λ a. test a ≡ true → before a r ≡ false) x xs (λ t. absurd (not_both (test x) t n)) f.2)
 
-  pub first_found : (xs : List A) → IsFirstOf before test xs (first_by before test xs)
+  pub first_found : (xs : List A) → IsFirstOf before test xs (min_by before test xs)
   first_found [] = λ a i. absurd (in_none i)
   first_found (x ∷ xs) = by (first_found xs) (test x) refl
     where
-      by : IsFirstOf before test xs (first_by before test xs) → (p : Bool) → test x ≡ p → IsFirstOf before test (x ∷ xs) (fold (better_if before test) (cond p (Some x) None) xs)
+      by : IsFirstOf before test xs (min_by before test xs) → (p : Bool) → test x ≡ p → IsFirstOf before test (x ∷ xs) (fold (min_of_passing before test) (cond p (Some x) None) xs)
       by rest true t = begun x xs t (walks xs x)
-      by rest false n = more x xs (first_by before test xs) n rest
+      by rest false n = more x xs (min_by before test xs) n rest
 
 -- one more member of the list is looked at
 pub first_more : {A : Type 0} (before : A → A → Bool) (test : A → Bool) (xs ys : List A) (i : ℕ) (a : A) → ys ≡ xs → i < length ys → a ≡ get_or ys i a
-    → better_if before test (first_by before test (take i xs)) a ≡ first_by before test (take (i + 1) xs)
+    → min_of_passing before test (min_by before test (take i xs)) a ≡ min_by before test (take (i + 1) xs)
 first_more before test xs ys i a same l e =
-    ap (better_if before test (first_by before test (take i xs))) (e ∙ ap (λ zs. get_or zs i a) same)
-    ∙ sym (fold_more (better_if before test) None xs i a (subst (λ zs. i < length zs) same l))
+    ap (min_of_passing before test (min_by before test (take i xs))) (e ∙ ap (λ zs. get_or zs i a) same)
+    ∙ sym (fold_more (min_of_passing before test) None xs i a (subst (λ zs. i < length zs) same l))

@@ -1,21 +1,21 @@
 -- A creation goes on with each of its entries, until its end.
-use Rattle.std.proofs.Common.{◌≡◌, ◌⊎◌, inl, inr, ℕ, ◌+◌, ◌==◌, List, [], ◌∷◌, ◌++◌, Bool, true, false, ◌&&◌, ◌||◌, Option, Some, None, refl, sym, ap, subst, ◌∙◌, true≢false, map, find}
+use Rattle.std.proofs.Common.{◌≡◌, ◌⊎◌, inl, inr, ℕ, ◌+◌, ◌==◌, List, [], ◌∷◌, ◌++◌, Bool, true, false, ◌||◌, Option, Some, None, refl, sym, ap, subst, ◌∙◌, true≢false, find, unwrap_or}
 use Rattle.std.specs.Prelude.{cond, is_some}
 use Rattle.std.specs.List.{list_any}
 use Rattle.std.specs.Str.{bytes_eq}
-use Rattle.std.specs.Cmp.{first_so, second_so}
+use Rattle.std.specs.Cmp.{second_so}
 use Rattle.std.specs.Option.{option_and_then}
-use Rattle.std.proofs.lemmas.Bool.{and_from, and_right, eq-eqb, eqb-true}
-use Rattle.cf_tree.specs.Keys.{value_at}
+use Rattle.std.proofs.lemmas.Bool.{and_from, and_right, eq-eqb}
+use Rattle.cf_tree.specs.Datum.{Data}
+use Rattle.cf_tree.specs.declared.code.Code.{Code}
+use Rattle.cf_tree.specs.declared.code.Code.TheVariants as code
 use Rattle.cf_tree.specs.declared.request.Request.{Request}
 use Rattle.cf_tree.specs.declared.request.Request.TheVariants as request
-use Rattle.cf_desired.proofs.Puts.{value_put}
 use Rattle.cf_schema.specs.declared.described.Schema.{Schema}
 use Rattle.cf_entry.specs.Entry.{IsProper}
 use Rattle.cf_entry.specs.Status.{is_end}
 use Rattle.cf_entry.specs.declared.entry.Entry.{Entry}
 use Rattle.cf_entry.specs.declared.entry.Entry.TheVariants as entry
-use Rattle.cf_entry.specs.declared.entry.Begun.TheVariants as begin
 use Rattle.cf_entry.specs.declared.entry.Reply.{Reply}
 use Rattle.cf_entry.specs.declared.entry.Reply.TheVariants as reply
 use Rattle.cf_entry.specs.declared.status.Status.{Status}
@@ -24,23 +24,23 @@ use Rattle.cf_entry.specs.declared.turn.Why.{Why}
 use Rattle.cf_entry.specs.declared.turn.Phase.{Phase}
 use Rattle.cf_entry.specs.declared.turn.Phase.TheVariants as phase
 use Rattle.cf_entry.specs.declared.turn.Cause.{Cause}
+use Rattle.cf_stacks.specs.declared.held.Held.{Held}
+use Rattle.cf_stacks.specs.declared.held.HeldStatus.TheVariants as held
 use Rattle.cf_stacks.specs.declared.held.Pending.{Pending}
-use Rattle.cf_stacks.specs.declared.state.StackState.{StackState}
-use Rattle.cf_stacks.specs.declared.state.World.{World}
-use Rattle.cf_stacks.specs.declared.terms.Terms.{Terms}
+use Rattle.cf_stacks.specs.World.{StackState, World, stack_of_operation, is_going}
 use Rattle.cf_stacks.specs.Status.{Stage, Forward, Back, stage_of, turned, is_in_progress}
-use Rattle.cf_stacks.specs.Words.{stack_of_operation, is_going, where_going, has_token, pending_of, is_create_at, has_physical, resources_of}
-use Rattle.cf_stacks.specs.Fold.{known_stack, heard, beginning, keeping, keeping_known, keeping_unknown, answered, closing, terms_for, replied, replied_with, turning, ending, ended, each_resource, marked, over, phase_over, done_over, on_stack, fold_of, world_after}
+use Rattle.cf_stacks.specs.Words.{has_token, pending_of, is_create_at, has_physical, resources_of, where_physical}
+use Rattle.cf_stacks.specs.Calls.{is_restore, new_call}
+use Rattle.cf_stacks.specs.Reply.{answered, changing, intending, keeping, keeping_known, keeping_unknown, replied, updating}
+use Rattle.cf_stacks.specs.End.{ended_effect}
+use Rattle.cf_stacks.specs.Effect.{Effect}
+use Rattle.cf_stacks.specs.Fold.{effect_at, fold_of, world_after}
 use Rattle.cf_plan.specs.Forward.{In, here, there}
 use Rattle.cf_plan.specs.Follow.{MayFollow, MayFollowOn, MayFollowIn, MayTurn, EndsAs}
 use Rattle.cf_plan.specs.Run.{Told, IsDone, IsOwn, Runs}
 use Rattle.cf_plan.specs.Stepping.{Creates}
 use Rattle.cf_plan.specs.Going.{IsUnderWay, ends_creation, IsOver, Leaves, CreationStarts, CreationGoesOn, CreationEnds, CreationIsProper, AnswerFollows, IntentOpens}
-use Rattle.cf_plan.proofs.CreatedStays.{found_one}
-use Rattle.cf_plan.proofs.RunLanes.{same_bytes}
-use Rattle.cf_plan.proofs.RunStacks.{find_where, value_where, none_where}
-use Rattle.cf_plan.proofs.KeepingWorld.{same_stack}
-use Rattle.cf_plan.proofs.KeepingStarts.{found_put}
+use Rattle.cf_plan.proofs.Frame.{IsOn, begun_here, begun_on, created, found_passes, here_after, none_after, number_is, on_after}
 
 in_progress : (s : StackState) → Creates s → is_in_progress s.status ≡ true
 in_progress s (inl e) = ap is_in_progress e
@@ -69,35 +69,56 @@ like_kept path physical w s =
     (like_either (list_any (is_create_at path) s.tokens) s (keeping_unknown path w s) s (record { operation = refl; status = refl }) (alike s))
     (like_either (list_any (has_physical physical) (resources_of s)) s (keeping_known path physical w s) s (record { operation = refl; status = refl }) (alike s))
 
-like_answered : (t : Terms) (p : Pending) (r : Request) (a : Reply) (s : StackState) (token : ℕ) → IsLike s (closing token a (answered t p r a s))
-like_answered t p (request.Create kind props) (reply.Success physical attrs) s token = record { operation = refl; status = refl }
-like_answered t p r a s token = record { operation = refl; status = refl }
+like_changed : (id : List ℕ) (change : Held → Held) (s : StackState) → IsLike s (changing id change s)
+like_changed id change s =
+    like_either (list_any (has_physical id) s.held) s (record s { held = where_physical id change s.held }) (record s { made = where_physical id change s.made })
+    (record { operation = refl; status = refl }) (record { operation = refl; status = refl })
 
-pub like_replied : (t : Terms) (token : ℕ) (a : Reply) (p : Option Pending) (s : StackState) → IsLike s (replied_with t token a p s)
-like_replied t token a None s = alike s
-like_replied t token a (Some p) s = like_answered t p p.request a s token
+like_refused_update : (restores : Bool) (path id : List ℕ) (props : List (List ℕ × Data)) (c : Code) (s : StackState) → IsLike s (answered restores path (request.Update id props) (reply.Failed c) s)
+like_refused_update true path id props c s = like_changed id (λ h. record h { status = held.UpdateFailed }) s
+like_refused_update false path id props c s = alike s
 
-like_ending : (state : Status) (s : StackState) → IsLike s (ending state s)
-like_ending status.CreateComplete s = record { operation = refl; status = refl }
-like_ending status.RollbackFailed s = record { operation = refl; status = refl }
-like_ending status.RollbackComplete s = record { operation = refl; status = refl }
-like_ending status.DeleteComplete s = record { operation = refl; status = refl }
-like_ending state s = record { operation = refl; status = refl }
+like_refused_deletion : (restores : Bool) (path id : List ℕ) (c : Code) (s : StackState) → IsLike s (answered restores path (request.Delete id) (reply.Failed c) s)
+like_refused_deletion restores path id code.NotFound s = record { operation = refl; status = refl }
+like_refused_deletion restores path id c s = like_changed id (λ h. record h { status = held.DeleteFailed }) s
+
+like_answered : (restores : Bool) (path : List ℕ) (r : Request) (a : Reply) (s : StackState) → IsLike s (answered restores path r a s)
+like_answered restores path (request.Create k props) (reply.Success physical attrs) s = record { operation = refl; status = refl }
+like_answered restores path (request.Create k props) (reply.Failed c) s = alike s
+like_answered restores path (request.Create k props) reply.Doubt s = alike s
+like_answered restores path (request.Update id props) (reply.Success physical attrs) s = like_changed id (updating props attrs) s
+like_answered restores path (request.Update id props) (reply.Failed c) s = like_refused_update restores path id props c s
+like_answered restores path (request.Update id props) reply.Doubt s = alike s
+like_answered restores path (request.Delete id) (reply.Success physical attrs) s = record { operation = refl; status = refl }
+like_answered restores path (request.Delete id) (reply.Failed c) s = like_refused_deletion restores path id c s
+like_answered restores path (request.Delete id) reply.Doubt s = alike s
+
+pub like_replied : (token : ℕ) (a : Reply) (p : Option Pending) (s : StackState) → IsLike s (replied token a p s)
+like_replied token a None s = alike s
+like_replied token a (Some p) s =
+    let like = like_answered (is_restore token s) p.path p.request a s in record { operation = like.operation; status = like.status }
+
+pub like_intended : (number : ℕ) (p : Pending) (s : StackState) → IsLike s (intending number p s)
+like_intended number p s =
+    like_either (list_any (has_token p.token) s.tokens) s s (record s { tokens = s.tokens ++ p ∷ []; ledger = s.ledger ++ new_call number s.status p ∷ [] })
+    (alike s) (record { operation = refl; status = refl })
 
 -- the stack as it ends
-pub end_operation : (state : Status) (s : StackState) → (ended state s).operation ≡ s.operation
-end_operation state s = (like_ending state (each_resource (map (marked s.tokens)) (record s { status = state }))).operation
+pub end_operation : (state : Status) (s : StackState) → (ended_effect state s).stack.operation ≡ s.operation
+end_operation status.CreateComplete s = refl
+end_operation status.RollbackFailed s = refl
+end_operation status.UpdateRollbackComplete s = refl
+end_operation status.RollbackComplete s = refl
+end_operation status.DeleteComplete s = refl
+end_operation state s = refl
 
-pub end_status : (state : Status) (s : StackState) → (ended state s).status ≡ state
-end_status state s = (like_ending state (each_resource (map (marked s.tokens)) (record s { status = state }))).status
-
-turned_stacks : (p : Phase) (o : Option (List ℕ × StackState)) (y : World) → (over (λ n t z. phase_over n p t z) o y).stacks ≡ y.stacks
-turned_stacks p None y = refl
-turned_stacks p (Some t) y = refl
-
-ended_stacks : (state : Status) (o : Option (List ℕ × StackState)) (y : World) → (over (λ n t z. done_over n state t z) o y).stacks ≡ y.stacks
-ended_stacks state None y = refl
-ended_stacks state (Some t) y = refl
+pub end_status : (state : Status) (s : StackState) → (ended_effect state s).stack.status ≡ state
+end_status status.CreateComplete s = refl
+end_status status.RollbackFailed s = refl
+end_status status.UpdateRollbackComplete s = refl
+end_status status.RollbackComplete s = refl
+end_status status.DeleteComplete s = refl
+end_status state s = refl
 
 -- a status in which a creation ends is one of an end, and none of an operation in progress
 over_ends : (state : Status) → ends_creation state ≡ true → is_end state ≡ true
@@ -197,87 +218,75 @@ module _ (schemas : List Schema) (name : List ℕ) (x : World) (s : StackState) 
   turn_proper number phase.BackClean (Some c) way may = absurd may
   turn_proper number phase.BackClean None way may = refl
 
--- what passes at none of a list fails at each
-none_passes : {A : Type 0} (test : A → Bool) (xs : List A) → find test xs ≡ None → (a : A) → In a xs → test a ≡ false
-none_passes test [] h a i = elim i [ ]
-none_passes {A} test (y ∷ xs) h a i = by_test (test y) refl h (none_passes test xs) a i where
-  by_test : (b : Bool) → test y ≡ b → cond b (Some y) (find test xs) ≡ None → (find test xs ≡ None → (c : A) → In c xs → test c ≡ false) → (c : A) → In c (y ∷ xs) → test c ≡ false
-  by_test true e g ih c i = let no : ⊥ = cc in absurd no
-  by_test false e g ih c here = e
-  by_test false e g ih c (there j) = ih g c j
-
 pub starts : CreationStarts
-starts x number name source none =
-    let was : StackState = known_stack name x in
-    let s : StackState = heard (x.place + 1) (entry.Begin number name (begin.Create source)) was (beginning name number (begin.Create source) was) in
-    let on : is_going number s ≡ true = ap (λ b. b && true) (eq-eqb number number refl) in
+starts x number name source apart above =
+    let on = begun_on number name x source apart above in
     record {
-      stack = s;
-      going = found_put number name s on x.stacks (none_passes (λ t. is_going number t.1) x.stacks none);
-      here = value_put name name s x.stacks ∙ ap (λ b. cond b (Some s) (value_at name x.stacks)) (same_bytes name name refl);
+      apart = on.apart;
+      numbered = on.numbered;
+      stack = (created number name x source apart above).stack;
+      going = on.going;
+      here = begun_here number name x source apart above;
       creates = inl refl;
     }
 
 module _ (number : ℕ) (name : List ℕ) (x : World) (u : IsUnderWay number name x) where
-  is_on : is_going number u.stack ≡ true
-  is_on = (found_one (λ t. is_going number t.1) x.stacks (name, u.stack) u.going).1
+  on : IsOn number name x u.stack
+  on = record { apart = u.apart; numbered = u.numbered; going = u.going }
 
-  number_on : (u.stack.operation == number) ≡ true
-  number_on = first_so (u.stack.operation == number) (is_in_progress u.stack.status) is_on
+  number_on : u.stack.operation ≡ number
+  number_on = number_is number name x u.stack on
 
-  -- the creation goes on where its stack changes so
-  going_with :
-      (y : World) (change : StackState → StackState) → y.stacks ≡ where_going number change x.stacks → (change u.stack).operation ≡ u.stack.operation
-      → Creates (change u.stack) → stack_of_operation number y ≡ Some (name, change u.stack)
-  going_with y change stacks operation creates =
-      let still : is_going number (change u.stack) ≡ true =
-      and_from ((change u.stack).operation == number) (is_in_progress (change u.stack).status) (ap (λ n. n == number) operation ∙ number_on) (in_progress (change u.stack) creates) in
-      ap (find (λ t. is_going number t.1)) stacks ∙ find_where number change x.stacks (name, u.stack) u.going still
+  module _ (e : Entry) (own : IsOwn number e) where
+    abbrev changed : Effect
+    changed = effect_at (x.place + 1) e u.stack
 
-  goes_with :
-      (y : World) (change : StackState → StackState) → y.stacks ≡ where_going number change x.stacks → (change u.stack).operation ≡ u.stack.operation
-      → Creates (change u.stack) → IsUnderWay number name y
-  goes_with y change stacks operation creates = record {
-    stack = change u.stack;
-    going = going_with y change stacks operation creates;
-    here = ap (value_at name) stacks ∙ value_where number change name x.stacks u.stack u.here is_on;
-    creates = creates;
-  }
+    -- the creation goes on where its stack keeps its operation and still creates
+    still_on : changed.stack.operation ≡ u.stack.operation → Creates changed.stack → IsOn number name (world_after x e) changed.stack
+    still_on operation creates =
+        on_after number name x u.stack on e own
+        (and_from (changed.stack.operation == number) (is_in_progress changed.stack.status) (eq-eqb changed.stack.operation number (operation ∙ number_on)) (in_progress changed.stack creates))
 
-  goes_like : (y : World) (change : StackState → StackState) → y.stacks ≡ where_going number change x.stacks → IsLike u.stack (change u.stack) → IsUnderWay number name y
-  goes_like y change stacks a = goes_with y change stacks a.operation (still_created u.stack (change u.stack) a u.creates)
+    goes_with : changed.stack.operation ≡ u.stack.operation → Creates changed.stack → IsUnderWay number name (world_after x e)
+    goes_with operation creates =
+        let o = still_on operation creates in
+        record { apart = o.apart; numbered = o.numbered; stack = changed.stack; going = o.going; here = here_after number name x u.stack on e own; creates = creates }
+
+    goes_like : IsLike u.stack changed.stack → IsUnderWay number name (world_after x e)
+    goes_like a = goes_with a.operation (still_created u.stack changed.stack a u.creates)
 
   pub goes_kept : (path physical : List ℕ) (w : Why) → IsUnderWay number name (world_after x (entry.Kept number path physical w))
   goes_kept path physical w =
-      let a = like_kept path physical w u.stack in
-      goes_like (world_after x (entry.Kept number path physical w)) (λ s. heard (x.place + 1) (entry.Kept number path physical w) s (keeping path physical w s)) refl
-      (record { operation = a.operation; status = a.status })
+      let a = like_kept path physical w u.stack in goes_like (entry.Kept number path physical w) refl (record { operation = a.operation; status = a.status })
 
   module _ (token : ℕ) (lane path : List ℕ) (r : Request) where
     abbrev intent : Entry
     intent = entry.Intent number token lane path r
 
-    abbrev pub intended : StackState → StackState
-    intended s = heard (x.place + 1) intent s (record s { tokens = s.tokens ++ record { token = token; path = path; lane = lane; request = r } ∷ [] })
+    abbrev call : Pending
+    call = record { token = token; path = path; lane = lane; request = r }
+
+    abbrev pub intended : StackState
+    intended = (effect_at (x.place + 1) intent u.stack).stack
+
+    like_intent : IsLike u.stack intended
+    like_intent = let a = like_intended number call u.stack in record { operation = a.operation; status = a.status }
 
     pub goes_intended : IsUnderWay number name (world_after x intent)
-    goes_intended = goes_like (world_after x intent) intended refl (record { operation = refl; status = refl })
+    goes_intended = goes_like intent refl like_intent
 
-    pub going_intended : stack_of_operation number (world_after x intent) ≡ Some (name, intended u.stack)
-    going_intended = going_with (world_after x intent) intended refl refl (still_created u.stack (intended u.stack) (record { operation = refl; status = refl }) u.creates)
+    pub going_intended : stack_of_operation number (world_after x intent) ≡ Some (name, intended)
+    going_intended = (still_on intent refl like_intent.operation (still_created u.stack intended like_intent u.creates)).going
 
   pub goes_answered : (token : ℕ) (a : Reply) (before after : ℕ) → IsUnderWay number name (world_after x (entry.Outcome number token a before after))
   goes_answered token a before after =
-      let like = like_replied (terms_for (pending_of token u.stack) u.stack) token a (pending_of token u.stack) u.stack in
-      goes_like (world_after x (entry.Outcome number token a before after)) (λ s. heard (x.place + 1) (entry.Outcome number token a before after) s (replied token a (pending_of token s) s)) refl
-      (record { operation = like.operation; status = like.status })
+      let like = like_replied token a (pending_of token u.stack) u.stack in
+      goes_like (entry.Outcome number token a before after) refl (record { operation = like.operation; status = like.status })
 
   goes_back : (c : Option Cause) → u.stack.status ≡ status.CreateInProgress → IsUnderWay number name (world_after x (entry.Phase number phase.Back c))
   goes_back c e =
       let back : turned u.stack.status phase.Back ≡ status.RollbackInProgress = ap (λ st. turned st phase.Back) e in
-      goes_with (world_after x (entry.Phase number phase.Back c)) (λ s. heard (x.place + 1) (entry.Phase number phase.Back c) s (turning phase.Back s))
-      (turned_stacks phase.Back (stack_of_operation number x) (on_stack (x.place + 1) number (entry.Phase number phase.Back c) (turning phase.Back) x))
-      refl (inr back)
+      goes_with (entry.Phase number phase.Back c) refl refl (inr back)
 
   -- what may follow is of the stack
   record IsOnIt (schemas : List Schema) (e : Entry) (out : List ℕ) : Type 0 where
@@ -287,7 +296,7 @@ module _ (number : ℕ) (name : List ℕ) (x : World) (u : IsUnderWay number nam
 
   on_it : (schemas : List Schema) (e : Entry) (out : List ℕ) → MayFollowOn schemas number x out e → IsOnIt schemas e out
   on_it schemas e out (other, t, stage, going, stage_is, may) =
-      let same : t ≡ u.stack = same_stack (other, t) (name, u.stack) (sym going ∙ u.going) in
+      let same : t ≡ u.stack = ap (λ (o : Option (List ℕ × StackState)). (unwrap_or o (other, t)).1) (sym going ∙ u.going) in
       record { other = other; stage = stage; may = subst (λ v. MayFollowIn schemas other x out v stage e) same may }
 
   pub goes_turned : (schemas : List Schema) (p : Phase) (c : Option Cause) → MayFollowOn schemas number x [] (entry.Phase number p c) → IsUnderWay number name (world_after x (entry.Phase number p c))
@@ -301,16 +310,14 @@ module _ (number : ℕ) (name : List ℕ) (x : World) (u : IsUnderWay number nam
       let i = on_it schemas (entry.Done number state failed) [] may in
       let so : ends_creation state ≡ true = ends_so schemas i.other x u.stack state u.creates i.may.2 in
       let e : Entry = entry.Done number state failed in
-      let y : World = on_stack (x.place + 1) number e (ended state) x in
-      let stacks = ended_stacks state (stack_of_operation number x) y in
       record {
-        stack = heard (x.place + 1) e u.stack (ended state u.stack);
-        here = ap (value_at name) stacks ∙ value_where number (λ s. heard (x.place + 1) e s (ended state s)) name x.stacks u.stack u.here is_on;
-        number_is = end_operation state u.stack ∙ eqb-true u.stack.operation number number_on;
+        stack = (effect_at (x.place + 1) e u.stack).stack;
+        here = here_after number name x u.stack on e refl;
+        number_is = end_operation state u.stack ∙ number_on;
         none_going =
-            ap (find (λ t. is_going number t.1)) stacks
-            ∙ none_where number (λ s. heard (x.place + 1) e s (ended state s)) x.stacks
-            (λ s. and_right ((ended state s).operation == number) (is_in_progress (ended state s).status) (ap is_in_progress (end_status state s) ∙ over_rests state so));
+            none_after number name x u.stack on e refl
+            (and_right ((ended_effect state u.stack).stack.operation == number) (is_in_progress (ended_effect state u.stack).stack.status)
+            (ap is_in_progress (end_status state u.stack) ∙ over_rests state so));
         ended = ap ends_creation (end_status state u.stack) ∙ so;
       }
 
@@ -416,7 +423,7 @@ answer_follows schemas x number token p answer before after is_open counts = by_
   by_stack : (o : Option (List ℕ × StackState)) → stack_of_operation number x ≡ o → option_and_then (λ s. pending_of token s.1) o ≡ Some p → MayFollow schemas x (token ∷ []) (entry.Outcome number token answer before after)
   by_stack None e q = absurd (none_some p q)
   by_stack (Some (name, s)) e q =
-      let on = (found_one (λ t. is_going number t.1) x.stacks (name, s) e).1 in
+      let on = found_passes (λ (t : List ℕ × StackState). is_going number t.1) x.stacks (name, s) e in
       let stage = stage_found (stage_of s.status) (second_so (s.operation == number) (is_in_progress s.status) on) in (
         name,
         s,
@@ -434,8 +441,24 @@ found_behind {A} test (y ∷ xs) a e = by_test (test y) (found_behind test xs a 
   by_test true ih = (y, refl)
   by_test false ih = ih
 
+found_there : {A : Type 0} (test : A → Bool) (xs : List A) → list_any test xs ≡ true → (b : A) × (find test xs ≡ Some b)
+found_there test [] e = absurd (true≢false (sym e))
+found_there {A} test (y ∷ xs) e = by_test (test y) e (found_there test xs) where
+  by_test : (b : Bool) → (b || list_any test xs) ≡ true → (list_any test xs ≡ true → (c : A) × (find test xs ≡ Some c)) → (c : A) × (cond b (Some y) (find test xs) ≡ Some c)
+  by_test true g ih = (y, refl)
+  by_test false g ih = ih g
+
+-- a call that goes out is open: it was so before, or joins the others
+opened : (number : ℕ) (p : Pending) (s : StackState) → (q : Pending) × (pending_of p.token (intending number p s) ≡ Some q)
+opened number p s = by_open (list_any (has_token p.token) s.tokens) refl where
+  by_open :
+      (b : Bool) → list_any (has_token p.token) s.tokens ≡ b
+      → (q : Pending) × (find (has_token p.token) (cond b s (record s { tokens = s.tokens ++ p ∷ []; ledger = s.ledger ++ new_call number s.status p ∷ [] })).tokens ≡ Some q)
+  by_open true e = found_there (has_token p.token) s.tokens e
+  by_open false e = found_behind (has_token p.token) s.tokens p (eq-eqb p.token p.token refl)
+
 pub opens : IntentOpens
 opens x number name token lane path r u =
     let p : Pending = record { token = token; path = path; lane = lane; request = r } in
-    let f = found_behind (has_token token) u.stack.tokens p (eq-eqb token token refl) in
+    let f = opened number p u.stack in
     (f.0, ap (option_and_then (λ s. pending_of token s.1)) (going_intended number name x u token lane path r) ∙ f.1)

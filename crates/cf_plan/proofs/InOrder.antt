@@ -6,12 +6,12 @@ use Rattle.std.specs.Cmp.{first_so, second_so}
 use Rattle.std.proofs.lemmas.Bool.{ltb-true, lt-ltb, eqb-true, eq-eqb, or_cases, and_from}
 use Rattle.cf_plan.specs.declared.next.Next.{Next}
 use Rattle.cf_plan.specs.Forward.{In, here, there}
-use Rattle.cf_plan.specs.Chosen.{Place, is_placed_before, is_sooner, place_of}
+use Rattle.cf_plan.specs.Chosen.{Place, is_placed_before, precedes, place_of}
 use Rattle.cf_plan.specs.Due.{are_in_order, is_step_before, stays, with_due}
 use Rattle.cf_plan.proofs.Members.{false_from, not_both, in_none, in_first}
 use Rattle.cf_plan.proofs.Listed.{in_cons}
 use Rattle.cf_plan.proofs.Firsts.{IsOrder}
-use Rattle.cf_plan.proofs.Orders.{sooner_in_order}
+use Rattle.cf_plan.proofs.Orders.{precedes_in_order}
 use Rattle.cf_plan.proofs.Choosing.{is_so, not_so}
 
 -- by a number, and where that is the same by what comes next
@@ -58,13 +58,13 @@ spot p = (p.path, p.physical)
 places_in_order : IsOrder is_placed_before
 places_in_order = record {
   not_itself = λ a.
-      not_below a.rank (by_number a.token a.token (is_sooner (spot a) (spot a)))
-      (not_below a.token (is_sooner (spot a) (spot a)) (sooner_in_order.not_itself (spot a)));
+      not_below a.rank (by_number a.token a.token (precedes (spot a) (spot a)))
+      (not_below a.token (precedes (spot a) (spot a)) (precedes_in_order.not_itself (spot a)));
   goes_on = λ a b c.
-      below_on a.rank b.rank c.rank (by_number a.token b.token (is_sooner (spot a) (spot b))) (by_number b.token c.token (is_sooner (spot b) (spot c)))
-      (by_number a.token c.token (is_sooner (spot a) (spot c)))
-      (below_on a.token b.token c.token (is_sooner (spot a) (spot b)) (is_sooner (spot b) (spot c)) (is_sooner (spot a) (spot c))
-      (sooner_in_order.goes_on (spot a) (spot b) (spot c)));
+      below_on a.rank b.rank c.rank (by_number a.token b.token (precedes (spot a) (spot b))) (by_number b.token c.token (precedes (spot b) (spot c)))
+      (by_number a.token c.token (precedes (spot a) (spot c)))
+      (below_on a.token b.token c.token (precedes (spot a) (spot b)) (precedes (spot b) (spot c)) (precedes (spot a) (spot c))
+      (precedes_in_order.goes_on (spot a) (spot b) (spot c)));
 }
 
 -- a test that all pass

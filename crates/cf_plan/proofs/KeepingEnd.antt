@@ -1,11 +1,10 @@
 -- How a run of a creation ends: its template is live, or nothing newer is, or the rollback failed.
-use Rattle.std.proofs.Common.{◌≡◌, ◌⊎◌, inl, inr, ◌↔◌, ℕ, suc, zero, ◌+◌, ◌<◌, ◌==◌, List, [], ◌∷◌, ◌++◌, Bool, true, false, not, ◌&&◌, Option, Some, None, refl, sym, ap, subst, ◌∙◌, true≢false, map, filter, find, length, option_map, arith}
+use Rattle.std.proofs.Common.{◌≡◌, ◌⊎◌, inl, inr, ◌↔◌, ℕ, suc, zero, ◌<◌, ◌==◌, List, [], ◌∷◌, ◌++◌, Bool, true, false, not, ◌&&◌, Option, Some, None, refl, sym, ap, subst, ◌∙◌, true≢false, map, filter, find, length, option_map, arith}
 use Rattle.std.specs.Prelude.{cond, fold, unwrap_or}
 use Rattle.std.specs.List.{list_any}
 use Rattle.std.specs.Str.{bytes_eq}
 use Rattle.std.specs.Cmp.{first_so, second_so}
-use Rattle.std.proofs.lemmas.Bool.{and_right, eqb-true}
-use Rattle.cf_tree.specs.Keys.{value_at}
+use Rattle.std.proofs.lemmas.Bool.{and_right}
 use Rattle.cf_tree.specs.Named.{all_differ}
 use Rattle.cf_tree.specs.declared.source.Source.{Source}
 use Rattle.cf_tree.specs.Lists.{insert_by}
@@ -21,10 +20,12 @@ use Rattle.cf_entry.specs.declared.status.Status.TheVariants as status
 use Rattle.cf_desired.specs.Whole.{Right, Whole, whole_of}
 use Rattle.cf_stacks.specs.declared.held.Held.{Held}
 use Rattle.cf_stacks.specs.declared.held.Pending.{Pending}
-use Rattle.cf_stacks.specs.declared.state.StackState.{StackState}
-use Rattle.cf_stacks.specs.declared.state.World.{World}
-use Rattle.cf_stacks.specs.Words.{stack_at, stack_of_operation, current_at, resource_at, is_current_at, is_on, resources_of, is_going}
-use Rattle.cf_stacks.specs.Fold.{heard, marked, left_in_doubt, as_wanted, is_physical_of, is_right_at, settled_in, ended, over, done_over, on_stack, world_after, whole_over, empty_whole, seen_in, seen_now, reexported, is_export_before, not_export_of, export_by}
+use Rattle.cf_stacks.specs.World.{StackState, World, stack_at, stack_of_operation, is_going}
+use Rattle.cf_stacks.specs.Words.{current_at, resource_at, is_current_at, is_on, resources_of}
+use Rattle.cf_stacks.specs.End.{marked, left_in_doubt, as_wanted, is_physical_of, is_right_at, settled_in, stopping, ended_effect, whole_now, whole_over, empty_whole, seen_now}
+use Rattle.cf_stacks.specs.Fold.{world_after}
+use Rattle.cf_stacks.specs.Begin.{seen_in}
+use Rattle.cf_stacks.specs.Listed.{reexported, is_export_before, not_export_of, export_by}
 use Rattle.cf_plan.specs.Forward.{In, here, there}
 use Rattle.cf_plan.specs.Follow.{EndsAs, is_cleared}
 use Rattle.cf_plan.specs.Lanes.{Lane, lane_at}
@@ -36,12 +37,11 @@ use Rattle.cf_plan.proofs.CreatedRight.{not_so, none_of, in_filter}
 use Rattle.cf_plan.proofs.CreatedSeen.{shown, shown_at}
 use Rattle.cf_plan.proofs.CreatedEnd.{in_changed, ends_over}
 use Rattle.cf_plan.proofs.CreatedStays.{found_one}
-use Rattle.cf_plan.proofs.Causing.{in_left, in_right}
 use Rattle.cf_plan.proofs.Listed.{in_map}
-use Rattle.cf_plan.proofs.RunLists.{none_false, in_kept}
+use Rattle.cf_plan.proofs.Frame.{IsOn, number_is, frame_of, here_after, none_after}
+use Rattle.cf_plan.proofs.RunLists.{none_false, in_front, in_back, in_kept}
 use Rattle.cf_plan.proofs.RunLanes.{same_bytes, bytes_same, in_place, tells_within}
-use Rattle.cf_plan.proofs.RunStacks.{value_where, none_where}
-use Rattle.cf_plan.proofs.KeepingWorld.{is_on as goes_on, number_is}
+use Rattle.cf_plan.proofs.KeepingWorld.{left_by, is_on_it}
 
 -- what joins a list in its place is of it, and nothing else joins
 inserted : {A : Type 0} (test : A → A → Bool) (a e : A) (xs : List A) → In e (insert_by test xs a) → In e xs ⊎ (e ≡ a)
@@ -178,15 +178,10 @@ not_in {A} x xs e i = never (subst (In x) e i) where
   never : In x [] → ⊥
   never j = elim j [ ]
 
--- an end leaves the stacks to the entry, and changes exports
-done_stacks : (state : Status) (o : Option (List ℕ × StackState)) (y : World) → (over (λ n t z. done_over n state t z) o y).stacks ≡ y.stacks
-done_stacks state None y = refl
-done_stacks state (Some t) y = refl
-
--- and gives no token out
-done_token : (state : Status) (o : Option (List ℕ × StackState)) (y : World) → (over (λ n t z. done_over n state t z) o y).token ≡ y.token
-done_token state None y = refl
-done_token state (Some t) y = refl
+-- without an open call nothing is marked
+unmarked : (hs : List Held) → map (marked []) hs ≡ hs
+unmarked [] = refl
+unmarked (h ∷ hs) = ap (λ t. h ∷ t) (unmarked hs)
 
 module _ (schemas : List Schema) (names kinds : List (List ℕ)) (began told : Told) (number : ℕ) (name : List ℕ) (source : Source) (x : World) (s : StackState)
     (h : IsKept names began told number name source x s) (lanes_differ : all_differ bytes_eq names ≡ true) (as_many : length kinds ≡ length names) (failed : List (List ℕ)) where
@@ -196,14 +191,14 @@ module _ (schemas : List Schema) (names kinds : List (List ℕ)) (began told : T
   abbrev done : Status → Entry
   done state = entry.Done number state failed
 
-  abbrev over_all : Status → World
-  over_all state = on_stack (x.place + 1) number (done state) (ended state) x
-
   abbrev pub world : Status → World
   world state = world_after x (done state)
 
-  abbrev pub end_of : Status → StackState → StackState
-  end_of state t = heard (x.place + 1) (done state) t (ended state t)
+  abbrev pub end_of : Status → StackState
+  end_of state = left_by x (done state) s
+
+  on : IsOn number name x s
+  on = is_on_it names began told number name source x s h
 
   -- what is alive is live in the lane that its id names
   live_there : (r : Held) (v : Live) → v.id ≡ r.physical → IsAlive names told v → IsLive lanes r v
@@ -215,40 +210,48 @@ module _ (schemas : List Schema) (names kinds : List (List ℕ)) (began told : T
         live = ap (λ id. live_in id a.lane) (sym e) ∙ a.live;
       }
 
-  -- each resource that the stack holds at the end was made
-  held_alive : AreAlive names told s.made s.tokens → (r : Held) → In r (ended status.CreateComplete s).held → IsAlive names told (as_live r)
-  held_alive all r i = by_lists (whole_over s.going (seen_in (map (marked s.tokens) s.made ++ map (marked s.tokens) s.held))) i where
-    middle : StackState
-    middle = record s { status = status.CreateComplete; held = map (marked s.tokens) s.held; made = map (marked s.tokens) s.made }
+  -- the stack as it stops, before what is made is held
+  abbrev stopped : StackState
+  stopped = stopping status.CreateComplete s
 
-    by_lists : (whole : Whole) → In r (map (settled_in whole middle) (map (marked s.tokens) s.held ++ map (marked s.tokens) s.made)) → IsAlive names told (as_live r)
-    by_lists whole j =
-        let m = in_changed (settled_in whole middle) (map (marked s.tokens) s.held ++ map (marked s.tokens) s.made) r j in
+  -- each resource that the stack holds at the end was made
+  held_alive : AreAlive names told s.made s.tokens → (r : Held) → In r (end_of status.CreateComplete).held → IsAlive names told (as_live r)
+  held_alive all r i = by_whole (whole_now stopped) i where
+    by_whole : (whole : Whole) → In r (map (settled_in whole stopped) (map (marked s.tokens) s.held ++ map (marked s.tokens) s.made)) → IsAlive names told (as_live r)
+    by_whole whole j =
+        let m = in_changed (settled_in whole stopped) (map (marked s.tokens) s.held ++ map (marked s.tokens) s.made) r j in
         let of_made : In m.one (map (marked s.tokens) s.made) = subst (λ hs. In m.one (map (marked s.tokens) hs ++ map (marked s.tokens) s.made)) h.none_held m.of_list in
         let n = in_changed (marked s.tokens) s.made m.one of_made in
-        let same : as_live n.one ≡ as_live r = sym (marked_live s.tokens n.one) ∙ ap as_live n.same ∙ sym (settled_live whole middle m.one) ∙ ap as_live m.same in
+        let same : as_live n.one ≡ as_live r = sym (marked_live s.tokens n.one) ∙ ap as_live n.same ∙ sym (settled_live whole stopped m.one) ∙ ap as_live m.same in
         subst (IsAlive names told) same (all.alive n.one n.of_list)
 
-  exports_now : (whole : Whole) → s.going ≡ Some source → whole_of source (seen_now s) ≡ Some whole → (world status.CreateComplete).exports ≡ reexported name whole.exports x.exports
-  exports_now whole going e =
-      ap (λ o. (over (λ n t z. done_over n status.CreateComplete t z) o (over_all status.CreateComplete)).exports) h.going
+  -- what is seen as it stops is what was seen, as no call is open
+  seen_stopped : s.tokens ≡ [] → seen_now stopped ≡ seen_now s
+  seen_stopped none =
+      ap (λ ps. seen_in (map (marked ps) s.made ++ map (marked ps) s.held)) none
+      ∙ ap (λ ms. seen_in (ms ++ map (marked []) s.held)) (unmarked s.made) ∙ ap (λ hs. seen_in (s.made ++ hs)) (unmarked s.held)
+
+  exports_now : (whole : Whole) → s.tokens ≡ [] → s.going ≡ Some source → whole_of source (seen_now s) ≡ Some whole → (world status.CreateComplete).exports ≡ reexported name whole.exports x.exports
+  exports_now whole none going e =
+      (frame_of number name x s on (done status.CreateComplete) refl).exports
+      ∙ ap (λ seen. reexported name (whole_over s.going seen).exports x.exports) (seen_stopped none)
       ∙ ap (λ g. reexported name (whole_over g (seen_now s)).exports x.exports) going ∙ ap (λ o. reexported name (unwrap_or o empty_whole).exports x.exports) e
 
-  completed : IsRightCreate source s → AreAlive names told s.made s.tokens → (other : List ℕ) → EndsAs schemas other x s status.CreateInProgress status.CreateComplete → IsComplete name (world status.CreateComplete) (end_of status.CreateComplete s) lanes
+  completed : IsRightCreate source s → AreAlive names told s.made s.tokens → (other : List ℕ) → EndsAs schemas other x s status.CreateInProgress status.CreateComplete → IsComplete name (world status.CreateComplete) (end_of status.CreateComplete) lanes
   completed right all other ends =
       let w = ends_over schemas other x source s right ends in
       let whole : Whole = w.0 in
-      let held : IsWholeHeld source whole (ended status.CreateComplete s) = w.3 in
-      let in_held : (path : List ℕ) (r : Held) → current_at path (ended status.CreateComplete s).held ≡ Some r → In r (ended status.CreateComplete s).held =
-      λ path r e. (found_one (is_current_at path) (ended status.CreateComplete s).held r e).0 in
+      let held : IsWholeHeld source whole (ended_effect status.CreateComplete s).stack = w.3 in
+      let in_held : (path : List ℕ) (r : Held) → current_at path (ended_effect status.CreateComplete s).stack.held ≡ Some r → In r (ended_effect status.CreateComplete s).stack.held =
+      λ path r e. (found_one (is_current_at path) (ended_effect status.CreateComplete s).stack.held r e).0 in
       record {
         settled = record { none_open = held.none_open; none_made = held.none_made };
         evaluated = (
           source,
-          seen_in (ended status.CreateComplete s).held,
+          seen_in (ended_effect status.CreateComplete s).stack.held,
           whole,
           held.going,
-          λ path r e. (as_live r, live_there r (as_live r) refl (held_alive all r (in_held path r e)), shown_at path (ended status.CreateComplete s).held ∙ ap (option_map shown) e),
+          λ path r e. (as_live r, live_there r (as_live r) refl (held_alive all r (in_held path r e)), shown_at path (ended_effect status.CreateComplete s).stack.held ∙ ap (option_map shown) e),
           w.2,
           record {
             paths = λ path. (
@@ -266,7 +269,7 @@ module _ (schemas : List Schema) (names kinds : List (List ℕ)) (began told : T
             nothing_else = held.nothing_else;
             outputs = held.outputs;
           },
-          λ e. subst (λ es. In e (filter (λ u. bytes_eq name u.stack) es) ↔ In e (map (export_by name) whole.exports)) (sym (exports_now whole right.0.going w.1)) (only_those name whole.exports x.exports e),
+          λ e. subst (λ es. In e (filter (λ u. bytes_eq name u.stack) es) ↔ In e (map (export_by name) whole.exports)) (sym (exports_now whole held.none_open right.0.going w.1)) (only_those name whole.exports x.exports e),
         );
       }
 
@@ -284,18 +287,6 @@ module _ (schemas : List Schema) (names kinds : List (List ℕ)) (began told : T
     behind [] (m ∷ ms) f = absurd (true≢false (sym f))
     behind (r ∷ hs) ms f = absurd (true≢false (sym f))
 
-  here_at : (state : Status) → stack_at name (world state) ≡ Some (end_of state s)
-  here_at state =
-      ap (value_at name) (done_stacks state (stack_of_operation number x) (over_all state))
-      ∙ value_where number (end_of state) name x.stacks s h.here (goes_on names began told number name source x s h)
-
-  none_at : (state : Status) → ((t : StackState) → is_going number (end_of state t) ≡ false) → stack_of_operation number (world state) ≡ None
-  none_at state e =
-      ap (find (λ t. is_going number t.1)) (done_stacks state (stack_of_operation number x) (over_all state)) ∙ none_where number (end_of state) x.stacks e
-
-  operation_is : s.operation ≡ number
-  operation_is = eqb-true s.operation number (number_is names began told number name source x s h)
-
   -- what is live is of the stack as it ends, where this keeps each resource that was made
   still_ours :
       (t : StackState) → t.tokens ≡ s.tokens → t.leftovers ≡ s.leftovers
@@ -308,36 +299,33 @@ module _ (schemas : List Schema) (names kinds : List (List ℕ)) (began told : T
     by_part (is_born w) = is_born (subst (λ ps. IsBorn names told ps k after v.id) (sym tokens) w)
 
   -- where the creation is complete, what was made is held
-  made_held : (r : Held) → In r s.made → (q : Held) × In q (resources_of (end_of status.CreateComplete s)) × (q.physical ≡ r.physical)
-  made_held r i = by_whole (whole_over s.going (seen_in (map (marked s.tokens) s.made ++ map (marked s.tokens) s.held))) where
-    middle : StackState
-    middle = record s { status = status.CreateComplete; held = map (marked s.tokens) s.held; made = map (marked s.tokens) s.made }
-
+  made_held : (r : Held) → In r s.made → (q : Held) × In q (resources_of (end_of status.CreateComplete)) × (q.physical ≡ r.physical)
+  made_held r i = by_whole (whole_now stopped) where
     by_whole :
         (whole : Whole)
-        → (q : Held) × In q (map (settled_in whole middle) (map (marked s.tokens) s.held ++ map (marked s.tokens) s.made) ++ []) × (q.physical ≡ r.physical)
+        → (q : Held) × In q (map (settled_in whole stopped) (map (marked s.tokens) s.held ++ map (marked s.tokens) s.made) ++ []) × (q.physical ≡ r.physical)
     by_whole whole =
-        let q : Held = settled_in whole middle (marked s.tokens r) in (
+        let q : Held = settled_in whole stopped (marked s.tokens r) in (
           q,
-          in_left q (map (settled_in whole middle) (map (marked s.tokens) s.held ++ map (marked s.tokens) s.made)) []
-              (in_map (settled_in whole middle) (marked s.tokens r) (map (marked s.tokens) s.held ++ map (marked s.tokens) s.made)
-              (in_right (marked s.tokens r) (map (marked s.tokens) s.held) (map (marked s.tokens) s.made) (in_map (marked s.tokens) r s.made i))),
-          ap (λ v. v.id) (settled_live whole middle (marked s.tokens r) ∙ marked_live s.tokens r),
+          in_front q (map (settled_in whole stopped) (map (marked s.tokens) s.held ++ map (marked s.tokens) s.made)) []
+              (in_map (settled_in whole stopped) (marked s.tokens r) (map (marked s.tokens) s.held ++ map (marked s.tokens) s.made)
+              (in_back (marked s.tokens r) (map (marked s.tokens) s.held) (map (marked s.tokens) s.made) (in_map (marked s.tokens) r s.made i))),
+          ap (λ v. v.id) (settled_live whole stopped (marked s.tokens r) ∙ marked_live s.tokens r),
         )
 
   -- a rollback leaves what was made and not deleted, among what it made or, where it failed, among what is held
   made_left : (r : Held) → In r s.made → (q : Held) × In q (map (marked s.tokens) s.held ++ map (marked s.tokens) s.made) × (q.physical ≡ r.physical)
   made_left r i = (
     marked s.tokens r,
-    in_right (marked s.tokens r) (map (marked s.tokens) s.held) (map (marked s.tokens) s.made) (in_map (marked s.tokens) r s.made i),
+    in_back (marked s.tokens r) (map (marked s.tokens) s.held) (map (marked s.tokens) s.made) (in_map (marked s.tokens) r s.made i),
     ap (λ v. v.id) (marked_live s.tokens r),
   )
 
   made_kept : (r : Held) → In r s.made → (q : Held) × In q ((map (marked s.tokens) s.held ++ map (marked s.tokens) s.made) ++ []) × (q.physical ≡ r.physical)
   made_kept r i =
-      let q = made_left r i in (q.0, in_left q.0 (map (marked s.tokens) s.held ++ map (marked s.tokens) s.made) [] q.1, q.2)
+      let q = made_left r i in (q.0, in_front q.0 (map (marked s.tokens) s.held ++ map (marked s.tokens) s.made) [] q.1, q.2)
 
-  nothing_newer : (s.made ≡ []) × (s.tokens ≡ []) → NothingNewer (end_of status.RollbackComplete s) began told
+  nothing_newer : (s.made ≡ []) × (s.tokens ≡ []) → NothingNewer (end_of status.RollbackComplete) began told
   nothing_newer none k before after v b t i = by_part (h.agree.ours k before after v b t i) where
     by_part : IsOurs names told s.made s.tokens s.leftovers k before after v.id → (has_id v.id (live_of before) ≡ true) ⊎ (list_any (λ l. bytes_eq v.id l.physical) s.leftovers ≡ true)
     by_part (was_live e) = inl e
@@ -345,7 +333,7 @@ module _ (schemas : List Schema) (names kinds : List (List ℕ)) (began told : T
     by_part (is_made r j e o) = absurd (not_in r s.made none.0 j)
     by_part (is_born w) = absurd (not_in w.0 s.tokens none.1 w.4)
 
-  restored : is_cleared s ≡ true → EndsSo names kinds began told name source (world status.RollbackComplete) (end_of status.RollbackComplete s)
+  restored : is_cleared s ≡ true → EndsSo names kinds began told name source (world status.RollbackComplete) (end_of status.RollbackComplete)
   restored e =
       let none = none_made e in
       let none_kept : map (marked s.tokens) s.held ≡ [] = ap (map (marked s.tokens)) h.none_held in
@@ -358,19 +346,20 @@ module _ (schemas : List Schema) (names kinds : List (List ℕ)) (began told : T
       })
       h.none_before (nothing_newer none)
 
-  has_ended : (state : Status) → ((t : StackState) → is_going number (end_of state t) ≡ false) → (end_of state s).operation ≡ s.operation
-      → EndsSo names kinds began told name source (world state) (end_of state s) → OnlyOurs names (end_of state s) began told
+  has_ended :
+      (state : Status) → is_going number (end_of state) ≡ false → (end_of state).operation ≡ s.operation
+      → EndsSo names kinds began told name source (world state) (end_of state) → OnlyOurs names (end_of state) began told
       → HasEnded names kinds began told number name source (world state)
-  has_ended state none operation so ours = record {
-    none = none_at state none;
-    stack = end_of state s;
-    at_name = here_at state;
-    number_is = operation ∙ operation_is;
+  has_ended state ends operation so ours = record {
+    none = none_after number name x s on (done state) refl ends;
+    stack = end_of state;
+    at_name = here_after number name x s on (done state) refl;
+    number_is = operation ∙ number_is number name x s on;
     so = so;
     only_ours = ours;
     as_many = h.agree.as_many;
     all_tell = h.agree.all_tell;
-    fresh = subst (λ last. AreFresh last told) (sym (done_token state (stack_of_operation number x) (over_all state))) h.agree.fresh;
+    fresh = subst (λ last. AreFresh last told) (sym (frame_of number name x s on (done state) refl).token) h.agree.fresh;
   }
 
   -- how a creation may end
@@ -378,14 +367,14 @@ module _ (schemas : List Schema) (names kinds : List (List ℕ)) (began told : T
       (state : Status) (other : List ℕ) → s.status ≡ status.CreateInProgress → IsRightCreate source s → AreAlive names told s.made s.tokens
       → EndsAs schemas other x s status.CreateInProgress state → HasEnded names kinds began told number name source (world state)
   ends_forward status.CreateComplete other forward right all ends =
-      has_ended status.CreateComplete (λ t. and_right (t.operation == number) false refl) refl (completes refl (completed right all other ends) right.0.going)
-      (still_ours (end_of status.CreateComplete s) refl refl made_held)
+      has_ended status.CreateComplete (and_right (s.operation == number) false refl) refl (completes refl (completed right all other ends) right.0.going)
+      (still_ours (end_of status.CreateComplete) refl refl made_held)
   ends_forward state other forward right all ends = absurd ends
 
   pub ends_back :
       (state : Status) (other : List ℕ) → s.status ≡ status.RollbackInProgress → EndsAs schemas other x s status.RollbackInProgress state → HasEnded names kinds began told number name source (world state)
-  ends_back status.RollbackComplete other back ends = has_ended status.RollbackComplete (λ t. and_right (t.operation == number) false refl) refl (restored ends)
-      (still_ours (end_of status.RollbackComplete s) refl refl made_left)
-  ends_back status.RollbackFailed other back ends = has_ended status.RollbackFailed (λ t. and_right (t.operation == number) false refl) refl (fails refl)
-      (still_ours (end_of status.RollbackFailed s) refl refl made_kept)
+  ends_back status.RollbackComplete other back ends = has_ended status.RollbackComplete (and_right (s.operation == number) false refl) refl (restored ends)
+      (still_ours (end_of status.RollbackComplete) refl refl made_left)
+  ends_back status.RollbackFailed other back ends = has_ended status.RollbackFailed (and_right (s.operation == number) false refl) refl (fails refl)
+      (still_ours (end_of status.RollbackFailed) refl refl made_kept)
   ends_back state other back ends = absurd ends

@@ -1,7 +1,7 @@
 -- An outcome keeps what a run of a creation keeps: the call is settled on its lane, and the stack hears the answer.
 use Rattle.std.proofs.Common.{◌≡◌, inl, inr, ℕ, ◌+◌, ◌<◌, List, [], true, Option, Some, None, refl, sym, ap, subst, ◌∙◌, true≢false, length, option_and_then}
-use Rattle.std.specs.Prelude.{slice_index_or, slice_set, ⊤}
-use Rattle.std.specs.List.{list_all}
+use Rattle.std.specs.Prelude.{cond, slice_index_or, slice_set, ⊤}
+use Rattle.std.specs.List.{list_all, list_any}
 use Rattle.std.specs.Str.{bytes_eq}
 use Rattle.std.proofs.lemmas.List.{set-get_or}
 use Rattle.std.proofs.lemmas.Bool.{eqb-true}
@@ -23,25 +23,26 @@ use Rattle.cf_entry.specs.declared.entry.Entry.TheVariants as entry
 use Rattle.cf_entry.specs.declared.entry.Reply.{Reply}
 use Rattle.cf_entry.specs.declared.entry.Reply.TheVariants as reply
 use Rattle.cf_stacks.specs.declared.held.Held.{Held}
-use Rattle.cf_stacks.specs.declared.held.HeldStatus.TheVariants as held
 use Rattle.cf_stacks.specs.declared.held.Leftover.{Leftover}
 use Rattle.cf_stacks.specs.declared.held.Pending.{Pending}
-use Rattle.cf_stacks.specs.declared.state.StackState.{StackState}
-use Rattle.cf_stacks.specs.declared.state.World.{World}
-use Rattle.cf_stacks.specs.declared.terms.Terms.{Terms}
+use Rattle.cf_stacks.specs.World.{StackState, World}
 use Rattle.cf_stacks.specs.Status.{is_in_progress}
-use Rattle.cf_stacks.specs.Words.{current_at, is_update, is_create, has_token, pending_of, without}
-use Rattle.cf_stacks.specs.Fold.{heard, made_of, status_made, answered, closing, replied, terms_for, with_status, world_after}
+use Rattle.cf_stacks.specs.Words.{current_at, is_update, is_create, has_physical, has_token, pending_of, without, without_token}
+use Rattle.cf_stacks.specs.Calls.{is_restore}
+use Rattle.cf_stacks.specs.Reply.{answered, closing, deleting, made_of, replied, replying, status_made, still_open, terms_at, with_status}
+use Rattle.cf_stacks.specs.Fold.{world_after}
+use Rattle.cf_stacks.specs.declared.held.HeldStatus.TheVariants as held
 use Rattle.cf_plan.specs.Forward.{In}
 use Rattle.cf_plan.specs.Created.{IsRightCreate, IsSaid}
 use Rattle.cf_plan.specs.Run.{Told, IsDone, IsAsked, answer_as, Tells, name_at, IsSettledAs}
-use Rattle.cf_plan.specs.Keeping.{Agree, AreAlive, IsOnItsWay, makes, takes_back, IsKept}
+use Rattle.cf_plan.specs.Keeping.{has_gone, Agree, AreAlive, IsOnItsWay, makes, takes_back, IsKept}
 use Rattle.cf_plan.proofs.CreatedStays.{found_one}
 use Rattle.cf_plan.proofs.CreatedRight.{outcome_right}
 use Rattle.cf_plan.proofs.RunLanes.{settled_now}
 use Rattle.cf_plan.proofs.KeepingSettle.{agree_settled, alive_settled, here_now}
-use Rattle.cf_plan.proofs.KeepingTold.{agree_refused, agree_created, alive_created, alive_refused, agree_deleted, agree_undeleted}
-use Rattle.cf_plan.proofs.KeepingWorld.{kept_with}
+use Rattle.cf_plan.proofs.Frame.{frame_of}
+use Rattle.cf_plan.proofs.KeepingTold.{restated, agree_refused, agree_created, alive_created, alive_refused, agree_deleted, agree_undeleted}
+use Rattle.cf_plan.proofs.KeepingWorld.{left_by, is_on_it, kept_with}
 
 -- every open call makes
 abbrev AllCreate : List Pending → Type 0
@@ -121,24 +122,17 @@ IsToldBy names now p (reply.Success id attrs) = Settled names now p (Success id 
 IsToldBy names now p (reply.Failed c) = Settled names now p (Failed c)
 IsToldBy names now p reply.Doubt = ⊤
 
--- an answer leaves what else the stack has
-pub record Leaves (s t : StackState) : Type 0 where
-  pub operation : t.operation ≡ s.operation
-  pub status : t.status ≡ s.status
-  pub before : t.before ≡ s.before
-
-leaves : (t : Terms) (p : Pending) (r : Request) (a : Reply) (s : StackState) (token : ℕ) → Leaves s (closing token a (answered t p r a s))
-leaves t p (request.Create kind props) (reply.Success physical attrs) s token = record { operation = refl; status = refl; before = refl }
-leaves t p r a s token = record { operation = refl; status = refl; before = refl }
-
 module _ (names : List (List ℕ)) (began told now : Told) (number : ℕ) (name : List ℕ) (source : Source) (x : World) (s : StackState)
     (h : IsKept names began told number name source x s) (lanes_named : list_all is_lane_name names ≡ true) (lanes_differ : all_differ bytes_eq names ≡ true)
     (p : Pending) (i : In p s.tokens) (acted : Acted names began told now s.made s.tokens s.leftovers x.token) where
-  abbrev closed : Terms → Request → Reply → StackState
-  closed t r a = closing p.token a (answered t p r a s)
+  abbrev closed : Request → Reply → StackState
+  closed r a = closing p.token a (answered (is_restore p.token s) p.path r a s)
 
-  -- what the stack makes of an answer agrees with the lanes
+  -- What the stack makes of an answer agrees with the lanes, and what else it has stays.
   pub record Lists (u : StackState) : Type 0 where
+    pub operation : u.operation ≡ s.operation
+    pub status : u.status ≡ s.status
+    pub before : u.before ≡ s.before
     pub none_held : u.held ≡ []
     pub agree : Agree names began now u.made u.tokens u.leftovers x.token
     pub alive : AreAlive names told s.made s.tokens → AllCreate s.tokens → AreAlive names now u.made u.tokens
@@ -147,69 +141,99 @@ module _ (names : List (List ℕ)) (began told now : Told) (number : ℕ) (name 
   never_deletes : (A : Type 0) (id : List ℕ) → p.request ≡ request.Delete id → AllCreate s.tokens → A
   never_deletes A id e creates = absurd (true≢false (sym (creates p i) ∙ ap is_create e))
 
-  of_create : (kind : List ℕ) (props : List (List ℕ × Data)) → p.request ≡ request.Create kind props → (t : Terms) (a : Reply) → IsToldBy names now p a → Lists (closed t (request.Create kind props) a)
-  of_create kind props e t (reply.Success id attrs) so =
-      let m : Held = made_of p.path kind id props attrs (status_made (current_at p.path s.held)) t in
+  of_create : (kind : List ℕ) (props : List (List ℕ × Data)) → p.request ≡ request.Create kind props → (a : Reply) → IsToldBy names now p a → Lists (closed (request.Create kind props) a)
+  of_create kind props e (reply.Success id attrs) so =
+      let m : Held = made_of (terms_at p.path s) (status_made (current_at p.path s.held)) p.path kind props id attrs in
       record {
+        operation = refl;
+        status = refl;
+        before = refl;
         none_held = h.none_held;
         agree = agree_created names began now s.made s.tokens s.leftovers x.token acted.agree lanes_named lanes_differ p i so.place so.lane (Success id attrs) so.settled kind props attrs id e refl m refl;
         alive = λ all creates. alive_created names began now s.made s.tokens s.leftovers x.token acted.agree lanes_named lanes_differ p i so.place so.lane (Success id attrs) so.settled kind props attrs id e refl (acted.alive all creates) m refl refl refl refl;
       }
-  of_create kind props e t (reply.Failed c) so = record {
+  of_create kind props e (reply.Failed c) so = record {
+    operation = refl;
+    status = refl;
+    before = refl;
     none_held = h.none_held;
     agree = agree_refused names began now s.made s.tokens s.leftovers x.token acted.agree lanes_named lanes_differ p i so.place so.lane (Failed c) so.settled (λ id attrs d. let no : ⊥ = cc in no);
     alive = λ all creates. alive_refused names began now s.made s.tokens s.leftovers x.token acted.agree lanes_named lanes_differ p i so.place so.lane (Failed c) so.settled (acted.alive all creates);
   }
-  of_create kind props e t reply.Doubt so = record { none_held = h.none_held; agree = acted.agree; alive = acted.alive }
+  of_create kind props e reply.Doubt so =
+      record { operation = refl; status = refl; before = refl; none_held = h.none_held; agree = acted.agree; alive = acted.alive }
 
-  of_delete : (id : List ℕ) → p.request ≡ request.Delete id → (t : Terms) (a : Reply) → IsToldBy names now p a → Lists (closed t (request.Delete id) a)
-  of_delete id e t (reply.Success physical attrs) so = record {
+  -- a deletion that was refused changes what is made, as nothing is held
+  with_restated : (id : List ℕ) → with_status id held.DeleteFailed s ≡ record s { made = restated id held.DeleteFailed s.made }
+  with_restated id =
+      ap (λ b. cond b (record s { held = restated id held.DeleteFailed s.held }) (record s { made = restated id held.DeleteFailed s.made }))
+      (ap (list_any (has_physical id)) h.none_held)
+
+  -- a deletion whose resource is gone takes it away
+  gone_away :
+      (id : List ℕ) → p.request ≡ request.Delete id → (a : Reply) (t : Settlement) → still_open p.token a s.tokens ≡ without_token p.token s.tokens
+      → has_gone t ≡ true → Settled names now p t → Lists (closing p.token a (deleting id s))
+  gone_away id e a t tokens gone so = record {
+    operation = refl;
+    status = refl;
+    before = refl;
     none_held = ap (without id) h.none_held;
-    agree = agree_deleted names began now s.made s.tokens s.leftovers x.token acted.agree lanes_named lanes_differ p i so.place so.lane (Success physical attrs) so.settled id e refl;
+    agree =
+        subst (λ ps. Agree names began now (without id s.made) ps s.leftovers x.token) (sym tokens)
+        (agree_deleted names began now s.made s.tokens s.leftovers x.token acted.agree lanes_named lanes_differ p i so.place so.lane t so.settled id e gone);
     alive = λ all creates. never_deletes _ id e creates;
   }
-  of_delete id e t (reply.Failed code.NotFound) so = record {
-    none_held = ap (without id) h.none_held;
-    agree = agree_deleted names began now s.made s.tokens s.leftovers x.token acted.agree lanes_named lanes_differ p i so.place so.lane (Failed code.NotFound) so.settled id e refl;
+
+  -- one that was refused leaves it
+  refused :
+      (id : List ℕ) → p.request ≡ request.Delete id → (a : Reply) (t : Settlement) → still_open p.token a s.tokens ≡ without_token p.token s.tokens
+      → Settled names now p t → Lists (closing p.token a (with_status id held.DeleteFailed s))
+  refused id e a t tokens so = subst (λ u. Lists (closing p.token a u)) (sym (with_restated id)) (record {
+    operation = refl;
+    status = refl;
+    before = refl;
+    none_held = h.none_held;
+    agree =
+        subst (λ ps. Agree names began now (restated id held.DeleteFailed s.made) ps s.leftovers x.token) (sym tokens)
+        (agree_undeleted names began now s.made s.tokens s.leftovers x.token acted.agree lanes_named lanes_differ p i so.place so.lane t so.settled id e held.DeleteFailed);
     alive = λ all creates. never_deletes _ id e creates;
-  }
-  of_delete id e t (reply.Failed c) so = record {
-    none_held = ap (with_status id held.DeleteFailed) h.none_held;
-    agree = agree_undeleted names began now s.made s.tokens s.leftovers x.token acted.agree lanes_named lanes_differ p i so.place so.lane (Failed c) so.settled id e held.DeleteFailed;
-    alive = λ all creates. never_deletes _ id e creates;
-  }
-  of_delete id e t reply.Doubt so = record { none_held = h.none_held; agree = acted.agree; alive = acted.alive }
+  })
 
-  lists : (r : Request) → p.request ≡ r → (t : Terms) (a : Reply) → IsToldBy names now p a → Lists (closed t r a)
-  lists (request.Create kind props) e t a so = of_create kind props e t a so
-  lists (request.Delete id) e t a so = of_delete id e t a so
-  lists (request.Update id props) e t a so = absurd (true≢false (ap is_update (sym e) ∙ acted.agree.no_update p i))
+  of_delete : (id : List ℕ) → p.request ≡ request.Delete id → (a : Reply) → IsToldBy names now p a → Lists (closed (request.Delete id) a)
+  of_delete id e (reply.Success physical attrs) so = gone_away id e (reply.Success physical attrs) (Success physical attrs) refl refl so
+  of_delete id e (reply.Failed code.NotFound) so = gone_away id e (reply.Failed code.NotFound) (Failed code.NotFound) refl refl so
+  of_delete id e (reply.Failed c) so = refused id e (reply.Failed c) (Failed c) refl so
+  of_delete id e reply.Doubt so =
+      record { operation = refl; status = refl; before = refl; none_held = h.none_held; agree = acted.agree; alive = acted.alive }
 
-  module _ (a : Reply) (before after : ℕ) where
-    abbrev outcome : Entry
-    outcome = entry.Outcome number p.token a before after
+  lists : (r : Request) → p.request ≡ r → (a : Reply) → IsToldBy names now p a → Lists (closed r a)
+  lists (request.Create kind props) e a so = of_create kind props e a so
+  lists (request.Delete id) e a so = of_delete id e a so
+  lists (request.Update id props) e a so = absurd (true≢false (ap is_update (sym e) ∙ acted.agree.no_update p i))
 
-    abbrev pub heard_as : StackState → StackState
-    heard_as t = heard (x.place + 1) outcome t (replied p.token a (pending_of p.token t) t)
+  pub kept_heard :
+      (a : Reply) (before after : ℕ) → pending_of p.token s ≡ Some p → IsToldBy names now p a
+      → IsKept names began now number name source (world_after x (entry.Outcome number p.token a before after)) (left_by x (entry.Outcome number p.token a before after) s)
+  kept_heard a before after open_is so =
+      kept_with names began told number name source x s h outcome refl now x.token (frame_of number name x s (is_on_it names began told number name source x s h) outcome refl).token
+      l.operation (goes h.way) l.before l.none_held (by_way h.way) l.agree where
+        outcome : Entry
+        outcome = entry.Outcome number p.token a before after
 
-    pub kept_heard : pending_of p.token s ≡ Some p → IsToldBy names now p a → IsKept names began now number name source (world_after x outcome) (heard_as s)
-    kept_heard open_is so =
-        let t : Terms = terms_for (Some p) s in
-        let same : closed t p.request a ≡ replied p.token a (pending_of p.token s) s = ap (λ o. replied p.token a o s) (sym open_is) in
-        let l : Lists (replied p.token a (pending_of p.token s) s) = subst Lists same (lists p.request refl t a so) in
-        let v : Leaves s (replied p.token a (pending_of p.token s) s) = subst (Leaves s) same (leaves t p p.request a s p.token) in
-        kept_with names began told number name source x s h now (world_after x outcome) heard_as refl v.operation (goes h.way v.status) v.before l.none_held
-        (by_way h.way v.status l.alive) l.agree where
-          goes : IsOnItsWay names told source s → (heard_as s).status ≡ s.status → is_in_progress (heard_as s).status ≡ true
-          goes (makes forward right all) e = ap is_in_progress (e ∙ forward)
-          goes (takes_back back) e = ap is_in_progress (e ∙ back)
+        same : closed p.request a ≡ replying p.token a s
+        same = ap (λ o. replied p.token a o s) (sym open_is)
 
-          by_way :
-              IsOnItsWay names told source s → (heard_as s).status ≡ s.status
-              → (AreAlive names told s.made s.tokens → AllCreate s.tokens → AreAlive names now (heard_as s).made (heard_as s).tokens) → IsOnItsWay names now source (heard_as s)
-          by_way (makes forward right all) e alive =
-              makes (e ∙ forward) (outcome_right source s right (x.place + 1) number p.token before after a) (alive all (all_create source s right))
-          by_way (takes_back back) e alive = takes_back (e ∙ back)
+        l : Lists (replying p.token a s)
+        l = subst Lists same (lists p.request refl a so)
+
+        goes : IsOnItsWay names told source s → is_in_progress (left_by x outcome s).status ≡ true
+        goes (makes forward right all) = ap is_in_progress (l.status ∙ forward)
+        goes (takes_back back) = ap is_in_progress (l.status ∙ back)
+
+        by_way : IsOnItsWay names told source s → IsOnItsWay names now source (left_by x outcome s)
+        by_way (makes forward right all) =
+            makes (l.status ∙ forward) (outcome_right source s right (x.place + 1) number p.token before after a) (l.alive all (all_create source s right))
+        by_way (takes_back back) = takes_back (l.status ∙ back)
 
 module _ (schemas : List Schema) (names : List (List ℕ)) (began told now : Told) (counts counted : List ℕ) (number : ℕ) (name : List ℕ) (source : Source) (x : World) (s : StackState)
     (h : IsKept names began told number name source x s) (lanes_named : list_all is_lane_name names ≡ true) (lanes_differ : all_differ bytes_eq names ≡ true)
@@ -230,7 +254,7 @@ module _ (schemas : List Schema) (names : List (List ℕ)) (began told now : Tol
 
   pub kept_outcome :
       (token : ℕ) (a : Reply) (before after : ℕ) → IsDone schemas names x told now counts counted (entry.Outcome number token a before after)
-      → (t : StackState) × IsKept names began now number name source (world_after x (entry.Outcome number token a before after)) t
+      → IsKept names began now number name source (world_after x (entry.Outcome number token a before after)) (left_by x (entry.Outcome number token a before after) s)
   kept_outcome token a before after done =
       let p : Pending = done.1 in
       let open_is : pending_of token s ≡ Some p = ap (option_and_then (λ u. pending_of token u.1)) (sym h.going) ∙ done.2 in
@@ -242,8 +266,8 @@ module _ (schemas : List Schema) (names : List (List ℕ)) (began told now : Tol
       let l = h.agree.all_tell k b.0 b.1 in
       let m = tells_by (slice_index_or told k None) l.0 k p a l.1 asked.4.0 in
       let moves : now ≡ slice_set told k (Some m.0) = asked.4.1 ∙ ap (slice_set told k) m.1 in
-      let d = acted_by a p one.0 k asked.3 l.0 m.0 l.1 moves m.2 in (
-        heard_as names began told now number name source x s h lanes_named lanes_differ p one.0 d.0 a before after s,
-        subst (λ n. IsKept names began now number name source (world_after x (entry.Outcome number n a before after)) (heard_as names began told now number name source x s h lanes_named lanes_differ p one.0 d.0 a before after s)) (sym token_is)
-            (kept_heard names began told now number name source x s h lanes_named lanes_differ p one.0 d.0 a before after (ap (λ n. pending_of n s) (sym token_is) ∙ open_is) d.1),
-      )
+      let d = acted_by a p one.0 k asked.3 l.0 m.0 l.1 moves m.2 in
+      subst
+      (λ n. IsKept names began now number name source (world_after x (entry.Outcome number n a before after)) (left_by x (entry.Outcome number n a before after) s))
+      (sym token_is)
+      (kept_heard names began told now number name source x s h lanes_named lanes_differ p one.0 d.0 a before after (ap (λ n. pending_of n s) (sym token_is) ∙ open_is) d.1)

@@ -3,7 +3,6 @@ use Rattle.std.proofs.Common.{◌≡◌, ℕ, suc, zero, ◌<◌, List, [], ◌�
 use Rattle.std.specs.Prelude.{is_some}
 use Rattle.std.specs.List.{list_all}
 use Rattle.std.specs.Str.{bytes_eq}
-use Rattle.std.proofs.lemmas.Bool.{eqb-true}
 use Rattle.cf_tree.specs.Named.{all_differ}
 use Rattle.cf_tree.specs.declared.source.Source.{Source}
 use Rattle.cf_schema.specs.declared.described.Schema.{Schema}
@@ -15,9 +14,8 @@ use Rattle.cf_entry.specs.declared.status.Status.{Status}
 use Rattle.cf_entry.specs.declared.status.Status.TheVariants as status
 use Rattle.cf_stacks.specs.declared.held.Held.{Held}
 use Rattle.cf_stacks.specs.declared.held.Pending.{Pending}
-use Rattle.cf_stacks.specs.declared.state.StackState.{StackState}
-use Rattle.cf_stacks.specs.declared.state.World.{World}
-use Rattle.cf_stacks.specs.Words.{stack_at, stack_of_operation, resources_of}
+use Rattle.cf_stacks.specs.World.{StackState, World, stack_at, stack_of_operation}
+use Rattle.cf_stacks.specs.Words.{resources_of}
 use Rattle.cf_stacks.specs.Fold.{world_after, fold_of}
 use Rattle.cf_plan.specs.Forward.{In, here, there}
 use Rattle.cf_plan.specs.Follow.{MayFollowOn, EndsAs}
@@ -25,11 +23,11 @@ use Rattle.cf_plan.specs.Promise.{Promised}
 use Rattle.cf_plan.specs.Run.{Told, IsDone, IsOwn, Runs, lanes_told, HasBegun, Tells, IsOurs, was_live, is_left, is_made, is_born, OnlyOurs, NothingNewer, KeepsPromise, CreationKeepsPromise}
 use Rattle.cf_plan.specs.Blame.{RollbackBlames}
 use Rattle.cf_plan.specs.Keeping.{IsOnItsWay, makes, takes_back, IsKept}
-use Rattle.cf_plan.proofs.Causing.{in_right}
-use Rattle.cf_plan.proofs.RunLists.{any_of}
+use Rattle.cf_plan.proofs.Frame.{number_is}
+use Rattle.cf_plan.proofs.RunLists.{any_of, in_back}
 use Rattle.cf_plan.proofs.RunLanes.{same_bytes}
-use Rattle.cf_plan.proofs.KeepingWorld.{number_is}
-use Rattle.cf_plan.proofs.KeepingSteps.{IsStep, step_of, intended, kept_intent, left, kept_kept, turned_as, kept_phase}
+use Rattle.cf_plan.proofs.KeepingWorld.{left_by, is_on_it}
+use Rattle.cf_plan.proofs.KeepingSteps.{IsStep, step_of, kept_intent, kept_kept, kept_phase}
 use Rattle.cf_plan.proofs.KeepingOutcome.{kept_outcome}
 use Rattle.cf_plan.proofs.KeepingEnd.{EndsSo, completes, restores, fails, HasEnded, not_in, ends_forward, ends_back}
 
@@ -67,16 +65,16 @@ module _ (schemas : List Schema) (names kinds : List (List ℕ)) (began : Told) 
     step : (e : Entry) → IsOwn number e → Steps e
     step (entry.Kept n path physical w) own done =
         subst (λ m. Steps (entry.Kept m path physical w)) (sym own)
-        (λ d. same_told told now _ d.1 (goes (left schemas names began told number name source x s h path physical w s) (kept_kept schemas names began told number name source x s h path physical w d.0))) done
+        (λ d. same_told told now _ d.1 (goes (left_by x (entry.Kept number path physical w) s) (kept_kept schemas names began told number name source x s h path physical w d.0))) done
     step (entry.Intent n token lane path r) own done =
         subst (λ m. Steps (entry.Intent m token lane path r)) (sym own)
-        (λ d. same_told told now _ d.1 (goes (intended schemas names began told number name source x s h token lane path r s) (kept_intent schemas names began told number name source x s h token lane path r d.0))) done
+        (λ d. same_told told now _ d.1 (goes (left_by x (entry.Intent number token lane path r) s) (kept_intent schemas names began told number name source x s h token lane path r d.0))) done
     step (entry.Outcome n token a before after) own done =
         subst (λ m. Steps (entry.Outcome m token a before after)) (sym own)
-        (λ d. (let k = kept_outcome schemas names began told now counts counted number name source x s h lanes_named lanes_differ all_began token a before after d in goes k.0 k.1)) done
+        (λ d. goes (left_by x (entry.Outcome number token a before after) s) (kept_outcome schemas names began told now counts counted number name source x s h lanes_named lanes_differ all_began token a before after d)) done
     step (entry.Phase n p c) own done =
         subst (λ m. Steps (entry.Phase m p c)) (sym own)
-        (λ d. same_told told now _ d.1 (goes (turned_as schemas names began told number name source x s h p c s) (kept_phase schemas names began told number name source x s h p c d.0))) done
+        (λ d. same_told told now _ d.1 (goes (left_by x (entry.Phase number p c) s) (kept_phase schemas names began told number name source x s h p c d.0))) done
     step (entry.Done n state failed) own done =
         subst (λ m. Steps (entry.Done m state failed)) (sym own) (λ d. same_told told now _ d.1 (is_over (ended told x s h state failed d.0))) done
     step (entry.Opened epoch lanes) own done = absurd own
@@ -137,6 +135,8 @@ begun names kinds x told number name source s h =
     let none_made = λ (r : Held) (i : In r s.made). not_in r s.made h.none_made i in
     let none_open = λ (p : Pending) (i : In p s.tokens). not_in p s.tokens h.none_open i in
     record {
+      apart = h.apart;
+      numbered = h.numbered;
       going = h.going;
       here = h.here;
       none_before = h.none_before;
@@ -190,7 +190,7 @@ keeps_promise blames schemas names kinds x told now counts counted number name s
         by_part : IsOurs names now t.made t.tokens t.leftovers place before after v.id → IsOurs names now (resources_of t) t.tokens t.leftovers place before after v.id
         by_part (was_live e) = was_live e
         by_part (is_left e) = is_left e
-        by_part (is_made r j e o) = is_made r (in_right r t.held t.made j) e o
+        by_part (is_made r j e o) = is_made r (in_back r t.held t.made j) e o
         by_part (is_born w) = is_born w
 
       promises_nothing : (t : StackState) → IsOnItsWay names now source t → Promised t.status name (fold_of x es) t (lanes_told names kinds now)
@@ -214,7 +214,7 @@ keeps_promise blames schemas names kinds x told now counts counted number name s
       by_end (goes t k) = record {
         stack = t;
         here = k.here;
-        number_is = eqb-true t.operation number (number_is names told now number name source (fold_of x es) t k);
+        number_is = number_is number name (fold_of x es) t (is_on_it names told now number name source (fold_of x es) t k);
         promised = promises_nothing t k.way;
         source_kept = λ e. absurd (not_complete t k.way e);
         nothing_newer = λ e. absurd (not_yet t k.way e);

@@ -1,10 +1,10 @@
 -- A call that begins, a resource that is kept and a phase keep what a run of a creation keeps.
-use Rattle.std.proofs.Common.{◌≡◌, ◌⊎◌, inl, inr, ℕ, ◌+◌, List, [], ◌∷◌, true, false, Option, Some, None, refl, sym, ap, subst, ◌∙◌}
+use Rattle.std.proofs.Common.{◌≡◌, ◌⊎◌, inl, inr, ℕ, ◌+◌, ◌≤◌, List, [], ◌∷◌, ◌++◌, true, false, Option, Some, None, refl, sym, ap, subst, ◌∙◌, arith}
 use Rattle.std.specs.Prelude.{cond}
 use Rattle.std.specs.List.{list_any}
 use Rattle.std.specs.Str.{bytes_eq}
 use Rattle.std.proofs.lemmas.List.Folds.{list_any-append}
-use Rattle.std.proofs.lemmas.Bool.{or_right}
+use Rattle.std.proofs.lemmas.Bool.{or_right, eqb-true}
 use Rattle.cf_tree.specs.declared.request.Request.{Request}
 use Rattle.cf_tree.specs.declared.request.Request.TheVariants as request
 use Rattle.cf_tree.specs.declared.source.Source.{Source}
@@ -20,21 +20,22 @@ use Rattle.cf_entry.specs.declared.turn.Phase.TheVariants as phase
 use Rattle.cf_entry.specs.declared.turn.Cause.{Cause}
 use Rattle.cf_stacks.specs.declared.held.Held.{Held}
 use Rattle.cf_stacks.specs.declared.held.Pending.{Pending}
-use Rattle.cf_stacks.specs.declared.state.StackState.{StackState}
-use Rattle.cf_stacks.specs.declared.state.World.{World}
+use Rattle.cf_stacks.specs.World.{StackState, World}
 use Rattle.cf_stacks.specs.Status.{Stage, Forward, Clean, Back, BackClean, Gone, stage_of, turned, is_in_progress}
-use Rattle.cf_stacks.specs.Words.{current_at, is_update, is_create_at, has_physical, without, resources_of, stack_of_operation}
-use Rattle.cf_stacks.specs.Fold.{heard, keeping, keeping_known, keeping_unknown, turning, over, phase_over, on_stack, world_after}
+use Rattle.cf_stacks.specs.Words.{current_at, is_update, is_create_at, has_physical, has_token, without, resources_of}
+use Rattle.cf_stacks.specs.Calls.{new_call}
+use Rattle.cf_stacks.specs.Reply.{intending, keeping, keeping_known, keeping_unknown}
+use Rattle.cf_stacks.specs.Fold.{world_after}
 use Rattle.cf_plan.specs.Forward.{In}
 use Rattle.cf_plan.specs.Follow.{MayFollowOn, MayFollowIn, MayIntend, IntendsForward, IntendsDeletion, IntendsRestore, FitsLane, MayKeep, MayTurn}
-use Rattle.cf_plan.specs.Created.{intending}
 use Rattle.cf_plan.specs.Run.{Told}
-use Rattle.cf_plan.specs.Keeping.{IsKnown, Agree, IsOnItsWay, makes, takes_back, IsKept}
+use Rattle.cf_plan.specs.Keeping.{IsKnown, Agree, AreAlive, IsOnItsWay, makes, takes_back, IsKept}
 use Rattle.cf_plan.proofs.CreatedRight.{intent_right}
-use Rattle.cf_plan.proofs.RunLists.{any_of}
+use Rattle.cf_plan.proofs.Frame.{IsOn, frame_of}
+use Rattle.cf_plan.proofs.RunLists.{any_of, none_any}
 use Rattle.cf_plan.proofs.RunLanes.{same_bytes}
 use Rattle.cf_plan.proofs.KeepingTold.{agree_intended, alive_intended, agree_kept}
-use Rattle.cf_plan.proofs.KeepingWorld.{same_stack, kept_with}
+use Rattle.cf_plan.proofs.KeepingWorld.{same_stack, left_by, is_on_it, kept_with}
 
 -- the two statuses of a creation that goes on
 pub goes_forward : (s : StackState) → s.status ≡ status.CreateInProgress → is_in_progress s.status ≡ true
@@ -56,6 +57,13 @@ some_id (b ∷ name) id o = ap (λ i. bytes_eq i []) o.1
 
 module _ (schemas : List Schema) (names : List (List ℕ)) (began told : Told) (number : ℕ) (name : List ℕ) (source : Source) (x : World) (s : StackState)
     (h : IsKept names began told number name source x s) where
+  on : IsOn number name x s
+  on = is_on_it names began told number name source x s h
+
+  -- the creation goes on after an entry
+  abbrev Goes : Entry → Type 0
+  Goes e = IsKept names began told number name source (world_after x e) (left_by x e s)
+
   -- what may follow is of the stack
   pub record IsStep (e : Entry) (out : List ℕ) : Type 0 where
     pub stack : List ℕ
@@ -77,11 +85,19 @@ module _ (schemas : List Schema) (names : List (List ℕ)) (began told : Told) (
     abbrev intent : Entry
     intent = entry.Intent number token lane path r
 
-    abbrev pub intended : StackState → StackState
-    intended t = heard (x.place + 1) intent t (intending token lane path r t)
-
     abbrev call : Pending
     call = record { token = token; path = path; lane = lane; request = r }
+
+    abbrev opened : StackState
+    opened = record s { tokens = s.tokens ++ call ∷ []; ledger = s.ledger ++ new_call number s.status call ∷ [] }
+
+    -- no call is open under the next token
+    opens : token ≡ x.token + 1 → intending number call s ≡ opened
+    opens next =
+        ap (λ b. cond b s opened) (none_any (has_token token) s.tokens (λ p i e.
+        let low : p.token ≤ x.token = h.agree.past p i in
+        let same : token ≡ p.token = eqb-true token p.token e in
+        let no : ⊥ = omega arith in no))
 
   -- a call that begins in the forward phase makes
   forward_makes : (path : List ℕ) (r : Request) → s.held ≡ [] → IntendsForward schemas s path r → is_update r ≡ false × ((id : List ℕ) → r ≡ request.Delete id → ⊥)
@@ -109,25 +125,34 @@ module _ (schemas : List Schema) (names : List (List ℕ)) (began told : Told) (
   )
   back_deletes lane path (request.Delete physical) back fits (inr i) = absurd i
 
-  pub kept_intent : (token : ℕ) (lane path : List ℕ) (r : Request) → MayFollowOn schemas number x [] (entry.Intent number token lane path r) → IsKept names began told number name source (world_after x (entry.Intent number token lane path r)) (intended token lane path r s)
-  kept_intent token lane path r may = by_way h.way (step_of (intent token lane path r) [] may) where
-    after : IsOnItsWay names told source (intended token lane path r s) → is_in_progress s.status ≡ true → token ≡ x.token + 1 → is_update r ≡ false
-        → ((id : List ℕ) → r ≡ request.Delete id → IsOfLane lane id × IsKnown names told id) → IsKept names began told number name source (world_after x (intent token lane path r)) (intended token lane path r s)
-    after way goes next none del =
-        kept_with names began told number name source x s h told (world_after x (intent token lane path r)) (intended token lane path r) refl refl goes refl h.none_held way
-        (agree_intended names began told s.made s.tokens s.leftovers x.token h.agree (call token lane path r) next none del)
+  pub kept_intent : (token : ℕ) (lane path : List ℕ) (r : Request) → MayFollowOn schemas number x [] (entry.Intent number token lane path r) → Goes (entry.Intent number token lane path r)
+  kept_intent token lane path r may = by_way h.way (step_of e [] may) where
+    e : Entry
+    e = intent token lane path r
 
-    by_way : IsOnItsWay names told source s → IsStep (intent token lane path r) [] → IsKept names began told number name source (world_after x (intent token lane path r)) (intended token lane path r s)
+    after : token ≡ x.token + 1 → IsOnItsWay names told source (left_by x e s) → is_in_progress s.status ≡ true → is_update r ≡ false
+        → ((id : List ℕ) → r ≡ request.Delete id → IsOfLane lane id × IsKnown names told id) → Goes e
+    after next way goes none del =
+        let same : intending number (call token lane path r) s ≡ opened token lane path r = opens token lane path r next in
+        kept_with names began told number name source x s h e refl told token (frame_of number name x s on e refl).token
+        (ap (λ t. t.operation) same) (ap (λ t. is_in_progress t.status) same ∙ goes) (ap (λ t. t.before) same) (ap (λ t. t.held) same ∙ h.none_held) way
+        (subst (λ t. Agree names began told t.made t.tokens t.leftovers token) (sym same)
+        (agree_intended names began told s.made s.tokens s.leftovers x.token h.agree (call token lane path r) next none del))
+
+    by_way : IsOnItsWay names told source s → IsStep e [] → Goes e
     by_way (makes forward right all) step =
         let may_intend : MayIntend schemas step.stack x [] s Forward token lane path r = subst (λ g. MayIntend schemas step.stack x [] s g token lane path r) (sym (in_forward s step.stage forward step.stage_is)) step.may in
         let made = forward_makes path r h.none_held may_intend.chosen.3 in
-        after (makes forward (intent_right schemas step.stack x [] source s right (x.place + 1) number token lane path r may_intend)
-        (alive_intended names began told s.made s.tokens s.leftovers x.token h.agree (call token lane path r) may_intend.next all))
-        (goes_forward s forward) may_intend.next made.0 (λ id e. absurd (made.1 id e))
+        let same : intending number (call token lane path r) s ≡ opened token lane path r = opens token lane path r may_intend.next in
+        let alive : AreAlive names told (intending number (call token lane path r) s).made (intending number (call token lane path r) s).tokens =
+        subst (λ t. AreAlive names told t.made t.tokens) (sym same) (alive_intended names began told s.made s.tokens s.leftovers x.token h.agree (call token lane path r) may_intend.next all) in
+        after may_intend.next (makes (ap (λ t. t.status) same ∙ forward) (intent_right schemas step.stack x [] source s right (x.place + 1) number token lane path r may_intend) alive)
+        (goes_forward s forward) made.0 (λ id d. absurd (made.1 id d))
     by_way (takes_back back) step =
         let may_intend : MayIntend schemas step.stack x [] s Back token lane path r = subst (λ g. MayIntend schemas step.stack x [] s g token lane path r) (sym (in_back s step.stage back step.stage_is)) step.may in
         let deletes = back_deletes lane path r back may_intend.fits may_intend.chosen in
-        after (takes_back back) (goes_back s back) may_intend.next deletes.0 deletes.1
+        let same : intending number (call token lane path r) s ≡ opened token lane path r = opens token lane path r may_intend.next in
+        after may_intend.next (takes_back (ap (λ t. t.status) same ∙ back)) (goes_back s back) deletes.0 deletes.1
 
   none_cleaned : (r : Held) → In r [] → ⊥
   none_cleaned r i = elim i [ ]
@@ -155,9 +180,6 @@ module _ (schemas : List Schema) (names : List (List ℕ)) (began told : Told) (
     abbrev keep : Entry
     keep = entry.Kept number path physical w
 
-    abbrev pub left : StackState → StackState
-    left t = heard (x.place + 1) keep t (keeping path physical w t)
-
     -- what was made is among all resources
     among : (r : Held) → In r s.made → physical ≡ r.physical → list_any (has_physical physical) (resources_of s) ≡ true
     among r i e =
@@ -170,18 +192,18 @@ module _ (schemas : List Schema) (names : List (List ℕ)) (began told : Told) (
         ap (λ b. cond b (cond (list_any (is_create_at path) s.tokens) (keeping_unknown path w s) s) (cond (list_any (has_physical physical) (resources_of s)) (keeping_known path physical w s) s)) id
         ∙ ap (λ b. cond b (keeping_known path physical w s) s) (among r i e)
 
-    kept_back : (r : Held) → In r s.made → physical ≡ r.physical → s.status ≡ status.RollbackInProgress → IsKept names began told number name source (world_after x keep) (left s)
+    kept_back : (r : Held) → In r s.made → physical ≡ r.physical → s.status ≡ status.RollbackInProgress → Goes keep
     kept_back r i e back =
-        let same = keeps_known r i e in
-        kept_with names began told number name source x s h told (world_after x keep) left refl (ap (λ t. t.operation) same)
-        (ap (λ t. is_in_progress t.status) same ∙ goes_back s back) (ap (λ t. t.before) same) (ap (λ t. t.held) same ∙ ap (without physical) h.none_held)
-        (takes_back (ap (λ t. t.status) same ∙ back))
+        let same : keeping path physical w s ≡ keeping_known path physical w s = keeps_known r i e in
+        kept_with names began told number name source x s h keep refl told x.token (frame_of number name x s on keep refl).token
+        (ap (λ t. t.operation) same) (ap (λ t. is_in_progress t.status) same ∙ goes_back s back) (ap (λ t. t.before) same)
+        (ap (λ t. t.held) same ∙ ap (without physical) h.none_held) (takes_back (ap (λ t. t.status) same ∙ back))
         (subst (λ t. Agree names began told t.made t.tokens t.leftovers x.token) (sym same)
         (agree_kept names began told s.made s.tokens s.leftovers x.token h.agree physical (record { path = path; physical = physical; why = w }) refl))
 
-    pub kept_kept : MayFollowOn schemas number x [] keep → IsKept names began told number name source (world_after x keep) (left s)
+    pub kept_kept : MayFollowOn schemas number x [] keep → Goes keep
     kept_kept may = by_way h.way (step_of keep [] may) where
-      by_way : IsOnItsWay names told source s → IsStep keep [] → IsKept names began told number name source (world_after x keep) (left s)
+      by_way : IsOnItsWay names told source s → IsStep keep [] → Goes keep
       by_way (makes forward right all) step =
           let m = keeps_made step.stage path physical w (inl (in_forward s step.stage forward step.stage_is)) step.may in
           let no : Forward ≡ Back = in_forward s step.stage forward step.stage_is ∙ sym m.0 in
@@ -203,28 +225,14 @@ module _ (schemas : List Schema) (names : List (List ℕ)) (began told : Told) (
   turns_back other phase.BackClean None (makes forward right all) may = let no : status.CreateInProgress ≡ status.UpdateRollbackInProgress = sym forward ∙ may.0 in let never : ⊥ = cc in absurd never
   turns_back other phase.BackClean None (takes_back back) may = let no : status.RollbackInProgress ≡ status.UpdateRollbackInProgress = sym back ∙ may.0 in let never : ⊥ = cc in absurd never
 
-  turned_stacks : (p : Phase) (o : Option (List ℕ × StackState)) (y : World) → (over (λ n t z. phase_over n p t z) o y).stacks ≡ y.stacks
-  turned_stacks p None y = refl
-  turned_stacks p (Some t) y = refl
-
-  turned_token : (p : Phase) (o : Option (List ℕ × StackState)) (y : World) → (over (λ n t z. phase_over n p t z) o y).token ≡ y.token
-  turned_token p None y = refl
-  turned_token p (Some t) y = refl
-
-  abbrev pub turned_as : Phase → Option Cause → StackState → StackState
-  turned_as p c t = heard (x.place + 1) (entry.Phase number p c) t (turning p t)
-
-  kept_turned : (c : Option Cause) → s.status ≡ status.CreateInProgress → IsKept names began told number name source (world_after x (entry.Phase number phase.Back c)) (turned_as phase.Back c s)
+  kept_turned : (c : Option Cause) → s.status ≡ status.CreateInProgress → Goes (entry.Phase number phase.Back c)
   kept_turned c forward =
       let back : turned s.status phase.Back ≡ status.RollbackInProgress = ap (λ st. turned st phase.Back) forward in
-      kept_with names began told number name source x s h told (world_after x (entry.Phase number phase.Back c)) (turned_as phase.Back c)
-      (turned_stacks phase.Back (stack_of_operation number x) (on_stack (x.place + 1) number (entry.Phase number phase.Back c) (turning phase.Back) x))
-      refl (ap is_in_progress back) refl h.none_held (takes_back back)
-      (subst (λ n. Agree names began told s.made s.tokens s.leftovers n)
-      (sym (turned_token phase.Back (stack_of_operation number x) (on_stack (x.place + 1) number (entry.Phase number phase.Back c) (turning phase.Back) x))) h.agree)
+      kept_with names began told number name source x s h (entry.Phase number phase.Back c) refl told x.token (frame_of number name x s on (entry.Phase number phase.Back c) refl).token
+      refl (ap is_in_progress back) refl h.none_held (takes_back back) h.agree
 
-  pub kept_phase : (p : Phase) (c : Option Cause) → MayFollowOn schemas number x [] (entry.Phase number p c) → IsKept names began told number name source (world_after x (entry.Phase number p c)) (turned_as p c s)
+  pub kept_phase : (p : Phase) (c : Option Cause) → MayFollowOn schemas number x [] (entry.Phase number p c) → Goes (entry.Phase number p c)
   kept_phase p c may =
       let step = step_of (entry.Phase number p c) [] may in
       let t = turns_back step.stack p c h.way step.may.1 in
-      subst (λ q. IsKept names began told number name source (world_after x (entry.Phase number q c)) (turned_as q c s)) (sym t.0) (kept_turned c t.1)
+      subst (λ q. Goes (entry.Phase number q c)) (sym t.0) (kept_turned c t.1)

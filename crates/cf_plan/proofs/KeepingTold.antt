@@ -18,24 +18,45 @@ use Rattle.cf_stacks.specs.declared.held.Held.{Held}
 use Rattle.cf_stacks.specs.declared.held.HeldStatus.{HeldStatus}
 use Rattle.cf_stacks.specs.declared.held.Leftover.{Leftover}
 use Rattle.cf_stacks.specs.declared.held.Pending.{Pending}
-use Rattle.cf_stacks.specs.Words.{is_update, has_token, without_token, has_physical, without, is_on, id_named}
-use Rattle.cf_stacks.specs.Fold.{with_status}
-use Rattle.cf_plan.specs.Forward.{In}
+use Rattle.cf_stacks.specs.Words.{is_update, has_token, without_token, has_physical, without, where_physical, is_on, id_named}
+use Rattle.cf_plan.specs.Forward.{In, here, there}
 use Rattle.cf_plan.specs.Run.{Told, Tells, name_at, IsSettledAs, IsOurs, was_live, is_left, is_made, is_born}
 use Rattle.cf_plan.specs.Keeping.{IsKnown, has_gone, Agree, live_as, live_in, IsAlive, AreAlive}
 use Rattle.cf_plan.proofs.CreatedRight.{in_filter}
 use Rattle.cf_plan.proofs.CreatedStays.{in_more}
-use Rattle.cf_plan.proofs.CreatedWhole.{in_map}
-use Rattle.cf_plan.proofs.CreatedEnd.{in_changed}
 use Rattle.cf_plan.proofs.RunLists.{in_front, in_end, in_kept, any_of}
 use Rattle.cf_plan.proofs.RunLanes.{same_bytes, bytes_same, tells_within, used_born, one_lane, lane_named, one_place}
 
--- a change of its status leaves a resource's id
-same_id : (physical : List ℕ) (state : HeldStatus) (r : Held) → (cond (has_physical physical r) (record r { status = state }) r).physical ≡ r.physical
-same_id physical state r = either (has_physical physical r) where
-  either : (b : Bool) → (cond b (record r { status = state }) r).physical ≡ r.physical
-  either true = refl
-  either false = refl
+-- the first resource of an id with another status: the ids are those that there were
+module _ (physical : List ℕ) (state : HeldStatus) where
+  abbrev pub restated : List Held → List Held
+  restated hs = where_physical physical (λ h. record h { status = state }) hs
+
+  -- a resource with the id of this one
+  abbrev Alike : Held → List Held → Type 0
+  Alike r hs = (q : Held) × In q hs × (q.physical ≡ r.physical)
+
+  was_there : (hs : List Held) (r : Held) → In r (restated hs) → Alike r hs
+  was_there [] r i = elim i [ ]
+  was_there (q ∷ hs) r i = by_test (has_physical physical q) i (was_there hs r) where
+    at_head : (z : Held) (zs : List Held) → In r (z ∷ zs) → q.physical ≡ z.physical → (In r zs → Alike r (q ∷ hs)) → Alike r (q ∷ hs)
+    at_head z zs here e behind = (q, here, e)
+    at_head z zs (there j) e behind = behind j
+
+    by_test : (b : Bool) → In r (cond b (record q { status = state } ∷ hs) (q ∷ restated hs)) → (In r (restated hs) → Alike r hs) → Alike r (q ∷ hs)
+    by_test true j ih = at_head (record q { status = state }) hs j refl (λ k. (r, there k, refl))
+    by_test false j ih = at_head q (restated hs) j refl (λ k. let o = ih k in (o.0, there o.1, o.2))
+
+  is_there : (hs : List Held) (r : Held) → In r hs → Alike r (restated hs)
+  is_there (z ∷ hs) r here = by_test (has_physical physical r) where
+    by_test : (b : Bool) → Alike r (cond b (record r { status = state } ∷ hs) (r ∷ restated hs))
+    by_test true = (record r { status = state }, here, refl)
+    by_test false = (r, here, refl)
+  is_there (z ∷ hs) r (there i) = by_test (has_physical physical z) (is_there hs r i) where
+    by_test : (b : Bool) → Alike r (restated hs) → Alike r (cond b (record z { status = state } ∷ hs) (z ∷ restated hs))
+    by_test true ih = (r, there i, refl)
+    by_test false ih = (ih.0, there ih.1, ih.2)
+  is_there [] r i = elim i [ ]
 
 module _ (names : List (List ℕ)) (began told : Told) (made : List Held) (tokens : List Pending) (leftovers : List Leftover) (last : ℕ)
     (h : Agree names began told made tokens leftovers last) where
@@ -258,12 +279,11 @@ module _ (names : List (List ℕ)) (began told : Told) (made : List Held) (token
                 absurd (true≢false (sym (any_of (λ x. bytes_eq v.id x.id) (live_of after) v n (same_bytes v.id v.id refl)) ∙ none))
 
       -- a refusal leaves what is made, with another status
-      pub agree_undeleted : (state : HeldStatus) → Agree names began told (with_status id state made) rest leftovers last
+      pub agree_undeleted : (state : HeldStatus) → Agree names began told (restated id state made) rest leftovers last
       agree_undeleted state =
-          with_lists (with_status id state made) rest leftovers in_rest
-          (λ r n. let w = in_changed (λ x. cond (has_physical id x) (record x { status = state }) x) made r n in
-          subst (IsKnown names told) (sym (same_id id state w.one) ∙ ap (λ x. x.physical) w.same) (h.known w.one w.of_list))
+          with_lists (restated id state made) rest leftovers in_rest
+          (λ r n. let w = was_there id state made r n in subst (IsKnown names told) w.2 (h.known w.0 w.1))
           (λ j before after v b t n.
-          ours_with j before after v.id (with_status id state made)
-          (λ r m e o. is_made (cond (has_physical id r) (record r { status = state }) r) (in_map (λ x. cond (has_physical id x) (record x { status = state }) x) r made m) (same_id id state r ∙ e) o)
-          (λ others e kind props again o. not_born (IsOurs names told (with_status id state made) rest leftovers j before after v.id) kind props again))
+          ours_with j before after v.id (restated id state made)
+          (λ r m e o. let w = is_there id state made r m in is_made w.0 w.1 (w.2 ∙ e) o)
+          (λ others e kind props again o. not_born (IsOurs names told (restated id state made) rest leftovers j before after v.id) kind props again))

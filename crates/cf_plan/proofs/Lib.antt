@@ -1,3 +1,5 @@
+pub mod OneShape
+pub mod PlanTerms
 pub mod CreatedSeen
 pub mod CreatedStays
 pub mod CreatedRight
@@ -30,12 +32,9 @@ pub mod CallsDue
 pub mod DueForward
 pub mod DueBack
 pub mod DueAll
-pub mod BlankSeen
-pub mod Prepared
 pub mod Begins
 pub mod RunLists
 pub mod RunLanes
-pub mod RunStacks
 pub mod KeepingSettle
 pub mod KeepingTold
 pub mod KeepingWorld
@@ -50,8 +49,12 @@ pub mod BlameOrder
 pub mod BlameLanes
 pub mod BlameBooks
 pub mod BlameAnswer
+pub mod BlameRows
 pub mod BlameMade
 pub mod BlameCourse
 pub mod BlameSteps
 pub mod BlameEnd
 pub mod BlameRun
+pub mod Frame
+mod Owned
+mod Successes

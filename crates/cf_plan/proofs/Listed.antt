@@ -1,6 +1,7 @@
 -- Members of lists that grow at the end.
-use Rattle.std.proofs.Common.{◌≡◌, ◌⊎◌, inl, inr, ℕ, zero, suc, ◌<◌, Bool, true, false, ◌||◌, List, [], ◌∷◌, ◌++◌, Option, Some, None, length, take, get_or, map, refl, ap, sym, ◌∙◌, subst, arith, append_assoc, ◌+◌, true≢false}
-use Rattle.std.specs.Prelude.{filter_map}
+use Rattle.std.proofs.Common.{◌≡◌, ◌⊎◌, inl, inr, ℕ, zero, suc, ◌+◌, ◌<◌, Bool, true, false, ◌||◌, List, [], ◌∷◌, ◌++◌, Option, Some, None, length, take, get_or, map, refl, ap, sym, ◌∙◌, subst, arith, true≢false}
+use Rattle.std.specs.Prelude.{filter_map, fold}
+use Rattle.std.proofs.lemmas.List.Sums.{fold_more}
 use Rattle.std.specs.List.{cons_option}
 use Rattle.std.specs.Option.{option_to_list}
 use Rattle.std.specs.Str.{bytes_eq}
@@ -83,12 +84,7 @@ same_bytes p = (bytes_eq-Decides p p).1 refl
 pub bytes_same : (p q : List ℕ) → bytes_eq p q ≡ true → p ≡ q
 bytes_same p q = (bytes_eq-Decides p q).0
 
--- a list that has grown by what one more is mapped to
-pub grown :
-    {A B : Type 0} (f : A → Option B) (es : List A) (i : ℕ) (d : A) (old mid new : List B) (o : Option B) → i < length es → d ≡ get_or es i d →
-    mid ≡ old ++ filter_map f (take i es) → o ≡ f d → new ≡ mid ++ option_to_list o → new ≡ old ++ filter_map f (take (i + 1) es)
-grown f es i d old mid new o l at was is now =
-    let next : suc i ≡ i + 1 = omega arith in
-    now ∙ ap (λ m. m ++ option_to_list o) was ∙ append_assoc old (filter_map f (take i es)) (option_to_list o)
-    ∙ ap (λ x. old ++ (filter_map f (take i es) ++ option_to_list x)) (is ∙ ap f at)
-    ∙ ap (λ l. old ++ l) (sym (mapped_more f es i d l)) ∙ ap (λ k. old ++ filter_map f (take k es)) next
+-- one more member of a list is folded in
+pub folded_on : {A B : Type 0} (f : B → A → B) (start : B) (xs : List A) (i : ℕ) (a : A) → i < length xs → a ≡ get_or xs i a
+    → f (fold f start (take i xs)) a ≡ fold f start (take (i + 1) xs)
+folded_on f start xs i a l e = ap (f (fold f start (take i xs))) e ∙ sym (fold_more f start xs i a l)

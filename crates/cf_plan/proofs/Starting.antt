@@ -12,7 +12,7 @@ use Rattle.cf_schema.specs.declared.described.Schema.{Schema}
 use Rattle.cf_schema.specs.declared.changed.Difference.{Difference}
 use Rattle.cf_schema.specs.declared.changed.Difference.TheVariants as difference
 use Rattle.cf_stacks.specs.declared.held.Held.{Held}
-use Rattle.cf_stacks.specs.declared.state.StackState.{StackState}
+use Rattle.cf_stacks.specs.World.{StackState}
 use Rattle.cf_stacks.specs.Words.{current_at}
 use Rattle.cf_plan.specs.declared.forward.Wants.{Wants}
 use Rattle.cf_plan.specs.Forward.{Finding, Bad, Later, Known, difference_to, evaluated_at, is_conditional, was_answered_at}

@@ -24,20 +24,19 @@ use Rattle.cf_entry.specs.declared.turn.Cause.{Cause}
 use Rattle.cf_stacks.specs.declared.held.Held.{Held}
 use Rattle.cf_stacks.specs.declared.held.Pending.{Pending}
 use Rattle.cf_stacks.specs.declared.terms.Terms.{Terms}
-use Rattle.cf_stacks.specs.declared.state.StackState.{StackState}
-use Rattle.cf_stacks.specs.declared.state.World.{World}
-use Rattle.cf_stacks.specs.Fold.{terms_at}
+use Rattle.cf_stacks.specs.World.{StackState, World, stack_of_operation}
+use Rattle.cf_stacks.specs.Reply.{terms_at}
 use Rattle.cf_stacks.specs.Status.{Forward, Back, Gone, stage_of}
-use Rattle.cf_stacks.specs.Words.{is_at, is_create, is_create_at, stack_of_operation}
+use Rattle.cf_stacks.specs.Words.{is_at, is_create, is_create_at}
 use Rattle.cf_plan.specs.declared.forward.Wants.{Wants}
 use Rattle.cf_plan.specs.declared.stepping.Start.{Start}
 use Rattle.cf_plan.specs.declared.next.Next.{Next}
 use Rattle.cf_plan.specs.declared.next.Next.TheVariants as next
 use Rattle.cf_plan.specs.Forward.{In, here, AllDone, HasFailed, IsCause}
-use Rattle.cf_plan.specs.Follow.{FitsLane, may_repeat, none_out, is_repeat_out, waits_for_repeats, is_lane_of, is_lane_out, MayStep, MayIntend, MayKeep, MayTurn, IsAtEnd, EndsAs}
+use Rattle.cf_plan.specs.Follow.{FitsLane, may_repeat, none_in_flight, is_repeat_in_flight, waits_for_repeats, is_lane_of, is_lane_leased, MayStep, MayIntend, MayKeep, MayTurn, IsAtEnd, EndsAs}
 use Rattle.cf_plan.specs.Starts.{AreStarts, IsOneOf}
 use Rattle.cf_plan.specs.Chosen.{MayStart, MayCallAgain, place_of, is_placed_before, GoesFirst, IsChosen, IsNext}
-use Rattle.cf_plan.specs.Taking.{is_of_lane, is_home_of, home_of, is_repeat_home, is_token_before, first_by, AreTerms}
+use Rattle.cf_plan.specs.Taking.{is_of_lane, is_home_of, home_of, is_repeat_home, is_token_before, min_by, AreTerms}
 use Rattle.cf_plan.specs.Stepping.{with_terms, terms_asked, start_of, starts_at, starts_in, AreOpen, lane_for, is_start_home, is_start_before, is_over, Begins, Waits, Creates, IsCreation, IsChosenOn}
 use Rattle.cf_plan.proofs.Members.{not_both, false_from, any_in, in_any, in_none}
 use Rattle.cf_plan.proofs.Listed.{in_cons}
@@ -170,43 +169,43 @@ from_map f (Some a) b e = (a, refl, cc)
 
 module _ (x : World) (out : List ℕ) where
   -- a lane that fits and is at home can take a request
-  home_for : (schemas : List Schema) (name : List ℕ) (s : StackState) (lane : List ℕ) (r : Request) → FitsLane x lane r → is_lane_out out x lane ≡ false
+  home_for : (schemas : List Schema) (name : List ℕ) (s : StackState) (lane : List ℕ) (r : Request) → FitsLane x lane r → is_lane_leased out x lane ≡ false
       → is_some (lane_for out x r) ≡ true
   home_for schemas name s lane (request.Create k props) fits home =
       let l = in_any (is_lane_of lane k) x.lanes fits in
       let same : lane ≡ l.0.0 = (bytes_eq-Decides lane l.0.0).0 (first_so (bytes_eq lane l.0.0) (bytes_eq k l.0.1) l.2) in
-      found_some (λ (m : List ℕ × List ℕ). m.0) (λ (m : List ℕ × List ℕ). bytes_eq k m.1 && not (is_lane_out out x m.0)) x.lanes
-      (any_in (λ (m : List ℕ × List ℕ). bytes_eq k m.1 && not (is_lane_out out x m.0)) l.0 x.lanes l.1
-      (and_from (bytes_eq k l.0.1) (not (is_lane_out out x l.0.0)) (second_so (bytes_eq lane l.0.0) (bytes_eq k l.0.1) l.2)
-      (not_so (is_lane_out out x l.0.0) (subst (λ (m : List ℕ). is_lane_out out x m ≡ false) same home))))
+      found_some (λ (m : List ℕ × List ℕ). m.0) (λ (m : List ℕ × List ℕ). bytes_eq k m.1 && not (is_lane_leased out x m.0)) x.lanes
+      (any_in (λ (m : List ℕ × List ℕ). bytes_eq k m.1 && not (is_lane_leased out x m.0)) l.0 x.lanes l.1
+      (and_from (bytes_eq k l.0.1) (not (is_lane_leased out x l.0.0)) (second_so (bytes_eq lane l.0.0) (bytes_eq k l.0.1) l.2)
+      (not_so (is_lane_leased out x l.0.0) (subst (λ (m : List ℕ). is_lane_leased out x m ≡ false) same home))))
   home_for schemas name s lane (request.Update id props) fits home =
       found_some (λ (m : List ℕ × List ℕ). m.0) (is_home_of out x id) x.lanes (home_by schemas name x out s id lane fits.0 fits.1 home)
   home_for schemas name s lane (request.Delete id) fits home =
       found_some (λ (m : List ℕ × List ℕ). m.0) (is_home_of out x id) x.lanes (home_by schemas name x out s id lane fits.0 fits.1 home)
 
   id_fits : (lane id : List ℕ) → home_of out x id ≡ Some lane
-      → (IsOfLane lane id × (list_any (λ l. bytes_eq lane l.0) x.lanes ≡ true)) × (is_lane_out out x lane ≡ false)
+      → (IsOfLane lane id × (list_any (λ l. bytes_eq lane l.0) x.lanes ≡ true)) × (is_lane_leased out x lane ≡ false)
   id_fits lane id e =
       let l = from_map (λ (m : List ℕ × List ℕ). m.0) (find (is_home_of out x id) x.lanes) lane e in
       let at = found_in (is_home_of out x id) x.lanes l.0 l.1 in
-      subst (λ (n : List ℕ). (IsOfLane n id × (list_any (λ m. bytes_eq n m.0) x.lanes ≡ true)) × (is_lane_out out x n ≡ false)) l.2 (
+      subst (λ (n : List ℕ). (IsOfLane n id × (list_any (λ m. bytes_eq n m.0) x.lanes ≡ true)) × (is_lane_leased out x n ≡ false)) l.2 (
         (
-          (of_lane_is l.0.0 id).0 (first_so (is_of_lane l.0.0 id) (not (is_lane_out out x l.0.0)) at.1),
+          (of_lane_is l.0.0 id).0 (first_so (is_of_lane l.0.0 id) (not (is_lane_leased out x l.0.0)) at.1),
           any_in (λ (m : List ℕ × List ℕ). bytes_eq l.0.0 m.0) l.0 x.lanes at.0 ((bytes_eq-Decides l.0.0 l.0.0).1 refl),
         ),
-        is_so (is_lane_out out x l.0.0) (second_so (is_of_lane l.0.0 id) (not (is_lane_out out x l.0.0)) at.1),
+        is_so (is_lane_leased out x l.0.0) (second_so (is_of_lane l.0.0 id) (not (is_lane_leased out x l.0.0)) at.1),
       )
 
   -- the lane that takes a request fits it, and is at home
-  lane_fits : (lane : List ℕ) (r : Request) → lane_for out x r ≡ Some lane → FitsLane x lane r × (is_lane_out out x lane ≡ false)
+  lane_fits : (lane : List ℕ) (r : Request) → lane_for out x r ≡ Some lane → FitsLane x lane r × (is_lane_leased out x lane ≡ false)
   lane_fits lane (request.Create k props) e =
-      let test = λ (m : List ℕ × List ℕ). bytes_eq k m.1 && not (is_lane_out out x m.0) in
+      let test = λ (m : List ℕ × List ℕ). bytes_eq k m.1 && not (is_lane_leased out x m.0) in
       let l = from_map (λ (m : List ℕ × List ℕ). m.0) (find test x.lanes) lane e in
       let at = found_in test x.lanes l.0 l.1 in
-      subst (λ (n : List ℕ). (list_any (is_lane_of n k) x.lanes ≡ true) × (is_lane_out out x n ≡ false)) l.2 (
+      subst (λ (n : List ℕ). (list_any (is_lane_of n k) x.lanes ≡ true) × (is_lane_leased out x n ≡ false)) l.2 (
         any_in (is_lane_of l.0.0 k) l.0 x.lanes at.0
-            (and_from (bytes_eq l.0.0 l.0.0) (bytes_eq k l.0.1) ((bytes_eq-Decides l.0.0 l.0.0).1 refl) (first_so (bytes_eq k l.0.1) (not (is_lane_out out x l.0.0)) at.1)),
-        is_so (is_lane_out out x l.0.0) (second_so (bytes_eq k l.0.1) (not (is_lane_out out x l.0.0)) at.1),
+            (and_from (bytes_eq l.0.0 l.0.0) (bytes_eq k l.0.1) ((bytes_eq-Decides l.0.0 l.0.0).1 refl) (first_so (bytes_eq k l.0.1) (not (is_lane_leased out x l.0.0)) at.1)),
+        is_so (is_lane_leased out x l.0.0) (second_so (bytes_eq k l.0.1) (not (is_lane_leased out x l.0.0)) at.1),
       )
   lane_fits lane (request.Update id props) e = let w = id_fits lane id e in (w.0, w.1)
   lane_fits lane (request.Delete id) e = let w = id_fits lane id e in (w.0, w.1)
@@ -222,7 +221,7 @@ module _ (x : World) (out : List ℕ) where
   again_first path lane token (request.Delete id) = tt
 
 -- the first that a lane at home can take is one that it can take
-pub first_takes : (x : World) (out : List ℕ) (starts : List Start) (a : Start) → first_by is_start_before (is_start_home out x) starts ≡ Some a
+pub first_takes : (x : World) (out : List ℕ) (starts : List Start) (a : Start) → min_by is_start_before (is_start_home out x) starts ≡ Some a
     → is_start_home out x a ≡ true
 first_takes x out starts a e =
     let f : IsFirstOf is_start_before (is_start_home out x) starts (Some a) =
@@ -294,7 +293,7 @@ module _ (schemas : List Schema) (name : List ℕ) (x : World) (out : List ℕ) 
     turn_first p c (next.End state paths) w = refl
     turn_first p c next.Wait w = refl
 
-    pub turn_chosen : (c : Cause) → IsCause schemas name x s c → none_out out s ≡ true → Chosen (next.Turn phase.Back (Some c))
+    pub turn_chosen : (c : Cause) → IsCause schemas name x s c → none_in_flight out s ≡ true → Chosen (next.Turn phase.Back (Some c))
     turn_chosen c cause none = record {
       may = (none, (ap stage_of creating, failed, cause));
       first = turn_first phase.Back (Some c);
@@ -302,7 +301,7 @@ module _ (schemas : List Schema) (name : List ℕ) (x : World) (out : List ℕ) 
     }
 
     -- to wait where no phase may begin
-    wait_first : ((p : Phase) (c : Option Cause) → none_out out s ≡ true → MayTurn schemas name x s p c → ⊥)
+    wait_first : ((p : Phase) (c : Option Cause) → none_in_flight out s ≡ true → MayTurn schemas name x s p c → ⊥)
         → (m : Next) → Starts m → is_placed_before (place_of m) (place_of next.Wait) ≡ false
     wait_first stays (next.Step path lane token r true) w = absurd (w.repeats.0 failed)
     wait_first stays (next.Step path lane token r false) w = absurd (w.chosen.0 failed)
@@ -311,13 +310,13 @@ module _ (schemas : List Schema) (name : List ℕ) (x : World) (out : List ℕ) 
     wait_first stays (next.End state paths) w = absurd ((ends_whole state w.2).0 failed)
     wait_first stays next.Wait w = refl
 
-    wait_so : (n : Next) → ((p : Phase) (c : Option Cause) → none_out out s ≡ true → MayTurn schemas name x s p c → ⊥) → Waits out n → Chosen n
+    wait_so : (n : Next) → ((p : Phase) (c : Option Cause) → none_in_flight out s ≡ true → MayTurn schemas name x s p c → ⊥) → Waits out n → Chosen n
     wait_so n stays (same, leased) =
         let c : Chosen next.Wait = record { may = leased; first = wait_first stays; lane = tt } in
         subst Chosen (sym same) c
 
-    pub out_chosen : (n : Next) → none_out out s ≡ false → Waits out n → Chosen n
-    out_chosen n some w = wait_so n (λ p c none turn. not_both (none_out out s) none some) w
+    pub out_chosen : (n : Next) → none_in_flight out s ≡ false → Waits out n → Chosen n
+    out_chosen n some w = wait_so n (λ p c none turn. not_both (none_in_flight out s) none some) w
 
     pub untold_chosen : (n : Next) → ((c : Cause) → IsCause schemas name x s c → ⊥) → Waits out n → Chosen n
     untold_chosen n untold w = wait_so n (λ p c none turn. no_turn p c turn) w
@@ -336,7 +335,7 @@ module _ (schemas : List Schema) (name : List ℕ) (x : World) (out : List ℕ) 
   -- Where it has not failed, the first repeat comes first.
   module _ (going : ¬ HasFailed schemas name x s) where
     abbrev Repeats : Option Pending → Type 0
-    Repeats o = first_by is_token_before (is_repeat_home out x s) s.tokens ≡ o
+    Repeats o = min_by is_token_before (is_repeat_home out x s) s.tokens ≡ o
 
     first_of : (o : Option Pending) → Repeats o → IsFirstOf is_token_before (is_repeat_home out x s) s.tokens o
     first_of o e = subst (IsFirstOf is_token_before (is_repeat_home out x s) s.tokens) e (first_found is_token_before tokens_in_order (is_repeat_home out x s) s.tokens)
@@ -344,15 +343,15 @@ module _ (schemas : List Schema) (name : List ℕ) (x : World) (out : List ℕ) 
     passes : (path lane : List ℕ) (token : ℕ) (r : Request) → MayCallAgain schemas name x out s Forward path lane token r
         → is_repeat_home out x s (record { token = token; path = path; lane = lane; request = r }) ≡ true
     passes path lane token r w =
-        and_from (may_repeat Back out s (record { token = token; path = path; lane = lane; request = r })) (not (is_lane_out out x lane)) w.repeats.2
-        (not_so (is_lane_out out x lane) w.home)
+        and_from (may_repeat Back out s (record { token = token; path = path; lane = lane; request = r })) (not (is_lane_leased out x lane)) w.repeats.2
+        (not_so (is_lane_leased out x lane) w.home)
 
     repeat_first : (p : Pending) → IsFirstOf is_token_before (is_repeat_home out x s) s.tokens (Some p)
         → (m : Next) → Starts m → is_placed_before (place_of m) (place_of (next.Step p.path p.lane p.token p.request true)) ≡ false
     repeat_first p f (next.Step path lane token r true) w =
-        let not_sooner : nat_lt token p.token ≡ false =
+        let not_before : nat_lt token p.token ≡ false =
         f.2 (record { token = token; path = path; lane = lane; request = r }) w.repeats.1 (passes path lane token r w) in
-        rw not_sooner (and_no (token == p.token) false refl)
+        rw not_before (and_no (token == p.token) false refl)
     repeat_first p f (next.Step path lane token r false) w = refl
     repeat_first p f (next.Keep path id k) w = refl
     repeat_first p f (next.Turn q c) w = refl
@@ -364,8 +363,8 @@ module _ (schemas : List Schema) (name : List ℕ) (x : World) (out : List ℕ) 
         let f = first_of (Some p) e in
         record {
           may = record {
-            repeats = (going, f.0, first_so (may_repeat Back out s p) (not (is_lane_out out x p.lane)) f.1);
-            home = is_so (is_lane_out out x p.lane) (second_so (may_repeat Back out s p) (not (is_lane_out out x p.lane)) f.1);
+            repeats = (going, f.0, first_so (may_repeat Back out s p) (not (is_lane_leased out x p.lane)) f.1);
+            home = is_so (is_lane_leased out x p.lane) (second_so (may_repeat Back out s p) (not (is_lane_leased out x p.lane)) f.1);
           };
           first = repeat_first p f;
           lane = again_first x out p.path p.lane p.token p.request;
@@ -383,7 +382,7 @@ module _ (schemas : List Schema) (name : List ℕ) (x : World) (out : List ℕ) 
           let (nf, ready, new, intends) = w.chosen in (may_begin path r).0 (ready, new, w.free, intends)
 
       abbrev Firsts : Option Start → Type 0
-      Firsts o = first_by is_start_before (is_start_home out x) starts ≡ o
+      Firsts o = min_by is_start_before (is_start_home out x) starts ≡ o
 
       first_start_of : (o : Option Start) → Firsts o → IsFirstOf is_start_before (is_start_home out x) starts o
       first_start_of o e = subst (IsFirstOf is_start_before (is_start_home out x) starts) e (first_found is_start_before starts_in_order (is_start_home out x) starts)
@@ -438,16 +437,16 @@ module _ (schemas : List Schema) (name : List ℕ) (x : World) (out : List ℕ) 
         end_first state failed next.Wait w = refl
 
         over_done : (d : Bool) → is_over out s d ≡ true → d ≡ true
-        over_done d e = first_so d (none_out out s && not (waits_for_repeats Back [] s)) e
+        over_done d e = first_so d (none_in_flight out s && not (waits_for_repeats Back [] s)) e
 
-        over_none : (d : Bool) → is_over out s d ≡ true → none_out out s ≡ true
+        over_none : (d : Bool) → is_over out s d ≡ true → none_in_flight out s ≡ true
         over_none d e =
-            first_so (none_out out s) (not (waits_for_repeats Back [] s)) (second_so d (none_out out s && not (waits_for_repeats Back [] s)) e)
+            first_so (none_in_flight out s) (not (waits_for_repeats Back [] s)) (second_so d (none_in_flight out s && not (waits_for_repeats Back [] s)) e)
 
         over_idle : (d : Bool) → is_over out s d ≡ true → waits_for_repeats Back [] s ≡ false
         over_idle d e =
             is_so (waits_for_repeats Back [] s)
-            (second_so (none_out out s) (not (waits_for_repeats Back [] s)) (second_so d (none_out out s && not (waits_for_repeats Back [] s)) e))
+            (second_so (none_in_flight out s) (not (waits_for_repeats Back [] s)) (second_so d (none_in_flight out s && not (waits_for_repeats Back [] s)) e))
 
         at_end : AllDone s → waits_for_repeats Back [] s ≡ false → IsAtEnd schemas name x s Forward
         at_end all idle = (nothing, λ p w. not_both (waits_for_repeats Back [] s) (waits_by schemas name x [] s p w.1 w.2) idle)
@@ -477,17 +476,17 @@ module _ (schemas : List Schema) (name : List ℕ) (x : World) (out : List ℕ) 
             }
 
         idle_at_end : IsAtEnd schemas name x s Forward → waits_for_repeats Back [] s ≡ false
-        idle_at_end end = false_from (waits_for_repeats Back [] s) (λ t. by (or_cases (is_repeat_out [] s) (list_any (may_repeat Back [] s) s.tokens) t))
+        idle_at_end end = false_from (waits_for_repeats Back [] s) (λ t. by (or_cases (is_repeat_in_flight [] s) (list_any (may_repeat Back [] s) s.tokens) t))
           where
-            by : (is_repeat_out [] s ≡ true) ⊎ (list_any (may_repeat Back [] s) s.tokens ≡ true) → ⊥
-            by (inl t) = not_both (is_repeat_out [] s) t (no_repeat_out s)
+            by : (is_repeat_in_flight [] s ≡ true) ⊎ (list_any (may_repeat Back [] s) s.tokens ≡ true) → ⊥
+            by (inl t) = not_both (is_repeat_in_flight [] s) t (no_repeat_out s)
             by (inr t) = let p = in_any (may_repeat Back [] s) s.tokens t in end.1 p.0 (going, p.1, p.2)
 
-        not_over : (d : Bool) → ((d ≡ true) ↔ AllDone s) → is_over out s d ≡ false → none_out out s ≡ true → IsAtEnd schemas name x s Forward → AllDone s → ⊥
+        not_over : (d : Bool) → ((d ≡ true) ↔ AllDone s) → is_over out s d ≡ false → none_in_flight out s ≡ true → IsAtEnd schemas name x s Forward → AllDone s → ⊥
         not_over d told more none end all =
             not_both (is_over out s d)
-            (and_from d (none_out out s && not (waits_for_repeats Back [] s)) (told.1 all)
-            (and_from (none_out out s) (not (waits_for_repeats Back [] s)) none (not_so (waits_for_repeats Back [] s) (idle_at_end end)))) more
+            (and_from d (none_in_flight out s && not (waits_for_repeats Back [] s)) (told.1 all)
+            (and_from (none_in_flight out s) (not (waits_for_repeats Back [] s)) none (not_so (waits_for_repeats Back [] s) (idle_at_end end)))) more
 
         rest_first : (d : Bool) → ((d ≡ true) ↔ AllDone s) → is_over out s d ≡ false
             → (m : Next) → Starts m → is_placed_before (place_of m) (place_of next.Wait) ≡ false

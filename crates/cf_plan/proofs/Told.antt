@@ -1,21 +1,9 @@
--- What entries tell, each by a test of what it holds: that one of them does, how many do, and that none is left.
-use Rattle.std.proofs.Common.{◌≡◌, suc, arith, length, nat_eq, nat_lt, Bool, true, false, ◌||◌, ◌&&◌, not, List, [], ◌∷◌, ◌++◌, Option, Some, None, filter, cond, refl, ap, ◌∙◌, sym}
+-- Lists of which some are left by a test: that one of them passes another, how many do, and that none is left.
+use Rattle.std.proofs.Common.{◌≡◌, suc, arith, length, nat_eq, nat_lt, Bool, true, false, ◌||◌, ◌&&◌, not, List, [], ◌∷◌, ◌++◌, filter, map, cond, refl, ap, ◌∙◌, sym}
 use Rattle.std.proofs.lemmas.Bool.{ne_eqb, lt-ltb}
 use Rattle.std.proofs.lemmas.List.Sums.{length-filter}
-use Rattle.std.specs.List.{list_any, count_by, filter_map}
-use Rattle.std.specs.Option.{option_map_or}
+use Rattle.std.specs.List.{list_any, count_by}
 use Rattle.cf_change.specs.Changes.{is_empty}
-
-module _ {X Y : Type 0} (f : X → Option Y) (test : Y → Bool) where
-  any_first : (o : Option Y) (x : X) (xs : List X) → f x ≡ o → list_any test (filter_map f xs) ≡ list_any (λ e. option_map_or test (f e) false) xs
-      → list_any test (filter_map f (x ∷ xs)) ≡ list_any (λ e. option_map_or test (f e) false) (x ∷ xs)
-  any_first None x xs e h = rw e h
-  any_first (Some y) x xs e h = rw e (ap (λ b. test y || b) h)
-
-  -- one of what is told passes just where one of the entries tells it
-  pub any_told : (xs : List X) → list_any test (filter_map f xs) ≡ list_any (λ e. option_map_or test (f e) false) xs
-  any_told [] = refl
-  any_told (x ∷ xs) = any_first (f x) x xs refl (any_told xs)
 
 -- one of those that pass the first test passes the second just where one passes both
 pub any_filtered : {X : Type 0} (p q : X → Bool) (xs : List X) → list_any q (filter p xs) ≡ list_any (λ x. p x && q x) xs
@@ -27,6 +15,26 @@ any_filtered p q (x ∷ xs) = by (any_filtered p q xs) (p x)
     by h true = ap (λ b. q x || b) h
     by h false = h
 
+-- those that pass two tests, one after the other, pass both
+pub filter_filtered : {X : Type 0} (p q : X → Bool) (xs : List X) → filter q (filter p xs) ≡ filter (λ x. p x && q x) xs
+filter_filtered p q [] = refl
+filter_filtered p q (x ∷ xs) = by (p x) (filter_filtered p q xs)
+  where
+    at : (c : Bool) → filter q (filter p xs) ≡ filter (λ y. p y && q y) xs
+        → cond c (x ∷ filter q (filter p xs)) (filter q (filter p xs)) ≡ cond c (x ∷ filter (λ y. p y && q y) xs) (filter (λ y. p y && q y) xs)
+    at true h = ap (λ ys. x ∷ ys) h
+    at false h = h
+
+    by : (b : Bool) → filter q (filter p xs) ≡ filter (λ y. p y && q y) xs
+        → filter q (cond b (x ∷ filter p xs) (filter p xs)) ≡ cond (b && q x) (x ∷ filter (λ y. p y && q y) xs) (filter (λ y. p y && q y) xs)
+    by true h = at (q x) h
+    by false h = h
+
+-- the same of what a list is mapped to
+pub any_mapped : {X Y : Type 0} (f : X → Y) (q : Y → Bool) (xs : List X) → list_any q (map f xs) ≡ list_any (λ x. q (f x)) xs
+any_mapped f q [] = refl
+any_mapped f q (x ∷ xs) = ap (λ b. q (f x) || b) (any_mapped f q xs)
+
 none_passes : {X : Type 0} (p : X → Bool) (xs : List X) → nat_eq (length (filter p xs)) 0 ≡ not (list_any p xs)
 none_passes p [] = refl
 none_passes p (x ∷ xs) = by (none_passes p xs) (p x)
@@ -35,11 +43,9 @@ none_passes p (x ∷ xs) = by (none_passes p xs) (p x)
     by h true = ne_eqb (suc (length (filter p xs))) 0 (λ e. absurd (omega (arith, e)))
     by h false = h
 
--- none of what some of the entries tell passes
-pub none_told : {X Y : Type 0} (q : X → Bool) (f : X → Option Y) (p : Y → Bool) (xs : List X)
-    → nat_eq (length (filter p (filter_map f (filter q xs)))) 0 ≡ not (list_any (λ x. q x && option_map_or p (f x) false) xs)
-none_told q f p xs =
-    none_passes p (filter_map f (filter q xs)) ∙ ap not (any_told f p (filter q xs) ∙ any_filtered q (λ x. option_map_or p (f x) false) xs)
+-- none of those that pass the first test passes the second
+pub none_of : {X : Type 0} (q p : X → Bool) (xs : List X) → nat_eq (length (filter p (filter q xs))) 0 ≡ not (list_any (λ x. q x && p x) xs)
+none_of q p xs = none_passes p (filter q xs) ∙ ap not (any_filtered q p xs)
 
 some_left : {X : Type 0} (p q : X → Bool) (xs : List X) → nat_lt 0 (length (filter q (filter p xs))) ≡ list_any (λ x. p x && q x) xs
 some_left p q [] = refl
@@ -58,12 +64,9 @@ some_left p q (x ∷ xs) = by (some_left p q xs) (p x)
 some_passes : {X : Type 0} (p q : X → Bool) (xs : List X) → nat_lt 0 (count_by q (filter p xs)) ≡ list_any (λ x. p x && q x) xs
 some_passes p q xs = ap (λ n. nat_lt 0 n) (sym (length-filter q (filter p xs))) ∙ some_left p q xs
 
--- some of those that pass a test pass another, of what some of the entries tell
-pub some_counted : {X Y : Type 0} (q : X → Bool) (f : X → Option Y) (p r : Y → Bool) (xs : List X)
-    → nat_lt 0 (count_by r (filter p (filter_map f (filter q xs)))) ≡ list_any (λ x. q x && option_map_or (λ y. p y && r y) (f x) false) xs
-some_counted q f p r xs =
-    some_passes p r (filter_map f (filter q xs))
-    ∙ (any_told f (λ y. p y && r y) (filter q xs) ∙ any_filtered q (λ x. option_map_or (λ y. p y && r y) (f x) false) xs)
+-- some of those that pass two tests pass a third
+pub some_counted : {X : Type 0} (q p r : X → Bool) (xs : List X) → nat_lt 0 (count_by r (filter p (filter q xs))) ≡ list_any (λ x. q x && (p x && r x)) xs
+some_counted q p r xs = some_passes p r (filter q xs) ∙ any_filtered q (λ x. p x && r x) xs
 
 -- nothing is left just where none passes
 pub none_left : {X : Type 0} (p : X → Bool) (xs : List X) → is_empty (filter p xs) ≡ not (list_any p xs)

@@ -13,13 +13,12 @@ use Rattle.cf_schema.specs.declared.described.Schema.{Schema}
 use Rattle.cf_entry.specs.declared.status.Status.{Status}
 use Rattle.cf_entry.specs.declared.status.Status.TheVariants as status
 use Rattle.cf_stacks.specs.declared.held.Held.{Held}
-use Rattle.cf_stacks.specs.declared.state.StackState.{StackState}
-use Rattle.cf_stacks.specs.declared.state.World.{World}
+use Rattle.cf_stacks.specs.World.{StackState, World}
 use Rattle.cf_stacks.specs.Words.{is_pinned}
 use Rattle.cf_tree.specs.Named.{all_differ}
 use Rattle.cf_tree.specs.Lists.{is_among}
 use Rattle.cf_change.specs.Changes.{HeldAt, Changes, changes_of, found_of, is_empty}
-use Rattle.cf_desired.specs.Seeing.{Seen}
+use Rattle.cf_desired.specs.Seeing.{Seen, by_names}
 use Rattle.cf_desired.specs.Plan.{plan_of}
 
 -- What a stack holds, as a change set compares it: the resource of each path, and none that is superseded.
@@ -43,8 +42,9 @@ held_by s = map held_as (filter (λ h. not h.superseded) s.held)
 abbrev pub exports_in : List ℕ → World → List Export
 exports_in name x = filter (λ e. bytes_eq name e.stack) x.exports
 
+-- each name once, in byte order
 abbrev pub exports_by : List ℕ → World → List (List ℕ × List ℕ)
-exports_by name x = map (λ e. (e.name, e.value)) (exports_in name x)
+exports_by name x = by_names (map (λ e. (e.name, e.value)) (exports_in name x))
 
 abbrev pub changes_on : List Schema → List ℕ → World → StackState → Source → Changes
 changes_on schemas name x s source = changes_of schemas (held_by s) s.outputs (exports_by name x) source
@@ -55,7 +55,7 @@ seen_before schemas s source = (found_of schemas (held_by s) source).seen
 
 -- Imports: each is an export of another stack with its value of now; with all of these the source would come to the same; without one of them it would not.
 abbrev pub exports_of_others : List ℕ → World → List (List ℕ × List ℕ)
-exports_of_others name x = map (λ e. (e.name, e.value)) (filter (λ e. not (bytes_eq name e.stack)) x.exports)
+exports_of_others name x = by_names (map (λ e. (e.name, e.value)) (filter (λ e. not (bytes_eq name e.stack)) x.exports))
 
 abbrev pub with_imports : Source → List (List ℕ × List ℕ) → Source
 with_imports source imports = record source { imports = imports }

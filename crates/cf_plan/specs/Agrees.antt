@@ -1,6 +1,6 @@
 -- The journal and the lanes agree (this project's own): what the lanes that are handed in tell fits what the journal
 -- says of them. Nothing is said of a lane that is not handed in.
-use Rattle.std.specs.Prelude.{◌≡◌, ℕ, ◌==◌, ◌<◌, ◌≤◌, ◌⊎◌, true, false, List, Some, None, IsTrue, map, option_map}
+use Rattle.std.specs.Prelude.{◌≡◌, ℕ, ◌==◌, ◌<◌, ◌≤◌, ◌⊎◌, true, false, List, Option, Some, None, IsTrue, filter_map, find, map, option_map}
 use Rattle.std.specs.Str.{bytes_eq}
 use Rattle.cf_tree.specs.Datum.{Data}
 use Rattle.cf_tree.specs.declared.request.Request.{Request}
@@ -10,24 +10,33 @@ use Rattle.cf_handler.specs.Lane.{Live, live_of, settlement_of, is_used}
 use Rattle.cf_handler.specs.Fence.{Flying, live_at}
 use Rattle.cf_handler.specs.Move.{IsOfLane}
 use Rattle.cf_entry.specs.declared.entry.Entry.{Entry}
+use Rattle.cf_entry.specs.declared.entry.Entry.TheVariants as entry
 use Rattle.cf_stacks.specs.declared.held.Held.{Held}
 use Rattle.cf_stacks.specs.declared.held.Pending.{Pending}
-use Rattle.cf_stacks.specs.declared.state.StackState.{StackState}
-use Rattle.cf_stacks.specs.declared.state.World.{World}
+use Rattle.cf_stacks.specs.World.{StackState, World, stack_at, empty_world}
 use Rattle.cf_stacks.specs.Status.{is_in_progress, is_complete}
-use Rattle.cf_stacks.specs.Words.{stack_at, id_named}
+use Rattle.cf_stacks.specs.Words.{id_named}
+use Rattle.cf_stacks.specs.Operation.{Response, replies_in, is_doubt}
+use Rattle.cf_stacks.specs.Fold.{fold_of}
 use Rattle.cf_tree.specs.Named.{all_differ}
-use Rattle.cf_stacks.specs.Operation.{Call, Response, call_at, replies_in, is_doubt}
-use Rattle.cf_stacks.specs.Fold.{empty_world, fold_of}
 use Rattle.cf_plan.specs.Forward.{In}
 use Rattle.cf_plan.specs.Follow.{IsLegal, is_opened_since}
 use Rattle.cf_schema.specs.declared.described.Schema.{Schema}
-use Rattle.cf_plan.specs.Lanes.{Lane, AreLanes, AreSchemas, IsHome, lane_at, all_resources, ids_of, is_leftover, is_abandoned, open_at, told_of, gone_by, Made, Set, effect_of, IsAnswered}
+use Rattle.cf_plan.specs.Lanes.{Lane, AreLanes, AreSchemas, IsHome, lane_at, all_resources, ids_of, is_leftover, is_abandoned, open_at, told_of, gone_by, Made, Set, change_of, IsAnswered}
+use Rattle.cf_stacks.specs.Words.{has_token}
+
+-- the call of a token, as the journal's Intent wrote it down
+abbrev pub written_in : Entry → Option Pending
+written_in (entry.Intent number token lane path request) = Some (record { token = token; path = path; lane = lane; request = request })
+written_in _ = None
+
+abbrev pub call_at : ℕ → List Entry → Option Pending
+call_at token entries = find (has_token token) (filter_map written_in entries)
 
 -- a token's call is the one that the journal has, and that is open
 pub record FitsCall (entries : List Entry) (x : World) (lane : List ℕ) (token : ℕ) (r : Request) : Type 0 where
   pub number : token ≤ x.token
-  pub written : (c : Call) → call_at token entries ≡ Some c → (c.lane ≡ lane) × (c.request ≡ r)
+  pub written : (c : Pending) → call_at token entries ≡ Some c → (c.lane ≡ lane) × (c.request ≡ r)
   pub is_open : (p : Pending) → open_at token x ≡ Some p → (p.lane ≡ lane) × (p.request ≡ r)
 
 -- What a call can still change is known: it is open, or its resource is a leftover, or it is a create that was abandoned.
@@ -48,25 +57,25 @@ IsGone x lanes id = (p : Pending) × (lane : Lane) × (s : Settlement) × IsAnsw
 abbrev pub IsChanged : World → List Lane → List ℕ → Type 0
 IsChanged x lanes id =
     (p : Pending) × (lane : Lane) × (s : Settlement) × (props attrs : List (List ℕ × Data)) × IsAnswered x lanes p lane s
-    × (effect_of p.request s ≡ Set id props attrs)
+    × (change_of p.request s ≡ Set id props attrs)
 
 -- an open create was answered with it
 abbrev pub IsBorn : World → List Lane → List ℕ → Type 0
 IsBorn x lanes id =
     (p : Pending) × (lane : Lane) × (s : Settlement) × (kind : List ℕ) × (props attrs : List (List ℕ × Data)) × IsAnswered x lanes p lane s
-    × (effect_of p.request s ≡ Made id kind props attrs)
+    × (change_of p.request s ≡ Made id kind props attrs)
 
 -- a create that was abandoned, and is listed without an id, was answered with it
 abbrev pub IsLost : World → Lane → List ℕ → Type 0
 IsLost x lane id =
     (s : Settled) × (kind : List ℕ) × (props attrs : List (List ℕ × Data)) × IsTrue (is_abandoned s.token x) × In s lane.state.state.settled
-    × (effect_of s.request s.settlement ≡ Made id kind props attrs)
+    × (change_of s.request s.settlement ≡ Made id kind props attrs)
 
 -- the resource is held, or made by an operation that has not ended in a COMPLETE status
 abbrev pub IsOnList : StackState → Held → Type 0
 IsOnList s r = In r s.held ⊎ (In r s.made × (is_complete s.status ≡ false))
 
--- A live resource is accounted for: it is held, or made and not yet taken back, or a leftover, or of a create that is open or was abandoned.
+-- A live resource is accounted for: it is held, or made and not yet rolled back, or a leftover, or of a create that is open or was abandoned.
 abbrev pub IsListed : World → List Lane → Lane → List ℕ → Type 0
 IsListed x lanes lane id =
     ((name : List ℕ) × (s : StackState) × (r : Held) × (stack_at name x ≡ Some s) × IsOnList s r × (r.physical ≡ id))
@@ -83,7 +92,7 @@ pub record Ties (entries : List Entry) (x : World) (lanes : List Lane) : Type 0 
   pub flying_calls : (l : Lane) (f : Flying) → In l lanes → In f l.state.flying → FitsCall entries x l.name f.token f.request
   -- what the journal says was answered
   pub answers :
-      (c : Call) (r : Response) (l : Lane) → In r (replies_in entries) → is_doubt r.answer ≡ false → call_at r.token entries ≡ Some c
+      (c : Pending) (r : Response) (l : Lane) → In r (replies_in entries) → is_doubt r.answer ≡ false → call_at r.token entries ≡ Some c
       → lane_at c.lane lanes ≡ Some l → option_map told_of (settlement_of r.token l.state.state.settled) ≡ Some r.answer
   -- what may act later is accounted for, and is of no later opening
   pub flying_open :
@@ -110,15 +119,15 @@ pub record Ties (entries : List Entry) (x : World) (lanes : List Lane) : Type 0 
       → (IsChanged x lanes r.physical → ⊥) → live_at r.physical l.state ≡ Some v → (v.props ≡ r.props) × (v.attrs ≡ r.attrs)
   pub changed :
       (p : Pending) (l : Lane) (s : Settlement) (id : List ℕ) (props attrs : List (List ℕ × Data)) → IsAnswered x lanes p l s
-      → effect_of p.request s ≡ Set id props attrs → (v : Live) × (live_at id l.state ≡ Some v) × (v.props ≡ props) × (v.attrs ≡ attrs)
+      → change_of p.request s ≡ Set id props attrs → (v : Live) × (live_at id l.state ≡ Some v) × (v.props ≡ props) × (v.attrs ≡ attrs)
   pub born :
       (p : Pending) (l : Lane) (s : Settlement) (id kind : List ℕ) (props attrs : List (List ℕ × Data)) → IsAnswered x lanes p l s
-      → effect_of p.request s ≡ Made id kind props attrs
+      → change_of p.request s ≡ Made id kind props attrs
       → live_at id l.state ≡ Some (record { id = id; kind = kind; props = props; attrs = attrs }) × ¬ In id (ids_of x)
   pub born_once :
       (p q : Pending) (l m : Lane) (s t : Settlement) (id k k' : List ℕ) (props attrs props' attrs' : List (List ℕ × Data))
-      → IsAnswered x lanes p l s → IsAnswered x lanes q m t → effect_of p.request s ≡ Made id k props attrs
-      → effect_of q.request t ≡ Made id k' props' attrs' → p.token ≡ q.token
+      → IsAnswered x lanes p l s → IsAnswered x lanes q m t → change_of p.request s ≡ Made id k props attrs
+      → change_of q.request t ≡ Made id k' props' attrs' → p.token ≡ q.token
   -- nothing is live that the journal does not list
   pub listed :
       (l : Lane) (v : Live) → In l lanes → In v (live_of l.state.state) → IsListed x lanes l v.id

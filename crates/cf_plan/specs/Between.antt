@@ -2,9 +2,10 @@
 use Rattle.std.specs.Prelude.{ℕ, Bool, ◌&&◌, not, List, filter}
 use Rattle.std.specs.List.{list_any}
 use Rattle.cf_stacks.specs.declared.held.Held.{Held}
-use Rattle.cf_stacks.specs.declared.state.StackState.{StackState}
+use Rattle.cf_stacks.specs.World.{StackState}
 use Rattle.cf_stacks.specs.Words.{current_at, resource_at, is_create}
-use Rattle.cf_stacks.specs.Fold.{is_physical_of, terms_at}
+use Rattle.cf_stacks.specs.End.{is_physical_of}
+use Rattle.cf_stacks.specs.Reply.{terms_at}
 
 -- the resource is the held one at one of these paths
 abbrev pub is_held_at_one : List (List ℕ) → StackState → Held → Bool

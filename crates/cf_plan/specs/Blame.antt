@@ -4,9 +4,7 @@ use Rattle.cf_schema.specs.declared.described.Schema.{Schema}
 use Rattle.cf_tree.specs.declared.source.Source.{Source}
 use Rattle.cf_entry.specs.declared.entry.Entry.{Entry}
 use Rattle.cf_entry.specs.declared.status.Status.TheVariants as status
-use Rattle.cf_stacks.specs.declared.state.StackState.{StackState}
-use Rattle.cf_stacks.specs.declared.state.World.{World}
-use Rattle.cf_stacks.specs.Words.{stack_at}
+use Rattle.cf_stacks.specs.World.{StackState, World, stack_at}
 use Rattle.cf_stacks.specs.Fold.{fold_of}
 use Rattle.cf_plan.specs.Forward.{In}
 use Rattle.cf_plan.specs.Follow.{failed_of}
@@ -20,4 +18,4 @@ RollbackBlames =
     (source : Source) (s : StackState) (es : List Entry)
     → HasBegun names kinds x told number name source s → Runs schemas names x told counts es told' counts'
     → ((e : Entry) → In e es → IsOwn number e) → (t : StackState) → stack_at name (fold_of x es) ≡ Some t → t.status ≡ status.RollbackFailed
-    → IsBlamed t.entries t.operation (failed_of t)
+    → IsBlamed t (failed_of t)

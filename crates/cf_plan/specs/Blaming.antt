@@ -5,9 +5,10 @@ use Rattle.cf_entry.specs.declared.entry.Entry.{Entry}
 use Rattle.cf_entry.specs.declared.entry.Entry.TheVariants as entry
 use Rattle.cf_entry.specs.declared.entry.Reply.{Reply}
 use Rattle.cf_stacks.specs.declared.held.Held.{Held}
-use Rattle.cf_stacks.specs.declared.state.StackState.{StackState}
+use Rattle.cf_stacks.specs.World.{StackState}
 use Rattle.cf_stacks.specs.Words.{resources_of}
-use Rattle.cf_stacks.specs.Operation.{Call, call_of, refusals_of}
+use Rattle.cf_stacks.specs.declared.call.Call.{Call}
+use Rattle.cf_stacks.specs.Calls.{call_of, refusals_of}
 use Rattle.cf_plan.specs.Follow.{is_bad_outcome}
 
 -- of each path, whether its last outcome is a doubt or a refusal

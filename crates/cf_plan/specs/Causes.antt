@@ -1,5 +1,5 @@
 -- Whether the forward phase has failed, and for which cause, as code tells it (this project's own).
-use Rattle.std.specs.Prelude.{ℕ, List, [], Option, Some, None, find, if◌then◌else◌}
+use Rattle.std.specs.Prelude.{ℕ, List, Option, Some, None, find, if◌then◌else◌}
 use Rattle.cf_tree.specs.Lists.{first_in}
 use Rattle.cf_entry.specs.declared.turn.Cause.{Cause}
 use Rattle.cf_entry.specs.declared.turn.Cause.TheVariants as cause
@@ -9,8 +9,7 @@ use Rattle.cf_desired.specs.declared.flaw.Flaw.{Flaw}
 use Rattle.cf_desired.specs.declared.wanted.Plan.{Plan}
 use Rattle.cf_desired.specs.FlawText.{flaw_text}
 use Rattle.cf_schema.specs.declared.described.Schema.{Schema}
-use Rattle.cf_stacks.specs.declared.state.StackState.{StackState}
-use Rattle.cf_stacks.specs.declared.state.World.{World}
+use Rattle.cf_stacks.specs.World.{StackState, World}
 use Rattle.cf_plan.specs.Failed.{are_all_done, flaws_found, least}
 use Rattle.cf_plan.specs.Forward.{HasFailed, IsCause, is_lost, path_of_token}
 use Rattle.cf_plan.specs.declared.cause.Failure.{Failure}
@@ -46,7 +45,7 @@ plan_failure name x before now done =
     or_path (least (flaws_found before now done)) (if are_all_done before done then end_failure name x now else Nothing)
 
 -- The phase has not failed; it has, for this cause; or it has, and no cause tells why.
-abbrev pub TellsFailure : List Schema → List ℕ → World → StackState → Failure → Type 0
-TellsFailure schemas name x s Nothing = ¬ HasFailed schemas name x s
-TellsFailure schemas name x s (Because c) = HasFailed schemas name x s × IsCause schemas name x s c
-TellsFailure schemas name x s Untold = HasFailed schemas name x s × ((c : Cause) → IsCause schemas name x s c → ⊥)
+abbrev pub IsFailureOf : List Schema → List ℕ → World → StackState → Failure → Type 0
+IsFailureOf schemas name x s Nothing = ¬ HasFailed schemas name x s
+IsFailureOf schemas name x s (Because c) = HasFailed schemas name x s × IsCause schemas name x s c
+IsFailureOf schemas name x s Untold = HasFailed schemas name x s × ((c : Cause) → IsCause schemas name x s c → ⊥)

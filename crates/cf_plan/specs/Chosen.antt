@@ -10,14 +10,13 @@ use Rattle.cf_tree.specs.declared.request.Request.TheVariants as request
 use Rattle.cf_schema.specs.declared.described.Schema.{Schema}
 use Rattle.cf_entry.specs.declared.entry.Entry.{Entry}
 use Rattle.cf_entry.specs.declared.entry.Entry.TheVariants as entry
-use Rattle.cf_stacks.specs.declared.state.StackState.{StackState}
-use Rattle.cf_stacks.specs.declared.state.World.{World}
+use Rattle.cf_stacks.specs.World.{StackState, World, stack_of_operation}
 use Rattle.cf_stacks.specs.Status.{Stage, stage_of}
-use Rattle.cf_stacks.specs.Words.{id_named, stack_of_operation}
+use Rattle.cf_stacks.specs.Words.{id_named}
 use Rattle.cf_plan.specs.declared.next.Home.{Home}
 use Rattle.cf_plan.specs.declared.next.Next.{Next}
 use Rattle.cf_plan.specs.declared.next.Next.TheVariants as next
-use Rattle.cf_plan.specs.Follow.{MayRepeat, MayFollowIn, is_lane_out}
+use Rattle.cf_plan.specs.Follow.{MayRepeat, MayFollowIn, is_lane_leased}
 
 -- the tokens of the leases that are out, as the lanes tell them
 abbrev pub leases_of : List Home → List ℕ
@@ -27,7 +26,7 @@ leases_of homes = filter_map (λ h. h.out) homes
 pub record MayCallAgain (schemas : List Schema) (name : List ℕ) (x : World) (out : List ℕ) (s : StackState) (stage : Stage)
     (path lane : List ℕ) (token : ℕ) (r : Request) : Type 0 where
   pub repeats : MayRepeat schemas name x out s stage (record { token = token; path = path; lane = lane; request = r })
-  pub home : is_lane_out out x lane ≡ false
+  pub home : is_lane_leased out x lane ≡ false
 
 -- What may start: a repeat, or what an entry writes down that may follow. To wait, a lease is out.
 abbrev pub MayStart : List Schema → List ℕ → World → List ℕ → StackState → Stage → Next → Type 0
@@ -38,14 +37,14 @@ MayStart schemas name x out s stage (next.Turn p cause) = MayFollowIn schemas na
 MayStart schemas name x out s stage (next.End state failed) = MayFollowIn schemas name x out s stage (entry.Done s.operation state failed)
 MayStart schemas name x out s stage next.Wait = out ≢ []
 
--- Where a step stands in the order.
+-- The place of a step in the order.
 pub record Place : Type 0 where
   pub rank : ℕ
   pub token : ℕ
   pub path : List ℕ
   pub physical : List ℕ
 
--- a create, which names no physical id, stands before every other step of its path
+-- a create, which names no physical id, precedes every other step of its path
 abbrev pub place_of : Next → Place
 place_of (next.Step path lane token r true) = record { rank = 0; token = token; path = []; physical = [] }
 place_of (next.Step path lane token r false) = record { rank = 1; token = 0; path = path; physical = unwrap_or (id_named r) [] }
@@ -55,23 +54,23 @@ place_of (next.End state failed) = record { rank = 2; token = 0; path = []; phys
 place_of next.Wait = record { rank = 3; token = 0; path = []; physical = [] }
 
 -- the paths in the order of their bytes, and where they are the same the physical ids
-abbrev pub is_sooner : List ℕ × List ℕ → List ℕ × List ℕ → Bool
-is_sooner a b = bytes_lt a.0 b.0 || (bytes_eq a.0 b.0 && bytes_lt a.1 b.1)
+abbrev pub precedes : List ℕ × List ℕ → List ℕ × List ℕ → Bool
+precedes a b = bytes_lt a.0 b.0 || (bytes_eq a.0 b.0 && bytes_lt a.1 b.1)
 
 abbrev pub is_placed_before : Place → Place → Bool
 is_placed_before a b =
     nat_lt a.rank b.rank
-    || (a.rank == b.rank && (nat_lt a.token b.token || (a.token == b.token && is_sooner (a.path, a.physical) (b.path, b.physical))))
+    || (a.rank == b.rank && (nat_lt a.token b.token || (a.token == b.token && precedes (a.path, a.physical) (b.path, b.physical))))
 
 -- a create goes to the first lane at home of its type, in the order in which the lanes were handed in
 abbrev pub first_home : List ℕ → List ℕ → World → Option (List ℕ)
-first_home k out x = option_map (λ l. l.0) (find (λ l. bytes_eq k l.1 && not (is_lane_out out x l.0)) x.lanes)
+first_home k out x = option_map (λ l. l.0) (find (λ l. bytes_eq k l.1 && not (is_lane_leased out x l.0)) x.lanes)
 
 abbrev pub GoesFirst : List ℕ → World → Next → Type 0
 GoesFirst out x (next.Step path lane token (request.Create k props) false) = first_home k out x ≡ Some lane
 GoesFirst out x _ = Unit {0}
 
--- The chosen step may start, and none that may start stands before it.
+-- The chosen step may start, and none that may start precedes it.
 pub record IsChosen (schemas : List Schema) (name : List ℕ) (x : World) (out : List ℕ) (s : StackState) (stage : Stage) (n : Next) : Type 0 where
   pub may : MayStart schemas name x out s stage n
   pub first : (m : Next) → MayStart schemas name x out s stage m → is_placed_before (place_of m) (place_of n) ≡ false

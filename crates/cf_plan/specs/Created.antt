@@ -1,42 +1,53 @@
 -- What a create makes is what its template says, evaluated over the ids and attributes of what it made (User Guide:
 -- references are resolved in the order of work; the laws are this project's own).
-use Rattle.std.specs.Prelude.{◌≡◌, ◌⊎◌, ℕ, Bool, false, List, [], ◌∷◌, ◌++◌, Some, None}
+use Rattle.std.specs.Prelude.{◌≡◌, ◌⊎◌, ℕ, Bool, false, List, [], Some, None}
 use Rattle.std.specs.List.{list_any}
 use Rattle.cf_tree.specs.Datum.{Data}
 use Rattle.cf_tree.specs.declared.request.Request.{Request}
 use Rattle.cf_tree.specs.declared.request.Request.TheVariants as request
 use Rattle.cf_tree.specs.declared.source.Source.{Source}
-use Rattle.cf_entry.specs.declared.entry.Entry.{Entry}
 use Rattle.cf_entry.specs.declared.entry.Entry.TheVariants as entry
 use Rattle.cf_entry.specs.declared.entry.Begun.TheVariants as begin
 use Rattle.cf_entry.specs.declared.entry.Reply.{Reply}
 use Rattle.cf_stacks.specs.declared.held.Held.{Held}
 use Rattle.cf_stacks.specs.declared.held.Pending.{Pending}
-use Rattle.cf_stacks.specs.declared.state.StackState.{StackState}
-use Rattle.cf_stacks.specs.declared.state.World.{World}
+use Rattle.cf_stacks.specs.World.{StackState, World}
+use Rattle.cf_stacks.specs.Status.{Forward}
+use Rattle.cf_stacks.specs.Words.{current_at, is_update}
+use Rattle.cf_stacks.specs.Begin.{source_for, seen_in}
+use Rattle.cf_stacks.specs.End.{seen_now}
 use Rattle.cf_schema.specs.declared.described.Schema.{Schema}
 use Rattle.cf_entry.specs.declared.status.Status.TheVariants as status
 use Rattle.cf_desired.specs.Whole.{Right, Whole, whole_of}
-use Rattle.cf_desired.specs.Templates.{IsFlat}
+use Rattle.cf_desired.specs.Seeing.{Seen}
+use Rattle.cf_desired.specs.Plan.{plan_of}
+use Rattle.cf_desired.specs.Shape.{shape_of}
 use Rattle.cf_desired.specs.Stays.{other_flaws}
-use Rattle.cf_stacks.specs.Status.{Forward}
-use Rattle.cf_stacks.specs.Words.{current_at, pending_of, is_update}
-use Rattle.cf_stacks.specs.Operation.{calls_in, own_of}
-use Rattle.cf_stacks.specs.Fold.{heard, source_for, beginning, replied, seen_in, seen_now, ended}
 use Rattle.cf_plan.specs.Forward.{In, Known, evaluated_at, plan_now, IsDone, IsReady, AllDone, HasFailed}
 use Rattle.cf_plan.specs.Ends.{right_at}
 use Rattle.cf_plan.specs.Follow.{MayIntend, EndsAs}
+use Rattle.cf_stacks.specs.Calls.{own_calls}
+use Rattle.cf_stacks.specs.Fold.{effect_at}
+use Rattle.cf_stacks.specs.End.{ended_effect}
 
--- entries write an update down
-abbrev pub has_update : List Entry → Bool
-has_update es = list_any (λ c. is_update c.request) (calls_in es)
+-- The order of work of a source, its kinds, policies and needs are the same whatever is seen: so they are where its plan has
+-- no flaw before anything is made.
+abbrev pub HasOneShape : Source → Type 0
+HasOneShape source = (seen : Seen) → shape_of source seen ≡ shape_of source []
 
--- a create of a flat source: nothing is held from before, and nothing is updated
+abbrev pub FlawlessHasOneShape : Type 0
+FlawlessHasOneShape = (source : Source) → (plan_of source []).flaws ≡ [] → HasOneShape source
+
+-- one of the stack's own calls is an update
+abbrev pub has_update : StackState → Bool
+has_update s = list_any (λ c. is_update c.request) (own_calls s)
+
+-- a create: nothing is held from before, and nothing is updated
 pub record IsCreating (source : Source) (s : StackState) : Type 0 where
   pub going : s.going ≡ Some source
-  pub flat : IsFlat source
+  pub one_shape : HasOneShape source
   pub none_held : s.held ≡ []
-  pub no_update : has_update (own_of s) ≡ false
+  pub no_update : has_update s ≡ false
 
 -- the call is a create of the kind and the properties that the template gives the path over the resources of now
 abbrev pub IsSaid : StackState → List ℕ → Request → Type 0
@@ -60,32 +71,27 @@ IsRightCreate source s = IsCreating source s × AreRight s
 -- it begins right, where nothing is held and no call is open
 abbrev pub BeginsRight : Type 0
 BeginsRight =
-    (name : List ℕ) (place number : ℕ) (source : Source) (s : StackState) → IsFlat source → s.held ≡ [] → s.tokens ≡ []
-    → IsRightCreate (source_for name number source)
-    (heard place (entry.Begin number name (begin.Create source)) s (beginning name number (begin.Create source) s))
+    (name : List ℕ) (place number : ℕ) (source : Source) (s : StackState) → HasOneShape (source_for name number source) → s.held ≡ [] → s.tokens ≡ []
+    → IsRightCreate (source_for name number source) (effect_at place (entry.Begin number name (begin.Create source)) s).stack
 
 -- it stays right at an opening
 abbrev pub OpeningStaysRight : Type 0
 OpeningStaysRight =
-    (source : Source) (s : StackState) → IsRightCreate source s → (epoch : ℕ) (lanes : List (List ℕ × List ℕ))
-    → IsRightCreate source (record s { entries = s.entries ++ entry.Opened epoch lanes ∷ [] })
-
--- a call that is written down
-abbrev pub intending : ℕ → List ℕ → List ℕ → Request → StackState → StackState
-intending token lane path r s = record s { tokens = s.tokens ++ record { token = token; path = path; lane = lane; request = r } ∷ [] }
+    (source : Source) (s : StackState) → IsRightCreate source s → (place epoch : ℕ) (lanes : List (List ℕ × List ℕ))
+    → IsRightCreate source (effect_at place (entry.Opened epoch lanes) s).stack
 
 -- it stays right where any call that may follow in the forward phase is written down
 abbrev pub IntentStaysRight : Type 0
 IntentStaysRight =
     (schemas : List Schema) (name : List ℕ) (x : World) (out : List ℕ) (source : Source) (s : StackState) → IsRightCreate source s
     → (place number token : ℕ) (lane path : List ℕ) (r : Request) → MayIntend schemas name x out s Forward token lane path r
-    → IsRightCreate source (heard place (entry.Intent number token lane path r) s (intending token lane path r s))
+    → IsRightCreate source (effect_at place (entry.Intent number token lane path r) s).stack
 
 -- it stays right where a call is answered: what the template said when the call was written down it says of all that is made by now
 abbrev pub OutcomeStaysRight : Type 0
 OutcomeStaysRight =
     (source : Source) (s : StackState) → IsRightCreate source s → (place number token before after : ℕ) (answer : Reply)
-    → IsRightCreate source (heard place (entry.Outcome number token answer before after) s (replied token answer (pending_of token s) s))
+    → IsRightCreate source (effect_at place (entry.Outcome number token answer before after) s).stack
 
 -- a path that can be made next: it is ready and not done, and the template says what to make
 pub record IsNext (s : StackState) (path : List ℕ) : Type 0 where
@@ -95,11 +101,11 @@ pub record IsNext (s : StackState) (path : List ℕ) : Type 0 where
   pub props : List (List ℕ × Data)
   pub said : evaluated_at path s ≡ Known kind props
 
--- A create is never stuck: while it has not failed, all is done or a path can be made next. That is so where its template
--- has no flaw but those of evaluations.
+-- A create is never stuck: while it has not failed, all is done or a path can be made next. That is so where, before anything
+-- is made, its template has no flaw but those of evaluations.
 abbrev pub CreateGoesOn : Type 0
 CreateGoesOn =
-    (schemas : List Schema) (name : List ℕ) (x : World) (source : Source) (s : StackState) → IsRightCreate source s → other_flaws (plan_now s) ≡ []
+    (schemas : List Schema) (name : List ℕ) (x : World) (source : Source) (s : StackState) → IsRightCreate source s → other_flaws (plan_of source []) ≡ []
     → ¬ HasFailed schemas name x s → AllDone s ⊎ ((path : List ℕ) × IsNext s path)
 
 -- the whole map has just the made paths, with their kinds and properties
@@ -136,4 +142,5 @@ abbrev pub CreateEndsWhole : Type 0
 CreateEndsWhole =
     (schemas : List Schema) (name : List ℕ) (x : World) (source : Source) (s : StackState) → IsRightCreate source s
     → EndsAs schemas name x s status.CreateInProgress status.CreateComplete → (whole : Whole)
-    × (whole_of source (seen_in (ended status.CreateComplete s).held) ≡ Some whole) × IsWholeHeld source whole (ended status.CreateComplete s)
+    × (whole_of source (seen_in (ended_effect status.CreateComplete s).stack.held) ≡ Some whole)
+    × IsWholeHeld source whole (ended_effect status.CreateComplete s).stack

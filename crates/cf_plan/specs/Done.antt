@@ -1,19 +1,20 @@
 -- Which paths are done, as it is found out: path after path joins those that are done already (this project's own).
-use Rattle.std.specs.Prelude.{◌≡◌, ◌↔◌, ◌⊎◌, ℕ, Bool, false, List, [], ◌∷◌, ◌++◌, Some, IsTrue, filter, filter_map, map, not}
+use Rattle.std.specs.Prelude.{◌≡◌, ◌↔◌, ◌⊎◌, ℕ, Bool, ◌&&◌, false, List, [], ◌∷◌, ◌++◌, Some, IsTrue, filter, map, not}
 use Rattle.std.specs.List.{list_all}
 use Rattle.std.specs.Option.{option_map_or}
-use Rattle.cf_tree.specs.Datum.{Data}
 use Rattle.cf_tree.specs.Lists.{is_among}
 use Rattle.cf_desired.specs.declared.wanted.Plan.{Plan}
 use Rattle.cf_desired.specs.Whole.{wanted_at}
 use Rattle.cf_stacks.specs.declared.held.Held.{Held}
-use Rattle.cf_stacks.specs.declared.state.StackState.{StackState}
-use Rattle.cf_stacks.specs.Fold.{terms_of}
-use Rattle.cf_stacks.specs.Words.{current_at}
-use Rattle.cf_plan.specs.Called.{updated_path}
+use Rattle.cf_stacks.specs.World.{StackState}
+use Rattle.cf_stacks.specs.Reply.{terms_of}
+use Rattle.cf_stacks.specs.Words.{current_at, is_update}
+use Rattle.cf_stacks.specs.declared.call.Call.{Call}
+use Rattle.cf_stacks.specs.Calls.{own_calls, succeeded}
 use Rattle.cf_plan.specs.declared.found.Found as found
 use Rattle.cf_plan.specs.declared.found.Found.TheVariants.{Bad as bad, Later as not_yet, Known as known}
-use Rattle.cf_plan.specs.Forward.{In, IsDone, Finding, Bad, Later, Known, finding}
+use Rattle.cf_plan.specs.Between.{needs_at}
+use Rattle.cf_plan.specs.Forward.{In, IsDone, Finding, Bad, Later, Known, finding, wanted_paths}
 
 -- what properties come to, as code has it
 abbrev pub finding_of : found.Found → Finding
@@ -31,19 +32,24 @@ needs_by path p = (terms_of (wanted_at path p)).needs
 abbrev pub are_met : List ℕ → Plan → List (List ℕ) → Bool
 are_met path p done = list_all (λ n. is_among n done) (needs_by path p)
 
--- what is held at a path is sure and has the properties that a plan gives the path
-abbrev pub HasProps : List ℕ → Plan → List (List ℕ × Data) → Type 0
-HasProps path p props = (k : List ℕ) × (finding_by path p ≡ Known k props)
+-- a plan with the paths of the operation's template and what each of them needs, whatever it has of their properties
+pub record HasTerms (s : StackState) (p : Plan) : Type 0 where
+  pub paths : map (λ w. w.path) p.wanted ≡ wanted_paths s
+  pub needs : (path : List ℕ) → needs_by path p ≡ needs_at path s
 
+-- what is held at a path is sure and has the type and properties that a plan gives the path
 abbrev pub IsHeldRight : List ℕ → Plan → List Held → Type 0
-IsHeldRight path p held = (h : Held) × (current_at path held ≡ Some h) × (h.unsure ≡ false) × HasProps path p h.props
+IsHeldRight path p held = (h : Held) × (current_at path held ≡ Some h) × (h.unsure ≡ false) × (finding_by path p ≡ Known h.kind h.props)
 
 -- the paths that are done whatever the template says: those of what was made, and of the updates that succeeded
 abbrev pub made_paths : StackState → List (List ℕ)
 made_paths s = map (λ h. h.path) (filter (λ h. not h.superseded) s.made)
 
+abbrev pub is_good_update : Call → Bool
+is_good_update c = is_update c.request && succeeded c
+
 abbrev pub updated_paths : StackState → List (List ℕ)
-updated_paths s = filter_map (updated_path s) s.entries
+updated_paths s = map (λ c. c.path) (filter is_good_update (own_calls s))
 
 -- a path that is not among those that are done, though it is right and its needs are done
 abbrev pub IsFresh : Plan → Plan → List Held → List (List ℕ) → List ℕ → Type 0

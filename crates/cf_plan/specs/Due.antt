@@ -10,10 +10,8 @@ use Rattle.cf_entry.specs.declared.turn.Cause.{Cause}
 use Rattle.cf_entry.specs.declared.turn.Why.TheVariants as why
 use Rattle.cf_stacks.specs.declared.held.Held.{Held}
 use Rattle.cf_stacks.specs.declared.held.Pending.{Pending}
-use Rattle.cf_stacks.specs.declared.state.StackState.{StackState}
-use Rattle.cf_stacks.specs.declared.state.World.{World}
+use Rattle.cf_stacks.specs.World.{StackState, World, stack_of_operation}
 use Rattle.cf_stacks.specs.Status.{Stage, Forward, stage_of}
-use Rattle.cf_stacks.specs.Words.{stack_of_operation}
 use Rattle.cf_plan.specs.declared.next.Next.{Next}
 use Rattle.cf_plan.specs.declared.next.Next.TheVariants as next
 use Rattle.cf_plan.specs.declared.stepping.Start.{Start}
@@ -59,12 +57,12 @@ IsDueIn schemas name x out s stage (next.Turn p cause) = MayFollowIn schemas nam
 IsDueIn schemas name x out s stage (next.End state failed) = MayFollowIn schemas name x out s stage (entry.Done s.operation state failed)
 IsDueIn schemas name x out s stage next.Wait = ⊥
 
--- A list has the step. A phase that may begin stands there with one cause of it: two nested stacks at one path could tell two.
+-- A list has the step. A phase that may begin is in it with one cause: two nested stacks at one path could tell two.
 abbrev pub IsListed : List Next → Next → Type 0
 IsListed dues (next.Turn p cause) = (c : Option Cause) × In (next.Turn p c) dues
 IsListed dues n = In n dues
 
--- none of the list stands before an earlier one
+-- none of the list precedes an earlier one
 abbrev pub is_step_before : Next → Next → Bool
 is_step_before a b = is_placed_before (place_of a) (place_of b)
 
@@ -87,7 +85,7 @@ pub record AreDueIn (schemas : List Schema) (name : List ℕ) (x : World) (out :
 abbrev pub AreDueOn : List Schema → List ℕ → World → List ℕ → StackState → List Next → Type 0
 AreDueOn schemas name x out s dues = (stage : Stage) × (stage_of s.status ≡ Some stage) × AreDueIn schemas name x out s stage dues
 
--- As code finds them: a step joins those that are found already, behind each before which it does not stand.
+-- As code finds them: a step joins those that are found already, after each that it does not precede.
 abbrev pub stays : Next → Next → Bool
 stays a b = not (is_step_before b a)
 
@@ -124,17 +122,17 @@ with_start out x dues a = with_call out x a.path dues a.request
 abbrev pub with_starts : List ℕ → World → List Start → List Next → List Next
 with_starts out x starts dues = fold (with_start out x) dues starts
 
--- a made resource that nothing needs, of which no deletion was begun and at whose path no call is open goes: it is kept, or deleted
-abbrev pub goes : StackState → Held → Bool
-goes s r = is_not_needed s r && (is_untried s r && is_free r.path s)
+-- a made resource that nothing needs, of which no deletion was begun and at whose path no call is open is to be rolled back: it is kept, or deleted
+abbrev pub is_to_roll_back : StackState → Held → Bool
+is_to_roll_back s r = is_not_needed s r && (is_untried s r && is_free r.path s)
 
-abbrev pub with_gone : List ℕ → World → List Next → Held → List Next
-with_gone out x dues r =
+abbrev pub with_removal : List ℕ → World → List Next → Held → List Next
+with_removal out x dues r =
     if is_retained r.deletion then with_due dues (next.Keep r.path r.physical why.Retained)
     else with_call out x r.path dues (request.Delete r.physical)
 
-abbrev pub with_going : List ℕ → World → StackState → List Next → Held → List Next
-with_going out x s dues r = if goes s r then with_gone out x dues r else dues
+abbrev pub with_rollback : List ℕ → World → StackState → List Next → Held → List Next
+with_rollback out x s dues r = if is_to_roll_back s r then with_removal out x dues r else dues
 
-abbrev pub with_goings : List ℕ → World → StackState → List Next → List Next
-with_goings out x s dues = fold (with_going out x s) dues s.made
+abbrev pub with_rollbacks : List ℕ → World → StackState → List Next → List Next
+with_rollbacks out x s dues = fold (with_rollback out x s) dues s.made

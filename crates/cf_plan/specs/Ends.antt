@@ -1,24 +1,28 @@
 -- What stands where an operation has ended: the new template is live, the earlier resources are back, nothing is left,
 -- or the failed paths are told and blamed (User Guide: stack status codes).
-use Rattle.std.specs.Prelude.{◌≡◌, ◌≢◌, ℕ, ◌↔◌, false, List, [], Option, Some, map, filter, find}
+use Rattle.std.specs.Prelude.{◌≡◌, ◌≢◌, ℕ, ◌↔◌, false, List, [], Option, Some, map, find}
 use Rattle.cf_tree.specs.Keys.{value_at}
 use Rattle.cf_handler.specs.Lane.{Live}
 use Rattle.cf_handler.specs.Fence.{live_at}
 use Rattle.cf_tree.specs.Counts.{HasRisen}
 use Rattle.cf_export.specs.declared.Export.{Export}
-use Rattle.cf_entry.specs.declared.entry.Entry.{Entry}
 use Rattle.cf_tree.specs.declared.source.Source.{Source}
 use Rattle.cf_stacks.specs.declared.held.Held.{Held}
-use Rattle.cf_stacks.specs.declared.state.StackState.{StackState}
-use Rattle.cf_stacks.specs.declared.state.World.{World}
+use Rattle.cf_stacks.specs.World.{StackState, World}
+use Rattle.cf_stacks.specs.Words.{current_at}
+use Rattle.cf_stacks.specs.declared.call.Call.{Call}
+use Rattle.cf_stacks.specs.Operation.{Response, replies_in}
+use Rattle.cf_stacks.specs.Calls.{is_success}
+use Rattle.cf_stacks.specs.Listed.{export_by}
+use Rattle.cf_stacks.specs.End.{is_right_at}
 use Rattle.cf_desired.specs.Seeing.{Seen}
 use Rattle.cf_desired.specs.Whole.{Right, Whole, whole_of}
-use Rattle.cf_stacks.specs.Words.{current_at}
-use Rattle.cf_stacks.specs.Operation.{Call, Response, call_at, replies_in, is_of, is_success}
-use Rattle.cf_stacks.specs.Fold.{export_by, is_right_at}
 use Rattle.cf_plan.specs.Accept.{exports_in}
 use Rattle.cf_plan.specs.Forward.{In}
 use Rattle.cf_plan.specs.Lanes.{Lane, IsHome}
+use Rattle.cf_plan.specs.Follow.{settled_by}
+use Rattle.cf_stacks.specs.Operation.{own_of}
+use Rattle.cf_stacks.specs.Calls.{call_of}
 
 -- what is live of a resource: its lane is the one that its id names
 pub record IsLive (lanes : List Lane) (r : Held) (v : Live) : Type 0 where
@@ -73,17 +77,17 @@ pub record IsCleared (s : StackState) : Type 0 where
   pub settled : IsSettled s
   pub none_held : s.held ≡ []
 
--- A failed status names a path at least, and each with an outcome of the operation that was refused or broke off, whose
--- handler's count rose.
-pub record IsBlamedFor (entries : List Entry) (number : ℕ) (path : List ℕ) : Type 0 where
+-- A failed status names a path at least, and each with an outcome of the stack's last operation that was refused or broke
+-- off, whose handler's count rose.
+pub record IsBlamedFor (s : StackState) (path : List ℕ) : Type 0 where
   pub reply : Response
   pub call : Call
-  pub of_call : call_at reply.token entries ≡ Some call
+  pub of_call : call_of reply.token s ≡ Some call
   pub at_path : call.path ≡ path
-  pub stands : In reply (replies_in (filter (is_of number) entries))
-  pub failed : is_success reply.answer ≡ false
+  pub stands : In reply (replies_in (own_of s))
+  pub failed : is_success (settled_by reply.answer) ≡ false
   pub rose : HasRisen reply.before reply.after
 
-pub record IsBlamed (entries : List Entry) (number : ℕ) (failed : List (List ℕ)) : Type 0 where
+pub record IsBlamed (s : StackState) (failed : List (List ℕ)) : Type 0 where
   pub some : failed ≢ []
-  pub each : (path : List ℕ) → In path failed → IsBlamedFor entries number path
+  pub each : (path : List ℕ) → In path failed → IsBlamedFor s path

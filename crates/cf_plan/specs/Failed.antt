@@ -1,5 +1,5 @@
 -- How it is told whether the forward phase has failed, and why (this project's own).
-use Rattle.std.specs.Prelude.{ℕ, Bool, List, [], ◌++◌, Option, Some, None, filter_map, fold, option_and_then, option_map, if◌then◌else◌}
+use Rattle.std.specs.Prelude.{ℕ, Bool, List, ◌++◌, Option, Some, None, filter_map, fold, option_and_then, option_map, if◌then◌else◌}
 use Rattle.std.specs.List.{list_all}
 use Rattle.cf_tree.specs.Keys.{bytes_lt}
 use Rattle.cf_tree.specs.Lists.{is_among}
@@ -21,7 +21,7 @@ flaw_in (result.Known ps) = None
 abbrev pub flaw_by : List ℕ → Plan → Option Flaw
 flaw_by path p = option_and_then (λ w. flaw_in w.props) (wanted_at path p)
 
--- a path whose needs are done with its flaw; the same of a nested stack
+-- a path whose needs are done with its flaw; a nested stack whose needs are done with its flaw
 abbrev pub flaw_found : Plan → Plan → List (List ℕ) → Wanted → Option (List ℕ × Flaw)
 flaw_found before now done w = if are_met w.path before done then option_map (λ f. (w.path, f)) (flaw_by w.path now) else None
 

@@ -25,24 +25,31 @@ use Rattle.cf_entry.specs.declared.turn.Cause.{Cause}
 use Rattle.cf_tree.specs.declared.source.Source.{Source}
 use Rattle.cf_tree.specs.declared.row.Row.{Row}
 use Rattle.cf_stacks.specs.declared.held.Held.{Held}
+use Rattle.cf_stacks.specs.declared.held.Pending.{Pending}
+use Rattle.cf_stacks.specs.World.{StackState, World, stack_at, stack_of_operation, known_stack}
+use Rattle.cf_stacks.specs.Status.{Stage, Forward, Clean, Back, BackClean, Gone, stage_of}
+use Rattle.cf_stacks.specs.Words.{current_at, resources_of, is_update, is_create_at, pending_of, is_pinned, deletes, updates}
+use Rattle.cf_stacks.specs.Begin.{source_for}
+use Rattle.cf_stacks.specs.Fold.{world_after}
+use Rattle.cf_stacks.specs.declared.call.Call.{Call}
+use Rattle.cf_stacks.specs.Operation.{Response, after_last, replies_in, own_of, was_skipped, named_paths}
+use Rattle.cf_stacks.specs.Calls.{doubts_of, deletions_of, refusals_of, was_updated, was_restored, was_refused, is_refusal, call_of}
 use Rattle.cf_tree.specs.declared.template.Deletion.{Deletion}
 use Rattle.cf_tree.specs.declared.template.Deletion.TheVariants as deletion
 use Rattle.cf_tree.specs.declared.template.Replace.{Replace}
 use Rattle.cf_tree.specs.declared.template.Replace.TheVariants as replace
 use Rattle.cf_tree.specs.Lists.{is_among}
-use Rattle.cf_stacks.specs.declared.held.Pending.{Pending}
-use Rattle.cf_stacks.specs.declared.state.StackState.{StackState}
-use Rattle.cf_stacks.specs.declared.state.World.{World}
-use Rattle.cf_stacks.specs.Status.{Stage, Forward, Clean, Back, BackClean, Gone, stage_of}
-use Rattle.cf_stacks.specs.Words.{stack_at, stack_of_operation, current_at, resources_of, is_update, is_create_at, pending_of, is_pinned}
-use Rattle.cf_stacks.specs.Fold.{known_stack, source_for, world_after}
-use Rattle.cf_stacks.specs.Operation.{Call, Response, after_last, calls_in, replies_in, own_of, doubts_of, is_new, deletions_of, refusals_of, deletes, updates, was_updated, was_restored, was_skipped, was_refused, is_refusal, call_of, named_paths, rollback_of}
 use Rattle.cf_plan.specs.Between.{is_needed_by_held, is_needed_by_made, is_needed_by_create}
 use Rattle.cf_plan.specs.Forward.{In, IsDone, IsReady, AllDone, HasFailed, IsCause, Known, evaluated_at, was_answered_at, difference_to}
 use Rattle.cf_schema.specs.declared.described.Schema.{Schema}
 use Rattle.cf_schema.specs.declared.changed.Difference.TheVariants.{Same, MayReplace, Replace as ToReplace}
 use Rattle.cf_change.specs.Changes.{is_empty}
 use Rattle.cf_plan.specs.Accept.{IsAccepted, IsReviewed, creates_from}
+use Rattle.cf_stacks.specs.Calls.{own_calls}
+use Rattle.cf_stacks.specs.Operation.{is_doubt}
+use Rattle.cf_stacks.specs.Status.{goes_back}
+use Rattle.cf_stacks.specs.declared.call.Settled.{Settled}
+use Rattle.cf_stacks.specs.declared.call.Settled.TheVariants as settled
 
 -- Policies (template reference, DeletionPolicy and UpdateReplacePolicy): a rollback deletes what the operation made
 -- unless it is Retain; every other deletion keeps RetainExceptOnCreate too.
@@ -90,16 +97,13 @@ MayDelete BackClean s r = In r s.made × IsTrue (is_tried_less s r)
 MayDelete Gone s r = In r (resources_of s) × IsTrue (is_not_needed s r) × (is_needed_by_held s r ≡ false) × IsTrue (is_untried s r)
 
 -- What the forward phase makes and changes: a create-only property that differs wants a new resource, as does a conditional one where the handler says so.
-abbrev pub is_not_updatable : Reply → Bool
-is_not_updatable (reply.Failed code.NotUpdatable) = true
+abbrev pub is_not_updatable : Option Settled → Bool
+is_not_updatable (Some (settled.Failed code.NotUpdatable)) = true
 is_not_updatable _ = false
-
-abbrev pub answers_not_updatable : StackState → Call → Bool
-answers_not_updatable s c = list_any (λ r. c.token == r.token && is_not_updatable r.answer) (replies_in s.entries)
 
 -- this operation's update of the resource was answered so
 abbrev pub was_not_updatable : StackState → Held → Bool
-was_not_updatable s h = list_any (λ c. updates h.physical c.request && answers_not_updatable s c) (calls_in (own_of s))
+was_not_updatable s h = list_any (λ c. updates h.physical c.request && is_not_updatable c.answer) (own_calls s)
 
 abbrev pub WantsNew : List Schema → StackState → Option Held → List (List ℕ × Data) → Type 0
 WantsNew schemas s None props = Unit {0}
@@ -116,9 +120,13 @@ IntendsForward schemas s path (request.Update physical props) =
     × WantsUpdate schemas s h props × (was_answered_at path s ≡ false)
 IntendsForward schemas s path (request.Delete physical) = ⊥
 
--- What the rollback of an update gives back: a resource that was updated in place gets its properties of before.
+-- What the rollback of an update gives back: a resource that was updated in place gets its properties of before. The
+-- operation's restores are its updates that went out in the rollback.
+abbrev pub restores_of : StackState → List Call
+restores_of s = filter (λ c. goes_back c.status && is_update c.request) (own_calls s)
+
 abbrev pub has_restore : List ℕ → StackState → Bool
-has_restore physical s = list_any (λ c. updates physical c.request) (filter (λ c. c.number == s.operation) (calls_in (rollback_of s)))
+has_restore physical s = list_any (λ c. updates physical c.request) (restores_of s)
 
 abbrev pub IsToRestore : StackState → Held → Type 0
 IsToRestore s b = In b s.before × IsTrue (was_updated b.physical s) × (was_restored b.physical s ≡ false) × (was_skipped b.path s ≡ false)
@@ -140,37 +148,40 @@ IntendsIn Back schemas name x s path r = IntendsDeletion Back s path r ⊎ Inten
 IntendsIn stage schemas name x s path r = IntendsDeletion stage s path r
 
 -- Open tokens, repeats, and lanes that are out.
-abbrev pub is_out : List ℕ → ℕ → Bool
-is_out out token = list_any (λ t. token == t) out
+abbrev pub is_in_flight : List ℕ → ℕ → Bool
+is_in_flight out token = list_any (λ t. token == t) out
 
 abbrev pub is_free : List ℕ → StackState → Bool
 is_free path s = not (list_any (λ p. bytes_eq path p.path) s.tokens)
 
 -- a call of an open token that is not out, with fewer than three doubts in this phase and opening
 abbrev pub may_repeat : Stage → List ℕ → StackState → Pending → Bool
-may_repeat Gone out s p = not (is_out out p.token) && (nat_lt (doubts_of p.token s) 3 && not (is_among p.path (named_paths s)))
-may_repeat stage out s p = not (is_out out p.token) && nat_lt (doubts_of p.token s) 3
+may_repeat Gone out s p = not (is_in_flight out p.token) && (nat_lt (doubts_of p.token s) 3 && not (is_among p.path (named_paths s)))
+may_repeat stage out s p = not (is_in_flight out p.token) && nat_lt (doubts_of p.token s) 3
 
 abbrev pub MayRepeat : List Schema → List ℕ → World → List ℕ → StackState → Stage → Pending → Type 0
 MayRepeat schemas name x out s Forward p = ¬ HasFailed schemas name x s × In p s.tokens × IsTrue (may_repeat Forward out s p)
 MayRepeat schemas name x out s stage p = In p s.tokens × IsTrue (may_repeat stage out s p)
 
--- the calls of a stack that are out, also one whose token was given up meanwhile
-abbrev pub calls_out : List ℕ → StackState → List Call
-calls_out out s = filter (λ c. is_out out c.token) (calls_in s.entries)
+-- the calls of a stack that are out, also one that was given up meanwhile
+abbrev pub calls_in_flight : List ℕ → StackState → List Call
+calls_in_flight out s = filter (λ c. is_in_flight out c.token) s.ledger
 
--- a repeat is out where its token has a doubt, or its Intent stands before, this phase and opening
-abbrev pub is_repeat_out : List ℕ → StackState → Bool
-is_repeat_out out s = list_any (λ c. nat_lt 0 (doubts_of c.token s) || not (is_new c.token s)) (calls_out out s)
+-- a call that is out is a repeat where it was in doubt, or went out before, this phase and opening
+abbrev pub is_repeated : Call → Bool
+is_repeated c = nat_lt 0 c.doubts || not c.fresh
+
+abbrev pub is_repeat_in_flight : List ℕ → StackState → Bool
+is_repeat_in_flight out s = list_any is_repeated (calls_in_flight out s)
 
 abbrev pub waits_for_repeats : Stage → List ℕ → StackState → Bool
-waits_for_repeats Back out s = is_repeat_out out s || list_any (may_repeat Back out s) s.tokens
-waits_for_repeats Gone out s = is_repeat_out out s || list_any (may_repeat Gone out s) s.tokens
+waits_for_repeats Back out s = is_repeat_in_flight out s || list_any (may_repeat Back out s) s.tokens
+waits_for_repeats Gone out s = is_repeat_in_flight out s || list_any (may_repeat Gone out s) s.tokens
 waits_for_repeats _ out s = false
 
 -- the lane of a token that is out is out, whichever stack's it is
-abbrev pub is_lane_out : List ℕ → World → List ℕ → Bool
-is_lane_out out x lane = list_any (λ s. list_any (λ c. bytes_eq lane c.lane) (calls_out out s.1)) x.stacks
+abbrev pub is_lane_leased : List ℕ → World → List ℕ → Bool
+is_lane_leased out x lane = list_any (λ s. list_any (λ c. bytes_eq lane c.lane) (calls_in_flight out s.1)) x.stacks
 
 abbrev pub is_lane_of : List ℕ → List ℕ → List ℕ × List ℕ → Bool
 is_lane_of lane k named = bytes_eq lane named.0 && bytes_eq k named.1
@@ -192,7 +203,7 @@ pub record MayIntend (schemas : List Schema) (name : List ℕ) (x : World) (out 
     (lane path : List ℕ) (r : Request) : Type 0 where
   pub next : token ≡ x.token + 1
   pub free : is_free path s ≡ true
-  pub home : is_lane_out out x lane ≡ false
+  pub home : is_lane_leased out x lane ≡ false
   pub fits : FitsLane x lane r
   pub no_repeat : waits_for_repeats stage out s ≡ false
   pub chosen : IntendsIn stage schemas name x s path r
@@ -228,7 +239,7 @@ MayKeep stage out s path physical why.Doubt =
 
 -- A later phase begins.
 abbrev pub has_refused_restore : StackState → Bool
-has_refused_restore s = list_any (λ c. is_update c.request && was_refused s c) (filter (λ c. c.number == s.operation) (calls_in (rollback_of s)))
+has_refused_restore s = list_any was_refused (restores_of s)
 
 abbrev pub MayTurn : List Schema → List ℕ → World → StackState → Phase → Option Cause → Type 0
 MayTurn schemas name x s phase.Clean None = (s.status ≡ status.UpdateInProgress) × ¬ HasFailed schemas name x s × AllDone s
@@ -271,10 +282,14 @@ is_failed_status status.UpdateRollbackFailed = true
 is_failed_status status.DeleteFailed = true
 is_failed_status _ = false
 
+abbrev pub settled_by : Reply → Option Settled
+settled_by (reply.Success physical attrs) = Some settled.Success
+settled_by (reply.Failed c) = Some (settled.Failed c)
+settled_by reply.Doubt = None
+
 abbrev pub is_bad_outcome : Option Call → Reply → Bool
 is_bad_outcome None answer = false
-is_bad_outcome (Some c) reply.Doubt = true
-is_bad_outcome (Some c) answer = is_refusal c.request answer
+is_bad_outcome (Some c) answer = is_doubt answer || is_refusal c.request (settled_by answer)
 
 abbrev pub has_path : List ℕ → Option Call → Bool
 has_path path None = false
@@ -391,16 +406,16 @@ MayOpen x out epoch lanes =
     (out ≡ []) × (epoch ≡ x.epoch + 1) × ((name : List ℕ) (s : StackState) → stack_at name x ≡ Some s → HasLanes lanes s)
 
 -- no lease of the stack is out
-abbrev pub none_out : List ℕ → StackState → Bool
-none_out out s = is_empty (calls_out out s)
+abbrev pub none_in_flight : List ℕ → StackState → Bool
+none_in_flight out s = is_empty (calls_in_flight out s)
 
 -- An entry of the operation in progress on a stack.
 abbrev pub MayFollowIn : List Schema → List ℕ → World → List ℕ → StackState → Stage → Entry → Type 0
 MayFollowIn schemas name x out s stage (entry.Outcome number token answer before after) =
-    IsTrue (is_out out token) × IsTrue (is_some (pending_of token s)) × IsCounted answer before after
-MayFollowIn schemas name x out s stage (entry.Phase number p c) = IsTrue (none_out out s) × MayStep schemas name x out s stage (entry.Phase number p c)
+    IsTrue (is_in_flight out token) × IsTrue (is_some (pending_of token s)) × IsCounted answer before after
+MayFollowIn schemas name x out s stage (entry.Phase number p c) = IsTrue (none_in_flight out s) × MayStep schemas name x out s stage (entry.Phase number p c)
 MayFollowIn schemas name x out s stage (entry.Done number state failed) =
-    IsTrue (none_out out s) × IsAtEnd schemas name x s stage × EndsAs schemas name x s s.status state × AreFailed s state failed
+    IsTrue (none_in_flight out s) × IsAtEnd schemas name x s stage × EndsAs schemas name x s s.status state × AreFailed s state failed
 MayFollowIn schemas name x out s stage e = MayStep schemas name x out s stage e
 
 -- the entry is of the operation of this number, which is in progress

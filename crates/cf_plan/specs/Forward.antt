@@ -1,5 +1,5 @@
 -- The forward phase: which paths are done and which are ready, when it has failed, and why.
-use Rattle.std.specs.Prelude.{◌≡◌, ℕ, ◌==◌, ◌⊎◌, Bool, true, false, ◌&&◌, not, List, [], ◌∷◌, ◌++◌, Option, Some, None, IsTrue, filter, find, map, option_map, if◌then◌else◌}
+use Rattle.std.specs.Prelude.{◌≡◌, ℕ, ◌==◌, ◌⊎◌, Bool, true, false, ◌&&◌, not, List, [], ◌∷◌, ◌++◌, Option, Some, None, IsTrue, filter, find, is_some, map, option_map, if◌then◌else◌}
 use Rattle.std.specs.List.{list_any}
 use Rattle.std.specs.Option.{option_or, option_map_or}
 use Rattle.std.specs.Str.{bytes_eq}
@@ -20,8 +20,13 @@ use Rattle.cf_entry.specs.declared.turn.Cause.TheVariants as cause
 use Rattle.cf_tree.specs.declared.source.Source.{Source}
 use Rattle.cf_tree.specs.Lists.{first_in}
 use Rattle.cf_stacks.specs.declared.held.Held.{Held}
-use Rattle.cf_stacks.specs.declared.state.StackState.{StackState}
-use Rattle.cf_stacks.specs.declared.state.World.{World}
+use Rattle.cf_stacks.specs.World.{StackState, World}
+use Rattle.cf_stacks.specs.Words.{current_at, has_physical, is_update, is_pinned}
+use Rattle.cf_stacks.specs.Begin.{seen_in}
+use Rattle.cf_stacks.specs.End.{seen_now}
+use Rattle.cf_stacks.specs.declared.call.Call.{Call}
+use Rattle.cf_stacks.specs.Operation.{now_of, forward_of, doubts_in, up_to_last, is_turn_or_opening}
+use Rattle.cf_stacks.specs.Calls.{call_of, succeeded}
 use Rattle.cf_schema.specs.declared.described.Schema.{Schema}
 use Rattle.cf_schema.specs.declared.changed.Difference.{Difference}
 use Rattle.cf_schema.specs.declared.changed.Difference.TheVariants.{Update, MayReplace}
@@ -33,29 +38,29 @@ use Rattle.cf_desired.specs.declared.wanted.Evaluated.{Evaluated}
 use Rattle.cf_desired.specs.declared.wanted.Inner.{Inner}
 use Rattle.cf_desired.specs.declared.wanted.Plan.{Plan}
 use Rattle.cf_desired.specs.Seeing.{Seen}
-use Rattle.cf_desired.specs.Plan.{plan_of, no_plan}
+use Rattle.cf_desired.specs.Plan.{plan_by, no_plan}
+use Rattle.cf_desired.specs.Shape.{shape_of}
 use Rattle.cf_desired.specs.Whole.{wanted_at, known_props_from}
 use Rattle.cf_desired.specs.FlawText.{flaw_text}
-use Rattle.cf_stacks.specs.Words.{current_at, has_physical, is_update, is_pinned}
-use Rattle.cf_stacks.specs.Fold.{seen_in, seen_now}
-use Rattle.cf_stacks.specs.Operation.{Call, calls_in, replies_in, own_of, now_of, forward_of, call_of, succeeded, is_doubt, doubts_in, up_to_last, is_turn_or_opening}
 use Rattle.cf_plan.specs.Between.{needs_at}
+use Rattle.cf_stacks.specs.Calls.{own_calls}
 
 -- one of the list
 pub data In {A : Type 0} (a : A) : List A → Type 0 where
   here : {rest : List A} → In a (a ∷ rest)
   there : {b : A} {rest : List A} → In a rest → In a (b ∷ rest)
 
--- What the operation's template says, over what was held before and over the resources of now.
-abbrev pub plan_in : Option Source → Seen → Plan
-plan_in None seen = no_plan 0 0 []
-plan_in (Some source) seen = plan_of source seen
+-- What the operation's template says, over what was held before and over the resources of now: both by the shape that it has
+-- over what was held before, so that paths and needs are the same.
+abbrev pub plan_in : Option Source → Seen → Seen → Plan
+plan_in None before seen = no_plan 0 0 []
+plan_in (Some source) before seen = plan_by source (shape_of source before) seen
 
 abbrev pub plan_before : StackState → Plan
-plan_before s = plan_in s.going (seen_in s.before)
+plan_before s = plan_in s.going (seen_in s.before) (seen_in s.before)
 
 abbrev pub plan_now : StackState → Plan
-plan_now s = plan_in s.going (seen_now s)
+plan_now s = plan_in s.going (seen_in s.before) (seen_now s)
 
 -- the paths of the operation's template
 abbrev pub wanted_paths : StackState → List (List ℕ)
@@ -79,25 +84,21 @@ finding k (evaluated ps) = known_or_later k (known_props_from ps)
 abbrev pub evaluated_at : List ℕ → StackState → Finding
 evaluated_at path s = option_map_or (λ w. finding w.kind w.props) (wanted_at path (plan_now s)) Later
 
--- this operation's update of the path succeeded
+-- this operation's update of the path succeeded; was answered, be it refused
 abbrev pub was_updated_at : List ℕ → StackState → Bool
-was_updated_at path s = list_any (λ c. bytes_eq path c.path && (is_update c.request && succeeded s c)) (calls_in (own_of s))
-
--- this operation's update of the path was answered, for good or not
-abbrev pub is_answered : StackState → Call → Bool
-is_answered s c = list_any (λ r. c.token == r.token && not (is_doubt r.answer)) (replies_in s.entries)
+was_updated_at path s = list_any (λ c. bytes_eq path c.path && (is_update c.request && succeeded c)) (own_calls s)
 
 abbrev pub was_answered_at : List ℕ → StackState → Bool
-was_answered_at path s = list_any (λ c. bytes_eq path c.path && (is_update c.request && is_answered s c)) (calls_in (own_of s))
+was_answered_at path s = list_any (λ c. bytes_eq path c.path && (is_update c.request && is_some c.answer)) (own_calls s)
 
 -- a path is done where a resource is made at it, or its update succeeded, or all that it needs are done and what is
--- held is sure and has the evaluated properties
+-- held is sure and has the evaluated type and properties
 pub data IsDone (s : StackState) : List ℕ → Type 0 where
   is_made : {p : List ℕ} (r : Held) → current_at p s.made ≡ Some r → IsDone s p
   is_updated : {p : List ℕ} → IsTrue (was_updated_at p s) → IsDone s p
   is_right :
-      {p k : List ℕ} (h : Held) → In p (wanted_paths s) → ((q : List ℕ) → In q (needs_at p s) → IsDone s q) → current_at p s.held ≡ Some h
-      → h.unsure ≡ false → evaluated_at p s ≡ Known k h.props → IsDone s p
+      {p : List ℕ} (h : Held) → In p (wanted_paths s) → ((q : List ℕ) → In q (needs_at p s) → IsDone s q) → current_at p s.held ≡ Some h
+      → h.unsure ≡ false → evaluated_at p s ≡ Known h.kind h.props → IsDone s p
 
 -- a path is ready where all that it needs are done
 abbrev pub IsReady : StackState → List ℕ → Type 0

@@ -1,5 +1,5 @@
 -- How a creation goes on: what each entry of its operation leaves of it (this project's own).
-use Rattle.std.specs.Prelude.{◌≡◌, ℕ, Bool, true, false, List, [], ◌∷◌, ◌++◌, Some, None, IsTrue}
+use Rattle.std.specs.Prelude.{◌≡◌, ◌<◌, ℕ, Bool, true, false, List, [], ◌∷◌, ◌++◌, Some, None, IsTrue}
 use Rattle.cf_tree.specs.declared.request.Request.{Request}
 use Rattle.cf_tree.specs.declared.source.Source.{Source}
 use Rattle.cf_schema.specs.declared.described.Schema.{Schema}
@@ -11,17 +11,18 @@ use Rattle.cf_entry.specs.declared.entry.Reply.{Reply}
 use Rattle.cf_entry.specs.declared.status.Status.{Status}
 use Rattle.cf_entry.specs.declared.status.Status.TheVariants as status
 use Rattle.cf_stacks.specs.declared.held.Pending.{Pending}
-use Rattle.cf_stacks.specs.declared.state.StackState.{StackState}
-use Rattle.cf_stacks.specs.declared.state.World.{World}
-use Rattle.cf_stacks.specs.Words.{stack_at, stack_of_operation}
+use Rattle.cf_stacks.specs.World.{StackState, World, stack_at, stack_of_operation}
 use Rattle.cf_stacks.specs.Fold.{fold_of, world_after}
+use Rattle.cf_stacks.specs.Apart.{AreApart}
 use Rattle.cf_plan.specs.Forward.{In}
 use Rattle.cf_plan.specs.Stepping.{Creates}
 use Rattle.cf_plan.specs.Follow.{MayFollow, IsCounted}
 use Rattle.cf_plan.specs.Run.{Told, IsDone, IsOwn, Runs, open_call}
 
--- the creation of this number is in progress on the stack of this name
+-- the creation of this number is in progress on the stack of this name, and each operation is of one stack
 pub record IsUnderWay (number : ℕ) (name : List ℕ) (x : World) : Type 0 where
+  pub apart : AreApart x
+  pub numbered : 0 < number
   pub stack : StackState
   pub going : stack_of_operation number x ≡ Some (name, stack)
   pub here : stack_at name x ≡ Some stack
@@ -47,10 +48,10 @@ abbrev pub Leaves : ℕ → List ℕ → Entry → World → Type 0
 Leaves number name (entry.Done n state failed) y = IsOver number name y
 Leaves number name _ y = IsUnderWay number name y
 
--- a creation begins where no operation of its number is in progress
+-- a creation begins under a number above that of the last operation
 abbrev pub CreationStarts : Type 0
 CreationStarts =
-    (x : World) (number : ℕ) (name : List ℕ) (source : Source) → stack_of_operation number x ≡ None
+    (x : World) (number : ℕ) (name : List ℕ) (source : Source) → AreApart x → x.operation < number
     → IsUnderWay number name (world_after x (entry.Begin number name (begin.Create source)))
 
 -- it goes on with each of its entries, until its end

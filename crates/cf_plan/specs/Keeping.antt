@@ -1,6 +1,6 @@
 -- What a run of a creation keeps of its stack and of the lanes: each made resource is of the lane that its id names, what an
 -- open call was settled with is what its answer will say, and what is live was so before or the stack knows it (this project's own).
-use Rattle.std.specs.Prelude.{◌≡◌, ℕ, ◌≤◌, Bool, true, false, List, [], length, Option, Some, find}
+use Rattle.std.specs.Prelude.{◌≡◌, ℕ, ◌<◌, ◌≤◌, Bool, true, false, List, [], length, Option, Some, find}
 use Rattle.std.specs.Str.{bytes_eq}
 use Rattle.cf_tree.specs.Datum.{Data}
 use Rattle.cf_tree.specs.declared.request.Request.TheVariants as request
@@ -14,9 +14,9 @@ use Rattle.cf_entry.specs.declared.status.Status.TheVariants as status
 use Rattle.cf_stacks.specs.declared.held.Held.{Held}
 use Rattle.cf_stacks.specs.declared.held.Leftover.{Leftover}
 use Rattle.cf_stacks.specs.declared.held.Pending.{Pending}
-use Rattle.cf_stacks.specs.declared.state.StackState.{StackState}
-use Rattle.cf_stacks.specs.declared.state.World.{World}
-use Rattle.cf_stacks.specs.Words.{stack_at, stack_of_operation, is_update}
+use Rattle.cf_stacks.specs.World.{StackState, World, stack_at, stack_of_operation}
+use Rattle.cf_stacks.specs.Words.{is_update}
+use Rattle.cf_stacks.specs.Apart.{AreApart}
 use Rattle.cf_plan.specs.Forward.{In}
 use Rattle.cf_plan.specs.Created.{IsRightCreate}
 use Rattle.cf_plan.specs.Run.{Told, AreFresh, Tells, name_at, IsSettledAs, IsOurs}
@@ -80,13 +80,15 @@ pub record AreAlive (names : List (List ℕ)) (told : Told) (made : List Held) (
       → In p tokens → p.request ≡ request.Create kind props → IsSettledAs names told p k lane (Success id attrs)
       → live_in id lane ≡ Some (live_as id kind props attrs)
 
--- a creation makes what its template says, or takes back what it made
+-- a creation makes what its template says, or rolls back what it made
 pub data IsOnItsWay (names : List (List ℕ)) (told : Told) (source : Source) (s : StackState) : Type 0 where
   makes : s.status ≡ status.CreateInProgress → IsRightCreate source s → AreAlive names told s.made s.tokens → IsOnItsWay names told source s
   takes_back : s.status ≡ status.RollbackInProgress → IsOnItsWay names told source s
 
 -- what each entry of a creation keeps, until it ends
 pub record IsKept (names : List (List ℕ)) (began told : Told) (number : ℕ) (name : List ℕ) (source : Source) (x : World) (s : StackState) : Type 0 where
+  pub apart : AreApart x
+  pub numbered : 0 < number
   pub going : stack_of_operation number x ≡ Some (name, s)
   pub here : stack_at name x ≡ Some s
   pub none_before : s.before ≡ []

@@ -20,10 +20,10 @@ use Rattle.cf_stacks.specs.declared.held.Held.{Held}
 use Rattle.cf_stacks.specs.declared.held.Leftover.{Leftover}
 use Rattle.cf_stacks.specs.declared.held.Pending.{Pending}
 use Rattle.cf_stacks.specs.declared.held.GivenUp.{GivenUp}
-use Rattle.cf_stacks.specs.declared.state.World.{World}
+use Rattle.cf_stacks.specs.World.{World}
 use Rattle.cf_stacks.specs.Words.{resources_of}
+use Rattle.cf_stacks.specs.Begin.{unknown_id}
 use Rattle.cf_tree.specs.Named.{all_differ}
-use Rattle.cf_stacks.specs.Fold.{unknown_id}
 
 -- a lane that is handed in
 pub record Lane : Type 0 where
@@ -86,15 +86,15 @@ gone_by (request.Delete physical) (Success id attrs) = Some physical
 gone_by (request.Delete physical) (Failed code.NotFound) = Some physical
 gone_by _ _ = None
 
-pub data Effect : Type 0 where
-  Nothing : Effect
-  Made : (id kind : List ℕ) (props attrs : List (List ℕ × Data)) → Effect
-  Set : (id : List ℕ) (props attrs : List (List ℕ × Data)) → Effect
+pub data LiveChange : Type 0 where
+  Nothing : LiveChange
+  Made : (id kind : List ℕ) (props attrs : List (List ℕ × Data)) → LiveChange
+  Set : (id : List ℕ) (props attrs : List (List ℕ × Data)) → LiveChange
 
-abbrev pub effect_of : Request → Settlement → Effect
-effect_of (request.Create kind props) (Success id attrs) = Made id kind props attrs
-effect_of (request.Update physical props) (Success id attrs) = Set physical props attrs
-effect_of _ _ = Nothing
+abbrev pub change_of : Request → Settlement → LiveChange
+change_of (request.Create kind props) (Success id attrs) = Made id kind props attrs
+change_of (request.Update physical props) (Success id attrs) = Set physical props attrs
+change_of _ _ = Nothing
 
 -- an open token, settled on its lane
 pub record IsAnswered (x : World) (lanes : List Lane) (p : Pending) (lane : Lane) (s : Settlement) : Type 0 where

@@ -25,4 +25,3 @@ pub mod RunBegins
 pub mod Going
 pub mod Cleared
 pub mod Due
-pub mod Prepare

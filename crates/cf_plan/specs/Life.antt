@@ -14,15 +14,15 @@ use Rattle.cf_entry.specs.declared.entry.Entry.{Entry}
 use Rattle.cf_entry.specs.declared.entry.Entry.TheVariants as entry
 use Rattle.cf_entry.specs.declared.entry.Reply.TheVariants as reply
 use Rattle.cf_stacks.specs.declared.held.Pending.{Pending}
-use Rattle.cf_stacks.specs.declared.state.StackState.{StackState}
-use Rattle.cf_stacks.specs.declared.state.World.{World}
+use Rattle.cf_stacks.specs.World.{StackState, World, stack_at, empty_world}
 use Rattle.cf_stacks.specs.Status.{Stage, stage_of, is_in_progress}
-use Rattle.cf_stacks.specs.Words.{stack_at, has_token}
+use Rattle.cf_stacks.specs.Words.{has_token}
+use Rattle.cf_stacks.specs.Fold.{fold_of}
+use Rattle.cf_stacks.specs.declared.call.Call.{Call}
+use Rattle.cf_stacks.specs.Calls.{call_of}
 use Rattle.cf_tree.specs.Named.{all_differ}
-use Rattle.cf_stacks.specs.Fold.{empty_world, fold_of}
-use Rattle.cf_stacks.specs.Operation.{Call, call_of}
 use Rattle.cf_plan.specs.Forward.{In}
-use Rattle.cf_plan.specs.Follow.{MayFollow, MayRepeat, is_lane_out}
+use Rattle.cf_plan.specs.Follow.{MayFollow, MayRepeat, is_lane_leased}
 use Rattle.cf_schema.specs.declared.described.Schema.{Schema}
 use Rattle.cf_plan.specs.Lanes.{Lane, AreLanes, AreSchemas, lane_at}
 use Rattle.cf_plan.specs.Agrees.{Agrees, FitsCall, IsAccounted}
@@ -147,7 +147,7 @@ pub record MayBeRepeated (schemas : List Schema) (life : Life) (token : ℕ) (na
   pub stands : stack_at name (world_of life) ≡ Some s
   pub at_stage : stage_of s.status ≡ Some stage
   pub of_token : p.token ≡ token
-  pub at_home : is_lane_out (tokens_out life) (world_of life) p.lane ≡ false
+  pub at_home : is_lane_leased (tokens_out life) (world_of life) p.lane ≡ false
   pub may : MayRepeat schemas name (world_of life) (tokens_out life) s stage p
 
 -- how an opening names a lane

@@ -2,16 +2,15 @@
 use Rattle.std.specs.Prelude.{◌↔◌, ℕ, List, IsTrue}
 use Rattle.cf_entry.specs.declared.turn.Cause.{Cause}
 use Rattle.cf_schema.specs.declared.described.Schema.{Schema}
-use Rattle.cf_stacks.specs.declared.state.StackState.{StackState}
-use Rattle.cf_stacks.specs.declared.state.World.{World}
+use Rattle.cf_stacks.specs.World.{StackState, World}
 use Rattle.cf_plan.specs.Forward.{AllDone, HasFailed, IsCause}
 use Rattle.cf_plan.specs.Stepping.{AreOpen}
 use Rattle.cf_plan.specs.declared.progress.Progress.{Progress}
 use Rattle.cf_plan.specs.declared.progress.Progress.TheVariants as progress
 
 -- It has not failed, and just these requests may begin; it has, for this cause; or it has, and no cause tells why.
-abbrev pub TellsProgress : List Schema → List ℕ → World → StackState → Progress → Type 0
-TellsProgress schemas name x s (progress.Going starts is_done) =
+abbrev pub IsProgressOf : List Schema → List ℕ → World → StackState → Progress → Type 0
+IsProgressOf schemas name x s (progress.Going starts is_done) =
     (¬ HasFailed schemas name x s) × AreOpen schemas s starts × (IsTrue is_done ↔ AllDone s)
-TellsProgress schemas name x s (progress.Failed cause) = HasFailed schemas name x s × IsCause schemas name x s cause
-TellsProgress schemas name x s progress.Untold = HasFailed schemas name x s × ((c : Cause) → IsCause schemas name x s c → ⊥)
+IsProgressOf schemas name x s (progress.Failed cause) = HasFailed schemas name x s × IsCause schemas name x s cause
+IsProgressOf schemas name x s progress.Untold = HasFailed schemas name x s × ((c : Cause) → IsCause schemas name x s c → ⊥)

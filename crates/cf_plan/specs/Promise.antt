@@ -2,9 +2,7 @@
 use Rattle.std.specs.Prelude.{◌≡◌, ℕ, List, [], Some}
 use Rattle.cf_entry.specs.declared.status.Status.{Status}
 use Rattle.cf_entry.specs.declared.status.Status.TheVariants as status
-use Rattle.cf_stacks.specs.declared.state.StackState.{StackState}
-use Rattle.cf_stacks.specs.declared.state.World.{World}
-use Rattle.cf_stacks.specs.Words.{stack_at}
+use Rattle.cf_stacks.specs.World.{StackState, World, stack_at}
 use Rattle.cf_plan.specs.Follow.{failed_of}
 use Rattle.cf_plan.specs.Lanes.{Lane}
 use Rattle.cf_plan.specs.Ends.{IsComplete, IsRestored, IsCleared, IsBlamed}
@@ -17,9 +15,9 @@ Promised status.RollbackComplete name x s lanes = IsRestored s lanes × (s.befor
 Promised status.UpdateRollbackComplete name x s lanes = IsRestored s lanes
 Promised status.DeleteComplete name x s lanes = IsCleared s
 Promised status.ReviewInProgress name x s lanes = IsCleared s
-Promised status.RollbackFailed name x s lanes = IsBlamed s.entries s.operation (failed_of s)
-Promised status.UpdateRollbackFailed name x s lanes = IsBlamed s.entries s.operation (failed_of s)
-Promised status.DeleteFailed name x s lanes = IsBlamed s.entries s.operation (failed_of s)
+Promised status.RollbackFailed name x s lanes = IsBlamed s (failed_of s)
+Promised status.UpdateRollbackFailed name x s lanes = IsBlamed s (failed_of s)
+Promised status.DeleteFailed name x s lanes = IsBlamed s (failed_of s)
 Promised _ name x s lanes = Unit {0}
 
 -- every stack keeps what its status promises

@@ -24,10 +24,10 @@ use Rattle.cf_entry.specs.declared.status.Status.TheVariants as status
 use Rattle.cf_stacks.specs.declared.held.Held.{Held}
 use Rattle.cf_stacks.specs.declared.held.Leftover.{Leftover}
 use Rattle.cf_stacks.specs.declared.held.Pending.{Pending}
-use Rattle.cf_stacks.specs.declared.state.StackState.{StackState}
-use Rattle.cf_stacks.specs.declared.state.World.{World}
-use Rattle.cf_stacks.specs.Words.{stack_at, stack_of_operation, pending_of, resources_of}
-use Rattle.cf_stacks.specs.Operation.{own_of, calls_in, replies_in}
+use Rattle.cf_stacks.specs.World.{StackState, World, stack_at, stack_of_operation}
+use Rattle.cf_stacks.specs.Words.{pending_of, resources_of}
+use Rattle.cf_stacks.specs.Operation.{own_of, replies_in}
+use Rattle.cf_stacks.specs.Apart.{AreApart}
 use Rattle.cf_stacks.specs.Fold.{world_after, fold_of}
 use Rattle.cf_plan.specs.Follow.{MayFollow}
 use Rattle.cf_plan.specs.Forward.{In}
@@ -106,9 +106,11 @@ is_beginning (entry.Begin number stack kind) = true
 is_beginning (entry.Opened epoch lanes) = true
 is_beginning _ = false
 
--- The creation of a stack has begun from this source, and nothing is made yet; each lane tells, no two have one name, and
--- no token to come is settled.
+-- The creation of a stack has begun from this source, and nothing is made yet; each operation is of one stack; each lane
+-- tells, no two have one name, and no token to come is settled.
 pub record HasBegun (names kinds : List (List ℕ)) (x : World) (told : Told) (number : ℕ) (name : List ℕ) (source : Source) (s : StackState) : Type 0 where
+  pub apart : AreApart x
+  pub numbered : 0 < number
   pub going : stack_of_operation number x ≡ Some (name, s)
   pub here : stack_at name x ≡ Some s
   pub creating : s.status ≡ status.CreateInProgress
@@ -116,7 +118,7 @@ pub record HasBegun (names kinds : List (List ℕ)) (x : World) (told : Told) (n
   pub none_before : s.before ≡ []
   pub none_made : s.made ≡ []
   pub none_open : s.tokens ≡ []
-  pub none_called : calls_in (own_of s) ≡ []
+  pub none_called : s.ledger ≡ []
   pub none_answered : replies_in (own_of s) ≡ []
   pub only_begun : IsTrue (list_all is_beginning s.entries)
   pub lanes_named : IsTrue (list_all is_lane_name names)

@@ -1,40 +1,34 @@
 -- The next step of a creation, as it is decided: what may begin, and on which lane (this project's own).
-use Rattle.std.specs.Prelude.{◌≡◌, ◌↔◌, ◌⊎◌, ⊤, ℕ, ◌+◌, Bool, false, ◌&&◌, not, List, [], ◌∷◌, ◌++◌, Option, Some, None, IsTrue, fold, flat_map, is_some}
+use Rattle.std.specs.Prelude.{◌≡◌, ◌↔◌, ◌⊎◌, ℕ, ◌+◌, Bool, false, ◌&&◌, not, List, [], ◌∷◌, ◌++◌, Option, Some, None, IsTrue, fold, flat_map, is_some}
 use Rattle.std.specs.Option.{unwrap_or}
 use Rattle.cf_tree.specs.Keys.{put}
 use Rattle.cf_tree.specs.declared.request.Request.{Request}
 use Rattle.cf_tree.specs.declared.request.Request.TheVariants as request
 use Rattle.cf_schema.specs.declared.described.Schema.{Schema}
 use Rattle.cf_schema.specs.Kinds.{with_kind}
-use Rattle.cf_tree.specs.declared.source.Source.{Source}
-use Rattle.cf_desired.specs.declared.shape.Shape as laid
-use Rattle.cf_desired.specs.Kept.{IsShape}
-use Rattle.cf_desired.specs.Seeing.{Seen}
-use Rattle.cf_desired.specs.Shape.{shape_of}
 use Rattle.cf_entry.specs.declared.status.Status.TheVariants as status
 use Rattle.cf_stacks.specs.declared.held.Held.{Held}
 use Rattle.cf_stacks.specs.declared.held.Pending.{Pending}
-use Rattle.cf_stacks.specs.declared.state.StackState.{StackState}
-use Rattle.cf_stacks.specs.declared.state.World.{World}
+use Rattle.cf_stacks.specs.World.{StackState, World, stack_of_operation}
 use Rattle.cf_stacks.specs.declared.terms.Terms.{Terms}
-use Rattle.cf_stacks.specs.Fold.{terms_at}
+use Rattle.cf_stacks.specs.Reply.{terms_at}
 use Rattle.cf_stacks.specs.Status.{Stage, Back, stage_of}
-use Rattle.cf_stacks.specs.Words.{stack_of_operation, id_named}
+use Rattle.cf_stacks.specs.Words.{id_named}
 use Rattle.cf_plan.specs.declared.next.Home.{Home}
 use Rattle.cf_plan.specs.declared.next.Next.{Next}
 use Rattle.cf_plan.specs.declared.next.Next.TheVariants as next
 use Rattle.cf_plan.specs.declared.forward.Wants.{Wants}
 use Rattle.cf_plan.specs.declared.stepping.Start.{Start}
 use Rattle.cf_plan.specs.Forward.{In, IsDone, IsReady}
-use Rattle.cf_plan.specs.Follow.{IntendsForward, is_free, none_out, waits_for_repeats}
-use Rattle.cf_plan.specs.Chosen.{IsChosen, is_sooner, first_home}
+use Rattle.cf_plan.specs.Follow.{IntendsForward, is_free, none_in_flight, waits_for_repeats}
+use Rattle.cf_plan.specs.Chosen.{IsChosen, precedes, first_home}
 use Rattle.cf_plan.specs.Taking.{home_of}
 
 -- the schemas of the lanes that are handed in, one of each type
 abbrev pub schemas_of : List Home → List Schema
 schemas_of homes = fold (λ schemas (h : Home). with_kind h.schema schemas) [] homes
 
--- a creation is in progress on a stack, or is taken back
+-- a creation is in progress on a stack, or is rolled back
 abbrev pub Creates : StackState → Type 0
 Creates s = (s.status ≡ status.CreateInProgress) ⊎ (s.status ≡ status.RollbackInProgress)
 
@@ -45,13 +39,6 @@ IsCreation x number = (name : List ℕ) × (s : StackState) × (stack_of_operati
 -- the step is chosen on a stack, in its stage
 abbrev pub IsChosenOn : List Schema → List ℕ → World → List ℕ → StackState → Next → Type 0
 IsChosenOn schemas name x out s n = (stage : Stage) × (stage_of s.status ≡ Some stage) × IsChosen schemas name x out s stage n
-
--- a shape that is a source's, whatever is seen
-abbrev pub IsShapeFor : Option laid.Shape → Option Source → Type 0
-IsShapeFor (Some shape) (Some source) = (seen : Seen) → IsShape shape (shape_of source seen)
-IsShapeFor None None = ⊤
-IsShapeFor (Some shape) None = ⊥
-IsShapeFor None (Some source) = ⊥
 
 -- the terms that the operation's source gives a path join those of other paths
 abbrev pub with_terms : StackState → List (List ℕ × Terms) → List ℕ → List (List ℕ × Terms)
@@ -87,16 +74,16 @@ lane_for out x (request.Delete physical) = home_of out x physical
 abbrev pub is_start_home : List ℕ → World → Start → Bool
 is_start_home out x a = is_some (lane_for out x a.request)
 
--- by path and then by physical id, where a create, which names none, stands first
-abbrev pub place_in_path : Request → List ℕ
-place_in_path r = unwrap_or (id_named r) []
+-- by path and then by physical id, where a create, which names none, comes first
+abbrev pub physical_id_of : Request → List ℕ
+physical_id_of r = unwrap_or (id_named r) []
 
 abbrev pub is_start_before : Start → Start → Bool
-is_start_before a b = is_sooner (a.path, place_in_path a.request) (b.path, place_in_path b.request)
+is_start_before a b = precedes (a.path, physical_id_of a.request) (b.path, physical_id_of b.request)
 
 -- all is done, no call is out, and no call would be made again even if no lease were out
 abbrev pub is_over : List ℕ → StackState → Bool → Bool
-is_over out s is_done = is_done && (none_out out s && not (waits_for_repeats Back [] s))
+is_over out s is_done = is_done && (none_in_flight out s && not (waits_for_repeats Back [] s))
 
 -- a request begins on its lane at home, under the next token
 abbrev pub Begins : List ℕ → World → Start → Next → Type 0

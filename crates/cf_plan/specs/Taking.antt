@@ -6,36 +6,35 @@ use Rattle.cf_tree.specs.Keys.{value_at}
 use Rattle.cf_stacks.specs.declared.held.Held.{Held}
 use Rattle.cf_stacks.specs.declared.held.Pending.{Pending}
 use Rattle.cf_stacks.specs.declared.terms.Terms.{Terms}
-use Rattle.cf_stacks.specs.declared.state.StackState.{StackState}
-use Rattle.cf_stacks.specs.declared.state.World.{World}
+use Rattle.cf_stacks.specs.World.{StackState, World}
 use Rattle.cf_stacks.specs.Status.{Back}
 use Rattle.cf_stacks.specs.Words.{resource_at, is_create, is_create_at, is_at}
-use Rattle.cf_stacks.specs.Fold.{terms_at}
-use Rattle.cf_plan.specs.Follow.{is_not_needed, is_untried, is_retained, is_free, is_lane_out, may_repeat, none_out, waits_for_repeats, is_cleared, AreFailed}
+use Rattle.cf_stacks.specs.Reply.{terms_at}
+use Rattle.cf_plan.specs.Follow.{is_not_needed, is_untried, is_retained, is_free, is_lane_leased, may_repeat, none_in_flight, waits_for_repeats, is_cleared, AreFailed}
 use Rattle.cf_entry.specs.declared.status.Status.TheVariants as status
 use Rattle.cf_entry.specs.declared.turn.Why.TheVariants as why
 use Rattle.cf_tree.specs.declared.request.Request.TheVariants as request
 use Rattle.cf_plan.specs.declared.next.Next.{Next}
 use Rattle.cf_plan.specs.declared.next.Next.TheVariants as next
-use Rattle.cf_plan.specs.Chosen.{is_sooner}
+use Rattle.cf_plan.specs.Chosen.{precedes}
 
--- The first in an order of those that pass: a later one takes the place of one that it stands before.
-abbrev pub better : {A : Type 0} → (A → A → Bool) → Option A → A → Option A
-better before None a = Some a
-better before (Some b) a = if before a b then Some a else Some b
+-- The first in an order of those that pass: a later one takes the place of one that it precedes.
+abbrev pub min_of : {A : Type 0} → (A → A → Bool) → Option A → A → Option A
+min_of before None a = Some a
+min_of before (Some b) a = if before a b then Some a else Some b
 
-abbrev pub better_if : {A : Type 0} → (A → A → Bool) → (A → Bool) → Option A → A → Option A
-better_if before test best a = if test a then better before best a else best
+abbrev pub min_of_passing : {A : Type 0} → (A → A → Bool) → (A → Bool) → Option A → A → Option A
+min_of_passing before test best a = if test a then min_of before best a else best
 
-abbrev pub first_by : {A : Type 0} → (A → A → Bool) → (A → Bool) → List A → Option A
-first_by before test xs = fold (better_if before test) None xs
+abbrev pub min_by : {A : Type 0} → (A → A → Bool) → (A → Bool) → List A → Option A
+min_by before test xs = fold (min_of_passing before test) None xs
 
 -- open tokens in their order, and resources by path and physical id
 abbrev pub is_token_before : Pending → Pending → Bool
 is_token_before p q = nat_lt p.token q.token
 
 abbrev pub is_held_before : Held → Held → Bool
-is_held_before a b = is_sooner (a.path, a.physical) (b.path, b.physical)
+is_held_before a b = precedes (a.path, a.physical) (b.path, b.physical)
 
 -- the id begins with the lane's name and a colon
 abbrev pub is_of_lane : List ℕ → List ℕ → Bool
@@ -46,7 +45,7 @@ is_of_lane (n ∷ ns) (c ∷ cs) = n == c && is_of_lane ns cs
 
 -- the lane at home that a physical id names
 abbrev pub is_home_of : List ℕ → World → List ℕ → List ℕ × List ℕ → Bool
-is_home_of out x physical l = is_of_lane l.0 physical && not (is_lane_out out x l.0)
+is_home_of out x physical l = is_of_lane l.0 physical && not (is_lane_leased out x l.0)
 
 abbrev pub home_of : List ℕ → World → List ℕ → Option (List ℕ)
 home_of out x physical = option_map (λ l. l.0) (find (is_home_of out x physical) x.lanes)
@@ -77,18 +76,18 @@ needed_ids terms s = flat_map (λ m. ids_at s (needs_in terms m.path)) s.made ++
 
 -- a repeat that a lane at home can take
 abbrev pub is_repeat_home : List ℕ → World → StackState → Pending → Bool
-is_repeat_home out x s p = may_repeat Back out s p && not (is_lane_out out x p.lane)
+is_repeat_home out x s p = may_repeat Back out s p && not (is_lane_leased out x p.lane)
 
 -- a made resource that is deleted on a lane at home, or kept
-abbrev pub can_go : List ℕ → World → Held → Bool
-can_go out x r = is_retained r.deletion || list_any (is_home_of out x r.physical) x.lanes
+abbrev pub can_roll_back : List ℕ → World → Held → Bool
+can_roll_back out x r = is_retained r.deletion || list_any (is_home_of out x r.physical) x.lanes
 
-abbrev pub may_go : List ℕ → World → StackState → Held → Bool
-may_go out x s r = is_not_needed s r && (is_untried s r && (is_free r.path s && can_go out x r))
+abbrev pub may_roll_back : List ℕ → World → StackState → Held → Bool
+may_roll_back out x s r = is_not_needed s r && (is_untried s r && (is_free r.path s && can_roll_back out x r))
 
 -- a resource is kept, or deleted on its lane under the next token
-abbrev pub TakesBack : List ℕ → World → Held → Next → Type 0
-TakesBack out x r n =
+abbrev pub RollsBack : List ℕ → World → Held → Next → Type 0
+RollsBack out x r n =
     ((is_retained r.deletion ≡ true) × (n ≡ next.Keep r.path r.physical why.Retained))
     ⊎ ((is_retained r.deletion ≡ false) × (l : List ℕ × List ℕ) × (find (is_home_of out x r.physical) x.lanes ≡ Some l)
     × (n ≡ next.Step r.path l.0 (x.token + 1) (request.Delete r.physical) false))
@@ -96,9 +95,9 @@ TakesBack out x r n =
 -- no call is out, and even if none of another stack were out, none would be repeated and nothing would go
 abbrev pub is_ended : List ℕ → World → StackState → Bool
 is_ended out x s =
-    none_out out s && (not (waits_for_repeats Back [] s) && not (is_some (first_by is_held_before (may_go [] x s) s.made)))
+    none_in_flight out s && (not (waits_for_repeats Back [] s) && not (is_some (min_by is_held_before (may_roll_back [] x s) s.made)))
 
--- the end, with the paths that failed where not all was taken back
+-- the end, with the paths that failed where not all was rolled back
 abbrev pub EndsBack : StackState → Next → Type 0
 EndsBack s n =
     ((is_cleared s ≡ true) × (n ≡ next.End status.RollbackComplete []))

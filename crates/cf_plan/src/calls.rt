@@ -1,94 +1,142 @@
-//! What a stack's entries tell of its calls. None of these takes memory; each goes over the entries once, where nothing else
-//! is said.
-ghost use Rattle.std.specs.Prelude.{◌≡◌, ◌==◌, ◌≤◌, ◌&&◌, not, false, find, length, option_map};
+//! What came of the calls of a stack, and which of its entries are of which phase. None of these takes memory; each goes over
+//! the calls, or over the entries, once.
+ghost use Rattle.std.specs.Prelude.{◌≡◌, ◌==◌, ◌≤◌, ◌&&◌, false, is_some, length, option_map};
 ghost use Rattle.std.specs.List.{list_any};
-ghost use Rattle.std.specs.Option.{option_copied, option_map_or};
+ghost use Rattle.std.specs.Option.{option_copied};
 ghost use Rattle.std.specs.Str.{bytes_eq};
-ghost use Rattle.cf_stacks.specs.Words.{is_update};
-ghost use Rattle.cf_stacks.specs.Operation.{after_last, call_at, call_in, call_of, calls_in, deletes, deletions_of, doubts_in, is_doubt, is_of, is_phase, is_success, is_turn_or_opening, own_of, replies_in, reply_in, succeeded, up_to_last, before_first, updates};
-ghost use Rattle.cf_plan.specs.Called.{called, last_place, call_passes, reply_passes, updated_path};
-ghost use Rattle.cf_plan.specs.Forward.{is_answered, path_of_token, was_answered_at};
-ghost use Rattle.cf_plan.specs.Follow.{answers_not_updatable, is_not_updatable, was_not_updatable};
+ghost use Rattle.cf_stacks.specs.Calls.{call_of, deletions_of, succeeded};
+ghost use Rattle.cf_stacks.specs.Operation.{after_last, before_first, doubts_in, is_doubt, is_phase, is_turn_or_opening, up_to_last};
+ghost use Rattle.cf_stacks.specs.Words.{deletes, is_update, updates};
+ghost use Rattle.cf_plan.specs.Called.{last_place, reply_passes};
+ghost use Rattle.cf_plan.specs.Done.{is_good_update};
+ghost use Rattle.cf_plan.specs.Forward.{path_of_token, was_answered_at};
+ghost use Rattle.cf_plan.specs.Follow.{is_not_updatable, was_not_updatable};
 
 use cf_entry::{Entry, Reply};
-use cf_stacks::{Held, StackState};
+use cf_stacks::{Call, HeardEntry, Held, Settled, StackState, call_with};
 use cf_tree::{Code, Request, Txt};
 
-/// A call that an intent writes down.
-#[derive(Drop)]
-pub struct Call<'a> {
-    /// The number of its operation.
-    pub number: u64,
-    pub token: u64,
-    pub lane: &'a Txt,
-    pub path: &'a Txt,
-    pub request: &'a Request,
-}
-
-/// The call that an entry writes down, where it is an intent.
-pub fn call_in(entry: &Entry) -> Option<Call>
-    ensures { option_map called result ≡ call_in entry.now }
+/// The call of a token.
+pub fn call_of(stack: &StackState, token: u64) -> Option<&Call>
+    ensures { option_copied result ≡ call_of token stack.now.stack }
 {
-    match entry {
-        Entry::Intent {
-            number,
-            token,
-            lane,
-            path,
-            request,
-        } => Some(Call {
-            number: *number,
-            token: *token,
-            lane,
-            path,
-            request,
-        }),
-        _ => None,
-    }
-}
-
-/// Whether an entry is the intent of a token.
-fn is_call_of(token: u64, entry: &Entry) -> bool
-    ensures { result ≡ call_passes (λ c. token == c.token) entry.now }
-{
-    match entry {
-        Entry::Intent {
-            number: _,
-            token: called,
-            lane: _,
-            path: _,
-            request: _,
-        } => token == *called,
-        _ => false,
-    }
-}
-
-/// The intent of a token, the first one where there are several.
-fn intent_of(entries: &[Entry], token: u64) -> Option<&Entry>
-    ensures { option_copied result ≡ find (λ e. call_passes (λ c. token == c.token) e) entries.now }
-{
-    entries.iter().find(|entry| is_call_of(token, entry))
-}
-
-/// The call of a token, the first one where there are several.
-#[tactic(auto, using(crate::proofs::Answered::found_called))]
-pub fn call_at(entries: &[Entry], token: u64) -> Option<Call>
-    ensures { option_map called result ≡ call_at token entries.now }
-{
-    match intent_of(entries, token) {
-        Some(entry) => call_in(entry),
-        None => None,
-    }
+    call_with(stack.ledger().as_slice(), token)
 }
 
 /// The path of a token's call.
 pub fn path_of_token(stack: &StackState, token: u64) -> Option<&Txt>
-    ensures { option_map (λ t. t.now) result ≡ path_of_token token stack.now }
+    ensures { option_map (λ t. t.now) result ≡ path_of_token token stack.now.stack }
 {
-    match call_at(stack.entries.as_slice(), token) {
-        Some(call) => Some(call.path),
+    match call_of(stack, token) {
+        Some(call) => Some(&call.path),
         None => None,
     }
+}
+
+/// Whether a request is an update.
+fn is_update(request: &Request) -> bool
+    ensures { result ≡ is_update request.now }
+{
+    matches!(
+        request,
+        Request::Update {
+            physical: _,
+            props: _
+        }
+    )
+}
+
+/// Whether a request updates a resource.
+fn updates(physical: &Txt, request: &Request) -> bool
+    ensures { result ≡ updates physical.now request.now }
+{
+    match request {
+        Request::Update {
+            physical: updated,
+            props: _,
+        } => *physical == *updated,
+        _ => false,
+    }
+}
+
+/// Whether a request deletes a resource.
+pub(crate) fn deletes(physical: &Txt, request: &Request) -> bool
+    ensures { result ≡ deletes physical.now request.now }
+{
+    match request {
+        Request::Delete { physical: deleted } => *physical == *deleted,
+        _ => false,
+    }
+}
+
+/// Whether a call is an update that succeeded.
+pub(crate) fn is_good_update(call: &Call) -> bool
+    ensures { result ≡ is_good_update call.now }
+{
+    is_update(&call.request) && matches!(call.answer, Some(Settled::Success))
+}
+
+/// Whether a call is an update of a path that was answered for good.
+fn is_answered_at(path: &Txt, call: &Call) -> bool
+    ensures { result ≡ (bytes_eq path.now call.now.path && (is_update call.now.request && is_some call.now.answer)) }
+{
+    *path == call.path && is_update(&call.request) && call.answer.is_some()
+}
+
+/// Whether one of these calls, of an operation, is an update of a path that was answered for good.
+fn has_answered(calls: &[Call], number: u64, path: &Txt) -> bool
+    ensures { result ≡ list_any (λ c. c.number == number && (bytes_eq path.now c.path && (is_update c.request && is_some c.answer))) calls.now }
+{
+    calls
+        .iter()
+        .any(|call| call.number == number && is_answered_at(path, call))
+}
+
+/// Whether this operation's update of a path was answered, be it refused.
+pub fn was_answered_at(stack: &StackState, path: &Txt) -> bool
+    ensures { result ≡ was_answered_at path.now stack.now.stack }
+{
+    has_answered(stack.ledger().as_slice(), stack.operation(), path)
+}
+
+/// Whether an answer says that the resource can't be updated.
+fn is_not_updatable(answer: &Option<Settled>) -> bool
+    ensures { result ≡ is_not_updatable answer.now }
+{
+    match answer {
+        Some(Settled::Failed { code }) => *code == Code::NotUpdatable,
+        _ => false,
+    }
+}
+
+/// Whether one of these calls, of an operation, is an update of a resource that can't be updated.
+fn has_refused(calls: &[Call], number: u64, physical: &Txt) -> bool
+    ensures { result ≡ list_any (λ c. c.number == number && (updates physical.now c.request && is_not_updatable c.answer)) calls.now }
+{
+    calls.iter().any(|call| {
+        call.number == number && updates(physical, &call.request) && is_not_updatable(&call.answer)
+    })
+}
+
+/// Whether this operation's update of a resource was refused because it can't be updated.
+pub fn was_not_updatable(stack: &StackState, held: &Held) -> bool
+    ensures { result ≡ was_not_updatable stack.now.stack held.now }
+{
+    has_refused(stack.ledger().as_slice(), stack.operation(), &held.physical)
+}
+
+/// Whether one of these calls, of an operation, is a deletion of a resource.
+fn has_deletion(calls: &[Call], number: u64, physical: &Txt) -> bool
+    ensures { result ≡ list_any (λ c. c.number == number && deletes physical.now c.request) calls.now }
+{
+    calls.iter().any(|call| call.number == number && deletes(physical, &call.request))
+}
+
+/// Whether the operation of a stack began no deletion of a resource.
+pub fn is_untried(stack: &StackState, physical: &Txt) -> bool
+    ensures { result ≡ (length (deletions_of physical.now stack.now.stack) == 0) }
+{
+    !has_deletion(stack.ledger().as_slice(), stack.operation(), physical)
 }
 
 /// Whether an entry answers a token by a doubt.
@@ -107,223 +155,29 @@ fn is_doubt_of(token: u64, entry: &Entry) -> bool
     }
 }
 
+/// Whether an entry as the stack keeps it answers a token by a doubt.
+#[tactic(auto, using(crate::proofs::Successes::no_doubt))]
+fn is_heard_doubt(token: u64, heard: &HeardEntry) -> bool
+    ensures { result ≡ reply_passes (λ r. token == r.token && is_doubt r.answer) heard.now }
+{
+    match heard.as_entry() {
+        Some(entry) => is_doubt_of(token, entry),
+        None => false,
+    }
+}
+
 /// How often a token was answered by a doubt in these entries.
 #[tactic(auto, using(crate::proofs::Answered::count_replied))]
-pub fn doubts_in(entries: &[Entry], token: u64) -> usize
+pub fn doubts_in(entries: &[HeardEntry], token: u64) -> usize
     ensures { result ≡ doubts_in token entries.now }
 {
     let mut count = 0;
-    for entry in entries.iter() {
-        if is_doubt_of(token, entry) {
+    for heard in entries.iter() {
+        if is_heard_doubt(token, heard) {
             count += 1;
         }
     }
     count
-}
-
-/// Whether an entry answers a token by a success.
-fn is_success_of(token: u64, entry: &Entry) -> bool
-    ensures { result ≡ reply_passes (λ r. token == r.token && is_success r.answer) entry.now }
-{
-    match entry {
-        Entry::Outcome {
-            number: _,
-            token: answered,
-            answer,
-            before: _,
-            after: _,
-        } => {
-            token == *answered
-                && matches!(
-                    answer,
-                    Reply::Success {
-                        physical: _,
-                        attrs: _
-                    }
-                )
-        }
-        _ => false,
-    }
-}
-
-/// Whether one of these entries answers a token by a success.
-fn has_success(entries: &[Entry], token: u64) -> bool
-    ensures { result ≡ list_any (λ e. reply_passes (λ r. token == r.token && is_success r.answer) e) entries.now }
-{
-    entries.iter().any(|entry| is_success_of(token, entry))
-}
-
-/// Whether a token of a stack was answered by a success.
-fn succeeded(stack: &StackState, token: u64) -> bool
-    ensures { result ≡ list_any (λ r. token == r.token && is_success r.answer) (replies_in stack.now.entries) }
-{
-    has_success(stack.entries.as_slice(), token)
-}
-
-/// Whether an entry answers a token for good, by a success or a refusal.
-fn is_answer_to(token: u64, entry: &Entry) -> bool
-    ensures { result ≡ reply_passes (λ r. token == r.token && not (is_doubt r.answer)) entry.now }
-{
-    match entry {
-        Entry::Outcome {
-            number: _,
-            token: answered,
-            answer,
-            before: _,
-            after: _,
-        } => token == *answered && !matches!(answer, Reply::Doubt),
-        _ => false,
-    }
-}
-
-/// Whether one of these entries answers a token for good.
-fn has_answer(entries: &[Entry], token: u64) -> bool
-    ensures { result ≡ list_any (λ e. reply_passes (λ r. token == r.token && not (is_doubt r.answer)) e) entries.now }
-{
-    entries.iter().any(|entry| is_answer_to(token, entry))
-}
-
-/// Whether a token of a stack was answered for good.
-fn is_answered(stack: &StackState, token: u64) -> bool
-    ensures { result ≡ list_any (λ r. token == r.token && not (is_doubt r.answer)) (replies_in stack.now.entries) }
-{
-    has_answer(stack.entries.as_slice(), token)
-}
-
-/// Whether an entry refuses a token because the resource can't be updated.
-fn is_not_updatable_to(token: u64, entry: &Entry) -> bool
-    ensures { result ≡ reply_passes (λ r. token == r.token && is_not_updatable r.answer) entry.now }
-{
-    match entry {
-        Entry::Outcome {
-            number: _,
-            token: answered,
-            answer: Reply::Failed { code },
-            before: _,
-            after: _,
-        } => token == *answered && *code == Code::NotUpdatable,
-        _ => false,
-    }
-}
-
-/// Whether one of these entries refuses a token because the resource can't be updated.
-fn has_not_updatable(entries: &[Entry], token: u64) -> bool
-    ensures { result ≡ list_any (λ e. reply_passes (λ r. token == r.token && is_not_updatable r.answer) e) entries.now }
-{
-    entries
-        .iter()
-        .any(|entry| is_not_updatable_to(token, entry))
-}
-
-/// Whether a token of a stack was refused because the resource can't be updated.
-fn is_not_updatable(stack: &StackState, token: u64) -> bool
-    ensures { result ≡ list_any (λ r. token == r.token && is_not_updatable r.answer) (replies_in stack.now.entries) }
-{
-    has_not_updatable(stack.entries.as_slice(), token)
-}
-
-/// Whether an entry is the operation's update of a path, and it was answered for good.
-fn is_answered_by(stack: &StackState, path: &Txt, entry: &Entry) -> bool
-    ensures { result ≡ (is_of stack.now.operation entry.now && call_passes (λ c. bytes_eq path.now c.path && (is_update c.request && is_answered stack.now c)) entry.now) }
-{
-    match entry {
-        Entry::Intent {
-            number,
-            token,
-            lane: _,
-            path: called,
-            request: Request::Update {
-                physical: _,
-                props: _,
-            },
-        } => { stack.operation == *number && *path == *called && is_answered(stack, *token) }
-        _ => false,
-    }
-}
-
-/// The path of an entry that is the operation's update of it, where it succeeded. It goes over the entries once.
-pub fn updated_path<'a>(stack: &StackState, entry: &'a Entry) -> Option<&'a Txt>
-    ensures { option_copied result ≡ updated_path stack.now entry.now }
-{
-    match entry {
-        Entry::Intent {
-            number,
-            token,
-            lane: _,
-            path,
-            request: Request::Update {
-                physical: _,
-                props: _,
-            },
-        } => {
-            if stack.operation == *number && succeeded(stack, *token) {
-                Some(path)
-            } else {
-                None
-            }
-        }
-        _ => None,
-    }
-}
-
-/// Whether one of a stack's entries is the operation's update of a path, and it was answered for good.
-fn has_answered(stack: &StackState, path: &Txt) -> bool
-    ensures { result ≡ list_any (λ e. is_of stack.now.operation e && call_passes (λ c. bytes_eq path.now c.path && (is_update c.request && is_answered stack.now c)) e) stack.now.entries }
-{
-    stack
-        .entries
-        .as_slice()
-        .iter()
-        .any(|entry| is_answered_by(stack, path, entry))
-}
-
-/// Whether this operation's update of a path was answered, for good or not. It goes over the entries once, and once more for
-/// each update of the path.
-pub fn was_answered_at(stack: &StackState, path: &Txt) -> bool
-    ensures { result ≡ was_answered_at path.now stack.now }
-{
-    has_answered(stack, path)
-}
-
-/// Whether an entry is the operation's update of a resource, which was refused because the resource can't be updated.
-fn is_refused_by(stack: &StackState, physical: &Txt, entry: &Entry) -> bool
-    ensures { result ≡ (is_of stack.now.operation entry.now && call_passes (λ c. updates physical.now c.request && answers_not_updatable stack.now c) entry.now) }
-{
-    match entry {
-        Entry::Intent {
-            number,
-            token,
-            lane: _,
-            path: _,
-            request: Request::Update {
-                physical: called,
-                props: _,
-            },
-        } => {
-            stack.operation == *number && *physical == *called && is_not_updatable(stack, *token)
-        }
-        _ => false,
-    }
-}
-
-/// Whether one of a stack's entries is the operation's update of a resource, which was refused because the resource can't be
-/// updated.
-fn has_refused(stack: &StackState, physical: &Txt) -> bool
-    ensures { result ≡ list_any (λ e. is_of stack.now.operation e && call_passes (λ c. updates physical.now c.request && answers_not_updatable stack.now c) e) stack.now.entries }
-{
-    stack
-        .entries
-        .as_slice()
-        .iter()
-        .any(|entry| is_refused_by(stack, physical, entry))
-}
-
-/// Whether this operation's update of a resource was refused because it can't be updated. It goes over the entries once, and
-/// once more for each update of the resource.
-pub fn was_not_updatable(stack: &StackState, held: &Held) -> bool
-    ensures { result ≡ was_not_updatable stack.now held.now }
-{
-    has_refused(stack, &held.physical)
 }
 
 /// Whether an entry begins a phase or an opening.
@@ -346,15 +200,26 @@ fn is_turn_or_opening(entry: &Entry) -> bool
     )
 }
 
-/// How many of these entries stand up to the last that begins a phase or an opening, this one included.
+/// Whether an entry as the stack keeps it begins a phase or an opening.
+#[tactic(auto, using(crate::proofs::Successes::no_turn))]
+fn is_heard_turn(heard: &HeardEntry) -> bool
+    ensures { result ≡ is_turn_or_opening heard.now }
+{
+    match heard.as_entry() {
+        Some(entry) => is_turn_or_opening(entry),
+        None => false,
+    }
+}
+
+/// How many of these entries there are up to the last that begins a phase or an opening, this one included.
 #[tactic(auto, using(crate::proofs::Parting::ends_last, crate::proofs::Parting::stays_last))]
-fn last_turn(entries: &[Entry]) -> usize
+fn last_turn(entries: &[HeardEntry]) -> usize
     ensures place { result ≡ last_place is_turn_or_opening entries.now }
     ensures within { result ≤ length entries.now }
 {
     let mut at = entries.len();
     while at > 0 {
-        if is_turn_or_opening(&entries[at - 1]) {
+        if is_heard_turn(&entries[at - 1]) {
             return at;
         }
         at -= 1;
@@ -363,82 +228,53 @@ fn last_turn(entries: &[Entry]) -> usize
 }
 
 /// The entries of this phase and opening.
-pub fn now_of(entries: &[Entry]) -> &[Entry]
+pub fn now_of(entries: &[HeardEntry]) -> &[HeardEntry]
     ensures { result.now ≡ after_last is_turn_or_opening entries.now }
 {
     &entries[last_turn(entries)..]
 }
 
 /// These entries up to the last that begins a phase or an opening, this one included.
-pub fn up_to_last_turn(entries: &[Entry]) -> &[Entry]
+pub fn up_to_last_turn(entries: &[HeardEntry]) -> &[HeardEntry]
     ensures { result.now ≡ up_to_last is_turn_or_opening entries.now }
 {
     &entries[..last_turn(entries)]
 }
 
-/// The entries before the first later phase.
-#[tactic(auto, using(crate::proofs::Parting::before_next, crate::proofs::Parting::before_here, crate::proofs::Parting::before_none))]
-pub fn forward_of(entries: &[Entry]) -> &[Entry]
-    ensures { result.now ≡ before_first is_phase entries.now }
+/// Whether an entry begins a later phase.
+fn is_phase(entry: &Entry) -> bool
+    ensures { result ≡ is_phase entry.now }
 {
-    for (at, entry) in entries.iter().enumerate() {
-        if let Entry::Phase {
+    matches!(
+        entry,
+        Entry::Phase {
             number: _,
             phase: _,
-            cause: _,
-        } = entry
-        {
+            cause: _
+        }
+    )
+}
+
+/// Whether an entry as the stack keeps it begins a later phase.
+#[tactic(auto, using(crate::proofs::Successes::no_phase))]
+fn is_heard_phase(heard: &HeardEntry) -> bool
+    ensures { result ≡ is_phase heard.now }
+{
+    match heard.as_entry() {
+        Some(entry) => is_phase(entry),
+        None => false,
+    }
+}
+
+/// The entries before the first later phase.
+#[tactic(auto, using(crate::proofs::Parting::before_next, crate::proofs::Parting::before_here, crate::proofs::Parting::before_none))]
+pub fn forward_of(entries: &[HeardEntry]) -> &[HeardEntry]
+    ensures { result.now ≡ before_first is_phase entries.now }
+{
+    for (at, heard) in entries.iter().enumerate() {
+        if is_heard_phase(heard) {
             return &entries[..at];
         }
     }
     entries
-}
-
-/// Whether one of these entries is the intent of a token.
-fn has_intent(token: u64, entries: &[Entry]) -> bool
-    ensures { result ≡ list_any (λ e. option_map_or (λ c. token == c.token) (call_in e) false) entries.now }
-{
-    entries.iter().any(|entry| is_call_of(token, entry))
-}
-
-/// Whether the call of a token is among these entries.
-pub fn has_call(token: u64, entries: &[Entry]) -> bool
-    ensures { result ≡ list_any (λ c. token == c.token) (calls_in entries.now) }
-{
-    has_intent(token, entries)
-}
-
-/// Whether an entry is the intent, in an operation, of the deletion of a resource.
-fn is_deletion(number: u64, physical: &Txt, entry: &Entry) -> bool
-    ensures { result ≡ (is_of number entry.now && option_map_or (λ c. deletes physical.now c.request) (call_in entry.now) false) }
-{
-    match entry {
-        Entry::Intent {
-            number: own,
-            token: _,
-            lane: _,
-            path: _,
-            request: Request::Delete { physical: deleted },
-        } => number == *own && *physical == *deleted,
-        _ => false,
-    }
-}
-
-/// Whether one of the entries of a stack is the intent, in its operation, of the deletion of a
-/// resource.
-fn has_deletion(stack: &StackState, physical: &Txt) -> bool
-    ensures { result ≡ list_any (λ e. is_of stack.now.operation e && option_map_or (λ c. deletes physical.now c.request) (call_in e) false) stack.now.entries }
-{
-    stack
-        .entries
-        .as_slice()
-        .iter()
-        .any(|entry| is_deletion(stack.operation, physical, entry))
-}
-
-/// Whether the operation of a stack began no deletion of a resource.
-pub fn is_untried(stack: &StackState, physical: &Txt) -> bool
-    ensures { result ≡ (length (deletions_of physical.now stack.now) == 0) }
-{
-    !has_deletion(stack, physical)
 }

@@ -5,8 +5,8 @@ ghost use Rattle.std.specs.Option.{option_copied};
 ghost use Rattle.cf_desired.specs.FlawText.{flaw_text};
 ghost use Rattle.cf_plan.specs.Failed.{are_all_done};
 ghost use Rattle.cf_plan.specs.Forward.{is_lost, keeps_value, path_of_token, plan_before, plan_now};
-ghost use Rattle.cf_plan.specs.Done.{AreDone};
-ghost use Rattle.cf_plan.specs.Causes.{TellsFailure, end_failure, failure_of_call, of_export, plan_failure};
+ghost use Rattle.cf_plan.specs.Done.{AreDone, HasTerms};
+ghost use Rattle.cf_plan.specs.Causes.{IsFailureOf, end_failure, failure_of_call, of_export, plan_failure};
 ghost use Rattle.cf_plan.specs.declared.cause.Failure.TheVariants as failed;
 ghost use Rattle.cf_entry.specs.declared.turn.Cause.TheVariants as told;
 
@@ -28,8 +28,8 @@ pub enum Failure {
     Nothing,
     /// It has, for this cause.
     Because { cause: Cause },
-    /// It has, by an outcome of a call that is not among the stack's entries: no cause tells it. A journal whose entries may
-    /// each follow where they stand never comes to this.
+    /// It has, by an outcome of a call that has no row in the ledger: no cause tells it. A journal each of whose
+    /// entries may follow those before it never comes to this.
     Untold,
 }
 
@@ -55,17 +55,17 @@ fn is_kept(now: &Plan, export: &Export) -> bool
 
 /// Whether an export of this stack, which another one pins, would be gone or have another value.
 fn is_lost(name: &Txt, world: &World, now: &Plan, export: &Export) -> bool
-    ensures { result ≡ is_lost name.now world.now now.now export.now }
+    ensures { result ≡ is_lost name.now world.now.world now.now export.now }
 {
-    *name == export.stack && pinned(&world.pins, &export.name, name) && !is_kept(now, export)
+    *name == export.stack && pinned(world.pins(), &export.name, name) && !is_kept(now, export)
 }
 
 /// The first such export.
 fn lost_export<'a>(name: &Txt, world: &'a World, now: &Plan) -> Option<&'a Export>
-    ensures { option_copied result ≡ find (is_lost name.now world.now now.now) world.now.exports }
+    ensures { option_copied result ≡ find (is_lost name.now world.now.world now.now) world.now.world.exports }
 {
     world
-        .exports
+        .exports()
         .as_slice()
         .iter()
         .find(|export| is_lost(name, world, now, export))
@@ -89,7 +89,7 @@ fn failure_of_call(
     token: u64,
     reason: Reason,
 ) -> Result<Failure, AllocError>
-    ensures { IfOk result (λ failure. failure ≡ failure_of_call (path_of_token token stack.now) reason) }
+    ensures { IfOk result (λ failure. failure ≡ failure_of_call (path_of_token token stack.now.stack) reason) }
 {
     match path_of_token(stack, token) {
         Some(path) => {
@@ -119,7 +119,7 @@ fn failure_of_export(
     world: &World,
     now: &Plan,
 ) -> Result<Failure, AllocError>
-    ensures { IfOk result (λ failure. failure ≡ of_export (find (is_lost name.now world.now now.now) world.now.exports)) }
+    ensures { IfOk result (λ failure. failure ≡ of_export (find (is_lost name.now world.now.world now.now) world.now.world.exports)) }
 {
     match lost_export(name, world, now) {
         Some(export) => {
@@ -134,7 +134,7 @@ fn failure_of_export(
 
 /// What fails the phase where all paths are done: an output, or an export.
 fn end_failure(alloc: Global, name: &Txt, world: &World, now: &Plan) -> Result<Failure, AllocError>
-    ensures { IfOk result (λ failure. failure ≡ end_failure name.now world.now now.now) }
+    ensures { IfOk result (λ failure. failure ≡ end_failure name.now world.now.world now.now) }
 {
     match now.flaws.as_slice().split_first() {
         Some((flaw, _)) => failure_of_flaw(alloc, flaw),
@@ -151,7 +151,7 @@ fn plan_failure(
     now: &Plan,
     done: &Names,
 ) -> Result<Failure, AllocError>
-    ensures { IfOk result (λ failure. failure ≡ plan_failure name.now world.now before.now now.now done.now) }
+    ensures { IfOk result (λ failure. failure ≡ plan_failure name.now world.now.world before.now now.now done.now) }
 {
     match first_bad(before, now, done) {
         Some(bad) => failure_of_flaw(alloc, bad.flaw),
@@ -165,6 +165,29 @@ fn plan_failure(
     }
 }
 
+/// Whether the forward phase of a stack has failed, and why, by any plan with the paths and the needs of the operation's source, by
+/// what that says over the resources of now, and by the paths that are done.
+pub(crate) fn failure_by(
+    alloc: Global,
+    schemas: &Schemas,
+    name: &Txt,
+    world: &World,
+    stack: &StackState,
+    terms: &Plan,
+    now: &Plan,
+    done: &Names,
+) -> Result<Failure, AllocError>
+    requires terms { HasTerms stack.now.stack terms.now }
+    requires now { now.now ≡ plan_now stack.now.stack }
+    requires done { AreDone stack.now.stack done.now }
+    ensures { IfOk result (λ failure. IsFailureOf schemas.now name.now world.now.world stack.now.stack failure) }
+{
+    match first_failing(schemas, stack) {
+        Some((token, reason)) => failure_of_call(alloc, stack, token, reason),
+        None => plan_failure(alloc, name, world, terms, now, done),
+    }
+}
+
 /// Whether the forward phase of a stack has failed, and why: the first outcome that fails it, else the flaw of the first path
 /// in byte order, outputs after all paths, else the first export that would be lost.
 ///
@@ -174,6 +197,7 @@ fn plan_failure(
 /// # Errors
 ///
 /// Only for want of memory.
+#[tactic(auto, using(crate::proofs::PlanTerms::over_before))]
 pub fn failure_of(
     alloc: Global,
     schemas: &Schemas,
@@ -184,13 +208,10 @@ pub fn failure_of(
     now: &Plan,
     done: &Names,
 ) -> Result<Failure, AllocError>
-    requires before { before.now ≡ plan_before stack.now }
-    requires now { now.now ≡ plan_now stack.now }
-    requires done { AreDone stack.now done.now }
-    ensures { IfOk result (λ failure. TellsFailure schemas.now name.now world.now stack.now failure) }
+    requires before { before.now ≡ plan_before stack.now.stack }
+    requires now { now.now ≡ plan_now stack.now.stack }
+    requires done { AreDone stack.now.stack done.now }
+    ensures { IfOk result (λ failure. IsFailureOf schemas.now name.now world.now.world stack.now.stack failure) }
 {
-    match first_failing(schemas, stack) {
-        Some((token, reason)) => failure_of_call(alloc, stack, token, reason),
-        None => plan_failure(alloc, name, world, before, now, done),
-    }
+    failure_by(alloc, schemas, name, world, stack, before, now, done)
 }

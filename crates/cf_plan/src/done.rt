@@ -1,15 +1,14 @@
 //! Which paths are done.
-ghost use Rattle.std.specs.Prelude.{◌≡◌, ◌↔◌, ℕ, ◌++◌, List, IfOk, IsTrue};
+ghost use Rattle.std.specs.Prelude.{◌≡◌, ◌==◌, ◌&&◌, ◌↔◌, ℕ, ◌++◌, List, IfOk, IsTrue, filter, map, not};
 ghost use Rattle.std.specs.List.{list_all};
-ghost use Rattle.std.specs.Option.{option_copied, option_to_list};
 ghost use Rattle.cf_tree.specs.Lists.{is_among};
 ghost use Rattle.cf_plan.specs.Forward.{plan_before, plan_now};
-ghost use Rattle.cf_plan.specs.Done.{Adds, AreDone, IsFresh, IsNext, Joined, are_met, made_paths, updated_paths};
+ghost use Rattle.cf_plan.specs.Done.{Adds, AreDone, HasTerms, IsFresh, IsNext, Joined, are_met, is_good_update, made_paths, updated_paths};
 
-use crate::calls::updated_path;
+use crate::calls::is_good_update;
 use crate::found::{is_held_right, wanted_at};
 use cf_desired::Plan;
-use cf_stacks::{Helds, StackState};
+use cf_stacks::{Call, Held, StackState};
 use cf_tree::{Names, Txt};
 use std::alloc::{AllocError, Global};
 
@@ -30,12 +29,12 @@ pub fn are_met(plan: &Plan, done: &Names, path: &Txt) -> bool
     }
 }
 
-/// The paths of what the operation made.
-fn made_paths(alloc: Global, stack: &StackState) -> Result<Names, AllocError>
-    ensures { IfOk result (λ paths. paths ≡ made_paths stack.now) }
+/// The paths of the resources of a list that are not superseded.
+fn current_paths(alloc: Global, helds: &[Held]) -> Result<Names, AllocError>
+    ensures { IfOk result (λ paths. paths ≡ map (λ h. h.path) (filter (λ h. not h.superseded) helds.now)) }
 {
     let mut paths = Names::new(alloc);
-    for held in stack.made.as_slice() {
+    for held in helds {
         if !held.superseded {
             paths.push(held.path.try_clone(alloc)?)?;
         }
@@ -43,27 +42,42 @@ fn made_paths(alloc: Global, stack: &StackState) -> Result<Names, AllocError>
     Ok(paths)
 }
 
-/// Adds a path, where there is one.
-fn push_some(alloc: Global, paths: &mut Names, path: Option<&Txt>) -> Result<(), AllocError>
-    ensures { IfOk result (λ _. paths.new ≡ paths.old ++ option_to_list (option_copied path.entry)) }
+/// The paths of what the operation made.
+fn made_paths(alloc: Global, stack: &StackState) -> Result<Names, AllocError>
+    ensures { IfOk result (λ paths. paths ≡ made_paths stack.now.stack) }
 {
-    match path {
-        Some(path) => {
-            paths.push(path.try_clone(alloc)?)?;
-            Ok(())
-        }
-        None => Ok(()),
-    }
+    current_paths(alloc, stack.made().as_slice())
 }
 
-/// Adds the paths that the operation updated. It goes over the entries once, and once more for each update.
-fn push_updated(alloc: Global, stack: &StackState, paths: &mut Names) -> Result<(), AllocError>
-    ensures { IfOk result (λ _. paths.new ≡ paths.old ++ updated_paths stack.now) }
+/// Whether a call is an update of an operation that succeeded.
+fn is_own_update(number: u64, call: &Call) -> bool
+    ensures { result ≡ (call.now.number == number && is_good_update call.now) }
 {
-    for entry in stack.entries.as_slice() {
-        push_some(alloc, paths, updated_path(stack, entry))?;
+    call.number == number && is_good_update(call)
+}
+
+/// Adds the paths of the calls of an operation that are updates which succeeded. After an error nothing is said of the list.
+fn push_calls(
+    alloc: Global,
+    paths: &mut Names,
+    calls: &[Call],
+    number: u64,
+) -> Result<(), AllocError>
+    ensures { IfOk result (λ _. paths.new ≡ paths.old ++ map (λ c. c.path) (filter (λ c. c.number == number && is_good_update c) calls.now)) }
+{
+    for call in calls {
+        if is_own_update(number, call) {
+            paths.push(call.path.try_clone(alloc)?)?;
+        }
     }
     Ok(())
+}
+
+/// Adds the paths that the operation updated. After an error nothing is said of the list.
+fn push_updated(alloc: Global, stack: &StackState, paths: &mut Names) -> Result<(), AllocError>
+    ensures { IfOk result (λ _. paths.new ≡ paths.old ++ updated_paths stack.now.stack) }
+{
+    push_calls(alloc, paths, stack.ledger().as_slice(), stack.operation())
 }
 
 /// Whether a path is not among those that are done, though what is held there is right and its needs are done.
@@ -71,7 +85,7 @@ fn is_fresh(
     alloc: Global,
     before: &Plan,
     now: &Plan,
-    held: &Helds,
+    held: &[Held],
     done: &Names,
     path: &Txt,
 ) -> Result<bool, AllocError>
@@ -90,7 +104,7 @@ fn add_one(
     alloc: Global,
     before: &Plan,
     now: &Plan,
-    held: &Helds,
+    held: &[Held],
     done: &mut Names,
     path: &Txt,
 ) -> Result<(), AllocError>
@@ -110,7 +124,7 @@ fn add_right(
     alloc: Global,
     before: &Plan,
     now: &Plan,
-    held: &Helds,
+    held: &[Held],
     done: &mut Names,
 ) -> Result<(), AllocError>
     ensures joined { IfOk result (λ _. Joined before.now now.now held.now done.old done.new) }
@@ -128,7 +142,7 @@ fn add_all_right(
     alloc: Global,
     before: &Plan,
     now: &Plan,
-    held: &Helds,
+    held: &[Held],
     done: &mut Names,
 ) -> Result<(), AllocError>
     ensures joined { IfOk result (λ _. Joined before.now now.now held.now done.old done.new) }
@@ -143,28 +157,44 @@ fn add_all_right(
     }
 }
 
+/// The paths that are done, by any plan with the paths and the needs of the operation's source, and by what that says over the
+/// resources of now.
+pub(crate) fn done_by(
+    alloc: Global,
+    stack: &StackState,
+    terms: &Plan,
+    now: &Plan,
+) -> Result<Names, AllocError>
+    requires terms { HasTerms stack.now.stack terms.now }
+    requires now { now.now ≡ plan_now stack.now.stack }
+    ensures { IfOk result (λ done. AreDone stack.now.stack done) }
+{
+    let mut done = made_paths(alloc, stack)?;
+    push_updated(alloc, stack, &mut done)?;
+    add_all_right(alloc, terms, now, stack.held().as_slice(), &mut done)?;
+    Ok(done)
+}
+
 /// The paths that are done: those of what was made and of the updates that succeeded, and those whose needs are done and whose
-/// held resource is sure and has the properties of now.
+/// held resource is sure and has the type and the properties of now.
 ///
 /// `before` is what the operation's source says over what was held before, `now` what it says over the resources of now.
 /// For each wanted path it looks through the plan and through what is done for each that the path needs, in two rounds at
-/// most where the plan stands in the order of work.
+/// most where the plan is in the order of work.
 ///
 /// # Errors
 ///
 /// Only for want of memory.
+#[tactic(auto, using(crate::proofs::PlanTerms::over_before))]
 pub fn done_paths(
     alloc: Global,
     stack: &StackState,
     before: &Plan,
     now: &Plan,
 ) -> Result<Names, AllocError>
-    requires before { before.now ≡ plan_before stack.now }
-    requires now { now.now ≡ plan_now stack.now }
-    ensures { IfOk result (λ done. AreDone stack.now done) }
+    requires before { before.now ≡ plan_before stack.now.stack }
+    requires now { now.now ≡ plan_now stack.now.stack }
+    ensures { IfOk result (λ done. AreDone stack.now.stack done) }
 {
-    let mut done = made_paths(alloc, stack)?;
-    push_updated(alloc, stack, &mut done)?;
-    add_all_right(alloc, before, now, &stack.held, &mut done)?;
-    Ok(done)
+    done_by(alloc, stack, before, now)
 }

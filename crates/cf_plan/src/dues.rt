@@ -1,5 +1,5 @@
 //! All steps that may follow in a creation.
-ghost use Rattle.std.specs.Prelude.{◌≡◌, ◌↔◌, ◌≤◌, ◌+◌, ◌==◌, ◌&&◌, ◌||◌, ℕ, nat_lt, List, [], ◌∷◌, Some, true, false, not, length, insert, IfOk, IsTrue};
+ghost use Rattle.std.specs.Prelude.{◌≡◌, ◌↔◌, ◌≤◌, ◌+◌, ◌==◌, ◌&&◌, ◌||◌, ℕ, nat_lt, List, [], ◌∷◌, Some, true, false, not, fold, length, insert, IfOk, IsTrue};
 ghost use Rattle.cf_tree.specs.Lists.{insert_by, is_among};
 ghost use Rattle.cf_entry.specs.declared.status.Status.TheVariants as status;
 ghost use Rattle.cf_entry.specs.declared.turn.Cause.{Cause};
@@ -10,10 +10,10 @@ ghost use Rattle.cf_plan.specs.declared.next.Next.TheVariants as next;
 ghost use Rattle.cf_plan.specs.Forward.{AllDone, HasFailed, IsCause};
 ghost use Rattle.cf_schema.specs.declared.described.Schema.{Schema};
 ghost use Rattle.cf_plan.specs.Follow.{is_not_needed, waits_for_repeats};
-ghost use Rattle.cf_plan.specs.Chosen.{is_sooner, place_of};
+ghost use Rattle.cf_plan.specs.Chosen.{precedes, place_of};
 ghost use Rattle.cf_plan.specs.Taking.{AreTerms};
 ghost use Rattle.cf_plan.specs.Stepping.{AreOpen, Creates, IsCreation};
-ghost use Rattle.cf_plan.specs.Due.{AreDue, AreDueIn, AreDueOn, goes, is_step_before, stays, with_call, with_call_on, with_calls_on, with_create, with_due, with_gone, with_going, with_goings, with_repeat, with_repeats, with_starts};
+ghost use Rattle.cf_plan.specs.Due.{AreDue, AreDueIn, AreDueOn, is_to_roll_back, is_step_before, stays, with_call, with_call_on, with_calls_on, with_create, with_due, with_removal, with_rollback, with_rollbacks, with_repeat, with_repeats, with_starts};
 
 use crate::back::{is_home_of, is_kept, needed};
 use crate::calls::is_untried;
@@ -21,8 +21,8 @@ use crate::forward::is_free;
 use crate::lanes::first_home;
 use crate::next::{Next, again, end_back, is_ended, kept, stack_of_operation, step};
 use crate::progress::{Progress, progress_of};
-use crate::repeats::{may_repeat, none_out, waits_for_repeats};
-use crate::stepping::{Starts, is_creating, is_over, place_in_path, terms_for};
+use crate::repeats::{may_repeat, none_in_flight, waits_for_repeats};
+use crate::stepping::{Starts, is_creating, is_over, physical_id_of, terms_for};
 use cf_entry::{Cause, Phase, Status};
 use cf_schema::Schemas;
 use cf_stacks::{Held, Pending, StackState, Terms, World};
@@ -98,7 +98,7 @@ fn physical_of(step: &Next) -> &str
             request,
             repeated: false,
             ..
-        } => place_in_path(request),
+        } => physical_id_of(request),
         Next::Keep { physical, .. } => physical.as_str(),
         Next::Turn { .. } => "",
         Next::End { .. } => "",
@@ -106,23 +106,23 @@ fn physical_of(step: &Next) -> &str
     }
 }
 
-/// Whether one step stands before another by path, and then by physical id.
-fn is_sooner(a: &Next, b: &Next) -> bool
-    ensures { result ≡ is_sooner ((place_of a.now).path, (place_of a.now).physical) ((place_of b.now).path, (place_of b.now).physical) }
+/// Whether one step precedes another by path, and then by physical id.
+fn precedes(a: &Next, b: &Next) -> bool
+    ensures { result ≡ precedes ((place_of a.now).path, (place_of a.now).physical) ((place_of b.now).path, (place_of b.now).physical) }
 {
     path_of(a) < path_of(b) || (path_of(a) == path_of(b) && physical_of(a) < physical_of(b))
 }
 
-/// Whether one of two steps of the same rank stands before the other.
+/// Whether one of two steps of the same rank precedes the other.
 fn is_before_in_rank(a: &Next, b: &Next) -> bool
     ensures { result ≡ (nat_lt (place_of a.now).token (place_of b.now).token
         || ((place_of a.now).token == (place_of b.now).token
-        && is_sooner ((place_of a.now).path, (place_of a.now).physical) ((place_of b.now).path, (place_of b.now).physical))) }
+        && precedes ((place_of a.now).path, (place_of a.now).physical) ((place_of b.now).path, (place_of b.now).physical))) }
 {
-    token_of(a) < token_of(b) || (token_of(a) == token_of(b) && is_sooner(a, b))
+    token_of(a) < token_of(b) || (token_of(a) == token_of(b) && precedes(a, b))
 }
 
-/// Whether one step stands before another in the order of steps.
+/// Whether one step precedes another in the order of steps.
 fn is_step_before(a: &Next, b: &Next) -> bool
     ensures { result ≡ is_step_before a.now b.now }
 {
@@ -136,7 +136,7 @@ fn stays(step: &Next, joining: &Next) -> bool
     !is_step_before(joining, step)
 }
 
-/// Where a step joins others: behind each before which it does not stand.
+/// Where a step joins others: after each that it does not precede.
 #[tactic(auto, using(cf_tree::proofs::Joins::behind_next, cf_tree::proofs::Joins::behind_here, cf_tree::proofs::Joins::behind_all))]
 fn place_for(dues: &[Next], due: &Next) -> usize
     ensures within { result ≤ length dues.now }
@@ -167,7 +167,7 @@ fn add_repeat(
     stack: &StackState,
     pending: &Pending,
 ) -> Result<(), AllocError>
-    ensures { IfOk result (λ _. dues.new ≡ with_repeat out.now stack.now dues.old pending.now) }
+    ensures { IfOk result (λ _. dues.new ≡ with_repeat out.now stack.now.stack dues.old pending.now) }
 {
     if may_repeat(out, stack, pending) {
         let step = again(alloc, pending)?;
@@ -177,6 +177,22 @@ fn add_repeat(
     }
 }
 
+/// Adds every repeat of these open calls. After an error nothing is said of the steps.
+fn add_repeats_of(
+    alloc: Global,
+    dues: &mut Dues,
+    out: &[u64],
+    stack: &StackState,
+    tokens: &[Pending],
+) -> Result<(), AllocError>
+    ensures { IfOk result (λ _. dues.new ≡ fold (with_repeat out.now stack.now.stack) dues.old tokens.now) }
+{
+    for pending in tokens {
+        add_repeat(alloc, dues, out, stack, pending)?;
+    }
+    Ok(())
+}
+
 /// Adds every repeat. After an error nothing is said of the steps.
 fn add_repeats(
     alloc: Global,
@@ -184,17 +200,14 @@ fn add_repeats(
     out: &[u64],
     stack: &StackState,
 ) -> Result<(), AllocError>
-    ensures { IfOk result (λ _. dues.new ≡ with_repeats out.now stack.now dues.old) }
+    ensures { IfOk result (λ _. dues.new ≡ with_repeats out.now stack.now.stack dues.old) }
 {
-    for pending in stack.tokens.as_slice() {
-        add_repeat(alloc, dues, out, stack, pending)?;
-    }
-    Ok(())
+    add_repeats_of(alloc, dues, out, stack, stack.tokens().as_slice())
 }
 
 /// Every repeat.
 fn repeats(alloc: Global, out: &[u64], stack: &StackState) -> Result<Dues, AllocError>
-    ensures { IfOk result (λ dues. dues ≡ with_repeats out.now stack.now []) }
+    ensures { IfOk result (λ dues. dues ≡ with_repeats out.now stack.now.stack []) }
 {
     let mut dues = Dues::new(alloc);
     add_repeats(alloc, &mut dues, out, stack)?;
@@ -209,9 +222,9 @@ fn call(
     lane: &str,
     request: &Request,
 ) -> Result<Next, AllocError>
-    ensures { IfOk result (λ n. n ≡ next.Step path.now lane.now (world.now.token + 1) request.now false) }
+    ensures { IfOk result (λ n. n ≡ next.Step path.now lane.now (world.now.world.token + 1) request.now false) }
 {
-    let Some(token) = world.token.checked_add(1) else {
+    let Some(token) = world.token().checked_add(1) else {
         return Err(AllocError);
     };
     step(alloc, path, lane, token, request, false)
@@ -229,7 +242,7 @@ fn add_call_on(
     physical: &Txt,
     lane: &(Txt, Txt),
 ) -> Result<(), AllocError>
-    ensures { IfOk result (λ _. dues.new ≡ with_call_on out.now world.now path.now request.now physical.now dues.old lane.now) }
+    ensures { IfOk result (λ _. dues.new ≡ with_call_on out.now world.now.world path.now request.now physical.now dues.old lane.now) }
 {
     if is_home_of(out, world, physical, lane) {
         let step = call(alloc, world, path, lane.0.as_str(), request)?;
@@ -239,7 +252,26 @@ fn add_call_on(
     }
 }
 
-/// The same on each lane. After an error nothing is said of the steps.
+/// Adds such a call on each of these lanes that is at home and that the id names. After an error nothing is said of the steps.
+fn add_calls_on_each(
+    alloc: Global,
+    dues: &mut Dues,
+    out: &[u64],
+    world: &World,
+    path: &Txt,
+    request: &Request,
+    physical: &Txt,
+    lanes: &[(Txt, Txt)],
+) -> Result<(), AllocError>
+    ensures { IfOk result (λ _. dues.new ≡ fold (with_call_on out.now world.now.world path.now request.now physical.now) dues.old lanes.now) }
+{
+    for lane in lanes {
+        add_call_on(alloc, dues, out, world, path, request, physical, lane)?;
+    }
+    Ok(())
+}
+
+/// Adds such a call on each lane that is at home and that the id names. After an error nothing is said of the steps.
 fn add_calls_on(
     alloc: Global,
     dues: &mut Dues,
@@ -249,12 +281,10 @@ fn add_calls_on(
     request: &Request,
     physical: &Txt,
 ) -> Result<(), AllocError>
-    ensures { IfOk result (λ _. dues.new ≡ with_calls_on out.now world.now path.now request.now physical.now dues.old) }
+    ensures { IfOk result (λ _. dues.new ≡ with_calls_on out.now world.now.world path.now request.now physical.now dues.old) }
 {
-    for lane in world.lanes.as_slice() {
-        add_call_on(alloc, dues, out, world, path, request, physical, lane)?;
-    }
-    Ok(())
+    let lanes = world.lanes().as_slice();
+    add_calls_on_each(alloc, dues, out, world, path, request, physical, lanes)
 }
 
 /// Adds a create, where a lane of its type is at home. After an error nothing is said of the steps.
@@ -268,7 +298,7 @@ fn add_create(
     request: &Request,
     kind: &Txt,
 ) -> Result<(), AllocError>
-    ensures { IfOk result (λ _. dues.new ≡ with_create out.now world.now path.now request.now kind.now dues.old) }
+    ensures { IfOk result (λ _. dues.new ≡ with_create out.now world.now.world path.now request.now kind.now dues.old) }
 {
     if first_home(out, world, kind).is_some() {
         let step = call(alloc, world, path, "", request)?;
@@ -287,7 +317,7 @@ fn add_call(
     path: &Txt,
     request: &Request,
 ) -> Result<(), AllocError>
-    ensures { IfOk result (λ _. dues.new ≡ with_call out.now world.now path.now dues.old request.now) }
+    ensures { IfOk result (λ _. dues.new ≡ with_call out.now world.now.world path.now dues.old request.now) }
 {
     match request {
         Request::Create { kind, props: _ } => add_create(
@@ -310,7 +340,7 @@ fn add_starts(
     world: &World,
     starts: &Starts,
 ) -> Result<(), AllocError>
-    ensures { IfOk result (λ _. dues.new ≡ with_starts out.now world.now starts.now dues.old) }
+    ensures { IfOk result (λ _. dues.new ≡ with_starts out.now world.now.world starts.now dues.old) }
 {
     for start in starts.as_slice() {
         add_call(alloc, dues, out, world, &start.path, &start.request)?;
@@ -326,7 +356,7 @@ fn repeats_and_starts(
     out: &[u64],
     starts: &Starts,
 ) -> Result<Dues, AllocError>
-    ensures { IfOk result (λ dues. dues ≡ with_starts out.now world.now starts.now (with_repeats out.now stack.now [])) }
+    ensures { IfOk result (λ dues. dues ≡ with_starts out.now world.now.world starts.now (with_repeats out.now stack.now.stack [])) }
 {
     let mut dues = repeats(alloc, out, stack)?;
     add_starts(alloc, &mut dues, out, world, starts)?;
@@ -352,11 +382,11 @@ fn dues_going(
     starts: &Starts,
     is_done: bool,
 ) -> Result<Dues, AllocError>
-    requires creating { stack.now.status ≡ status.CreateInProgress }
-    requires going { ¬ HasFailed schemas.now name.now world.now stack.now }
-    requires listed { AreOpen schemas.now stack.now starts.now }
-    requires done { IsTrue is_done ↔ AllDone stack.now }
-    ensures { IfOk result (λ dues. AreDueIn schemas.now name.now world.now out.now stack.now Forward dues) }
+    requires creating { stack.now.stack.status ≡ status.CreateInProgress }
+    requires going { ¬ HasFailed schemas.now name.now world.now.world stack.now.stack }
+    requires listed { AreOpen schemas.now stack.now.stack starts.now }
+    requires done { IsTrue is_done ↔ AllDone stack.now.stack }
+    ensures { IfOk result (λ dues. AreDueIn schemas.now name.now world.now.world out.now stack.now.stack Forward dues) }
 {
     let dues = repeats_and_starts(alloc, world, stack, out, starts)?;
     if is_over(out, stack, is_done) {
@@ -392,12 +422,12 @@ fn dues_failed(
     out: &[u64],
     cause: Cause,
 ) -> Result<Dues, AllocError>
-    requires creating { stack.now.status ≡ status.CreateInProgress }
-    requires failed { HasFailed schemas.now name.now world.now stack.now }
-    requires cause { IsCause schemas.now name.now world.now stack.now cause }
-    ensures { IfOk result (λ dues. AreDueIn schemas.now name.now world.now out.now stack.now Forward dues) }
+    requires creating { stack.now.stack.status ≡ status.CreateInProgress }
+    requires failed { HasFailed schemas.now name.now world.now.world stack.now.stack }
+    requires cause { IsCause schemas.now name.now world.now.world stack.now.stack cause }
+    ensures { IfOk result (λ dues. AreDueIn schemas.now name.now world.now.world out.now stack.now.stack Forward dues) }
 {
-    if none_out(out, stack) {
+    if none_in_flight(out, stack) {
         turn(alloc, cause)
     } else {
         Ok(Dues::new(alloc))
@@ -413,10 +443,10 @@ fn dues_untold(
     stack: &StackState,
     out: &[u64],
 ) -> Dues
-    requires creating { stack.now.status ≡ status.CreateInProgress }
-    requires failed { HasFailed schemas.now name.now world.now stack.now }
-    requires untold { (c : Cause) → IsCause schemas.now name.now world.now stack.now c → ⊥ }
-    ensures { AreDueIn schemas.now name.now world.now out.now stack.now Forward result }
+    requires creating { stack.now.stack.status ≡ status.CreateInProgress }
+    requires failed { HasFailed schemas.now name.now world.now.world stack.now.stack }
+    requires untold { (c : Cause) → IsCause schemas.now name.now world.now.world stack.now.stack c → ⊥ }
+    ensures { AreDueIn schemas.now name.now world.now.world out.now stack.now.stack Forward result }
 {
     Dues::new(alloc)
 }
@@ -430,8 +460,8 @@ fn dues_forward(
     stack: &StackState,
     out: &[u64],
 ) -> Result<Dues, AllocError>
-    requires creating { stack.now.status ≡ status.CreateInProgress }
-    ensures { IfOk result (λ dues. AreDueIn schemas.now name.now world.now out.now stack.now Forward dues) }
+    requires creating { stack.now.stack.status ≡ status.CreateInProgress }
+    ensures { IfOk result (λ dues. AreDueIn schemas.now name.now world.now.world out.now stack.now.stack Forward dues) }
 {
     match progress_of(alloc, schemas, name, world, stack)? {
         Progress::Failed { cause } => dues_failed(alloc, schemas, name, world, stack, out, cause),
@@ -442,26 +472,26 @@ fn dues_forward(
     }
 }
 
-/// Whether a made resource goes: nothing needs it, no deletion of it was begun, and no call at its
+/// Whether a made resource is to be rolled back: nothing needs it, no deletion of it was begun, and no call at its
 /// path is open.
-fn goes(stack: &StackState, needed: &Names, held: &Held) -> bool
-    requires { (r : Held) → is_not_needed stack.now r ≡ not (is_among r.physical needed.now) }
-    ensures { result ≡ goes stack.now held.now }
+fn is_to_roll_back(stack: &StackState, needed: &Names, held: &Held) -> bool
+    requires { (r : Held) → is_not_needed stack.now.stack r ≡ not (is_among r.physical needed.now) }
+    ensures { result ≡ is_to_roll_back stack.now.stack held.now }
 {
     !needed.contains(&held.physical)
         && is_untried(stack, &held.physical)
         && is_free(stack, &held.path)
 }
 
-/// Adds how a resource goes: it is kept, or deleted. After an error nothing is said of the steps.
-fn add_gone(
+/// Adds how a resource is rolled back: it is kept, or deleted. After an error nothing is said of the steps.
+fn add_removal(
     alloc: Global,
     dues: &mut Dues,
     out: &[u64],
     world: &World,
     held: &Held,
 ) -> Result<(), AllocError>
-    ensures { IfOk result (λ _. dues.new ≡ with_gone out.now world.now dues.old held.now) }
+    ensures { IfOk result (λ _. dues.new ≡ with_removal out.now world.now.world dues.old held.now) }
 {
     if is_kept(held) {
         let step = kept(alloc, held)?;
@@ -475,8 +505,8 @@ fn add_gone(
     added
 }
 
-/// Adds a made resource, where it goes. After an error nothing is said of the steps.
-fn add_going(
+/// Adds a made resource, where it is to be rolled back. After an error nothing is said of the steps.
+fn add_rollback(
     alloc: Global,
     dues: &mut Dues,
     out: &[u64],
@@ -485,18 +515,37 @@ fn add_going(
     needed: &Names,
     held: &Held,
 ) -> Result<(), AllocError>
-    requires { (r : Held) → is_not_needed stack.now r ≡ not (is_among r.physical needed.now) }
-    ensures { IfOk result (λ _. dues.new ≡ with_going out.now world.now stack.now dues.old held.now) }
+    requires { (r : Held) → is_not_needed stack.now.stack r ≡ not (is_among r.physical needed.now) }
+    ensures { IfOk result (λ _. dues.new ≡ with_rollback out.now world.now.world stack.now.stack dues.old held.now) }
 {
-    if goes(stack, needed, held) {
-        add_gone(alloc, dues, out, world, held)
+    if is_to_roll_back(stack, needed, held) {
+        add_removal(alloc, dues, out, world, held)
     } else {
         Ok(())
     }
 }
 
-/// Adds each made resource that goes. After an error nothing is said of the steps.
-fn add_goings(
+/// Adds each of these resources that is to be rolled back. After an error nothing is said of the steps.
+fn add_rollbacks_of(
+    alloc: Global,
+    dues: &mut Dues,
+    out: &[u64],
+    world: &World,
+    stack: &StackState,
+    needed: &Names,
+    helds: &[Held],
+) -> Result<(), AllocError>
+    requires { (r : Held) → is_not_needed stack.now.stack r ≡ not (is_among r.physical needed.now) }
+    ensures { IfOk result (λ _. dues.new ≡ fold (with_rollback out.now world.now.world stack.now.stack) dues.old helds.now) }
+{
+    for held in helds {
+        add_rollback(alloc, dues, out, world, stack, needed, held)?;
+    }
+    Ok(())
+}
+
+/// Adds each made resource that is to be rolled back. After an error nothing is said of the steps.
+fn add_rollbacks(
     alloc: Global,
     dues: &mut Dues,
     out: &[u64],
@@ -504,13 +553,11 @@ fn add_goings(
     stack: &StackState,
     needed: &Names,
 ) -> Result<(), AllocError>
-    requires { (r : Held) → is_not_needed stack.now r ≡ not (is_among r.physical needed.now) }
-    ensures { IfOk result (λ _. dues.new ≡ with_goings out.now world.now stack.now dues.old) }
+    requires { (r : Held) → is_not_needed stack.now.stack r ≡ not (is_among r.physical needed.now) }
+    ensures { IfOk result (λ _. dues.new ≡ with_rollbacks out.now world.now.world stack.now.stack dues.old) }
 {
-    for held in stack.made.as_slice() {
-        add_going(alloc, dues, out, world, stack, needed, held)?;
-    }
-    Ok(())
+    let made = stack.made().as_slice();
+    add_rollbacks_of(alloc, dues, out, world, stack, needed, made)
 }
 
 /// The steps of a rollback that waits for repeats.
@@ -520,43 +567,43 @@ fn dues_waiting(
     stack: &StackState,
     out: &[u64],
 ) -> Result<Dues, AllocError>
-    requires rolling { stack.now.status ≡ status.RollbackInProgress }
-    requires waits { waits_for_repeats Back out.now stack.now ≡ true }
-    ensures { IfOk result (λ dues. (schemas : List Schema) (name : List ℕ) → AreDueIn schemas name world.now out.now stack.now Back dues) }
+    requires rolling { stack.now.stack.status ≡ status.RollbackInProgress }
+    requires waits { waits_for_repeats Back out.now stack.now.stack ≡ true }
+    ensures { IfOk result (λ dues. (schemas : List Schema) (name : List ℕ) → AreDueIn schemas name world.now.world out.now stack.now.stack Back dues) }
 {
     repeats(alloc, out, stack)
 }
 
-/// Every resource that goes.
-fn goings(
+/// Every resource that is to be rolled back.
+fn rollbacks(
     alloc: Global,
     world: &World,
     stack: &StackState,
     out: &[u64],
     needed: &Names,
 ) -> Result<Dues, AllocError>
-    requires { (r : Held) → is_not_needed stack.now r ≡ not (is_among r.physical needed.now) }
-    ensures { IfOk result (λ dues. dues ≡ with_goings out.now world.now stack.now []) }
+    requires { (r : Held) → is_not_needed stack.now.stack r ≡ not (is_among r.physical needed.now) }
+    ensures { IfOk result (λ dues. dues ≡ with_rollbacks out.now world.now.world stack.now.stack []) }
 {
     let mut dues = Dues::new(alloc);
-    add_goings(alloc, &mut dues, out, world, stack, needed)?;
+    add_rollbacks(alloc, &mut dues, out, world, stack, needed)?;
     Ok(dues)
 }
 
 /// The steps of a rollback that waits for no repeat.
-fn dues_to_go(
+fn dues_to_roll_back(
     alloc: Global,
     world: &World,
     stack: &StackState,
     out: &[u64],
     needed: &Names,
 ) -> Result<Dues, AllocError>
-    requires rolling { stack.now.status ≡ status.RollbackInProgress }
-    requires waits { waits_for_repeats Back out.now stack.now ≡ false }
-    requires needed { (r : Held) → is_not_needed stack.now r ≡ not (is_among r.physical needed.now) }
-    ensures { IfOk result (λ dues. (schemas : List Schema) (name : List ℕ) → AreDueIn schemas name world.now out.now stack.now Back dues) }
+    requires rolling { stack.now.stack.status ≡ status.RollbackInProgress }
+    requires waits { waits_for_repeats Back out.now stack.now.stack ≡ false }
+    requires needed { (r : Held) → is_not_needed stack.now.stack r ≡ not (is_among r.physical needed.now) }
+    ensures { IfOk result (λ dues. (schemas : List Schema) (name : List ℕ) → AreDueIn schemas name world.now.world out.now stack.now.stack Back dues) }
 {
-    let dues = goings(alloc, world, stack, out, needed)?;
+    let dues = rollbacks(alloc, world, stack, out, needed)?;
     if is_ended(out, world, stack, needed) {
         let end = end_back(alloc, stack)?;
         joined_by(dues, end)
@@ -574,26 +621,26 @@ fn dues_back(
     out: &[u64],
     terms: &ByName<Terms>,
 ) -> Result<Dues, AllocError>
-    requires rolling { stack.now.status ≡ status.RollbackInProgress }
-    requires terms { AreTerms terms.now stack.now }
-    ensures { IfOk result (λ dues. (schemas : List Schema) (name : List ℕ) → AreDueIn schemas name world.now out.now stack.now Back dues) }
+    requires rolling { stack.now.stack.status ≡ status.RollbackInProgress }
+    requires terms { AreTerms terms.now stack.now.stack }
+    ensures { IfOk result (λ dues. (schemas : List Schema) (name : List ℕ) → AreDueIn schemas name world.now.world out.now stack.now.stack Back dues) }
 {
     if waits_for_repeats(out, stack) {
         return dues_waiting(alloc, world, stack, out);
     }
     let needed = needed(alloc, stack, terms)?;
-    dues_to_go(alloc, world, stack, out, &needed)
+    dues_to_roll_back(alloc, world, stack, out, &needed)
 }
 
-/// The steps of a creation that is taken back.
+/// The steps of a creation that is rolled back.
 fn dues_in_rollback(
     alloc: Global,
     world: &World,
     stack: &StackState,
     out: &[u64],
 ) -> Result<Dues, AllocError>
-    requires { stack.now.status ≡ status.RollbackInProgress }
-    ensures { IfOk result (λ dues. (schemas : List Schema) (name : List ℕ) → AreDueIn schemas name world.now out.now stack.now Back dues) }
+    requires { stack.now.stack.status ≡ status.RollbackInProgress }
+    ensures { IfOk result (λ dues. (schemas : List Schema) (name : List ℕ) → AreDueIn schemas name world.now.world out.now stack.now.stack Back dues) }
 {
     let terms = terms_for(alloc, stack)?;
     dues_back(alloc, world, stack, out, &terms)
@@ -608,8 +655,8 @@ fn dues_on(
     stack: &StackState,
     out: &[u64],
 ) -> Result<Dues, AllocError>
-    requires { Creates stack.now }
-    ensures { IfOk result (λ dues. AreDueOn schemas.now name.now world.now out.now stack.now dues) }
+    requires { Creates stack.now.stack }
+    ensures { IfOk result (λ dues. AreDueOn schemas.now name.now world.now.world out.now stack.now.stack dues) }
 {
     if is_creating(stack) {
         dues_forward(alloc, schemas, name, world, stack, out)
@@ -637,8 +684,8 @@ pub fn due(
     out: &[u64],
     schemas: &Schemas,
 ) -> Result<Dues, AllocError>
-    requires { IsCreation world.now number }
-    ensures { IfOk result (λ dues. AreDue schemas.now world.now out.now number dues) }
+    requires { IsCreation world.now.world number }
+    ensures { IfOk result (λ dues. AreDue schemas.now world.now.world out.now number dues) }
 {
     match stack_of_operation(world, number) {
         Some(going) => dues_on(alloc, schemas, &going.0, world, &going.1, out),

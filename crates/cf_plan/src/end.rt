@@ -1,75 +1,83 @@
 //! The end of an operation: its status, and the paths that failed.
-ghost use Rattle.std.specs.Prelude.{◌≡◌, ◌==◌, ◌&&◌, false, IfOk, nat_lt, fold, option_map, List, ℕ, Some};
-ghost use Rattle.cf_tree.specs.declared.request.Request.{Request};
+ghost use Rattle.std.specs.Prelude.{◌≡◌, ◌==◌, ◌&&◌, false, IfOk, nat_lt, fold, Some};
 ghost use Rattle.std.specs.List.{list_any};
-ghost use Rattle.std.specs.Option.{option_map_or};
-ghost use Rattle.cf_stacks.specs.Operation.{Call, call_of, call_in, reply_in, is_of, deletes, is_refusal, was_refused, refusals_of, replies_in};
-ghost use Rattle.cf_plan.specs.Follow.{is_cleared, is_bad_outcome, AreFailed};
+ghost use Rattle.cf_stacks.specs.Calls.{is_refusal, refusals_of, was_refused};
+ghost use Rattle.cf_stacks.specs.Operation.{is_doubt};
+ghost use Rattle.cf_stacks.specs.Words.{deletes};
+ghost use Rattle.cf_plan.specs.Follow.{is_cleared, is_bad_outcome, settled_by, AreFailed};
 ghost use Rattle.cf_entry.specs.declared.status.Status.TheVariants as status;
 ghost use Rattle.cf_change.specs.Changes.{is_empty};
 ghost use Rattle.cf_plan.specs.Blaming.{noted, verdicts_of, blamed, blames_of, bad_among};
 
+use crate::calls::{call_of, deletes};
 use cf_entry::{Entry, Reply};
-use cf_stacks::{Helds, StackState};
+use cf_stacks::{Call, HeardEntry, Held, Pending, Settled, StackState};
 use cf_tree::{ByName, Code, Names, Request, Txt};
 use std::alloc::{AllocError, Global};
 
-/// The path and the request of the call of a token.
-fn call_of<'a>(token: u64, stack: &'a StackState) -> Option<(&'a Txt, &'a Request)>
-    ensures { option_map {U = List ℕ × Request} (λ c. (c.0.now, c.1.now)) result ≡ option_map (λ c. (c.path, c.request)) (call_of token stack.now) }
-{
-    for entry in stack.entries.as_slice() {
-        if let Entry::Intent {
-            number: _,
-            token: called,
-            lane: _,
-            path,
-            request,
-        } = entry
-        {
-            if token == *called {
-                return Some((path, request));
-            }
-        }
-    }
-    None
-}
-
-/// Whether an answer to a request is a refusal; a deletion that finds nothing is none.
-fn is_refusal(request: &Request, answer: &Reply) -> bool
+/// Whether a call was refused; a deletion that finds nothing was not.
+fn is_refusal(request: &Request, answer: &Option<Settled>) -> bool
     ensures { result ≡ is_refusal request.now answer.now }
 {
     match (request, answer) {
         (
             Request::Delete { physical: _ },
-            Reply::Failed {
-                code: Code::NotFound,
-            },
+            Some(
+                Settled::Failed {
+                    code: Code::NotFound,
+                },
+            ),
         ) => false,
-        (_, Reply::Failed { code: _ }) => true,
+        (_, Some(Settled::Failed { code: _ })) => true,
         _ => false,
     }
 }
 
-/// Whether an answer to a request is a doubt or a refusal.
-fn is_bad(request: &Request, answer: &Reply) -> bool
-    ensures { (c : Call) → c.request ≡ request.now → is_bad_outcome (Some c) answer.now ≡ result }
+/// How an answer settles a call.
+fn settled_by(answer: &Reply) -> Option<Settled>
+    ensures { result ≡ settled_by answer.now }
+{
+    match answer {
+        Reply::Success {
+            physical: _,
+            attrs: _,
+        } => Some(Settled::Success),
+        Reply::Failed { code } => Some(Settled::Failed { code: *code }),
+        Reply::Doubt => None,
+    }
+}
+
+/// Whether an answer is a doubt.
+fn is_doubt(answer: &Reply) -> bool
+    ensures { result ≡ is_doubt answer.now }
 {
     match answer {
         Reply::Doubt => true,
-        _ => is_refusal(request, answer),
+        Reply::Success {
+            physical: _,
+            attrs: _,
+        } => false,
+        Reply::Failed { code: _ } => false,
     }
+}
+
+/// Whether an answer to a call is a doubt or a refusal.
+fn is_bad(call: &Call, answer: &Reply) -> bool
+    ensures { result ≡ is_bad_outcome (Some call.now) answer.now }
+{
+    let settled = settled_by(answer);
+    is_doubt(answer) || is_refusal(&call.request, &settled)
 }
 
 /// Notes what an entry tells of the outcomes at a path. After an error nothing is said of the
 /// verdicts.
-fn note(
+fn note_entry(
     alloc: Global,
     verdicts: &mut ByName<bool>,
     stack: &StackState,
     entry: &Entry,
 ) -> Result<(), AllocError>
-    ensures { IfOk result (λ _. verdicts.new ≡ noted stack.now verdicts.old entry.now) }
+    ensures { IfOk result (λ _. verdicts.new ≡ noted stack.now.stack verdicts.old entry.now) }
 {
     let Entry::Outcome {
         number,
@@ -81,111 +89,79 @@ fn note(
     else {
         return Ok(());
     };
-    if stack.operation != *number {
+    if stack.operation() != *number {
         return Ok(());
     }
-    match call_of(*token, stack) {
-        Some((path, request)) => {
-            let bad = is_bad(request, answer);
-            verdicts.insert(path.try_clone(alloc)?, bad)
+    match call_of(stack, *token) {
+        Some(call) => {
+            let bad = is_bad(call, answer);
+            verdicts.insert(call.path.try_clone(alloc)?, bad)
         }
         None => Ok(()),
     }
 }
 
+/// Notes what an entry as the stack keeps it tells of the outcomes at a path. After an error nothing is said of the verdicts.
+fn note(
+    alloc: Global,
+    verdicts: &mut ByName<bool>,
+    stack: &StackState,
+    heard: &HeardEntry,
+) -> Result<(), AllocError>
+    ensures { IfOk result (λ _. verdicts.new ≡ noted stack.now.stack verdicts.old heard.now) }
+{
+    match heard.as_entry() {
+        Some(entry) => note_entry(alloc, verdicts, stack, entry),
+        None => {
+            let entry = heard.entry(alloc)?;
+            let noted = note_entry(alloc, verdicts, stack, &entry);
+            drop(entry);
+            noted
+        }
+    }
+}
+
+/// What these entries tell of the outcomes at each path. After an error nothing is said of the
+/// verdicts.
+fn note_all(
+    alloc: Global,
+    verdicts: &mut ByName<bool>,
+    stack: &StackState,
+    entries: &[HeardEntry],
+) -> Result<(), AllocError>
+    ensures { IfOk result (λ _. verdicts.new ≡ fold (noted stack.now.stack) verdicts.old entries.now) }
+{
+    for heard in entries {
+        note(alloc, verdicts, stack, heard)?;
+    }
+    Ok(())
+}
+
 /// Of each path, whether the operation's last outcome at it is a doubt or a refusal.
 fn verdicts_of(alloc: Global, stack: &StackState) -> Result<ByName<bool>, AllocError>
-    ensures { IfOk result (λ v. v ≡ verdicts_of stack.now) }
+    ensures { IfOk result (λ v. v ≡ verdicts_of stack.now.stack) }
 {
     let mut verdicts = ByName::new(alloc);
-    for entry in stack.entries.as_slice() {
-        note(alloc, &mut verdicts, stack, entry)?;
-    }
+    note_all(alloc, &mut verdicts, stack, stack.entries().as_slice())?;
     Ok(verdicts)
 }
 
-/// Whether an entry refuses the call of a token.
-fn is_refusal_of(token: u64, request: &Request, entry: &Entry) -> bool
-    ensures { result ≡ option_map_or (λ r. token == r.token && is_refusal request.now r.answer) (reply_in entry.now) false }
+/// Whether one of these calls, of an operation, is a deletion of a resource that was refused.
+fn has_refused_deletion(calls: &[Call], number: u64, physical: &Txt) -> bool
+    ensures { result ≡ list_any (λ c. c.number == number && (deletes physical.now c.request && was_refused c)) calls.now }
 {
-    match entry {
-        Entry::Outcome {
-            number: _,
-            token: answered,
-            answer,
-            before: _,
-            after: _,
-        } => token == *answered && is_refusal(request, answer),
-        _ => false,
-    }
-}
-
-/// Whether one of the entries of a stack refuses the call of a token.
-fn has_refusal_of(stack: &StackState, token: u64, request: &Request) -> bool
-    ensures { result ≡ list_any (λ e. option_map_or (λ r. token == r.token && is_refusal request.now r.answer) (reply_in e) false) stack.now.entries }
-{
-    stack
-        .entries
-        .as_slice()
-        .iter()
-        .any(|entry| is_refusal_of(token, request, entry))
-}
-
-/// Whether the call of a token was refused.
-fn was_refused(stack: &StackState, token: u64, request: &Request) -> bool
-    ensures { result ≡ list_any (λ r. token == r.token && is_refusal request.now r.answer) (replies_in stack.now.entries) }
-{
-    has_refusal_of(stack, token, request)
-}
-
-/// Whether an entry is the intent, in a stack's operation, of a deletion of a resource that was
-/// refused.
-fn is_refused_deletion(stack: &StackState, physical: &Txt, entry: &Entry) -> bool
-    ensures { result ≡ (is_of stack.now.operation entry.now && option_map_or (λ c. deletes physical.now c.request && was_refused stack.now c) (call_in entry.now) false) }
-{
-    match entry {
-        Entry::Intent {
-            number,
-            token,
-            lane: _,
-            path: _,
-            request,
-        } => {
-            stack.operation == *number
-                && deletes(physical, request)
-                && was_refused(stack, *token, request)
-        }
-        _ => false,
-    }
-}
-
-/// Whether a request deletes a resource.
-fn deletes(physical: &Txt, request: &Request) -> bool
-    ensures { result ≡ deletes physical.now request.now }
-{
-    match request {
-        Request::Delete { physical: deleted } => *physical == *deleted,
-        _ => false,
-    }
-}
-
-/// Whether one of the entries of a stack is the intent, in its operation, of a deletion of a
-/// resource that was refused.
-fn has_refused_deletion(stack: &StackState, physical: &Txt) -> bool
-    ensures { result ≡ list_any (λ e. is_of stack.now.operation e && option_map_or (λ c. deletes physical.now c.request && was_refused stack.now c) (call_in e) false) stack.now.entries }
-{
-    stack
-        .entries
-        .as_slice()
-        .iter()
-        .any(|entry| is_refused_deletion(stack, physical, entry))
+    calls.iter().any(|call| {
+        call.number == number
+            && deletes(physical, &call.request)
+            && is_refusal(&call.request, &call.answer)
+    })
 }
 
 /// Whether one of the operation's deletions of a resource was refused.
 fn has_refusal(stack: &StackState, physical: &Txt) -> bool
-    ensures { result ≡ nat_lt 0 (refusals_of physical.now stack.now) }
+    ensures { result ≡ nat_lt 0 (refusals_of physical.now stack.now.stack) }
 {
-    has_refused_deletion(stack, physical)
+    has_refused_deletion(stack.ledger().as_slice(), stack.operation(), physical)
 }
 
 /// Blames the paths of the resources whose deletion was refused. After an error nothing is said of
@@ -194,11 +170,11 @@ fn blame(
     alloc: Global,
     verdicts: &mut ByName<bool>,
     stack: &StackState,
-    helds: &Helds,
+    helds: &[Held],
 ) -> Result<(), AllocError>
-    ensures { IfOk result (λ _. verdicts.new ≡ fold (blamed stack.now) verdicts.old helds.now) }
+    ensures { IfOk result (λ _. verdicts.new ≡ fold (blamed stack.now.stack) verdicts.old helds.now) }
 {
-    for held in helds.as_slice() {
+    for held in helds {
         if has_refusal(stack, &held.physical) {
             verdicts.insert(held.path.try_clone(alloc)?, true)?;
         }
@@ -220,41 +196,43 @@ fn bad_among(alloc: Global, verdicts: &ByName<bool>) -> Result<Names, AllocError
 }
 
 /// Whether a list has no resource.
-fn has_none(helds: &Helds) -> bool
+fn has_none(helds: &[Held]) -> bool
     ensures { result ≡ is_empty helds.now }
 {
-    helds.as_slice().first().is_none()
+    helds.first().is_none()
 }
 
 /// Whether a stack holds and has made nothing, and no call is open.
 #[tactic(auto, using(crate::proofs::Told::empty_joined))]
 pub fn is_cleared(stack: &StackState) -> bool
-    ensures { result ≡ is_cleared stack.now }
+    ensures { result ≡ is_cleared stack.now.stack }
 {
-    has_none(&stack.held) && has_none(&stack.made) && has_no_token(stack)
+    has_none(stack.held().as_slice())
+        && has_none(stack.made().as_slice())
+        && has_no_token(stack.tokens().as_slice())
 }
 
-/// Whether no call of a stack is open.
-fn has_no_token(stack: &StackState) -> bool
-    ensures { result ≡ is_empty stack.now.tokens }
+/// Whether a list has no call.
+fn has_no_token(tokens: &[Pending]) -> bool
+    ensures { result ≡ is_empty tokens.now }
 {
-    stack.tokens.as_slice().first().is_none()
+    tokens.first().is_none()
 }
 
 /// Of each path, whether it failed.
 fn blames_of(alloc: Global, stack: &StackState) -> Result<ByName<bool>, AllocError>
-    ensures { IfOk result (λ v. v ≡ blames_of stack.now) }
+    ensures { IfOk result (λ v. v ≡ blames_of stack.now.stack) }
 {
     let mut verdicts = verdicts_of(alloc, stack)?;
-    blame(alloc, &mut verdicts, stack, &stack.held)?;
-    blame(alloc, &mut verdicts, stack, &stack.made)?;
+    blame(alloc, &mut verdicts, stack, stack.held().as_slice())?;
+    blame(alloc, &mut verdicts, stack, stack.made().as_slice())?;
     Ok(verdicts)
 }
 
 /// The paths that failed in a stack's operation, in the order of their bytes: those whose last
 /// outcome is a doubt or a refusal, and those of a resource whose deletion was refused.
 pub fn failed_paths(alloc: Global, stack: &StackState) -> Result<Names, AllocError>
-    ensures { IfOk result (λ failed. AreFailed stack.now status.RollbackFailed failed) }
+    ensures { IfOk result (λ failed. AreFailed stack.now.stack status.RollbackFailed failed) }
 {
     let verdicts = blames_of(alloc, stack)?;
     bad_among(alloc, &verdicts)

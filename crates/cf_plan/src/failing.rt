@@ -1,13 +1,15 @@
 //! The outcome that fails the forward phase of an operation.
-ghost use Rattle.std.specs.Prelude.{◌≡◌, ◌==◌, []};
+ghost use Rattle.std.specs.Prelude.{◌≡◌, ◌==◌, [], find};
 ghost use Rattle.std.specs.Option.{option_copied};
-ghost use Rattle.cf_stacks.specs.Operation.{call_of, doubts_in};
+ghost use Rattle.cf_stacks.specs.Calls.{call_of};
+ghost use Rattle.cf_stacks.specs.Operation.{doubts_in};
+ghost use Rattle.cf_stacks.specs.Words.{has_physical};
 ghost use Rattle.cf_plan.specs.Forward.{difference_to, doubting, first_failing, first_failing_behind, first_refusing, held_before, is_excused, is_refused_call, refusing};
 
-use crate::calls::{call_at, doubts_in, forward_of, now_of, up_to_last_turn};
+use crate::calls::{call_of, doubts_in, forward_of, now_of, up_to_last_turn};
 use cf_entry::{Entry, Reason, Reply};
 use cf_schema::{Difference, Schemas, differs};
-use cf_stacks::{Held, StackState};
+use cf_stacks::{HeardEntry, Held, StackState};
 use cf_tree::{Code, Dict, Request, Txt};
 
 /// How other properties differ from those that are held, by the schema of the resource's type; where there is none, as if a
@@ -21,20 +23,23 @@ pub fn difference_to(schemas: &Schemas, held: &Held, props: &Dict) -> Difference
     }
 }
 
+/// What a list holds under a physical id.
+fn with_physical<'a>(helds: &'a [Held], physical: &Txt) -> Option<&'a Held>
+    ensures { option_copied result ≡ find (has_physical physical.now) helds.now }
+{
+    helds.iter().find(|held| *physical == held.physical)
+}
+
 /// What was held under a physical id as the operation began.
 fn held_before<'a>(stack: &'a StackState, physical: &Txt) -> Option<&'a Held>
-    ensures { option_copied result ≡ held_before physical.now stack.now }
+    ensures { option_copied result ≡ held_before physical.now stack.now.stack }
 {
-    stack
-        .before
-        .as_slice()
-        .iter()
-        .find(|held| *physical == held.physical)
+    with_physical(stack.before(), physical)
 }
 
 /// Whether a refusal is no failure, since a new resource is made in place of the one that can't be updated.
 fn is_excused(schemas: &Schemas, stack: &StackState, request: &Request, code: Code) -> bool
-    ensures { result ≡ is_excused schemas.now stack.now request.now code }
+    ensures { result ≡ is_excused schemas.now stack.now.stack request.now code }
 {
     match (request, code) {
         (Request::Update { physical, props }, Code::NotUpdatable) => {
@@ -47,19 +52,19 @@ fn is_excused(schemas: &Schemas, stack: &StackState, request: &Request, code: Co
     }
 }
 
-/// Whether a refusal of a token fails the phase. It goes over the entries.
+/// Whether a refusal of a token fails the phase. It goes over the calls.
 fn is_refused_call(schemas: &Schemas, stack: &StackState, token: u64, code: Code) -> bool
-    ensures { result ≡ is_refused_call schemas.now stack.now (call_of token stack.now) code }
+    ensures { result ≡ is_refused_call schemas.now stack.now.stack (call_of token stack.now.stack) code }
 {
-    match call_at(stack.entries.as_slice(), token) {
-        Some(call) => !is_excused(schemas, stack, call.request, code),
+    match call_of(stack, token) {
+        Some(call) => !is_excused(schemas, stack, &call.request, code),
         None => false,
     }
 }
 
 /// The token and the code, where an entry is a refusal that fails the phase.
 fn refusing(schemas: &Schemas, stack: &StackState, entry: &Entry) -> Option<(u64, Reason)>
-    ensures { result ≡ refusing schemas.now stack.now entry.now }
+    ensures { result ≡ refusing schemas.now stack.now.stack entry.now }
 {
     match entry {
         Entry::Outcome {
@@ -79,15 +84,30 @@ fn refusing(schemas: &Schemas, stack: &StackState, entry: &Entry) -> Option<(u64
     }
 }
 
+/// The token and the code, where an entry as the stack keeps it is a refusal that fails the phase.
+#[tactic(auto, using(crate::proofs::Successes::no_refusal))]
+fn refusing_heard(
+    schemas: &Schemas,
+    stack: &StackState,
+    heard: &HeardEntry,
+) -> Option<(u64, Reason)>
+    ensures { result ≡ refusing schemas.now stack.now.stack heard.now }
+{
+    match heard.as_entry() {
+        Some(entry) => refusing(schemas, stack, entry),
+        None => None,
+    }
+}
+
 /// Whether these entries answer a token by two doubts.
-fn has_two_doubts(entries: &[Entry], token: u64) -> bool
+fn has_two_doubts(entries: &[HeardEntry], token: u64) -> bool
     ensures { result ≡ (doubts_in token entries.now == 2) }
 {
     doubts_in(entries, token) == 2
 }
 
-/// The token, where an entry is its third doubt: two stand in those before it.
-fn doubting(earlier: &[Entry], entry: &Entry) -> Option<(u64, Reason)>
+/// The token, where an entry is its third doubt: two are in those before it.
+fn doubting(earlier: &[HeardEntry], entry: &Entry) -> Option<(u64, Reason)>
     ensures { result ≡ doubting earlier.now entry.now }
 {
     match entry {
@@ -115,12 +135,27 @@ fn doubting(earlier: &[Entry], entry: &Entry) -> Option<(u64, Reason)>
     }
 }
 
-/// The first refusal among these entries that fails the phase.
-fn first_refusing(schemas: &Schemas, stack: &StackState, entries: &[Entry]) -> Option<(u64, Reason)>
-    ensures { result ≡ first_refusing schemas.now stack.now entries.now }
+/// The token, where an entry as the stack keeps it is its third doubt.
+#[tactic(auto, using(crate::proofs::Successes::no_third))]
+fn doubting_heard(earlier: &[HeardEntry], heard: &HeardEntry) -> Option<(u64, Reason)>
+    ensures { result ≡ doubting earlier.now heard.now }
 {
-    for entry in entries.iter() {
-        if let Some(failing) = refusing(schemas, stack, entry) {
+    match heard.as_entry() {
+        Some(entry) => doubting(earlier, entry),
+        None => None,
+    }
+}
+
+/// The first refusal among these entries that fails the phase.
+fn first_refusing(
+    schemas: &Schemas,
+    stack: &StackState,
+    entries: &[HeardEntry],
+) -> Option<(u64, Reason)>
+    ensures { result ≡ first_refusing schemas.now stack.now.stack entries.now }
+{
+    for heard in entries.iter() {
+        if let Some(failing) = refusing_heard(schemas, stack, heard) {
             return Some(failing);
         }
     }
@@ -131,15 +166,15 @@ fn first_refusing(schemas: &Schemas, stack: &StackState, entries: &[Entry]) -> O
 fn first_failing_now(
     schemas: &Schemas,
     stack: &StackState,
-    entries: &[Entry],
+    entries: &[HeardEntry],
 ) -> Option<(u64, Reason)>
-    ensures { result ≡ first_failing_behind schemas.now stack.now [] entries.now }
+    ensures { result ≡ first_failing_behind schemas.now stack.now.stack [] entries.now }
 {
-    for (at, entry) in entries.iter().enumerate() {
-        if let Some(failing) = refusing(schemas, stack, entry) {
+    for (at, heard) in entries.iter().enumerate() {
+        if let Some(failing) = refusing_heard(schemas, stack, heard) {
             return Some(failing);
         }
-        if let Some(failing) = doubting(&entries[..at], entry) {
+        if let Some(failing) = doubting_heard(&entries[..at], heard) {
             return Some(failing);
         }
     }
@@ -150,9 +185,9 @@ fn first_failing_now(
 /// the phase, and in this opening a token's third doubt. It goes over the entries once, and once more for each refusal and
 /// each doubt.
 pub fn first_failing(schemas: &Schemas, stack: &StackState) -> Option<(u64, Reason)>
-    ensures { result ≡ first_failing schemas.now stack.now }
+    ensures { result ≡ first_failing schemas.now stack.now.stack }
 {
-    let entries = stack.entries.as_slice();
+    let entries = stack.entries().as_slice();
     let earlier = up_to_last_turn(forward_of(entries));
     match first_refusing(schemas, stack, earlier) {
         Some(failing) => Some(failing),

@@ -13,11 +13,11 @@ use crate::failing::difference_to;
 use crate::found::{Found, finding_at};
 use cf_desired::Plan;
 use cf_schema::{Difference, Schemas};
-use cf_stacks::{Held, StackState, current_at};
+use cf_stacks::{Held, Pending, StackState, current_at};
 use cf_tree::{Dict, Request, Txt};
 use std::alloc::{AllocError, Global};
 
-/// The requests that a path wants: of a journal whose entries may each follow where they stand never more than one.
+/// The requests that a path wants: never more than one in a journal each of whose entries may follow those before it.
 #[derive(Drop)]
 pub struct Wants {
     pub create: Option<Request>,
@@ -26,25 +26,21 @@ pub struct Wants {
 
 /// Whether no open token is of a path.
 pub fn is_free(stack: &StackState, path: &Txt) -> bool
-    ensures { result ≡ is_free path.now stack.now }
+    ensures { result ≡ is_free path.now stack.now.stack }
 {
-    !has_token_at(stack, path)
+    !has_token_at(stack.tokens().as_slice(), path)
 }
 
-/// Whether an open token is of a path.
-fn has_token_at(stack: &StackState, path: &Txt) -> bool
-    ensures { result ≡ list_any (λ p. bytes_eq path.now p.path) stack.now.tokens }
+/// Whether one of these open calls is at a path.
+fn has_token_at(tokens: &[Pending], path: &Txt) -> bool
+    ensures { result ≡ list_any (λ p. bytes_eq path.now p.path) tokens.now }
 {
-    stack
-        .tokens
-        .as_slice()
-        .iter()
-        .any(|pending| *path == pending.path)
+    tokens.iter().any(|pending| *path == pending.path)
 }
 
 /// Whether other properties want a new resource in place of the held one.
 fn wants_new(schemas: &Schemas, stack: &StackState, held: &Held, props: &Dict) -> bool
-    ensures { result ≡ wants_new schemas.now stack.now held.now props.now }
+    ensures { result ≡ wants_new schemas.now stack.now.stack held.now props.now }
 {
     match difference_to(schemas, held, props) {
         Difference::Replace => true,
@@ -75,7 +71,7 @@ fn create_over(
     props: &Dict,
     held: Option<&Held>,
 ) -> Result<Option<Request>, AllocError>
-    ensures { IfOk result (λ create. create ≡ create_over schemas.now stack.now kind.now props.now (option_copied held.entry)) }
+    ensures { IfOk result (λ create. create ≡ create_over schemas.now stack.now.stack kind.now props.now (option_copied held.entry)) }
 {
     if let Some(held) = held {
         if !wants_new(schemas, stack, held, props) {
@@ -97,7 +93,7 @@ fn update_over(
     props: &Dict,
     held: Option<&Held>,
 ) -> Result<Option<Request>, AllocError>
-    ensures { IfOk result (λ update. update ≡ update_over schemas.now stack.now path.now kind.now props.now (option_copied held.entry)) }
+    ensures { IfOk result (λ update. update ≡ update_over schemas.now stack.now.stack path.now kind.now props.now (option_copied held.entry)) }
 {
     match held {
         Some(held) => {
@@ -124,11 +120,11 @@ pub fn wants_by(
     now: &Plan,
     path: &Txt,
 ) -> Result<Wants, AllocError>
-    ensures { IfOk result (λ wants. wants ≡ wants_by schemas.now stack.now path.now (finding_by path.now now.now)) }
+    ensures { IfOk result (λ wants. wants ≡ wants_by schemas.now stack.now.stack path.now (finding_by path.now now.now)) }
 {
     match finding_at(alloc, now, path)? {
         Found::Known { kind, props } => {
-            let held = current_at(&stack.held, path);
+            let held = current_at(stack.held().as_slice(), path);
             let create = create_over(alloc, schemas, stack, kind, &props, held)?;
             let update = update_over(alloc, schemas, stack, path, kind, &props, held)?;
             Ok(Wants { create, update })
@@ -159,8 +155,8 @@ pub fn wants_at(
     now: &Plan,
     path: &Txt,
 ) -> Result<Wants, AllocError>
-    requires now { now.now ≡ plan_now stack.now }
-    ensures { IfOk result (λ wants. AreIntended schemas.now stack.now path.now wants) }
+    requires now { now.now ≡ plan_now stack.now.stack }
+    ensures { IfOk result (λ wants. AreIntended schemas.now stack.now.stack path.now wants) }
 {
     wants_by(alloc, schemas, stack, now, path)
 }

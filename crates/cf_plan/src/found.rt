@@ -1,13 +1,16 @@
 //! What the properties of a path come to.
-ghost use Rattle.std.specs.Prelude.{◌≡◌, ◌↔◌, IfOk, IsTrue};
+ghost use Rattle.std.specs.Prelude.{◌≡◌, ◌↔◌, ◌&&◌, IfOk, IsTrue};
 ghost use Rattle.std.specs.Option.{option_copied};
+ghost use Rattle.std.specs.Str.{bytes_eq};
+ghost use Rattle.cf_tree.specs.Datum.{members_of};
+ghost use Rattle.cf_tree.specs.Same.{same_members};
 ghost use Rattle.cf_desired.specs.Whole.{wanted_at};
 ghost use Rattle.cf_stacks.specs.Words.{current_at};
-ghost use Rattle.cf_plan.specs.Forward.{finding};
-ghost use Rattle.cf_plan.specs.Done.{HasProps, IsHeldRight, finding_by, finding_of};
+ghost use Rattle.cf_plan.specs.Forward.{Known, finding};
+ghost use Rattle.cf_plan.specs.Done.{IsHeldRight, finding_by, finding_of};
 
 use cf_desired::{Evaluated, Flaw, Plan, Wanted};
-use cf_stacks::{Helds, current_at};
+use cf_stacks::{Held, current_at};
 use cf_tree::{Dict, Txt};
 use std::alloc::{AllocError, Global};
 
@@ -58,26 +61,39 @@ pub fn finding_at<'a>(alloc: Global, plan: &'a Plan, path: &Txt) -> Result<Found
     }
 }
 
-/// Whether a plan gives a path these properties.
-#[tactic(auto, using(crate::proofs::Findings::known_has))]
-fn has_props(alloc: Global, plan: &Plan, path: &Txt, props: &Dict) -> Result<bool, AllocError>
-    ensures { IfOk result (λ same. IsTrue same ↔ HasProps path.now plan.now props.now) }
+/// Whether a type and properties are the same as others.
+fn are_same(found: &Txt, wanted: &Dict, kind: &Txt, props: &Dict) -> bool
+    ensures { result ≡ (bytes_eq found.now kind.now && same_members (members_of wanted.now) (members_of props.now)) }
 {
-    match finding_at(alloc, plan, path)? {
+    *found == *kind && *wanted == *props
+}
+
+/// Whether a plan gives a path this type and these properties.
+fn has_props(
+    alloc: Global,
+    plan: &Plan,
+    path: &Txt,
+    kind: &Txt,
+    props: &Dict,
+) -> Result<bool, AllocError>
+    ensures { IfOk result (λ same. IsTrue same ↔ (finding_by path.now plan.now ≡ Known kind.now props.now)) }
+{
+    let finding = finding_at(alloc, plan, path)?;
+    match finding {
         Found::Known {
-            kind: _,
+            kind: found,
             props: wanted,
-        } => Ok(wanted == *props),
+        } => Ok(are_same(found, &wanted, kind, props)),
         Found::Bad { flaw: _ } => Ok(false),
         Found::Later => Ok(false),
     }
 }
 
-/// Whether what is held at a path is sure and has the properties that a plan gives the path.
+/// Whether what is held at a path is sure and has the type and properties that a plan gives the path.
 pub fn is_held_right(
     alloc: Global,
     plan: &Plan,
-    helds: &Helds,
+    helds: &[Held],
     path: &Txt,
 ) -> Result<bool, AllocError>
     ensures { IfOk result (λ right. IsTrue right ↔ IsHeldRight path.now plan.now helds.now) }
@@ -87,7 +103,7 @@ pub fn is_held_right(
             if held.unsure {
                 Ok(false)
             } else {
-                has_props(alloc, plan, path, &held.props)
+                has_props(alloc, plan, path, &held.kind, &held.props)
             }
         }
         None => Ok(false),

@@ -1,62 +1,44 @@
 //! Which lanes are out, and which lane fits a request.
-ghost use Rattle.std.specs.Prelude.{◌≡◌, ◌&&◌, ◌↔◌, false, not, IsTrue, option_map};
+ghost use Rattle.std.specs.Prelude.{◌≡◌, ◌&&◌, ◌↔◌, false, not, find, IsTrue, option_copied, option_map};
 ghost use Rattle.std.specs.List.{list_any};
-ghost use Rattle.std.specs.Option.{option_map_or};
 ghost use Rattle.std.specs.Str.{bytes_eq};
 ghost use Rattle.cf_handler.specs.Move.{IsOfLane};
-ghost use Rattle.cf_stacks.specs.Operation.{call_in};
-ghost use Rattle.cf_plan.specs.Follow.{is_out, calls_out, is_lane_out};
+ghost use Rattle.cf_plan.specs.Follow.{is_in_flight, calls_in_flight, is_lane_leased};
 ghost use Rattle.cf_plan.specs.Chosen.{first_home};
 ghost use Rattle.cf_plan.specs.Taking.{is_of_lane};
 
-use crate::repeats::is_out;
-use cf_entry::Entry;
-use cf_stacks::{StackState, World};
+use crate::repeats::is_in_flight;
+use cf_stacks::{Call, StackState, World};
 use cf_tree::Txt;
 
-/// Whether an entry is the intent, on a lane, of a token that is out.
-fn is_call_on(out: &[u64], lane: &Txt, entry: &Entry) -> bool
-    ensures { result ≡ option_map_or (λ c. is_out out.now c.token && bytes_eq lane.now c.lane) (call_in entry.now) false }
+/// Whether one of these calls is out on a lane.
+fn has_call_on(out: &[u64], lane: &Txt, calls: &[Call]) -> bool
+    ensures { result ≡ list_any (λ c. is_in_flight out.now c.token && bytes_eq lane.now c.lane) calls.now }
 {
-    match entry {
-        Entry::Intent {
-            number: _,
-            token,
-            lane: called,
-            path: _,
-            request: _,
-        } => is_out(out, *token) && *lane == *called,
-        _ => false,
-    }
-}
-
-/// Whether one of the entries of a stack is the intent, on a lane, of a token that is out.
-fn has_call_on(out: &[u64], lane: &Txt, stack: &StackState) -> bool
-    ensures { result ≡ list_any (λ e. option_map_or (λ c. is_out out.now c.token && bytes_eq lane.now c.lane) (call_in e) false) stack.now.entries }
-{
-    stack
-        .entries
-        .as_slice()
+    calls
         .iter()
-        .any(|entry| is_call_on(out, lane, entry))
+        .any(|call| is_in_flight(out, call.token) && *lane == call.lane)
 }
 
 /// Whether a call of a stack is out on a lane.
 fn is_out_on(out: &[u64], lane: &Txt, stack: &StackState) -> bool
-    ensures { result ≡ list_any (λ c. bytes_eq lane.now c.lane) (calls_out out.now stack.now) }
+    ensures { result ≡ list_any (λ c. bytes_eq lane.now c.lane) (calls_in_flight out.now stack.now.stack) }
 {
-    has_call_on(out, lane, stack)
+    has_call_on(out, lane, stack.ledger().as_slice())
+}
+
+/// Whether a call is out on a lane, of one of these stacks.
+fn is_out_on_one(out: &[u64], lane: &Txt, stacks: &[(Txt, StackState)]) -> bool
+    ensures { result ≡ list_any (λ s. list_any (λ c. bytes_eq lane.now c.lane) (calls_in_flight out.now s.1.stack)) stacks.now }
+{
+    stacks.iter().any(|stack| is_out_on(out, lane, &stack.1))
 }
 
 /// Whether a call is out on a lane, of whichever stack.
-pub fn is_lane_out(out: &[u64], world: &World, lane: &Txt) -> bool
-    ensures { result ≡ is_lane_out out.now world.now lane.now }
+pub fn is_lane_leased(out: &[u64], world: &World, lane: &Txt) -> bool
+    ensures { result ≡ is_lane_leased out.now world.now.world lane.now }
 {
-    world
-        .stacks
-        .as_slice()
-        .iter()
-        .any(|stack| is_out_on(out, lane, &stack.1))
+    is_out_on_one(out, lane, world.stacks().as_slice())
 }
 
 /// Whether a physical id begins with the name of a lane and a colon.
@@ -93,18 +75,29 @@ pub fn is_of_lane(lane: &Txt, physical: &Txt) -> bool
 
 /// Whether a lane of a type is at home.
 fn is_home_for(out: &[u64], world: &World, kind: &Txt, lane: &(Txt, Txt)) -> bool
-    ensures { result ≡ (bytes_eq kind.now lane.now.1 && not (is_lane_out out.now world.now lane.now.0)) }
+    ensures { result ≡ (bytes_eq kind.now lane.now.1 && not (is_lane_leased out.now world.now.world lane.now.0)) }
 {
-    *kind == lane.1 && !is_lane_out(out, world, &lane.0)
+    *kind == lane.1 && !is_lane_leased(out, world, &lane.0)
+}
+
+/// The first of these lanes that is at home and of a type.
+fn first_home_of<'a>(
+    out: &[u64],
+    world: &World,
+    kind: &Txt,
+    lanes: &'a [(Txt, Txt)],
+) -> Option<&'a (Txt, Txt)>
+    ensures { option_copied result ≡ find (λ l. bytes_eq kind.now l.1 && not (is_lane_leased out.now world.now.world l.0)) lanes.now }
+{
+    lanes
+        .iter()
+        .find(|lane| is_home_for(out, world, kind, lane))
 }
 
 /// The first lane at home of a type, which takes a create, with its type.
+#[tactic(auto, using(crate::proofs::AtHome::lane_named))]
 pub fn first_home<'a>(out: &[u64], world: &'a World, kind: &Txt) -> Option<&'a (Txt, Txt)>
-    ensures { option_map (λ l. l.now.0) result ≡ first_home kind.now out.now world.now }
+    ensures { option_map (λ l. l.now.0) result ≡ first_home kind.now out.now world.now.world }
 {
-    world
-        .lanes
-        .as_slice()
-        .iter()
-        .find(|lane| is_home_for(out, world, kind, lane))
+    first_home_of(out, world, kind, world.lanes().as_slice())
 }

@@ -1,12 +1,18 @@
 //! Laws about what a creation makes and keeps. None of these functions does anything when it runs.
-ghost use Rattle.cf_plan.specs.Created.{BeginsRight, CreateEndsWhole, CreateGoesOn, CreatedIsWhole, IntentStaysRight, OpeningStaysRight, OutcomeStaysRight};
+ghost use Rattle.cf_plan.specs.Created.{BeginsRight, CreateEndsWhole, CreateGoesOn, CreatedIsWhole, FlawlessHasOneShape, IntentStaysRight, OpeningStaysRight, OutcomeStaysRight};
 ghost use Rattle.cf_plan.specs.Run.{CreationKeepsPromise};
 ghost use Rattle.cf_plan.specs.RunBegins.{CreationBegins};
 ghost use Rattle.cf_plan.specs.Cleared.{CreationFindsNothing};
 ghost use Rattle.cf_plan.specs.Going.{AnswerFollows, CreationEnds, CreationGoesOn, CreationIsProper, CreationStarts, IntentOpens};
 
-/// A create of a flat source begins right, where nothing is held and no call is open: what is made
-/// and what is open is what its template says.
+/// A source whose plan has no flaw before anything is made has one order of work, with the same kinds,
+/// policies and needs, whatever is seen.
+pub fn flawless_has_one_shape()
+    ensures { FlawlessHasOneShape }
+{}
+
+/// A create begins right, where nothing is held and no call is open: what is made and what is open is
+/// what its template says.
 pub fn begins_right()
     ensures { BeginsRight }
 {}
@@ -31,8 +37,9 @@ pub fn outcome_stays_right()
     ensures { OutcomeStaysRight }
 {}
 
-/// A create whose template has no flaw but those of evaluations is never stuck: while it has not failed,
-/// all its paths are done, or one of them is ready, not done, and has properties that are known.
+/// A create whose template has no flaw but those of evaluations before anything is made is never stuck:
+/// while it has not failed, all its paths are done, or one of them is ready, not done, and has properties
+/// that are known.
 pub fn create_goes_on()
     ensures { CreateGoesOn }
 {}
@@ -56,15 +63,13 @@ pub fn creation_begins()
 {}
 
 /// In a journal, whose entries could each follow those before it, a stack from which a creation may
-/// begin holds nothing, has made nothing and has no open call, and no stack has an operation with a
-/// later number than the last one that began.
+/// begin holds nothing, has made nothing and has no open call, and each operation is of one stack.
 pub fn creation_finds_nothing()
     ensures { CreationFindsNothing }
 {}
 
 /// A run of a creation keeps what each status promises, whatever its calls come to: on one thread, in
-/// one opening, from a template without nested stacks, over lanes that all tell their state and on
-/// which no token to come is settled.
+/// one opening, over lanes that all tell their state and on which no token to come is settled.
 ///
 /// Where the stack is CREATE_COMPLETE, its template evaluated over what is live in the lanes is
 /// whole, and each of its resources is live with exactly its kind and properties; where it is
@@ -76,7 +81,7 @@ pub fn creation_keeps_promise()
     ensures { CreationKeepsPromise }
 {}
 
-/// A creation begins where no operation of its number is in progress.
+/// A creation begins under a number above that of the last operation.
 pub fn creation_starts()
     ensures { CreationStarts }
 {}

@@ -1,5 +1,5 @@
 //! The lanes that a step may take, and what the next step of an operation is.
-ghost use Rattle.std.specs.Prelude.{◌≡◌, ◌++◌, ℕ, List, [], true, false, not, IfOk, IsTrue, Some, option_copied};
+ghost use Rattle.std.specs.Prelude.{◌≡◌, ◌++◌, ℕ, List, [], true, false, not, IfOk, IsTrue, Some, option_copied, option_map};
 ghost use Rattle.std.specs.List.{cons_option};
 ghost use Rattle.cf_tree.specs.declared.request.Request.TheVariants as request;
 ghost use Rattle.cf_tree.specs.Lists.{is_among};
@@ -8,18 +8,19 @@ ghost use Rattle.cf_entry.specs.declared.status.Status.TheVariants as status;
 ghost use Rattle.cf_entry.specs.declared.turn.Why.TheVariants as why;
 ghost use Rattle.cf_stacks.specs.declared.held.Held.{Held};
 ghost use Rattle.cf_stacks.specs.Status.{Back};
-ghost use Rattle.cf_stacks.specs.Words.{stack_of_operation};
+ghost use Rattle.cf_stacks.specs.Standing.{stack_in};
+ghost use Rattle.cf_stacks.specs.World.{stack_of_operation};
 ghost use Rattle.cf_plan.specs.declared.next.Next.TheVariants as next;
 ghost use Rattle.cf_plan.specs.Follow.{is_not_needed, waits_for_repeats};
 ghost use Rattle.cf_plan.specs.Chosen.{IsChosen, leases_of};
-ghost use Rattle.cf_plan.specs.Taking.{AreTerms, TakesBack, EndsBack, can_go, is_ended};
+ghost use Rattle.cf_plan.specs.Taking.{AreTerms, RollsBack, EndsBack, can_roll_back, is_ended};
 
-use crate::back::{first_repeat, first_to_go, home_of, is_kept, needed};
+use crate::back::{first_repeat, first_to_roll_back, home_of, is_kept, needed};
 use crate::end::{failed_paths, is_cleared};
-use crate::repeats::{none_out, waits_for_repeats};
+use crate::repeats::{none_in_flight, waits_for_repeats};
 use cf_entry::{Cause, Phase, Status, Why};
 use cf_schema::Schema;
-use cf_stacks::{Held, Pending, StackState, Terms, World, going_stack};
+use cf_stacks::{Held, Pending, StackState, Terms, World};
 use cf_tree::{ByName, Listing, Names, Request, TryClone, Txt};
 use std::alloc::{AllocError, Global};
 
@@ -132,16 +133,16 @@ fn deleted(alloc: Global, held: &Held, lane: &Txt, token: u64) -> Result<Next, A
 
 /// The first made resource that may go goes: it is kept, or deleted on its lane. Where no token is
 /// left, this is an error too.
-fn take_back(alloc: Global, out: &[u64], world: &World, held: &Held) -> Result<Next, AllocError>
-    requires { IsTrue (can_go out.now world.now held.now) }
-    ensures { IfOk result (λ n. TakesBack out.now world.now held.now n) }
+fn roll_back(alloc: Global, out: &[u64], world: &World, held: &Held) -> Result<Next, AllocError>
+    requires { IsTrue (can_roll_back out.now world.now.world held.now) }
+    ensures { IfOk result (λ n. RollsBack out.now world.now.world held.now n) }
 {
     if is_kept(held) {
         return kept(alloc, held);
     }
     match (
         home_of(out, world, &held.physical),
-        world.token.checked_add(1),
+        world.token().checked_add(1),
     ) {
         (Some(lane), Some(token)) => deleted(alloc, held, &lane.0, token),
         // It can go, so a lane at home is its own.
@@ -153,17 +154,17 @@ fn take_back(alloc: Global, out: &[u64], world: &World, held: &Held) -> Result<N
 /// Whether a rollback is at its end: no call is out, and even if none of another stack were out,
 /// none would be repeated and nothing would go.
 pub(crate) fn is_ended(out: &[u64], world: &World, stack: &StackState, needed: &Names) -> bool
-    requires { (r : Held) → is_not_needed stack.now r ≡ not (is_among r.physical needed.now) }
-    ensures { result ≡ is_ended out.now world.now stack.now }
+    requires { (r : Held) → is_not_needed stack.now.stack r ≡ not (is_among r.physical needed.now) }
+    ensures { result ≡ is_ended out.now world.now.world stack.now.stack }
 {
-    none_out(out, stack)
+    none_in_flight(out, stack)
         && !waits_for_repeats(&[], stack)
-        && first_to_go(&[], world, stack, needed).is_none()
+        && first_to_roll_back(&[], world, stack, needed).is_none()
 }
 
-/// The end of a rollback, with the paths that failed where not all was taken back.
+/// The end of a rollback, with the paths that failed where not all was rolled back.
 pub(crate) fn end_back(alloc: Global, stack: &StackState) -> Result<Next, AllocError>
-    ensures { IfOk result (λ n. EndsBack stack.now n) }
+    ensures { IfOk result (λ n. EndsBack stack.now.stack n) }
 {
     if is_cleared(stack) {
         return Ok(Next::End {
@@ -185,9 +186,9 @@ fn next_repeat(
     stack: &StackState,
     out: &[u64],
 ) -> Result<Next, AllocError>
-    requires rolling { stack.now.status ≡ status.RollbackInProgress }
-    requires waits { waits_for_repeats Back out.now stack.now ≡ true }
-    ensures { IfOk result (λ n. (schemas : List Schema) (name : List ℕ) → IsChosen schemas name world.now out.now stack.now Back n) }
+    requires rolling { stack.now.stack.status ≡ status.RollbackInProgress }
+    requires waits { waits_for_repeats Back out.now stack.now.stack ≡ true }
+    ensures { IfOk result (λ n. (schemas : List Schema) (name : List ℕ) → IsChosen schemas name world.now.world out.now stack.now.stack Back n) }
 {
     match first_repeat(out, world, stack) {
         Some(pending) => again(alloc, pending),
@@ -196,20 +197,20 @@ fn next_repeat(
 }
 
 /// The next step of a rollback that waits for no repeat.
-fn next_to_go(
+fn next_to_roll_back(
     alloc: Global,
     world: &World,
     stack: &StackState,
     out: &[u64],
     needed: &Names,
 ) -> Result<Next, AllocError>
-    requires rolling { stack.now.status ≡ status.RollbackInProgress }
-    requires waits { waits_for_repeats Back out.now stack.now ≡ false }
-    requires needed { (r : Held) → is_not_needed stack.now r ≡ not (is_among r.physical needed.now) }
-    ensures { IfOk result (λ n. (schemas : List Schema) (name : List ℕ) → IsChosen schemas name world.now out.now stack.now Back n) }
+    requires rolling { stack.now.stack.status ≡ status.RollbackInProgress }
+    requires waits { waits_for_repeats Back out.now stack.now.stack ≡ false }
+    requires needed { (r : Held) → is_not_needed stack.now.stack r ≡ not (is_among r.physical needed.now) }
+    ensures { IfOk result (λ n. (schemas : List Schema) (name : List ℕ) → IsChosen schemas name world.now.world out.now stack.now.stack Back n) }
 {
-    match first_to_go(out, world, stack, needed) {
-        Some(held) => take_back(alloc, out, world, held),
+    match first_to_roll_back(out, world, stack, needed) {
+        Some(held) => roll_back(alloc, out, world, held),
         None => {
             if is_ended(out, world, stack, needed) {
                 end_back(alloc, stack)
@@ -232,15 +233,15 @@ pub fn next_back(
     out: &[u64],
     terms: &ByName<Terms>,
 ) -> Result<Next, AllocError>
-    requires rolling { stack.now.status ≡ status.RollbackInProgress }
-    requires terms { AreTerms terms.now stack.now }
-    ensures { IfOk result (λ n. (schemas : List Schema) (name : List ℕ) → IsChosen schemas name world.now out.now stack.now Back n) }
+    requires rolling { stack.now.stack.status ≡ status.RollbackInProgress }
+    requires terms { AreTerms terms.now stack.now.stack }
+    ensures { IfOk result (λ n. (schemas : List Schema) (name : List ℕ) → IsChosen schemas name world.now.world out.now stack.now.stack Back n) }
 {
     if waits_for_repeats(out, stack) {
         return next_repeat(alloc, world, stack, out);
     }
     let needed = needed(alloc, stack, terms)?;
-    next_to_go(alloc, world, stack, out, &needed)
+    next_to_roll_back(alloc, world, stack, out, &needed)
 }
 
 /// Adds a token, where there is one.
@@ -269,7 +270,7 @@ pub fn leases_of(alloc: Global, homes: &Homes) -> Result<Vec<u64>, AllocError>
 
 /// The stack, with its name, on which the operation of a number is in progress.
 pub fn stack_of_operation(world: &World, number: u64) -> Option<&(Txt, StackState)>
-    ensures { option_copied result ≡ stack_of_operation number world.now }
+    ensures { option_map stack_in (option_copied result) ≡ stack_of_operation number world.now.world }
 {
-    going_stack(&world.stacks, number)
+    world.stack_of_operation(number)
 }

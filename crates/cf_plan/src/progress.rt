@@ -1,11 +1,11 @@
 //! How far a create has come: whether it has failed, and what may begin where it has not.
 ghost use Rattle.std.specs.Prelude.{◌≡◌, IfOk};
-ghost use Rattle.cf_plan.specs.Forward.{plan_before, plan_now};
-ghost use Rattle.cf_plan.specs.Progress.{TellsProgress};
+ghost use Rattle.cf_plan.specs.Forward.{plan_now};
+ghost use Rattle.cf_plan.specs.Progress.{IsProgressOf};
 
-use crate::cause::{Failure, failure_of};
-use crate::done::done_paths;
-use crate::stepping::{Starts, is_all_done, open_starts, plan_before, plan_now};
+use crate::cause::{Failure, failure_by};
+use crate::done::done_by;
+use crate::stepping::{Starts, is_all_done, open_starts, plan_now};
 use cf_desired::Plan;
 use cf_entry::Cause;
 use cf_schema::Schemas;
@@ -24,28 +24,26 @@ pub(crate) enum Progress {
     Untold,
 }
 
-/// How far a create has come, by what its source wants over what was held before, and over the
-/// resources of now.
+/// How far a create has come, by what its source wants over the resources of now: its paths and
+/// needs are those that it had over what was held before, so that no other plan is worked out.
 fn progress_by(
     alloc: Global,
     schemas: &Schemas,
     name: &Txt,
     world: &World,
     stack: &StackState,
-    before: &Plan,
     now: &Plan,
 ) -> Result<Progress, AllocError>
-    requires before { before.now ≡ plan_before stack.now }
-    requires now { now.now ≡ plan_now stack.now }
-    ensures { IfOk result (λ p. TellsProgress schemas.now name.now world.now stack.now p) }
+    requires now { now.now ≡ plan_now stack.now.stack }
+    ensures { IfOk result (λ p. IsProgressOf schemas.now name.now world.now.world stack.now.stack p) }
 {
-    let done = done_paths(alloc, stack, before, now)?;
-    match failure_of(alloc, schemas, name, world, stack, before, now, &done)? {
+    let done = done_by(alloc, stack, now, now)?;
+    match failure_by(alloc, schemas, name, world, stack, now, now, &done)? {
         Failure::Because { cause } => Ok(Progress::Failed { cause }),
         Failure::Untold => Ok(Progress::Untold),
         Failure::Nothing => {
-            let starts = open_starts(alloc, schemas, stack, before, now, &done)?;
-            let is_done = is_all_done(stack, before, &done);
+            let starts = open_starts(alloc, schemas, stack, now, now, &done)?;
+            let is_done = is_all_done(stack, now, &done);
             Ok(Progress::Going { starts, is_done })
         }
     }
@@ -59,12 +57,10 @@ pub(crate) fn progress_of(
     world: &World,
     stack: &StackState,
 ) -> Result<Progress, AllocError>
-    ensures { IfOk result (λ p. TellsProgress schemas.now name.now world.now stack.now p) }
+    ensures { IfOk result (λ p. IsProgressOf schemas.now name.now world.now.world stack.now.stack p) }
 {
-    let before = plan_before(alloc, stack)?;
     let now = plan_now(alloc, stack)?;
-    let progress = progress_by(alloc, schemas, name, world, stack, &before, &now);
-    drop(before);
+    let progress = progress_by(alloc, schemas, name, world, stack, &now);
     drop(now);
     progress
 }

@@ -1,7 +1,7 @@
 //! Where the forward phase of an operation may begin, and with which requests.
 ghost use Rattle.std.specs.Prelude.{◌≡◌, [], IfOk, fold};
 ghost use Rattle.cf_plan.specs.Forward.{plan_before, plan_now};
-ghost use Rattle.cf_plan.specs.Done.{AreDone};
+ghost use Rattle.cf_plan.specs.Done.{AreDone, HasTerms};
 ghost use Rattle.cf_plan.specs.Starts.{AreStarts, may_start, starts_by, with_start};
 
 use crate::done::are_met;
@@ -14,7 +14,7 @@ use std::alloc::{AllocError, Global};
 
 /// Whether a path is not done, all that it needs is done, and no token of it is open.
 fn may_start(stack: &StackState, before: &Plan, done: &Names, path: &Txt) -> bool
-    ensures { result ≡ may_start stack.now before.now done.now path.now }
+    ensures { result ≡ may_start stack.now.stack before.now done.now path.now }
 {
     !done.contains(path) && are_met(before, done, path) && is_free(stack, path)
 }
@@ -30,7 +30,7 @@ fn add_start(
     starts: &mut ByName<Wants>,
     path: &Txt,
 ) -> Result<(), AllocError>
-    ensures { IfOk result (λ _. starts.new ≡ with_start schemas.now stack.now before.now now.now done.now starts.old path.now) }
+    ensures { IfOk result (λ _. starts.new ≡ with_start schemas.now stack.now.stack before.now now.now done.now starts.old path.now) }
 {
     if may_start(stack, before, done, path) {
         let wants = wants_by(alloc, schemas, stack, now, path)?;
@@ -41,7 +41,7 @@ fn add_start(
     }
 }
 
-/// The same of all wanted paths.
+/// What each wanted path may begin with, where it may.
 fn starts_by(
     alloc: Global,
     schemas: &Schemas,
@@ -50,7 +50,7 @@ fn starts_by(
     now: &Plan,
     done: &Names,
 ) -> Result<ByName<Wants>, AllocError>
-    ensures { IfOk result (λ starts. starts ≡ starts_by schemas.now stack.now before.now now.now done.now) }
+    ensures { IfOk result (λ starts. starts ≡ starts_by schemas.now stack.now.stack before.now now.now done.now) }
 {
     let mut starts = ByName::new(alloc);
     for wanted in before.wanted.as_slice() {
@@ -68,6 +68,24 @@ fn starts_by(
     Ok(starts)
 }
 
+/// What the forward phase may begin with, by any plan with the paths and the needs of the operation's source, by what that says over
+/// the resources of now, and by the paths that are done.
+pub(crate) fn starts_over(
+    alloc: Global,
+    schemas: &Schemas,
+    stack: &StackState,
+    terms: &Plan,
+    now: &Plan,
+    done: &Names,
+) -> Result<ByName<Wants>, AllocError>
+    requires terms { HasTerms stack.now.stack terms.now }
+    requires now { now.now ≡ plan_now stack.now.stack }
+    requires done { AreDone stack.now.stack done.now }
+    ensures { IfOk result (λ starts. AreStarts schemas.now stack.now.stack starts) }
+{
+    starts_by(alloc, schemas, stack, terms, now, done)
+}
+
 /// What the forward phase may begin with, by path in byte order: the requests of each path that is ready and not done, and of
 /// which no token is open. That the phase has not failed is for the caller to see.
 ///
@@ -77,6 +95,7 @@ fn starts_by(
 /// # Errors
 ///
 /// Only for want of memory.
+#[tactic(auto, using(crate::proofs::PlanTerms::over_before))]
 pub fn starts_of(
     alloc: Global,
     schemas: &Schemas,
@@ -85,10 +104,10 @@ pub fn starts_of(
     now: &Plan,
     done: &Names,
 ) -> Result<ByName<Wants>, AllocError>
-    requires before { before.now ≡ plan_before stack.now }
-    requires now { now.now ≡ plan_now stack.now }
-    requires done { AreDone stack.now done.now }
-    ensures { IfOk result (λ starts. AreStarts schemas.now stack.now starts) }
+    requires before { before.now ≡ plan_before stack.now.stack }
+    requires now { now.now ≡ plan_now stack.now.stack }
+    requires done { AreDone stack.now.stack done.now }
+    ensures { IfOk result (λ starts. AreStarts schemas.now stack.now.stack starts) }
 {
-    starts_by(alloc, schemas, stack, before, now, done)
+    starts_over(alloc, schemas, stack, before, now, done)
 }

@@ -1,5 +1,5 @@
 //! The next step of a creation, or of its rollback.
-ghost use Rattle.std.specs.Prelude.{◌≡◌, ◌↔◌, ◌++◌, ℕ, List, [], false, IfOk, IsTrue, Some, None, option_map};
+ghost use Rattle.std.specs.Prelude.{◌≡◌, ◌↔◌, ◌++◌, ℕ, List, [], false, fold, IfOk, IsTrue, Some, None, option_map};
 ghost use Rattle.std.specs.Option.{option_copied};
 ghost use Rattle.cf_tree.specs.Keys.{ascends};
 ghost use Rattle.cf_entry.specs.declared.entry.Entry.{Entry};
@@ -7,16 +7,17 @@ ghost use Rattle.cf_entry.specs.declared.status.Status.TheVariants as status;
 ghost use Rattle.cf_entry.specs.declared.turn.Cause.{Cause};
 ghost use Rattle.cf_desired.specs.Plan.{no_plan};
 ghost use Rattle.cf_schema.specs.declared.described.Schema.{Schema};
+ghost use Rattle.cf_stacks.specs.Begin.{seen_in};
 ghost use Rattle.cf_stacks.specs.Status.{Forward, Back};
-ghost use Rattle.cf_stacks.specs.Fold.{terms_at};
-ghost use Rattle.cf_stacks.specs.declared.state.StackState.{StackState};
+ghost use Rattle.cf_stacks.specs.declared.held.Held.{Held as Resource};
+ghost use Rattle.cf_stacks.specs.declared.held.Pending.{Pending as Open};
 ghost use Rattle.cf_plan.specs.declared.next.Next.TheVariants as next;
 ghost use Rattle.cf_plan.specs.Forward.{plan_before, plan_in, plan_now, AllDone, HasFailed, IsCause};
-ghost use Rattle.cf_plan.specs.Done.{AreDone};
+ghost use Rattle.cf_plan.specs.Done.{AreDone, HasTerms};
 ghost use Rattle.cf_plan.specs.Chosen.{IsChosen, IsNext, entry_of, leases_of};
 ghost use Rattle.cf_plan.specs.Follow.{MayFollow};
-ghost use Rattle.cf_plan.specs.Taking.{AreTerms, better, better_if, first_by, is_token_before, is_repeat_home};
-ghost use Rattle.cf_plan.specs.Stepping.{IsShapeFor, schemas_of, Creates, IsCreation, IsChosenOn, start_of, starts_at, starts_in, with_terms, terms_asked, AreOpen, lane_for, is_start_home, place_in_path, is_start_before, is_over, Begins, Waits};
+ghost use Rattle.cf_plan.specs.Taking.{AreTerms, min_of, min_of_passing, min_by, is_token_before, is_repeat_home};
+ghost use Rattle.cf_plan.specs.Stepping.{schemas_of, Creates, IsCreation, IsChosenOn, start_of, starts_at, starts_in, with_terms, terms_asked, AreOpen, lane_for, is_start_home, physical_id_of, is_start_before, is_over, Begins, Waits};
 
 use crate::back::{first_repeat, home_of};
 use crate::cause::are_all_done;
@@ -24,12 +25,12 @@ use crate::forward::Wants;
 use crate::lanes::first_home;
 use crate::next::{Homes, Next, again, leases_of, next_back, stack_of_operation, step};
 use crate::progress::{Progress, progress_of};
-use crate::repeats::{none_out, waits_for_repeats};
-use crate::starts::starts_of;
-use cf_desired::{Plan, Seen, Shape};
+use crate::repeats::{none_in_flight, waits_for_repeats};
+use crate::starts::starts_over;
+use cf_desired::{Plan, Seen, plan_by};
 use cf_entry::{Cause, Phase, Status};
 use cf_schema::Schemas;
-use cf_stacks::{StackState, Terms, World, seen_in, seen_now, terms_by};
+use cf_stacks::{Held, Pending, StackState, Terms, World, seen_in};
 use cf_tree::{ByName, Listing, Names, Request, TryClone, Txt};
 use std::alloc::{AllocError, Global};
 
@@ -70,88 +71,92 @@ fn no_plan(alloc: Global) -> Plan
     }
 }
 
-/// What the source of a stack's operation wants over what is seen.
-fn plan_in(alloc: Global, stack: &StackState, seen: &Seen) -> Result<Plan, AllocError>
-    ensures { IfOk result (λ plan. plan ≡ plan_in stack.now.going seen.now) }
+/// What the source of a stack's operation wants over what is seen, by the shape that it has over what was held before.
+fn plan_over(alloc: Global, stack: &StackState, seen: &Seen) -> Result<Plan, AllocError>
+    ensures { IfOk result (λ plan. plan ≡ plan_in stack.now.stack.going (seen_in stack.now.stack.before) seen.now) }
 {
-    match &stack.going {
-        Some(going) => going.plan(alloc, seen),
+    match stack.outset() {
+        Some(outset) => {
+            let before = seen_in(alloc, stack.before())?;
+            let shape = outset.shape(alloc, &before)?;
+            plan_by(alloc, outset.source(), &shape, seen)
+        }
         None => Ok(no_plan(alloc)),
     }
 }
 
 /// What the source of a stack's operation wants over what was held before.
 pub fn plan_before(alloc: Global, stack: &StackState) -> Result<Plan, AllocError>
-    ensures { IfOk result (λ plan. plan ≡ plan_before stack.now) }
+    ensures { IfOk result (λ plan. plan ≡ plan_before stack.now.stack) }
 {
-    let seen = seen_in(alloc, &stack.before)?;
-    plan_in(alloc, stack, &seen)
+    let seen = seen_in(alloc, stack.before())?;
+    plan_over(alloc, stack, &seen)
 }
 
 /// What it wants over the resources of now.
 pub fn plan_now(alloc: Global, stack: &StackState) -> Result<Plan, AllocError>
-    ensures { IfOk result (λ plan. plan ≡ plan_now stack.now) }
+    ensures { IfOk result (λ plan. plan ≡ plan_now stack.now.stack) }
 {
-    let seen = seen_now(alloc, stack)?;
-    plan_in(alloc, stack, &seen)
-}
-
-/// The shape of the source of a stack's operation, where it has one.
-fn shape_in<'a>(
-    alloc: Global,
-    stack: &'a StackState,
-    seen: &'a Seen,
-) -> Result<Option<Shape<'a>>, AllocError>
-    ensures { IfOk result (λ shape. IsShapeFor shape stack.now.going) }
-{
-    match &stack.going {
-        Some(going) => Ok(Some(going.shape(alloc, seen)?)),
-        None => Ok(None),
-    }
-}
-
-/// The policies and needs that the source of an operation gives a path, by its shape.
-fn terms_in(alloc: Global, shape: &Option<Shape>, path: &Txt) -> Result<Terms, AllocError>
-    ensures { IfOk result (λ terms. (s : StackState) → IsShapeFor shape.now s.going → terms ≡ terms_at path.now s) }
-{
-    match shape {
-        Some(shape) => terms_by(alloc, shape, path),
-        None => Ok(Terms::usual(alloc)),
-    }
+    let seen = stack.seen_now(alloc)?;
+    plan_over(alloc, stack, &seen)
 }
 
 /// Adds the terms of a path. After an error nothing is said of the map.
 fn add_terms(
     alloc: Global,
-    shape: &Option<Shape>,
+    stack: &StackState,
     terms: &mut ByName<Terms>,
     path: &Txt,
 ) -> Result<(), AllocError>
-    ensures { IfOk result (λ _. (s : StackState) → IsShapeFor shape.now s.going → terms.new ≡ with_terms s terms.old path.now) }
+    ensures { IfOk result (λ _. terms.new ≡ with_terms stack.now.stack terms.old path.now) }
 {
-    let given = terms_in(alloc, shape, path)?;
+    let given = stack.terms_at(alloc, path)?;
     terms.insert(path.try_clone(alloc)?, given)
+}
+
+/// Adds the terms of each path of these resources. After an error nothing is said of the map.
+fn add_terms_of(
+    alloc: Global,
+    stack: &StackState,
+    terms: &mut ByName<Terms>,
+    helds: &[Held],
+) -> Result<(), AllocError>
+    ensures { IfOk result (λ _. terms.new ≡ fold (λ ts (h : Resource). with_terms stack.now.stack ts h.path) terms.old helds.now) }
+{
+    for held in helds {
+        add_terms(alloc, stack, terms, &held.path)?;
+    }
+    Ok(())
+}
+
+/// Adds the terms of each path of these calls. After an error nothing is said of the map.
+fn add_terms_called(
+    alloc: Global,
+    stack: &StackState,
+    terms: &mut ByName<Terms>,
+    tokens: &[Pending],
+) -> Result<(), AllocError>
+    ensures { IfOk result (λ _. terms.new ≡ fold (λ ts (p : Open). with_terms stack.now.stack ts p.path) terms.old tokens.now) }
+{
+    for pending in tokens {
+        add_terms(alloc, stack, terms, &pending.path)?;
+    }
+    Ok(())
 }
 
 /// The terms of each path of what is made, and of each open call.
 fn terms_asked(alloc: Global, stack: &StackState) -> Result<ByName<Terms>, AllocError>
-    ensures { IfOk result (λ terms. terms ≡ terms_asked stack.now) }
+    ensures { IfOk result (λ terms. terms ≡ terms_asked stack.now.stack) }
 {
-    let seen = Seen::new(alloc);
-    let shape = shape_in(alloc, stack, &seen)?;
     let mut terms = ByName::new(alloc);
-    for held in stack.made.as_slice() {
-        add_terms(alloc, &shape, &mut terms, &held.path)?;
-    }
-    for pending in stack.tokens.as_slice() {
-        add_terms(alloc, &shape, &mut terms, &pending.path)?;
-    }
+    add_terms_of(alloc, stack, &mut terms, stack.made().as_slice())?;
+    add_terms_called(alloc, stack, &mut terms, stack.tokens().as_slice())?;
     Ok(terms)
 }
 
 /// The terms of each path of what is made, and of what is being created.
 pub(crate) fn terms_for(alloc: Global, stack: &StackState) -> Result<ByName<Terms>, AllocError>
-    ensures { IfOk result (λ terms. AreTerms terms stack.now) }
+    ensures { IfOk result (λ terms. AreTerms terms stack.now.stack) }
 {
     terms_asked(alloc, stack)
 }
@@ -199,23 +204,23 @@ pub(crate) fn open_starts(
     alloc: Global,
     schemas: &Schemas,
     stack: &StackState,
-    before: &Plan,
+    terms: &Plan,
     now: &Plan,
     done: &Names,
 ) -> Result<Starts, AllocError>
-    requires before { before.now ≡ plan_before stack.now }
-    requires now { now.now ≡ plan_now stack.now }
-    requires done { AreDone stack.now done.now }
-    ensures { IfOk result (λ starts. AreOpen schemas.now stack.now starts) }
+    requires terms { HasTerms stack.now.stack terms.now }
+    requires now { now.now ≡ plan_now stack.now.stack }
+    requires done { AreDone stack.now.stack done.now }
+    ensures { IfOk result (λ starts. AreOpen schemas.now stack.now.stack starts) }
 {
-    let starts = starts_of(alloc, schemas, stack, before, now, done)?;
+    let starts = starts_over(alloc, schemas, stack, terms, now, done)?;
     listed(alloc, &starts)
 }
 
 /// The lane at home that takes a request, with its type.
 #[tactic(auto, using(crate::proofs::AtHome::lane_named))]
 fn lane_for<'a>(out: &[u64], world: &'a World, request: &Request) -> Option<&'a (Txt, Txt)>
-    ensures { option_map (λ l. l.now.0) result ≡ lane_for out.now world.now request.now }
+    ensures { option_map (λ l. l.now.0) result ≡ lane_for out.now world.now.world request.now }
 {
     match request {
         Request::Create { kind, props: _ } => first_home(out, world, kind),
@@ -227,14 +232,14 @@ fn lane_for<'a>(out: &[u64], world: &'a World, request: &Request) -> Option<&'a 
 /// Whether a lane at home can take a request.
 #[tactic(auto, using(crate::proofs::AtHome::lane_told))]
 fn is_start_home(out: &[u64], world: &World, start: &Start) -> bool
-    ensures { result ≡ is_start_home out.now world.now start.now }
+    ensures { result ≡ is_start_home out.now world.now.world start.now }
 {
     lane_for(out, world, &start.request).is_some()
 }
 
 /// The physical id that a request names; a create names none.
-pub(crate) fn place_in_path(request: &Request) -> &str
-    ensures { result.now ≡ place_in_path request.now }
+pub(crate) fn physical_id_of(request: &Request) -> &str
+    ensures { result.now ≡ physical_id_of request.now }
 {
     match request {
         Request::Create { kind: _, props: _ } => "",
@@ -243,18 +248,18 @@ pub(crate) fn place_in_path(request: &Request) -> &str
     }
 }
 
-/// Whether one request stands before another: by path, and then by physical id.
+/// Whether one request precedes another: by path, and then by physical id.
 fn is_start_before(start: &Start, other: &Start) -> bool
     ensures { result ≡ is_start_before start.now other.now }
 {
-    let place = place_in_path(&start.request);
-    let other_place = place_in_path(&other.request);
+    let place = physical_id_of(&start.request);
+    let other_place = physical_id_of(&other.request);
     start.path < other.path || (start.path == other.path && place < other_place)
 }
 
-/// The one of two requests that stands before the other.
-fn better_start<'a>(best: Option<&'a Start>, start: &'a Start) -> Option<&'a Start>
-    ensures { option_copied result ≡ better is_start_before (option_copied best.entry) start.now }
+/// The one of two requests that precedes the other.
+fn min_start<'a>(best: Option<&'a Start>, start: &'a Start) -> Option<&'a Start>
+    ensures { option_copied result ≡ min_of is_start_before (option_copied best.entry) start.now }
 {
     match best {
         Some(other) => {
@@ -269,16 +274,16 @@ fn better_start<'a>(best: Option<&'a Start>, start: &'a Start) -> Option<&'a Sta
 }
 
 /// The first of the requests that a lane at home can take, once one more is seen.
-fn better_at_home<'a>(
+fn min_at_home<'a>(
     out: &[u64],
     world: &World,
     best: Option<&'a Start>,
     start: &'a Start,
 ) -> Option<&'a Start>
-    ensures { option_copied result ≡ better_if is_start_before (is_start_home out.now world.now) (option_copied best.entry) start.now }
+    ensures { option_copied result ≡ min_of_passing is_start_before (is_start_home out.now world.now.world) (option_copied best.entry) start.now }
 {
     if is_start_home(out, world, start) {
-        better_start(best, start)
+        min_start(best, start)
     } else {
         best
     }
@@ -286,23 +291,23 @@ fn better_at_home<'a>(
 
 /// The first request that a lane at home can take.
 fn first_start<'a>(out: &[u64], world: &World, starts: &'a Starts) -> Option<&'a Start>
-    ensures { option_copied result ≡ first_by is_start_before (is_start_home out.now world.now) starts.now }
+    ensures { option_copied result ≡ min_by is_start_before (is_start_home out.now world.now.world) starts.now }
 {
     let mut best = None;
     for start in starts.as_slice() {
-        best = better_at_home(out, world, best, start);
+        best = min_at_home(out, world, best, start);
     }
     best
 }
 
 /// A request begins on its lane. Where no token is left, this is an error too.
 fn begin(alloc: Global, out: &[u64], world: &World, start: &Start) -> Result<Next, AllocError>
-    requires { IsTrue (is_start_home out.now world.now start.now) }
-    ensures { IfOk result (λ n. Begins out.now world.now start.now n) }
+    requires { IsTrue (is_start_home out.now world.now.world start.now) }
+    ensures { IfOk result (λ n. Begins out.now world.now.world start.now n) }
 {
     match (
         lane_for(out, world, &start.request),
-        world.token.checked_add(1),
+        world.token().checked_add(1),
     ) {
         (Some(lane), Some(token)) => step(
             alloc,
@@ -331,9 +336,9 @@ fn waits(out: &[u64]) -> Result<Next, AllocError>
 
 /// Whether all is done, no call is out, and none would be made again even if no lease were out.
 pub(crate) fn is_over(out: &[u64], stack: &StackState, is_done: bool) -> bool
-    ensures { result ≡ is_over out.now stack.now is_done }
+    ensures { result ≡ is_over out.now stack.now.stack is_done }
 {
-    is_done && none_out(out, stack) && !waits_for_repeats(&[], stack)
+    is_done && none_in_flight(out, stack) && !waits_for_repeats(&[], stack)
 }
 
 /// What comes where nothing may begin: the end, or to wait.
@@ -347,13 +352,13 @@ fn ends_or_waits(
     starts: &Starts,
     is_done: bool,
 ) -> Result<Next, AllocError>
-    requires creating { stack.now.status ≡ status.CreateInProgress }
-    requires going { ¬ HasFailed schemas.now name.now world.now stack.now }
-    requires may_begin { AreOpen schemas.now stack.now starts.now }
-    requires no_repeat { first_by is_token_before (is_repeat_home out.now world.now stack.now) stack.now.tokens ≡ None }
-    requires no_start { first_by is_start_before (is_start_home out.now world.now) starts.now ≡ None }
-    requires done { IsTrue is_done ↔ AllDone stack.now }
-    ensures { IfOk result (λ n. IsChosen schemas.now name.now world.now out.now stack.now Forward n) }
+    requires creating { stack.now.stack.status ≡ status.CreateInProgress }
+    requires going { ¬ HasFailed schemas.now name.now world.now.world stack.now.stack }
+    requires may_begin { AreOpen schemas.now stack.now.stack starts.now }
+    requires no_repeat { min_by is_token_before (is_repeat_home out.now world.now.world stack.now.stack) stack.now.stack.tokens ≡ None }
+    requires no_start { min_by is_start_before (is_start_home out.now world.now.world) starts.now ≡ None }
+    requires done { IsTrue is_done ↔ AllDone stack.now.stack }
+    ensures { IfOk result (λ n. IsChosen schemas.now name.now world.now.world out.now stack.now.stack Forward n) }
 {
     if is_over(out, stack, is_done) {
         Ok(Next::End {
@@ -377,12 +382,12 @@ fn next_start(
     starts: &Starts,
     is_done: bool,
 ) -> Result<Next, AllocError>
-    requires creating { stack.now.status ≡ status.CreateInProgress }
-    requires going { ¬ HasFailed schemas.now name.now world.now stack.now }
-    requires may_begin { AreOpen schemas.now stack.now starts.now }
-    requires no_repeat { first_by is_token_before (is_repeat_home out.now world.now stack.now) stack.now.tokens ≡ None }
-    requires done { IsTrue is_done ↔ AllDone stack.now }
-    ensures { IfOk result (λ n. IsChosen schemas.now name.now world.now out.now stack.now Forward n) }
+    requires creating { stack.now.stack.status ≡ status.CreateInProgress }
+    requires going { ¬ HasFailed schemas.now name.now world.now.world stack.now.stack }
+    requires may_begin { AreOpen schemas.now stack.now.stack starts.now }
+    requires no_repeat { min_by is_token_before (is_repeat_home out.now world.now.world stack.now.stack) stack.now.stack.tokens ≡ None }
+    requires done { IsTrue is_done ↔ AllDone stack.now.stack }
+    ensures { IfOk result (λ n. IsChosen schemas.now name.now world.now.world out.now stack.now.stack Forward n) }
 {
     match first_start(out, world, starts) {
         Some(start) => begin(alloc, out, world, start),
@@ -402,11 +407,11 @@ fn next_going(
     starts: &Starts,
     is_done: bool,
 ) -> Result<Next, AllocError>
-    requires creating { stack.now.status ≡ status.CreateInProgress }
-    requires going { ¬ HasFailed schemas.now name.now world.now stack.now }
-    requires may_begin { AreOpen schemas.now stack.now starts.now }
-    requires done { IsTrue is_done ↔ AllDone stack.now }
-    ensures { IfOk result (λ n. IsChosen schemas.now name.now world.now out.now stack.now Forward n) }
+    requires creating { stack.now.stack.status ≡ status.CreateInProgress }
+    requires going { ¬ HasFailed schemas.now name.now world.now.world stack.now.stack }
+    requires may_begin { AreOpen schemas.now stack.now.stack starts.now }
+    requires done { IsTrue is_done ↔ AllDone stack.now.stack }
+    ensures { IfOk result (λ n. IsChosen schemas.now name.now world.now.world out.now stack.now.stack Forward n) }
 {
     match first_repeat(out, world, stack) {
         Some(pending) => again(alloc, pending),
@@ -423,12 +428,12 @@ fn turns_back(
     out: &[u64],
     cause: Cause,
 ) -> Result<Next, AllocError>
-    requires creating { stack.now.status ≡ status.CreateInProgress }
-    requires failed { HasFailed schemas.now name.now world.now stack.now }
-    requires cause { IsCause schemas.now name.now world.now stack.now cause }
-    ensures { IfOk result (λ n. IsChosen schemas.now name.now world.now out.now stack.now Forward n) }
+    requires creating { stack.now.stack.status ≡ status.CreateInProgress }
+    requires failed { HasFailed schemas.now name.now world.now.world stack.now.stack }
+    requires cause { IsCause schemas.now name.now world.now.world stack.now.stack cause }
+    ensures { IfOk result (λ n. IsChosen schemas.now name.now world.now.world out.now stack.now.stack Forward n) }
 {
-    if none_out(out, stack) {
+    if none_in_flight(out, stack) {
         Ok(Next::Turn {
             phase: Phase::Back,
             cause: Some(cause),
@@ -446,10 +451,10 @@ fn stays(
     stack: &StackState,
     out: &[u64],
 ) -> Result<Next, AllocError>
-    requires creating { stack.now.status ≡ status.CreateInProgress }
-    requires failed { HasFailed schemas.now name.now world.now stack.now }
-    requires untold { (c : Cause) → IsCause schemas.now name.now world.now stack.now c → ⊥ }
-    ensures { IfOk result (λ n. IsChosen schemas.now name.now world.now out.now stack.now Forward n) }
+    requires creating { stack.now.stack.status ≡ status.CreateInProgress }
+    requires failed { HasFailed schemas.now name.now world.now.world stack.now.stack }
+    requires untold { (c : Cause) → IsCause schemas.now name.now world.now.world stack.now.stack c → ⊥ }
+    ensures { IfOk result (λ n. IsChosen schemas.now name.now world.now.world out.now stack.now.stack Forward n) }
 {
     waits(out)
 }
@@ -463,8 +468,8 @@ fn next_forward(
     stack: &StackState,
     out: &[u64],
 ) -> Result<Next, AllocError>
-    requires creating { stack.now.status ≡ status.CreateInProgress }
-    ensures { IfOk result (λ n. IsChosen schemas.now name.now world.now out.now stack.now Forward n) }
+    requires creating { stack.now.stack.status ≡ status.CreateInProgress }
+    ensures { IfOk result (λ n. IsChosen schemas.now name.now world.now.world out.now stack.now.stack Forward n) }
 {
     match progress_of(alloc, schemas, name, world, stack)? {
         Progress::Failed { cause } => turns_back(schemas, name, world, stack, out, cause),
@@ -476,33 +481,33 @@ fn next_forward(
 }
 
 /// Whether all paths of the operation's template are done.
-pub(crate) fn is_all_done(stack: &StackState, before: &Plan, done: &Names) -> bool
-    requires before { before.now ≡ plan_before stack.now }
-    requires done { AreDone stack.now done.now }
-    ensures { IsTrue result ↔ AllDone stack.now }
+pub(crate) fn is_all_done(stack: &StackState, terms: &Plan, done: &Names) -> bool
+    requires terms { HasTerms stack.now.stack terms.now }
+    requires done { AreDone stack.now.stack done.now }
+    ensures { IsTrue result ↔ AllDone stack.now.stack }
 {
-    are_all_done(before, done)
+    are_all_done(terms, done)
 }
 
 /// Whether a create is in progress.
 pub(crate) fn is_creating(stack: &StackState) -> bool
-    ensures { IsTrue result ↔ (stack.now.status ≡ status.CreateInProgress) }
+    ensures { IsTrue result ↔ (stack.now.stack.status ≡ status.CreateInProgress) }
 {
-    match stack.status {
+    match stack.status() {
         Status::CreateInProgress => true,
         _ => false,
     }
 }
 
-/// The next step of a creation that is taken back.
+/// The next step of a creation that is rolled back.
 fn next_in_rollback(
     alloc: Global,
     world: &World,
     stack: &StackState,
     out: &[u64],
 ) -> Result<Next, AllocError>
-    requires { stack.now.status ≡ status.RollbackInProgress }
-    ensures { IfOk result (λ n. (schemas : List Schema) (name : List ℕ) → IsChosen schemas name world.now out.now stack.now Back n) }
+    requires { stack.now.stack.status ≡ status.RollbackInProgress }
+    ensures { IfOk result (λ n. (schemas : List Schema) (name : List ℕ) → IsChosen schemas name world.now.world out.now stack.now.stack Back n) }
 {
     let terms = terms_for(alloc, stack)?;
     next_back(alloc, world, stack, out, &terms)
@@ -517,8 +522,8 @@ fn next_on(
     stack: &StackState,
     out: &[u64],
 ) -> Result<Next, AllocError>
-    requires { Creates stack.now }
-    ensures { IfOk result (λ n. IsChosenOn schemas.now name.now world.now out.now stack.now n) }
+    requires { Creates stack.now.stack }
+    ensures { IfOk result (λ n. IsChosenOn schemas.now name.now world.now.world out.now stack.now.stack n) }
 {
     if is_creating(stack) {
         next_forward(alloc, schemas, name, world, stack, out)
@@ -527,11 +532,11 @@ fn next_on(
     }
 }
 
-/// Whether a stack's creation is in progress or is taken back.
+/// Whether a stack's creation is in progress or is rolled back.
 fn creates(stack: &StackState) -> bool
-    ensures { IsTrue result ↔ Creates stack.now }
+    ensures { IsTrue result ↔ Creates stack.now.stack }
 {
-    match stack.status {
+    match stack.status() {
         Status::CreateInProgress => true,
         Status::RollbackInProgress => true,
         _ => false,
@@ -540,7 +545,7 @@ fn creates(stack: &StackState) -> bool
 
 /// Whether the operation of a number is a creation in progress, or its rollback.
 pub fn is_creation(world: &World, number: u64) -> bool
-    ensures { IsTrue result ↔ IsCreation world.now number }
+    ensures { IsTrue result ↔ IsCreation world.now.world number }
 {
     match stack_of_operation(world, number) {
         Some(going) => creates(&going.1),
@@ -562,9 +567,9 @@ pub fn next_in_creation(
     number: u64,
     homes: &Homes,
 ) -> Result<Next, AllocError>
-    requires { IsCreation world.now number }
-    ensures chosen { IfOk result (λ n. IsNext (schemas_of homes.now) world.now (leases_of homes.now) number n) }
-    ensures may_follow { IfOk result (λ n. (e : Entry) → entry_of number n ≡ Some e → MayFollow (schemas_of homes.now) world.now (leases_of homes.now) e) }
+    requires { IsCreation world.now.world number }
+    ensures chosen { IfOk result (λ n. IsNext (schemas_of homes.now) world.now.world (leases_of homes.now) number n) }
+    ensures may_follow { IfOk result (λ n. (e : Entry) → entry_of number n ≡ Some e → MayFollow (schemas_of homes.now) world.now.world (leases_of homes.now) e) }
 {
     let out = leases_of(alloc, homes)?;
     let schemas = schemas_of(alloc, homes)?;

@@ -9,5 +9,5 @@ use Rattle.cf_plan.proofs.calls.doubts_in.Goals as goal
 pub returns : goal.returns
 returns c =
     let test = λ (r : Response). c.args.token == r.token && is_doubt r.answer in
-    let counted : c.loop-entry.count ≡ count_by (λ e. reply_passes test e) c.args.entries.now = grind (arith, common_steps) in
+    let counted : c.loop-heard.count ≡ count_by (λ e. reply_passes test e) c.args.entries.now = grind (arith, common_steps) in
     counted ∙ sym (count_replied test c.args.entries.now)

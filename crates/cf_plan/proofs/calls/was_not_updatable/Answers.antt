@@ -1,8 +1,12 @@
 use Rattle.std.proofs.Common.{◌&&◌, ◌∙◌}
-use Rattle.cf_stacks.specs.Operation.{Call, is_of, updates}
-use Rattle.cf_plan.specs.Follow.{answers_not_updatable}
-use Rattle.cf_plan.proofs.Answered.{any_own}
+use Rattle.cf_stacks.specs.declared.call.Call.{Call}
+use Rattle.cf_stacks.specs.Words.{updates}
+use Rattle.cf_plan.specs.Follow.{is_not_updatable}
+use Rattle.cf_plan.proofs.Owned.{own_any}
 use Rattle.cf_plan.proofs.calls.was_not_updatable.Goals as goal
 
 pub returns : goal.returns
-returns c = c.has_refused.ensures ∙ any_own (λ (x : Call). updates c.args.held.now.physical x.request && answers_not_updatable c.args.stack.now x) c.args.stack.now.operation c.args.stack.now.entries
+returns c =
+    c.has_refused.ensures
+    ∙ own_any (λ (k : Call). updates c.args.held.now.physical k.request && is_not_updatable k.answer) c.operation.result c.as_slice.result.now
+    c.args.stack.now.stack c.operation.ensures (c.as_slice.ensures.value ∙ c.ledger.ensures)

@@ -1,5 +1,5 @@
 -- A round in which nothing joins is the last.
-use Rattle.std.proofs.Common.{arith, subst, sym, ◌∙◌}
+use Rattle.std.proofs.Common.{arith, subst}
 use Rattle.cf_plan.specs.Done.{IsNext, none}
 use Rattle.cf_plan.proofs.Fresh.{joined_less, joined_on, joined_same}
 use Rattle.cf_plan.proofs.done.add_all_right.Goals as goal

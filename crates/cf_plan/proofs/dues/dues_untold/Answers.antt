@@ -6,6 +6,6 @@ use Rattle.cf_plan.proofs.dues.dues_untold.Goals as goal
 
 pub returns : goal.returns
 returns c =
-    subst (AreDueIn c.args.schemas.now c.args.name.now c.args.world.now c.args.out.now c.args.stack.now Forward) (sym c.new.ensures)
-    (none_due c.args.schemas.now c.args.name.now c.args.world.now c.args.out.now c.args.stack.now c.requires.creating c.requires.failed
+    subst (AreDueIn c.args.schemas.now c.args.name.now c.args.world.now.world c.args.out.now c.args.stack.now.stack Forward) (sym c.new.ensures)
+    (none_due c.args.schemas.now c.args.name.now c.args.world.now.world c.args.out.now c.args.stack.now.stack c.requires.creating c.requires.failed
     (λ cause none is. c.requires.untold cause is))

@@ -6,5 +6,5 @@ use Rattle.cf_plan.proofs.end.failed_paths.Goals as goal
 
 pub returns : goal.returns
 returns c =
-    failing c.args.stack.now c.in_ok-verdicts.verdicts c.bad_among.result
+    failing c.args.stack.now.stack c.in_ok-verdicts.verdicts c.bad_among.result
     (ap (λ (vs : Verdicts). ascends vs) (sym c.verdicts.view_is) ∙ c.verdicts.invariant) c.in_ok-verdicts.ensures c.bad_among.ensures

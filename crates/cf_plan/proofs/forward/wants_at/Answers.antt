@@ -7,6 +7,6 @@ use Rattle.cf_plan.proofs.forward.wants_at.Goals as goal
 pub returns : goal.returns
 returns c =
     let found = finding_by c.args.path.now c.args.now.now in
-    told c.wants_by.result (wants_by c.args.schemas.now c.args.stack.now c.args.path.now found)
-    (AreIntended c.args.schemas.now c.args.stack.now c.args.path.now) c.wants_by.ensures
-    (intended c.args.schemas.now c.args.stack.now c.args.path.now found (sym (ap (finding_by c.args.path.now) c.requires.now)))
+    told c.wants_by.result (wants_by c.args.schemas.now c.args.stack.now.stack c.args.path.now found)
+    (AreIntended c.args.schemas.now c.args.stack.now.stack c.args.path.now) c.wants_by.ensures
+    (intended c.args.schemas.now c.args.stack.now.stack c.args.path.now found (sym (ap (finding_by c.args.path.now) c.requires.now)))

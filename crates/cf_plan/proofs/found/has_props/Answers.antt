@@ -5,5 +5,5 @@ use Rattle.cf_plan.proofs.found.has_props.Goals as goal
 
 pub returns-in-Known : goal.returns-in-Known
 returns-in-Known c =
-    known_has c.args.path.now c.args.plan.now c.in-Known.kind.now c.in-Known.wanted c.args.props.now c.eq.result
-    (ap finding_of (sym c.in-Known.is) ∙ c.in_ok-wanted.ensures) c.eq.ensures
+    known_has c.args.path.now c.args.plan.now c.in-Known.found.now c.args.kind.now c.in-Known.wanted c.args.props.now c.are_same.result
+    (ap finding_of (sym c.in-Known.is) ∙ c.in_ok-finding.ensures) c.are_same.ensures

@@ -1,13 +1,14 @@
-use Rattle.std.proofs.Common.{◌∙◌, ◌&&◌, sym}
+use Rattle.std.proofs.Common.{◌∙◌, ◌&&◌, List, sym, ap}
+use Rattle.std.specs.List.{list_any}
 use Rattle.std.specs.Str.{bytes_eq}
-use Rattle.cf_stacks.specs.Operation.{call_in, calls_in}
-use Rattle.cf_plan.specs.Follow.{is_out}
-use Rattle.cf_plan.proofs.Told.{any_told, any_filtered}
+use Rattle.cf_stacks.specs.declared.call.Call.{Call}
+use Rattle.cf_plan.specs.Follow.{is_in_flight}
+use Rattle.cf_plan.proofs.Told.{any_filtered}
 use Rattle.cf_plan.proofs.lanes.is_out_on.Goals as goal
 
 pub returns : goal.returns
 returns c =
-    let s = c.args.stack.now in
+    let s = c.args.stack.now.stack in
     c.has_call_on.ensures
-    ∙ (sym (any_told call_in (λ x. is_out c.args.out.now x.token && bytes_eq c.args.lane.now x.lane) s.entries)
-    ∙ sym (any_filtered (λ x. is_out c.args.out.now x.token) (λ x. bytes_eq c.args.lane.now x.lane) (calls_in s.entries)))
+    ∙ ap (λ (ks : List Call). list_any (λ k. is_in_flight c.args.out.now k.token && bytes_eq c.args.lane.now k.lane) ks) (c.as_slice.ensures.value ∙ c.ledger.ensures)
+    ∙ sym (any_filtered (λ (k : Call). is_in_flight c.args.out.now k.token) (λ (k : Call). bytes_eq c.args.lane.now k.lane) s.ledger)

@@ -9,8 +9,8 @@ use Rattle.cf_plan.proofs.next.next_repeat.Goals as goal
 
 pub returns-in-Some : goal.returns-in-Some
 returns-in-Some c =
-    let x = c.args.world.now in
-    let s = c.args.stack.now in
+    let x = c.args.world.now.world in
+    let s = c.args.stack.now.stack in
     let out = c.args.out.now in
     IfOk-weaker c.again.result _ _
     (λ n e schemas name.
@@ -20,5 +20,5 @@ returns-in-Some c =
 
 pub returns-in-None : goal.returns-in-None
 returns-in-None c = λ schemas name.
-    wait_chosen schemas name c.args.world.now c.args.stack.now c.requires.rolling c.args.out.now c.requires.waits
+    wait_chosen schemas name c.args.world.now.world c.args.stack.now.stack c.requires.rolling c.args.out.now c.requires.waits
     (sym c.first_repeat.ensures ∙ ap option_copied c.in-None.is)

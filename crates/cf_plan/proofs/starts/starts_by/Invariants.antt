@@ -5,4 +5,4 @@ use Rattle.cf_plan.proofs.starts.starts_by.Given as goal
 
 abbrev pub invariant-loop-wanted : goal.invariant-loop-wanted
 invariant-loop-wanted l =
-    l.starts ≡ fold (with_start l.schemas l.stack l.before l.now l.done) [] (map (λ w. w.path) (take l.wanted-index l.before.wanted))
+    l.starts ≡ fold (with_start l.schemas l.stack.stack l.before l.now l.done) [] (map (λ w. w.path) (take l.wanted-index l.before.wanted))

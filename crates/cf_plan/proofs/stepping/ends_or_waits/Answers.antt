@@ -11,16 +11,16 @@ pub returns-then-is_over : goal.returns-then-is_over
 returns-then-is_over c =
     subst
     (λ (failed : List (List ℕ)).
-    IsChosen c.args.schemas.now c.args.name.now c.args.world.now c.args.out.now c.args.stack.now Forward (next.End status.CreateComplete failed))
+    IsChosen c.args.schemas.now c.args.name.now c.args.world.now.world c.args.out.now c.args.stack.now.stack Forward (next.End status.CreateComplete failed))
     (sym c.new.ensures)
-    (end_chosen c.args.schemas.now c.args.name.now c.args.world.now c.args.out.now c.args.stack.now c.requires.creating c.requires.going
+    (end_chosen c.args.schemas.now c.args.name.now c.args.world.now.world c.args.out.now c.args.stack.now.stack c.requires.creating c.requires.going
     c.args.starts.now c.requires.may_begin c.requires.no_repeat c.requires.no_start c.args.is_done c.requires.done (sym c.is_over.ensures ∙ c.if-is_over.true))
 
 pub returns-else-is_over : goal.returns-else-is_over
 returns-else-is_over c =
     IfOk-weaker c.waits.result _ _
     (λ n w.
-    rest_chosen c.args.schemas.now c.args.name.now c.args.world.now c.args.out.now c.args.stack.now c.requires.creating c.requires.going
+    rest_chosen c.args.schemas.now c.args.name.now c.args.world.now.world c.args.out.now c.args.stack.now.stack c.requires.creating c.requires.going
     c.args.starts.now c.requires.may_begin c.requires.no_repeat c.requires.no_start c.args.is_done n c.requires.done
     (sym c.is_over.ensures ∙ c.if-is_over.false) w)
     c.waits.ensures

@@ -5,5 +5,5 @@ use Rattle.cf_plan.proofs.stepping.is_all_done.Goals as goal
 
 pub returns : goal.returns
 returns c =
-    subst (λ (b : Bool). (b ≡ true) ↔ AllDone c.args.stack.now) (sym c.are_all_done.ensures)
-    (all_done_is c.args.stack.now c.args.before.now c.args.done.now c.requires.before c.requires.done)
+    subst (λ (b : Bool). (b ≡ true) ↔ AllDone c.args.stack.now.stack) (sym c.are_all_done.ensures)
+    (all_done_is c.args.stack.now.stack c.args.terms.now c.args.done.now c.requires.terms c.requires.done)

@@ -14,7 +14,7 @@ pub returns-in-Some : goal.returns-in-Some
 returns-in-Some c =
     IfOk-weaker c.again.result _ _
     (λ n e.
-    subst (λ (m : Next). IsChosen c.args.schemas.now c.args.name.now c.args.world.now c.args.out.now c.args.stack.now Forward m) (sym e)
-    (repeat_chosen c.args.schemas.now c.args.name.now c.args.world.now c.args.out.now c.args.stack.now c.requires.creating c.requires.going
+    subst (λ (m : Next). IsChosen c.args.schemas.now c.args.name.now c.args.world.now.world c.args.out.now c.args.stack.now.stack Forward m) (sym e)
+    (repeat_chosen c.args.schemas.now c.args.name.now c.args.world.now.world c.args.out.now c.args.stack.now.stack c.requires.creating c.requires.going
     c.in-Some.pending.now (sym c.first_repeat.ensures ∙ ap option_copied c.in-Some.is)))
     c.again.ensures

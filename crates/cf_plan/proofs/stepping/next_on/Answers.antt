@@ -10,7 +10,7 @@ next_forward-requires c = record { creating = c.is_creating.ensures.0 c.if-is_cr
 
 pub next_in_rollback-requires : goal.next_in_rollback-requires
 next_in_rollback-requires c =
-    rolls_back c.args.stack.now c.requires (λ e. not_both c.is_creating.result (c.is_creating.ensures.1 e) c.if-is_creating.false)
+    rolls_back c.args.stack.now.stack c.requires (λ e. not_both c.is_creating.result (c.is_creating.ensures.1 e) c.if-is_creating.false)
 
 pub returns-then-is_creating : goal.returns-then-is_creating
 returns-then-is_creating c =
@@ -21,7 +21,7 @@ returns-else-is_creating c =
     IfOk-weaker c.next_in_rollback.result _ _
     (λ n w. (
       Back,
-      ap stage_of (rolls_back c.args.stack.now c.requires (λ e. not_both c.is_creating.result (c.is_creating.ensures.1 e) c.if-is_creating.false)),
+      ap stage_of (rolls_back c.args.stack.now.stack c.requires (λ e. not_both c.is_creating.result (c.is_creating.ensures.1 e) c.if-is_creating.false)),
       w c.args.schemas.now c.args.name.now,
     ))
     c.next_in_rollback.ensures

@@ -7,4 +7,4 @@ use Rattle.cf_plan.proofs.stepping.open_starts.Goals as goal
 pub returns : goal.returns
 returns c =
     IfOk-weaker c.listed.result _ _
-    (λ l w. subst (AreOpen c.args.schemas.now c.args.stack.now) (sym w.0) (are_open c.args.schemas.now c.args.stack.now _ w.1 c.in_ok-starts.ensures)) c.listed.ensures
+    (λ l w. subst (AreOpen c.args.schemas.now c.args.stack.now.stack) (sym w.0) (are_open c.args.schemas.now c.args.stack.now.stack _ w.1 c.in_ok-starts.ensures)) c.listed.ensures

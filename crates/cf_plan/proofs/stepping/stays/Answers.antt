@@ -6,6 +6,6 @@ pub returns : goal.returns
 returns c =
     IfOk-weaker c.waits.result _ _
     (λ n w.
-    untold_chosen c.args.schemas.now c.args.name.now c.args.world.now c.args.out.now c.args.stack.now c.requires.creating c.requires.failed n
+    untold_chosen c.args.schemas.now c.args.name.now c.args.world.now.world c.args.out.now c.args.stack.now.stack c.requires.creating c.requires.failed n
     c.requires.untold w)
     c.waits.ensures

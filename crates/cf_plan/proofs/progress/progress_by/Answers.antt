@@ -1,0 +1,14 @@
+use Rattle.cf_plan.proofs.PlanTerms.{over_now}
+use Rattle.cf_plan.proofs.progress.progress_by.Goals as goal
+
+pub done_by-requires-clause-terms : goal.done_by-requires-clause-terms
+done_by-requires-clause-terms c = over_now c.args.stack.now.stack c.args.now.now c.requires.now
+
+pub failure_by-requires-clause-terms : goal.failure_by-requires-clause-terms
+failure_by-requires-clause-terms c = over_now c.args.stack.now.stack c.args.now.now c.requires.now
+
+pub open_starts-requires-clause-terms : goal.open_starts-requires-clause-terms
+open_starts-requires-clause-terms c = over_now c.args.stack.now.stack c.args.now.now c.requires.now
+
+pub is_all_done-is_done-requires-clause-terms : goal.is_all_done-is_done-requires-clause-terms
+is_all_done-is_done-requires-clause-terms c = over_now c.args.stack.now.stack c.args.now.now c.requires.now
