@@ -1,0 +1,11 @@
+pub mod Suffice
+pub mod SameRows
+pub mod SamePlans
+pub mod Answers
+pub mod Sorted
+pub mod Leaving
+pub mod Follows
+pub mod First
+pub mod BlankSeen
+pub mod Stuck
+pub mod Working

@@ -1,0 +1,12 @@
+pub mod Answer
+pub mod Exported
+pub mod Refusals
+pub mod Imports
+pub mod Orders
+pub mod Resuming
+pub mod Prepare
+pub mod First
+pub mod Leaving
+pub mod Same
+pub mod Rows
+pub mod Worked
