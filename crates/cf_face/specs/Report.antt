@@ -1,7 +1,7 @@
 -- The report on a stack (this project's own).
-use Rattle.std.specs.Prelude.{ℕ, Bool, ◌&&◌, ◌||◌, List, [], ◌∷◌, ◌++◌, Option, Some, None, fold, decimal, codes, if◌then◌else◌}
+use Rattle.std.specs.Prelude.{ℕ, ◌==◌, Bool, true, false, ◌&&◌, ◌||◌, List, [], ◌∷◌, ◌++◌, Option, Some, None, fold, decimal, codes, option_and_then, if◌then◌else◌}
 use Rattle.std.specs.List.{flat_map}
-use Rattle.std.specs.Option.{option_or, option_map_or}
+use Rattle.std.specs.Option.{option_or, option_map_or, unwrap_or}
 use Rattle.std.specs.Str.{bytes_eq}
 use Rattle.cf_funcs.specs.Pieces.{members_of}
 use Rattle.cf_tree.specs.Keys.{bytes_lt, value_at}
@@ -13,6 +13,8 @@ use Rattle.cf_tree.specs.Lists.{insert_by}
 use Rattle.cf_desired.specs.Templates.{template_named}
 use Rattle.cf_export.specs.declared.Output.{Output}
 use Rattle.cf_entry.specs.Status.{status_name}
+use Rattle.cf_entry.specs.declared.status.Status.{Status}
+use Rattle.cf_entry.specs.declared.status.Status.TheVariants as status
 use Rattle.cf_entry.specs.declared.entry.Entry.{Entry}
 use Rattle.cf_entry.specs.declared.entry.Entry.TheVariants.{Done}
 use Rattle.cf_entry.specs.declared.turn.Why.{Why}
@@ -21,7 +23,7 @@ use Rattle.cf_stacks.specs.declared.held.Held.{Held}
 use Rattle.cf_stacks.specs.declared.held.HeldStatus.{HeldStatus}
 use Rattle.cf_stacks.specs.declared.held.HeldStatus.TheVariants as held
 use Rattle.cf_stacks.specs.declared.held.Leftover.{Leftover}
-use Rattle.cf_stacks.specs.declared.state.StackState.{StackState}
+use Rattle.cf_stacks.specs.World.{StackState}
 use Rattle.cf_face.specs.declared.exit.Exit.{Exit}
 use Rattle.cf_face.specs.Exit.{exit_line}
 use Rattle.cf_face.specs.Line.{line_of, text_word, texts_word}
@@ -53,6 +55,19 @@ parameter_line given p = option_map_or (λ t. line_of (codes "parameter") (p.nam
 abbrev pub parameter_lines : Option Source → List ℕ
 parameter_lines None = []
 parameter_lines (Some source) = option_map_or (λ t. flat_map (parameter_line source.given) t.params) (template_named source.root source) []
+
+-- The source whose parameters are told: the one that was completed last, where it is this stack's and not that of one that
+-- had the name before; none once all was taken back or deleted (DescribeStacks).
+abbrev pub tells_parameters : Status → Bool
+tells_parameters status.RollbackComplete = false
+tells_parameters status.DeleteComplete = false
+tells_parameters _ = true
+
+abbrev pub own_source : StackState → Source → Option Source
+own_source s source = if source.number == s.number && tells_parameters s.status then Some source else None
+
+abbrev pub told_source : StackState → Option Source
+told_source s = option_and_then (own_source s) s.source
 
 -- the status of a resource (User Guide, resource status codes)
 abbrev pub held_status_name : HeldStatus → List ℕ
@@ -93,12 +108,12 @@ abbrev pub leftover_line : Leftover → List ℕ
 leftover_line l = line_of (codes "leftover") (l.path ∷ l.physical ∷ why_name l.why ∷ [])
 
 -- the paths that failed in the last operation that ended: those that its end names
-abbrev pub failed_after : List (List ℕ) → Entry → List (List ℕ)
-failed_after failed (Done number status paths) = paths
-failed_after failed _ = failed
+abbrev pub failed_in : Entry → Option (List (List ℕ))
+failed_in (Done number status paths) = Some paths
+failed_in _ = None
 
 abbrev pub last_failed : List Entry → List (List ℕ)
-last_failed entries = fold failed_after [] entries
+last_failed entries = fold (λ failed e. unwrap_or (failed_in e) failed) [] entries
 
 -- the line of a path that failed
 abbrev pub failed_line : List ℕ → List ℕ
@@ -109,7 +124,7 @@ failed_line path = line_of (codes "failed") (path ∷ [])
 abbrev pub stack_report : List ℕ → StackState → Exit → List ℕ
 stack_report name s e =
     stack_line name (status_name s.status) s.number
-    ++ (parameter_lines s.source
+    ++ (parameter_lines (told_source s)
     ++ (flat_map held_line (in_order s.held)
     ++ (flat_map output_line s.outputs
     ++ (flat_map leftover_line s.leftovers

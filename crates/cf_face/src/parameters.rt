@@ -5,16 +5,38 @@ ghost use Rattle.std.specs.Option.{option_copied};
 ghost use Rattle.cf_funcs.specs.Pieces.{members_of};
 ghost use Rattle.cf_desired.specs.Templates.{template_named};
 ghost use Rattle.cf_face.specs.Line.{line_of, texts_word};
-ghost use Rattle.cf_face.specs.Report.{text_for, value_word, told_word, parameter_line, parameter_lines};
+ghost use Rattle.cf_face.specs.Report.{text_for, value_word, told_word, told_source, parameter_line, parameter_lines, tells_parameters};
 
 use crate::line::{push_text, push_texts, push_word};
+use cf_entry::Status;
 use cf_funcs::comma_list;
+use cf_stacks::StackState;
 use cf_template::{TemplateFault, read_template};
 use cf_tree::{Kind, NoMemory, Pairs, Param, Source, Template, Txt};
 use std::alloc::Global;
 
 /// What is told of a parameter that may not be echoed.
 const HIDDEN: &str = "\"****\"";
+
+/// Whether the parameters of a stack in this status are told: not once all was taken back or deleted.
+fn tells_parameters(status: Status) -> bool
+    ensures { result ≡ tells_parameters status }
+{
+    !matches!(status, Status::RollbackComplete | Status::DeleteComplete)
+}
+
+/// The source whose parameters are told: the one that was completed last, where it is this stack's
+/// and not that of one that had the name before; none once all was taken back or deleted.
+pub fn told_source(stack: &StackState) -> Option<&Source>
+    ensures { option_copied result ≡ told_source stack.now.stack }
+{
+    match stack.source() {
+        Some(source) if source.number == stack.number() && tells_parameters(stack.status()) => {
+            Some(source)
+        }
+        _ => None,
+    }
+}
 
 /// Adds a line `parameter NAME VALUE` for each parameter of what a stack was made from: the value is compact JSON, and
 /// four stars for one that may not be echoed. A source whose template can't be read has none.

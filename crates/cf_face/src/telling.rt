@@ -3,15 +3,15 @@ ghost use Rattle.std.specs.Prelude.{◌≡◌, ◌++◌, IfOk, map, string_bytes
 ghost use Rattle.std.specs.List.{flat_map};
 ghost use Rattle.std.specs.Option.{option_copied};
 ghost use Rattle.cf_face.specs.Line.{spaced};
-ghost use Rattle.cf_face.specs.Report.{export_words, failed_after, failed_line, held_line, held_status_name, in_order, last_failed, leftover_line, output_line, stack_line, stack_report, unsure_words, why_name};
+ghost use Rattle.cf_face.specs.Report.{export_words, failed_in, failed_line, held_line, held_status_name, in_order, last_failed, leftover_line, output_line, stack_line, stack_report, unsure_words, why_name};
 
 use crate::exit::Exit;
 use crate::line::{push_named, push_number, push_text, push_word};
-use crate::parameters::push_parameters;
+use crate::parameters::{push_parameters, told_source};
 use crate::rows::in_order;
 use cf_entry::{Entry, Status, Why};
-use cf_stacks::{Held, HeldStatus, Leftover, Output, StackState};
-use cf_tree::{NoMemory, Txt};
+use cf_stacks::{HeardEntry, Held, HeldStatus, Leftover, Output, StackState};
+use cf_tree::{Names, NoMemory, Txt};
 use std::alloc::Global;
 
 /// Adds the line `stack NAME STATUS NUMBER`, with the number of the operation that created the stack.
@@ -173,31 +173,54 @@ fn push_paths(report: &mut String, paths: &[Txt]) -> Result<(), NoMemory>
     Ok(())
 }
 
-/// The paths that failed in the last operation that ended: those that an entry tells of, if it is an end, or else those of
-/// before.
-fn failed_after<'a>(failed: &'a [Txt], entry: &'a Entry) -> &'a [Txt]
-    ensures { result.now ≡ failed_after failed.now entry.now }
+/// The paths that failed in an operation, where the entry is its end.
+fn failed_in(alloc: Global, entry: &Entry) -> Result<Option<Names>, NoMemory>
+    ensures { IfOk result (λ paths. paths ≡ failed_in entry.now) }
 {
     match entry {
-        Entry::Done { failed, .. } => failed.as_slice(),
-        _ => failed,
+        Entry::Done { failed, .. } => Ok(Some(failed.try_clone(alloc)?)),
+        _ => Ok(None),
+    }
+}
+
+/// The same of an entry that a stack heard.
+fn failed_of(alloc: Global, heard: &HeardEntry) -> Result<Option<Names>, NoMemory>
+    ensures { IfOk result (λ paths. paths ≡ failed_in heard.now) }
+{
+    match heard.as_entry() {
+        Some(entry) => failed_in(alloc, entry),
+        None => {
+            let entry = heard.entry(alloc)?;
+            let failed = failed_in(alloc, &entry);
+            drop(entry);
+            failed
+        }
     }
 }
 
 /// The paths that failed in the last operation of these entries that ended.
-fn last_failed(entries: &[Entry]) -> &[Txt]
-    ensures { result.now ≡ last_failed entries.now }
+fn last_failed(alloc: Global, entries: &[HeardEntry]) -> Result<Names, NoMemory>
+    ensures { IfOk result (λ paths. paths ≡ last_failed entries.now) }
 {
-    let mut failed: &[Txt] = &[];
-    for entry in entries {
-        failed = failed_after(failed, entry);
+    for at in (0..entries.len()).rev() {
+        if let Some(failed) = failed_of(alloc, &entries[at])? {
+            return Ok(failed);
+        }
     }
-    failed
+    Ok(Names::new(alloc))
 }
 
-/// The report on a stack: the line of the stack, one line for each parameter, each resource that it holds (by path and then
-/// by physical id), each output, each leftover and each path that failed in its last operation that ended, and the line of
-/// the exit.
+/// Adds a line for each path that failed in the last operation that ended.
+fn push_failed(alloc: Global, report: &mut String, entries: &[HeardEntry]) -> Result<(), NoMemory>
+    ensures { IfOk result (λ _. string_bytes report.new ≡ string_bytes report.old ++ flat_map failed_line (last_failed entries.now)) }
+{
+    let failed = last_failed(alloc, entries)?;
+    push_paths(report, failed.as_slice())
+}
+
+/// The report on a stack: the line of the stack, one line for each parameter of what it was made from, each resource that it
+/// holds (by path and then by physical id), each output, each leftover and each path that failed in its last operation that
+/// ended, and the line of the exit.
 ///
 /// # Errors
 ///
@@ -208,15 +231,21 @@ pub fn report(
     stack: &StackState,
     exit: &Exit,
 ) -> Result<String, NoMemory>
-    ensures { IfOk result (λ text. string_bytes text ≡ stack_report name.now stack.now exit.now) }
+    ensures { IfOk result (λ text. string_bytes text ≡ stack_report name.now stack.now.stack exit.now) }
 {
     let mut text = String::new(alloc);
-    push_stack(alloc, &mut text, name, stack.status.name(), stack.number)?;
-    push_parameters(alloc, &mut text, stack.source.as_ref())?;
-    push_helds(alloc, &mut text, stack.held.as_slice())?;
-    push_outputs(alloc, &mut text, stack.outputs.as_slice())?;
-    push_leftovers(&mut text, stack.leftovers.as_slice())?;
-    push_paths(&mut text, last_failed(stack.entries.as_slice()))?;
+    push_stack(
+        alloc,
+        &mut text,
+        name,
+        stack.status().name(),
+        stack.number(),
+    )?;
+    push_parameters(alloc, &mut text, told_source(stack))?;
+    push_helds(alloc, &mut text, stack.held().as_slice())?;
+    push_outputs(alloc, &mut text, stack.outputs().as_slice())?;
+    push_leftovers(&mut text, stack.leftovers().as_slice())?;
+    push_failed(alloc, &mut text, stack.entries().as_slice())?;
     exit.push_line(alloc, &mut text)?;
     Ok(text)
 }

@@ -2,9 +2,10 @@
 use Rattle.std.proofs.Common.{◌≡◌, inl, inr, Bool, ℕ, suc, ◌≤◌, ◌-◌, ◌^◌, List, [], ◌∷◌, ◌++◌, refl, sym, ap, ◌∙◌, arith}
 use Rattle.std.proofs.lemmas.Bool.Decides.{leb_tells}
 use Rattle.cf_entry.specs.declared.entry.Entry.{Entry}
-use Rattle.cf_stacks.specs.declared.state.World.{World}
-use Rattle.cf_stacks.specs.Fold.{bare, empty_world, fold_of, world_after}
-use Rattle.cf_stacks.proofs.Bare.{room_counts_not}
+use Rattle.cf_entry.specs.declared.entry.Entry.TheVariants as entry
+use Rattle.cf_stacks.specs.World.{World, empty_world}
+use Rattle.cf_stacks.specs.Room.{HasRoom, Standing, stepped, with_room}
+use Rattle.cf_stacks.specs.Fold.{fold_of, world_after}
 use Rattle.cf_top.specs.declared.book.Halt.{Halt}
 use Rattle.cf_top.specs.declared.book.Halt.TheVariants as halt
 use Rattle.cf_top.specs.Book.{HasFaulted, HaltsAt, world_of}
@@ -17,9 +18,20 @@ fold_append x (e ∷ es) fs = fold_append (world_after x e) es fs
 pub world_more : (w : World) (es more : List Entry) (e : Entry) → w ≡ world_after (world_of es) e → more ≡ es ++ e ∷ [] → w ≡ world_of more
 world_more w es more e s m = s ∙ sym (fold_append empty_world es (e ∷ [])) ∙ ap world_of (sym m)
 
--- the same of a world that had made room for it, and then gave up what room was left
-pub world_stepped : (v u w : World) (es more : List Entry) (e : Entry) → v ≡ record (world_of es) { ready = v.ready; rooms = v.rooms } → bare u ≡ world_after v e → w ≡ bare u → more ≡ es ++ e ∷ [] → w ≡ world_of more
-world_stepped v u w es more e r s b m = world_more w es more e (b ∙ s ∙ ap {A = World} (λ x. world_after x e) r ∙ room_counts_not (world_of es) v.ready v.rooms e) m
+-- the room that was made is room for the entry
+pub room_made : (was now : Standing) (e : Entry) → now ≡ with_room e was → HasRoom now e
+room_made was now (entry.Outcome number token answer before after) h = inr (ap (λ (x : Standing). x.ready) h)
+room_made was now (entry.Opened epoch lanes) h = ap (λ (x : Standing). x.ready) h
+room_made was now (entry.Begin number name k) h = ap (λ (x : Standing). x.ready) h
+room_made was now (entry.Kept number path physical w) h = ap (λ (x : Standing). x.ready) h
+room_made was now (entry.Intent number token lane path r) h = ap (λ (x : Standing). x.ready) h
+room_made was now (entry.Phase number p c) h = ap (λ (x : Standing). x.ready) h
+room_made was now (entry.Done number state failed) h = ap (λ (x : Standing). x.ready) h
+room_made was now (entry.ChangeSet number name source rows outputs) h = ap (λ (x : Standing). x.ready) h
+
+-- the same of a world that was stepped over it
+pub world_stepped : (was now : Standing) (es more : List Entry) (e : Entry) → was.world ≡ world_of es → now ≡ stepped was e → more ≡ es ++ e ∷ [] → now.world ≡ world_of more
+world_stepped was now es more e r s m = world_more now.world es more e (ap (λ (x : Standing). x.world) s ∙ ap (λ (x : World). world_after x e) r) m
 
 -- faults of a disk that rose later rose since an earlier moment
 pub faulted_since : {before now after : ℕ} → before ≤ now → HasFaulted now after → HasFaulted before after

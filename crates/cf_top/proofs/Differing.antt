@@ -1,12 +1,12 @@
 -- Lanes of which no two have one name.
-use Rattle.std.proofs.Common.{◌≡◌, ℕ, ◌+◌, ◌≤◌, List, [], ◌∷◌, Bool, true, false, ◌&&◌, ◌||◌, not, Option, Some, None, refl, sym, ap, ◌∙◌, find, arith}
-use Rattle.std.specs.Prelude.{cond, nat_lt}
+use Rattle.std.proofs.Common.{◌≡◌, ℕ, ◌+◌, ◌≤◌, List, [], ◌∷◌, Bool, true, false, ◌&&◌, ◌||◌, not, Some, None, refl, ap, ◌∙◌, find, arith}
+use Rattle.std.specs.Prelude.{cond}
 use Rattle.std.specs.List.{list_any}
 use Rattle.std.specs.Str.{bytes_eq}
-use Rattle.std.proofs.lemmas.Bool.{ltb-false, le-ltb}
+use Rattle.std.proofs.lemmas.Bool.{ltb-false}
 use Rattle.cf_tree.specs.Named.{all_differ}
 use Rattle.cf_plan.specs.Forward.{In, here, there}
-use Rattle.cf_plan.proofs.Listed.{same_bytes}
+use Rattle.cf_top.proofs.Members.{same_bytes}
 use Rattle.cf_top.specs.Opening.{is_shared, number_named, twice}
 
 -- what passes at none of a list fails at each

@@ -14,11 +14,9 @@ use Rattle.cf_entry.specs.declared.entry.Entry.TheVariants as entry
 use Rattle.cf_entry.specs.declared.entry.Reply.{Reply}
 use Rattle.cf_entry.specs.declared.entry.Reply.TheVariants as reply
 use Rattle.cf_stacks.specs.declared.held.Pending.{Pending}
-use Rattle.cf_stacks.specs.declared.state.StackState.{StackState}
-use Rattle.cf_stacks.specs.declared.state.World.{World}
-use Rattle.cf_stacks.specs.Changing.{IsFlatEntry}
+use Rattle.cf_stacks.specs.World.{StackState, World, stack_of_operation}
 use Rattle.cf_stacks.specs.Status.{Stage, Forward, Clean, Back, BackClean, Gone}
-use Rattle.cf_stacks.specs.Words.{stack_of_operation, has_token, pending_of}
+use Rattle.cf_stacks.specs.Words.{has_token, pending_of}
 use Rattle.cf_stacks.specs.Fold.{fold_of, world_after}
 use Rattle.cf_plan.specs.declared.next.Next.{Next}
 use Rattle.cf_plan.specs.declared.next.Next.TheVariants as next
@@ -26,11 +24,9 @@ use Rattle.cf_plan.specs.Forward.{In, here, there}
 use Rattle.cf_plan.specs.Follow.{MayFollow, MayRepeat, IsCounted}
 use Rattle.cf_plan.specs.Chosen.{IsNext, entry_of}
 use Rattle.cf_plan.specs.Stepping.{IsCreation}
-use Rattle.cf_plan.specs.Going.{IsUnderWay}
+use Rattle.cf_plan.specs.Going.{AnswerFollows, CreationGoesOn, CreationIsProper, IntentOpens, IsUnderWay}
 use Rattle.cf_plan.specs.Run.{Told, IsAsked, IsDone, IsOwn, MovesAt, Runs, open_call, answer_as}
-use Rattle.cf_plan.proofs.CreatedStays.{found_one}
-use Rattle.cf_plan.proofs.Followed.{next_follows}
-use Rattle.cf_plan.proofs.Going.{proper, goes_on, answer_follows, opens}
+use Rattle.cf_plan.proofs.Frame.{found_passes}
 use Rattle.cf_top.specs.declared.book.Halt.{Halt}
 use Rattle.cf_top.specs.declared.book.Halt.TheVariants as halt
 use Rattle.cf_top.specs.declared.drive.Taken.{Taken}
@@ -49,7 +45,7 @@ token_is : (number token : ℕ) (x : World) (p : Pending) → open_call number t
 token_is number token x p is_open = by_stack (stack_of_operation number x) is_open where
   by_stack : (o : Option (List ℕ × StackState)) → option_and_then (λ s. pending_of token s.1) o ≡ Some p → p.token ≡ token
   by_stack None e = let no : ⊥ = cc in absurd no
-  by_stack (Some s) e = sym (eqb-true token p.token (found_one (has_token token) s.1.tokens p e).1)
+  by_stack (Some s) e = sym (eqb-true token p.token (found_passes (has_token token) s.1.tokens p e))
 
 counted_as : (r : Reply) (before after : ℕ) → HasCause before after (answer_as r) → IsCounted r before after
 counted_as (reply.Success physical attrs) before after h = h.0
@@ -65,7 +61,7 @@ concluded tells bytes room faults faults' es more number token a r before after 
 concluded tells bytes room faults faults' es more number token a r before after (Err h) e t = inr (r, e, t.1)
 
 -- a call that was made
-module _ (s : Scene) (number token : ℕ) (p : Pending) (k : ℕ) (a : Answer) (before after : ℕ) (is_open : open_call number token (world_of s.entries) ≡ Some p)
+module _ (follows : AnswerFollows) (s : Scene) (number token : ℕ) (p : Pending) (k : ℕ) (a : Answer) (before after : ℕ) (is_open : open_call number token (world_of s.entries) ≡ Some p)
     (named : k < length s.names) (told : k < length s.told) (lane : slice_index_or s.names k [] ≡ p.lane)
     (moves : MovesAt k s.names s.told s.told' s.counts s.counts' token p.request a before after) where
   asked : (b : Answer) → b ≡ a → IsAsked s.names s.told s.told' s.counts s.counts' p b before after
@@ -80,7 +76,7 @@ module _ (s : Scene) (number token : ℕ) (p : Pending) (k : ℕ) (a : Answer) (
 
   is_done : (r : Reply) → answer_as r ≡ a → IsDone s.schemas s.names (world_of s.entries) s.told s.told' s.counts s.counts' (entry.Outcome number token r before after)
   is_done r e = (
-    answer_follows s.schemas (world_of s.entries) number token p r before after is_open (counted_as r before after (subst (HasCause before after) (sym e) moves.4)),
+    follows s.schemas (world_of s.entries) number token p r before after is_open (counted_as r before after (subst (HasCause before after) (sym e) moves.4)),
     p,
     is_open,
     asked (answer_as r) e,
@@ -203,28 +199,38 @@ creates x y number e (name, u) = subst (λ w. IsCreation w number) (sym e) (name
 pub comes_next : (schemas : List Schema) (x y : World) (out : List ℕ) (number : ℕ) (n : Next) → y ≡ x → out ≡ [] → IsNext schemas y out number n → IsNext schemas x [] number n
 comes_next schemas x y out number n e o c = subst (λ w. IsNext schemas w [] number n) e (subst (λ l. IsNext schemas y l number n) o c)
 
+pub follows_next : (schemas : List Schema) (x y : World) (out : List ℕ) (e : Entry) → y ≡ x → out ≡ [] → MayFollow schemas y out e → MayFollow schemas x [] e
+follows_next schemas x y out e same o f = subst (λ w. MayFollow schemas w [] e) same (subst (λ l. MayFollow schemas y l e) o f)
+
 never_waits : (schemas : List Schema) (x : World) (number : ℕ) → IsNext schemas x [] number next.Wait → ⊥
 never_waits schemas x number (name, t, stage, going, in_stage, chosen) = chosen.may refl
 
-module _ (s : Scene) (number : ℕ) (goes : GoesOn number (world_of s.entries)) where
+-- the laws of creations that their driving rests on
+pub record Laws : Type 0 where
+  pub goes_on : CreationGoesOn
+  pub proper : CreationIsProper
+  pub opens : IntentOpens
+
+module _ (laws : Laws) (s : Scene) (number : ℕ) (goes : GoesOn number (world_of s.entries)) where
+  -- the step comes next, and what it writes down may follow
   abbrev Comes : Next → Type 0
-  Comes n = IsNext s.schemas (world_of s.entries) [] number n
+  Comes n = IsNext s.schemas (world_of s.entries) [] number n × ((e : Entry) → entry_of number n ≡ Some e → MayFollow s.schemas (world_of s.entries) [] e)
 
   abbrev note_of : Next → List Entry
   note_of n = noted (entry_of number n)
 
   may : (n : Next) (e : Entry) → Comes n → entry_of number n ≡ Some e → MayFollow s.schemas (world_of s.entries) [] e
-  may n e c q = next_follows s.schemas (world_of s.entries) [] number n e c q
+  may n e c q = c.1 e q
 
   -- what is noted can be written
-  pub note_proper : (n : Next) → Comes n → IfSome (entry_of number n) (λ e. IsProper e × IsFlatEntry e)
+  pub note_proper : (n : Next) → Comes n → IfSome (entry_of number n) IsProper
   note_proper (next.Step path lane token r true) c = tt
-  note_proper (next.Step path lane token r false) c = (tt, tt)
-  note_proper (next.Keep path physical w) c = (tt, tt)
+  note_proper (next.Step path lane token r false) c = tt
+  note_proper (next.Keep path physical w) c = tt
   note_proper (next.Turn p cause) c =
-      (proper s.schemas (world_of s.entries) [] number goes.0 (entry.Phase number p cause) goes.1 refl (may (next.Turn p cause) (entry.Phase number p cause) c refl), tt)
+      laws.proper s.schemas (world_of s.entries) [] number goes.0 (entry.Phase number p cause) goes.1 refl (may (next.Turn p cause) (entry.Phase number p cause) c refl)
   note_proper (next.End state failed) c =
-      (proper s.schemas (world_of s.entries) [] number goes.0 (entry.Done number state failed) goes.1 refl (may (next.End state failed) (entry.Done number state failed) c refl), tt)
+      laws.proper s.schemas (world_of s.entries) [] number goes.0 (entry.Done number state failed) goes.1 refl (may (next.End state failed) (entry.Done number state failed) c refl)
   note_proper next.Wait c = tt
 
   -- it is written, and no lane is called
@@ -258,19 +264,19 @@ module _ (s : Scene) (number : ℕ) (goes : GoesOn number (world_of s.entries)) 
   quiet (next.Step path lane token r repeated) c q = some_none token q
   quiet (next.Keep path physical w) c q =
       let e : Entry = entry.Kept number path physical w in
-      goes_to e (goes_on s.schemas s.names (world_of s.entries) s.told s.told s.counts s.counts number goes.0 e goes.1 refl (may (next.Keep path physical w) e c refl, refl, refl))
+      goes_to e (laws.goes_on s.schemas s.names (world_of s.entries) s.told s.told s.counts s.counts number goes.0 e goes.1 refl (may (next.Keep path physical w) e c refl, refl, refl))
   quiet (next.Turn p cause) c q =
       let e : Entry = entry.Phase number p cause in
-      goes_to e (goes_on s.schemas s.names (world_of s.entries) s.told s.told s.counts s.counts number goes.0 e goes.1 refl (may (next.Turn p cause) e c refl, refl, refl))
+      goes_to e (laws.goes_on s.schemas s.names (world_of s.entries) s.told s.told s.counts s.counts number goes.0 e goes.1 refl (may (next.Turn p cause) e c refl, refl, refl))
   quiet (next.End state failed) c q = ([], state, failed, refl)
-  quiet next.Wait c q = absurd (never_waits s.schemas (world_of s.entries) number c)
+  quiet next.Wait c q = absurd (never_waits s.schemas (world_of s.entries) number c.0)
 
   -- before a call the operation goes on
   goes_noted : (n : Next) (token : ℕ) → Comes n → called_by n ≡ Some token → GoesOn number (world_of (s.entries ++ note_of n))
   goes_noted (next.Step path lane token r true) t c q = subst (λ l. GoesOn number (world_of l)) (sym (append-nil s.entries)) goes
   goes_noted (next.Step path lane token r false) t c q =
       let e : Entry = entry.Intent number token lane path r in
-      goes_to e (goes_on s.schemas s.names (world_of s.entries) s.told s.told s.counts s.counts number goes.0 e goes.1 refl (may (next.Step path lane token r false) e c refl, refl, refl))
+      goes_to e (laws.goes_on s.schemas s.names (world_of s.entries) s.told s.told s.counts s.counts number goes.0 e goes.1 refl (may (next.Step path lane token r false) e c refl, refl, refl))
   goes_noted (next.Keep path physical w) t c q = none_some t q
   goes_noted (next.Turn p cause) t c q = none_some t q
   goes_noted (next.End state failed) t c q = none_some t q
@@ -286,10 +292,10 @@ module _ (s : Scene) (number : ℕ) (goes : GoesOn number (world_of s.entries)) 
   -- the call that is to be made is open
   pub note_opens : (n : Next) (es : List Entry) → Comes n → es ≡ s.entries ++ note_of n → IfSome (called_by n) (λ t. (p : Pending) × (open_call number t (world_of es) ≡ Some p))
   note_opens (next.Step path lane token r true) es c e =
-      let o = repeats_open s.schemas (world_of s.entries) number path lane token r c in
+      let o = repeats_open s.schemas (world_of s.entries) number path lane token r c.0 in
       (o.0, ap (λ l. open_call number token (world_of l)) (e ∙ append-nil s.entries) ∙ o.1)
   note_opens (next.Step path lane token r false) es c e =
-      let o = opens (world_of s.entries) number goes.0 token lane path r goes.1 in
+      let o = laws.opens (world_of s.entries) number goes.0 token lane path r goes.1 in
       (o.0, ap (open_call number token) (ap world_of e ∙ world_one s.entries (entry.Intent number token lane path r)) ∙ o.1)
   note_opens (next.Keep path physical w) es c e = tt
   note_opens (next.Turn p cause) es c e = tt
@@ -338,7 +344,7 @@ module _ (s : Scene) (number : ℕ) (goes : GoesOn number (world_of s.entries)) 
           subst (λ l. IsDone s.schemas s.names (world_of l) s.told s.told' s.counts s.counts' o) e d in
           let on = goes_noted n token c q in
           let further : IsUnderWay number on.0 (world_after (world_of (s.entries ++ note_of n)) o) =
-          goes_on s.schemas s.names (world_of (s.entries ++ note_of n)) s.told s.told' s.counts s.counts' number on.0 o on.1 refl done_there in (
+          laws.goes_on s.schemas s.names (world_of (s.entries ++ note_of n)) s.told s.told' s.counts s.counts' number on.0 o on.1 refl done_there in (
             note_of n ++ o ∷ [],
             wrote_on s number (note_of n) s.told s.counts (o ∷ []) s.told' s.counts' (note_wrote n c) (wrote_one (since s (note_of n) s.told s.counts) number o s.told' s.counts' refl done_there),
             subst (λ t. Leaves number s.entries (note_of n ++ o ∷ []) t) (moved_by n token q) (

@@ -1,5 +1,5 @@
 -- A deployment behind the opening of the journal.
-use Rattle.std.proofs.Common.{◌≡◌, inl, inr, ℕ, ◌≤◌, List, [], ◌∷◌, ◌++◌, None, Result, Ok, Err, subst}
+use Rattle.std.proofs.Common.{◌≡◌, inl, inr, ℕ, ◌≤◌, List, Result, Err, subst}
 use Rattle.std.specs.Bool.{IsTrue}
 use Rattle.std.specs.List.{list_all}
 use Rattle.cf_handler.specs.Name.{is_lane_name}
@@ -12,7 +12,7 @@ use Rattle.cf_top.specs.Opening.{EnterTells}
 use Rattle.cf_top.specs.Deployment.{IsUnasked, DeploysAs}
 use Rattle.cf_top.specs.Meeting.{AreQuiet, EndsEarly, MayOpen, Meeting, WasEntered, open_over, opened}
 
-pub entered : (m : Meeting) (name : List ℕ) (choice : Choice) (outcome : Result (Unit {0}) Exit) (old es now : List Entry) (room_now faults : ℕ) → m.faults ≤ faults → Holds m.tells m.bytes old → MayOpen m old → IsTrue (list_all is_lane_name m.names) → es ≡ open_over m old → room_now ≡ m.room → DeploysAs m.shelf (kinds_of m.schemas) (record (opened m old faults now) { entries = es; room = room_now }) name choice outcome → WasEntered m name choice now outcome
+pub entered : (m : Meeting) (name : List ℕ) (choice : Choice) (outcome : Result (Unit {0}) Exit) (old es now : List Entry) (room_now faults : ℕ) → m.faults ≤ faults → Holds m.tells m.bytes old → MayOpen m old → IsTrue (list_all is_lane_name m.names) → es ≡ open_over m old → room_now ≡ m.room → DeploysAs m.shelf (record (opened m old faults now) { entries = es; room = room_now }) name choice outcome → WasEntered m name choice now outcome
 entered m name choice outcome old es now room_now faults k h o f e r t = record {
   old = old;
   faults = faults;
@@ -21,8 +21,8 @@ entered m name choice outcome old es now room_now faults k h o f e r t = record 
   may = o;
   named = f;
   came =
-      subst (λ (x : List Entry). DeploysAs m.shelf (kinds_of m.schemas) (record (opened m old faults now) { entries = x }) name choice outcome) e
-      (subst (λ (x : ℕ). DeploysAs m.shelf (kinds_of m.schemas) (record (opened m old faults now) { entries = es; room = x }) name choice outcome) r t);
+      subst (λ (x : List Entry). DeploysAs m.shelf (record (opened m old faults now) { entries = x }) name choice outcome) e
+      (subst (λ (x : ℕ). DeploysAs m.shelf (record (opened m old faults now) { entries = es; room = x }) name choice outcome) r t);
 }
 
 -- the opening was not written

@@ -1,5 +1,5 @@
 -- What fails the forward phase of a creation is among its stack's entries.
-use Rattle.std.proofs.Common.{◌≡◌, ℕ, ◌==◌, List, [], ◌∷◌, ◌++◌, Bool, true, false, Option, Some, None, refl, sym, ap, ◌∙◌}
+use Rattle.std.proofs.Common.{◌≡◌, ℕ, ◌==◌, List, [], ◌∷◌, ◌++◌, Bool, true, false, Option, Some, None, refl, ap, ◌∙◌}
 use Rattle.std.specs.Prelude.{cond}
 use Rattle.std.specs.List.{list_any}
 use Rattle.std.specs.Option.{option_or}
@@ -10,8 +10,9 @@ use Rattle.cf_entry.specs.declared.entry.Reply.{Reply}
 use Rattle.cf_entry.specs.declared.entry.Reply.TheVariants as reply
 use Rattle.cf_entry.specs.declared.turn.Reason.{Reason}
 use Rattle.cf_entry.specs.declared.turn.Reason.TheVariants as reason
-use Rattle.cf_stacks.specs.declared.state.StackState.{StackState}
-use Rattle.cf_stacks.specs.Operation.{before_first, up_to_last, after_last, is_phase, is_turn_or_opening, forward_of, now_of, doubts_in, call_of}
+use Rattle.cf_stacks.specs.World.{StackState}
+use Rattle.cf_stacks.specs.Operation.{before_first, up_to_last, after_last, is_phase, is_turn_or_opening, forward_of, now_of, doubts_in}
+use Rattle.cf_stacks.specs.Calls.{call_of}
 use Rattle.cf_plan.specs.Forward.{In, here, there, is_refused_call, refusing, doubting, first_refusing, first_failing_behind, first_failing}
 use Rattle.cf_top.specs.Turning.{reason_in}
 

@@ -1,13 +1,12 @@
 -- What the journal has after a command, from what its run came to.
-use Rattle.std.proofs.Common.{◌≡◌, ◌⊎◌, inl, inr, ℕ, List, [], ◌∷◌, ◌++◌, false, Result, Ok, Err, refl, sym, ap, ◌∙◌, subst, append_assoc, append-nil, true≢false}
-use Rattle.std.specs.Bool.{IsTrue}
+use Rattle.std.proofs.Common.{◌⊎◌, inl, inr, ℕ, List, [], ◌∷◌, ◌++◌, Result, Ok, Err, refl, sym, ap, subst, append_assoc, append-nil, true≢false}
+use Rattle.cf_tree.specs.declared.source.Source.{Source}
 use Rattle.cf_schema.specs.declared.described.Schema.{Schema}
 use Rattle.cf_entry.specs.declared.entry.Entry.{Entry}
 use Rattle.cf_entry.specs.declared.entry.Entry.TheVariants as entry
 use Rattle.cf_journal.specs.Record.{record_of}
-use Rattle.cf_stacks.specs.declared.state.StackState.{StackState}
-use Rattle.cf_stacks.specs.declared.state.World.{World}
-use Rattle.cf_stacks.specs.Fold.{empty_world, fold_of, world_after}
+use Rattle.cf_stacks.specs.World.{StackState, World, empty_world}
+use Rattle.cf_stacks.specs.Fold.{fold_of, world_after}
 use Rattle.cf_plan.specs.Follow.{MayFollow}
 use Rattle.cf_plan.specs.Forward.{In, here, there}
 use Rattle.cf_plan.specs.Run.{IsDone, IsOwn, Runs, Told}
@@ -18,11 +17,8 @@ use Rattle.cf_top.specs.declared.book.Halt.{Halt}
 use Rattle.cf_top.specs.declared.book.Halt.TheVariants as halt
 use Rattle.cf_top.specs.Book.{HaltsAt, Holds, world_of}
 use Rattle.cf_top.specs.Scene.{Scene, since}
-use Rattle.cf_top.specs.Lanes.{kinds_of}
-use Rattle.cf_top.specs.Driving.{Halts, HaltsBefore, HaltsInCall, WasCutShort, Wrote}
-use Rattle.cf_top.specs.Creating.{CreateTells}
-use Rattle.cf_top.specs.Refusals.{source_of}
-use Rattle.cf_top.specs.Deployment.{IsFound}
+use Rattle.cf_top.specs.Driving.{HaltsBefore, HaltsInCall, WasCutShort, Wrote}
+use Rattle.cf_top.specs.Deployment.{CreatesBy, IsFound}
 use Rattle.cf_top.specs.Meeting.{AreQuiet, EndsEarly, IsKept, MayOpen, Meeting, WasEntered, WasNotEntered, open_over, opened}
 use Rattle.cf_top.specs.Alone.{CameTo, Comes, HasOpened, HasRun, Journals, Untouched, begun_in, number_in, run_in}
 use Rattle.cf_top.proofs.Books.{fold_append}
@@ -76,9 +72,9 @@ own_more number [] e h o x (there i) = elim i [ ]
 own_more number (f ∷ es) e h o x here = h f here
 own_more number (f ∷ es) e h o x (there i) = own_more number es e (λ y j. h y (there j)) o x i
 
-module _ (m : Meeting) (name : List ℕ) (choice : Choice) (bytes : List ℕ) (old now : List Entry) (faults : ℕ) (was : Holds m.tells m.bytes old) (may : MayOpen m old) (found : IsFound m.shelf (kinds_of m.schemas) (opened m old faults now) name choice bytes) where
+module _ (m : Meeting) (name : List ℕ) (choice : Choice) (source : Source) (old now : List Entry) (faults : ℕ) (was : Holds m.tells m.bytes old) (may : MayOpen m old) (found : IsFound m.shelf (opened m old faults now) name choice source) where
   abbrev s : Scene
-  s = run_in m old faults now name choice bytes
+  s = run_in m old faults now name source
 
   abbrev number : ℕ
   number = number_in m old
@@ -90,7 +86,7 @@ module _ (m : Meeting) (name : List ℕ) (choice : Choice) (bytes : List ℕ) (o
     faults = faults;
     was = was;
     may = may;
-    bytes = bytes;
+    source = source;
     found = found;
     es = es;
     told = told;
@@ -134,7 +130,7 @@ module _ (m : Meeting) (name : List ℕ) (choice : Choice) (bytes : List ℕ) (o
   cut_short h c = elim c.halts [ inl b ↦ cut_before c.es c.told c.counts h c.wrote b | inr b ↦ cut_in_call c.es c.told c.counts h c.wrote b ]
 
   -- before the beginning
-  at_begin : (h : Halt) → AreQuiet m → HaltsAt m.tells m.bytes' m.room faults m.faults' (open_over m old) (begun_in m old name choice bytes) h → HasOpened m ⊎ HasRun m name choice
+  at_begin : (h : Halt) → AreQuiet m → HaltsAt m.tells m.bytes' m.room faults m.faults' (open_over m old) (begun_in m old name source) h → HasOpened m ⊎ HasRun m name choice
   at_begin (halt.Full long need room) q t = inl (opening_written m old q was may t.0)
   at_begin halt.NoMemory q t = inl (opening_written m old q was may t)
   at_begin halt.DiskFault q t =
@@ -143,11 +139,11 @@ module _ (m : Meeting) (name : List ℕ) (choice : Choice) (bytes : List ℕ) (o
         | inr h ↦ inr (has_run [] m.told m.counts ((refl, refl), λ x i. elim i [ ]) (subst (Holds m.tells m.bytes') (sym (append-nil s.entries)) h))
       ]
 
-  pub halted : (h : Halt) → CreateTells (opened m old faults now) name (source_of name choice bytes) (Err h) → HasOpened m ⊎ HasRun m name choice
+  pub halted : (h : Halt) → CreatesBy (opened m old faults now) name source (Err h) → HasOpened m ⊎ HasRun m name choice
   halted h (inl t) = at_begin h (t.0, t.1) t.2
   halted h (inr t) = inr (cut_short h t)
 
-  pub whole : CreateTells (opened m old faults now) name (source_of name choice bytes) (Ok tt) → Holds m.tells m.bytes' now → HasRun m name choice
+  pub whole : CreatesBy (opened m old faults now) name source (Ok tt) → Holds m.tells m.bytes' now → HasRun m name choice
   whole t h = has_run t.0 m.told' m.counts' t.1 (subst (Holds m.tells m.bytes') t.3 h)
 
 early : (m : Meeting) (name : List ℕ) (choice : Choice) (now : List Entry) (e : Exit) → WasEntered m name choice now (Err e) → HasOpened m ⊎ HasRun m name choice

@@ -1,5 +1,7 @@
 pub mod Books
-pub mod FirstOf
+pub mod Members
+pub mod Numbers
+pub mod Alike
 pub mod Lanes
 pub mod Openings
 pub mod Told
@@ -7,7 +9,8 @@ pub mod Differing
 pub mod Failing
 pub mod Turned
 pub mod Because
-pub mod Refused
+pub mod Shaped
+pub mod Ordered
 pub mod Tested
 pub mod Deployed
 pub mod Entered

@@ -1,7 +1,8 @@
 -- What each answer of the top call says, from what its run came to.
-use Rattle.std.proofs.Common.{◌≡◌, ◌⊎◌, inl, inr, ℕ, List, [], ◌∷◌, ◌++◌, length, take, Option, Some, None, Result, Ok, Err, refl, sym, ap, ◌∙◌, subst}
+use Rattle.std.proofs.Common.{◌≡◌, ◌⊎◌, inl, inr, ℕ, List, [], ◌∷◌, length, Option, Some, None, Result, Ok, Err, refl, sym, ap, ◌∙◌, subst}
 use Rattle.std.proofs.Math.Seq.{take-length}
 use Rattle.std.specs.Io.KnownBytes.{Appends}
+use Rattle.cf_tree.specs.declared.source.Source.{Source}
 use Rattle.cf_entry.specs.declared.entry.Entry.{Entry}
 use Rattle.cf_entry.specs.declared.status.Status.{Status}
 use Rattle.cf_entry.specs.declared.status.Status.TheVariants as status
@@ -9,34 +10,34 @@ use Rattle.cf_entry.specs.declared.turn.Cause.{Cause}
 use Rattle.cf_entry.specs.declared.turn.Cause.TheVariants as cause
 use Rattle.cf_entry.specs.declared.turn.Reason.{Reason}
 use Rattle.cf_io.specs.Library.{Texts, text_at, StandsUnder}
-use Rattle.cf_stacks.specs.declared.state.StackState.{StackState}
+use Rattle.cf_stacks.specs.World.{StackState}
 use Rattle.cf_face.specs.declared.words.Choice.{Choice}
 use Rattle.cf_face.specs.declared.exit.Exit.{Exit}
 use Rattle.cf_face.specs.declared.exit.Exit.TheVariants as exit
 use Rattle.cf_face.specs.declared.exit.Refusal.{Refusal}
-use Rattle.cf_face.specs.declared.exit.Refusal.TheVariants as refusal
-use Rattle.cf_face.specs.declared.exit.StackFault.TheVariants as stack
 use Rattle.cf_face.specs.Print.{PrintTells}
 use Rattle.cf_top.specs.declared.book.Halt.{Halt}
 use Rattle.cf_top.specs.declared.book.Halt.TheVariants as halt
-use Rattle.cf_top.specs.Book.{HaltsAt, HasFaulted, Holds, world_of}
-use Rattle.cf_top.specs.Lanes.{kinds_of, one_of_each}
+use Rattle.cf_top.specs.Book.{HasFaulted, Holds, world_of}
+use Rattle.cf_top.specs.Lanes.{one_of_each}
 use Rattle.cf_top.specs.Scene.{Scene}
 use Rattle.cf_top.specs.Driving.{WasCutShort}
-use Rattle.cf_top.specs.Creating.{CreateTells, beginning, behind, next_number}
+use Rattle.cf_top.specs.Creating.{CreateTells, behind, next_number}
 use Rattle.cf_top.specs.Opening.{exit_of as halt_exit}
-use Rattle.cf_top.specs.Refusals.{refusal_of, source_of}
-use Rattle.cf_top.specs.Deployment.{IsRefusedFor, RefusesEarly}
-use Rattle.cf_top.specs.Meeting.{EndsEarly, Meeting, WasEntered, open_over, opened}
+use Rattle.cf_top.specs.Refusals.{refusal_of}
+use Rattle.cf_top.specs.Meeting.{EndsEarly, Meeting, open_over, opened}
 use Rattle.cf_top.specs.Telling.{exit_at, exit_for, exit_of, text_of}
-use Rattle.cf_plan.specs.Forward.{In, here}
+use Rattle.cf_plan.specs.Forward.{here}
 use Rattle.cf_top.specs.Turning.{AreBlamed, HasFailedCall}
-use Rattle.cf_top.specs.Alone.{AloneTells, BeginsSoundly, BlamesNone, CameTo, Comes, ComesBefore, EndsFor, EndsUnfailed, HasEnded, HasStack, IsAnswered, IsCutShort, IsDeployed, IsOneOf, IsRefusal, NoCountRose, Printing, RoseAt, Says, begun_in, begun_world, deploy_words, number_in}
+use Rattle.cf_top.specs.Alone.{AloneTells, BeginsSoundly, BlamesNone, CameTo, Comes, ComesBefore, EndsFor, EndsUnfailed, HasStack, IsAnswered, IsCutShort, IsDeployed, IsOneOf, IsRefusal, NoCountRose, Printing, Says, begun_in, begun_world, deploy_words, number_in}
+use Rattle.cf_top.specs.Deployment.{barring}
 use Rattle.cf_top.proofs.Books.{faulted_since}
-use Rattle.cf_top.proofs.Refused.{some≢none}
-use Rattle.cf_top.proofs.Promised.{because, promised}
+use Rattle.cf_top.proofs.Promised.{Laws, because, promised}
 use Rattle.cf_top.proofs.Steady.{all_succeed, call_rose}
 use Rattle.cf_top.proofs.Journaled.{journals}
+
+some≢none : {A : Type 0} (x : A) → Some x ≡ None → ⊥
+some≢none x e = cc
 
 -- a text that was printed whole is a prefix of itself
 cut_whole : (m : Meeting) (p : Printing) (words : List (List ℕ)) (stack : List ℕ) (outcome : Result StackState Exit) → Comes m words stack outcome → Appends p.held p.held' (text_of stack outcome) → IsCutShort m p words
@@ -52,8 +53,8 @@ cut_whole m p words stack outcome c a = record {
 abbrev pub AreAsMany : Meeting → Type 0
 AreAsMany m = (length m.schemas ≡ length m.names) × (length m.told ≡ length m.names)
 
-deployed_says : (m : Meeting) (p : Printing) (words : List (List ℕ)) (name : List ℕ) (choice : Choice) (st : StackState) → AreAsMany m → deploy_words words ≡ Some (name, choice) → HasStack m name choice st → Appends p.held p.held' (text_of name (Ok st)) → IsDeployed m p words (exit_for st)
-deployed_says m p words name choice st n s h a =
+deployed_says : Laws → (m : Meeting) (p : Printing) (words : List (List ℕ)) (name : List ℕ) (choice : Choice) (st : StackState) → AreAsMany m → deploy_words words ≡ Some (name, choice) → HasStack m name choice st → Appends p.held p.held' (text_of name (Ok st)) → IsDeployed m p words (exit_for st)
+deployed_says laws m p words name choice st n s h a =
     let w = h.entered in record {
       name = name;
       choice = choice;
@@ -63,7 +64,7 @@ deployed_says m p words name choice st n s h a =
       faults = w.faults;
       was = w.was;
       may = w.may;
-      bytes = w.came.0;
+      source = w.came.0;
       found = w.came.1;
       es = w.came.2.0;
       wrote = w.came.2.1;
@@ -74,9 +75,9 @@ deployed_says m p words name choice st n s h a =
       stack = st;
       here = h.here;
       exit_is = refl;
-      because = because m name choice w.came.0 w.old h.now w.came.2.0 w.faults st w.came.1 w.may w.came.3 w.came.2.1 w.came.2.3 w.named n h.here h.over;
+      because = because laws m name choice w.came.0 w.old h.now w.came.2.0 w.faults st w.came.1 w.may w.came.3 w.came.2.1 w.came.2.3 w.named n h.here h.over;
       printed = a;
-      promise = promised m name choice w.came.0 w.old h.now w.came.2.0 w.faults st w.came.1 w.may w.came.3 w.came.2.1 w.came.2.3 w.named n h.here;
+      promise = promised laws m name choice w.came.0 w.old h.now w.came.2.0 w.faults st w.came.1 w.may w.came.3 w.came.2.1 w.came.2.3 w.named n h.here;
     }
 
 -- an operation that ended says so by one of three exits
@@ -148,22 +149,22 @@ ended_says m p words name choice (exit.NotAJournal offset) s r a = record { name
 ended_says m p words name choice (exit.LaneTwice lane) s r a = record { name = name; choice = choice; said = s; ran = r; printed = a }
 ended_says m p words name choice (exit.Full long need room) s r a = record { name = name; choice = choice; said = s; ran = r; printed = a }
 
-deploy_says : (m : Meeting) (p : Printing) (words : List (List ℕ)) (name : List ℕ) (choice : Choice) (outcome : Result StackState Exit) → AreAsMany m → deploy_words words ≡ Some (name, choice) → CameTo m name choice outcome → Appends p.held p.held' (text_of name outcome) → Says m p words (exit_of outcome)
-deploy_says m p words name choice (Ok st) n s r a = says_deployed m p words st st.status (deployed_says m p words name choice st n s r a)
-deploy_says m p words name choice (Err e) n s r a = ended_says m p words name choice e s r a
+deploy_says : Laws → (m : Meeting) (p : Printing) (words : List (List ℕ)) (name : List ℕ) (choice : Choice) (outcome : Result StackState Exit) → AreAsMany m → deploy_words words ≡ Some (name, choice) → CameTo m name choice outcome → Appends p.held p.held' (text_of name outcome) → Says m p words (exit_of outcome)
+deploy_says laws m p words name choice (Ok st) n s r a = says_deployed m p words st st.status (deployed_says laws m p words name choice st n s r a)
+deploy_says laws m p words name choice (Err e) n s r a = ended_says m p words name choice e s r a
 
-said_by : (m : Meeting) (p : Printing) (words : List (List ℕ)) (stack : List ℕ) (outcome : Result StackState Exit) → AreAsMany m → Comes m words stack outcome → Appends p.held p.held' (text_of stack outcome) → Says m p words (exit_of outcome)
-said_by m p words stack outcome k (inl (q, n, u)) a =
+said_by : Laws → (m : Meeting) (p : Printing) (words : List (List ℕ)) (stack : List ℕ) (outcome : Result StackState Exit) → AreAsMany m → Comes m words stack outcome → Appends p.held p.held' (text_of stack outcome) → Says m p words (exit_of outcome)
+said_by laws m p words stack outcome k (inl (q, n, u)) a =
     subst (λ (x : Result StackState Exit). Says m p words (exit_of x)) (sym q) (n, u, subst (λ (x : Result StackState Exit). Appends p.held p.held' (text_of stack x)) q a)
-said_by m p words stack outcome k (inr (inl (q, u))) a =
+said_by laws m p words stack outcome k (inr (inl (q, u))) a =
     subst (λ (x : Result StackState Exit). Says m p words (exit_of x)) (sym q) (cut_whole m p words stack outcome (inr (inl (q, u))) a)
-said_by m p words stack outcome k (inr (inr (choice, s, r))) a = deploy_says m p words stack choice outcome k s r a
+said_by laws m p words stack outcome k (inr (inr (choice, s, r))) a = deploy_says laws m p words stack choice outcome k s r a
 
-printed_says : (m : Meeting) (p : Printing) (words : List (List ℕ)) (result : Exit) (stack : List ℕ) (outcome : Result StackState Exit) → AreAsMany m → Comes m words stack outcome → PrintTells p.held p.held' p.faults p.faults' (text_of stack outcome) (exit_of outcome) result → Says m p words result
-printed_says m p words result stack outcome k c (inl (e, a)) = subst (Says m p words) (sym e) (said_by m p words stack outcome k c a)
-printed_says m p words result stack outcome k c (inr (inl (e, r, a))) =
+printed_says : Laws → (m : Meeting) (p : Printing) (words : List (List ℕ)) (result : Exit) (stack : List ℕ) (outcome : Result StackState Exit) → AreAsMany m → Comes m words stack outcome → PrintTells p.held p.held' p.faults p.faults' (text_of stack outcome) (exit_of outcome) result → Says m p words result
+printed_says laws m p words result stack outcome k c (inl (e, a)) = subst (Says m p words) (sym e) (said_by laws m p words stack outcome k c a)
+printed_says laws m p words result stack outcome k c (inr (inl (e, r, a))) =
     subst (Says m p words) (sym e) (r, record { stack = stack; outcome = outcome; length = a.0; comes = c; printed = a.1 })
-printed_says m p words result stack outcome k c (inr (inr (e, a))) =
+printed_says laws m p words result stack outcome k c (inr (inr (e, a))) =
     subst (Says m p words) (sym e) (record { stack = stack; outcome = outcome; length = a.0; comes = c; printed = a.1 })
 
 no_words : (words : List (List ℕ)) (said : List ℕ × Choice) → deploy_words words ≡ Some said → deploy_words words ≡ None → ⊥
@@ -203,12 +204,11 @@ cut_rose s number w =
       | inr b ↦ elim b.7 [ inl x ↦ (let no : ⊥ = cc in absurd no) | inr x ↦ x.3.0 ]
     ]
 
-create_rose : (s : Scene) (name : List ℕ) (choice : Choice) (bytes : List ℕ) (h : Halt) → exit.DiskFault ≡ halt_exit h → CreateTells s name (source_of name choice bytes) (Err h) → HasFaulted s.faults s.faults'
-create_rose s name choice bytes (halt.Full long need room) q t = let no : ⊥ = cc in absurd no
-create_rose s name choice bytes halt.NoMemory q t = let no : ⊥ = cc in absurd no
-create_rose s name choice bytes halt.DiskFault q (inl t) = t.2.0
-create_rose s name choice bytes halt.DiskFault q (inr t) =
-    cut_rose (behind s (beginning (next_number s.entries) name (source_of name choice bytes))) (next_number s.entries) t
+create_rose : (s : Scene) (begun : Entry) (h : Halt) → exit.DiskFault ≡ halt_exit h → CreateTells s begun (Err h) → HasFaulted s.faults s.faults'
+create_rose s begun (halt.Full long need room) q t = let no : ⊥ = cc in absurd no
+create_rose s begun halt.NoMemory q t = let no : ⊥ = cc in absurd no
+create_rose s begun halt.DiskFault q (inl t) = t.2.0
+create_rose s begun halt.DiskFault q (inr t) = cut_rose (behind s begun) (next_number s.entries) t
 
 disk_rose : (m : Meeting) (p : Printing) (name : List ℕ) (choice : Choice) → EndsEarly m name choice exit.DiskFault → NoCountRose m p → ⊥
 disk_rose m p name choice (inl x) c = c.disk x.0
@@ -216,41 +216,41 @@ disk_rose m p name choice (inr (inl w)) c = c.disk (faulted_since w.later w.why.
 disk_rose m p name choice (inr (inr w)) c =
     elim w.1.came [
       | inl x ↦ x.0.1
-      | inr x ↦ c.disk (faulted_since w.1.later (create_rose (opened m w.1.old w.1.faults w.0) name choice x.0 x.1 x.3 x.4)).1
+      | inr x ↦ c.disk (faulted_since w.1.later (create_rose (opened m w.1.old w.1.faults w.0) (begun_in m w.1.old name x.0) x.1 x.3 x.4)).1
     ]
 
 -- a call that failed raised a count
-never_failed : (m : Meeting) (p : Printing) (number : ℕ) (es entries : List Entry) (path : List ℕ) (why : Reason) → NoCountRose m p → HasFailedCall m.counts m.counts' number es entries path why → ⊥
-never_failed m p number es entries path why c f = c.lanes f.lane.0 (call_rose m.counts m.counts' number es entries path why f)
+never_failed : (m : Meeting) (p : Printing) (number : ℕ) (es : List Entry) (s : StackState) (path : List ℕ) (why : Reason) → NoCountRose m p → HasFailedCall m.counts m.counts' number es s path why → ⊥
+never_failed m p number es s path why c f = c.lanes f.lane.0 (call_rose m.counts m.counts' number es s path why f)
 
-first_blamed : (m : Meeting) (p : Printing) (number : ℕ) (es entries : List Entry) (blamed : List (List ℕ)) → NoCountRose m p → AreBlamed m.counts m.counts' number es entries blamed → ⊥
-first_blamed m p number es entries [] c b = b.0 refl
-first_blamed m p number es entries (path ∷ blamed) c b = let f = b.1 path here in never_failed m p number es entries path f.0 c f.1
+first_blamed : (m : Meeting) (p : Printing) (number : ℕ) (es : List Entry) (s : StackState) (blamed : List (List ℕ)) → NoCountRose m p → AreBlamed m.counts m.counts' number es s blamed → ⊥
+first_blamed m p number es s [] c b = b.0 refl
+first_blamed m p number es s (path ∷ blamed) c b = let f = b.1 path here in never_failed m p number es s path f.0 c f.1
 
 -- an end blames no call where no count rose
-blames_none : (m : Meeting) (p : Printing) (old : List Entry) (name : List ℕ) (choice : Choice) (bytes : List ℕ) (es entries : List Entry) (e : Exit) → NoCountRose m p → EndsFor m old name choice bytes es entries e → BlamesNone (BeginsSoundly m (open_over m old)) e
-blames_none m p old name choice bytes es entries exit.Done c b = tt
-blames_none m p old name choice bytes es entries (exit.RolledBack (cause.Handler path why)) c b = never_failed m p (number_in m old) es entries path why c b.1
-blames_none m p old name choice bytes es entries (exit.RolledBack (cause.Plan fault)) c b = tt
-blames_none m p old name choice bytes es entries (exit.RolledBack (cause.Export export)) c b = tt
-blames_none m p old name choice bytes es entries (exit.Failed blamed) c b = λ bare. first_blamed m p (number_in m old) es entries blamed c (b bare)
-blames_none m p old name choice bytes es entries exit.BadWords c b = absurd b
-blames_none m p old name choice bytes es entries (exit.TemplateRefused fault) c b = absurd b
-blames_none m p old name choice bytes es entries (exit.StackRefused fault) c b = absurd b
-blames_none m p old name choice bytes es entries exit.LibraryFault c b = absurd b
-blames_none m p old name choice bytes es entries exit.DiskFault c b = absurd b
-blames_none m p old name choice bytes es entries exit.SinkFault c b = absurd b
-blames_none m p old name choice bytes es entries exit.NoMemory c b = absurd b
-blames_none m p old name choice bytes es entries (exit.NotAJournal offset) c b = absurd b
-blames_none m p old name choice bytes es entries (exit.LaneMissing lane) c b = absurd b
-blames_none m p old name choice bytes es entries (exit.LaneTwice lane) c b = absurd b
-blames_none m p old name choice bytes es entries (exit.Full long need room) c b = absurd b
+blames_none : (m : Meeting) (p : Printing) (old : List Entry) (name : List ℕ) (source : Source) (es : List Entry) (s : StackState) (e : Exit) → NoCountRose m p → EndsFor m old name source es s e → BlamesNone (BeginsSoundly m (open_over m old)) e
+blames_none m p old name source es s exit.Done c b = tt
+blames_none m p old name source es s (exit.RolledBack (cause.Handler path why)) c b = never_failed m p (number_in m old) es s path why c b.1
+blames_none m p old name source es s (exit.RolledBack (cause.Plan fault)) c b = tt
+blames_none m p old name source es s (exit.RolledBack (cause.Export export)) c b = tt
+blames_none m p old name source es s (exit.Failed blamed) c b = λ bare. first_blamed m p (number_in m old) es s blamed c (b bare)
+blames_none m p old name source es s exit.BadWords c b = absurd b
+blames_none m p old name source es s (exit.TemplateRefused fault) c b = absurd b
+blames_none m p old name source es s (exit.StackRefused fault) c b = absurd b
+blames_none m p old name source es s exit.LibraryFault c b = absurd b
+blames_none m p old name source es s exit.DiskFault c b = absurd b
+blames_none m p old name source es s exit.SinkFault c b = absurd b
+blames_none m p old name source es s exit.NoMemory c b = absurd b
+blames_none m p old name source es s (exit.NotAJournal offset) c b = absurd b
+blames_none m p old name source es s (exit.LaneMissing lane) c b = absurd b
+blames_none m p old name source es s (exit.LaneTwice lane) c b = absurd b
+blames_none m p old name source es s (exit.Full long need room) c b = absurd b
 
 unfailed : (m : Meeting) (p : Printing) (words : List (List ℕ)) (e : Exit) → IsDeployed m p words e → NoCountRose m p → EndsUnfailed m p words e
 unfailed m p words e d c = (
   d,
-  λ x i. all_succeed (one_of_each m.schemas) m.names d.es (begun_world m d.old d.name d.choice d.bytes) m.told m.told' m.counts m.counts' d.wrote.0 c.lanes x i,
-  blames_none m p d.old d.name d.choice d.bytes d.es d.stack.entries e c d.because,
+  λ x i. all_succeed (one_of_each m.schemas) m.names d.es (begun_world m d.old d.name d.source) m.told m.told' m.counts m.counts' d.wrote.0 c.lanes x i,
+  blames_none m p d.old d.name d.source d.es d.stack e c d.because,
 )
 
 otherwise : (m : Meeting) (p : Printing) (words : List (List ℕ)) (result : Exit) (said : List ℕ × Choice) → Says m p words result → deploy_words words ≡ Some said → NoCountRose m p → EndsUnfailed m p words result ⊎ ((result ≡ exit.NoMemory) ⊎ IsRefusal result)
@@ -275,20 +275,21 @@ some_inside x y e = cc
 -- why a deployment behind whatever entries the disk may have is refused
 abbrev Foretells : Meeting → List ℕ → Choice → Texts → Refusal → Type 0
 Foretells m name choice texts fault =
-    (es : List Entry) → Holds m.tells m.bytes es → refusal_of (kinds_of m.schemas) choice name (number_in m es) (text_at choice.template texts) ≡ Some fault
+    (es : List Entry) → Holds m.tells m.bytes es → barring name (world_of (open_over m es)) ≡ None
+    → refusal_of (one_of_each m.schemas) (world_of (open_over m es)) name choice (text_at choice.template texts) ≡ Some fault
 
 -- what stands in a library that tells its texts decides whether the template is refused
-foretold : (m : Meeting) (words : List (List ℕ)) (name : List ℕ) (choice : Choice) (name' : List ℕ) (choice' : Choice) (texts : Texts) (found : Option (List ℕ)) (fault : Refusal) (old : List Entry) → deploy_words words ≡ Some (name, choice) → deploy_words words ≡ Some (name', choice') → m.shelf.texts ≡ Some texts → StandsUnder m.shelf.texts choice'.template found → Holds m.tells m.bytes old → Foretells m name choice texts fault → refusal_of (kinds_of m.schemas) choice' name' (number_in m old) found ≡ Some fault
-foretold m words name choice name' choice' texts found fault old s s' t u h r =
+foretold : (m : Meeting) (words : List (List ℕ)) (name : List ℕ) (choice : Choice) (name' : List ℕ) (choice' : Choice) (texts : Texts) (found : Option (List ℕ)) (fault : Refusal) (old : List Entry) → deploy_words words ≡ Some (name, choice) → deploy_words words ≡ Some (name', choice') → m.shelf.texts ≡ Some texts → StandsUnder m.shelf.texts choice'.template found → Holds m.tells m.bytes old → barring name' (world_of (open_over m old)) ≡ None → Foretells m name choice texts fault → refusal_of (one_of_each m.schemas) (world_of (open_over m old)) name' choice' found ≡ Some fault
+foretold m words name choice name' choice' texts found fault old s s' t u h free r =
     let same : (name', choice') ≡ (name, choice) = some_inside (name', choice') (name, choice) (sym s' ∙ s) in
     let stands : found ≡ text_at choice'.template texts = subst (λ (x : Option Texts). StandsUnder x choice'.template found) t u in
-    ap (refusal_of (kinds_of m.schemas) choice' name' (number_in m old)) stands
-    ∙ ap (λ (x : List ℕ × Choice). refusal_of (kinds_of m.schemas) x.1 x.0 (number_in m old) (text_at x.1.template texts)) same
-    ∙ r old h
+    ap (refusal_of (one_of_each m.schemas) (world_of (open_over m old)) name' choice') stands
+    ∙ ap (λ (x : List ℕ × Choice). refusal_of (one_of_each m.schemas) (world_of (open_over m old)) x.0 x.1 (text_at x.1.template texts)) same
+    ∙ r old h (subst (λ (x : List ℕ × Choice). barring x.0 (world_of (open_over m old)) ≡ None) same free)
 
 deployed_unrefused : (m : Meeting) (p : Printing) (words : List (List ℕ)) (name : List ℕ) (choice : Choice) (texts : Texts) (fault : Refusal) (e : Exit) → IsDeployed m p words e → deploy_words words ≡ Some (name, choice) → m.shelf.texts ≡ Some texts → Foretells m name choice texts fault → ⊥
 deployed_unrefused m p words name choice texts fault e s w t r =
-    some≢none fault (sym (foretold m words name choice s.name s.choice texts (Some s.bytes) fault s.old w s.said t s.found.stands s.was r) ∙ s.found.sound)
+    some≢none fault (sym (foretold m words name choice s.name s.choice texts (Some s.found.bytes) fault s.old w s.said t s.found.stands s.was s.found.free r) ∙ s.found.sound)
 
 halt_no_refusal : (h : Halt) (f : Refusal) → exit.TemplateRefused f ≡ halt_exit h → ⊥
 halt_no_refusal (halt.Full long need room) f q = cc
@@ -296,14 +297,11 @@ halt_no_refusal halt.DiskFault f q = cc
 halt_no_refusal halt.NoMemory f q = cc
 
 refused_as : (m : Meeting) (words : List (List ℕ)) (name : List ℕ) (choice : Choice) (name' : List ℕ) (choice' : Choice) (texts : Texts) (fault f : Refusal) → deploy_words words ≡ Some (name, choice) → deploy_words words ≡ Some (name', choice') → m.shelf.texts ≡ Some texts → Foretells m name choice texts fault → EndsEarly m name' choice' (exit.TemplateRefused f) → (exit.TemplateRefused f ≡ exit.TemplateRefused fault) ⊎ ComesBefore (exit.TemplateRefused f)
-refused_as m words name choice name' choice' texts fault (refusal.NotYet lane) s s' t r (inl x) = inr (ap refusal.NotYet x.0.0)
-refused_as m words name choice name' choice' texts fault (refusal.Read lane f) s s' t r (inl x) = absurd x.0
-refused_as m words name choice name' choice' texts fault (refusal.Plan f) s s' t r (inl x) = absurd x.0
-refused_as m words name choice name' choice' texts fault (refusal.UnknownType path kind) s s' t r (inl x) = absurd x.0
+refused_as m words name choice name' choice' texts fault f s s' t r (inl x) = absurd x.0
 refused_as m words name choice name' choice' texts fault f s s' t r (inr (inl w)) = absurd w.why
 refused_as m words name choice name' choice' texts fault f s s' t r (inr (inr w)) =
     elim w.1.came [
-      | inl x ↦ inl (ap exit.TemplateRefused (some_inside f fault (sym x.0.1.2 ∙ foretold m words name choice name' choice' texts x.0.1.0 fault w.1.old s s' t x.0.1.1 w.1.was r)))
+      | inl x ↦ inl (ap exit.TemplateRefused (some_inside f fault (sym x.0.1.2 ∙ foretold m words name choice name' choice' texts x.0.1.0 fault w.1.old s s' t x.0.1.1 w.1.was x.0.0 r)))
       | inr x ↦ absurd (halt_no_refusal x.1 f x.3)
     ]
 
@@ -324,9 +322,9 @@ refuses m p words (exit.Full long need room) name choice texts fault s w t r = i
 refuses m p words (exit.LaneMissing lane) name choice texts fault s w t r = inr tt
 
 -- all of it
-pub answers_of : (m : Meeting) (p : Printing) (words : List (List ℕ)) (result : Exit) → AreAsMany m → AloneTells m p words result → IsAnswered m p words result
-answers_of m p words result k t =
-    let s : Says m p words result = printed_says m p words result t.0 t.1 k t.2 t.3 in
+pub answers_of : Laws → (m : Meeting) (p : Printing) (words : List (List ℕ)) (result : Exit) → AreAsMany m → AloneTells m p words result → IsAnswered m p words result
+answers_of laws m p words result k t =
+    let s : Says m p words result = printed_says laws m p words result t.0 t.1 k t.2 t.3 in
     record {
       says = s;
       no_deploy = no_deploy m p words result s;

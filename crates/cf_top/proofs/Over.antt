@@ -1,10 +1,6 @@
 -- What the words came to, from what the deployment came to and what was printed.
-use Rattle.std.proofs.Common.{◌≡◌, inl, inr, ℕ, Bool, List, Some, Result, Ok, Err, refl, sym, subst}
-use Rattle.cf_entry.specs.declared.status.Status.{Status}
-use Rattle.cf_entry.specs.declared.status.Status.TheVariants as status
-use Rattle.cf_stacks.specs.declared.state.StackState.{StackState}
-use Rattle.cf_stacks.specs.declared.state.World.{World}
-use Rattle.cf_stacks.specs.Words.{stack_at}
+use Rattle.std.proofs.Common.{◌≡◌, inl, inr, ℕ, Bool, List, Some, Ok, Err, sym, subst}
+use Rattle.cf_stacks.specs.World.{StackState, World, stack_at}
 use Rattle.cf_plan.specs.Going.{IsOver}
 use Rattle.cf_face.specs.declared.words.Choice.{Choice}
 use Rattle.cf_face.specs.declared.exit.Exit.{Exit}
@@ -15,7 +11,7 @@ use Rattle.cf_face.specs.Print.{PrintTells}
 use Rattle.cf_top.specs.declared.book.Book.{Book}
 use Rattle.cf_top.specs.Book.{Holds, Lasts, world_of}
 use Rattle.cf_top.specs.Meeting.{EndsEarly, Meeting, RunsAs}
-use Rattle.cf_top.specs.Telling.{exit_at, exit_for}
+use Rattle.cf_top.specs.Telling.{exit_for}
 use Rattle.cf_top.specs.Alone.{AloneTells, LastsWhereOver, Printing, deploy_words}
 use Rattle.cf_top.proofs.Lines.{no_Done, no_Failed, no_RolledBack}
 
@@ -28,7 +24,7 @@ Reports p name x result =
 pub is_there : (name : List ℕ) (x : World) → ((number : ℕ) × IsOver number name x) → (st : StackState) × (stack_at name x ≡ Some st)
 is_there name x o = (o.1.stack, o.1.here)
 
-pub over_tells : (m : Meeting) (p : Printing) (words : List (List ℕ)) (name : List ℕ) (choice : Choice) (book : Book) (result : Exit) → deploy_words words ≡ Some (name, choice) → RunsAs m name choice (Ok book) → Holds m.tells m.bytes' book.entries.items → book.world ≡ world_of book.entries.items → ((number : ℕ) × IsOver number name book.world) → Reports p name book.world result → AloneTells m p words result
+pub over_tells : (m : Meeting) (p : Printing) (words : List (List ℕ)) (name : List ℕ) (choice : Choice) (book : Book) (result : Exit) → deploy_words words ≡ Some (name, choice) → RunsAs m name choice (Ok book) → Holds m.tells m.bytes' book.entries.items → book.world.world ≡ world_of book.entries.items → ((number : ℕ) × IsOver number name book.world.world) → Reports p name book.world.world result → AloneTells m p words result
 over_tells m p words name choice book result s r h w o t = (
   name,
   Ok t.0,

@@ -1,5 +1,5 @@
 -- Where no lane's count rose, all calls succeeded.
-use Rattle.std.proofs.Common.{◌≡◌, inl, inr, ℕ, suc, ◌≤◌, ◌-◌, ◌^◌, List, [], ◌∷◌, sym, ap, subst, slice_index_or, arith}
+use Rattle.std.proofs.Common.{◌≡◌, inl, inr, ℕ, suc, ◌≤◌, ◌-◌, ◌^◌, List, [], ◌∷◌, sym, subst, slice_index_or, arith}
 use Rattle.std.proofs.lemmas.Bool.Decides.{leb_tells}
 use Rattle.cf_tree.specs.Counts.{HasRisen}
 use Rattle.cf_schema.specs.declared.described.Schema.{Schema}
@@ -7,7 +7,7 @@ use Rattle.cf_entry.specs.declared.entry.Entry.{Entry}
 use Rattle.cf_entry.specs.declared.entry.Entry.TheVariants as entry
 use Rattle.cf_entry.specs.declared.entry.Reply.{Reply}
 use Rattle.cf_entry.specs.declared.entry.Reply.TheVariants as reply
-use Rattle.cf_stacks.specs.declared.state.World.{World}
+use Rattle.cf_stacks.specs.World.{StackState, World}
 use Rattle.cf_stacks.specs.Fold.{world_after}
 use Rattle.cf_handler.specs.Move.{HasCause}
 use Rattle.cf_plan.specs.Forward.{In, here, there}
@@ -119,8 +119,8 @@ all_counted schemas names (d ∷ es) x told told' counts counts' r e (there i) =
     (all_counted schemas names es (world_after x d) r.0 told' r.1 counts' r.3 e i)
 
 -- a call that failed raised a lane's count
-pub call_rose : (counts counts' : List ℕ) (number : ℕ) (es entries : List Entry) (path : List ℕ) (why : Reason) (f : HasFailedCall counts counts' number es entries path why) → RoseAt f.lane.0 counts counts'
-call_rose counts counts' number es entries path why f low =
+pub call_rose : (counts counts' : List ℕ) (number : ℕ) (es : List Entry) (s : StackState) (path : List ℕ) (why : Reason) (f : HasFailedCall counts counts' number es s path why) → RoseAt f.lane.0 counts counts'
+call_rose counts counts' number es s path why f low =
     let first = f.lane.1 in
     let later = f.lane.2 in
     let last = f.lane.3 in

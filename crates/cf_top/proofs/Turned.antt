@@ -1,16 +1,13 @@
 -- A creation that was taken back turned back for a cause, which its stack's entries tell first.
-use Rattle.std.proofs.Common.{◌≡◌, ◌⊎◌, inl, inr, ℕ, ◌+◌, ◌==◌, List, [], ◌∷◌, ◌++◌, Bool, true, false, ◌&&◌, Option, Some, None, refl, sym, ap, subst, ◌∙◌, true≢false, append_assoc, append-nil, filter, find}
-use Rattle.std.specs.Prelude.{cond, option_map}
-use Rattle.std.specs.List.{filter_map, cons_option, list_any}
-use Rattle.std.specs.Str.{bytes_eq}
+use Rattle.std.proofs.Common.{◌≡◌, ◌⊎◌, inl, inr, ℕ, ◌+◌, ◌==◌, List, [], ◌∷◌, ◌++◌, Bool, true, false, ◌&&◌, Option, Some, None, refl, sym, ap, subst, ◌∙◌, append_assoc, append-nil, filter}
+use Rattle.std.specs.Prelude.{cond}
+use Rattle.std.specs.List.{filter_map, cons_option}
 use Rattle.std.proofs.lemmas.Bool.{and_from, eq-eqb}
 use Rattle.std.proofs.lemmas.List.Elements.{filter-append, filter_map-append}
-use Rattle.cf_tree.specs.Keys.{value_at}
 use Rattle.cf_schema.specs.declared.described.Schema.{Schema}
 use Rattle.cf_entry.specs.declared.entry.Entry.{Entry}
 use Rattle.cf_entry.specs.declared.entry.Entry.TheVariants as entry
 use Rattle.cf_entry.specs.declared.entry.Reply.{Reply}
-use Rattle.cf_entry.specs.declared.entry.Reply.TheVariants as reply
 use Rattle.cf_entry.specs.declared.status.Status.{Status}
 use Rattle.cf_entry.specs.declared.status.Status.TheVariants as status
 use Rattle.cf_entry.specs.declared.turn.Cause.{Cause}
@@ -18,28 +15,25 @@ use Rattle.cf_entry.specs.declared.turn.Cause.TheVariants as cause
 use Rattle.cf_entry.specs.declared.turn.Phase.{Phase}
 use Rattle.cf_entry.specs.declared.turn.Phase.TheVariants as phase
 use Rattle.cf_entry.specs.declared.turn.Reason.{Reason}
-use Rattle.cf_tree.specs.declared.request.Request.{Request}
-use Rattle.cf_tree.specs.declared.request.Request.TheVariants as request
 use Rattle.cf_tree.specs.Lists.{first_in}
 use Rattle.cf_stacks.specs.declared.held.Pending.{Pending}
-use Rattle.cf_stacks.specs.declared.state.StackState.{StackState}
-use Rattle.cf_stacks.specs.declared.state.World.{World}
-use Rattle.cf_stacks.specs.declared.terms.Terms.{Terms}
-use Rattle.cf_stacks.specs.Status.{Forward, Back, is_in_progress, stage_of, turned}
-use Rattle.cf_stacks.specs.Words.{stack_at, stack_of_operation, is_going, where_going, has_token, has_physical, is_create_at, pending_of, resources_of}
-use Rattle.cf_stacks.specs.Operation.{Call, call_at, call_in, call_of, calls_in, is_of}
-use Rattle.cf_stacks.specs.Fold.{answered, closing, done_over, ended, fold_of, heard, is_open_call, keeping, keeping_known, keeping_unknown, over, phase_over, replied, replied_with, terms_for, turning, world_after}
-use Rattle.cf_entry.specs.declared.turn.Why.{Why}
+use Rattle.cf_stacks.specs.World.{StackState, World, is_going, stack_at, stack_of_operation}
+use Rattle.cf_stacks.specs.Status.{Back, Forward, is_in_progress, stage_of, turned}
+use Rattle.cf_stacks.specs.Words.{pending_of}
+use Rattle.cf_stacks.specs.Operation.{is_of}
+use Rattle.cf_stacks.specs.Reply.{intending, keeping, replying}
+use Rattle.cf_stacks.specs.End.{ended_effect}
+use Rattle.cf_stacks.specs.Fold.{effect_at, fold_of, world_after}
 use Rattle.cf_plan.specs.Forward.{In, here, there, IsCause, first_failing, path_of_token}
 use Rattle.cf_plan.specs.Follow.{EndsAs, MayFollowIn, MayFollowOn, MayTurn}
 use Rattle.cf_plan.specs.Run.{IsDone, IsOwn, Runs, Told}
-use Rattle.cf_plan.proofs.CreatedStays.{found_one, found_still}
-use Rattle.cf_plan.proofs.RunLists.{in_either, in_front}
-use Rattle.cf_plan.proofs.RunStacks.{find_where, none_where, value_where}
+use Rattle.cf_plan.proofs.Frame.{IsOn, here_after, here_of, none_after, number_is, on_after}
 use Rattle.cf_top.specs.Telling.{cause_in}
 use Rattle.cf_top.specs.Turning.{TurnsBack, reason_in}
 use Rattle.cf_top.proofs.Books.{fold_append}
+use Rattle.cf_top.proofs.Members.{in_either, in_front}
 use Rattle.cf_top.proofs.Failing.{failing_says, some_same}
+use Rattle.cf_top.proofs.Alike.{IsLike, KeepsPaths, kept_alike, like_intended, like_kin, like_replied, like_turned, status_intended, status_replied}
 
 -- the causes that the entries of an operation tell
 abbrev pub caused : ℕ → List Entry → List Cause
@@ -58,49 +52,6 @@ quiet number e n = by_test (is_of number e) where
 first_more : (xs ys : List Cause) (c : Cause) → first_in xs ≡ Some c → first_in (xs ++ ys) ≡ Some c
 first_more [] ys c h = let no : ⊥ = cc in absurd no
 first_more (x ∷ xs) ys c h = h
-
--- what an entry changes of a stack
-abbrev Changes : Type 0
-Changes = StackState → StackState
-
--- the operation and the entries that a stack had, and its status
-record IsLike (s t : StackState) : Type 0 where
-  pub operation : t.operation ≡ s.operation
-  pub entries : t.entries ≡ s.entries
-  pub status : t.status ≡ s.status
-
-alike : (s : StackState) → IsLike s s
-alike s = record { operation = refl; entries = refl; status = refl }
-
-like_either : (b : Bool) (s t u : StackState) → IsLike s t → IsLike s u → IsLike s (cond b t u)
-like_either true s t u a c = a
-like_either false s t u a c = c
-
-like_kept : (path physical : List ℕ) (w : Why) (s : StackState) → IsLike s (keeping path physical w s)
-like_kept path physical w s =
-    like_either (bytes_eq physical []) s (cond (list_any (is_create_at path) s.tokens) (keeping_unknown path w s) s)
-    (cond (list_any (has_physical physical) (resources_of s)) (keeping_known path physical w s) s)
-    (like_either (list_any (is_create_at path) s.tokens) s (keeping_unknown path w s) s (record { operation = refl; entries = refl; status = refl }) (alike s))
-    (like_either (list_any (has_physical physical) (resources_of s)) s (keeping_known path physical w s) s (record { operation = refl; entries = refl; status = refl }) (alike s))
-
-like_answered : (t : Terms) (p : Pending) (r : Request) (a : Reply) (s : StackState) (token : ℕ) → IsLike s (closing token a (answered t p r a s))
-like_answered t p (request.Create kind props) (reply.Success physical attrs) s token = record { operation = refl; entries = refl; status = refl }
-like_answered t p (request.Create kind props) (reply.Failed code) s token = record { operation = refl; entries = refl; status = refl }
-like_answered t p (request.Create kind props) reply.Doubt s token = record { operation = refl; entries = refl; status = refl }
-like_answered t p (request.Update id props) a s token = record { operation = refl; entries = refl; status = refl }
-like_answered t p (request.Delete id) a s token = record { operation = refl; entries = refl; status = refl }
-
-like_replied : (t : Terms) (token : ℕ) (a : Reply) (p : Option Pending) (s : StackState) → IsLike s (replied_with t token a p s)
-like_replied t token a None s = alike s
-like_replied t token a (Some p) s = like_answered t p p.request a s token
-
-turned_stacks : (p : Phase) (o : Option (List ℕ × StackState)) (y : World) → (over (λ n t z. phase_over n p t z) o y).stacks ≡ y.stacks
-turned_stacks p None y = refl
-turned_stacks p (Some t) y = refl
-
-ended_stacks : (state : Status) (o : Option (List ℕ × StackState)) (y : World) → (over (λ n t z. done_over n state t z) o y).stacks ≡ y.stacks
-ended_stacks state None y = refl
-ended_stacks state (Some t) y = refl
 
 -- how the forward phase of a creation ends, and its rollback
 module _ (schemas : List Schema) (name : List ℕ) (x : World) (s : StackState) where
@@ -140,19 +91,14 @@ module _ (schemas : List Schema) (name : List ℕ) (x : World) (s : StackState) 
   back_ends status.DeleteFailed e = absurd e
   back_ends status.ReviewInProgress e = absurd e
 
--- the call of a token whose path is known
-call_there : (o : Option Call) (path : List ℕ) → option_map (λ (c : Call). c.path) o ≡ Some path → (call : Call) × (o ≡ Some call) × (call.path ≡ path)
-call_there None path h = let no : ⊥ = cc in absurd no
-call_there (Some call) path h = (call, refl, some_same h)
-
 never_so : (b c : Bool) → c ≡ false → (b && c) ≡ false
 never_so true c e = e
 never_so false c e = refl
 
--- A creation of this number on the stack of this name, behind a world; these entries are kept of what was before it, with its beginning.
+-- A creation of this number on the stack of this name, behind a world; the stack had these entries with its beginning.
 module _ (schemas : List Schema) (names : List (List ℕ)) (began : World) (number : ℕ) (name : List ℕ) (kept : List Entry) where
-  -- a call at the path failed among these entries
-  pub record FailedIn (es : List Entry) (path : List ℕ) (why : Reason) : Type 0 where
+  -- a call at the path, as the stack's ledger says, failed among these entries
+  pub record FailedIn (es : List Entry) (s : StackState) (path : List ℕ) (why : Reason) : Type 0 where
     pub at_number : ℕ
     pub token : ℕ
     pub answer : Reply
@@ -160,28 +106,24 @@ module _ (schemas : List Schema) (names : List (List ℕ)) (began : World) (numb
     pub after : ℕ
     pub stands : In (entry.Outcome at_number token answer before after) es
     pub told : reason_in answer ≡ Some why
-    pub call : Call
-    pub of_call : call_at token (kept ++ es) ≡ Some call
-    pub at_path : call.path ≡ path
+    pub at_path : path_of_token token s ≡ Some path
 
-  abbrev pub IsHandlersIn : List Entry → Cause → Type 0
-  IsHandlersIn es (cause.Handler path why) = FailedIn es path why
-  IsHandlersIn es (cause.Plan fault) = Unit {0}
-  IsHandlersIn es (cause.Export export) = Unit {0}
+  abbrev pub IsHandlersIn : List Entry → StackState → Cause → Type 0
+  IsHandlersIn es s (cause.Handler path why) = FailedIn es s path why
+  IsHandlersIn es s (cause.Plan fault) = Unit {0}
+  IsHandlersIn es s (cause.Export export) = Unit {0}
 
-  pub record TurnedFor (es : List Entry) (c : Cause) : Type 0 where
+  pub record TurnedFor (es : List Entry) (s : StackState) (c : Cause) : Type 0 where
     pub first : first_in (caused number es) ≡ Some c
     pub turn : TurnsBack schemas began number name es c
-    pub handler : IsHandlersIn es c
+    pub handler : IsHandlersIn es s c
 
   data Way (es : List Entry) (s : StackState) : Type 0 where
     makes : s.status ≡ status.CreateInProgress → caused number es ≡ [] → Way es s
-    takes_back : s.status ≡ status.RollbackInProgress → (c : Cause) → TurnedFor es c → Way es s
+    takes_back : s.status ≡ status.RollbackInProgress → (c : Cause) → TurnedFor es s c → Way es s
 
   record Course (es : List Entry) (s : StackState) : Type 0 where
-    pub going : stack_of_operation number (fold_of began es) ≡ Some (name, s)
-    pub here : stack_at name (fold_of began es) ≡ Some s
-    pub operation : s.operation ≡ number
+    pub on : IsOn number name (fold_of began es) s
     pub entries : s.entries ≡ kept ++ es
     pub way : Way es s
 
@@ -191,13 +133,10 @@ module _ (schemas : List Schema) (names : List (List ℕ)) (began : World) (numb
     pub here : stack_at name (fold_of began es) ≡ Some t
     pub operation : t.operation ≡ number
     pub entries : t.entries ≡ kept ++ es
-    pub back : t.status ≡ status.RollbackComplete → (c : Cause) × TurnedFor es c
+    pub back : t.status ≡ status.RollbackComplete → (c : Cause) × TurnedFor es t c
 
-  calls_more : (es fs : List Entry) → calls_in (kept ++ (es ++ fs)) ≡ calls_in (kept ++ es) ++ calls_in fs
-  calls_more es fs = ap calls_in (sym (append_assoc kept es fs)) ∙ filter_map-append call_in (kept ++ es) fs
-
-  failed_more : (es fs : List Entry) (path : List ℕ) (why : Reason) → FailedIn es path why → FailedIn (es ++ fs) path why
-  failed_more es fs path why f = record {
+  failed_more : (es fs : List Entry) (s t : StackState) (path : List ℕ) (why : Reason) → KeepsPaths s t → FailedIn es s path why → FailedIn (es ++ fs) t path why
+  failed_more es fs s t path why l f = record {
     at_number = f.at_number;
     token = f.token;
     answer = f.answer;
@@ -205,20 +144,16 @@ module _ (schemas : List Schema) (names : List (List ℕ)) (began : World) (numb
     after = f.after;
     stands = in_front (entry.Outcome f.at_number f.token f.answer f.before f.after) es fs f.stands;
     told = f.told;
-    call = f.call;
-    of_call =
-        ap (find (λ (c : Call). f.token == c.token)) (calls_more es fs)
-        ∙ found_still (λ (c : Call). f.token == c.token) (calls_in (kept ++ es)) (calls_in fs) f.call f.of_call;
-    at_path = f.at_path;
+    at_path = l f.token path f.at_path;
   }
 
-  handler_more : (es fs : List Entry) (c : Cause) → IsHandlersIn es c → IsHandlersIn (es ++ fs) c
-  handler_more es fs (cause.Handler path why) f = failed_more es fs path why f
-  handler_more es fs (cause.Plan fault) f = tt
-  handler_more es fs (cause.Export export) f = tt
+  handler_more : (es fs : List Entry) (s t : StackState) (c : Cause) → KeepsPaths s t → IsHandlersIn es s c → IsHandlersIn (es ++ fs) t c
+  handler_more es fs s t (cause.Handler path why) l f = failed_more es fs s t path why l f
+  handler_more es fs s t (cause.Plan fault) l f = tt
+  handler_more es fs s t (cause.Export export) l f = tt
 
-  turned_more : (es : List Entry) (e : Entry) (c : Cause) → TurnedFor es c → TurnedFor (es ++ e ∷ []) c
-  turned_more es e c k = record {
+  turned_more : (es : List Entry) (e : Entry) (s t : StackState) (c : Cause) → KeepsPaths s t → TurnedFor es s c → TurnedFor (es ++ e ∷ []) t c
+  turned_more es e s t c l k = record {
     first = ap first_in (caused_more number es (e ∷ [])) ∙ first_more (caused number es) (caused number (e ∷ [])) c k.first;
     turn = record {
       before = k.turn.before;
@@ -228,13 +163,13 @@ module _ (schemas : List Schema) (names : List (List ℕ)) (began : World) (numb
       here = k.turn.here;
       is_cause = k.turn.is_cause;
     };
-    handler = handler_more es (e ∷ []) c k.handler;
+    handler = handler_more es (e ∷ []) s t c l k.handler;
   }
 
-  way_more : (es : List Entry) (e : Entry) (s t : StackState) → cause_in e ≡ None → t.status ≡ s.status → Way es s → Way (es ++ e ∷ []) t
-  way_more es e s t n st (makes f none) =
+  way_more : (es : List Entry) (e : Entry) (s t : StackState) → cause_in e ≡ None → KeepsPaths s t → t.status ≡ s.status → Way es s → Way (es ++ e ∷ []) t
+  way_more es e s t n l st (makes f none) =
       makes (st ∙ f) (caused_more number es (e ∷ []) ∙ ap (λ (cs : List Cause). cs ++ caused number (e ∷ [])) none ∙ quiet number e n)
-  way_more es e s t n st (takes_back f c k) = takes_back (st ∙ f) c (turned_more es e c k)
+  way_more es e s t n l st (takes_back f c k) = takes_back (st ∙ f) c (turned_more es e s t c l k)
 
   way_goes : (es : List Entry) (s : StackState) → Way es s → is_in_progress s.status ≡ true
   way_goes es s (makes f none) = ap is_in_progress f
@@ -244,44 +179,30 @@ module _ (schemas : List Schema) (names : List (List ℕ)) (began : World) (numb
     abbrev now : World
     now = fold_of began es
 
-    on : is_going number s ≡ true
-    on = (found_one (λ (t : List ℕ × StackState). is_going number t.1) now.stacks (name, s) h.going).1
-
-    abbrev put : Entry → Changes → Changes
-    put e change = λ z. heard (now.place + 1) e z (change z)
-
     after_one : (e : Entry) → fold_of began (es ++ e ∷ []) ≡ world_after now e
     after_one e = fold_append began es (e ∷ [])
+
+    -- the stack as an entry of the operation leaves it
+    abbrev after_of : Entry → StackState
+    after_of e = (effect_at (now.place + 1) e s).stack
 
     entries_more : (e : Entry) (z : StackState) → z.entries ≡ s.entries → z.entries ++ e ∷ [] ≡ kept ++ (es ++ e ∷ [])
     entries_more e z k = ap (λ (fs : List Entry). fs ++ e ∷ []) (k ∙ h.entries) ∙ append_assoc kept es (e ∷ [])
 
-    found_there : (e : Entry) (change : Changes) → (world_after now e).stacks ≡ where_going number (put e change) now.stacks → stack_at name (fold_of began (es ++ e ∷ [])) ≡ Some (put e change s)
-    found_there e change stacks =
-        ap (stack_at name) (after_one e) ∙ ap (value_at name) stacks ∙ value_where number (put e change) name now.stacks s h.here on
-
-    goes_with : (e : Entry) (change : Changes) → (world_after now e).stacks ≡ where_going number (put e change) now.stacks → (change s).operation ≡ s.operation → (change s).entries ≡ s.entries → Way (es ++ e ∷ []) (put e change s) → Course (es ++ e ∷ []) (put e change s)
-    goes_with e change stacks operation entries way =
-        let still : is_going number (put e change s) ≡ true =
-        and_from ((change s).operation == number) (is_in_progress (change s).status) (eq-eqb (change s).operation number (operation ∙ h.operation)) (way_goes (es ++ e ∷ []) (put e change s) way) in
+    goes_with : (e : Entry) → IsOwn number e → (after_of e).operation ≡ s.operation → (after_of e).entries ≡ kept ++ (es ++ e ∷ []) → Way (es ++ e ∷ []) (after_of e) → Course (es ++ e ∷ []) (after_of e)
+    goes_with e own operation entries way =
+        let still : is_going number (after_of e) ≡ true =
+        and_from ((after_of e).operation == number) (is_in_progress (after_of e).status) (eq-eqb (after_of e).operation number (operation ∙ number_is number name now s h.on)) (way_goes (es ++ e ∷ []) (after_of e) way) in
         record {
-          going =
-              ap (stack_of_operation number) (after_one e) ∙ ap (find (λ (t : List ℕ × StackState). is_going number t.1)) stacks
-              ∙ find_where number (put e change) now.stacks (name, s) h.going still;
-          here = found_there e change stacks;
-          operation = operation ∙ h.operation;
-          entries = entries_more e (change s) entries;
+          on = subst (λ (y : World). IsOn number name y (after_of e)) (sym (after_one e)) (on_after number name now s h.on e own still);
+          entries = entries;
           way = way;
         }
 
-    goes_like : (e : Entry) (change : Changes) → cause_in e ≡ None → (world_after now e).stacks ≡ where_going number (put e change) now.stacks → IsLike s (change s) → Course (es ++ e ∷ []) (put e change s)
-    goes_like e change n stacks a = goes_with e change stacks a.operation a.entries (way_more es e s (put e change s) n a.status h.way)
-
     -- a call that failed the phase is among the entries
-    failed_here : (token : ℕ) (path : List ℕ) (why : Reason) → first_failing schemas s ≡ Some (token, why) → path_of_token token s ≡ Some path → FailedIn es path why
+    failed_here : (token : ℕ) (path : List ℕ) (why : Reason) → first_failing schemas s ≡ Some (token, why) → path_of_token token s ≡ Some path → FailedIn es s path why
     failed_here token path why f p =
         let r = failing_says token why schemas s f in
-        let c = call_there (call_of token s) path p in
         let at = r.2 in
         record {
           at_number = at.number;
@@ -295,12 +216,10 @@ module _ (schemas : List Schema) (names : List (List ℕ)) (began : World) (numb
                 | inr i ↦ i
               ];
           told = at.told;
-          call = c.0;
-          of_call = ap (call_at token) (sym h.entries) ∙ c.1;
-          at_path = c.2;
+          at_path = p;
         }
 
-    handlers : (c : Cause) → IsCause schemas name now s c → IsHandlersIn es c
+    handlers : (c : Cause) → IsCause schemas name now s c → IsHandlersIn es s c
     handlers (cause.Handler path why) k = failed_here k.0 path why k.1 k.2
     handlers (cause.Plan fault) k = tt
     handlers (cause.Export export) k = tt
@@ -308,7 +227,7 @@ module _ (schemas : List Schema) (names : List (List ℕ)) (began : World) (numb
     -- the operation that may go on is this one
     module _ (n : ℕ) (out : List ℕ) (e : Entry) (own : n ≡ number) (may : MayFollowOn schemas n now out e) where
       same : ◌≡◌ {A = List ℕ × StackState} (may.0, may.1) (name, s)
-      same = some_same (sym may.3 ∙ ap (λ (m : ℕ). stack_of_operation m now) own ∙ h.going)
+      same = some_same (sym may.3 ∙ ap (λ (m : ℕ). stack_of_operation m now) own ∙ h.on.going)
 
       follows : MayFollowIn schemas name now out s may.2 e
       follows = subst (λ (p : List ℕ × StackState). MayFollowIn schemas p.0 now out p.1 may.2 e) same may.5
@@ -321,21 +240,21 @@ module _ (schemas : List Schema) (names : List (List ℕ)) (began : World) (numb
         ap first_in (caused_more number es (turned_by c ∷ []) ∙ ap (λ (cs : List Cause). cs ++ caused number (turned_by c ∷ [])) none)
         ∙ ap (λ (b : Bool). first_in (filter_map cause_in (cond b (turned_by c ∷ []) []))) (eq-eqb number number refl)
 
-    turns_by : (c : Cause) → MayTurn schemas name now s phase.Back (Some c) → Way es s → Course (es ++ turned_by c ∷ []) (put (turned_by c) (turning phase.Back) s)
+    turns_by : (c : Cause) → MayTurn schemas name now s phase.Back (Some c) → Way es s → Course (es ++ turned_by c ∷ []) (after_of (turned_by c))
     turns_by c may (takes_back f d k) = let no : Some Back ≡ Some Forward = ap stage_of (sym f) ∙ may.0 in let never : ⊥ = cc in absurd never
     turns_by c may (makes f none) =
-        goes_with (turned_by c) (turning phase.Back) (turned_stacks phase.Back (stack_of_operation number now) _) refl refl
+        goes_with (turned_by c) refl refl (entries_more (turned_by c) s refl)
         (takes_back (ap (λ (z : Status). turned z phase.Back) f) c (record {
           first = first_here c none;
-          turn = record { before = es; after = []; at = refl; stack = s; here = h.here; is_cause = may.2 };
-          handler = handler_more es (turned_by c ∷ []) c (handlers c may.2);
+          turn = record { before = es; after = []; at = refl; stack = s; here = here_of number name now s h.on; is_cause = may.2 };
+          handler = handler_more es (turned_by c ∷ []) s (after_of (turned_by c)) c (like_turned s).paths (handlers c may.2);
         }))
 
     abbrev Later : Entry → Type 0
-    Later e = ((t : StackState) × Course (es ++ e ∷ []) t) ⊎ ((t : StackState) × Ends (es ++ e ∷ []) t)
+    Later e = Course (es ++ e ∷ []) (after_of e) ⊎ Ends (es ++ e ∷ []) (after_of e)
 
     turn_of : (p : Phase) (c : Option Cause) → MayTurn schemas name now s p c → Later (entry.Phase number p c)
-    turn_of phase.Back (Some c) may = inl (put (turned_by c) (turning phase.Back) s, turns_by c may h.way)
+    turn_of phase.Back (Some c) may = inl (turns_by c may h.way)
     turn_of phase.Back None may = absurd may
     turn_of phase.Clean (Some c) may = absurd may
     turn_of phase.Clean None may = absurd (never h.way may.0) where
@@ -348,34 +267,41 @@ module _ (schemas : List Schema) (names : List (List ℕ)) (began : World) (numb
       never (makes f none) g = let no : status.CreateInProgress ≡ status.UpdateRollbackInProgress = sym f ∙ g in cc
       never (takes_back f c k) g = let no : status.RollbackInProgress ≡ status.UpdateRollbackInProgress = sym f ∙ g in cc
 
-    ends_at : (state : Status) (failed : List (List ℕ)) → ((z : StackState) → (ended state z).status ≡ state) → ((z : StackState) → (ended state z).operation ≡ z.operation) → ((z : StackState) → (ended state z).entries ≡ z.entries) → is_in_progress state ≡ false → (state ≡ status.RollbackComplete → (c : Cause) × TurnedFor es c) → Ends (es ++ entry.Done number state failed ∷ []) (put (entry.Done number state failed) (ended state) s)
-    ends_at state failed st operation entries rests back =
+    ends_at : (state : Status) (failed : List (List ℕ)) → IsLike s (ended_effect state s).stack → (after_of (entry.Done number state failed)).status ≡ state → is_in_progress state ≡ false → (state ≡ status.RollbackComplete → (c : Cause) × TurnedFor es s c) → Ends (es ++ entry.Done number state failed ∷ []) (after_of (entry.Done number state failed))
+    ends_at state failed like st rests back =
         let e : Entry = entry.Done number state failed in
-        let stacks : (world_after now e).stacks ≡ where_going number (put e (ended state)) now.stacks = ended_stacks state (stack_of_operation number now) _ in
+        let t : StackState = after_of e in
         record {
           none_going =
-              ap (stack_of_operation number) (after_one e) ∙ ap (find (λ (t : List ℕ × StackState). is_going number t.1)) stacks
-              ∙ none_where number (put e (ended state)) now.stacks (λ z. never_so ((ended state z).operation == number) (is_in_progress (ended state z).status) (ap is_in_progress (st z) ∙ rests));
-          here = found_there e (ended state) stacks;
-          operation = operation s ∙ h.operation;
-          entries = entries_more e (ended state s) (entries s);
-          back = λ q. (let k = back (sym (st s) ∙ q) in (k.0, turned_more es e k.0 k.1));
+              ap (stack_of_operation number) (after_one e)
+              ∙ none_after number name now s h.on e refl (never_so (t.operation == number) (is_in_progress t.status) (ap is_in_progress st ∙ rests));
+          here = ap (stack_at name) (after_one e) ∙ here_after number name now s h.on e refl;
+          operation = like.operation ∙ number_is number name now s h.on;
+          entries = entries_more e (ended_effect state s).stack like.entries;
+          back = λ q. (let k = back (sym st ∙ q) in (k.0, turned_more es e s t k.0 like.paths k.1));
         }
 
     abbrev EndsBy : List (List ℕ) → Status → Type 0
-    EndsBy failed state = Ends (es ++ entry.Done number state failed ∷ []) (put (entry.Done number state failed) (ended state) s)
+    EndsBy failed z = Ends (es ++ entry.Done number z failed ∷ []) (after_of (entry.Done number z failed))
 
     end_of : (state : Status) (failed : List (List ℕ)) → EndsAs schemas name now s s.status state → EndsBy failed state
     end_of state failed may = by_way h.way where
       by_way : Way es s → EndsBy failed state
       by_way (makes f none) =
           subst (EndsBy failed) (sym (forward_ends schemas name now s state (subst (λ (z : Status). EndsAs schemas name now s z state) f may)))
-          (ends_at status.CreateComplete failed (λ z. refl) (λ z. refl) (λ z. refl) refl (λ q. let no : ⊥ = cc in absurd no))
+          (ends_at status.CreateComplete failed (record { operation = refl; entries = refl; paths = λ token path p. p }) refl refl (λ q. let no : ⊥ = cc in absurd no))
       by_way (takes_back f c k) =
           elim (back_ends schemas name now s state (subst (λ (z : Status). EndsAs schemas name now s z state) f may)) [
-            | inl q ↦ subst (EndsBy failed) (sym q) (ends_at status.RollbackComplete failed (λ z. refl) (λ z. refl) (λ z. refl) refl (λ r. (c, k)))
-            | inr q ↦ subst (EndsBy failed) (sym q) (ends_at status.RollbackFailed failed (λ z. refl) (λ z. refl) (λ z. refl) refl (λ r. (c, k)))
+            | inl q ↦ subst (EndsBy failed) (sym q) (ends_at status.RollbackComplete failed (record { operation = refl; entries = refl; paths = λ token path p. p }) refl refl (λ r. (c, k)))
+            | inr q ↦ subst (EndsBy failed) (sym q) (ends_at status.RollbackFailed failed (record { operation = refl; entries = refl; paths = λ token path p. p }) refl refl (λ r. (c, k)))
           ]
+
+    -- an entry that tells no cause and leaves the status, on a stack that is left so but for what it hears
+    module _ (e : Entry) (own : IsOwn number e) (n : cause_in e ≡ None) (z : StackState) (l : IsLike s z) (st : z.status ≡ s.status) where
+      goes_like : (after_of e).operation ≡ z.operation → (after_of e).entries ≡ z.entries ++ e ∷ [] → KeepsPaths z (after_of e) → (after_of e).status ≡ z.status → Later e
+      goes_like operation entries paths same =
+          inl (goes_with e own (operation ∙ l.operation) (entries ∙ entries_more e z l.entries)
+          (way_more es e s (after_of e) n (λ token path p. paths token path (l.paths token path p)) (same ∙ st) h.way))
 
     -- an entry of the operation
     module _ (told told' : Told) (counts counts' : List ℕ) where
@@ -384,21 +310,18 @@ module _ (schemas : List Schema) (names : List (List ℕ)) (began : World) (numb
 
       step : (e : Entry) → IsOwn number e → Steps e
       step (entry.Kept n path physical w) own =
-          subst (λ (m : ℕ). Steps (entry.Kept m path physical w)) (sym own)
-          (λ d. inl (put (entry.Kept number path physical w) (keeping path physical w) s, goes_like (entry.Kept number path physical w) (keeping path physical w) refl refl (like_kept path physical w s)))
+          let k = kept_alike path physical w s in
+          λ d. goes_like (entry.Kept n path physical w) own refl (keeping path physical w s) (like_kin s (keeping path physical w s) k) k.status refl refl (λ token other p. p) refl
       step (entry.Intent n token lane path r) own =
-          subst (λ (m : ℕ). Steps (entry.Intent m token lane path r)) (sym own)
-          (λ d. (let change : Changes = λ z. record z { tokens = z.tokens ++ record { token = token; path = path; lane = lane; request = r } ∷ [] } in
-          inl (put (entry.Intent number token lane path r) change s, goes_like (entry.Intent number token lane path r) change refl refl (record { operation = refl; entries = refl; status = refl }))))
+          let p : Pending = record { token = token; path = path; lane = lane; request = r } in
+          λ d. goes_like (entry.Intent n token lane path r) own refl (intending n p s) (like_intended n p s) (status_intended n p s) refl refl (λ t other q. q) refl
       step (entry.Outcome n token a before after) own =
-          subst (λ (m : ℕ). Steps (entry.Outcome m token a before after)) (sym own)
-          (λ d. (let change : Changes = λ z. replied token a (pending_of token z) z in
-          inl (put (entry.Outcome number token a before after) change s, goes_like (entry.Outcome number token a before after) change refl refl (like_replied (terms_for (pending_of token s) s) token a (pending_of token s) s))))
+          λ d. goes_like (entry.Outcome n token a before after) own refl (replying token a s) (like_replied token a (pending_of token s) s) (status_replied token a (pending_of token s) s) refl refl (λ t other q. q) refl
       step (entry.Phase n p c) own =
           subst (λ (m : ℕ). Steps (entry.Phase m p c)) (sym own) (λ d. turn_of p c (follows number [] (entry.Phase number p c) refl d.0).1)
       step (entry.Done n state failed) own =
           subst (λ (m : ℕ). Steps (entry.Done m state failed)) (sym own)
-          (λ d. inr (put (entry.Done number state failed) (ended state) s, end_of state failed (follows number [] (entry.Done number state failed) refl d.0).2))
+          (λ d. inr (end_of state failed (follows number [] (entry.Done number state failed) refl d.0).2))
       step (entry.Opened epoch lanes) own = absurd own
       step (entry.Begin n stack k) own = absurd own
       step (entry.ChangeSet n stack from rows outputs) own = absurd own
@@ -423,14 +346,15 @@ module _ (schemas : List Schema) (names : List (List ℕ)) (began : World) (numb
   pub record IsLeft (es : List Entry) (t : StackState) : Type 0 where
     pub operation : t.operation ≡ number
     pub entries : t.entries ≡ kept ++ es
-    pub back : t.status ≡ status.RollbackComplete → (c : Cause) × TurnedFor es c
+    pub back : t.status ≡ status.RollbackComplete → (c : Cause) × TurnedFor es t c
 
   abbrev After : List Entry → Type 0
   After es = ((s : StackState) × Course es s) ⊎ ((t : StackState) × Ends es t)
 
   module _ (no_outcome : (n token before after : ℕ) (answer : Reply) → In (entry.Outcome n token answer before after) kept → ⊥) where
     one_more : (es : List Entry) (e : Entry) (told told' : Told) (counts counts' : List ℕ) → After es → IsOwn number e → IsDone schemas names (fold_of began es) told told' counts counts' e → After (es ++ e ∷ [])
-    one_more es e told told' counts counts' (inl c) own d = step no_outcome es c.0 c.1 told told' counts counts' e own d
+    one_more es e told told' counts counts' (inl c) own d =
+        elim (step no_outcome es c.0 c.1 told told' counts counts' e own d) [ inl k ↦ inl (after_of no_outcome es c.0 c.1 e, k) | inr k ↦ inr (after_of no_outcome es c.0 c.1 e, k) ]
     one_more es e told told' counts counts' (inr c) own d = absurd (none_follows es c.0 c.1 told told' counts counts' e own d)
 
     run : (fs es : List Entry) (told told' : Told) (counts counts' : List ℕ) → After es → Runs schemas names (fold_of began es) told counts fs told' counts' → ((e : Entry) → In e fs → IsOwn number e) → After (es ++ fs)
@@ -444,16 +368,15 @@ module _ (schemas : List Schema) (names : List (List ℕ)) (began : World) (numb
     goes_not es s (makes f none) g = let no : status.CreateInProgress ≡ status.RollbackComplete = sym f ∙ g in cc
     goes_not es s (takes_back f c k) g = let no : status.RollbackInProgress ≡ status.RollbackComplete = sym f ∙ g in cc
 
-    left_by : (es : List Entry) (t : StackState) → stack_at name (fold_of began es) ≡ Some t → After es → IsLeft es t
-    left_by es t at (inl c) =
-        let same : c.0 ≡ t = some_same (sym c.1.here ∙ at) in
-        subst (IsLeft es) same (record { operation = c.1.operation; entries = c.1.entries; back = λ q. absurd (goes_not es c.0 c.1.way q) })
-    left_by es t at (inr c) =
+    left_so : (es : List Entry) (t : StackState) → stack_at name (fold_of began es) ≡ Some t → After es → IsLeft es t
+    left_so es t at (inl c) =
+        let same : c.0 ≡ t = some_same (sym (here_of number name (fold_of began es) c.0 c.1.on) ∙ at) in
+        subst (IsLeft es) same (record { operation = number_is number name (fold_of began es) c.0 c.1.on; entries = c.1.entries; back = λ q. absurd (goes_not es c.0 c.1.way q) })
+    left_so es t at (inr c) =
         let same : c.0 ≡ t = some_same (sym c.1.here ∙ at) in
         subst (IsLeft es) same (record { operation = c.1.operation; entries = c.1.entries; back = c.1.back })
 
-    pub left : (es : List Entry) (told told' : Told) (counts counts' : List ℕ) (s t : StackState) → stack_of_operation number began ≡ Some (name, s) → stack_at name began ≡ Some s → s.operation ≡ number → s.entries ≡ kept → s.status ≡ status.CreateInProgress → Runs schemas names began told counts es told' counts' → ((e : Entry) → In e es → IsOwn number e) → stack_at name (fold_of began es) ≡ Some t → IsLeft es t
-    left es told told' counts counts' s t going at operation entries creating r own found =
-        left_by es t found
-        (run es [] told told' counts counts'
-        (inl (s, record { going = going; here = at; operation = operation; entries = entries ∙ sym (append-nil kept); way = makes creating refl })) r own)
+    pub left : (es : List Entry) (told told' : Told) (counts counts' : List ℕ) (s t : StackState) → IsOn number name began s → s.entries ≡ kept → s.status ≡ status.CreateInProgress → Runs schemas names began told counts es told' counts' → ((e : Entry) → In e es → IsOwn number e) → stack_at name (fold_of began es) ≡ Some t → IsLeft es t
+    left es told told' counts counts' s t on entries creating r own found =
+        left_so es t found
+        (run es [] told told' counts counts' (inl (s, record { on = on; entries = entries ∙ sym (append-nil kept); way = makes creating refl })) r own)

@@ -1,18 +1,17 @@
 -- What the words of a command come to for `alone` (the answers are this project's own).
-use Rattle.std.specs.Prelude.{◌≡◌, ◌⊎◌, ℕ, ◌≤◌, Bool, true, IsTrue, is_some, slice_index_or, List, [], ◌∷◌, ◌++◌, length, take, Option, Some, None, Result, Ok, Err, ⊤}
+use Rattle.std.specs.Prelude.{◌≡◌, ◌⊎◌, ℕ, Bool, IsTrue, is_some, slice_index_or, List, [], ◌∷◌, ◌++◌, length, take, Option, Some, None, Result, Ok, Err, ⊤}
 use Rattle.std.specs.List.{list_all}
 use Rattle.std.specs.Io.KnownBytes.{Appends}
 use Rattle.cf_tree.specs.Counts.{HasRisen}
+use Rattle.cf_tree.specs.declared.source.Source.{Source}
 use Rattle.cf_entry.specs.declared.entry.Entry.{Entry}
 use Rattle.cf_entry.specs.declared.entry.Entry.TheVariants as entry
 use Rattle.cf_entry.specs.declared.entry.Reply.{Reply}
 use Rattle.cf_entry.specs.declared.entry.Reply.TheVariants as reply
 use Rattle.cf_entry.specs.declared.turn.Cause.TheVariants as cause
 use Rattle.cf_io.specs.Library.{Texts, text_at}
-use Rattle.cf_stacks.specs.declared.state.StackState.{StackState}
-use Rattle.cf_stacks.specs.declared.state.World.{World}
-use Rattle.cf_stacks.specs.Words.{stack_at}
-use Rattle.cf_stacks.specs.Fold.{empty_world, source_for}
+use Rattle.cf_stacks.specs.World.{StackState, World, stack_at, empty_world}
+use Rattle.cf_stacks.specs.Begin.{source_for}
 use Rattle.cf_plan.specs.Forward.{In}
 use Rattle.cf_plan.specs.Cleared.{IsJournal}
 use Rattle.cf_plan.specs.Going.{IsOver}
@@ -23,7 +22,6 @@ use Rattle.cf_face.specs.declared.words.Command.TheVariants.{Deploy, Describe, V
 use Rattle.cf_face.specs.declared.exit.Exit.{Exit}
 use Rattle.cf_face.specs.declared.exit.Exit.TheVariants as exit
 use Rattle.cf_face.specs.declared.exit.Refusal.{Refusal}
-use Rattle.cf_face.specs.declared.exit.Refusal.TheVariants.{NotYet}
 use Rattle.cf_face.specs.Words.{command_of}
 use Rattle.cf_face.specs.Exit.{exit_line}
 use Rattle.cf_face.specs.Report.{stack_report}
@@ -33,8 +31,8 @@ use Rattle.cf_top.specs.Scene.{Scene}
 use Rattle.cf_top.specs.Lanes.{kinds_of, one_of_each}
 use Rattle.cf_top.specs.Driving.{EndsWith, Wrote}
 use Rattle.cf_top.specs.Creating.{beginning, behind, next_number}
-use Rattle.cf_top.specs.Refusals.{source_of, refusal_of}
-use Rattle.cf_top.specs.Deployment.{IsFound, IsUnasked}
+use Rattle.cf_top.specs.Refusals.{refusal_of}
+use Rattle.cf_top.specs.Deployment.{IsFound, IsUnasked, barring}
 use Rattle.cf_top.specs.Meeting.{Meeting, AreQuiet, IsKept, MayOpen, open_over, opened, WasEntered, EndsEarly}
 use Rattle.cf_top.specs.Telling.{exit_for, text_of, exit_of}
 use Rattle.cf_top.specs.Turning.{TurnsBack, IsHandlers, AreBlamed}
@@ -102,27 +100,27 @@ pub record BeginsSoundly (m : Meeting) (es : List Entry) : Type 0 where
 abbrev pub number_in : Meeting → List Entry → ℕ
 number_in m old = next_number (open_over m old)
 
-abbrev pub begun_in : Meeting → List Entry → List ℕ → Choice → List ℕ → Entry
-begun_in m old name choice bytes = beginning (number_in m old) name (source_of name choice bytes)
+abbrev pub begun_in : Meeting → List Entry → List ℕ → Source → Entry
+begun_in m old name source = beginning (number_in m old) name source
 
 -- the world behind its beginning
-abbrev pub begun_world : Meeting → List Entry → List ℕ → Choice → List ℕ → World
-begun_world m old name choice bytes = world_of (open_over m old ++ begun_in m old name choice bytes ∷ [])
+abbrev pub begun_world : Meeting → List Entry → List ℕ → Source → World
+begun_world m old name source = world_of (open_over m old ++ begun_in m old name source ∷ [])
 
-abbrev pub run_in : Meeting → List Entry → ℕ → List Entry → List ℕ → Choice → List ℕ → Scene
-run_in m old faults now name choice bytes = behind (opened m old faults now) (begun_in m old name choice bytes)
+abbrev pub run_in : Meeting → List Entry → ℕ → List Entry → List ℕ → Source → Scene
+run_in m old faults now name source = behind (opened m old faults now) (begun_in m old name source)
 
 -- Why an operation ended so. One that was taken back turned back for the cause that is told; where that is a handler, a call at the path was refused or broke off, and the count of its lane rose. Where the rollback failed too, of an operation that began soundly, paths are named, each with such a call.
-abbrev pub EndsFor : Meeting → List Entry → List ℕ → Choice → List ℕ → List Entry → List Entry → Exit → Type 0
-EndsFor m old name choice bytes es entries exit.Done = ⊤
-EndsFor m old name choice bytes es entries (exit.RolledBack cause) =
-    TurnsBack (one_of_each m.schemas) (begun_world m old name choice bytes) (number_in m old) name es cause
-    × IsHandlers m.counts m.counts' (number_in m old) es entries cause
-EndsFor m old name choice bytes es entries (exit.Failed blamed) =
-    BeginsSoundly m (open_over m old) → AreBlamed m.counts m.counts' (number_in m old) es entries blamed
-EndsFor m old name choice bytes es entries _ = ⊥
+abbrev pub EndsFor : Meeting → List Entry → List ℕ → Source → List Entry → StackState → Exit → Type 0
+EndsFor m old name source es s exit.Done = ⊤
+EndsFor m old name source es s (exit.RolledBack cause) =
+    TurnsBack (one_of_each m.schemas) (begun_world m old name source) (number_in m old) name es cause
+    × IsHandlers m.counts m.counts' (number_in m old) es s cause
+EndsFor m old name source es s (exit.Failed blamed) =
+    BeginsSoundly m (open_over m old) → AreBlamed m.counts m.counts' (number_in m old) es s blamed
+EndsFor m old name source es s _ = ⊥
 
--- The operation was driven to its end: the journal has its old entries, the opening, the beginning with the template that stands in the library, and what was written then, which ends the operation. What was printed is the stack that they leave, which says the exit. Where it began soundly, the stack keeps what its status promises: complete, its template is live, and rolled back, nothing newer is; nothing is live but what was so before and what is of the stack.
+-- The operation was driven to its end: the journal has its old entries, the opening, the beginning with the template that stands in the library, which may follow, and what was written then, which ends the operation. What was printed is the stack that they leave, which says the exit. Where it began soundly, the stack keeps what its status promises: complete, its template is live, and rolled back, nothing newer is; nothing is live but what was so before and what is of the stack.
 pub record IsDeployed (m : Meeting) (p : Printing) (words : List (List ℕ)) (e : Exit) : Type 0 where
   pub name : List ℕ
   pub choice : Choice
@@ -132,23 +130,23 @@ pub record IsDeployed (m : Meeting) (p : Printing) (words : List (List ℕ)) (e 
   pub faults : ℕ
   pub was : Holds m.tells m.bytes old
   pub may : MayOpen m old
-  pub bytes : List ℕ
-  pub found : IsFound m.shelf (kinds_of m.schemas) (opened m old faults now) name choice bytes
+  pub source : Source
+  pub found : IsFound m.shelf (opened m old faults now) name choice source
   pub es : List Entry
-  pub wrote : Wrote (run_in m old faults now name choice bytes) (number_in m old) es m.told' m.counts'
+  pub wrote : Wrote (run_in m old faults now name source) (number_in m old) es m.told' m.counts'
   pub ends : EndsWith es (number_in m old)
-  pub written : now ≡ (open_over m old ++ begun_in m old name choice bytes ∷ []) ++ es
+  pub written : now ≡ (open_over m old ++ begun_in m old name source ∷ []) ++ es
   pub stays : Holds m.tells m.bytes' now
   pub over : (number : ℕ) × IsOver number name (world_of now)
   pub stack : StackState
   pub here : stack_at name (world_of now) ≡ Some stack
   pub exit_is : e ≡ exit_for stack
-  pub because : EndsFor m old name choice bytes es stack.entries e
+  pub because : EndsFor m old name source es stack e
   pub printed : Appends p.held p.held' (stack_report name stack e)
   pub promise :
       BeginsSoundly m (open_over m old)
       → KeepsPromise m.names (kinds_of m.schemas) (world_of now) m.told m.told' (number_in m old) name
-      (source_for name (number_in m old) (source_of name choice bytes))
+      (source_for name (number_in m old) source)
 
 -- a deployment ended so, and its exit was printed
 pub record HasEnded (m : Meeting) (p : Printing) (words : List (List ℕ)) (e : Exit) : Type 0 where
@@ -233,20 +231,20 @@ pub record HasOpened (m : Meeting) : Type 0 where
   pub quiet : AreQuiet m
   pub stays : Holds m.tells m.bytes' old ⊎ (MayOpen m old × Holds m.tells m.bytes' (open_over m old))
 
--- The journal has its old entries, the opening, the beginning with the template that stands in the library, and entries of the operation, each of which followed in its turn.
+-- The journal has its old entries, the opening, the beginning with the template that stands in the library, and entries of the operation; the beginning, and each of these in its turn, may follow.
 pub record HasRun (m : Meeting) (name : List ℕ) (choice : Choice) : Type 0 where
   pub old : List Entry
   pub now : List Entry
   pub faults : ℕ
   pub was : Holds m.tells m.bytes old
   pub may : MayOpen m old
-  pub bytes : List ℕ
-  pub found : IsFound m.shelf (kinds_of m.schemas) (opened m old faults now) name choice bytes
+  pub source : Source
+  pub found : IsFound m.shelf (opened m old faults now) name choice source
   pub es : List Entry
   pub told : Told
   pub counts : List ℕ
-  pub wrote : Wrote (run_in m old faults now name choice bytes) (number_in m old) es told counts
-  pub stays : Holds m.tells m.bytes' ((open_over m old ++ begun_in m old name choice bytes ∷ []) ++ es)
+  pub wrote : Wrote (run_in m old faults now name source) (number_in m old) es told counts
+  pub stays : Holds m.tells m.bytes' ((open_over m old ++ begun_in m old name source ∷ []) ++ es)
 
 -- What the journal has then, whatever the answer: a disk that tells its bytes keeps its record; or it has the old entries and an opening, or also what the operation wrote.
 abbrev pub Journals : Meeting → List (List ℕ) → Type 0
@@ -254,7 +252,7 @@ Journals m words =
     IsKept m
     ⊎ ((name : List ℕ) × (choice : Choice) × (deploy_words words ≡ Some (name, choice)) × (HasOpened m ⊎ HasRun m name choice))
 
--- an answer that may stand in the place of a template's refusal: what comes before it, as where the journal holds a nested stack, and what may come at any time
+-- an answer that may stand in the place of a template's refusal: what comes before it, and what may come at any time
 abbrev pub ComesBefore : Exit → Type 0
 ComesBefore (exit.StackRefused fault) = ⊤
 ComesBefore exit.LibraryFault = ⊤
@@ -265,7 +263,6 @@ ComesBefore (exit.NotAJournal offset) = ⊤
 ComesBefore (exit.LaneMissing name) = ⊤
 ComesBefore (exit.LaneTwice name) = ⊤
 ComesBefore (exit.Full length need room) = ⊤
-ComesBefore (exit.TemplateRefused fault) = fault ≡ NotYet []
 ComesBefore _ = ⊥
 
 -- what holds of each answer, and when each may come
@@ -278,10 +275,11 @@ pub record IsAnswered (m : Meeting) (p : Printing) (words : List (List ℕ)) (re
   pub otherwise :
       (said : List ℕ × Choice) → deploy_words words ≡ Some said → NoCountRose m p
       → EndsUnfailed m p words result ⊎ ((result ≡ exit.NoMemory) ⊎ IsRefusal result)
-  -- where what stands in the library is refused, whatever entries the disk may have, that refusal comes, or what comes before it
+  -- where what stands in the library is refused, whatever entries the disk may have that leave the name free, that refusal comes, or what comes before it
   pub refuses :
       (name : List ℕ) (choice : Choice) (texts : Texts) (fault : Refusal) → deploy_words words ≡ Some (name, choice) → m.shelf.texts ≡ Some texts
-      → ((es : List Entry) → Holds m.tells m.bytes es → refusal_of (kinds_of m.schemas) choice name (number_in m es) (text_at choice.template texts) ≡ Some fault)
+      → ((es : List Entry) → Holds m.tells m.bytes es → barring name (world_of (open_over m es)) ≡ None
+      → refusal_of (one_of_each m.schemas) (world_of (open_over m es)) name choice (text_at choice.template texts) ≡ Some fault)
       → (result ≡ exit.TemplateRefused fault) ⊎ ComesBefore result
   -- what the journal has then, whatever the answer
   pub journal : Journals m words

@@ -1,5 +1,5 @@
 -- What a command that drives no handlers comes to, and the program's choice between the two top calls (this project's own).
-use Rattle.std.specs.Prelude.{◌≡◌, ◌⊎◌, ℕ, Bool, true, false, not, List, [], ◌∷◌, Option, Some, None, Result, Ok, Err, IsTrue, ⊤}
+use Rattle.std.specs.Prelude.{◌≡◌, ◌⊎◌, ℕ, Bool, true, false, not, List, Option, Some, None, Ok, Err, IsTrue, ⊤}
 use Rattle.cf_tree.specs.declared.template.Template.{Template}
 use Rattle.cf_template.specs.Refusals.{Reading}
 use Rattle.cf_template.specs.Whole.{template_of}
@@ -8,8 +8,7 @@ use Rattle.cf_io.specs.Library.{StandsUnder}
 use Rattle.cf_journal.specs.Record.{Keeps}
 use Rattle.cf_entry.specs.declared.entry.Entry.{Entry}
 use Rattle.cf_desired.specs.declared.flaw.Flaw.TheVariants.{TemplateMissing}
-use Rattle.cf_stacks.specs.declared.state.StackState.{StackState}
-use Rattle.cf_stacks.specs.Words.{stack_at}
+use Rattle.cf_stacks.specs.World.{StackState, stack_at}
 use Rattle.cf_face.specs.declared.words.Command.{Command}
 use Rattle.cf_face.specs.declared.words.Command.TheVariants.{Describe, Validate}
 use Rattle.cf_face.specs.declared.exit.Exit.{Exit}

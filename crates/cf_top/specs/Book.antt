@@ -5,8 +5,8 @@ use Rattle.cf_tree.specs.Counts.{HasRisen}
 use Rattle.cf_disk.specs.Disk.{Only}
 use Rattle.cf_entry.specs.Entry.{spelling_of}
 use Rattle.cf_entry.specs.declared.entry.Entry.{Entry}
-use Rattle.cf_stacks.specs.declared.state.World.{World}
-use Rattle.cf_stacks.specs.Fold.{empty_world, fold_of}
+use Rattle.cf_stacks.specs.World.{World, empty_world}
+use Rattle.cf_stacks.specs.Fold.{fold_of}
 use Rattle.cf_journal.specs.Record.{Stands, record_of, length_of}
 use Rattle.cf_top.specs.declared.book.Book.{Book}
 use Rattle.cf_top.specs.declared.book.Halt.{Halt}
@@ -24,7 +24,7 @@ world_of es = fold_of empty_world es
 pub record IsOpen {D : Type 0} (tells : Bool) (seen : D → List ℕ) (may_leave : D → List ℕ → Type 0) (room_of : D → ℕ) (book : Book) (disk : D) : Type 0 where
   pub stands : Stands tells seen may_leave room_of book.journal disk
   pub holds : Holds tells (seen disk) book.entries.items
-  pub world : book.world ≡ world_of book.entries.items
+  pub world : book.world.world ≡ world_of book.entries.items
 
 -- what a disk that tells its bytes has is just what a crash leaves
 abbrev pub Lasts : Bool → List ℕ → (List ℕ → Type 0) → Type 0

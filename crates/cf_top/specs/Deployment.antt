@@ -1,13 +1,17 @@
 -- What a deployment over an open journal comes to (this project's own).
-use Rattle.std.specs.Prelude.{◌≡◌, ◌⊎◌, ℕ, List, Option, Some, None, Result, Ok, Err, if◌then◌else◌, ⊤}
+use Rattle.std.specs.Prelude.{◌≡◌, ◌⊎◌, ℕ, ◌+◌, List, [], Option, Some, None, Result, Ok, Err, if◌then◌else◌, ⊤}
 use Rattle.std.specs.Option.{option_and_then}
 use Rattle.cf_tree.specs.Counts.{HasRisen}
 use Rattle.cf_tree.specs.declared.source.Source.{Source}
+use Rattle.cf_schema.specs.declared.described.Schema.{Schema}
+use Rattle.cf_entry.specs.declared.entry.Entry.{Entry}
 use Rattle.cf_entry.specs.declared.status.Status.{Status}
 use Rattle.cf_io.specs.Library.{Texts, StandsUnder}
-use Rattle.cf_stacks.specs.declared.state.World.{World}
-use Rattle.cf_stacks.specs.Words.{stack_at, stack_of_operation}
+use Rattle.cf_stacks.specs.World.{World, stack_at}
+use Rattle.cf_stacks.specs.Apart.{AreApart}
 use Rattle.cf_plan.specs.Accept.{creates_from}
+use Rattle.cf_plan.specs.Follow.{MayFollow}
+use Rattle.cf_prepare.specs.Orders.{IsWritten}
 use Rattle.cf_face.specs.declared.words.Choice.{Choice}
 use Rattle.cf_face.specs.declared.exit.Exit.{Exit}
 use Rattle.cf_face.specs.declared.exit.Exit.TheVariants as exit
@@ -15,7 +19,7 @@ use Rattle.cf_face.specs.declared.exit.StackFault.TheVariants.{WrongStatus}
 use Rattle.cf_top.specs.declared.book.Halt.{Halt}
 use Rattle.cf_top.specs.Book.{Holds, world_of}
 use Rattle.cf_top.specs.Scene.{Scene}
-use Rattle.cf_top.specs.Creating.{next_number, CreateTells}
+use Rattle.cf_top.specs.Creating.{beginning, next_number, CreateTells}
 use Rattle.cf_top.specs.Opening.{exit_of}
 use Rattle.cf_top.specs.Refusals.{source_of, refusal_of, IsMiss}
 
@@ -32,18 +36,30 @@ abbrev pub IsUnasked : Shelf → Type 0
 IsUnasked o = (o.faults' ≡ o.faults) × (o.misses' ≡ o.misses)
 
 -- what was found in the library is refused so
-abbrev pub IsRefusedFor : Shelf → List (List ℕ) → Choice → List ℕ → ℕ → Exit → Type 0
-IsRefusedFor o kinds choice stack number (exit.TemplateRefused fault) =
-    (found : Option (List ℕ)) × StandsUnder o.texts choice.template found × (refusal_of kinds choice stack number found ≡ Some fault) × IsMiss found o.misses o.misses'
-IsRefusedFor o kinds choice stack number exit.LibraryFault = HasRisen o.faults o.faults'
-IsRefusedFor o kinds choice stack number exit.NoMemory = ⊤
-IsRefusedFor o kinds choice stack number _ = ⊥
+abbrev pub IsRefusedFor : Shelf → List Schema → World → List ℕ → Choice → Exit → Type 0
+IsRefusedFor o schemas x stack choice (exit.TemplateRefused fault) =
+    (found : Option (List ℕ)) × StandsUnder o.texts choice.template found × (refusal_of schemas x stack choice found ≡ Some fault)
+    × IsMiss found o.misses o.misses'
+IsRefusedFor o schemas x stack choice exit.LibraryFault = HasRisen o.faults o.faults'
+IsRefusedFor o schemas x stack choice exit.NoMemory = ⊤
+IsRefusedFor o schemas x stack choice _ = ⊥
 
--- What the fetch of the template for a new stack, by the operation of this number, comes to: the source, or the exit with its cause.
-abbrev pub FetchesAs : Shelf → List (List ℕ) → Choice → List ℕ → ℕ → Result Source Exit → Type 0
-FetchesAs o kinds choice stack number (Ok source) =
-    (bytes : List ℕ) × StandsUnder o.texts choice.template (Some bytes) × (refusal_of kinds choice stack number (Some bytes) ≡ None) × (source ≡ source_of stack choice bytes)
-FetchesAs o kinds choice stack number (Err e) = IsRefusedFor o kinds choice stack number e
+-- The creation of a stack from these bytes begins with this source: that of the choice, with just the exports of other stacks that
+-- it uses. The beginning may follow.
+pub record IsBegunWith (schemas : List Schema) (x : World) (stack : List ℕ) (choice : Choice) (bytes : List ℕ) (source : Source) : Type 0 where
+  pub written : IsWritten schemas x stack (source_of stack choice bytes) source
+  pub follows : MayFollow schemas x [] (beginning (x.operation + 1) stack source)
+
+abbrev pub IsBegunBy : List Schema → World → List ℕ → Choice → List ℕ → Entry → Type 0
+IsBegunBy schemas x stack choice bytes begun =
+    (source : Source) × IsBegunWith schemas x stack choice bytes source × (begun ≡ beginning (x.operation + 1) stack source)
+
+-- What the fetch of the template for a new stack comes to: the entry that begins its creation, or the exit with its cause.
+abbrev pub FetchesAs : Shelf → List Schema → World → List ℕ → Choice → Result Entry Exit → Type 0
+FetchesAs o schemas x stack choice (Ok begun) =
+    (bytes : List ℕ) × StandsUnder o.texts choice.template (Some bytes) × (refusal_of schemas x stack choice (Some bytes) ≡ None)
+    × IsBegunBy schemas x stack choice bytes begun
+FetchesAs o schemas x stack choice (Err e) = IsRefusedFor o schemas x stack choice e
 
 -- the status that bars a deployment: that of a stack that is there
 abbrev pub barred : Status → Option Status
@@ -56,26 +72,30 @@ barring name x = option_and_then (λ st. barred st.status) (stack_at name x)
 abbrev pub IsQuiet : Scene → Type 0
 IsQuiet s = (s.told' ≡ s.told) × (s.counts' ≡ s.counts) × Holds s.tells s.bytes' s.entries
 
--- No stack of the name bars it, and the template was found there and is not refused.
-pub record IsFound (o : Shelf) (kinds : List (List ℕ)) (s : Scene) (name : List ℕ) (choice : Choice) (bytes : List ℕ) : Type 0 where
+-- No stack of the name bars it, and the template was found there and is not refused; its creation begins with this source.
+pub record IsFound (o : Shelf) (s : Scene) (name : List ℕ) (choice : Choice) (source : Source) : Type 0 where
   pub free : barring name (world_of s.entries) ≡ None
+  pub bytes : List ℕ
   pub stands : StandsUnder o.texts choice.template (Some bytes)
-  pub sound : refusal_of kinds choice name (next_number s.entries) (Some bytes) ≡ None
+  pub sound : refusal_of s.schemas (world_of s.entries) name choice (Some bytes) ≡ None
+  pub begun : IsBegunWith s.schemas (world_of s.entries) name choice bytes source
 
 -- why nothing was made: a stack of the name bars it, or the library failed, or what was found there is refused
-abbrev pub RefusesEarly : Shelf → List (List ℕ) → Scene → List ℕ → Choice → Exit → Type 0
-RefusesEarly o kinds s name choice (exit.StackRefused (WrongStatus status)) = (barring name (world_of s.entries) ≡ Some status) × IsUnasked o
-RefusesEarly o kinds s name choice e =
-    (barring name (world_of s.entries) ≡ None) × IsRefusedFor o kinds choice name (next_number s.entries) e
+abbrev pub RefusesEarly : Shelf → Scene → List ℕ → Choice → Exit → Type 0
+RefusesEarly o s name choice (exit.StackRefused (WrongStatus status)) = (barring name (world_of s.entries) ≡ Some status) × IsUnasked o
+RefusesEarly o s name choice e = (barring name (world_of s.entries) ≡ None) × IsRefusedFor o s.schemas (world_of s.entries) name choice e
 
--- no operation of the next number is in progress
-abbrev pub IsLone : Scene → Type 0
-IsLone s = stack_of_operation (next_number s.entries) (world_of s.entries) ≡ None
+-- each operation is of one stack
+abbrev pub IsApart : Scene → Type 0
+IsApart s = AreApart (world_of s.entries)
+
+-- the creation by a source came to this
+abbrev pub CreatesBy : Scene → List ℕ → Source → Result (Unit {0}) Halt → Type 0
+CreatesBy s name source r = CreateTells s (beginning (next_number s.entries) name source) r
 
 -- What a deployment comes to: it is refused early and nothing was done, or it is the creation of a stack from the template that was found.
-abbrev pub DeploysAs : Shelf → List (List ℕ) → Scene → List ℕ → Choice → Result (Unit {0}) Exit → Type 0
-DeploysAs o kinds s name choice (Ok done) =
-    (bytes : List ℕ) × IsFound o kinds s name choice bytes × CreateTells s name (source_of name choice bytes) (Ok done) × IsLone s
-DeploysAs o kinds s name choice (Err e) =
-    (RefusesEarly o kinds s name choice e × IsQuiet s)
-    ⊎ ((bytes : List ℕ) × (h : Halt) × IsFound o kinds s name choice bytes × (e ≡ exit_of h) × CreateTells s name (source_of name choice bytes) (Err h))
+abbrev pub DeploysAs : Shelf → Scene → List ℕ → Choice → Result (Unit {0}) Exit → Type 0
+DeploysAs o s name choice (Ok done) = (source : Source) × IsFound o s name choice source × CreatesBy s name source (Ok done) × IsApart s
+DeploysAs o s name choice (Err e) =
+    (RefusesEarly o s name choice e × IsQuiet s)
+    ⊎ ((source : Source) × (h : Halt) × IsFound o s name choice source × (e ≡ exit_of h) × CreatesBy s name source (Err h))

@@ -1,7 +1,7 @@
 -- The lanes of a run, as lists: the name and the schema of each (this project's own).
-use Rattle.std.specs.Prelude.{◌≡◌, ℕ, List, [], ◌∷◌, map, fold, Option, Some, None}
+use Rattle.std.specs.Prelude.{ℕ, List, [], ◌∷◌, map, fold, Option, Some, None}
 use Rattle.cf_schema.specs.declared.described.Schema.{Schema}
-use Rattle.cf_schema.specs.Kinds.{found, with_kind}
+use Rattle.cf_schema.specs.Kinds.{with_kind}
 use Rattle.cf_handler.specs.Lane.{LaneState}
 use Rattle.cf_plan.specs.declared.next.Home.{Home}
 
@@ -9,13 +9,13 @@ use Rattle.cf_plan.specs.declared.next.Home.{Home}
 abbrev pub kinds_of : List Schema → List (List ℕ)
 kinds_of schemas = map (λ g. g.kind) schemas
 
--- of each type they have the schema of its first lane
-abbrev pub IsFirstOfEach : List Schema → List Schema → Type 0
-IsFirstOfEach lanes schemas = (kind : List ℕ) → found kind schemas ≡ found kind lanes
+-- the schemas, and behind them of each type that they lack the schema of its first lane, in the order handed in
+abbrev pub with_each : List Schema → List Schema → List Schema
+with_each schemas lanes = fold (λ schemas g. with_kind g schemas) schemas lanes
 
--- of each type the schema of its first lane, in the order handed in
+-- of each type the schema of its first lane
 abbrev pub one_of_each : List Schema → List Schema
-one_of_each lanes = fold (λ schemas g. with_kind g schemas) [] lanes
+one_of_each lanes = with_each [] lanes
 
 -- a lane that tells, and on which nothing was called yet
 abbrev pub unused : Option LaneState

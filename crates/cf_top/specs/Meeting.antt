@@ -85,7 +85,7 @@ pub record WasEntered (m : Meeting) (name : List ℕ) (choice : Choice) (now : L
   pub was : Holds m.tells m.bytes old
   pub may : MayOpen m old
   pub named : IsTrue (list_all is_lane_name m.names)
-  pub came : DeploysAs m.shelf (kinds_of m.schemas) (opened m old faults now) name choice outcome
+  pub came : DeploysAs m.shelf (opened m old faults now) name choice outcome
 
 -- a deployment ends before it has a stack: the journal was not opened, or the opening not written, or later
 abbrev pub EndsEarly : Meeting → List ℕ → Choice → Exit → Type 0

@@ -1,5 +1,5 @@
 -- What of a template this engine does not make yet: imports from other stacks, exports, policies and nested stacks (this project's own order of growth).
-use Rattle.std.specs.Prelude.{ℕ, Bool, true, false, ◌||◌, not, List, [], ◌∷◌, Option, Some, None, is_some}
+use Rattle.std.specs.Prelude.{Bool, true, false, ◌||◌, Option, Some, None, is_some}
 use Rattle.std.specs.List.{list_any}
 use Rattle.cf_tree.specs.Forms.{Form, Node, Forms, Fields, expr, lit, ref, get_att, sub, join, select, split, choice, find_in_map, import_value, base64, no_forms, form, no_fields, field, fields_of}
 use Rattle.cf_tree.specs.Forms as node
@@ -11,7 +11,7 @@ use Rattle.cf_tree.specs.declared.template.Deletion.{Deletion}
 use Rattle.cf_tree.specs.declared.template.Deletion.TheVariants as deletion
 use Rattle.cf_tree.specs.declared.template.Replace.{Replace}
 use Rattle.cf_tree.specs.declared.template.Replace.TheVariants as replace
-use Rattle.cf_desired.specs.Templates.{is_flat}
+use Rattle.cf_desired.specs.Templates.{is_stack}
 
 -- an expression imports an export of another stack, in whatever branch
 abbrev mutual
@@ -68,9 +68,9 @@ keeps_replaced None = false
 keeps_replaced (Some replace.Delete) = false
 keeps_replaced (Some _) = true
 
--- a resource outlives its removal, or imports
+-- a resource is a nested stack, outlives its removal, or imports
 abbrev pub is_late : Res → Bool
-is_late r = keeps_removed r.deletion || (keeps_replaced r.replace || fields_import (fields_of r.props))
+is_late r = is_stack r || (keeps_removed r.deletion || (keeps_replaced r.replace || fields_import (fields_of r.props)))
 
 -- an output is exported, or imports
 abbrev pub is_output_late : Out → Bool
@@ -79,4 +79,4 @@ is_output_late o = is_some o.export || form_imports o.value
 -- a template holds something that is not made yet
 abbrev pub is_not_yet : Template → Bool
 is_not_yet t =
-    not (is_flat t) || (list_any is_output_late t.outputs || (list_any (λ c. test_imports c.1) t.conds || list_any is_late t.resources))
+    list_any is_output_late t.outputs || (list_any (λ c. test_imports c.1) t.conds || list_any is_late t.resources)

@@ -1,5 +1,5 @@
 -- The opening of a journal over lanes (this project's own format, docs/JOURNAL.md).
-use Rattle.std.specs.Prelude.{◌≡◌, ℕ, ◌+◌, ◌&&◌, ◌||◌, Bool, false, List, [], ◌∷◌, ◌++◌, All, map, fold, codes, nat_lt, if◌then◌else◌, find, Option, Some, None, Result, Ok, Err, IsTrue, ⊤}
+use Rattle.std.specs.Prelude.{◌≡◌, ℕ, ◌+◌, ◌&&◌, ◌||◌, Bool, false, List, [], ◌∷◌, ◌++◌, map, fold, codes, nat_lt, if◌then◌else◌, find, Option, Some, None, Result, Ok, Err, IsTrue, ⊤}
 use Rattle.std.specs.Str.{bytes_eq}
 use Rattle.std.specs.Option.{option_map_or}
 use Rattle.cf_funcs.specs.Pieces.{cut_at}
@@ -12,13 +12,10 @@ use Rattle.cf_entry.specs.declared.entry.Entry.{Entry}
 use Rattle.cf_entry.specs.declared.entry.Entry.TheVariants as entry
 use Rattle.cf_stacks.specs.declared.held.Held.{Held}
 use Rattle.cf_stacks.specs.declared.held.Pending.{Pending}
-use Rattle.cf_stacks.specs.declared.state.StackState.{StackState}
-use Rattle.cf_stacks.specs.declared.state.World.{World}
-use Rattle.cf_stacks.specs.Changing.{IsFlatEntry}
+use Rattle.cf_stacks.specs.World.{StackState, World}
 use Rattle.cf_journal.specs.Record.{record_of}
 use Rattle.cf_face.specs.declared.exit.Exit.{Exit}
 use Rattle.cf_face.specs.declared.exit.Exit.TheVariants as exit
-use Rattle.cf_face.specs.declared.exit.Refusal.TheVariants as refusal
 use Rattle.cf_top.specs.declared.book.Halt.{Halt}
 use Rattle.cf_top.specs.declared.book.Halt.TheVariants as halt
 use Rattle.cf_top.specs.Book.{Holds, HaltsAt, world_of}
@@ -93,11 +90,9 @@ exit_of (halt.Full length need room) = exit.Full length need room
 exit_of halt.DiskFault = exit.DiskFault
 exit_of halt.NoMemory = exit.NoMemory
 
--- why no journal was opened: there is none on these bytes of a disk that tells them, or it begins an operation by a nested source, which can't be folded yet; its count of faults rose; or memory was not there
+-- why no journal was opened: there is none on these bytes of a disk that tells them; its count of faults rose; or memory was not there
 abbrev pub HasOpenCause : Bool → List ℕ → ℕ → ℕ → Exit → Type 0
 HasOpenCause tells bytes faults faults' (exit.NotAJournal offset) = IsTrue tells → record_of bytes ≡ Err offset
-HasOpenCause tells bytes faults faults' (exit.TemplateRefused (refusal.NotYet name)) =
-    (name ≡ []) × (IsTrue tells → (es : List Entry) × (record_of bytes ≡ Ok es) × ¬ All IsFlatEntry es)
 HasOpenCause tells bytes faults faults' exit.DiskFault = HasRisen faults faults'
 HasOpenCause tells bytes faults faults' exit.NoMemory = ⊤
 HasOpenCause tells bytes faults faults' _ = ⊥
@@ -110,8 +105,10 @@ EnterTells tells bytes room faults faults' names kinds es es' (Err (exit.LaneTwi
 EnterTells tells bytes room faults faults' names kinds es es' (Err (exit.LaneMissing name)) =
     (twice names ≡ None) × (missing names kinds (world_of es) ≡ Some name) × Holds tells bytes es
 EnterTells tells bytes room faults faults' names kinds es es' (Err (exit.Full length need r)) =
-    (twice names ≡ None) × (missing names kinds (world_of es) ≡ None) × HaltsAt tells bytes room faults faults' es (opening names kinds (world_of es)) (halt.Full length need r)
+    (twice names ≡ None) × (missing names kinds (world_of es) ≡ None)
+    × HaltsAt tells bytes room faults faults' es (opening names kinds (world_of es)) (halt.Full length need r)
 EnterTells tells bytes room faults faults' names kinds es es' (Err exit.DiskFault) =
-    (twice names ≡ None) × (missing names kinds (world_of es) ≡ None) × HaltsAt tells bytes room faults faults' es (opening names kinds (world_of es)) halt.DiskFault
+    (twice names ≡ None) × (missing names kinds (world_of es) ≡ None)
+    × HaltsAt tells bytes room faults faults' es (opening names kinds (world_of es)) halt.DiskFault
 EnterTells tells bytes room faults faults' names kinds es es' (Err exit.NoMemory) = Holds tells bytes es
 EnterTells tells bytes room faults faults' names kinds es es' (Err _) = ⊥

@@ -1,20 +1,18 @@
 -- What stands in the library under a name, and why it may be refused before anything is made (this project's own).
-use Rattle.std.specs.Prelude.{◌≡◌, ℕ, Bool, not, List, [], ◌∷◌, filter, fold, Option, Some, None, option_map, Result, Ok, Err, if◌then◌else◌, ⊤}
-use Rattle.std.specs.Option.{option_or}
+use Rattle.std.specs.Prelude.{◌≡◌, ℕ, List, [], ◌∷◌, Option, Some, None, Result, Ok, Err, if◌then◌else◌, ⊤}
 use Rattle.cf_tree.specs.Counts.{HasRisen}
-use Rattle.cf_tree.specs.Keys.{bytes_lt}
 use Rattle.cf_tree.specs.declared.source.Source.{Source}
 use Rattle.cf_tree.specs.declared.template.Template.{Template}
-use Rattle.cf_tree.specs.Lists.{first_in, is_among}
 use Rattle.cf_template.specs.Refusals.{Reading}
 use Rattle.cf_template.specs.Whole.{template_of}
 use Rattle.cf_template.specs.declared.refusal.TemplateFault.{TemplateFault}
 use Rattle.cf_template.specs.declared.refusal.TemplateFault.TheVariants as unread
-use Rattle.cf_desired.specs.declared.wanted.Plan.{Plan}
-use Rattle.cf_desired.specs.declared.wanted.Wanted.{Wanted}
 use Rattle.cf_desired.specs.declared.flaw.Flaw.TheVariants.{TemplateMissing}
-use Rattle.cf_desired.specs.Plan.{plan_of}
-use Rattle.cf_stacks.specs.Fold.{source_for}
+use Rattle.cf_schema.specs.declared.described.Schema.{Schema}
+use Rattle.cf_stacks.specs.World.{World}
+use Rattle.cf_prepare.specs.Refusals.{deploy_refusal}
+use Rattle.cf_prepare.specs.declared.wish.PrepareFault.{PrepareFault}
+use Rattle.cf_prepare.specs.declared.wish.PrepareFault.TheVariants as fault
 use Rattle.cf_face.specs.declared.words.Choice.{Choice}
 use Rattle.cf_face.specs.declared.exit.Exit.{Exit}
 use Rattle.cf_face.specs.declared.exit.Exit.TheVariants as exit
@@ -24,37 +22,38 @@ use Rattle.cf_top.specs.NotYet.{is_not_yet}
 
 -- what a creation rests on: one template and what is given for its parameters, without imports
 abbrev pub source_of : List ℕ → Choice → List ℕ → Source
-source_of stack choice bytes = record { root = choice.template; texts = (choice.template, bytes) ∷ []; given = choice.given; imports = []; stack = stack; number = 0 }
+source_of stack choice bytes = record {
+  root = choice.template;
+  texts = (choice.template, bytes) ∷ [];
+  given = choice.given;
+  imports = [];
+  stack = stack;
+  number = 0;
+}
 
--- no lane has the type of a resource
-abbrev pub is_unknown : List (List ℕ) → Wanted → Bool
-is_unknown kinds w = not (is_among w.kind kinds)
+-- The exit of what preparing an operation is refused for. The creation of a stack that holds and exports nothing, from a template
+-- that exports nothing, is refused for its template alone; another cause it has only in a journal that no run wrote.
+abbrev pub exit_of_fault : PrepareFault → Exit
+exit_of_fault (fault.Plan flaw) = exit.TemplateRefused (refusal.Plan flaw)
+exit_of_fault (fault.UnknownType path name) = exit.TemplateRefused (refusal.UnknownType path name)
+exit_of_fault (fault.Stack f) = exit.NoMemory
+exit_of_fault fault.NoMemory = exit.NoMemory
 
--- the first of such resources, by path in byte order
-abbrev pub sooner : Option Wanted → Wanted → Option Wanted
-sooner None w = Some w
-sooner (Some v) w = if bytes_lt w.path v.path then Some w else Some v
+-- why the template is to blame for it
+abbrev pub refusal_in : Option PrepareFault → Option Refusal
+refusal_in (Some (fault.Plan flaw)) = Some (refusal.Plan flaw)
+refusal_in (Some (fault.UnknownType path name)) = Some (refusal.UnknownType path name)
+refusal_in _ = None
 
-abbrev pub first_unknown : List (List ℕ) → List Wanted → Option Wanted
-first_unknown kinds ws = fold sooner None (filter (is_unknown kinds) ws)
+abbrev pub template_refusal : List Schema → World → List ℕ → Choice → List ℕ → Reading Template → Option Refusal
+template_refusal schemas x stack choice bytes (Err fault) = Some (refusal.Read choice.template fault)
+template_refusal schemas x stack choice bytes (Ok t) =
+    if is_not_yet t then Some (refusal.NotYet choice.template) else refusal_in (deploy_refusal schemas x stack (source_of stack choice bytes))
 
-abbrev pub type_refusal : List (List ℕ) → List Wanted → Option Refusal
-type_refusal kinds ws = option_map (λ w. refusal.UnknownType w.path w.kind) (first_unknown kinds ws)
-
--- a plan is refused for its first flaw, and then for a type that no lane has
-abbrev pub plan_refusal : List (List ℕ) → Plan → Option Refusal
-plan_refusal kinds p = option_or (option_map refusal.Plan (first_in p.flaws)) (type_refusal kinds p.wanted)
-
-abbrev pub template_refusal : List (List ℕ) → Choice → List ℕ → ℕ → List ℕ → Reading Template → Option Refusal
-template_refusal kinds choice stack number bytes (Err fault) = Some (refusal.Read choice.template fault)
-template_refusal kinds choice stack number bytes (Ok t) =
-    if is_not_yet t then Some (refusal.NotYet choice.template)
-    else plan_refusal kinds (plan_of (source_for stack number (source_of stack choice bytes)) [])
-
--- why a new stack of this name, by the operation of this number, is refused, by what was found under the template's name (the order is this project's own)
-abbrev pub refusal_of : List (List ℕ) → Choice → List ℕ → ℕ → Option (List ℕ) → Option Refusal
-refusal_of kinds choice stack number None = Some (refusal.Plan (TemplateMissing choice.template))
-refusal_of kinds choice stack number (Some bytes) = template_refusal kinds choice stack number bytes (template_of bytes)
+-- why a new stack of this name is refused, by what was found under the template's name (the order is this project's own)
+abbrev pub refusal_of : List Schema → World → List ℕ → Choice → Option (List ℕ) → Option Refusal
+refusal_of schemas x stack choice None = Some (refusal.Plan (TemplateMissing choice.template))
+refusal_of schemas x stack choice (Some bytes) = template_refusal schemas x stack choice bytes (template_of bytes)
 
 -- the exit of a refusal, where there was memory to tell it
 abbrev pub RefusesAs : Refusal → Exit → Type 0

@@ -11,10 +11,9 @@ use Rattle.cf_entry.specs.declared.turn.Cause.TheVariants as cause
 use Rattle.cf_entry.specs.declared.turn.Phase.TheVariants as phase
 use Rattle.cf_entry.specs.declared.turn.Reason.{Reason}
 use Rattle.cf_entry.specs.declared.turn.Reason.TheVariants as reason
-use Rattle.cf_stacks.specs.declared.state.StackState.{StackState}
-use Rattle.cf_stacks.specs.declared.state.World.{World}
-use Rattle.cf_stacks.specs.Words.{stack_at}
-use Rattle.cf_stacks.specs.Operation.{Call, call_at}
+use Rattle.cf_stacks.specs.World.{StackState, World, stack_at}
+use Rattle.cf_stacks.specs.declared.call.Call.{Call}
+use Rattle.cf_stacks.specs.Calls.{call_of}
 use Rattle.cf_stacks.specs.Fold.{fold_of}
 use Rattle.cf_plan.specs.Forward.{In, IsCause}
 
@@ -24,8 +23,8 @@ reason_in (reply.Success physical attrs) = None
 reason_in (reply.Failed code) = Some (reason.Code code)
 reason_in reply.Doubt = Some reason.Fault
 
--- One of the operation's calls failed: a call at this path, as the stack's entries say, was refused or broke off for this reason, and the count of a lane rose in it.
-pub record HasFailedCall (counts counts' : List ℕ) (number : ℕ) (es entries : List Entry) (path : List ℕ) (why : Reason) : Type 0 where
+-- One of the operation's calls failed: a call at this path, as the stack's ledger says, was refused or broke off for this reason, and the count of a lane rose in it.
+pub record HasFailedCall (counts counts' : List ℕ) (number : ℕ) (es : List Entry) (s : StackState) (path : List ℕ) (why : Reason) : Type 0 where
   pub token : ℕ
   pub answer : Reply
   pub before : ℕ
@@ -33,7 +32,7 @@ pub record HasFailedCall (counts counts' : List ℕ) (number : ℕ) (es entries 
   pub stands : In (entry.Outcome number token answer before after) es
   pub told : reason_in answer ≡ Some why
   pub call : Call
-  pub of_call : call_at token entries ≡ Some call
+  pub of_call : call_of token s ≡ Some call
   pub at_path : call.path ≡ path
   pub rose : HasRisen before after
   pub lane : (k : ℕ) × (slice_index_or counts k 0 ≤ before) × (before ≤ after) × (after ≤ slice_index_or counts' k 0)
@@ -48,12 +47,12 @@ pub record TurnsBack (schemas : List Schema) (x : World) (number : ℕ) (name : 
   pub is_cause : IsCause schemas name (fold_of x before) stack c
 
 -- where the cause is a handler, it failed a call at that path for that reason
-abbrev pub IsHandlers : List ℕ → List ℕ → ℕ → List Entry → List Entry → Cause → Type 0
-IsHandlers counts counts' number es entries (cause.Handler path why) = HasFailedCall counts counts' number es entries path why
-IsHandlers counts counts' number es entries (cause.Plan fault) = ⊤
-IsHandlers counts counts' number es entries (cause.Export name) = ⊤
+abbrev pub IsHandlers : List ℕ → List ℕ → ℕ → List Entry → StackState → Cause → Type 0
+IsHandlers counts counts' number es s (cause.Handler path why) = HasFailedCall counts counts' number es s path why
+IsHandlers counts counts' number es s (cause.Plan fault) = ⊤
+IsHandlers counts counts' number es s (cause.Export name) = ⊤
 
 -- paths are named, and a call at each of them failed
-abbrev pub AreBlamed : List ℕ → List ℕ → ℕ → List Entry → List Entry → List (List ℕ) → Type 0
-AreBlamed counts counts' number es entries blamed =
-    (blamed ≢ []) × ((path : List ℕ) → In path blamed → (why : Reason) × HasFailedCall counts counts' number es entries path why)
+abbrev pub AreBlamed : List ℕ → List ℕ → ℕ → List Entry → StackState → List (List ℕ) → Type 0
+AreBlamed counts counts' number es s blamed =
+    (blamed ≢ []) × ((path : List ℕ) → In path blamed → (why : Reason) × HasFailedCall counts counts' number es s path why)

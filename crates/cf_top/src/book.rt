@@ -2,7 +2,6 @@
 ghost use Rattle.std.specs.Prelude.{◌≡◌, ◌≤◌, ◌<◌, IfOk, OnOk, length, vec_len, vec_capacity};
 ghost use Rattle.cf_tree.specs.SizeOf.{capped};
 ghost use Rattle.cf_entry.specs.Entry.{IsProper, spelling_of};
-ghost use Rattle.cf_stacks.specs.Changing.{IsFlatEntry};
 ghost use Rattle.cf_stacks.specs.Room.{HasRoom};
 ghost use Rattle.cf_journal.specs.Record.{Stands, is_broken, journal_length, spare_of};
 ghost use Rattle.cf_top.specs.Book.{IsOpen, Holds, AppendTells, world_of};
@@ -10,7 +9,7 @@ ghost use Rattle.cf_top.specs.Book.{IsOpen, Holds, AppendTells, world_of};
 use cf_disk::Disk;
 use cf_entry::{Entry, entry_size};
 use cf_journal::{AppendFault, Journal};
-use cf_stacks::{StepFault, World};
+use cf_stacks::World;
 use cf_tree::{NoMemory, TryClone};
 use std::alloc::Global;
 
@@ -46,15 +45,15 @@ pub fn append<D: Disk>(
 ) -> Result<(), Halt>
     requires open { IsOpen D.tells D.seen D.may_leave D.room_of book.old disk.old }
     requires proper { IsProper entry }
-    requires flat { IsFlatEntry entry }
     ensures open { OnOk result (IsOpen D.tells D.seen D.may_leave D.room_of book.new disk.new) }
     ensures room { D.room_of disk.new ≡ D.room_of disk.old }
     ensures count { D.count disk.old ≤ D.count disk.new }
-    ensures tells { AppendTells D.tells (D.seen disk.new) (D.room_of disk.old) (D.count disk.old) (D.count disk.new) book.old.entries.items book.new.entries.items entry result }
+    ensures tells { AppendTells D.tells (D.seen disk.new) (D.room_of disk.old) (D.count disk.old) (D.count disk.new)
+        book.old.entries.items book.new.entries.items entry result }
 {
     // All memory is taken first, so that want of it leaves the disk as it was.
     match take_memory(alloc, book, &entry) {
-        Ok(copy) => write(alloc, book, disk, entry, copy),
+        Ok(copy) => write(book, disk, entry, copy),
         Err(NoMemory) => {
             drop(entry);
             Err(Halt::NoMemory)
@@ -63,8 +62,8 @@ pub fn append<D: Disk>(
 }
 
 /// Makes room for an entry in the world, and memory for it in the book's entries and in its journal; a copy of it for the book.
+#[tactic(auto, using(crate::proofs::Books::room_made))]
 fn take_memory(alloc: Global, book: &mut Book, entry: &Entry) -> Result<Entry, NoMemory>
-    requires flat { IsFlatEntry entry.now }
     ensures copied { IfOk result (λ copy. copy ≡ entry.now) }
     ensures made { OnOk result (HasRoom book.new.world entry.now) }
     ensures memory { OnOk result (vec_len book.new.entries < vec_capacity book.new.entries) }
@@ -72,31 +71,19 @@ fn take_memory(alloc: Global, book: &mut Book, entry: &Entry) -> Result<Entry, N
     ensures entries { book.new.entries.items ≡ book.old.entries.items }
     ensures length { journal_length book.new.journal ≡ journal_length book.old.journal }
     ensures broken { is_broken book.new.journal ≡ is_broken book.old.journal }
-    ensures world { book.new.world ≡ record book.old.world { ready = book.new.world.ready; rooms = book.new.world.rooms } }
+    ensures world { OnOk result (book.new.world.world ≡ book.old.world.world) }
 {
-    match book.world.room_for(alloc, entry) {
-        Ok(()) => {
-            book.entries.reserve(1)?;
-            book.journal.reserve(entry_size(entry))?;
-            Ok(entry.try_clone(alloc)?)
-        }
-        Err(StepFault::NoMemory) => Err(NoMemory),
-        Err(StepFault::Nested) => unreachable!(),
-    }
+    book.world.room_for(alloc, entry)?;
+    book.entries.reserve(1)?;
+    book.journal.reserve(entry_size(entry))?;
+    Ok(entry.try_clone(alloc)?)
 }
 
-/// Appends an entry for which there is memory and room in the world; with a copy of it for the book. A run makes one call at a time
-/// and asks for the room of its outcome when the answer is there, so that no room is kept over it.
-fn write<D: Disk>(
-    alloc: Global,
-    book: &mut Book,
-    disk: &mut D,
-    entry: Entry,
-    copy: Entry,
-) -> Result<(), Halt>
+/// Appends an entry for which there is memory and room in the world; with a copy of it for the book.
+fn write<D: Disk>(book: &mut Book, disk: &mut D, entry: Entry, copy: Entry) -> Result<(), Halt>
     requires stands { Stands D.tells D.seen D.may_leave D.room_of book.old.journal disk.old }
     requires holds { Holds D.tells (D.seen disk.old) book.old.entries.items }
-    requires world { book.old.world ≡ record (world_of book.old.entries.items) { ready = book.old.world.ready; rooms = book.old.world.rooms } }
+    requires world { book.old.world.world ≡ world_of book.old.entries.items }
     requires made { HasRoom book.old.world entry }
     requires proper { IsProper entry }
     requires copied { copy ≡ entry }
@@ -105,13 +92,13 @@ fn write<D: Disk>(
     ensures open { OnOk result (IsOpen D.tells D.seen D.may_leave D.room_of book.new disk.new) }
     ensures room { D.room_of disk.new ≡ D.room_of disk.old }
     ensures count { D.count disk.old ≤ D.count disk.new }
-    ensures tells { AppendTells D.tells (D.seen disk.new) (D.room_of disk.old) (D.count disk.old) (D.count disk.new) book.old.entries.items book.new.entries.items entry result }
+    ensures tells { AppendTells D.tells (D.seen disk.new) (D.room_of disk.old) (D.count disk.old) (D.count disk.new)
+        book.old.entries.items book.new.entries.items entry result }
 {
     match book.journal.append(disk, &entry) {
         Ok(()) => {
             book.entries.push_reserved(copy);
             book.world.step(entry);
-            book.world.give_up_rooms(alloc);
             Ok(())
         }
         Err(fault) => {

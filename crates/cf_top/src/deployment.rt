@@ -4,7 +4,7 @@ ghost use Rattle.cf_face.specs.declared.exit.Exit.TheVariants.{StackRefused};
 ghost use Rattle.cf_face.specs.declared.exit.StackFault.TheVariants.{WrongStatus};
 ghost use Rattle.cf_plan.specs.Going.{IsOver};
 ghost use Rattle.cf_top.specs.Book.{IsOpen, world_of};
-ghost use Rattle.cf_top.specs.Lanes.{kinds_of, one_of_each};
+ghost use Rattle.cf_top.specs.Lanes.{one_of_each};
 ghost use Rattle.cf_top.specs.Creating.{next_number};
 ghost use Rattle.cf_top.specs.Deployment.{DeploysAs, FetchesAs, barred, barring};
 
@@ -13,23 +13,27 @@ use crate::creating::create;
 use crate::opening::exit_of;
 use crate::planning::examine;
 use crate::refusals::missing;
+use crate::schemas::schemas_of;
 use cf_disk::Disk;
-use cf_entry::Status;
+use cf_entry::{Entry, Status};
 use cf_face::{Choice, Exit, StackFault};
 use cf_handler::Handler;
 use cf_io::{FetchFault, Library};
-use cf_tree::{Source, Txt};
+use cf_schema::Schemas;
+use cf_stacks::World;
+use cf_tree::Txt;
 use std::alloc::Global;
 
-/// The source of a new stack of this name, by the operation of this number, from the template that the library holds.
-fn fetch<L: Library, H: Handler>(
+/// The entry with which the creation of a stack of this name begins, from the template that the library holds.
+fn fetch<L: Library>(
     alloc: Global,
     library: &mut L,
-    lanes: &[H],
+    world: &World,
+    schemas: &Schemas,
     choice: &Choice,
     stack: &Txt,
-    number: u64,
-) -> Result<Source, Exit>
+) -> Result<Entry, Exit>
+    requires free { barring stack.now world.now.world ≡ None }
     ensures same { L.texts library.new ≡ L.texts library.old }
     ensures faults { L.count library.old ≤ L.count library.new }
     ensures misses { L.missed library.old ≤ L.missed library.new }
@@ -40,10 +44,10 @@ fn fetch<L: Library, H: Handler>(
       misses = L.missed library.old;
       misses' = L.missed library.new;
     })
-        (kinds_of (map H.schema_of lanes.now)) choice.now stack.now number result }
+        schemas.now world.now.world stack.now choice.now result }
 {
     match library.fetch(choice.template.as_str()) {
-        Ok(Some(bytes)) => examine(alloc, lanes, choice, stack, number, bytes),
+        Ok(Some(bytes)) => examine(alloc, world, schemas, choice, stack, bytes),
         Ok(None) => Err(missing(alloc, &choice.template)),
         Err(FetchFault::Failed) => Err(Exit::LibraryFault),
         Err(FetchFault::NoMemory) => Err(Exit::NoMemory),
@@ -62,10 +66,10 @@ fn barred(status: Status) -> Option<Status>
 
 /// The status of the stack of the name, where there is one.
 fn barring(stack: &Txt, book: &Book) -> Option<Status>
-    ensures { result ≡ barring stack.now book.now.world }
+    ensures { result ≡ barring stack.now book.now.world.world }
 {
-    match book.world.stacks.get(stack.as_str()) {
-        Some(found) => barred(found.status),
+    match book.world.stack(stack.as_str()) {
+        Some(found) => barred(found.status()),
         None => None,
     }
 }
@@ -97,7 +101,6 @@ fn deploy_new<L: Library, D: Disk, H: Handler>(
       misses = L.missed library.old;
       misses' = L.missed library.new;
     })
-        (kinds_of (map H.schema_of lanes.old.items))
         (record {
           names = map H.label lanes.old.items;
           schemas = one_of_each (map H.schema_of lanes.old.items);
@@ -115,11 +118,13 @@ fn deploy_new<L: Library, D: Disk, H: Handler>(
         })
         stack.now choice.now result }
 {
-    let Some(number) = book.world.operation.checked_add(1) else {
+    let Ok(schemas) = schemas_of(alloc, lanes.as_slice()) else {
         return Err(Exit::NoMemory);
     };
-    match fetch(alloc, library, lanes.as_slice(), choice, stack, number) {
-        Ok(source) => match create(alloc, book, disk, lanes, stack, source) {
+    let fetched = fetch(alloc, library, &book.world, &schemas, choice, stack);
+    drop(schemas);
+    match fetched {
+        Ok(begun) => match create(alloc, book, disk, lanes, begun) {
             Ok(()) => Ok(()),
             Err(halt) => Err(exit_of(halt)),
         },
@@ -168,7 +173,6 @@ pub fn deploy_in<L: Library, D: Disk, H: Handler>(
       misses = L.missed library.old;
       misses' = L.missed library.new;
     })
-        (kinds_of (map H.schema_of lanes.old.items))
         (record {
           names = map H.label lanes.old.items;
           schemas = one_of_each (map H.schema_of lanes.old.items);

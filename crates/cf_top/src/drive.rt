@@ -3,8 +3,8 @@ ghost use Rattle.std.specs.Prelude.{◌≡◌, ◌≤◌, ◌<◌, ◌++◌, Lis
 ghost use Rattle.cf_schema.specs.declared.described.Schema.{Schema};
 ghost use Rattle.cf_handler.specs.Move.{CallTells, HasCause};
 ghost use Rattle.cf_entry.specs.Entry.{IsProper};
+ghost use Rattle.cf_plan.specs.Follow.{MayFollow};
 ghost use Rattle.cf_stacks.specs.declared.held.Pending.{Pending};
-ghost use Rattle.cf_stacks.specs.Changing.{IsFlatEntry};
 ghost use Rattle.cf_plan.specs.Run.{MovesAt, open_call};
 ghost use Rattle.cf_stacks.specs.Words.{has_token};
 ghost use Rattle.cf_plan.specs.Chosen.{IsNext, leases_of, entry_of};
@@ -17,7 +17,10 @@ use crate::book::{Book, Halt, append};
 use cf_disk::Disk;
 use cf_entry::{Entry, Reply};
 use cf_handler::Handler;
-use cf_plan::{Home, Homes, Next, next_in_creation, stack_of_operation};
+use cf_plan::{
+    Home, Homes, Next, answer_follows, creation_goes_on, creation_is_proper, intent_opens,
+    next_in_creation,
+};
 use cf_schema::Schema;
 use cf_stacks::{Pending, World};
 use cf_tree::{Answer, Request, TryClone, Txt};
@@ -103,7 +106,8 @@ fn ask_at<H: Handler>(lanes: &mut Vec<H>, at: usize, token: u64, request: &Reque
     requires { at < length lanes.old.items }
     ensures names { map H.label lanes.new.items ≡ map H.label lanes.old.items }
     ensures schemas { map H.schema_of lanes.new.items ≡ map H.schema_of lanes.old.items }
-    ensures moves { MovesAt at (map H.label lanes.old.items) (map H.told lanes.old.items) (map H.told lanes.new.items) (map H.count lanes.old.items) (map H.count lanes.new.items)
+    ensures moves { MovesAt at (map H.label lanes.old.items) (map H.told lanes.old.items) (map H.told lanes.new.items)
+        (map H.count lanes.old.items) (map H.count lanes.new.items)
         token request.now result.answer result.before result.after }
 {
     ask(&mut lanes[at], token, request)
@@ -146,7 +150,8 @@ fn conclude<D: Disk>(
     ensures open { OnOk result (IsOpen D.tells D.seen D.may_leave D.room_of book.new disk.new) }
     ensures room { D.room_of disk.new ≡ D.room_of disk.old }
     ensures count { D.count disk.old ≤ D.count disk.new }
-    ensures tells { ConcludeTells D.tells (D.seen disk.new) (D.room_of disk.old) (D.count disk.old) (D.count disk.new) book.old.entries.items book.new.entries.items
+    ensures tells { ConcludeTells D.tells (D.seen disk.new) (D.room_of disk.old) (D.count disk.old) (D.count disk.new)
+        book.old.entries.items book.new.entries.items
         number token told.answer told.before told.after result }
 {
     let Told {
@@ -173,10 +178,10 @@ fn conclude<D: Disk>(
 
 /// The open call of a token, of the stack on which the operation of a number is in progress.
 fn open_call(world: &World, number: u64, token: u64) -> Option<&Pending>
-    ensures { option_copied result ≡ open_call number token world.now }
+    ensures { option_copied result ≡ open_call number token world.now.world }
 {
-    match stack_of_operation(world, number) {
-        Some(going) => pending_of(going.1.tokens.as_slice(), token),
+    match world.stack_of_operation(number) {
+        Some(going) => pending_of(going.1.tokens().as_slice(), token),
         None => None,
     }
 }
@@ -221,6 +226,7 @@ fn call<D: Disk, H: Handler>(
       entries' = book.new.entries.items;
     }) number token result }
 {
+    answer_follows();
     match open_call(&book.world, number, token) {
         Some(pending) => match place_of(lanes.as_slice(), &pending.lane) {
             Some(at) => {
@@ -354,11 +360,12 @@ fn note<D: Disk>(
     entry: Option<Entry>,
 ) -> Result<(), Halt>
     requires open { IsOpen D.tells D.seen D.may_leave D.room_of book.old disk.old }
-    requires proper { IfSome entry (λ e. IsProper e × IsFlatEntry e) }
+    requires proper { IfSome entry IsProper }
     ensures open { OnOk result (IsOpen D.tells D.seen D.may_leave D.room_of book.new disk.new) }
     ensures room { D.room_of disk.new ≡ D.room_of disk.old }
     ensures count { D.count disk.old ≤ D.count disk.new }
-    ensures tells { NoteTells D.tells (D.seen disk.new) (D.room_of disk.old) (D.count disk.old) (D.count disk.new) book.old.entries.items book.new.entries.items entry result }
+    ensures tells { NoteTells D.tells (D.seen disk.new) (D.room_of disk.old) (D.count disk.old) (D.count disk.new) book.old.entries.items
+        book.new.entries.items entry result }
 {
     match entry {
         Some(entry) => append(alloc, book, disk, entry),
@@ -379,6 +386,7 @@ fn take_step<D: Disk, H: Handler>(
     requires open { IsOpen D.tells D.seen D.may_leave D.room_of book.old disk.old }
     requires goes_on { GoesOn number (world_of book.old.entries.items) }
     requires comes { IsNext (schemas_of homes.now) (world_of book.old.entries.items) [] number next }
+    requires may { (e : Entry) → entry_of number next ≡ Some e → MayFollow (schemas_of homes.now) (world_of book.old.entries.items) [] e }
     ensures names { map H.label lanes.new.items ≡ map H.label lanes.old.items }
     ensures schemas { map H.schema_of lanes.new.items ≡ map H.schema_of lanes.old.items }
     ensures open { OnOk result (IsOpen D.tells D.seen D.may_leave D.room_of book.new disk.new) }
@@ -400,6 +408,9 @@ fn take_step<D: Disk, H: Handler>(
       entries' = book.new.entries.items;
     }) number result }
 {
+    creation_goes_on();
+    creation_is_proper();
+    intent_opens();
     let taken = taken_by(&next);
     let token = called_by(&next);
     match note(alloc, book, disk, entry_of(number, next)) {

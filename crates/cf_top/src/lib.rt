@@ -2,6 +2,7 @@
 //! resources.
 #![tactic(auto)]
 
+mod apart;
 mod book;
 mod creating;
 mod deployment;

@@ -16,9 +16,9 @@ use std::alloc::Global;
 
 /// Deploys a stack over the journal of a disk: the journal, with the stack that its entries then leave, or the exit.
 ///
-/// The order is: the disk is read, `DiskFault`, `NotAJournal` and, where the journal holds a nested stack, `NotYet`;
-/// `LaneTwice`, `LaneMissing`; the opening is written, `Full` and `DiskFault`; `WrongStatus` where there is a stack of the
-/// name; `LibraryFault`; `TemplateRefused`; then the operation is driven to its end.
+/// The order is: the disk is read, `DiskFault` and `NotAJournal`; `LaneTwice`, `LaneMissing`; the opening is written, `Full` and
+/// `DiskFault`; `WrongStatus` where there is a stack of the name; `LibraryFault`; `TemplateRefused`; then the operation is driven
+/// to its end.
 pub fn deploy_on<L: Library, D: Disk, H: Handler>(
     alloc: Global,
     library: &mut L,
@@ -34,7 +34,7 @@ pub fn deploy_on<L: Library, D: Disk, H: Handler>(
     ensures schemas { map H.schema_of lanes.new.items ≡ map H.schema_of lanes.old.items }
     ensures room { D.room_of disk.new ≡ D.room_of disk.old }
     ensures open { IfOk result (λ book. IsOpen D.tells D.seen D.may_leave D.room_of book disk.new) }
-    ensures over { IfOk result (λ book. (number : ℕ) × IsOver number stack.now book.world) }
+    ensures over { IfOk result (λ book. (number : ℕ) × IsOver number stack.now book.world.world) }
     ensures tells { RunsAs (record {
       shelf = record {
         texts = L.texts library.old;

@@ -5,9 +5,9 @@ ghost use Rattle.cf_tree.specs.Form.{node_of};
 ghost use Rattle.cf_tree.specs.Forms.{forms_of, fields_of};
 ghost use Rattle.cf_tree.specs.Test.{test_node_of};
 ghost use Rattle.cf_tree.specs.Tests.{tests_of};
+ghost use Rattle.cf_desired.specs.Templates.{is_stack};
 ghost use Rattle.cf_top.specs.NotYet.{form_imports, node_imports, forms_import, fields_import, test_imports, test_node_imports, tests_import, keeps_removed, keeps_replaced, is_late, is_output_late, is_not_yet};
 
-use cf_desired::is_flat;
 use cf_tree::{
     Cond, CondNode, Conds, Deletion, Expr, ExprDict, ExprNode, Exprs, NamedConds, Out, Outs,
     Replace, Res, Resources, Template,
@@ -18,8 +18,7 @@ use cf_tree::{
 pub fn is_not_yet(template: &Template) -> bool
     ensures { result ≡ is_not_yet template.now }
 {
-    !is_flat(template)
-        || any_output_late(&template.outputs)
+    any_output_late(&template.outputs)
         || conditions_import(&template.conds)
         || any_late(&template.resources)
 }
@@ -66,9 +65,17 @@ fn any_late(resources: &Resources) -> bool
 fn is_late(resource: &Res) -> bool
     ensures { result ≡ is_late resource.now }
 {
-    keeps_removed(resource.deletion)
+    is_stack(resource)
+        || keeps_removed(resource.deletion)
         || keeps_replaced(resource.replace)
         || fields_import(&resource.props)
+}
+
+/// Whether a resource is a nested stack.
+fn is_stack(resource: &Res) -> bool
+    ensures { result ≡ is_stack resource.now }
+{
+    resource.kind.as_str() == "AWS::CloudFormation::Stack"
 }
 
 fn keeps_removed(policy: Option<Deletion>) -> bool

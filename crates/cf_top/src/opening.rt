@@ -4,20 +4,18 @@ ghost use Rattle.std.specs.List.{list_all};
 ghost use Rattle.cf_tree.specs.Lists.{is_among};
 ghost use Rattle.cf_handler.specs.Name.{is_lane_name};
 ghost use Rattle.cf_journal.specs.Record.{Keeps};
-ghost use Rattle.cf_face.specs.declared.exit.Exit.TheVariants.{TemplateRefused};
-ghost use Rattle.cf_face.specs.declared.exit.Refusal.TheVariants.{NotYet};
 ghost use Rattle.cf_top.specs.Book.{IsOpen, Holds, world_of};
 ghost use Rattle.cf_top.specs.Lanes.{kinds_of, lane_pairs};
 ghost use Rattle.cf_top.specs.Opening.{EnterTells, HasOpenCause, exit_of, has_lane, is_met, kind_made, lane_of, lower, missing, missing_in, need_of_call, need_of_held, needs_of, number_named, opening, or_missing, twice};
 
 use crate::book::{Book, Halt, append};
 use cf_disk::Disk;
-use cf_entry::{Entry, LaneNames};
-use cf_face::{Exit, Refusal};
+use cf_entry::{Entries, Entry, LaneNames};
+use cf_face::Exit;
 use cf_funcs::cut;
 use cf_handler::Handler;
 use cf_journal::{RecoverFault, recover};
-use cf_stacks::{Held, Pending, StackState, StepFault, World, fold};
+use cf_stacks::{Held, Pending, StackState, World, fold};
 use cf_tree::{Request, TryClone, Txt};
 use std::alloc::{AllocError, Global};
 
@@ -40,9 +38,8 @@ pub fn exit_of(halt: Halt) -> Exit
 ///
 /// # Errors
 ///
-/// `NotAJournal` comes exactly where the disk's bytes are no journal, `DiskFault` only where its
-/// count of faults rose, and `TemplateRefused` only where an operation of the journal works by a
-/// source with a nested stack, which is not made yet.
+/// `NotAJournal` comes exactly where the disk's bytes are no journal, and `DiskFault` only where its
+/// count of faults rose.
 pub fn open<D: Disk>(alloc: Global, disk: &mut D) -> Result<Book, Exit>
     requires least { 16 ≤ D.room_of disk.old }
     requires most { D.room_of disk.old ≤ 2 ^ 32 }
@@ -54,19 +51,15 @@ pub fn open<D: Disk>(alloc: Global, disk: &mut D) -> Result<Book, Exit>
     ensures count { D.count disk.old ≤ D.count disk.new }
 {
     match recover(alloc, disk) {
-        Ok((journal, entries)) => match fold(alloc, &entries) {
-            Ok(world) => Ok(Book {
+        Ok((journal, entries)) => match folded(alloc, entries) {
+            Ok((entries, world)) => Ok(Book {
                 journal,
-                entries: entries.into_vec(),
+                entries,
                 world,
             }),
-            Err(fault) => {
+            Err(_) => {
                 drop(journal);
-                drop(entries);
-                match fault {
-                    StepFault::Nested => Err(not_yet(alloc)),
-                    StepFault::NoMemory => Err(Exit::NoMemory),
-                }
+                Err(Exit::NoMemory)
             }
         },
         Err(RecoverFault::NotAJournal { offset }) => Err(Exit::NotAJournal { offset }),
@@ -75,14 +68,23 @@ pub fn open<D: Disk>(alloc: Global, disk: &mut D) -> Result<Book, Exit>
     }
 }
 
-/// The exit where the journal holds what is not made yet.
-fn not_yet(alloc: Global) -> Exit
-    ensures { result ≡ TemplateRefused (NotYet []) }
+/// Entries with the world that they leave.
+fn folded(alloc: Global, entries: Entries) -> Result<(Vec<Entry>, World), AllocError>
+    ensures entries { IfOk result (λ both. both.0.items ≡ entries) }
+    ensures world { IfOk result (λ both. both.1.world ≡ world_of both.0.items) }
 {
-    Exit::TemplateRefused {
-        fault: Refusal::NotYet {
-            name: Txt::new(String::new(alloc)),
+    match entries.try_clone(alloc) {
+        Ok(copy) => match fold(alloc, entries) {
+            Ok(world) => Ok((copy.into_vec(), world)),
+            Err(failed) => {
+                drop(copy);
+                Err(failed)
+            }
         },
+        Err(failed) => {
+            drop(entries);
+            Err(failed)
+        }
     }
 }
 
@@ -179,7 +181,8 @@ fn or_missing<H: Handler>(
     name: &str,
     kind: Option<&Txt>,
 ) -> Result<Option<Txt>, AllocError>
-    ensures { IfOk result (λ b. b ≡ or_missing (map H.label lanes.now) (kinds_of (map H.schema_of lanes.now)) best (name.now, option_copied kind.entry)) }
+    ensures { IfOk result (λ b. b ≡ or_missing (map H.label lanes.now) (kinds_of (map H.schema_of lanes.now)) best
+        (name.now, option_copied kind.entry)) }
 {
     if is_met(lanes, name, kind) {
         Ok(best)
@@ -195,7 +198,8 @@ fn missing_of_helds<H: Handler>(
     first: Option<Txt>,
     helds: &[Held],
 ) -> Result<Option<Txt>, AllocError>
-    ensures { IfOk result (λ b. b ≡ missing_in (map H.label lanes.now) (kinds_of (map H.schema_of lanes.now)) first (map need_of_held helds.now)) }
+    ensures { IfOk result (λ b. b ≡ missing_in (map H.label lanes.now) (kinds_of (map H.schema_of lanes.now)) first
+        (map need_of_held helds.now)) }
 {
     let mut best = first;
     for held in helds.iter() {
@@ -231,7 +235,8 @@ fn missing_of_calls<H: Handler>(
     first: Option<Txt>,
     calls: &[Pending],
 ) -> Result<Option<Txt>, AllocError>
-    ensures { IfOk result (λ b. b ≡ missing_in (map H.label lanes.now) (kinds_of (map H.schema_of lanes.now)) first (map need_of_call calls.now)) }
+    ensures { IfOk result (λ b. b ≡ missing_in (map H.label lanes.now) (kinds_of (map H.schema_of lanes.now)) first
+        (map need_of_call calls.now)) }
 {
     let mut best = first;
     for call in calls.iter() {
@@ -254,11 +259,12 @@ fn missing_of_stack<H: Handler>(
     best: Option<Txt>,
     stack: &StackState,
 ) -> Result<Option<Txt>, AllocError>
-    ensures { IfOk result (λ b. b ≡ missing_in (map H.label lanes.now) (kinds_of (map H.schema_of lanes.now)) best (needs_of stack.now)) }
+    ensures { IfOk result (λ b. b ≡ missing_in (map H.label lanes.now) (kinds_of (map H.schema_of lanes.now)) best
+        (needs_of stack.now.stack)) }
 {
-    let best = missing_of_helds(alloc, lanes, best, stack.held.as_slice())?;
-    let best = missing_of_helds(alloc, lanes, best, stack.made.as_slice())?;
-    missing_of_calls(alloc, lanes, best, stack.tokens.as_slice())
+    let best = missing_of_helds(alloc, lanes, best, stack.held().as_slice())?;
+    let best = missing_of_helds(alloc, lanes, best, stack.made().as_slice())?;
+    missing_of_calls(alloc, lanes, best, stack.tokens().as_slice())
 }
 
 /// The first name in the order of bytes of a lane that a stack needs and that is not handed in.
@@ -267,10 +273,11 @@ fn first_missing<H: Handler>(
     lanes: &[H],
     world: &World,
 ) -> Result<Option<Txt>, AllocError>
-    ensures { IfOk result (λ name. name ≡ missing (map H.label lanes.now) (kinds_of (map H.schema_of lanes.now)) world.now) }
+    ensures { IfOk result (λ name. name ≡ missing (map H.label lanes.now) (kinds_of (map H.schema_of lanes.now)) world.now.world) }
 {
+    let stacks = world.stacks().as_slice();
     let mut best = None;
-    for stack in world.stacks.as_slice().iter() {
+    for stack in stacks {
         best = missing_of_stack(alloc, lanes, best, &stack.1)?;
     }
     Ok(best)
@@ -319,10 +326,10 @@ fn lane_pair(alloc: Global, name: &str, kind: &Txt) -> Result<(Txt, Txt), AllocE
 
 /// The entry of an opening over these lanes; past the last number there is none.
 fn opening<H: Handler>(alloc: Global, world: &World, lanes: &[H]) -> Result<Entry, AllocError>
-    ensures entry { IfOk result (λ e. e ≡ opening (map H.label lanes.now) (kinds_of (map H.schema_of lanes.now)) world.now) }
+    ensures entry { IfOk result (λ e. e ≡ opening (map H.label lanes.now) (kinds_of (map H.schema_of lanes.now)) world.now.world) }
     ensures named { IfOk result (λ _. IsTrue (list_all is_lane_name (map H.label lanes.now))) }
 {
-    let epoch = match world.epoch.checked_add(1) {
+    let epoch = match world.epoch().checked_add(1) {
         Some(epoch) => epoch,
         None => return Err(AllocError),
     };
@@ -345,7 +352,8 @@ pub fn enter<D: Disk, H: Handler>(
     ensures open { OnOk result (IsOpen D.tells D.seen D.may_leave D.room_of book.new disk.new) }
     ensures room { D.room_of disk.new ≡ D.room_of disk.old }
     ensures count { D.count disk.old ≤ D.count disk.new }
-    ensures tells { EnterTells D.tells (D.seen disk.new) (D.room_of disk.old) (D.count disk.old) (D.count disk.new) (map H.label lanes.now) (kinds_of (map H.schema_of lanes.now))
+    ensures tells { EnterTells D.tells (D.seen disk.new) (D.room_of disk.old) (D.count disk.old) (D.count disk.new)
+        (map H.label lanes.now) (kinds_of (map H.schema_of lanes.now))
         book.old.entries.items book.new.entries.items result }
     ensures named { OnOk result (IsTrue (list_all is_lane_name (map H.label lanes.now))) }
 {
@@ -368,7 +376,8 @@ fn enter_apart<D: Disk, H: Handler>(
     ensures open { OnOk result (IsOpen D.tells D.seen D.may_leave D.room_of book.new disk.new) }
     ensures room { D.room_of disk.new ≡ D.room_of disk.old }
     ensures count { D.count disk.old ≤ D.count disk.new }
-    ensures tells { EnterTells D.tells (D.seen disk.new) (D.room_of disk.old) (D.count disk.old) (D.count disk.new) (map H.label lanes.now) (kinds_of (map H.schema_of lanes.now))
+    ensures tells { EnterTells D.tells (D.seen disk.new) (D.room_of disk.old) (D.count disk.old) (D.count disk.new)
+        (map H.label lanes.now) (kinds_of (map H.schema_of lanes.now))
         book.old.entries.items book.new.entries.items result }
     ensures named { OnOk result (IsTrue (list_all is_lane_name (map H.label lanes.now))) }
 {
@@ -392,7 +401,8 @@ fn write_opening<D: Disk, H: Handler>(
     ensures open { OnOk result (IsOpen D.tells D.seen D.may_leave D.room_of book.new disk.new) }
     ensures room { D.room_of disk.new ≡ D.room_of disk.old }
     ensures count { D.count disk.old ≤ D.count disk.new }
-    ensures tells { EnterTells D.tells (D.seen disk.new) (D.room_of disk.old) (D.count disk.old) (D.count disk.new) (map H.label lanes.now) (kinds_of (map H.schema_of lanes.now))
+    ensures tells { EnterTells D.tells (D.seen disk.new) (D.room_of disk.old) (D.count disk.old) (D.count disk.new)
+        (map H.label lanes.now) (kinds_of (map H.schema_of lanes.now))
         book.old.entries.items book.new.entries.items result }
     ensures named { OnOk result (IsTrue (list_all is_lane_name (map H.label lanes.now))) }
 {

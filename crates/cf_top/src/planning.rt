@@ -1,45 +1,51 @@
-//! The source of a new stack, which is refused where its template can't be made.
-ghost use Rattle.std.specs.Prelude.{◌≡◌, [], filter, fold, map, IfOk, None, Ok, Some};
-ghost use Rattle.std.specs.Option.{option_copied};
-ghost use Rattle.cf_tree.specs.Lists.{is_among};
+//! The entry with which the creation of a stack begins, which is refused where its template can't be made.
+ghost use Rattle.std.specs.Prelude.{◌≡◌, [], ◌∷◌, IfOk, None, Ok, Some};
 ghost use Rattle.cf_template.specs.Whole.{template_of};
-ghost use Rattle.cf_desired.specs.Plan.{plan_of};
-ghost use Rattle.cf_stacks.specs.Fold.{source_for};
-ghost use Rattle.cf_top.specs.Lanes.{kinds_of};
-ghost use Rattle.cf_top.specs.Refusals.{TestsAs, first_unknown, is_unknown, plan_refusal, refusal_of, sooner, source_of, template_refusal};
+ghost use Rattle.cf_entry.specs.declared.entry.Entry.{Entry as Begun};
+ghost use Rattle.cf_prepare.specs.Refusals.{deploy_refusal};
+ghost use Rattle.cf_prepare.specs.declared.wish.Order.TheVariants.{Begin};
+ghost use Rattle.cf_prepare.specs.declared.wish.Wish.TheVariants.{Deploy};
+ghost use Rattle.cf_top.specs.Deployment.{IsBegunBy, barring};
+ghost use Rattle.cf_top.specs.Refusals.{TestsAs, refusal_in, refusal_of, source_of};
 
 use crate::not_yet::is_not_yet;
-use crate::refusals::{flawed, not_yet, unknown, unread};
-use cf_desired::{Plan, Seen, Wanted, plan, templates_of};
+use crate::refusals::{not_yet, refused, unread};
+use cf_entry::Entry;
 use cf_face::{Choice, Exit};
-use cf_handler::Handler;
+use cf_prepare::{Order, Wish, prepare};
+use cf_schema::Schemas;
+use cf_stacks::World;
 use cf_template::read_template;
-use cf_tree::{Bytes, Pairs, Source, Template, Texts, Txt};
+use cf_tree::{Bytes, Pairs, Source, Template, Templates, Texts, Txt};
 use std::alloc::{AllocError, Global};
 
-/// The source of a new stack of this name, by the operation of this number, from the bytes that were found under the
-/// template's name.
+/// The entry with which the creation of a stack of this name begins, over a world in which none bars it, from the bytes that
+/// were found under the template's name.
 ///
 /// # Errors
 ///
 /// `TemplateRefused` comes with the first of these: why the bytes are no template; `NotYet` where the template holds what
-/// is not made yet; the first flaw of its plan; the first resource, by path, whose type no lane has.
-pub fn examine<H: Handler>(
+/// is not made yet; the first flaw of its plan; the first resource, by path, whose type no lane of the opening has.
+pub fn examine(
     alloc: Global,
-    lanes: &[H],
+    world: &World,
+    schemas: &Schemas,
     choice: &Choice,
     stack: &Txt,
-    number: u64,
     bytes: Vec<u8>,
-) -> Result<Source, Exit>
-    ensures { TestsAs (refusal_of (kinds_of (map H.schema_of lanes.now)) choice.now stack.now number (Some bytes.items))
-        (λ source. source ≡ source_of stack.now choice.now bytes.items) result }
+) -> Result<Entry, Exit>
+    requires free { barring stack.now world.now.world ≡ None }
+    ensures { TestsAs (refusal_of schemas.now world.now.world stack.now choice.now (Some bytes.items))
+        (IsBegunBy schemas.now world.now.world stack.now choice.now bytes.items) result }
 {
     match read_template(alloc, bytes.as_slice()) {
         Ok(template) => {
-            let examined = examine_template(alloc, lanes, choice, stack, number, bytes, &template);
-            drop(template);
-            examined
+            if is_not_yet(&template) {
+                drop(template);
+                drop(bytes);
+                return Err(not_yet(alloc, &choice.template));
+            }
+            order_template(alloc, world, schemas, choice, stack, bytes, template)
         }
         Err(fault) => {
             drop(bytes);
@@ -48,66 +54,87 @@ pub fn examine<H: Handler>(
     }
 }
 
-/// The same of bytes that were read.
-fn examine_template<H: Handler>(
+/// The same of bytes that are a template all of which is made.
+fn order_template(
     alloc: Global,
-    lanes: &[H],
+    world: &World,
+    schemas: &Schemas,
     choice: &Choice,
     stack: &Txt,
-    number: u64,
     bytes: Vec<u8>,
-    template: &Template,
-) -> Result<Source, Exit>
-    requires { template_of bytes.items ≡ Ok template.now }
-    ensures { TestsAs (template_refusal (kinds_of (map H.schema_of lanes.now)) choice.now stack.now number bytes.items (Ok template.now))
-        (λ source. source ≡ source_of stack.now choice.now bytes.items) result }
+    template: Template,
+) -> Result<Entry, Exit>
+    requires free { barring stack.now world.now.world ≡ None }
+    requires read { template_of bytes.items ≡ Ok template }
+    ensures { TestsAs (refusal_in (deploy_refusal schemas.now world.now.world stack.now (source_of stack.now choice.now bytes.items)))
+        (IsBegunBy schemas.now world.now.world stack.now choice.now bytes.items) result }
 {
-    if is_not_yet(template) {
+    let Ok(templates) = templates_under(alloc, &choice.template, template) else {
         drop(bytes);
-        return Err(not_yet(alloc, &choice.template));
+        return Err(Exit::NoMemory);
+    };
+    match wish_of(alloc, stack, choice, bytes) {
+        Ok(wish) => {
+            let prepared = prepare(alloc, world, &wish, &templates, schemas);
+            drop(wish);
+            drop(templates);
+            match prepared {
+                Ok(order) => Ok(begun_by(order)),
+                Err(fault) => Err(refused(fault)),
+            }
+        }
+        Err(_) => {
+            drop(templates);
+            Err(Exit::NoMemory)
+        }
     }
+}
+
+/// The entry that begins what is ordered.
+fn begun_by(order: Order) -> Entry
+    requires { (begun : Begun) × (order ≡ Begin begun) }
+    ensures { order ≡ Begin result }
+{
+    match order {
+        Order::Begin(begun) => begun,
+        other => {
+            drop(other);
+            unreachable!()
+        }
+    }
+}
+
+/// A template under a name, and no other.
+fn templates_under(alloc: Global, name: &Txt, template: Template) -> Result<Templates, AllocError>
+    ensures { IfOk result (λ templates. templates ≡ (name.now, template) ∷ []) }
+{
+    let mut templates = Templates::new(alloc);
+    match name.try_clone(alloc) {
+        Ok(name) => {
+            templates.insert(name, template)?;
+            Ok(templates)
+        }
+        Err(failed) => {
+            drop(template);
+            drop(templates);
+            Err(failed)
+        }
+    }
+}
+
+/// What a deployment wishes: a stack from what a choice of a template rests on.
+fn wish_of(alloc: Global, stack: &Txt, choice: &Choice, bytes: Vec<u8>) -> Result<Wish, AllocError>
+    ensures { IfOk result (λ wish. wish ≡ Deploy stack.now (source_of stack.now choice.now bytes.items)) }
+{
     match source_of(alloc, stack, choice, bytes) {
-        Ok(source) => examine_source(alloc, lanes, source, number),
-        Err(_) => Err(Exit::NoMemory),
-    }
-}
-
-/// A source, after a test of what it wants by the operation of this number.
-fn examine_source<H: Handler>(
-    alloc: Global,
-    lanes: &[H],
-    source: Source,
-    number: u64,
-) -> Result<Source, Exit>
-    requires written { source.number ≡ 0 }
-    ensures { TestsAs (plan_refusal (kinds_of (map H.schema_of lanes.now)) (plan_of (source_for source.stack number source) []))
-        (λ s. s ≡ source) result }
-{
-    let mut source = source;
-    source.number = number;
-    match test_source(alloc, lanes, &source) {
-        Ok(()) => {
-            source.number = 0;
-            Ok(source)
-        }
-        Err(exit) => {
-            drop(source);
-            Err(exit)
-        }
-    }
-}
-
-/// Refuses a source for what it wants before anything is made.
-fn test_source<H: Handler>(alloc: Global, lanes: &[H], source: &Source) -> Result<(), Exit>
-    ensures { TestsAs (plan_refusal (kinds_of (map H.schema_of lanes.now)) (plan_of source.now [])) (λ _. Unit {0}) result }
-{
-    match first_plan(alloc, source) {
-        Ok(plan) => {
-            let tested = test_plan(alloc, lanes, &plan);
-            drop(plan);
-            tested
-        }
-        Err(_) => Err(Exit::NoMemory),
+        Ok(source) => match stack.try_clone(alloc) {
+            Ok(stack) => Ok(Wish::Deploy { stack, source }),
+            Err(failed) => {
+                drop(source);
+                Err(failed)
+            }
+        },
+        Err(failed) => Err(failed),
     }
 }
 
@@ -146,7 +173,8 @@ fn fill_source(
     bytes: Vec<u8>,
 ) -> Result<(), AllocError>
     requires { source.old.texts ≡ [] }
-    ensures { IfOk result (λ _. source.new ≡ record (source_of stack.now choice.now bytes.items) { imports = source.old.imports; number = source.old.number }) }
+    ensures { IfOk result (λ _. source.new ≡ record (source_of stack.now choice.now bytes.items)
+        { imports = source.old.imports; number = source.old.number }) }
 {
     let name = choice.template.try_clone(alloc)?;
     source.texts.insert(name, Bytes::from_vec(bytes))?;
@@ -154,64 +182,4 @@ fn fill_source(
     source.given = choice.given.try_clone(alloc)?;
     source.stack = stack.try_clone(alloc)?;
     Ok(())
-}
-
-/// What a source wants before anything is made.
-fn first_plan(alloc: Global, source: &Source) -> Result<Plan, AllocError>
-    ensures { IfOk result (λ p. p ≡ plan_of source.now []) }
-{
-    let templates = templates_of(alloc, source)?;
-    let seen = Seen::new(alloc);
-    let plan = plan(alloc, source, &templates, &seen);
-    drop(seen);
-    drop(templates);
-    plan
-}
-
-/// Refuses a plan for its first flaw, and else for the first resource, by path, whose type no lane has.
-fn test_plan<H: Handler>(alloc: Global, lanes: &[H], plan: &Plan) -> Result<(), Exit>
-    ensures { TestsAs (plan_refusal (kinds_of (map H.schema_of lanes.now)) plan.now) (λ _. Unit {0}) result }
-{
-    match plan.flaws.as_slice().first() {
-        Some(flaw) => Err(flawed(alloc, flaw)),
-        None => match first_unknown(lanes, plan.wanted.as_slice()) {
-            Some(wanted) => Err(unknown(alloc, wanted)),
-            None => Ok(()),
-        },
-    }
-}
-
-/// The first resource, by path, whose type no lane has.
-fn first_unknown<'a, H: Handler>(lanes: &[H], wanted: &'a [Wanted]) -> Option<&'a Wanted>
-    ensures { option_copied result ≡ first_unknown (kinds_of (map H.schema_of lanes.now)) wanted.now }
-{
-    let mut first = None;
-    for one in wanted {
-        if !has_type(lanes, &one.kind) {
-            first = Some(sooner(first, one));
-        }
-    }
-    first
-}
-
-/// Whether a lane has the type.
-fn has_type<H: Handler>(lanes: &[H], kind: &Txt) -> bool
-    ensures { result ≡ is_among kind.now (kinds_of (map H.schema_of lanes.now)) }
-{
-    for lane in lanes.iter() {
-        if *kind == lane.schema().kind {
-            return true;
-        }
-    }
-    false
-}
-
-/// The one of two resources that comes first by path; the earlier one where both have one path.
-fn sooner<'a>(first: Option<&'a Wanted>, one: &'a Wanted) -> &'a Wanted
-    ensures { Some result.now ≡ sooner (option_copied first.entry) one.now }
-{
-    match first {
-        Some(first) if one.path >= first.path => first,
-        _ => one,
-    }
 }

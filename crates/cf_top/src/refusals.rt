@@ -1,10 +1,12 @@
 //! The exits of templates that are refused.
+ghost use Rattle.std.specs.Prelude.{◌≡◌};
 ghost use Rattle.cf_desired.specs.declared.flaw.Flaw.TheVariants.{TemplateMissing};
-ghost use Rattle.cf_face.specs.declared.exit.Refusal.TheVariants.{Read, NotYet, Plan, UnknownType};
-ghost use Rattle.cf_top.specs.Refusals.{RefusesAs, UnreadAs};
+ghost use Rattle.cf_face.specs.declared.exit.Refusal.TheVariants.{Read, NotYet, Plan};
+ghost use Rattle.cf_top.specs.Refusals.{RefusesAs, UnreadAs, exit_of_fault};
 
-use cf_desired::{Flaw, Wanted};
+use cf_desired::Flaw;
 use cf_face::{Exit, Refusal};
+use cf_prepare::PrepareFault;
 use cf_template::TemplateFault;
 use cf_tree::{TryClone, Txt};
 use std::alloc::Global;
@@ -48,26 +50,21 @@ pub fn not_yet(alloc: Global, name: &Txt) -> Exit
     }
 }
 
-/// The exit where the plan of the template has a flaw.
-pub fn flawed(alloc: Global, flaw: &Flaw) -> Exit
-    ensures { RefusesAs (Plan flaw.now) result }
+/// The exit of what preparing the creation of a stack is refused for. A stack that holds and exports nothing is not, but for its
+/// template.
+pub fn refused(fault: PrepareFault) -> Exit
+    ensures { result ≡ exit_of_fault fault }
 {
-    match flaw.try_clone(alloc) {
-        Ok(fault) => Exit::TemplateRefused {
-            fault: Refusal::Plan { fault },
+    match fault {
+        PrepareFault::Plan { flaw } => Exit::TemplateRefused {
+            fault: Refusal::Plan { fault: flaw },
         },
-        Err(_) => Exit::NoMemory,
-    }
-}
-
-/// The exit where no lane has a resource's type.
-pub fn unknown(alloc: Global, wanted: &Wanted) -> Exit
-    ensures { RefusesAs (UnknownType wanted.now.path wanted.now.kind) result }
-{
-    match (wanted.path.try_clone(alloc), wanted.kind.try_clone(alloc)) {
-        (Ok(path), Ok(name)) => Exit::TemplateRefused {
+        PrepareFault::UnknownType { path, name } => Exit::TemplateRefused {
             fault: Refusal::UnknownType { path, name },
         },
-        _ => Exit::NoMemory,
+        other => {
+            drop(other);
+            Exit::NoMemory
+        }
     }
 }

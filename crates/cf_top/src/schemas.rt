@@ -1,6 +1,6 @@
 //! The schemas of lanes.
-ghost use Rattle.std.specs.Prelude.{◌++◌, map, IfOk};
-ghost use Rattle.cf_top.specs.Lanes.{IsFirstOfEach};
+ghost use Rattle.std.specs.Prelude.{◌≡◌, map, IfOk};
+ghost use Rattle.cf_top.specs.Lanes.{one_of_each, with_each};
 
 use cf_handler::Handler;
 use cf_schema::Schemas;
@@ -9,7 +9,7 @@ use std::alloc::Global;
 
 /// The schemas of the lanes' types, the first lane of a type giving its schema.
 pub fn schemas_of<H: Handler>(alloc: Global, lanes: &[H]) -> Result<Schemas, NoMemory>
-    ensures { IfOk result (λ schemas. IsFirstOfEach (map H.schema_of lanes.now) schemas) }
+    ensures { IfOk result (λ schemas. schemas ≡ one_of_each (map H.schema_of lanes.now)) }
 {
     let mut schemas = Schemas::new(alloc);
     match add_schemas(alloc, &mut schemas, lanes) {
@@ -28,7 +28,7 @@ fn add_schemas<H: Handler>(
     schemas: &mut Schemas,
     lanes: &[H],
 ) -> Result<(), NoMemory>
-    ensures { IfOk result (λ _. IsFirstOfEach (schemas.old ++ map H.schema_of lanes.now) schemas.new) }
+    ensures { IfOk result (λ _. schemas.new ≡ with_each schemas.old (map H.schema_of lanes.now)) }
 {
     for lane in lanes.iter() {
         schemas.add(lane.schema().try_clone(alloc)?)?;

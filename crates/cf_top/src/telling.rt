@@ -1,10 +1,10 @@
 //! What a command tells of a stack.
-ghost use Rattle.std.specs.Prelude.{◌≡◌, ◌≤◌, ◌++◌, [], if◌then◌else◌, filter_map, IfOk, None, Some};
+ghost use Rattle.std.specs.Prelude.{◌≡◌, ◌≤◌, ◌++◌, [], if◌then◌else◌, filter, filter_map, IfOk, None, Some};
+ghost use Rattle.std.specs.List.{flat_map};
 ghost use Rattle.std.specs.Option.{option_copied};
 ghost use Rattle.cf_tree.specs.Lists.{first_in};
-ghost use Rattle.cf_stacks.specs.declared.state.StackState.{StackState};
-ghost use Rattle.cf_stacks.specs.Words.{stack_at};
-ghost use Rattle.cf_stacks.specs.Operation.{is_of, own_of};
+ghost use Rattle.cf_stacks.specs.World.{StackState as Stack, stack_at};
+ghost use Rattle.cf_stacks.specs.Operation.{is_of};
 ghost use Rattle.cf_plan.specs.Follow.{failed_in, failed_of};
 ghost use Rattle.cf_face.specs.Print.{PrintTells};
 ghost use Rattle.cf_face.specs.Report.{stack_report};
@@ -14,7 +14,7 @@ use crate::book::Book;
 use cf_entry::{Cause, Entry, Phase, Status};
 use cf_face::{Exit, StackFault, print_exit, put, report};
 use cf_io::Sink;
-use cf_stacks::StackState;
+use cf_stacks::{HeardEntry, StackState};
 use cf_tree::{Names, NoMemory, TryClone, Txt};
 use std::alloc::{AllocError, Global};
 
@@ -58,25 +58,58 @@ fn own_cause(operation: u64, entry: &Entry) -> Option<&Cause>
     }
 }
 
-/// Why the stack's last operation turned back, where it did.
-#[tactic(auto, using(crate::proofs::Told::cause_passed, crate::proofs::Told::cause_found))]
-fn first_cause(stack: &StackState) -> Option<&Cause>
-    ensures { option_copied result ≡ first_in (filter_map cause_in (own_of stack.now)) }
+/// A copy of a cause, where there is one.
+fn copied(alloc: Global, cause: Option<&Cause>) -> Result<Option<Cause>, AllocError>
+    ensures { IfOk result (λ c. c ≡ option_copied cause.entry) }
 {
-    for entry in stack.entries.as_slice() {
-        if let Some(cause) = own_cause(stack.operation, entry) {
-            return Some(cause);
+    match cause {
+        Some(cause) => Ok(Some(cause.try_clone(alloc)?)),
+        None => Ok(None),
+    }
+}
+
+/// The cause of an entry that a stack heard, if it is of the operation of this number.
+fn heard_cause(
+    alloc: Global,
+    operation: u64,
+    heard: &HeardEntry,
+) -> Result<Option<Cause>, AllocError>
+    ensures { IfOk result (λ c. c ≡ (if is_of operation heard.now then cause_in heard.now else None)) }
+{
+    match heard.as_entry() {
+        Some(entry) => copied(alloc, own_cause(operation, entry)),
+        None => {
+            let entry = heard.entry(alloc)?;
+            let cause = copied(alloc, own_cause(operation, &entry));
+            drop(entry);
+            cause
         }
     }
-    None
+}
+
+/// Why the operation of this number turned back, where these entries say so.
+#[tactic(auto, using(crate::proofs::Told::cause_passed, crate::proofs::Told::cause_found))]
+fn first_cause(
+    alloc: Global,
+    operation: u64,
+    entries: &[HeardEntry],
+) -> Result<Option<Cause>, AllocError>
+    ensures { IfOk result (λ c. c ≡ first_in (filter_map cause_in (filter (is_of operation) entries.now))) }
+{
+    for heard in entries {
+        if let Some(cause) = heard_cause(alloc, operation, heard)? {
+            return Ok(Some(cause));
+        }
+    }
+    Ok(None)
 }
 
 /// Why the stack's last operation turned back.
 fn cause_of(alloc: Global, stack: &StackState) -> Result<Cause, AllocError>
-    ensures { IfOk result (λ c. c ≡ cause_of stack.now) }
+    ensures { IfOk result (λ c. c ≡ cause_of stack.now.stack) }
 {
-    match first_cause(stack) {
-        Some(cause) => cause.try_clone(alloc),
+    match first_cause(alloc, stack.operation(), stack.entries().as_slice())? {
+        Some(cause) => Ok(cause),
         // Each rollback has a cause.
         None => Ok(Cause::Plan {
             fault: Txt::from_str(alloc, "")?,
@@ -113,23 +146,50 @@ fn add_own_failed(
     }
 }
 
-/// The paths that failed when the stack's last operation ended.
+/// The same of an entry that a stack heard.
+fn add_heard_failed(
+    alloc: Global,
+    names: &mut Names,
+    operation: u64,
+    heard: &HeardEntry,
+) -> Result<(), AllocError>
+    ensures { IfOk result (λ _. names.new ≡ names.old ++ (if is_of operation heard.now then failed_in heard.now else [])) }
+{
+    match heard.as_entry() {
+        Some(entry) => add_own_failed(alloc, names, operation, entry),
+        None => {
+            let entry = heard.entry(alloc)?;
+            let added = add_own_failed(alloc, names, operation, &entry);
+            drop(entry);
+            added
+        }
+    }
+}
+
+/// The paths that failed as the operation of this number ended, where these entries say so.
 #[tactic(auto, using(crate::proofs::Told::failed_next))]
-fn failed_of(alloc: Global, stack: &StackState) -> Result<Names, AllocError>
-    ensures { IfOk result (λ names. names ≡ failed_of stack.now) }
+fn failed_in_all(alloc: Global, operation: u64, entries: &[HeardEntry]) -> Result<Names, AllocError>
+    ensures { IfOk result (λ names. names ≡ flat_map failed_in (filter (is_of operation) entries.now)) }
 {
     let mut names = Names::new(alloc);
-    for entry in stack.entries.as_slice() {
-        add_own_failed(alloc, &mut names, stack.operation, entry)?;
+    for heard in entries {
+        add_heard_failed(alloc, &mut names, operation, heard)?;
     }
     Ok(names)
 }
 
+/// The paths that failed when the stack's last operation ended.
+fn failed_of(alloc: Global, stack: &StackState) -> Result<Names, AllocError>
+    ensures { IfOk result (λ names. names ≡ failed_of stack.now.stack) }
+{
+    failed_in_all(alloc, stack.operation(), stack.entries().as_slice())
+}
+
 /// How a creation ended, by its stack's status.
 fn exit_for(alloc: Global, stack: &StackState) -> Result<Exit, AllocError>
-    ensures { IfOk result (λ e. e ≡ exit_for stack.now) }
+    ensures { IfOk result (λ e. e ≡ exit_for stack.now.stack) }
 {
-    match stack.status {
+    match stack.status() {
         Status::CreateComplete => Ok(Exit::Done),
         Status::RollbackComplete => Ok(Exit::RolledBack {
             cause: cause_of(alloc, stack)?,
@@ -149,7 +209,8 @@ fn tell_stack<K: Sink>(
     exit: Exit,
 ) -> Exit
     ensures faults { K.count out.old ≤ K.count out.new }
-    ensures tells { PrintTells (K.held out.old) (K.held out.new) (K.count out.old) (K.count out.new) (stack_report name.now stack.now exit) exit result }
+    ensures tells { PrintTells (K.held out.old) (K.held out.new) (K.count out.old) (K.count out.new)
+        (stack_report name.now stack.now.stack exit) exit result }
 {
     match report(alloc, name, stack, &exit) {
         Ok(text) => put(out, text.as_str(), exit),
@@ -163,7 +224,8 @@ fn tell_stack<K: Sink>(
 /// Prints the report on a stack whose creation has ended, and answers how it ended.
 fn tell_ended<K: Sink>(alloc: Global, out: &mut K, name: &Txt, stack: &StackState) -> Exit
     ensures faults { K.count out.old ≤ K.count out.new }
-    ensures tells { PrintTells (K.held out.old) (K.held out.new) (K.count out.old) (K.count out.new) (stack_report name.now stack.now (exit_for stack.now)) (exit_for stack.now) result }
+    ensures tells { PrintTells (K.held out.old) (K.held out.new) (K.count out.old) (K.count out.new)
+        (stack_report name.now stack.now.stack (exit_for stack.now.stack)) (exit_for stack.now.stack) result }
 {
     match exit_for(alloc, stack) {
         Ok(exit) => tell_stack(alloc, out, name, stack, exit),
@@ -173,12 +235,12 @@ fn tell_ended<K: Sink>(alloc: Global, out: &mut K, name: &Txt, stack: &StackStat
 
 /// Prints the report on the stack of a name whose creation has ended, and answers how it ended.
 pub fn tell_over<K: Sink>(alloc: Global, out: &mut K, name: &Txt, book: &Book) -> Exit
-    requires { (st : StackState) × (stack_at name.now book.now.world ≡ Some st) }
+    requires { (st : Stack) × (stack_at name.now book.now.world.world ≡ Some st) }
     ensures faults { K.count out.old ≤ K.count out.new }
-    ensures tells { (st : StackState) × (stack_at name.now book.now.world ≡ Some st)
+    ensures tells { (st : Stack) × (stack_at name.now book.now.world.world ≡ Some st)
         × PrintTells (K.held out.old) (K.held out.new) (K.count out.old) (K.count out.new) (stack_report name.now st (exit_for st)) (exit_for st) result }
 {
-    match book.world.stacks.get(name.as_str()) {
+    match book.world.stack(name.as_str()) {
         Some(stack) => tell_ended(alloc, out, name, stack),
         None => unreachable!(),
     }
@@ -188,9 +250,9 @@ pub fn tell_over<K: Sink>(alloc: Global, out: &mut K, name: &Txt, book: &Book) -
 pub fn describe<K: Sink>(alloc: Global, out: &mut K, name: &Txt, book: &Book) -> Exit
     ensures faults { K.count out.old ≤ K.count out.new }
     ensures tells { PrintTells (K.held out.old) (K.held out.new) (K.count out.old) (K.count out.new)
-        (described_text name.now (stack_at name.now book.now.world)) (described_exit (stack_at name.now book.now.world)) result }
+        (described_text name.now (stack_at name.now book.now.world.world)) (described_exit (stack_at name.now book.now.world.world)) result }
 {
-    match book.world.stacks.get(name.as_str()) {
+    match book.world.stack(name.as_str()) {
         Some(stack) => tell_stack(alloc, out, name, stack, Exit::Done),
         None => print_exit(
             alloc,

@@ -14,6 +14,9 @@ use cf_disk::Disk;
 use cf_face::{Choice, Command, Exit, print_exit, read_words};
 use cf_handler::Handler;
 use cf_io::{Library, Sink};
+use cf_plan::{
+    creation_begins, creation_finds_nothing, creation_keeps_promise, flawless_has_one_shape,
+};
 use cf_schema::Schemas;
 use cf_tree::{NoMemory, Txt};
 use std::alloc::Global;
@@ -108,19 +111,20 @@ fn run_words<L: Library, K: Sink, D: Disk, H: Handler>(
 /// with the lanes, a beginning with the template and what is given, an intent before and an outcome after each call, and an
 /// end. It prints the stack that the journal then leaves, and the exit; every other end prints the line of its exit alone.
 ///
-/// The order is: `BadWords` where the words are no such command; the disk is read, `DiskFault`, `NotAJournal`, and `NotYet`
-/// without a name where the journal holds a nested stack; `LaneTwice` where two lanes have one name; `LaneMissing` where a
-/// resource or an open call is of a lane that is not handed in; the opening is written, `Full` and `DiskFault`;
-/// `WrongStatus` where there is a stack of the name that is neither deleted nor under review; `LibraryFault`;
-/// `TemplateRefused`: the library holds none, it can't be read, it holds what is not made yet, its plan has a flaw, a type
-/// has no lane; then the beginning, the calls and the end. `Done` comes where the stack is CREATE_COMPLETE, `RolledBack`
-/// where it is ROLLBACK_COMPLETE, with the cause for which it turned back, and `Failed` where it is ROLLBACK_FAILED, with
-/// the paths whose calls failed. A handler is such a cause only where a call at its path was refused or broke off and the
-/// count of the lane rose. So it is with each of the paths, and there is one at least, where each entry of the journal with
-/// its opening could follow those before it, every lane tells its state, and no token to come is settled. `SinkFault` comes
-/// where the report could not be printed, whatever was done. After `Full`, `DiskFault`, `NoMemory` and `SinkFault` the
-/// operation may be in progress. After each answer the disk has the entries that it had and then those of the operation,
-/// each of which followed in its turn. The lanes keep their names and types, the library its texts and the disk its room.
+/// The order is: `BadWords` where the words are no such command; the disk is read, `DiskFault` and `NotAJournal`;
+/// `LaneTwice` where two lanes have one name; `LaneMissing` where a resource or an open call is of a lane that is not
+/// handed in; the opening is written, `Full` and `DiskFault`; `WrongStatus` where there is a stack of the name that is
+/// neither deleted nor under review; `LibraryFault`; `TemplateRefused`: the library holds none, it can't be read, it
+/// holds what is not made yet, its plan has a flaw, a type has no lane; then the beginning, the calls and the end. `Done`
+/// comes where the stack is CREATE_COMPLETE, `RolledBack` where it is ROLLBACK_COMPLETE, with the cause for which it
+/// turned back, and `Failed` where it is ROLLBACK_FAILED, with the paths whose calls failed. A handler is such a cause
+/// only where a call at its path was refused or broke off and the count of the lane rose. So it is with each of the
+/// paths, and there is one at least, where each entry of the journal with its opening could follow those before it, every
+/// lane tells its state, and no token to come is settled. `SinkFault` comes where the report could not be printed,
+/// whatever was done. After `Full`, `DiskFault`, `NoMemory` and `SinkFault` the operation may be in progress. After each
+/// answer the disk has the entries that it had and then, as far as the run came, the opening and those of the operation,
+/// of which each may follow where it stands, the beginning too. The lanes keep their names and types, the library its
+/// texts and the disk its room.
 ///
 /// After `Done`, `RolledBack` and `Failed` a crash leaves the journal as it is. The room of the disk is from 16 to
 /// 4,294,967,296 bytes.
@@ -163,6 +167,10 @@ pub fn alone<L: Library, K: Sink, D: Disk, H: Handler>(
         (record { held = K.held out.old; held' = K.held out.new; faults = K.count out.old; faults' = K.count out.new })
         words.now result.exit }
 {
+    flawless_has_one_shape();
+    creation_finds_nothing();
+    creation_begins();
+    creation_keeps_promise();
     let mut disk = disk;
     let mut lanes = lanes;
     let exit = run_words(alloc, words, library, out, &mut disk, &mut lanes);
@@ -176,8 +184,8 @@ pub fn alone<L: Library, K: Sink, D: Disk, H: Handler>(
 /// their physical ids; it asks nothing of the library. `validate TEMPLATE` reads the template that the library holds under
 /// its name, and asks nothing of the disk.
 ///
-/// `BadWords` comes where the words are no such command. Of a description then come `DiskFault`, `NotAJournal` and `NotYet`
-/// as the disk is read, and `NoStack` where no stack has the name; of a validation `LibraryFault`, and `TemplateRefused` where
+/// `BadWords` comes where the words are no such command. Of a description then come `DiskFault` and `NotAJournal` as the disk
+/// is read, and `NoStack` where no stack has the name; of a validation `LibraryFault`, and `TemplateRefused` where
 /// the library holds none or it can't be read. No entry is written: after each answer the disk has the entries that it
 /// had, and bytes that are no journal are as they were. The room of the disk is from 16 to 4,294,967,296 bytes.
 pub fn answer<L: Library, K: Sink, D: Disk>(
@@ -263,7 +271,8 @@ pub fn cfstack<L: Library, K: Sink, D: Disk + Send, H: Handler + Send>(
     ensures names { map H.label result.lanes.items ≡ map H.label lanes.items }
     ensures schemas { map H.schema_of result.lanes.items ≡ map H.schema_of lanes.items }
     ensures room { D.room_of result.disk ≡ D.room_of disk }
-    ensures lasts { is_asking (command_of words.now) ≡ false → LastsWhereOver result.exit D.tells (D.seen result.disk) (D.may_leave result.disk) }
+    ensures lasts { is_asking (command_of words.now) ≡ false → LastsWhereOver result.exit D.tells (D.seen result.disk)
+        (D.may_leave result.disk) }
     ensures answered { RanAs (record {
       shelf = record {
         texts = L.texts library.old;

@@ -1,6 +1,6 @@
 use Rattle.std.proofs.Common.{◌≡◌, map, None, refl, sym, subst}
 use Rattle.cf_top.specs.Deployment.{barring}
-use Rattle.cf_top.specs.Lanes.{kinds_of, one_of_each}
+use Rattle.cf_top.specs.Lanes.{one_of_each}
 use Rattle.cf_top.proofs.Deployed.{barred_so}
 use Rattle.cf_top.proofs.deployment.deploy_in.Goals as goal
 
@@ -15,7 +15,7 @@ returns-in-Some-clause-tells g c =
       faults' = g.L.Library.count c.args.library.now;
       misses = g.L.Library.missed c.args.library.now;
       misses' = g.L.Library.missed c.args.library.now;
-    }) (kinds_of (map g.H.Handler.schema_of c.args.lanes.now.items)) (record {
+    }) (record {
       names = map g.H.Handler.label c.args.lanes.now.items;
       schemas = one_of_each (map g.H.Handler.schema_of c.args.lanes.now.items);
       told = map g.H.Handler.told c.args.lanes.now.items;
@@ -29,4 +29,4 @@ returns-in-Some-clause-tells g c =
       faults' = g.D.Disk.count c.args.disk.now;
       entries = c.args.book.now.entries.items;
       entries' = c.args.book.now.entries.items;
-    }) c.args.stack.now c.args.choice.now c.args.book.now.world c.in-Some.status c.wrong_status.result c.wrong_status.ensures c.requires.open.world (sym c.in-Some.ensures) (refl, refl) (refl, refl, c.requires.open.holds)
+    }) c.args.stack.now c.args.choice.now c.args.book.now.world.world c.in-Some.status c.wrong_status.result c.wrong_status.ensures c.requires.open.world (sym c.in-Some.ensures) (refl, refl) (refl, refl, c.requires.open.holds)

@@ -1,39 +1,42 @@
-use Rattle.std.proofs.Common.{map, ap, refl}
-use Rattle.cf_top.specs.Lanes.{kinds_of, one_of_each}
-use Rattle.cf_top.proofs.Deployed.{found_flat, found_for, new_deployed, new_halted, new_refused, none_left}
+use Rattle.std.proofs.Common.{map, ap, refl, ◌∙◌}
+use Rattle.cf_top.specs.Lanes.{one_of_each}
+use Rattle.cf_top.proofs.Deployed.{found_begins, new_deployed, new_halted, new_refused, no_schemas}
 use Rattle.cf_top.proofs.deployment.deploy_new.Goals as goal
 
-pub create-requires-clause-tied : goal.create-requires-clause-tied
-create-requires-clause-tied g c = found_for (record {
-  texts = g.L.Library.texts c.args.library.now;
-  faults = g.L.Library.count c.args.library.now;
-  faults' = g.L.Library.count c.fetch.new.library;
-  misses = g.L.Library.missed c.args.library.now;
-  misses' = g.L.Library.missed c.fetch.new.library;
-}) (kinds_of (map g.H.Handler.schema_of c.args.lanes.now.items)) (kinds_of (map g.H.Handler.schema_of c.as_slice.result.now)) (record {
-  names = map g.H.Handler.label c.args.lanes.now.items;
-  schemas = one_of_each (map g.H.Handler.schema_of c.args.lanes.now.items);
-  told = map g.H.Handler.told c.args.lanes.now.items;
-  told' = map g.H.Handler.told c.args.lanes.now.items;
-  counts = map g.H.Handler.count c.args.lanes.now.items;
-  counts' = map g.H.Handler.count c.args.lanes.now.items;
-  tells = g.D.Disk.tells;
-  bytes' = g.D.Disk.seen c.args.disk.now;
-  room = g.D.Disk.room_of c.args.disk.now;
-  faults = g.D.Disk.count c.args.disk.now;
-  faults' = g.D.Disk.count c.args.disk.now;
-  entries = c.args.book.now.entries.items;
-  entries' = c.args.book.now.entries.items;
-}) c.args.stack.now c.args.choice.now c.args.book.now.world c.in-Some.number c.requires.open.world c.in-Some.ensures.1 (ap (λ xs. kinds_of (map g.H.Handler.schema_of xs)) c.as_slice.ensures.value) c.in-Ok.source c.in-Ok.ensures.fetches
+pub create-requires-clause-begins : goal.create-requires-clause-begins
+create-requires-clause-begins g c = (
+  c.args.stack.now,
+  found_begins (record {
+    texts = g.L.Library.texts c.args.library.now;
+    faults = g.L.Library.count c.args.library.now;
+    faults' = g.L.Library.count c.fetch-fetched.new.library;
+    misses = g.L.Library.missed c.args.library.now;
+    misses' = g.L.Library.missed c.fetch-fetched.new.library;
+  }) c.in-Ok.schemas (record {
+    names = map g.H.Handler.label c.args.lanes.now.items;
+    schemas = one_of_each (map g.H.Handler.schema_of c.args.lanes.now.items);
+    told = map g.H.Handler.told c.args.lanes.now.items;
+    told' = map g.H.Handler.told c.args.lanes.now.items;
+    counts = map g.H.Handler.count c.args.lanes.now.items;
+    counts' = map g.H.Handler.count c.args.lanes.now.items;
+    tells = g.D.Disk.tells;
+    bytes' = g.D.Disk.seen c.args.disk.now;
+    room = g.D.Disk.room_of c.args.disk.now;
+    faults = g.D.Disk.count c.args.disk.now;
+    faults' = g.D.Disk.count c.args.disk.now;
+    entries = c.args.book.now.entries.items;
+    entries' = c.args.book.now.entries.items;
+  }) c.args.stack.now c.args.choice.now c.args.book.now.world.world c.requires.open.world (c.in-Ok.ensures ∙ ap (λ xs. one_of_each (map g.H.Handler.schema_of xs)) c.as_slice.ensures.value) c.in-Ok-fetched.begun c.in-Ok-fetched.ensures.fetches,
+)
 
-pub create-requires-clause-flat : goal.create-requires-clause-flat
-create-requires-clause-flat g c = found_flat (record {
+pub returns-in-Ok-create-clause-over : goal.returns-in-Ok-create-clause-over
+returns-in-Ok-create-clause-over g c = c.in-Ok-create.ensures.over c.args.stack.now (found_begins (record {
   texts = g.L.Library.texts c.args.library.now;
   faults = g.L.Library.count c.args.library.now;
-  faults' = g.L.Library.count c.fetch.new.library;
+  faults' = g.L.Library.count c.fetch-fetched.new.library;
   misses = g.L.Library.missed c.args.library.now;
-  misses' = g.L.Library.missed c.fetch.new.library;
-}) (kinds_of (map g.H.Handler.schema_of c.args.lanes.now.items)) (kinds_of (map g.H.Handler.schema_of c.as_slice.result.now)) (record {
+  misses' = g.L.Library.missed c.fetch-fetched.new.library;
+}) c.in-Ok.schemas (record {
   names = map g.H.Handler.label c.args.lanes.now.items;
   schemas = one_of_each (map g.H.Handler.schema_of c.args.lanes.now.items);
   told = map g.H.Handler.told c.args.lanes.now.items;
@@ -47,16 +50,16 @@ create-requires-clause-flat g c = found_flat (record {
   faults' = g.D.Disk.count c.args.disk.now;
   entries = c.args.book.now.entries.items;
   entries' = c.args.book.now.entries.items;
-}) c.args.stack.now c.args.choice.now c.args.book.now.world c.in-Some.number c.requires.open.world c.in-Some.ensures.1 (ap (λ xs. kinds_of (map g.H.Handler.schema_of xs)) c.as_slice.ensures.value) c.in-Ok.source c.in-Ok.ensures.fetches
+}) c.args.stack.now c.args.choice.now c.args.book.now.world.world c.requires.open.world (c.in-Ok.ensures ∙ ap (λ xs. one_of_each (map g.H.Handler.schema_of xs)) c.as_slice.ensures.value) c.in-Ok-fetched.begun c.in-Ok-fetched.ensures.fetches)
 
 pub returns-in-Ok-create-clause-tells : goal.returns-in-Ok-create-clause-tells
 returns-in-Ok-create-clause-tells g c = new_deployed (record {
   texts = g.L.Library.texts c.args.library.now;
   faults = g.L.Library.count c.args.library.now;
-  faults' = g.L.Library.count c.fetch.new.library;
+  faults' = g.L.Library.count c.fetch-fetched.new.library;
   misses = g.L.Library.missed c.args.library.now;
-  misses' = g.L.Library.missed c.fetch.new.library;
-}) (kinds_of (map g.H.Handler.schema_of c.args.lanes.now.items)) (kinds_of (map g.H.Handler.schema_of c.as_slice.result.now)) (record {
+  misses' = g.L.Library.missed c.fetch-fetched.new.library;
+}) c.in-Ok.schemas (record {
   names = map g.H.Handler.label c.args.lanes.now.items;
   schemas = one_of_each (map g.H.Handler.schema_of c.args.lanes.now.items);
   told = map g.H.Handler.told c.args.lanes.now.items;
@@ -70,16 +73,16 @@ returns-in-Ok-create-clause-tells g c = new_deployed (record {
   faults' = g.D.Disk.count c.create.new.disk;
   entries = c.args.book.now.entries.items;
   entries' = c.create.new.book.entries.items;
-}) c.args.stack.now c.args.choice.now c.args.book.now.world c.in-Some.number c.requires.open.world c.in-Some.ensures.1 (ap (λ xs. kinds_of (map g.H.Handler.schema_of xs)) c.as_slice.ensures.value) c.in-Ok.source c.requires.free c.in-Ok.ensures.fetches c.in-Ok-create.ensures.tells c.in-Ok-create.ensures.lone
+}) c.args.stack.now c.args.choice.now c.args.book.now.world.world c.requires.open.world (c.in-Ok.ensures ∙ ap (λ xs. one_of_each (map g.H.Handler.schema_of xs)) c.as_slice.ensures.value) c.in-Ok-fetched.begun c.requires.free c.in-Ok-fetched.ensures.fetches c.in-Ok-create.ensures.tells c.in-Ok-create.ensures.apart
 
 pub returns-in-Err-create-clause-tells : goal.returns-in-Err-create-clause-tells
 returns-in-Err-create-clause-tells g c = new_halted (record {
   texts = g.L.Library.texts c.args.library.now;
   faults = g.L.Library.count c.args.library.now;
-  faults' = g.L.Library.count c.fetch.new.library;
+  faults' = g.L.Library.count c.fetch-fetched.new.library;
   misses = g.L.Library.missed c.args.library.now;
-  misses' = g.L.Library.missed c.fetch.new.library;
-}) (kinds_of (map g.H.Handler.schema_of c.args.lanes.now.items)) (kinds_of (map g.H.Handler.schema_of c.as_slice.result.now)) (record {
+  misses' = g.L.Library.missed c.fetch-fetched.new.library;
+}) c.in-Ok.schemas (record {
   names = map g.H.Handler.label c.args.lanes.now.items;
   schemas = one_of_each (map g.H.Handler.schema_of c.args.lanes.now.items);
   told = map g.H.Handler.told c.args.lanes.now.items;
@@ -93,16 +96,16 @@ returns-in-Err-create-clause-tells g c = new_halted (record {
   faults' = g.D.Disk.count c.create.new.disk;
   entries = c.args.book.now.entries.items;
   entries' = c.create.new.book.entries.items;
-}) c.args.stack.now c.args.choice.now c.args.book.now.world c.in-Some.number c.requires.open.world c.in-Some.ensures.1 (ap (λ xs. kinds_of (map g.H.Handler.schema_of xs)) c.as_slice.ensures.value) c.in-Ok.source c.in-Err-create.halt c.exit_of.result c.requires.free c.in-Ok.ensures.fetches c.in-Err-create.ensures.tells c.exit_of.ensures
+}) c.args.stack.now c.args.choice.now c.args.book.now.world.world c.requires.open.world (c.in-Ok.ensures ∙ ap (λ xs. one_of_each (map g.H.Handler.schema_of xs)) c.as_slice.ensures.value) c.in-Ok-fetched.begun c.in-Err-create.halt c.exit_of.result c.requires.free c.in-Ok-fetched.ensures.fetches c.in-Err-create.ensures.tells c.exit_of.ensures
 
 pub returns-in-Err-clause-tells : goal.returns-in-Err-clause-tells
 returns-in-Err-clause-tells g c = new_refused (record {
   texts = g.L.Library.texts c.args.library.now;
   faults = g.L.Library.count c.args.library.now;
-  faults' = g.L.Library.count c.fetch.new.library;
+  faults' = g.L.Library.count c.fetch-fetched.new.library;
   misses = g.L.Library.missed c.args.library.now;
-  misses' = g.L.Library.missed c.fetch.new.library;
-}) (kinds_of (map g.H.Handler.schema_of c.args.lanes.now.items)) (kinds_of (map g.H.Handler.schema_of c.as_slice.result.now)) (record {
+  misses' = g.L.Library.missed c.fetch-fetched.new.library;
+}) c.in-Ok.schemas (record {
   names = map g.H.Handler.label c.args.lanes.now.items;
   schemas = one_of_each (map g.H.Handler.schema_of c.args.lanes.now.items);
   told = map g.H.Handler.told c.args.lanes.now.items;
@@ -116,4 +119,27 @@ returns-in-Err-clause-tells g c = new_refused (record {
   faults' = g.D.Disk.count c.args.disk.now;
   entries = c.args.book.now.entries.items;
   entries' = c.args.book.now.entries.items;
-}) c.args.stack.now c.args.choice.now c.args.book.now.world c.in-Some.number c.requires.open.world c.in-Some.ensures.1 (ap (λ xs. kinds_of (map g.H.Handler.schema_of xs)) c.as_slice.ensures.value) c.in-Err.exit c.requires.free c.in-Err.ensures.fetches (refl, refl, c.requires.open.holds)
+}) c.args.stack.now c.args.choice.now c.args.book.now.world.world c.requires.open.world (c.in-Ok.ensures ∙ ap (λ xs. one_of_each (map g.H.Handler.schema_of xs)) c.as_slice.ensures.value) c.in-Err.exit c.requires.free c.in-Err.ensures.fetches (refl, refl, c.requires.open.holds)
+
+pub returns-in_default-clause-tells : goal.returns-in_default-clause-tells
+returns-in_default-clause-tells g c = no_schemas (record {
+  texts = g.L.Library.texts c.args.library.now;
+  faults = g.L.Library.count c.args.library.now;
+  faults' = g.L.Library.count c.args.library.now;
+  misses = g.L.Library.missed c.args.library.now;
+  misses' = g.L.Library.missed c.args.library.now;
+}) (record {
+  names = map g.H.Handler.label c.args.lanes.now.items;
+  schemas = one_of_each (map g.H.Handler.schema_of c.args.lanes.now.items);
+  told = map g.H.Handler.told c.args.lanes.now.items;
+  told' = map g.H.Handler.told c.args.lanes.now.items;
+  counts = map g.H.Handler.count c.args.lanes.now.items;
+  counts' = map g.H.Handler.count c.args.lanes.now.items;
+  tells = g.D.Disk.tells;
+  bytes' = g.D.Disk.seen c.args.disk.now;
+  room = g.D.Disk.room_of c.args.disk.now;
+  faults = g.D.Disk.count c.args.disk.now;
+  faults' = g.D.Disk.count c.args.disk.now;
+  entries = c.args.book.now.entries.items;
+  entries' = c.args.book.now.entries.items;
+}) c.args.stack.now c.args.choice.now c.requires.free (refl, refl, c.requires.open.holds)

@@ -8,7 +8,7 @@ pub returns-in-Some-place_of-clause-tells : goal.returns-in-Some-place_of-clause
 returns-in-Some-place_of-clause-tells g c schemas =
     let below : c.in-Some-place_of.at < length c.args.lanes.now.items =
     subst (λ xs. c.in-Some-place_of.at < length xs) c.as_slice.ensures.value c.in-Some-place_of.ensures.0 in
-    called (record {
+    called c.answer_follows.ensures (record {
       names = map g.H.Handler.label c.args.lanes.now.items;
       schemas = schemas;
       told = map g.H.Handler.told c.args.lanes.now.items;

@@ -2,15 +2,15 @@ use Rattle.std.proofs.Common.{map, refl}
 use Rattle.cf_plan.specs.Chosen.{leases_of}
 use Rattle.cf_plan.specs.Stepping.{schemas_of}
 use Rattle.cf_top.specs.Book.{world_of}
-use Rattle.cf_top.proofs.Driven.{comes_next, creates, no_memory}
+use Rattle.cf_top.proofs.Driven.{comes_next, creates, follows_next, no_memory}
 use Rattle.cf_top.proofs.drive.take.Goals as goal
 
 pub next_in_creation-requires : goal.next_in_creation-requires
-next_in_creation-requires g c = creates (world_of c.args.book.now.entries.items) c.args.book.now.world c.args.number c.requires.open.world c.requires.goes_on
+next_in_creation-requires g c = creates (world_of c.args.book.now.entries.items) c.args.book.now.world.world c.args.number c.requires.open.world c.requires.goes_on
 
 pub take_step-requires-clause-comes : goal.take_step-requires-clause-comes
 take_step-requires-clause-comes g c =
-    comes_next (schemas_of c.args.homes.now) (world_of c.args.book.now.entries.items) c.args.book.now.world (leases_of c.args.homes.now) c.args.number c.in-Ok.next c.requires.open.world c.requires.home c.in-Ok.ensures.chosen
+    comes_next (schemas_of c.args.homes.now) (world_of c.args.book.now.entries.items) c.args.book.now.world.world (leases_of c.args.homes.now) c.args.number c.in-Ok.next c.requires.open.world c.requires.home c.in-Ok.ensures.chosen
 
 pub returns-in-Err-clause-tells : goal.returns-in-Err-clause-tells
 returns-in-Err-clause-tells g c =
@@ -30,3 +30,7 @@ returns-in-Err-clause-tells g c =
       entries' = c.args.book.now.entries.items;
     })
     c.args.number refl refl c.requires.open.holds
+
+pub take_step-requires-clause-may : goal.take_step-requires-clause-may
+take_step-requires-clause-may g c e q =
+    follows_next (schemas_of c.args.homes.now) (world_of c.args.book.now.entries.items) c.args.book.now.world.world (leases_of c.args.homes.now) e c.requires.open.world c.requires.home (c.in-Ok.ensures.may_follow e q)

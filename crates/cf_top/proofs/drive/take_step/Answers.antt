@@ -2,7 +2,6 @@ use Rattle.std.proofs.Common.{◌≡◌, map, Some, refl, sym, subst}
 use Rattle.std.specs.Prelude.{IfSome, Ok, Err}
 use Rattle.cf_entry.specs.Entry.{IsProper}
 use Rattle.cf_stacks.specs.declared.held.Pending.{Pending}
-use Rattle.cf_stacks.specs.Changing.{IsFlatEntry}
 use Rattle.cf_plan.specs.Chosen.{entry_of}
 use Rattle.cf_plan.specs.Run.{open_call}
 use Rattle.cf_plan.specs.Stepping.{schemas_of}
@@ -13,8 +12,8 @@ use Rattle.cf_top.proofs.drive.take_step.Goals as goal
 
 pub note-requires-clause-proper : goal.note-requires-clause-proper
 note-requires-clause-proper g c =
-    subst (λ o. IfSome o (λ e. IsProper e × IsFlatEntry e)) (sym c.entry_of.ensures)
-    (note_proper (record {
+    subst (λ o. IfSome o IsProper) (sym c.entry_of.ensures)
+    (note_proper (record { goes_on = c.creation_goes_on.ensures; proper = c.creation_is_proper.ensures; opens = c.intent_opens.ensures }) (record {
       names = map g.H.Handler.label c.args.lanes.now.items;
       schemas = schemas_of c.args.homes.now;
       told = map g.H.Handler.told c.args.lanes.now.items;
@@ -29,12 +28,12 @@ note-requires-clause-proper g c =
       entries = c.args.book.now.entries.items;
       entries' = c.args.book.now.entries.items;
     })
-    c.args.number c.requires.goes_on c.args.next c.requires.comes)
+    c.args.number c.requires.goes_on c.args.next (c.requires.comes, c.requires.may))
 
 pub call_if_any-requires-clause-called : goal.call_if_any-requires-clause-called
 call_if_any-requires-clause-called g c =
     subst (λ o. IfSome o (λ t. (p : Pending) × (open_call c.args.number t (world_of c.note.new.book.entries.items) ≡ Some p))) (sym c.called_by-token.ensures)
-    (note_opens (record {
+    (note_opens (record { goes_on = c.creation_goes_on.ensures; proper = c.creation_is_proper.ensures; opens = c.intent_opens.ensures }) (record {
       names = map g.H.Handler.label c.args.lanes.now.items;
       schemas = schemas_of c.args.homes.now;
       told = map g.H.Handler.told c.args.lanes.now.items;
@@ -49,7 +48,7 @@ call_if_any-requires-clause-called g c =
       entries = c.args.book.now.entries.items;
       entries' = c.args.book.now.entries.items;
     })
-    c.args.number c.requires.goes_on c.args.next c.note.new.book.entries.items c.requires.comes
+    c.args.number c.requires.goes_on c.args.next c.note.new.book.entries.items (c.requires.comes, c.requires.may)
     (noted_is g.D.Disk.tells (g.D.Disk.seen c.note.new.disk) (g.D.Disk.room_of c.args.disk.now) (g.D.Disk.count c.args.disk.now) (g.D.Disk.count c.note.new.disk)
     c.args.book.now.entries.items c.note.new.book.entries.items (entry_of c.args.number c.args.next) tt
     (subst (λ o. NoteTells g.D.Disk.tells (g.D.Disk.seen c.note.new.disk) (g.D.Disk.room_of c.args.disk.now) (g.D.Disk.count c.args.disk.now) (g.D.Disk.count c.note.new.disk)
@@ -72,7 +71,7 @@ returns-in-Ok-call_if_any-clause-tells g c =
       entries = c.args.book.now.entries.items;
       entries' = c.call_if_any.new.book.entries.items;
     }) c.args.number (Ok t)) (sym c.taken_by-taken.ensures)
-    (is_taken (record {
+    (is_taken (record { goes_on = c.creation_goes_on.ensures; proper = c.creation_is_proper.ensures; opens = c.intent_opens.ensures }) (record {
       names = map g.H.Handler.label c.args.lanes.now.items;
       schemas = schemas_of c.args.homes.now;
       told = map g.H.Handler.told c.args.lanes.now.items;
@@ -87,7 +86,7 @@ returns-in-Ok-call_if_any-clause-tells g c =
       entries = c.args.book.now.entries.items;
       entries' = c.call_if_any.new.book.entries.items;
     })
-    c.args.number c.requires.goes_on c.args.next c.note.new.book.entries.items (g.D.Disk.room_of c.note.new.disk) (g.D.Disk.count c.note.new.disk) c.requires.comes
+    c.args.number c.requires.goes_on c.args.next c.note.new.book.entries.items (g.D.Disk.room_of c.note.new.disk) (g.D.Disk.count c.note.new.disk) (c.requires.comes, c.requires.may)
     (noted_is g.D.Disk.tells (g.D.Disk.seen c.note.new.disk) (g.D.Disk.room_of c.args.disk.now) (g.D.Disk.count c.args.disk.now) (g.D.Disk.count c.note.new.disk)
     c.args.book.now.entries.items c.note.new.book.entries.items (entry_of c.args.number c.args.next) tt
     (subst (λ o. NoteTells g.D.Disk.tells (g.D.Disk.seen c.note.new.disk) (g.D.Disk.room_of c.args.disk.now) (g.D.Disk.count c.args.disk.now) (g.D.Disk.count c.note.new.disk)
@@ -110,7 +109,7 @@ returns-in-Ok-call_if_any-clause-tells g c =
 
 pub returns-in-Err-call_if_any-clause-tells : goal.returns-in-Err-call_if_any-clause-tells
 returns-in-Err-call_if_any-clause-tells g c =
-    call_halts (record {
+    call_halts (record { goes_on = c.creation_goes_on.ensures; proper = c.creation_is_proper.ensures; opens = c.intent_opens.ensures }) (record {
       names = map g.H.Handler.label c.args.lanes.now.items;
       schemas = schemas_of c.args.homes.now;
       told = map g.H.Handler.told c.args.lanes.now.items;
@@ -125,7 +124,7 @@ returns-in-Err-call_if_any-clause-tells g c =
       entries = c.args.book.now.entries.items;
       entries' = c.call_if_any.new.book.entries.items;
     })
-    c.args.number c.requires.goes_on c.args.next c.note.new.book.entries.items (g.D.Disk.room_of c.note.new.disk) (g.D.Disk.count c.note.new.disk) c.requires.comes
+    c.args.number c.requires.goes_on c.args.next c.note.new.book.entries.items (g.D.Disk.room_of c.note.new.disk) (g.D.Disk.count c.note.new.disk) (c.requires.comes, c.requires.may)
     (noted_is g.D.Disk.tells (g.D.Disk.seen c.note.new.disk) (g.D.Disk.room_of c.args.disk.now) (g.D.Disk.count c.args.disk.now) (g.D.Disk.count c.note.new.disk)
     c.args.book.now.entries.items c.note.new.book.entries.items (entry_of c.args.number c.args.next) tt
     (subst (λ o. NoteTells g.D.Disk.tells (g.D.Disk.seen c.note.new.disk) (g.D.Disk.room_of c.args.disk.now) (g.D.Disk.count c.args.disk.now) (g.D.Disk.count c.note.new.disk)
@@ -148,7 +147,7 @@ returns-in-Err-call_if_any-clause-tells g c =
 
 pub returns-in-Err-clause-tells : goal.returns-in-Err-clause-tells
 returns-in-Err-clause-tells g c =
-    note_halts (record {
+    note_halts (record { goes_on = c.creation_goes_on.ensures; proper = c.creation_is_proper.ensures; opens = c.intent_opens.ensures }) (record {
       names = map g.H.Handler.label c.args.lanes.now.items;
       schemas = schemas_of c.args.homes.now;
       told = map g.H.Handler.told c.args.lanes.now.items;
@@ -163,6 +162,6 @@ returns-in-Err-clause-tells g c =
       entries = c.args.book.now.entries.items;
       entries' = c.note.new.book.entries.items;
     })
-    c.args.number c.requires.goes_on c.args.next c.in-Err.halt c.requires.comes refl refl
+    c.args.number c.requires.goes_on c.args.next c.in-Err.halt (c.requires.comes, c.requires.may) refl refl
     (subst (λ o. NoteTells g.D.Disk.tells (g.D.Disk.seen c.note.new.disk) (g.D.Disk.room_of c.args.disk.now) (g.D.Disk.count c.args.disk.now) (g.D.Disk.count c.note.new.disk)
     c.args.book.now.entries.items c.note.new.book.entries.items o (Err c.in-Err.halt)) c.entry_of.ensures c.in-Err.ensures.tells)

@@ -1,4 +1,4 @@
-use Rattle.std.proofs.Common.{◌≡◌, map, [], ◌∷◌, ◌++◌, None, Ok, Err, inl, inr, refl, sym, ◌∙◌, subst, arith}
+use Rattle.std.proofs.Common.{◌≡◌, map, [], ◌∷◌, ◌++◌, None, Ok, Err, inr, refl, sym, ◌∙◌, subst, arith}
 use Rattle.std.specs.Bool.{IsTrue}
 use Rattle.std.specs.List.{list_all}
 use Rattle.cf_handler.specs.Name.{is_lane_name}

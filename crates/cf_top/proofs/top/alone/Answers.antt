@@ -7,6 +7,12 @@ pub returns-clause-answered : goal.returns-clause-answered
 returns-clause-answered g c =
     answers_of
     (record {
+      one_shape = c.flawless_has_one_shape.ensures;
+      finds_nothing = c.creation_finds_nothing.ensures;
+      begins = c.creation_begins.ensures;
+      keeps_promise = c.creation_keeps_promise.ensures;
+    })
+    (record {
       shelf = record {
         texts = g.L.Library.texts c.args.library.now;
         faults = g.L.Library.count c.args.library.now;

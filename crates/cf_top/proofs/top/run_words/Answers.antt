@@ -4,7 +4,7 @@ use Rattle.cf_top.proofs.Over.{early_tells, is_there, lasts_ever, over_tells}
 use Rattle.cf_top.proofs.top.run_words.Goals as goal
 
 pub tell_over-told-requires : goal.tell_over-told-requires
-tell_over-told-requires g c = is_there c.in-Ok-Some.stack c.in-Ok.book.world c.in-Ok.ensures.over
+tell_over-told-requires g c = is_there c.in-Ok-Some.stack c.in-Ok.book.world.world c.in-Ok.ensures.over
 
 pub returns-in-Ok-clause-lasts : goal.returns-in-Ok-clause-lasts
 returns-in-Ok-clause-lasts g c = lasts_ever g.D.Disk.tells (g.D.Disk.seen c.deploy_on.new.disk) (g.D.Disk.may_leave c.deploy_on.new.disk) c.tell_over-told.result (search rules)
