@@ -101,9 +101,9 @@ fn add_by_done(
     now: &Plan,
     done: &Names,
 )
-    requires before { before.now ≡ plan_before stack.now }
-    requires now { now.now ≡ plan_now stack.now }
-    requires done { AreDone stack.now done.now }
+    requires before { before.now ≡ plan_before stack.now.stack }
+    requires now { now.now ≡ plan_now stack.now.stack }
+    requires done { AreDone stack.now.stack done.now }
 {
     match asked.word {
         "done" => add_names(line, done),
@@ -136,7 +136,7 @@ fn add_by_done(
 
 /// Adds what is asked of a path by the plan of a phase.
 fn add_at_path(line: &mut Line, asked: &Question, stack: &StackState, now: &Plan)
-    requires now { now.now ≡ plan_now stack.now }
+    requires now { now.now ≡ plan_now stack.now.stack }
 {
     match asked.word {
         "wants" => match wants_at(line.alloc, asked.schemas, stack, now, asked.path) {
@@ -153,7 +153,7 @@ fn add_at_path(line: &mut Line, asked: &Question, stack: &StackState, now: &Plan
             }
             Err(_) => line.lose(),
         },
-        _ => match is_held_right(line.alloc, now, &stack.made, asked.path) {
+        _ => match is_held_right(line.alloc, now, stack.made(), asked.path) {
             Ok(right) => line.word(if right { "right" } else { "wrong" }),
             Err(_) => line.lose(),
         },
@@ -162,7 +162,7 @@ fn add_at_path(line: &mut Line, asked: &Question, stack: &StackState, now: &Plan
 
 /// Adds what is asked of the plans of a phase. Plans are let go by `drop`: let go in place they make the check long.
 fn add_by_before(line: &mut Line, asked: &Question, stack: &StackState, now: &Plan)
-    requires now { now.now ≡ plan_now stack.now }
+    requires now { now.now ≡ plan_now stack.now.stack }
 {
     match plan_before(line.alloc, stack) {
         Ok(before) => {

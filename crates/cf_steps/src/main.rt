@@ -18,6 +18,7 @@ mod spelled;
 mod stacks;
 mod steps;
 mod table;
+mod wishes;
 mod words;
 mod worlds;
 

@@ -1,18 +1,18 @@
 //! What a row asks.
 use crate::entries::entry_of;
-use crate::flaws::{add_flaw_of, add_wish};
+use crate::flaws::add_flaw_of;
 use crate::forward::{Question, add_phase};
 use crate::library::Library;
 use crate::line::Line;
 use crate::stacks::add_stack;
 use crate::steps::{add_coming, schemas_in};
+use crate::wishes::{add_deployment, add_wish};
 use crate::words::Words;
 use crate::worlds::Stepped;
 use cf_entry::{Entries, Entry};
 use cf_export::Pins;
-use cf_plan::doubts_in;
-use cf_stacks::{StepFault, World, fold};
-use cf_tree::Txt;
+use cf_stacks::{World, fold};
+use cf_tree::{TryClone, Txt};
 use std::alloc::{AllocError, Global};
 
 /// What is asked over: a journal, and what the sections of its table share.
@@ -41,14 +41,13 @@ pub fn last_number(journal: &Entries) -> u64 {
     }
 }
 
-/// How many entries there are, and the last numbers.
+/// The last numbers.
 fn add_numbers(line: &mut Line, world: &World) {
     let numbers = [
-        ("entries", world.place),
-        ("epoch", world.epoch),
-        ("operation", world.operation),
-        ("set", world.set),
-        ("token", world.token),
+        ("epoch", world.epoch()),
+        ("operation", world.operation()),
+        ("set", world.set()),
+        ("token", world.token()),
     ];
     for (name, number) in numbers {
         line.word(name);
@@ -58,7 +57,7 @@ fn add_numbers(line: &mut Line, world: &World) {
 
 /// The lanes of the last opening.
 fn add_lanes(line: &mut Line, world: &World) {
-    for lane in world.lanes.as_slice() {
+    for lane in world.lanes().as_slice() {
         line.member();
         line.word(lane.0.as_str());
         line.word(lane.1.as_str());
@@ -67,7 +66,7 @@ fn add_lanes(line: &mut Line, world: &World) {
 
 /// The names of all stacks.
 fn add_stacks(line: &mut Line, world: &World) {
-    for stack in world.stacks.as_slice() {
+    for stack in world.stacks().as_slice() {
         line.member();
         line.word(stack.0.as_str());
     }
@@ -75,7 +74,7 @@ fn add_stacks(line: &mut Line, world: &World) {
 
 /// The exports of all stacks.
 fn add_exports(line: &mut Line, world: &World) {
-    for export in world.exports.as_slice() {
+    for export in world.exports().as_slice() {
         line.member();
         line.word(export.stack.as_str());
         line.word(export.name.as_str());
@@ -107,7 +106,7 @@ fn add_schema(line: &mut Line, words: &mut Words, library: &Library, world: &Wor
 /// What is asked of the phase of the last operation.
 fn add_of_phase(line: &mut Line, words: &mut Words, asked: &Asked, world: &World, word: &str) {
     match last_begun(asked.journal) {
-        Some((_, name)) => match world.stacks.get(name.as_str()) {
+        Some((_, name)) => match world.stack(name.as_str()) {
             Some(stack) => {
                 let path = words.memory.text(words.rest);
                 let schemas = schemas_in(words, asked.library, world);
@@ -130,7 +129,7 @@ fn add_of_phase(line: &mut Line, words: &mut Words, asked: &Asked, world: &World
 /// What is asked of one stack.
 fn add_of_stack(line: &mut Line, words: &mut Words, asked: &Asked, world: &World, word: &str) {
     let name = words.name();
-    match world.stacks.get(name.as_str()) {
+    match world.stack(name.as_str()) {
         Some(stack) => add_stack(line, words, asked.library, word, &name, stack),
         None => line.word("no stack"),
     }
@@ -143,15 +142,12 @@ fn add_answer(line: &mut Line, words: &mut Words, asked: &Asked, world: &World) 
         "numbers" => add_numbers(line, world),
         "lanes" => add_lanes(line, world),
         "exports" => add_exports(line, world),
-        "pins" => add_pins(line, &world.pins),
-        "claims" => add_pins(line, &world.claims),
+        "pins" => add_pins(line, world.pins()),
+        "claims" => add_pins(line, world.claims()),
         "schema" => add_schema(line, words, asked.library, world),
-        "prepare" => add_wish(line, words, asked.library, world),
+        "prepare" => add_deployment(line, words, asked.library, world),
+        "wish" => add_wish(line, words, asked.library, world),
         "flaw" => add_flaw_of(line, words),
-        "doubts" => {
-            let doubts = doubts_in(asked.journal.as_slice(), words.number());
-            line.number(doubts as u64);
-        }
         word => add_of_operation(line, words, asked, world, word),
     }
 }
@@ -170,19 +166,11 @@ fn add_of_operation(line: &mut Line, words: &mut Words, asked: &Asked, world: &W
     }
 }
 
-/// The answer to a question over a world, where there is one.
-fn over(
-    alloc: Global,
-    asked: &Asked,
-    world: Option<&World>,
-    question: &str,
-) -> Result<String, AllocError> {
+/// The answer to a question over a world.
+fn over(alloc: Global, asked: &Asked, world: &World, question: &str) -> Result<String, AllocError> {
     let mut words = Words::new(alloc, question);
     let mut line = Line::new(alloc);
-    match world {
-        Some(world) => add_answer(&mut line, &mut words, asked, world),
-        None => line.word("Nested"),
-    }
+    add_answer(&mut line, &mut words, asked, world);
     if words.are_read()? {
         line.finish()
     } else {
@@ -192,15 +180,10 @@ fn over(
 
 /// The answer over the world that is folded.
 fn over_folded(alloc: Global, asked: &Asked, question: &str) -> Result<String, AllocError> {
-    match fold(alloc, asked.journal) {
-        Ok(world) => {
-            let text = over(alloc, asked, Some(&world), question);
-            drop(world);
-            text
-        }
-        Err(StepFault::Nested) => over(alloc, asked, None, question),
-        Err(StepFault::NoMemory) => Err(AllocError),
-    }
+    let world = fold(alloc, asked.journal.try_clone(alloc)?)?;
+    let text = over(alloc, asked, &world, question);
+    drop(world);
+    text
 }
 
 /// Makes room for the entry of a line, where there is a line.

@@ -1,6 +1,7 @@
 //! Names, properties and what entries hold, written as the lines of entries have them.
+use crate::library::Library;
 use crate::line::Line;
-use cf_entry::{Cause, Reason, Why};
+use cf_entry::{Begun, Cause, Entry, LaneNames, Phase, Reason, Reply, Why};
 use cf_tree::{Dict, Names, Pairs, Request, Source, Val};
 
 /// Adds names.
@@ -118,5 +119,143 @@ pub fn add_cause(line: &mut Line, cause: &Cause) {
             line.word("Export");
             line.word(name.as_str());
         }
+    }
+}
+
+/// The word of a phase.
+pub fn phase_word(phase: Phase) -> &'static str {
+    match phase {
+        Phase::Back => "back",
+        Phase::Clean => "clean",
+        Phase::BackClean => "backclean",
+    }
+}
+
+/// Adds a phase, with why it was entered where it has that.
+pub fn add_turn(line: &mut Line, phase: Phase, cause: Option<&Cause>) {
+    line.word("turn");
+    line.word(phase_word(phase));
+    if let Some(cause) = cause {
+        add_cause(line, cause);
+    }
+}
+
+/// Adds a resource that is kept; the id is `-` where it is not known.
+pub fn add_kept(line: &mut Line, path: &str, physical: &str, why: Why) {
+    line.word("kept");
+    line.word(path);
+    line.word(if physical.is_empty() { "-" } else { physical });
+    line.word(why_word(why));
+}
+
+/// Adds an opening.
+fn add_opened(line: &mut Line, epoch: u64, lanes: &LaneNames) {
+    line.word("opened");
+    line.number(epoch);
+    for lane in lanes.as_slice() {
+        line.word(lane.0.as_str());
+    }
+}
+
+/// Adds what begins.
+fn add_begun(line: &mut Line, kind: &Begun) {
+    match kind {
+        Begun::Create { source } => {
+            line.word("create");
+            add_source(line, source);
+        }
+        Begun::Update { source } => {
+            line.word("update");
+            add_source(line, source);
+        }
+        Begun::Delete { paths } => {
+            line.word("delete");
+            add_names(line, paths);
+        }
+        Begun::Continue { paths } => {
+            line.word("continue");
+            add_names(line, paths);
+        }
+    }
+}
+
+/// Adds an answer with the counts around its call, and the attributes behind them.
+fn add_reply(line: &mut Line, answer: &Reply, before: u64, after: u64) {
+    match answer {
+        Reply::Success { physical, .. } => {
+            line.word("success");
+            line.word(physical.as_str());
+        }
+        Reply::Failed { code } => {
+            line.word("failed");
+            line.word(code.name());
+        }
+        Reply::Doubt => line.word("doubt"),
+    }
+    line.number(before);
+    line.number(after);
+    if let Reply::Success { attrs, .. } = answer {
+        add_props(line, attrs);
+    }
+}
+
+/// Adds an entry as its line, without the number of its operation where it is no beginning.
+pub fn add_entry(line: &mut Line, library: &Library, entry: &Entry) {
+    match entry {
+        Entry::Opened { epoch, lanes } => add_opened(line, *epoch, lanes),
+        Entry::Begin {
+            number,
+            stack,
+            kind,
+        } => {
+            line.word("begin");
+            line.number(*number);
+            line.word(stack.as_str());
+            add_begun(line, kind);
+        }
+        Entry::Kept {
+            path,
+            physical,
+            why,
+            ..
+        } => add_kept(line, path.as_str(), physical.as_str(), *why),
+        Entry::Intent {
+            token,
+            lane,
+            path,
+            request,
+            ..
+        } => {
+            line.word("ask");
+            line.number(*token);
+            line.word(lane.as_str());
+            line.word(path.as_str());
+            add_request(line, library.kind_of(lane.as_str()), request);
+        }
+        _ => add_later_entry(line, entry),
+    }
+}
+
+/// Adds an entry that answers, turns or ends, or a change set.
+fn add_later_entry(line: &mut Line, entry: &Entry) {
+    match entry {
+        Entry::Outcome {
+            token,
+            answer,
+            before,
+            after,
+            ..
+        } => {
+            line.word("told");
+            line.number(*token);
+            add_reply(line, answer, *before, *after);
+        }
+        Entry::Phase { phase, cause, .. } => add_turn(line, *phase, cause.as_ref()),
+        Entry::Done { status, failed, .. } => {
+            line.word("done");
+            line.word(status.name());
+            add_names(line, failed);
+        }
+        _ => line.word("another entry"),
     }
 }

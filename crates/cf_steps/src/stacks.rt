@@ -2,10 +2,12 @@
 use crate::entries::cause_of;
 use crate::library::Library;
 use crate::line::Line;
-use crate::spelled::{add_names, add_props, add_request, add_source, why_word};
+use crate::spelled::{add_entry, add_names, add_props, add_request, add_source, why_word};
 use crate::words::Words;
 use cf_face::{Exit, report};
-use cf_stacks::{Held, HeldStatus, Helds, KeptSet, Outputs, StackState};
+use cf_stacks::{
+    Call, HeardEntry, Held, HeldStatus, KeptSet, Outputs, Settled, StackState, call_with,
+};
 use cf_tree::{Deletion, Replace, Source, Txt};
 
 fn held_status_word(status: HeldStatus) -> &'static str {
@@ -43,8 +45,8 @@ fn add_marks(line: &mut Line, held: &Held) {
 }
 
 /// Resources in their order.
-fn add_helds(line: &mut Line, helds: &Helds) {
-    for held in helds.as_slice() {
+fn add_helds(line: &mut Line, helds: &[Held]) {
+    for held in helds {
         line.member();
         line.word(held.path.as_str());
         line.word(held.physical.as_str());
@@ -55,34 +57,26 @@ fn add_helds(line: &mut Line, helds: &Helds) {
 }
 
 /// The resource of a physical id on a list.
-fn resource_in<'a>(helds: &'a Helds, physical: &str) -> Option<&'a Held> {
-    helds
-        .as_slice()
-        .iter()
-        .find(|held| held.physical.is(physical))
+fn resource_in<'a>(helds: &'a [Held], physical: &str) -> Option<&'a Held> {
+    helds.iter().find(|held| held.physical.is(physical))
 }
 
 /// The type, the properties and the attributes of a resource.
 fn add_resource(line: &mut Line, held: &Held) {
     line.word(held.kind.as_str());
     add_props(line, &held.props);
-    match held.attrs.dict(line.alloc) {
-        Ok(attrs) => {
-            if attrs.len() != 0 {
-                line.word("with");
-                add_props(line, &attrs);
-            }
-        }
-        Err(_) => line.lose(),
+    if held.attrs.len() != 0 {
+        line.word("with");
+        add_props(line, &held.attrs);
     }
 }
 
 /// The same of the resource of a physical id that a stack made or else holds.
 fn add_resource_of(line: &mut Line, stack: &StackState, physical: &str) {
-    match resource_in(&stack.made, physical) {
+    match resource_in(stack.made().as_slice(), physical) {
         Some(held) => add_resource(line, held),
         None => {
-            if let Some(held) = resource_in(&stack.held, physical) {
+            if let Some(held) = resource_in(stack.held().as_slice(), physical) {
                 add_resource(line, held);
             }
         }
@@ -91,7 +85,7 @@ fn add_resource_of(line: &mut Line, stack: &StackState, physical: &str) {
 
 /// The open calls.
 fn add_open(line: &mut Line, library: &Library, stack: &StackState) {
-    for pending in stack.tokens.as_slice() {
+    for pending in stack.tokens().as_slice() {
         line.member();
         line.number(pending.token);
         line.word(pending.lane.as_str());
@@ -104,9 +98,68 @@ fn add_open(line: &mut Line, library: &Library, stack: &StackState) {
     }
 }
 
+/// How a call was answered for good, or that it is open, or was given up.
+fn add_settled(line: &mut Line, stack: &StackState, call: &Call) {
+    match call.answer {
+        Some(Settled::Success) => line.word("success"),
+        Some(Settled::Failed { code }) => {
+            line.word("failed");
+            line.word(code.name());
+        }
+        None => {
+            let tokens = stack.tokens().as_slice();
+            let is_open = tokens.iter().any(|pending| pending.token == call.token);
+            line.word(if is_open { "open" } else { "abandoned" });
+        }
+    }
+}
+
+/// The calls, with what came of them.
+fn add_calls(line: &mut Line, stack: &StackState) {
+    for call in stack.ledger().as_slice() {
+        line.member();
+        line.number(call.token);
+        add_settled(line, stack, call);
+        if call.fresh {
+            line.word("new");
+        }
+        if call.doubts != 0 {
+            line.word("doubts");
+            line.number(call.doubts);
+        }
+    }
+}
+
+/// How often the call of a token broke off in this phase and opening.
+fn add_doubts(line: &mut Line, stack: &StackState, token: u64) {
+    match call_with(stack.ledger().as_slice(), token) {
+        Some(call) => line.number(call.doubts),
+        None => line.word("no call"),
+    }
+}
+
+/// An entry that a stack heard.
+fn add_heard(line: &mut Line, library: &Library, heard: &HeardEntry) {
+    match heard.entry(line.alloc) {
+        Ok(entry) => {
+            line.member();
+            add_entry(line, library, &entry);
+            drop(entry);
+        }
+        Err(_) => line.lose(),
+    }
+}
+
+/// The entries that a stack heard.
+fn add_entries(line: &mut Line, library: &Library, stack: &StackState) {
+    for heard in stack.entries().as_slice() {
+        add_heard(line, library, heard);
+    }
+}
+
 /// The creates that were given up.
 fn add_abandoned(line: &mut Line, stack: &StackState) {
-    for given_up in stack.abandoned.as_slice() {
+    for given_up in stack.abandoned().as_slice() {
         line.member();
         line.number(given_up.token);
         line.word(given_up.path.as_str());
@@ -115,7 +168,7 @@ fn add_abandoned(line: &mut Line, stack: &StackState) {
 
 /// The leftovers.
 fn add_leftovers(line: &mut Line, stack: &StackState) {
-    for leftover in stack.leftovers.as_slice() {
+    for leftover in stack.leftovers().as_slice() {
         line.member();
         line.word(leftover.path.as_str());
         line.word(leftover.physical.as_str());
@@ -156,7 +209,7 @@ fn add_set(line: &mut Line, set: &KeptSet) {
 
 /// The lines of events.
 fn add_events(line: &mut Line, stack: &StackState) {
-    for event in stack.events.as_slice() {
+    for event in stack.events().as_slice() {
         line.member();
         line.word(event.as_str());
     }
@@ -203,26 +256,29 @@ pub fn add_stack(
 ) {
     match word {
         "status" => {
-            line.word(stack.status.name());
-            line.number(stack.number);
-            line.number(stack.operation);
+            line.word(stack.status().name());
+            line.number(stack.number());
+            line.number(stack.operation());
         }
-        "held" => add_helds(line, &stack.held),
-        "before" => add_helds(line, &stack.before),
-        "made" => add_helds(line, &stack.made),
+        "held" => add_helds(line, stack.held().as_slice()),
+        "before" => add_helds(line, stack.before()),
+        "made" => add_helds(line, stack.made().as_slice()),
         "resource" => add_resource_of(line, stack, words.rest),
         "open" => add_open(line, library, stack),
         "abandoned" => add_abandoned(line, stack),
         "leftovers" => add_leftovers(line, stack),
-        "outputs" => add_outputs(line, &stack.outputs),
+        "outputs" => add_outputs(line, stack.outputs()),
         "source" => add_maybe_source(line, stack.source()),
         "going" => add_maybe_source(line, stack.going()),
         "sets" => {
-            for set in stack.sets.as_slice() {
+            for set in stack.sets().as_slice() {
                 add_set(line, set);
             }
         }
         "events" => add_events(line, stack),
+        "entries" => add_entries(line, library, stack),
+        "calls" => add_calls(line, stack),
+        "doubts" => add_doubts(line, stack, words.number()),
         "report" => add_report(line, words, name, stack),
         _ => words.refuse(),
     }

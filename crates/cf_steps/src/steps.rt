@@ -3,9 +3,8 @@ ghost use Rattle.cf_plan.specs.Stepping.{IsCreation};
 
 use crate::library::Library;
 use crate::line::Line;
-use crate::spelled::{add_cause, add_names, add_request, why_word};
+use crate::spelled::{add_kept, add_names, add_request, add_turn};
 use crate::words::Words;
-use cf_entry::Phase;
 use cf_plan::{Home, Homes, Next, due, is_creation, next_in_creation, schemas_of};
 use cf_schema::Schemas;
 use cf_stacks::{StackState, World};
@@ -28,7 +27,7 @@ fn tokens_of(words: &mut Words) -> Vec<u64> {
 
 /// Which of the tokens is out on a lane: it is open there in a stack.
 fn lease_in(stack: &StackState, lane: &Txt, out: &[u64]) -> Option<u64> {
-    for pending in stack.tokens.as_slice() {
+    for pending in stack.tokens().as_slice() {
         if pending.lane == *lane && out.contains(&pending.token) {
             return Some(pending.token);
         }
@@ -38,7 +37,7 @@ fn lease_in(stack: &StackState, lane: &Txt, out: &[u64]) -> Option<u64> {
 
 /// The same in any stack.
 fn lease_on(world: &World, lane: &Txt, out: &[u64]) -> Option<u64> {
-    for stack in world.stacks.as_slice() {
+    for stack in world.stacks().as_slice() {
         let lease = lease_in(&stack.1, lane, out);
         if lease.is_some() {
             return lease;
@@ -50,7 +49,7 @@ fn lease_on(world: &World, lane: &Txt, out: &[u64]) -> Option<u64> {
 /// The lanes of the last opening, of which those of these tokens are out.
 fn homes_of(words: &mut Words, library: &Library, world: &World, out: &[u64]) -> Homes {
     let mut homes = Homes::new(words.memory.alloc);
-    for lane in world.lanes.as_slice() {
+    for lane in world.lanes().as_slice() {
         let home = Home {
             name: words.memory.text(lane.0.as_str()),
             schema: library.schema_of(words, lane.1.as_str()),
@@ -92,14 +91,6 @@ fn add_call(
     add_request(line, library.kind_of(lane), request);
 }
 
-fn phase_word(phase: Phase) -> &'static str {
-    match phase {
-        Phase::Back => "back",
-        Phase::Clean => "clean",
-        Phase::BackClean => "backclean",
-    }
-}
-
 /// Adds a step, as the entry that it writes.
 fn add_step(line: &mut Line, library: &Library, next: &Next) {
     match next {
@@ -117,23 +108,8 @@ fn add_step(line: &mut Line, library: &Library, next: &Next) {
             path,
             physical,
             why,
-        } => {
-            line.word("kept");
-            line.word(path.as_str());
-            line.word(if physical.as_str().is_empty() {
-                "-"
-            } else {
-                physical.as_str()
-            });
-            line.word(why_word(*why));
-        }
-        Next::Turn { phase, cause } => {
-            line.word("turn");
-            line.word(phase_word(*phase));
-            if let Some(cause) = cause {
-                add_cause(line, cause);
-            }
-        }
+        } => add_kept(line, path.as_str(), physical.as_str(), *why),
+        Next::Turn { phase, cause } => add_turn(line, *phase, cause.as_ref()),
         Next::End { status, failed } => {
             line.word("done");
             line.word(status.name());
@@ -152,7 +128,7 @@ fn add_next(
     number: u64,
     out: &[u64],
 )
-    requires { IsCreation world.now number }
+    requires { IsCreation world.now.world number }
 {
     let homes = homes_of(words, library, world, out);
     match next_in_creation(line.alloc, world, number, &homes) {
@@ -174,7 +150,7 @@ fn add_due(
     number: u64,
     out: &[u64],
 )
-    requires { IsCreation world.now number }
+    requires { IsCreation world.now.world number }
 {
     let schemas = schemas_in(words, library, world);
     match due(line.alloc, world, number, out, &schemas) {

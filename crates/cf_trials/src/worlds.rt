@@ -109,7 +109,7 @@ pub fn line_in(alloc: Global, world: &World, asked: Asked) -> Result<String, All
     if let Asked::Shared = asked {
         return shared(alloc, world);
     }
-    match world.stacks.get("s") {
+    match world.stack("s") {
         Some(stack) => line_of(alloc, stack, asked),
         None => String::from_str(alloc, "no stack"),
     }
@@ -125,19 +125,18 @@ fn line_of(alloc: Global, stack: &StackState, asked: Asked) -> Result<String, Al
 
 /// The numbers of a world, and how many pins, claims and exports there are.
 fn shared(alloc: Global, world: &World) -> Result<String, AllocError> {
-    let place = world.place;
-    let epoch = world.epoch;
-    let operation = world.operation;
-    let token = world.token;
-    let pins = world.pins.len();
-    let claims = world.claims.len();
-    let exports = world.exports.len();
-    format!(in alloc; "{place} {epoch} {operation} {token} {pins} {claims} {exports}")
+    let epoch = world.epoch();
+    let operation = world.operation();
+    let token = world.token();
+    let pins = world.pins().len();
+    let claims = world.claims().len();
+    let exports = world.exports().len();
+    format!(in alloc; "{epoch} {operation} {token} {pins} {claims} {exports}")
 }
 
 fn events(alloc: Global, stack: &StackState) -> Result<String, AllocError> {
     let mut line = String::new(alloc);
-    for event in stack.events.as_slice() {
+    for event in stack.events().as_slice() {
         line.push_str("|")?;
         line.push_str(event.as_str())?;
     }
@@ -145,30 +144,27 @@ fn events(alloc: Global, stack: &StackState) -> Result<String, AllocError> {
 }
 
 fn color(alloc: Global, stack: &StackState) -> Result<String, AllocError> {
-    match stack.made.as_slice().last() {
+    match stack.made().as_slice().last() {
         Some(held) => color_of(alloc, held),
         None => String::from_str(alloc, "nothing"),
     }
 }
 
 fn color_of(alloc: Global, held: &Held) -> Result<String, AllocError> {
-    let attrs = held.attrs.dict(alloc)?;
-    let line = match attrs.get("Color") {
+    match held.attrs.get("Color") {
         Some(Val::Text(color)) => String::from_str(alloc, color.as_str()),
         _ => String::from_str(alloc, "none"),
-    };
-    drop(attrs);
-    line
+    }
 }
 
 /// The status, how many resources are held, calls open and outputs told, and each resource that was made.
 fn shown(alloc: Global, stack: &StackState) -> Result<String, AllocError> {
-    let status = stack.status.name();
-    let held = stack.held.len();
-    let open = stack.tokens.len();
-    let outputs = stack.outputs.len();
+    let status = stack.status().name();
+    let held = stack.held().len();
+    let open = stack.tokens().len();
+    let outputs = stack.outputs().len();
     let mut line = format!(in alloc; "{status} {held} {open} {outputs}")?;
-    for held in stack.made.as_slice() {
+    for held in stack.made().as_slice() {
         add_made(alloc, &mut line, held)?;
     }
     Ok(line)
