@@ -1,4 +1,12 @@
 //! What comes of a wish: its order, or why it is refused.
+ghost use Rattle.std.specs.Prelude.{◌≡◌, ◌==◌, find, IfSome, Some};
+ghost use Rattle.std.specs.Option.{option_copied};
+ghost use Rattle.cf_desired.specs.Templates.{templates_of};
+ghost use Rattle.cf_stacks.specs.declared.held.KeptSet.{KeptSet as Kept};
+ghost use Rattle.cf_stacks.specs.World.{known_stack};
+ghost use Rattle.cf_prepare.specs.Prepare.{HasTemplates};
+ghost use Rattle.cf_prepare.specs.Refusals.{set_of};
+
 use crate::forward::add_flaw;
 use crate::library::Library;
 use crate::line::Line;
@@ -9,9 +17,10 @@ use cf_desired::templates_of;
 use cf_entry::Entry;
 use cf_prepare::{Order, PrepareFault, StackFault, Wish, prepare};
 use cf_schema::Schemas;
-use cf_stacks::World;
+use cf_stacks::{KeptSet, World};
 use cf_tree::{
     Action, Attribute, Detail, Evaluation, Recreation, Replacement, Row, Rows, Source, Templates,
+    Txt,
 };
 
 fn action_word(action: Action) -> &'static str {
@@ -155,46 +164,63 @@ fn add_refusal(line: &mut Line, fault: &PrepareFault) {
     }
 }
 
-/// The source that is looked at for a wish, where there is one.
-fn source_of<'a>(world: &'a World, wish: &'a Wish) -> Option<&'a Source> {
-    match wish {
-        Wish::Deploy { source, .. } => Some(source),
-        Wish::Review { source, .. } => Some(source),
-        Wish::Execute { stack, number } => match world.stack(stack.as_str()) {
-            Some(stack) => {
-                let set = stack
-                    .sets()
-                    .as_slice()
-                    .iter()
-                    .find(|set| set.number == *number);
-                match set {
-                    Some(set) => Some(&set.source),
-                    None => None,
-                }
-            }
-            None => None,
-        },
-        _ => None,
+/// The change set of a number.
+fn set_in(sets: &[KeptSet], number: u64) -> Option<&KeptSet>
+    ensures { option_copied result ≡ find (λ k. number == k.number) sets.now }
+{
+    sets.iter().find(|set| set.number == number)
+}
+
+/// The change set of a number of the stack of a name.
+fn set_of<'a>(world: &'a World, name: &Txt, number: u64) -> Option<&'a KeptSet>
+    ensures { option_copied result ≡ set_of number (known_stack name.now world.now.world) }
+{
+    match world.stack(name.as_str()) {
+        Some(stack) => set_in(stack.sets().as_slice(), number),
+        None => None,
     }
 }
 
-/// The templates of a wish: none where it looks at no source.
-fn templates_for(line: &mut Line, world: &World, wish: &Wish) -> Templates {
-    match source_of(world, wish) {
-        Some(source) => match templates_of(line.alloc, source) {
-            Ok(templates) => templates,
-            Err(_) => {
-                line.lose();
-                Templates::new(line.alloc)
-            }
-        },
-        None => Templates::new(line.alloc),
+/// The templates of a source, where memory was there to read them.
+fn templates_in(line: &mut Line, source: &Source) -> Option<Templates>
+    ensures { IfSome result (λ templates. templates ≡ templates_of source.now) }
+{
+    match templates_of(line.alloc, source) {
+        Ok(templates) => Some(templates),
+        Err(_) => {
+            line.lose();
+            None
+        }
+    }
+}
+
+/// The templates of a change set that is executed; none where there is no such set.
+fn templates_of_set(line: &mut Line, set: Option<&KeptSet>) -> Option<Templates>
+    ensures { IfSome result (λ templates. (k : Kept) → option_copied set.entry ≡ Some k → templates ≡ templates_of k.source) }
+{
+    match set {
+        Some(set) => templates_in(line, &set.source),
+        None => Some(Templates::new(line.alloc)),
+    }
+}
+
+/// The templates of the source that a wish looks at, where memory was there to read them; none where it looks at no source.
+fn templates_for(line: &mut Line, world: &World, wish: &Wish) -> Option<Templates>
+    ensures { IfSome result (λ templates. HasTemplates world.now.world wish.now templates) }
+{
+    match wish {
+        Wish::Deploy { source, .. } => templates_in(line, source),
+        Wish::Review { source, .. } => templates_in(line, source),
+        Wish::Execute { stack, number } => templates_of_set(line, set_of(world, stack, *number)),
+        _ => Some(Templates::new(line.alloc)),
     }
 }
 
 /// What comes of a wish.
 fn add_answer(line: &mut Line, library: &Library, world: &World, wish: &Wish, schemas: &Schemas) {
-    let templates = templates_for(line, world, wish);
+    let Some(templates) = templates_for(line, world, wish) else {
+        return;
+    };
     match prepare(line.alloc, world, wish, &templates, schemas) {
         Ok(order) => {
             add_order(line, library, &order);
