@@ -1,0 +1,81 @@
+-- What a change set compares is what was held before, and so the shape stays as the operation goes forward.
+use Rattle.std.proofs.Common.{◌≡◌, ◌∙◌, ℕ, List, [], ◌∷◌, Bool, true, false, not, ◌&&◌, Option, Some, None, filter, map, option_map, refl, sym, ap, subst}
+use Rattle.std.specs.Prelude.{cond, option_and_then}
+use Rattle.std.specs.Str.{bytes_eq}
+use Rattle.cf_tree.specs.Keys.{value_at}
+use Rattle.cf_tree.specs.declared.source.Source.{Source}
+use Rattle.cf_eval.specs.Knows.{Keeps}
+use Rattle.cf_schema.specs.declared.described.Schema.{Schema}
+use Rattle.cf_change.specs.Changes.{HeldAt, held_seen, resource_held, seen_held}
+use Rattle.cf_change.specs.Hidden.{hides_attrs, hides_id}
+use Rattle.cf_change.proofs.Shown.{held_there}
+use Rattle.cf_change.proofs.Leaving.{stays_forward}
+use Rattle.cf_desired.specs.declared.seen.SeenAt.{SeenAt}
+use Rattle.cf_desired.specs.Seeing.{Seen}
+use Rattle.cf_desired.specs.Shape.{shape_of}
+use Rattle.cf_desired.specs.ShapeStays.{KeepsRest}
+use Rattle.cf_desired.specs.Stays.{attrs_seen, id_seen}
+use Rattle.cf_desired.proofs.Puts.{kept_self}
+use Rattle.cf_stacks.specs.declared.held.Held.{Held}
+use Rattle.cf_stacks.specs.World.{StackState}
+use Rattle.cf_stacks.specs.Words.{current_at}
+use Rattle.cf_stacks.specs.Begin.{seen_in}
+use Rattle.cf_stacks.specs.End.{seen_now}
+use Rattle.cf_plan.specs.Accept.{held_as}
+use Rattle.cf_plan.proofs.CreatedSeen.{shown, shown_at}
+use Rattle.cf_core.specs.Advancing.{IsAdvancing, changes_begun, held_before_as}
+use Rattle.cf_core.specs.Hiding.{ShapeStaysAdvancing}
+
+-- the first at a path, as it is compared, is the resource of the path
+found_with : (a b : Bool) (h : Held) (rest : List HeldAt) (path : List ℕ) (o : Option Held) → bytes_eq path h.path ≡ a → resource_held path rest ≡ option_map held_as o
+    → resource_held path (cond b (held_as h ∷ rest) rest) ≡ option_map held_as (cond (a && b) (Some h) o)
+found_with true true h rest path o e ih = ap (λ t. cond t (Some (held_as h)) (resource_held path rest)) e
+found_with true false h rest path o e ih = ih
+found_with false true h rest path o e ih = ap (λ t. cond t (Some (held_as h)) (resource_held path rest)) e ∙ ih
+found_with false false h rest path o e ih = ih
+
+map_if : (b : Bool) (h : Held) (hs : List Held) → map held_as (cond b (h ∷ hs) hs) ≡ cond b (held_as h ∷ map held_as hs) (map held_as hs)
+map_if true h hs = refl
+map_if false h hs = refl
+
+pub same_found : (path : List ℕ) (hs : List Held) → resource_held path (map held_as (filter (λ h. not h.superseded) hs)) ≡ option_map held_as (current_at path hs)
+same_found path [] = refl
+same_found path (h ∷ hs) =
+    ap (resource_held path) (map_if (not h.superseded) h (filter (λ x. not x.superseded) hs))
+    ∙ found_with (bytes_eq path h.path) (not h.superseded) h (map held_as (filter (λ x. not x.superseded) hs)) path (current_at path hs) refl (same_found path hs)
+
+as_shown : (o : Option Held) → option_map (λ h. seen_held h None) (option_map held_as o) ≡ option_map shown o
+as_shown None = refl
+as_shown (Some h) = refl
+
+-- what is compared shows what was held before
+pub same_seen : (s : StackState) (path : List ℕ) → value_at path (held_seen (held_before_as s)) ≡ value_at path (seen_in s.before)
+same_seen s path =
+    held_there path (held_before_as s) ∙ ap (option_map (λ h. seen_held h None)) (same_found path s.before) ∙ as_shown (current_at path s.before)
+    ∙ sym (shown_at path s.before)
+
+module _ (ids attrs : List ℕ → Bool) (s : StackState) where
+  pub compared_rest : (now : Seen) → KeepsRest ids attrs (seen_in s.before) now → KeepsRest ids attrs (held_seen (held_before_as s)) now
+  compared_rest now rest path =
+      subst (λ (o : Option SeenAt). (ids path ≡ false → Keeps (option_and_then (λ x. x.physical) o) (id_seen path now)) × (attrs path ≡ false → Keeps (option_and_then (λ x. x.attrs) o) (attrs_seen path now)))
+      (sym (same_seen s path)) (rest path)
+
+  pub rest_itself : (seen : Seen) → KeepsRest ids attrs seen seen
+  rest_itself seen path = (λ e. kept_self (id_seen path seen), λ e. kept_self (attrs_seen path seen))
+
+module _ (schemas : List Schema) (s : StackState) (source : Source) (a : IsAdvancing schemas s source) where
+  abbrev ids : List ℕ → Bool
+  ids = hides_id (changes_begun schemas s source).rows
+
+  abbrev attrs : List ℕ → Bool
+  attrs = hides_attrs (changes_begun schemas s source).rows
+
+  -- over what is compared, what was held before, and what is seen now
+  pub shape_before : shape_of source (seen_in s.before) ≡ shape_of source (held_seen (held_before_as s))
+  shape_before = stays_forward schemas (held_before_as s) [] [] source (seen_in s.before) a.no_flaw a.no_clash (compared_rest ids attrs s (seen_in s.before) (rest_itself ids attrs s (seen_in s.before)))
+
+  pub shape_now : shape_of source (seen_now s) ≡ shape_of source (held_seen (held_before_as s))
+  shape_now = stays_forward schemas (held_before_as s) [] [] source (seen_now s) a.no_flaw a.no_clash (compared_rest ids attrs s (seen_now s) a.rest)
+
+pub shape_stays : ShapeStaysAdvancing
+shape_stays schemas s source a = shape_now schemas s source a ∙ sym (shape_before schemas s source a)

@@ -1,0 +1,155 @@
+-- A deletion of a cleanup goes out, or its resource is kept.
+use Rattle.std.proofs.Common.{◌≡◌, ◌≢◌, ◌⊎◌, inl, inr, ℕ, ◌<◌, ◌==◌, Bool, true, false, not, List, [], ◌∷◌, ◌++◌, Option, Some, None, refl, sym, ap, subst, ◌∙◌, true≢false, find, length, arith}
+use Rattle.std.specs.Prelude.{cond}
+use Rattle.std.specs.List.{list_any}
+use Rattle.std.specs.Option.{option_map_or}
+use Rattle.std.specs.Str.{bytes_eq}
+use Rattle.std.proofs.lemmas.Bool.{and_from, and_left, and_right, eq-eqb, eqb-true}
+use Rattle.std.proofs.lemmas.List.{append-nil}
+use Rattle.std.proofs.lemmas.Slice.Eq.{bytes_eq-Decides}
+use Rattle.cf_tree.specs.declared.request.Request.TheVariants as request
+use Rattle.cf_entry.specs.declared.status.Status.{Status}
+use Rattle.cf_entry.specs.declared.turn.Why.{Why}
+use Rattle.cf_stacks.specs.declared.call.Call.{Call}
+use Rattle.cf_stacks.specs.declared.held.Held.{Held}
+use Rattle.cf_stacks.specs.declared.held.Pending.{Pending}
+use Rattle.cf_stacks.specs.World.{StackState, World}
+use Rattle.cf_stacks.specs.Status.{Stage}
+use Rattle.cf_stacks.specs.Words.{deletes, has_physical, has_token, id_named, is_create, is_create_at, is_on, resources_of}
+use Rattle.cf_stacks.specs.Calls.{call_of, is_call, is_refusal, new_call, was_refused}
+use Rattle.cf_stacks.specs.Reply.{keeping, keeping_known, keeping_unknown}
+use Rattle.cf_plan.specs.Follow.{cleaned_in, is_free}
+use Rattle.cf_plan.specs.Forward.{In}
+use Rattle.cf_plan.proofs.CreatedRight.{free_path, in_filter, not_so}
+use Rattle.cf_plan.proofs.CreatedStays.{found_in_more, found_one, found_still}
+use Rattle.cf_plan.proofs.RunLists.{in_either, in_end, in_front, in_kept, in_one, none_any}
+use Rattle.cf_core.specs.Course.{IsOpenDeletion, IsOwnCall, IsTried}
+use Rattle.cf_core.specs.Fits.{Fits}
+use Rattle.cf_core.specs.Tidying.{IsCleanup, IsTidying}
+use Rattle.cf_core.proofs.TidyLedger.{is_try, refusals, tried_length, tried_refused, tries, tries_end, try, one_more}
+use Rattle.cf_core.proofs.TidyLists.{bytes_or, one_of_bytes}
+use Rattle.cf_core.proofs.TidySteps.{IsLeftSo, IsOther, carried, cleaned_same, left_deleted, of_stack, quiet, quiet_same, tried_still}
+
+module _ (x : World) (s : StackState) (fits : Fits x s) (stage : Stage) (at : Status) (cleanup : IsCleanup stage at) (h : IsTidying (cleaned_in stage s) s) where
+  pub tidy_same : (t : StackState) → IsLeftSo t s → IsTidying (cleaned_in stage t) t
+  tidy_same t l =
+      subst (λ rs. IsTidying rs t) (sym (cleaned_same stage at cleanup s t l.held l.made))
+      (quiet (cleaned_in stage s) s t (quiet_same s t l.tokens l.operation l.ledger) h)
+
+  -- A deletion goes out.
+  module _ (q : Pending) (number : ℕ) (state : Status) (of_it : number ≡ s.operation) (new : x.token < q.token) (free : is_free q.path s ≡ true)
+      (r : Held) (is_cleaned : In r (cleaned_in stage s)) (deletes_it : q.request ≡ request.Delete r.physical) (at_path : q.path ≡ r.path) where
+    abbrev row : Call
+    row = new_call number state q
+
+    not_called : (c : Call) → find (is_call q.token) s.ledger ≡ Some c → ⊥
+    not_called c f =
+        let one = found_one (is_call q.token) s.ledger c f in
+        let same = eqb-true q.token c.token one.1 in
+        let low = fits.last c one.0 in
+        omega (arith, same, low, new)
+
+    none_called : find (is_call q.token) s.ledger ≡ None
+    none_called = by (find (is_call q.token) s.ledger) not_called where
+      by : (o : Option Call) → ((c : Call) → o ≡ Some c → ⊥) → o ≡ None
+      by None g = refl
+      by (Some c) g = absurd (g c refl)
+
+    pub none_open : list_any (has_token q.token) s.tokens ≡ false
+    none_open = none_any (has_token q.token) s.tokens (λ p i e.
+        let c = fits.rows p i in
+        not_called c.0 (ap (λ n. call_of n s) (eqb-true q.token p.token e) ∙ c.1))
+
+    abbrev with_call : StackState
+    with_call = record s { tokens = s.tokens ++ q ∷ []; ledger = s.ledger ++ row ∷ [] }
+
+    -- the open deletions of this resource would be at its path
+    not_open : (p : Pending) → In p s.tokens → p.request ≡ request.Delete r.physical → ⊥
+    not_open p i e =
+        let a = fits.named p r.physical i (ap id_named e) in
+        let same = one_of_bytes (λ k. k.physical) (resources_of s) a.0 r fits.ids a.1 (of_stack stage at cleanup s r is_cleaned) a.2 in
+        free_path q.path s.tokens p free i (sym a.3 ∙ ap (λ k. k.path) same ∙ sym at_path)
+
+    module _ (t : StackState) (l : IsLeftSo t with_call) where
+      counts_now : (id : List ℕ) → tries t.operation id t.ledger ≡ tries s.operation id s.ledger ++ try s.operation id row []
+      counts_now id = ap (λ n. tries n id t.ledger) l.operation ∙ ap (tries s.operation id) l.ledger ∙ tries_end s.operation id s.ledger row
+
+      rows_now : (p : Pending) → IsOwnCall s p → IsOwnCall t p
+      rows_now p o = (o.0, ap (find (is_call p.token)) l.ledger ∙ found_still (is_call p.token) s.ledger (row ∷ []) o.0 o.1, o.2 ∙ sym l.operation)
+
+      old_open : (id : List ℕ) (p : Pending) → IsOpenDeletion s id p → IsOpenDeletion t id p
+      old_open id p o = (subst (In p) (sym l.tokens) (in_front p s.tokens (q ∷ []) o.0), o.1, rows_now p o.2)
+
+      other_tried : (id : List ℕ) → id ≢ r.physical → IsTried s id → IsTried t id
+      other_tried id n = tried_still s t id (counts_now id ∙ ap (λ b. tries s.operation id s.ledger ++ cond b (was_refused row ∷ []) []) apart ∙ no_more) (old_open id) where
+        apart : is_try s.operation id row ≡ false
+        apart = and_right (number == s.operation) (deletes id q.request) (ap (deletes id) deletes_it ∙ by (bytes_eq id r.physical) refl) where
+          by : (b : Bool) → bytes_eq id r.physical ≡ b → b ≡ false
+          by true e = absurd (n ((bytes_eq-Decides id r.physical).0 e))
+          by false e = refl
+
+        no_more : tries s.operation id s.ledger ++ [] ≡ tries s.operation id s.ledger
+        no_more = append-nil (tries s.operation id s.ledger)
+
+      this_tried : IsTried s r.physical → IsTried t r.physical
+      this_tried (inr (p, o, m)) = absurd (not_open p o.0 o.1)
+      this_tried (inl m) =
+          let is_one : is_try s.operation r.physical row ≡ true = and_from (number == s.operation) (deletes r.physical q.request) (eq-eqb number s.operation of_it) (ap (deletes r.physical) deletes_it ∙ (bytes_eq-Decides r.physical r.physical).1 refl) in
+          let not_yet : was_refused row ≡ false = ap (λ k. is_refusal k None) deletes_it in
+          let now : tries t.operation r.physical t.ledger ≡ tries s.operation r.physical s.ledger ++ false ∷ [] =
+          counts_now r.physical ∙ ap (λ b. tries s.operation r.physical s.ledger ++ cond b (was_refused row ∷ []) []) is_one
+          ∙ ap (λ b. tries s.operation r.physical s.ledger ++ b ∷ []) not_yet in
+          let more = one_more (tries s.operation r.physical s.ledger) in
+          let a = tried_length r.physical t ∙ ap length now in let b = tried_refused r.physical t ∙ ap refusals now in
+          let c = tried_length r.physical s in let d = tried_refused r.physical s in
+          let e = more.0 in let f = more.1 in
+          inr (q, (subst (In q) (sym l.tokens) (in_end q s.tokens), deletes_it, (row, found_now, of_it ∙ sym l.operation)), omega (arith, a, b, c, d, e, f, m)) where
+            found_now : call_of q.token t ≡ Some row
+            found_now = ap (find (is_call q.token)) l.ledger ∙ found_in_more (is_call q.token) s.ledger row (eq-eqb q.token q.token refl) none_called
+
+      is_kept : cleaned_in stage t ≡ cleaned_in stage s
+      is_kept = cleaned_same stage at cleanup s t l.held l.made
+
+      pub tidy_called : IsTidying (cleaned_in stage t) t
+      tidy_called = subst (λ rs. IsTidying rs t) (sym is_kept) (record { calls = λ p i. each p (in_either p s.tokens (q ∷ []) (subst (In p) l.tokens i)); tried = λ k i. by k (bytes_or k.physical r.physical) (h.tried k i) }) where
+        each : (p : Pending) → In p s.tokens ⊎ In p (q ∷ []) → (k : Held) × In k (cleaned_in stage s) × (p.request ≡ request.Delete k.physical) × (p.path ≡ k.path)
+        each p (inl i) = h.calls p i
+        each p (inr i) = let e = in_one p q i in (r, is_cleaned, ap (λ k. k.request) e ∙ deletes_it, ap (λ k. k.path) e ∙ at_path)
+
+        by : (k : Held) → (k.physical ≡ r.physical) ⊎ (k.physical ≢ r.physical) → IsTried s k.physical → IsTried t k.physical
+        by k (inl e) g = subst (IsTried t) (sym e) (this_tried (subst (IsTried s) e g))
+        by k (inr n) g = other_tried k.physical n g
+
+  -- A resource is kept.
+  module _ (path physical : List ℕ) (w : Why) where
+    -- no create is open
+    no_create : list_any (is_create_at path) s.tokens ≡ false
+    no_create = none_any (is_create_at path) s.tokens (λ p i e.
+        let c = h.calls p i in
+        true≢false (sym e ∙ and_left (is_create p.request) (bytes_eq path p.path) (ap is_create c.2)))
+
+    kept_known : (t : StackState) → IsLeftSo t (keeping_known path physical w s) → IsTidying (cleaned_in stage t) t
+    kept_known t l =
+        carried (IsOther physical) (cleaned_in stage s) (cleaned_in stage t) s t h (left_deleted stage at cleanup s t physical l.held l.made)
+        (λ p i. (still p i).0) (λ p i q j e same. true≢false (sym (on_it p q.physical e same) ∙ not_so _ (still p i).1))
+        (λ q i n. tried_still s t q.physical (ap (λ k. tries k q.physical t.ledger) l.operation ∙ ap (tries s.operation q.physical) l.ledger)
+        (λ p o. (stays p q.physical o.0 o.1 n, o.1, (o.2.0, ap (find (is_call p.token)) l.ledger ∙ o.2.1, o.2.2 ∙ sym l.operation)))) where
+          still : (p : Pending) → In p t.tokens → In p s.tokens × (not (is_on physical p) ≡ true)
+          still p i = in_filter (λ k. not (is_on physical k)) s.tokens p (subst (In p) l.tokens i)
+
+          on_it : (p : Pending) (id : List ℕ) → p.request ≡ request.Delete id → id ≡ physical → is_on physical p ≡ true
+          on_it p id e same = ap (λ k. option_map_or (bytes_eq physical) (id_named k) false) e ∙ (bytes_eq-Decides physical id).1 (sym same)
+
+          stays : (p : Pending) (id : List ℕ) → In p s.tokens → p.request ≡ request.Delete id → id ≢ physical → In p t.tokens
+          stays p id i e n = subst (In p) (sym l.tokens) (in_kept (λ k. not (is_on physical k)) s.tokens p i (ap (λ k. not (option_map_or (bytes_eq physical) (id_named k) false)) e ∙ by (bytes_eq physical id) refl)) where
+            by : (b : Bool) → bytes_eq physical id ≡ b → not b ≡ true
+            by true g = absurd (n (sym ((bytes_eq-Decides physical id).0 g)))
+            by false g = refl
+
+    pub tidy_kept : (t : StackState) → IsLeftSo t (keeping path physical w s) → IsTidying (cleaned_in stage t) t
+    tidy_kept t = by (bytes_eq physical []) (list_any (is_create_at path) s.tokens) (list_any (has_physical physical) (resources_of s)) no_create where
+      by : (a b c : Bool) → b ≡ false → IsLeftSo t (cond a (cond b (keeping_unknown path w s) s) (cond c (keeping_known path physical w s) s)) → IsTidying (cleaned_in stage t) t
+      by true true c e l = absurd (true≢false e)
+      by true false c e l = tidy_same t l
+      by false b true e l = kept_known t l
+      by false b false e l = tidy_same t l

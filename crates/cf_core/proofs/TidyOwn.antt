@@ -1,0 +1,51 @@
+-- What does not come in a cleanup.
+use Rattle.std.proofs.Common.{◌≡◌, ℕ, false, List, Option, Some, None, refl, sym, ap, ◌∙◌, true≢false}
+use Rattle.std.specs.Prelude.{IsTrue}
+use Rattle.cf_entry.specs.declared.entry.Begun.{Begun}
+use Rattle.cf_entry.specs.declared.entry.Begun.TheVariants as begin
+use Rattle.cf_entry.specs.declared.status.Status.{Status}
+use Rattle.cf_entry.specs.declared.turn.Phase.{Phase}
+use Rattle.cf_entry.specs.declared.turn.Phase.TheVariants as phase
+use Rattle.cf_entry.specs.declared.turn.Cause.{Cause}
+use Rattle.cf_schema.specs.declared.described.Schema.{Schema}
+use Rattle.cf_stacks.specs.World.{StackState, World}
+use Rattle.cf_stacks.specs.Status.{Stage, reviewed, stage_of}
+use Rattle.cf_plan.specs.Follow.{MayTurn, begins_from}
+use Rattle.cf_core.specs.Tidying.{IsCleanup, of_rollback, of_update}
+
+pub some_same : {A : Type 0} (a b : A) → Some a ≡ Some b → a ≡ b
+some_same a b e = cc
+
+pub cleanup_stage : (stage : Stage) (at : Status) → IsCleanup stage at → stage_of at ≡ Some stage
+cleanup_stage stage at of_update = refl
+cleanup_stage stage at of_rollback = refl
+
+-- no later phase begins in a cleanup
+pub never_turns : (schemas : List Schema) (name : List ℕ) (x : World) (s : StackState) (stage : Stage) (at : Status) → IsCleanup stage at → s.status ≡ at → (p : Phase)
+    → (c : Option Cause) → MayTurn schemas name x s p c → ⊥
+never_turns schemas name x s stage at of_update is phase.Clean None may = let e = sym is ∙ may.0 in cc
+never_turns schemas name x s stage at of_rollback is phase.Clean None may = let e = sym is ∙ may.0 in cc
+never_turns schemas name x s stage at k is phase.Clean (Some c) may = may
+never_turns schemas name x s stage at of_update is phase.Back (Some c) may = let e = ap stage_of (sym is) ∙ may.0 in cc
+never_turns schemas name x s stage at of_rollback is phase.Back (Some c) may = let e = ap stage_of (sym is) ∙ may.0 in cc
+never_turns schemas name x s stage at k is phase.Back None may = may
+never_turns schemas name x s stage at of_update is phase.BackClean None may = let e = sym is ∙ may.0 in cc
+never_turns schemas name x s stage at of_rollback is phase.BackClean None may = let e = sym is ∙ may.0 in cc
+never_turns schemas name x s stage at k is phase.BackClean (Some c) may = may
+
+-- none begins in one, and a change set leaves its status
+pub never_begins : (stage : Stage) (at : Status) → IsCleanup stage at → (s : StackState) → s.status ≡ at → (k : Begun) → IsTrue (begins_from k s.status) → ⊥
+never_begins stage at cleanup s is k from = true≢false (sym from ∙ ap (begins_from k) is ∙ by stage at cleanup k) where
+  by : (g : Stage) (a : Status) → IsCleanup g a → (j : Begun) → begins_from j a ≡ false
+  by g a of_update (begin.Create source) = refl
+  by g a of_update (begin.Update source) = refl
+  by g a of_update (begin.Delete paths) = refl
+  by g a of_update (begin.Continue paths) = refl
+  by g a of_rollback (begin.Create source) = refl
+  by g a of_rollback (begin.Update source) = refl
+  by g a of_rollback (begin.Delete paths) = refl
+  by g a of_rollback (begin.Continue paths) = refl
+
+pub reviewed_cleanup : (stage : Stage) (at : Status) → IsCleanup stage at → reviewed at ≡ at
+reviewed_cleanup stage at of_update = refl
+reviewed_cleanup stage at of_rollback = refl

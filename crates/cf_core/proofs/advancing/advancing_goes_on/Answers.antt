@@ -1,0 +1,5 @@
+use Rattle.cf_core.proofs.AdvSteps as shown
+use Rattle.cf_core.proofs.advancing.advancing_goes_on.Goals as goal
+
+pub returns : goal.returns
+returns c = shown.advancing_goes_on

@@ -1,0 +1,5 @@
+use Rattle.cf_core.proofs.WholeLive as whole
+use Rattle.cf_core.proofs.completing.course_keeps_promise.Goals as goal
+
+pub returns : goal.returns
+returns c = whole.course_keeps_promise

@@ -1,0 +1,5 @@
+use Rattle.cf_core.proofs.WholeLive as whole
+use Rattle.cf_core.proofs.completing.held_is_found.Goals as goal
+
+pub returns : goal.returns
+returns c = whole.held_is_found

@@ -1,0 +1,5 @@
+use Rattle.cf_core.proofs.WholeEnd as whole
+use Rattle.cf_core.proofs.completing.update_is_whole.Goals as goal
+
+pub returns : goal.returns
+returns c = whole.update_is_whole

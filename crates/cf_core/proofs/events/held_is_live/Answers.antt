@@ -1,0 +1,5 @@
+use Rattle.cf_core.proofs.Living.{held_is_live}
+use Rattle.cf_core.proofs.events.held_is_live.Goals as goal
+
+pub returns : goal.returns
+returns c = held_is_live

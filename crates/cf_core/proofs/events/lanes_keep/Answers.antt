@@ -1,0 +1,5 @@
+use Rattle.cf_core.proofs.LifeLanes.{lanes_keep}
+use Rattle.cf_core.proofs.events.lanes_keep.Goals as goal
+
+pub returns : goal.returns
+returns c = lanes_keep

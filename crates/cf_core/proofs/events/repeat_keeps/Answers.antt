@@ -1,0 +1,5 @@
+use Rattle.cf_core.proofs.Repeats.{repeat_keeps}
+use Rattle.cf_core.proofs.events.repeat_keeps.Goals as goal
+
+pub returns : goal.returns
+returns c = repeat_keeps

@@ -1,0 +1,5 @@
+use Rattle.cf_core.proofs.HidLanes.{described_kept}
+use Rattle.cf_core.proofs.hiding.described_is_kept.Goals as goal
+
+pub returns : goal.returns
+returns c = described_kept

@@ -1,0 +1,5 @@
+use Rattle.cf_core.proofs.HidKept.{none_is_ordered}
+use Rattle.cf_core.proofs.hiding.none_is_ordered.Goals as goal
+
+pub returns : goal.returns
+returns c = none_is_ordered

@@ -1,0 +1,5 @@
+use Rattle.cf_core.proofs.Unmade as unmade
+use Rattle.cf_core.proofs.laws.unmaking_stays.Goals as goal
+
+pub returns : goal.returns
+returns c = unmade.unmaking_stays

@@ -1,0 +1,5 @@
+use Rattle.cf_core.proofs.Quiet.{done_moves}
+use Rattle.cf_core.proofs.moves.done_moves.Goals as goal
+
+pub returns : goal.returns
+returns c = done_moves

@@ -1,0 +1,5 @@
+use Rattle.cf_core.proofs.Moved.{intent_moves}
+use Rattle.cf_core.proofs.moves.intent_moves.Goals as goal
+
+pub returns : goal.returns
+returns c = intent_moves

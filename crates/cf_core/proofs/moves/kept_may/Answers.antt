@@ -1,0 +1,5 @@
+use Rattle.cf_core.proofs.Keepings.{kept_may}
+use Rattle.cf_core.proofs.moves.kept_may.Goals as goal
+
+pub returns : goal.returns
+returns c = kept_may

@@ -1,0 +1,5 @@
+use Rattle.cf_core.proofs.Keepings.{kept_moves}
+use Rattle.cf_core.proofs.moves.kept_moves.Goals as goal
+
+pub returns : goal.returns
+returns c = kept_moves

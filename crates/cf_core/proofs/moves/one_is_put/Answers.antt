@@ -1,0 +1,5 @@
+use Rattle.cf_core.proofs.Going.{one_is_put}
+use Rattle.cf_core.proofs.moves.one_is_put.Goals as goal
+
+pub returns : goal.returns
+returns c = one_is_put

@@ -1,0 +1,5 @@
+use Rattle.cf_core.proofs.Moved.{opening_moves}
+use Rattle.cf_core.proofs.moves.opening_moves.Goals as goal
+
+pub returns : goal.returns
+returns c = opening_moves

@@ -1,0 +1,5 @@
+use Rattle.cf_core.proofs.Owning.{own_kept}
+use Rattle.cf_core.proofs.moves.own_kept.Goals as goal
+
+pub returns : goal.returns
+returns c = own_kept

@@ -1,0 +1,5 @@
+use Rattle.cf_core.proofs.Quiet.{phase_moves}
+use Rattle.cf_core.proofs.moves.phase_moves.Goals as goal
+
+pub returns : goal.returns
+returns c = phase_moves

@@ -1,0 +1,5 @@
+use Rattle.cf_core.proofs.Staged as proved
+use Rattle.cf_core.proofs.theorem.way_is_kept.Goals as goal
+
+pub returns : goal.returns
+returns c = proved.way_kept

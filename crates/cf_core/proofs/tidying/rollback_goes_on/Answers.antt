@@ -1,0 +1,5 @@
+use Rattle.cf_core.proofs.GoingBack as proved
+use Rattle.cf_core.proofs.tidying.rollback_goes_on.Goals as goal
+
+pub returns : goal.returns
+returns c = proved.rollback_goes_on

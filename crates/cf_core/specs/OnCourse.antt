@@ -1,0 +1,28 @@
+-- Every entry that is written leaves a stack on its course, stage by stage (this project's own).
+use Rattle.std.specs.Prelude.{◌≡◌, ℕ, true, List}
+use Rattle.cf_entry.specs.declared.entry.Entry.{Entry}
+use Rattle.cf_entry.specs.declared.status.Status.TheVariants as status
+use Rattle.cf_schema.specs.declared.described.Schema.{Schema}
+use Rattle.cf_stacks.specs.World.{StackState, World}
+use Rattle.cf_stacks.specs.Fold.{world_after}
+use Rattle.cf_core.specs.Back.{SkipsNone}
+use Rattle.cf_core.specs.Course.{Course}
+use Rattle.cf_core.specs.Fits.{IsWritten}
+use Rattle.cf_core.specs.Hiding.{AreDescribed, IsOrdered}
+use Rattle.cf_core.specs.Tidying.{HasNoDeletion, deletes_nothing}
+
+-- what an operation rests on in all its stages: properties stand in order, an update that goes forward was not continued, and nothing
+-- is deleted before a cleanup
+pub record IsSupported (s : StackState) : Type 0 where
+  pub ordered : IsOrdered s
+  pub skips_none : s.status ≡ status.UpdateInProgress → SkipsNone s
+  pub undeleted : deletes_nothing s.status ≡ true → HasNoDeletion s
+
+pub record IsOnWay (schemas : List Schema) (name : List ℕ) (x : World) (s : StackState) : Type 0 where
+  pub course : Course schemas name x s
+  pub supported : IsSupported s
+
+abbrev pub WayIsKept : Type 0
+WayIsKept =
+    (schemas : List Schema) (x : World) (out : List ℕ) (e : Entry) (name : List ℕ) (s t : StackState) → IsWritten schemas x out e name s t
+    → AreDescribed schemas x → IsOnWay schemas name x s → IsOnWay schemas name (world_after x e) t

@@ -1,0 +1,56 @@
+-- What an entry of the forward phase leaves of a path as it was, and what it may change of its stack (this project's own).
+use Rattle.std.specs.Prelude.{◌≡◌, ℕ, false, IsTrue, List, Some}
+use Rattle.cf_tree.specs.declared.source.Source.{Source}
+use Rattle.cf_entry.specs.declared.entry.Entry.{Entry}
+use Rattle.cf_schema.specs.declared.described.Schema.{Schema}
+use Rattle.cf_stacks.specs.declared.call.Call.{Call}
+use Rattle.cf_stacks.specs.declared.held.Held.{Held}
+use Rattle.cf_stacks.specs.declared.held.Pending.{Pending}
+use Rattle.cf_stacks.specs.World.{StackState}
+use Rattle.cf_stacks.specs.Words.{current_at, updates}
+use Rattle.cf_stacks.specs.Calls.{was_updated}
+use Rattle.cf_stacks.specs.Status.{goes_forward}
+use Rattle.cf_plan.specs.Forward.{In, IsDone, IsReady, was_updated_at}
+use Rattle.cf_core.specs.Advancing.{AreSameThings, AreSingle, IsAsBefore, IsAsSaid, IsAsked, IsHidden, changes_begun}
+
+-- the same is made and held at a path, and it was updated or not as before
+pub record IsStill (s t : StackState) (path : List ℕ) : Type 0 where
+  pub made : current_at path t.made ≡ current_at path s.made
+  pub held : current_at path t.held ≡ current_at path s.held
+  pub updated : was_updated_at path t ≡ was_updated_at path s
+
+-- the operation goes by the same source over what was held before, and each path that was done is as it was
+pub record IsFurther (s t : StackState) (source : Source) : Type 0 where
+  pub going : s.going ≡ Some source
+  pub goes : t.going ≡ Some source
+  pub before : t.before ≡ s.before
+  pub done : (path : List ℕ) → IsDone s path → IsStill s t path
+
+-- an open call as a stack that goes forward has it
+pub record IsOpenAhead (schemas : List Schema) (s : StackState) (source : Source) (p : Pending) : Type 0 where
+  pub ready : IsReady s p.path
+  pub not_done : ¬ IsDone s p.path
+  pub asked : IsAsked s p.path p.request
+  pub hidden : IsHidden (changes_begun schemas s source).rows s p.path p.request
+
+-- rows of a ledger as a stack that goes forward has them
+pub record AreAhead (s : StackState) (cs : List Call) : Type 0 where
+  pub calls : (c : Call) → In c cs → (c.number ≡ s.operation) × IsTrue (goes_forward c.status)
+  pub at_path : (c : Call) (b : Held) → In c cs → In b s.before → IsTrue (updates b.physical c.request) → c.path ≡ b.path
+
+-- The stack with these resources held and made, these calls open, and these rows in its ledger.
+abbrev pub moved : StackState → List Held → List Held → List Pending → List Call → List Entry → List (List ℕ) → StackState
+moved s hs ms ts cs es lines = record s { held = hs; made = ms; tokens = ts; ledger = cs; entries = es; events = lines }
+
+-- In these alone t differs from s: each path that was done and that of each open call is as it was, and what is made and updated is
+-- as the template said.
+pub record IsMoved (schemas : List Schema) (s t : StackState) (source : Source) : Type 0 where
+  pub done : (path : List ℕ) → IsDone s path → IsStill s t path
+  pub open_ : (p : Pending) → In p t.tokens → IsOpenAhead schemas s source p
+  pub open_still : (p : Pending) → In p t.tokens → IsStill s t p.path
+  pub held : AreSameThings s.before t.held
+  pub unchanged : (b h : Held) → In b s.before → In h t.held → h.physical ≡ b.physical → was_updated b.physical t ≡ false → IsAsBefore b h
+  pub single_made : AreSingle t.made
+  pub made : (r : Held) → In r t.made → IsAsSaid s r
+  pub updated : (path : List ℕ) → IsTrue (was_updated_at path t) → (h : Held) × (current_at path t.held ≡ Some h) × IsAsSaid s h
+  pub calls : AreAhead s t.ledger

@@ -1,0 +1,33 @@
+-- The theorem: whatever happens in the life of an engine, journal and lanes agree, and each stack keeps what its status promises
+-- (this project's own; what a status says is that of the User Guide).
+use Rattle.std.specs.Prelude.{◌≡◌, ℕ, List, Some}
+use Rattle.cf_schema.specs.declared.described.Schema.{Schema}
+use Rattle.cf_stacks.specs.World.{StackState, stack_at}
+use Rattle.cf_plan.specs.Life.{Event, IsLife, IsStart, Life, MayHappen, life_after, world_of}
+use Rattle.cf_plan.specs.Promise.{AreKept}
+use Rattle.cf_core.specs.Hiding.{AreDescribed}
+use Rattle.cf_core.specs.OnCourse.{IsOnWay}
+use Rattle.cf_core.specs.SoundLife.{IsSoundLife}
+
+-- what holds at every moment: journal and lanes agree, each type of a lane has its schema, and each stack is on its course
+pub record HoldsAlways (schemas : List Schema) (life : Life) : Type 0 where
+  pub sound : IsSoundLife schemas life
+  pub described : AreDescribed schemas (world_of life)
+  pub way : (name : List ℕ) (s : StackState) → stack_at name (world_of life) ≡ Some s → IsOnWay schemas name (world_of life) s
+
+-- From every start, after every list of events each of which may happen in its turn: agreement, and each status keeps its promise.
+abbrev pub LivesKeepPromises : Type 0
+LivesKeepPromises =
+    (schemas : List Schema) (start end : Life) (events : List Event) → IsStart schemas start → IsLife schemas start events end
+    → HoldsAlways schemas end × AreKept end
+
+-- The same in steps, for those who hold one moment: a start is such a moment, each event that may happen leads to another one, and at
+-- each the promises are kept.
+abbrev pub StartHolds : Type 0
+StartHolds = (schemas : List Schema) (life : Life) → IsStart schemas life → HoldsAlways schemas life
+
+abbrev pub EventHolds : Type 0
+EventHolds = (schemas : List Schema) (life : Life) (event : Event) → HoldsAlways schemas life → MayHappen schemas life event → HoldsAlways schemas (life_after life event)
+
+abbrev pub HoldsKeepsPromises : Type 0
+HoldsKeepsPromises = (schemas : List Schema) (life : Life) → HoldsAlways schemas life → AreKept life

@@ -1,0 +1,49 @@
+//! The core: journal and lanes agree in every life of an engine, and each stack keeps what its status promises.
+#![tactic(auto)]
+
+mod advancing;
+mod beginnings;
+mod blaming;
+mod completing;
+mod events;
+mod fitting;
+mod hiding;
+mod laws;
+mod moves;
+mod returning;
+mod theorem;
+mod tidying;
+
+pub use advancing::{advancing_begins, advancing_goes_on, advancing_stays, course_is_free};
+pub use beginnings::{event_keeps, event_writes, start_is_sound_life};
+pub use blaming::{failed_are_blamed, none_is_booked, stay_booked};
+pub use completing::{
+    back_is_restored, cleanup_keeps_whole, cleared_is_restored, course_keeps_promise,
+    creation_is_whole, held_is_found, rest_keeps_whole, stays_at_rest, update_ends_at_rest,
+    update_is_whole, whole_is_complete,
+};
+pub use events::{
+    held_is_live, intent_keeps_in, lanes_keep, opened_keeps, repeat_keeps, run_is_sound,
+    settle_keeps, sound_kept, start_is_sound,
+};
+pub use fitting::{each_is_written, fits_kept};
+pub use hiding::{
+    described_is_kept, intended_is_hidden, none_is_ordered, order_stays, rest_begins_seen,
+    rest_stays_seen, said_is_in_order, shape_stays_advancing, start_is_described,
+};
+pub use laws::{cleared_stays, ends_cleared, unmaking_begins, unmaking_stays, written_is_to};
+pub use moves::{
+    done_moves, doubt_moves, intent_moves, kept_may, kept_moves, one_is_put, opening_moves,
+    outcome_moves, own_kept, phase_moves,
+};
+pub use returning::{
+    back_holds, back_stays_at_rest, back_stays_in_cleanup, failed_rollbacks_stay, updates_go_back,
+    updates_skip_none, updates_turn_back,
+};
+pub use theorem::{
+    event_holds, holds_keeps_promises, lives_keep_promises, starts_hold, way_is_kept,
+};
+pub use tidying::{
+    back_tidying_begins, cleanup_goes_on, deletion_goes_on, nothing_deleted, rollback_goes_on,
+    tidying_begins, tidying_ends, tidying_stays,
+};

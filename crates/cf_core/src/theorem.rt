@@ -1,0 +1,35 @@
+//! The theorem: what holds at every moment of an engine's life. None of these functions does anything when it runs.
+ghost use Rattle.cf_core.specs.OnCourse.{WayIsKept};
+ghost use Rattle.cf_core.specs.Theorem.{EventHolds, HoldsKeepsPromises, LivesKeepPromises, StartHolds};
+
+/// From every start, after every list of events of an engine's life each of which may happen in its turn, journal and lanes
+/// agree and each stack keeps what its status promises.
+///
+/// Whatever is answered or breaks off, acts late, is parked or crashes, with any number of stacks, for nested sources too:
+/// CREATE_COMPLETE and UPDATE_COMPLETE say that the template is live and nothing else of the stack is, ROLLBACK_COMPLETE and
+/// UPDATE_ROLLBACK_COMPLETE that what was there before is live under its old ids with its old properties, DELETE_COMPLETE and
+/// REVIEW_IN_PROGRESS that nothing is left, and each FAILED status that paths are named, each with an outcome that was refused
+/// or broke off and whose handler's count rose.
+pub fn lives_keep_promises()
+    ensures { LivesKeepPromises }
+{}
+
+/// What holds at every moment holds of a start.
+pub fn starts_hold()
+    ensures { StartHolds }
+{}
+
+/// What holds at a moment holds after each event that may happen then.
+pub fn event_holds()
+    ensures { EventHolds }
+{}
+
+/// Where it holds, each stack keeps what its status promises.
+pub fn holds_keeps_promises()
+    ensures { HoldsKeepsPromises }
+{}
+
+/// Each entry that is written leaves each stack on its course.
+pub fn way_is_kept()
+    ensures { WayIsKept }
+{}
