@@ -81,7 +81,8 @@ set_thing props attrs Stranger = Stranger
 set_thing props attrs Leftover = Leftover
 
 abbrev pub role_after : Open → Request → Settlement → (List ℕ → Role) → List ℕ → Role
-role_after o (request.Create kind props) (Success id attrs) role i = if bytes_eq i id then Resource (made_thing o kind props attrs) else role i
+role_after o (request.Create kind props) (Success id attrs) role i = if bytes_eq i id then Resource (made_thing o kind props attrs) else
+    role i
 role_after o (request.Update id props) (Success physical attrs) role i = if bytes_eq i id then set_thing props attrs (role i) else role i
 role_after o (request.Delete id) (Success physical attrs) role i = if bytes_eq i id then Stranger else role i
 role_after o (request.Delete id) (Failed code.NotFound) role i = if bytes_eq i id then Stranger else role i

@@ -27,7 +27,8 @@ settlement_in answer.NoMemory = None
 abbrev pub CallKeeps : Type 0
 CallKeeps =
     (a : Account) (w w' : Lanes) (ls : List Lease) (l : Lease) (after : FencedLane) (x : Answer) → Agree a w ls → In l ls → IsThere w l.lane
-    → Replaced l.lane after w w' → CallMove l.lane (w.lane l.lane) after a.epoch l.token l.request x → Agree a w' (replied l.token (settlement_in x) ls)
+    → Replaced l.lane after w w' → CallMove l.lane (w.lane l.lane) after a.epoch l.token l.request x
+    → Agree a w' (replied l.token (settlement_in x) ls)
 
 -- a call whose opening is past
 abbrev pub StaleKeeps : Type 0
@@ -38,13 +39,15 @@ StaleKeeps =
 -- a late effect
 abbrev pub LateKeeps : Type 0
 LateKeeps =
-    (a : Account) (w w' : Lanes) (ls : List Lease) (n : List ℕ) (after : FencedLane) (place : ℕ) (x : Settlement) → Agree a w ls → IsThere w n
+    (a : Account) (w w' : Lanes) (ls : List Lease) (n : List ℕ) (after : FencedLane) (place : ℕ) (x : Settlement) → Agree a w ls
+    → IsThere w n
     → Replaced n after w w' → LateMove n (w.lane n) after place x → Agree a w' ls
 
 -- a fence that is raised, is ahead, or whose raising broke off
 abbrev pub FenceKeeps : Type 0
 FenceKeeps =
-    (a : Account) (w w' : Lanes) (ls : List Lease) (n : List ℕ) (after : FencedLane) (x : FenceAnswer) (before counted : ℕ) → Agree a w ls → IsThere w n
+    (a : Account) (w w' : Lanes) (ls : List Lease) (n : List ℕ) (after : FencedLane) (x : FenceAnswer) (before counted : ℕ)
+    → Agree a w ls → IsThere w n
     → Replaced n after w w' → FenceMove (w.lane n) after a.epoch x before counted → Agree a w' ls
 
 -- an opening: no lease is out
@@ -56,7 +59,8 @@ OpeningKeeps =
 -- an operation that begins, or ends: no stack is at rest that was not
 abbrev pub RestKeeps : Type 0
 RestKeeps =
-    (a : Account) (w : Lanes) (ls : List Lease) (resting : List ℕ → Bool) → Agree a w ls → ((s : List ℕ) → resting s ≡ true → a.resting s ≡ true)
+    (a : Account) (w : Lanes) (ls : List Lease) (resting : List ℕ → Bool) → Agree a w ls → ((s : List ℕ) → resting s ≡ true
+    → a.resting s ≡ true)
     → Agree (rested resting a) w ls
 
 -- a call that is written down, and goes out or not

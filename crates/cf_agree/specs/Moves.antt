@@ -23,11 +23,13 @@ pub record Lease : Type 0 where
   pub request : Request
   pub reply : Option Settlement
 
--- the leases that are out: no two are of one token, each is a call that is out, and the answer for good that one has is its token's settled one
+-- the leases that are out: no two are of one token, each is a call that is out, and the answer for good that one has is its token's
+-- settled one
 pub record AreLeased (a : Account) (w : Lanes) (ls : List Lease) : Type 0 where
   pub once : (l m : Lease) → In l ls → In m ls → l.token ≡ m.token → l ≡ m
   pub out : (l : Lease) → In l ls → IsOut a l.lane l.token l.request
-  pub replies : (l : Lease) (x : Settlement) → In l ls → l.reply ≡ Some x → (s : Settled) × (entry_in w l.lane l.token ≡ Some s) × (s.settlement ≡ x)
+  pub replies : (l : Lease) (x : Settlement) → In l ls → l.reply ≡ Some x
+      → (s : Settled) × (entry_in w l.lane l.token ≡ Some s) × (s.settlement ≡ x)
 
 -- the lease of a token has this answer, is gone, or is a new one
 abbrev pub replying : ℕ → Option Settlement → Lease → Lease
@@ -42,7 +44,8 @@ returned t ls = filter (λ l. not (t == l.token)) ls
 abbrev pub granted : ℕ → List ℕ → Request → List Lease → List Lease
 granted t lane r ls = ls ++ record { token = t; lane = lane; request = r; reply = None } ∷ []
 
--- A call that is written down: its path is free, its stack works, and it names a resource of its stack, at its path, on the resource's lane.
+-- A call that is written down: its path is free, its stack works, and it names a resource of its stack, at its path, on the resource's
+-- lane.
 pub record MayIntend (a : Account) (o : Open) : Type 0 where
   pub free : (t : ℕ) (v : Open) → a.open_ t ≡ Some v → v.stack ≡ o.stack → v.path ≢ o.path
   pub named : (i : List ℕ) → named_by o.request ≡ Some i → (r : Thing) × (a.role i ≡ Resource r) × (r.stack ≡ o.stack) × (r.path ≡ o.path)
@@ -53,9 +56,11 @@ pub record MayIntend (a : Account) (o : Open) : Type 0 where
 pub data RoleMove (before after : Role) : Type 0 where
   stays : after ≡ before → RoleMove before after
   leaves : (r : Thing) → before ≡ Resource r → after ≡ Leftover → RoleMove before after
-  doubted : (r s : Thing) → before ≡ Resource r → after ≡ Resource s → s.stack ≡ r.stack → s.path ≡ r.path → s.kind ≡ r.kind → s.sure ≡ false → RoleMove before after
+  doubted : (r s : Thing) → before ≡ Resource r → after ≡ Resource s → s.stack ≡ r.stack → s.path ≡ r.path → s.kind ≡ r.kind
+      → s.sure ≡ false → RoleMove before after
 
--- A call that is given up: a create, one on what is left over, or an update, on what isn't known any more, whose stack is at rest and whose lane is raised to the last opening: so no late effect can follow.
+-- A call that is given up: a create, one on what is left over, or an update, on what isn't known any more, whose stack is at rest and
+-- whose lane is raised to the last opening: so no late effect can follow.
 pub data GivenUp (a : Account) (w : Lanes) (role : List ℕ → Role) (o : Open) : Type 0 where
   of_create : named_by o.request ≡ None → GivenUp a w role o
   of_leftover : (i : List ℕ) → named_by o.request ≡ Some i → role i ≡ Leftover → GivenUp a w role o
@@ -67,7 +72,8 @@ pub record MayDrop (a : Account) (w : Lanes) (drop : ℕ → Bool) (role : List 
   pub roles : (i : List ℕ) → RoleMove (a.role i) (role i)
   pub calls : (t : ℕ) (o : Open) → a.open_ t ≡ Some o → drop t ≡ true → GivenUp a w role o
   -- no open call is left on what is left over
-  pub left : (t : ℕ) (o : Open) (i : List ℕ) → a.open_ t ≡ Some o → drop t ≡ false → named_by o.request ≡ Some i → (r : Thing) × (role i ≡ Resource r)
+  pub left : (t : ℕ) (o : Open) (i : List ℕ) → a.open_ t ≡ Some o → drop t ≡ false → named_by o.request ≡ Some i
+      → (r : Thing) × (role i ≡ Resource r)
 
 -- An opening names lanes that are there, among them that of each resource and of each open call.
 pub record MayOpen (a : Account) (w : Lanes) (named : List ℕ → Option (List ℕ)) : Type 0 where

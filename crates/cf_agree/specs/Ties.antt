@@ -30,7 +30,8 @@ pub record Books (a : Account) : Type 0 where
   pub told_calls : (t : ℕ) (x : Settlement) → a.told t ≡ Some x → (c : Called) × (a.call t ≡ Some c)
   pub lost_calls : (t : ℕ) → a.lost t ≡ true → (a.open_ t ≡ None) × (c : Called) × (a.call t ≡ Some c)
   -- an open update or deletion is of a resource of its stack, at its path and on the lane that the id names
-  pub named : (t : ℕ) (o : Open) (i : List ℕ) → a.open_ t ≡ Some o → named_by o.request ≡ Some i → (r : Thing) × (a.role i ≡ Resource r) × (r.stack ≡ o.stack) × (r.path ≡ o.path)
+  pub named : (t : ℕ) (o : Open) (i : List ℕ) → a.open_ t ≡ Some o → named_by o.request ≡ Some i
+      → (r : Thing) × (a.role i ≡ Resource r) × (r.stack ≡ o.stack) × (r.path ≡ o.path)
   pub home : (t : ℕ) (o : Open) (i : List ℕ) → a.open_ t ≡ Some o → named_by o.request ≡ Some i → lane_of i ≡ o.lane
   -- no two open calls are of one path
   pub once : (t u : ℕ) (o v : Open) → a.open_ t ≡ Some o → a.open_ u ≡ Some v → o.stack ≡ v.stack → o.path ≡ v.path → t ≡ u
@@ -85,25 +86,35 @@ pub record Ties (a : Account) (w : Lanes) : Type 0 where
   pub base_named : (n i : List ℕ) → has_id i (w.lane n).state.base ≡ true → lane_of i ≡ n
   -- what was made since has ids of the lane too, and no two calls made one
   pub created_named : (n i : List ℕ) (t : ℕ) (s : Settled) → entry_in w n t ≡ Some s → IsMade s i → (lane_of i ≡ n) × IsOfLane n i
-  pub created_once : (n i : List ℕ) (t u : ℕ) (s r : Settled) → entry_in w n t ≡ Some s → entry_in w n u ≡ Some r → IsMade s i → IsMade r i → t ≡ u
+  pub created_once : (n i : List ℕ) (t u : ℕ) (s r : Settled) → entry_in w n t ≡ Some s → entry_in w n u ≡ Some r → IsMade s i
+      → IsMade r i → t ≡ u
   -- each token is one of the journal's, on its lane and with its request
   pub settled_calls : (n : List ℕ) (t : ℕ) (s : Settled) → entry_in w n t ≡ Some s → Fits a n t s.request
   pub flying_calls : (n : List ℕ) (f : Flying) → In f (w.lane n).flying → Fits a n f.token f.request
   -- what the journal says was answered
-  pub answers : (t : ℕ) (x : Settlement) (c : Called) → a.told t ≡ Some x → a.call t ≡ Some c → IsThere w c.lane → (s : Settled) × (entry_in w c.lane t ≡ Some s) × (s.settlement ≡ x)
+  pub answers : (t : ℕ) (x : Settlement) (c : Called) → a.told t ≡ Some x → a.call t ≡ Some c → IsThere w c.lane
+      → (s : Settled) × (entry_in w c.lane t ≡ Some s) × (s.settlement ≡ x)
   -- what may act later is accounted for, and is of no later opening
-  pub flying_open : (n : List ℕ) (f : Flying) → In f (w.lane n).flying → entry_in w n f.token ≡ None → (w.lane n).fence ≤ f.epoch → IsAccounted a f.token f.request
+  pub flying_open : (n : List ℕ) (f : Flying) → In f (w.lane n).flying → entry_in w n f.token ≡ None → (w.lane n).fence ≤ f.epoch
+      → IsAccounted a f.token f.request
   pub flying_epochs : (n : List ℕ) (f : Flying) → In f (w.lane n).flying → f.epoch ≤ a.epoch
-  pub flying_at_rest : (n : List ℕ) (f : Flying) (o : Open) → In f (w.lane n).flying → entry_in w n f.token ≡ None → a.open_ f.token ≡ Some o → a.resting o.stack ≡ true → f.epoch < a.epoch
+  pub flying_at_rest : (n : List ℕ) (f : Flying) (o : Open) → In f (w.lane n).flying → entry_in w n f.token ≡ None
+      → a.open_ f.token ≡ Some o → a.resting o.stack ≡ true → f.epoch < a.epoch
   -- no lane is ahead of the journal
   pub fences : (n : List ℕ) → (w.lane n).fence ≤ a.epoch
   -- ids, and what is live under them
   pub known : (i : List ℕ) → a.role i ≢ Stranger → IsThere w (lane_of i) → used_in w (lane_of i) i ≡ true
   pub gone : (i : List ℕ) (r : Thing) → a.role i ≡ Resource r → IsGone a w i → live_in w (lane_of i) i ≡ None
-  pub alive : (i : List ℕ) (r : Thing) → a.role i ≡ Resource r → IsThere w (lane_of i) → (IsGone a w i → ⊥) → (v : Live) × (live_in w (lane_of i) i ≡ Some v) × (v.kind ≡ r.kind)
-  pub same : (i : List ℕ) (r : Thing) (v : Live) → a.role i ≡ Resource r → r.sure ≡ true → (IsChanged a w i → ⊥) → live_in w (lane_of i) i ≡ Some v → (v.props ≡ r.props) × (v.attrs ≡ r.attrs)
-  pub changed : (t : ℕ) (o : Open) (s : Settled) (i : List ℕ) (props attrs : Dict) → IsSettled a w t o s → effect_of s.request s.settlement ≡ Set i props attrs → (v : Live) × (live_in w o.lane i ≡ Some v) × (v.props ≡ props) × (v.attrs ≡ attrs)
-  pub born : (t : ℕ) (o : Open) (s : Settled) (i kind : List ℕ) (props attrs : Dict) → IsSettled a w t o s → effect_of s.request s.settlement ≡ Made i kind props attrs → (live_in w o.lane i ≡ Some (record { id = i; kind = kind; props = props; attrs = attrs })) × (a.role i ≡ Stranger)
+  pub alive : (i : List ℕ) (r : Thing) → a.role i ≡ Resource r → IsThere w (lane_of i) → (IsGone a w i → ⊥)
+      → (v : Live) × (live_in w (lane_of i) i ≡ Some v) × (v.kind ≡ r.kind)
+  pub same : (i : List ℕ) (r : Thing) (v : Live) → a.role i ≡ Resource r → r.sure ≡ true → (IsChanged a w i → ⊥)
+      → live_in w (lane_of i) i ≡ Some v → (v.props ≡ r.props) × (v.attrs ≡ r.attrs)
+  pub changed : (t : ℕ) (o : Open) (s : Settled) (i : List ℕ) (props attrs : Dict) → IsSettled a w t o s
+      → effect_of s.request s.settlement ≡ Set i props attrs → (v : Live) × (live_in w o.lane i ≡ Some v) × (v.props ≡ props)
+      × (v.attrs ≡ attrs)
+  pub born : (t : ℕ) (o : Open) (s : Settled) (i kind : List ℕ) (props attrs : Dict) → IsSettled a w t o s
+      → effect_of s.request s.settlement ≡ Made i kind props attrs
+      → (live_in w o.lane i ≡ Some (record { id = i; kind = kind; props = props; attrs = attrs })) × (a.role i ≡ Stranger)
   -- what is live is on the lane that its id names, and nothing is live that the journal does not list
   pub live_named : (n i : List ℕ) (v : Live) → live_in w n i ≡ Some v → lane_of i ≡ n
   pub listed : (n i : List ℕ) (v : Live) → live_in w n i ≡ Some v → (a.role i ≢ Stranger) ⊎ IsBorn a w i ⊎ IsLost a w i

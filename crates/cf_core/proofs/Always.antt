@@ -5,7 +5,7 @@ use Rattle.cf_entry.specs.declared.entry.Entry.{Entry}
 use Rattle.cf_entry.specs.declared.entry.Entry.TheVariants as entry
 use Rattle.cf_handler.specs.Fence.{Left}
 use Rattle.cf_schema.specs.declared.described.Schema.{Schema}
-use Rattle.cf_stacks.specs.World.{StackState, World, empty_world, known_stack, no_stack, stack_at}
+use Rattle.cf_stacks.specs.World.{StackState, World, empty_world, is_going, known_stack, no_stack, stack_at, stack_of_operation}
 use Rattle.cf_stacks.specs.Fold.{fold_of, world_after}
 use Rattle.cf_plan.specs.Life.{Event, IsLife, IsStart, Lease, Life, MayHappen, End, Whole, BrokenWith, BrokenWithout, acted, appended, first_again, granted, lease_at, life_after, repeated, tokens_out, world_of}
 use Rattle.cf_plan.specs.Life as life
@@ -14,8 +14,13 @@ use Rattle.cf_core.specs.Fits.{Fits}
 use Rattle.cf_core.specs.Fitting.{AreSteady}
 use Rattle.cf_core.specs.OnCourse.{IsOnWay}
 use Rattle.cf_core.specs.SoundLife.{Appends, begun, granted as granting, opened, set, settled}
-use Rattle.cf_core.specs.Theorem.{EventHolds, HoldsAlways, HoldsKeepsPromises, LivesKeepPromises, StartHolds}
+use Rattle.cf_core.specs.Theorem.{EventHolds, HoldsAlways, HoldsKeepsPromises, LivesKeepPromises, OperationsGoOn, StartHolds}
+use Rattle.cf_stacks.proofs.Worlds.{found_stands}
+use Rattle.cf_core.specs.GoesOn.{HasNext}
 use Rattle.cf_core.proofs.Appended.{fold_more}
+use Rattle.cf_core.proofs.Entries.{is_working}
+use Rattle.cf_core.proofs.FitKept.{number_of}
+use Rattle.cf_core.proofs.GoingOn.{operation_goes_on}
 use Rattle.cf_core.proofs.HidLanes.{described_kept, start_described}
 use Rattle.cf_core.proofs.KeepSound.{event_keeps, event_writes, start_is_sound_life}
 use Rattle.cf_core.proofs.Living.{held_is_live}
@@ -145,3 +150,21 @@ event_holds schemas l ev h may = holds_after schemas l h ev may
 
 pub holds_keeps_promises : HoldsKeepsPromises
 holds_keeps_promises = promises
+
+-- and each operation goes on until its end
+pub operations_go_on : OperationsGoOn
+operations_go_on schemas l number name s h going kinds = subst (HasNext schemas x) same next
+  where
+    x : World
+    x = world_of l
+
+    same : s.operation ≡ number
+    same = number_of schemas x [] h.sound.orderly.apart number name s going
+
+    here : stack_at name x ≡ Some s
+    here = found_stands (λ (p : List ℕ × StackState). is_going number p.1) x.stacks (name, s) h.sound.orderly.apart.names going
+
+    next : HasNext schemas x s.operation
+    next =
+        operation_goes_on schemas name x s (ap (λ (n : ℕ). stack_of_operation n x) same ∙ going) (is_working number x name s going)
+        (h.sound.fitted name s here) (h.way name s here).course.stage (λ g. (kinds g, (h.way name s here).supported.told g))

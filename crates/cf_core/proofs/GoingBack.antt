@@ -31,7 +31,7 @@ use Rattle.cf_stacks.specs.Calls.{call_of, refusals_of, was_restored, was_update
 use Rattle.cf_stacks.specs.Operation.{was_skipped}
 use Rattle.cf_stacks.specs.Status.{Back, Stage, stage_of}
 use Rattle.cf_plan.specs.Blaming.{Verdicts, bad_among, blamed, blames_of, noted, noted_call, verdicts_of}
-use Rattle.cf_plan.specs.Follow.{AreFailed, EndsAs, IntendsDeletion, IntendsRestore, IsAtEnd, IsToRestore, MayDelete, MayFollowIn, MayIntend, MayKeep, MayStep, MayTurn, has_refused_restore, has_restore, is_cleared, is_free, is_lane_leased, is_not_needed, is_repeat_in_flight, is_repeated, is_retained, is_untried, may_repeat, waits_for_repeats}
+use Rattle.cf_plan.specs.Follow.{AreFailed, EndsAs, IntendsDeletion, IntendsRestore, IsAtEnd, IsToRestore, MayDelete, MayFollowIn, MayIntend, MayKeep, MayTurn, has_refused_restore, has_restore, is_cleared, is_free, is_lane_leased, is_not_needed, is_repeat_in_flight, is_repeated, is_retained, is_untried, may_repeat, waits_for_repeats}
 use Rattle.cf_plan.specs.Forward.{In}
 use Rattle.cf_plan.specs.Taking.{can_roll_back, is_home_of, is_of_lane, may_roll_back}
 use Rattle.cf_plan.proofs.Choosing.{emptied, home_by, neither_so, not_so as so_not}
@@ -40,8 +40,8 @@ use Rattle.cf_plan.proofs.CreatedRight.{none_of, not_so}
 use Rattle.cf_plan.proofs.FailedPaths.{failing}
 use Rattle.cf_plan.proofs.OfLane.{of_lane_is}
 use Rattle.cf_plan.proofs.RunLists.{any_of, none_any, some_of}
-use Rattle.cf_core.specs.GoesOn.{GoesOn, RollbackGoesOn, StepsIn}
-use Rattle.cf_core.proofs.TidyEnds.{at_home, follows, none_calls, none_flying, steps}
+use Rattle.cf_core.specs.GoesOn.{HasNext, RollbackGoesOn, StepsIn}
+use Rattle.cf_core.proofs.TidyEnds.{at_end_by, at_home, follows, none_calls, none_flying, steps}
 
 -- the failed paths of an end
 all_ascend : {A : Type 0} (f : Verdicts → A → Verdicts) → ((vs : Verdicts) (a : A) → ascends vs ≡ true → ascends (f vs a) ≡ true) → (xs : List A) (vs : Verdicts)
@@ -54,10 +54,11 @@ if_ascends true vs ws e f = e
 if_ascends false vs ws e f = f
 
 noted_ascends : (s : StackState) (vs : Verdicts) (e : Entry) → ascends vs ≡ true → ascends (noted s vs e) ≡ true
-noted_ascends s vs (entry.Outcome number token a before after) h = if_ascends (s.operation == number) (noted_call (call_of token s) a vs) vs (by (call_of token s)) h where
-  by : (o : Option Call) → ascends (noted_call o a vs) ≡ true
-  by None = h
-  by (Some c) = ascends_put c.path _ vs h
+noted_ascends s vs (entry.Outcome number token a before after) h = if_ascends (s.operation == number) (noted_call (call_of token s) a vs) vs
+    (by (call_of token s)) h where
+      by : (o : Option Call) → ascends (noted_call o a vs) ≡ true
+      by None = h
+      by (Some c) = ascends_put c.path _ vs h
 noted_ascends s vs (entry.Opened epoch lanes) h = h
 noted_ascends s vs (entry.Begin number n k) h = h
 noted_ascends s vs (entry.Kept number path physical w) h = h
@@ -132,16 +133,28 @@ module _ (schemas : List Schema) (name : List ℕ) (x : World) (s : StackState) 
     ends_rolling : IsAtEnd schemas name x s Back → (e : Entry) × MayFollowIn schemas name x [] s Back e
     ends_rolling end = by (is_cleared s) refl where
       by : (b : Bool) → is_cleared s ≡ b → (e : Entry) × MayFollowIn schemas name x [] s Back e
-      by true e = (entry.Done s.operation status.RollbackComplete [], (none_flying s, end, subst (λ k. EndsAs schemas name x s k status.RollbackComplete) (sym rolling) e, refl))
-      by false e =
-          (entry.Done s.operation status.RollbackFailed (failed_list s), (none_flying s, end, subst (λ k. EndsAs schemas name x s k status.RollbackFailed) (sym rolling) e, are_failed s))
+      by true e = (
+        entry.Done s.operation status.RollbackComplete [],
+        (
+          none_flying s,
+          end,
+          subst (λ k. EndsAs schemas name x s k status.RollbackComplete)
+              (sym rolling) e,
+          refl,
+        ),
+      )
+      by false e = (
+        entry.Done s.operation status.RollbackFailed (failed_list s),
+        (none_flying s, end, subst (λ k. EndsAs schemas name x s k status.RollbackFailed) (sym rolling) e, are_failed s),
+      )
 
     steps_rolling : StepsIn schemas name x s Back ⊎ IsAtEnd schemas name x s Back
     steps_rolling = by (one_or_none (may_repeat Back [] s) s.tokens) where
       idle : ((p : Pending) → In p s.tokens → may_repeat Back [] s p ≡ false) → waits_for_repeats Back [] s ≡ false
       idle none = neither_so (is_repeat_in_flight [] s) _ (none_repeated s) (none_passes (may_repeat Back [] s) s.tokens none)
 
-      by_made : waits_for_repeats Back [] s ≡ false → ((r : Held) × In r s.made × (may_roll_back [] x s r ≡ true)) ⊎ ((r : Held) → In r s.made → may_roll_back [] x s r ≡ false)
+      by_made : waits_for_repeats Back [] s ≡ false → ((r : Held) × In r s.made × (may_roll_back [] x s r ≡ true)) ⊎
+          ((r : Held) → In r s.made → may_roll_back [] x s r ≡ false)
           → StepsIn schemas name x s Back ⊎ IsAtEnd schemas name x s Back
       by_made e (inl (r, i, may)) = inl (made_goes r i may e)
       by_made e (inr none) = inr (at_end schemas name x s rolling e none)
@@ -167,8 +180,13 @@ module _ (schemas : List Schema) (name : List ℕ) (x : World) (s : StackState) 
 
     is_to_restore : (b : Held) → In b s.before → is_left b ≡ true → IsToRestore s b
     is_to_restore b i e =
-        let rest = second_so (was_updated b.physical s) _ e in
-        (i, first_so (was_updated b.physical s) _ e, not_so _ (first_so (not (was_restored b.physical s)) _ rest), not_so _ (second_so (not (was_restored b.physical s)) _ rest))
+        let rest = second_so (was_updated b.physical s) _ e in (
+          i,
+          first_so (was_updated b.physical s) _ e,
+          not_so _ (first_so (not (was_restored b.physical s)) _ rest),
+          not_so _
+              (second_so (not (was_restored b.physical s)) _ rest),
+        )
 
     restore_goes : waits_for_repeats Back [] s ≡ false → (b : Held) → In b s.before → is_restorable b ≡ true → StepsIn schemas name x s Back
     restore_goes idle b i e =
@@ -202,7 +220,8 @@ module _ (schemas : List Schema) (name : List ℕ) (x : World) (s : StackState) 
         )
 
     -- where it can do nothing of this it is at its end
-    module _ (idle : (p : Pending) → In p s.tokens → may_repeat Back [] s p ≡ false) (none : (b : Held) → In b s.before → is_restorable b ≡ false) (stays : can_turn ≡ false) where
+    module _ (idle : (p : Pending) → In p s.tokens → may_repeat Back [] s p ≡ false) (none : (b : Held) → In b s.before → is_restorable b ≡ false)
+        (stays : can_turn ≡ false) where
       not_rolling : s.status ≡ status.RollbackInProgress → ⊥
       not_rolling e = let k = sym back ∙ e in cc
 
@@ -215,7 +234,8 @@ module _ (schemas : List Schema) (name : List ℕ) (x : World) (s : StackState) 
         by (inr e) =
             let b = e.1 in
             let free : is_free b.path s ≡ true = subst (λ p. is_free p s ≡ true) e.3 w.free in
-            let home : list_any (is_home_of [] x b.physical) x.lanes ≡ true = subst (λ k. list_any (is_home_of [] x k) x.lanes ≡ true) e.4 (home_for id lane w.fits.0 w.fits.1) in
+            let home : list_any (is_home_of [] x b.physical) x.lanes ≡ true =
+            subst (λ k. list_any (is_home_of [] x k) x.lanes ≡ true) e.4 (home_for id lane w.fits.0 w.fits.1) in
             let first : not (has_restore b.physical s) ≡ true = so_not (has_restore b.physical s) (subst (λ k. has_restore k s ≡ false) e.4 e.6) in
             true≢false (sym (and_from (is_left b) _ (left_is b e.2) (and_from _ _ first (and_from _ _ free home))) ∙ none b e.2.0)
 
@@ -235,22 +255,14 @@ module _ (schemas : List Schema) (name : List ℕ) (x : World) (s : StackState) 
           let none_left = none_any is_left s.before (λ b i e. w.2 b (is_to_restore b i e)) in
           true≢false (sym (and_from _ _ (ap is_empty w.1) (and_from _ _ (so_not _ none_left) (so_not (has_refused_restore s) w.3))) ∙ stays)
 
-      no_step : (e : Entry) → MayStep schemas name x [] s Back e → ⊥
-      no_step (entry.Intent number token lane path r) w = no_restore token lane path r w
-      no_step (entry.Kept number path id w) k = no_keep path id w k
-      no_step (entry.Phase number p c) w = no_turn p c w
-      no_step (entry.Opened epoch lanes) w = w
-      no_step (entry.Begin number n k) w = w
-      no_step (entry.Outcome number token a before after) w = w
-      no_step (entry.Done number state failed) w = w
-      no_step (entry.ChangeSet number n source rows outputs) w = w
-
       at_back_end : IsAtEnd schemas name x s Back
-      at_back_end = (no_step, λ p w. true≢false (sym w.1 ∙ idle p w.0))
+      at_back_end = at_end_by schemas name x s Back no_restore no_keep no_turn (λ p w. true≢false (sym w.1 ∙ idle p w.0))
 
     ends_back : IsAtEnd schemas name x s Back → (e : Entry) × MayFollowIn schemas name x [] s Back e
-    ends_back end =
-        (entry.Done s.operation status.UpdateRollbackFailed (failed_list s), (none_flying s, end, subst (λ k. EndsAs schemas name x s k status.UpdateRollbackFailed) (sym back) tt, are_failed s))
+    ends_back end = (
+      entry.Done s.operation status.UpdateRollbackFailed (failed_list s),
+      (none_flying s, end, subst (λ k. EndsAs schemas name x s k status.UpdateRollbackFailed) (sym back) tt, are_failed s),
+    )
 
     steps_back : StepsIn schemas name x s Back ⊎ IsAtEnd schemas name x s Back
     steps_back = by (one_or_none (may_repeat Back [] s) s.tokens) where
@@ -262,7 +274,8 @@ module _ (schemas : List Schema) (name : List ℕ) (x : World) (s : StackState) 
       by_before : ((p : Pending) → In p s.tokens → may_repeat Back [] s p ≡ false)
           → ((b : Held) × In b s.before × (is_restorable b ≡ true)) ⊎ ((b : Held) → In b s.before → is_restorable b ≡ false)
           → StepsIn schemas name x s Back ⊎ IsAtEnd schemas name x s Back
-      by_before idle (inl (b, i, e)) = inl (restore_goes (neither_so (is_repeat_in_flight [] s) _ (none_repeated s) (none_passes (may_repeat Back [] s) s.tokens idle)) b i e)
+      by_before idle (inl (b, i, e)) = inl (restore_goes (neither_so (is_repeat_in_flight [] s) _ (none_repeated s) (none_passes (may_repeat Back [] s) s.tokens idle))
+          b i e)
       by_before idle (inr none) = by_turn idle none can_turn refl
 
       by : ((p : Pending) × In p s.tokens × (may_repeat Back [] s p ≡ true)) ⊎ ((p : Pending) → In p s.tokens → may_repeat Back [] s p ≡ false)
@@ -274,10 +287,11 @@ module _ (schemas : List Schema) (name : List ℕ) (x : World) (s : StackState) 
 pub goes_or_ends :
     (schemas : List Schema) (name : List ℕ) (x : World) (s : StackState) (stage : Stage) → stack_of_operation s.operation x ≡ Some (name, s)
     → stage_of s.status ≡ Some stage → (IsAtEnd schemas name x s stage → (e : Entry) × MayFollowIn schemas name x [] s stage e)
-    → StepsIn schemas name x s stage ⊎ IsAtEnd schemas name x s stage → GoesOn schemas x s.operation
+    → StepsIn schemas name x s stage ⊎ IsAtEnd schemas name x s stage → HasNext schemas x s.operation
 goes_or_ends schemas name x s stage going in_stage ends (inl n) = steps schemas name x s stage going in_stage n
 goes_or_ends schemas name x s stage going in_stage ends (inr end) = let e = ends end in follows schemas name x s stage going in_stage e.0 e.1
 
 pub rollback_goes_on : RollbackGoesOn
-rollback_goes_on schemas name x s going (inl e) = goes_or_ends schemas name x s Back going (ap stage_of e) (ends_rolling schemas name x s e) (steps_rolling schemas name x s e)
+rollback_goes_on schemas name x s going (inl e) = goes_or_ends schemas name x s Back going (ap stage_of e) (ends_rolling schemas name x s e)
+    (steps_rolling schemas name x s e)
 rollback_goes_on schemas name x s going (inr e) = goes_or_ends schemas name x s Back going (ap stage_of e) (ends_back schemas name x s e) (steps_back schemas name x s e)

@@ -2,7 +2,7 @@
 -- comes before what needs it.
 use Rattle.std.proofs.Common.{◌≡◌, ◌≢◌, ◌⊎◌, inl, inr, ℕ, Bool, true, false, not, ◌&&◌, ◌||◌, List, [], ◌∷◌, ◌++◌, Option, Some, None, refl, sym, ap, subst, ◌∙◌, true≢false, map, filter, find, append_assoc}
 use Rattle.std.specs.Prelude.{cond}
-use Rattle.std.specs.List.{list_all, list_any}
+use Rattle.std.specs.List.{list_all}
 use Rattle.std.specs.Str.{bytes_eq}
 use Rattle.std.specs.Cmp.{first_so, second_so}
 use Rattle.std.proofs.lemmas.Bool.{and_from, or_cases, or_left, or_right}
@@ -18,7 +18,6 @@ use Rattle.cf_desired.specs.Seeing.{Seen}
 use Rattle.cf_desired.specs.Whole.{is_wanted_at, wanted_at}
 use Rattle.cf_desired.specs.declared.wanted.Wanted.{Wanted}
 use Rattle.cf_desired.proofs.Planned.{WantedFirst, wanted_first}
-use Rattle.cf_desired.proofs.Puts.{among_pass}
 use Rattle.cf_stacks.specs.declared.held.Held.{Held}
 use Rattle.cf_stacks.specs.World.{StackState}
 use Rattle.cf_stacks.specs.Words.{current_at, is_current_at, is_update}
@@ -53,7 +52,8 @@ props_same (x ∷ xs) (y ∷ ys) e =
 
 props_itself : (xs : List (List ℕ × Data)) → same_members (members_of xs) (members_of xs) ≡ true
 props_itself [] = refl
-props_itself (x ∷ xs) = and_from (bytes_eq x.0 x.0) _ ((bytes_eq-Decides x.0 x.0).1 refl) (and_from (same_data x.1 x.1) _ ((same_decides x.1 x.1).1 refl) (props_itself xs))
+props_itself (x ∷ xs) = and_from (bytes_eq x.0 x.0) _ ((bytes_eq-Decides x.0 x.0).1 refl)
+    (and_from (same_data x.1 x.1) _ ((same_decides x.1 x.1).1 refl) (props_itself xs))
 
 is_known : (f : Finding) (k : List ℕ) (ps : List (List ℕ × Data)) → (f ≡ Known k ps) ⊎ (f ≢ Known k ps)
 is_known (Bad b) k ps = inr (λ e. cc)
@@ -164,7 +164,12 @@ module _ (s : StackState) (source : Source) (going : s.going ≡ Some source) wh
 
     -- nothing is added
     not_added : (IsDone s w.path → is_among w.path done ≡ true) → IsFound further done
-    not_added n = record { sound = f.sound; begun = f.begun; complete = λ q e d. by q d (or_cases (is_among q through) (bytes_eq q w.path) (sym (among_more through w.path q) ∙ e)) } where
+    not_added n = record {
+      sound = f.sound;
+      begun = f.begun;
+      complete =
+          λ q e d. by q d (or_cases (is_among q through) (bytes_eq q w.path) (sym (among_more through w.path q) ∙ e));
+    } where
       by : (q : List ℕ) → IsDone s q → (is_among q through ≡ true) ⊎ (bytes_eq q w.path ≡ true) → is_among q done ≡ true
       by q d (inl e) = f.complete q e d
       by q d (inr e) = let same = (bytes_eq-Decides q w.path).0 e in subst (λ p. is_among p done ≡ true) (sym same) (n (subst (IsDone s) same d))
@@ -203,7 +208,8 @@ module _ (s : StackState) (source : Source) (going : s.going ≡ Some source) wh
       )
 
   walk : (through : List (List ℕ)) (ws : List Wanted) (done : List (List ℕ)) → WantedFirst through ws → IsFound through done
-      → ((p : List ℕ) → is_among p through ≡ false → find (is_wanted_at p) all ≡ find (is_wanted_at p) ws) → ((p : List ℕ) → In p (map (λ w. w.path) ws) → In p (wanted_paths s))
+      → ((p : List ℕ) → is_among p through ≡ false → find (is_wanted_at p) all ≡ find (is_wanted_at p) ws)
+      → ((p : List ℕ) → In p (map (λ w. w.path) ws) → In p (wanted_paths s))
       → (more : List (List ℕ)) × IsFound (through ++ map (λ w. w.path) ws) more
   walk through [] done first f left of = (done, subst (λ t. IsFound t done) (sym (append-nil through)) f)
   walk through (w ∷ ws) done first f left of =
@@ -211,7 +217,8 @@ module _ (s : StackState) (source : Source) (going : s.going ≡ Some source) wh
         by : (b : Bool) → is_among w.path through ≡ b → (more : List (List ℕ)) × IsFound (through ++ w.path ∷ []) more
         by true e = (done, not_added through done w f (f.complete w.path e))
         by false e =
-            decided through done w f (left w.path e ∙ ap (λ b. cond b (Some w) (find (is_wanted_at w.path) ws)) ((bytes_eq-Decides w.path w.path).1 refl)) (of w.path here)
+            decided through done w f (left w.path e ∙ ap (λ b. cond b (Some w) (find (is_wanted_at w.path) ws)) ((bytes_eq-Decides w.path w.path).1 refl))
+            (of w.path here)
             (all_met w.needs through first.0) (list_all (λ n. is_among n done) w.needs) refl (right_or s w.path)
 
         next_left : (p : List ℕ) → is_among p (through ++ w.path ∷ []) ≡ false → find (is_wanted_at p) all ≡ find (is_wanted_at p) ws
@@ -246,7 +253,8 @@ module _ (s : StackState) (source : Source) (going : s.going ≡ Some source) wh
     AllOf ws = (p : List ℕ) → In p (map (λ w. w.path) ws) → is_among p done ≡ true
 
     go : (gone : List (List ℕ)) (ws : List Wanted) → WantedFirst gone ws → ((q : List ℕ) → is_among q gone ≡ true → is_among q done ≡ true)
-        → ((p : List ℕ) → is_among p done ≡ false → find (is_wanted_at p) all ≡ find (is_wanted_at p) ws) → ((p : List ℕ) → In p (map (λ w. w.path) ws) → In p (wanted_paths s))
+        → ((p : List ℕ) → is_among p done ≡ false → find (is_wanted_at p) all ≡ find (is_wanted_at p) ws)
+        → ((p : List ℕ) → In p (map (λ w. w.path) ws) → In p (wanted_paths s))
         → First ⊎ AllOf ws
     go gone [] first g left of = inr (λ p i. elim i [ ])
     go gone (w ∷ ws) first g left of = by (is_among w.path done) refl (λ e. go (gone ++ w.path ∷ []) ws first.1 (more e) (next_left e) (λ p i. of p (there i))) where

@@ -24,7 +24,7 @@ use Rattle.cf_stacks.specs.Words.{is_create, is_create_at, resources_of}
 use Rattle.cf_stacks.specs.Operation.{named_paths}
 use Rattle.cf_stacks.specs.Status.{Gone, stage_of}
 use Rattle.cf_plan.specs.Between.{is_needed_by_held}
-use Rattle.cf_plan.specs.Follow.{EndsAs, IsAtEnd, MayDelete, MayFollowIn, MayIntend, MayKeep, MayStep, MayTurn, is_cleared, is_free, is_not_needed, is_repeat_in_flight, is_untried, keeps, may_repeat, waits_for_repeats}
+use Rattle.cf_plan.specs.Follow.{EndsAs, IsAtEnd, MayDelete, MayFollowIn, MayIntend, MayKeep, MayTurn, is_cleared, is_free, is_not_needed, is_repeat_in_flight, is_untried, keeps, may_repeat, waits_for_repeats}
 use Rattle.cf_plan.specs.Forward.{In}
 use Rattle.cf_plan.specs.Taking.{is_home_of}
 use Rattle.cf_plan.proofs.Choosing.{neither_so, not_so as so_not}
@@ -32,7 +32,7 @@ use Rattle.cf_plan.proofs.CreatedRight.{not_so}
 use Rattle.cf_plan.proofs.RunLists.{any_of, some_of}
 use Rattle.cf_core.specs.GoesOn.{DeletionGoesOn, StepsIn}
 use Rattle.cf_core.proofs.GoingBack.{are_failed, failed_list, goes_or_ends, home_for, lane_for, none_passes, none_repeated, one_or_none}
-use Rattle.cf_core.proofs.TidyEnds.{at_home, none_flying}
+use Rattle.cf_core.proofs.TidyEnds.{at_end_by, at_home, none_flying}
 
 or_inr : (a b : Bool) → b ≡ true → (a || b) ≡ true
 or_inr true b e = refl
@@ -64,7 +64,13 @@ module _ (schemas : List Schema) (name : List ℕ) (x : World) (s : StackState) 
     rest = second_so (is_not_needed s r) _ (first_so (may_go r) _ e)
 
     may : MayDelete Gone s r
-    may = (i, first_so (is_not_needed s r) _ (first_so (may_go r) _ e), not_so _ (first_so (not (is_needed_by_held s r)) _ rest), second_so (not (is_needed_by_held s r)) _ rest)
+    may = (
+      i,
+      first_so (is_not_needed s r) _ (first_so (may_go r) _ e),
+      not_so _ (first_so (not (is_needed_by_held s r)) _ rest),
+      second_so
+          (not (is_needed_by_held s r)) _ rest,
+    )
 
     by : (can_keep r ≡ true) ⊎ (can_delete r ≡ true) → StepsIn schemas name x s Gone
     by (inl k) = inl (
@@ -94,7 +100,8 @@ module _ (schemas : List Schema) (name : List ℕ) (x : World) (s : StackState) 
           refl,
           refl,
           first_so (is_among p.path (named_paths s)) _ e,
-          any_of (is_create_at p.path) s.tokens p i (and_from (is_create p.request) _ (second_so (is_among p.path (named_paths s)) _ e) ((bytes_eq-Decides p.path p.path).1 refl)),
+          any_of (is_create_at p.path) s.tokens p i (and_from (is_create p.request) _ (second_so (is_among p.path (named_paths s)) _ e)
+              ((bytes_eq-Decides p.path p.path).1 refl)),
         ),
       )
 
@@ -108,8 +115,10 @@ module _ (schemas : List Schema) (name : List ℕ) (x : World) (s : StackState) 
         let c = w.chosen in
         let r = c.0 in
         let free : is_free r.path s ≡ true = subst (λ p. is_free p s ≡ true) c.3 w.free in
-        let home : list_any (is_home_of [] x r.physical) x.lanes ≡ true = subst (λ k. list_any (is_home_of [] x k) x.lanes ≡ true) c.4 (home_for schemas name x s id lane w.fits.0 w.fits.1) in
-        true≢false (sym (and_from (may_go r) _ (going_is r c.1) (or_inr (can_keep r) _ (and_from (not (keeps Gone s r)) _ (so_not (keeps Gone s r) c.2) (and_from (is_free r.path s) _ free home)))) ∙ none r c.1.0)
+        let home : list_any (is_home_of [] x r.physical) x.lanes ≡ true =
+        subst (λ k. list_any (is_home_of [] x k) x.lanes ≡ true) c.4 (home_for schemas name x s id lane w.fits.0 w.fits.1) in
+        true≢false (sym (and_from (may_go r) _ (going_is r c.1) (or_inr (can_keep r) _
+        (and_from (not (keeps Gone s r)) _ (so_not (keeps Gone s r) c.2) (and_from (is_free r.path s) _ free home)))) ∙ none r c.1.0)
 
     no_keep : (path id : List ℕ) (w : Why) → MayKeep Gone [] s path id w → ⊥
     no_keep path id why.Failed k = elim k.0.1 [ ]
@@ -124,7 +133,8 @@ module _ (schemas : List Schema) (name : List ℕ) (x : World) (s : StackState) 
     no_keep path id why.Retained (inr k) =
         let p = some_of (is_create_at path) s.tokens k.3 in
         let same = (bytes_eq-Decides path p.one.path).0 (second_so (is_create p.one.request) (bytes_eq path p.one.path) p.passes) in
-        true≢false (sym (and_from (is_among p.one.path (named_paths s)) _ (subst (λ q. is_among q (named_paths s) ≡ true) same k.2) (first_so (is_create p.one.request) _ p.passes)) ∙ kept p.one p.of_list)
+        true≢false (sym (and_from (is_among p.one.path (named_paths s)) _ (subst (λ q. is_among q (named_paths s) ≡ true) same k.2)
+        (first_so (is_create p.one.request) _ p.passes)) ∙ kept p.one p.of_list)
 
     no_turn : (p : Phase) (c : Option Cause) → MayTurn schemas name x s p c → ⊥
     no_turn phase.Clean None w = let e = sym gone ∙ w.0 in cc
@@ -134,24 +144,17 @@ module _ (schemas : List Schema) (name : List ℕ) (x : World) (s : StackState) 
     no_turn phase.BackClean (Some c) w = w
     no_turn phase.BackClean None w = let e = sym gone ∙ w.0 in cc
 
-    no_step : (e : Entry) → MayStep schemas name x [] s Gone e → ⊥
-    no_step (entry.Intent number token lane path r) w = no_call token lane path r w
-    no_step (entry.Kept number path id w) k = no_keep path id w k
-    no_step (entry.Phase number p c) w = no_turn p c w
-    no_step (entry.Opened epoch lanes) w = w
-    no_step (entry.Begin number n k) w = w
-    no_step (entry.Outcome number token a before after) w = w
-    no_step (entry.Done number state failed) w = w
-    no_step (entry.ChangeSet number n source rows outputs) w = w
-
     at_end : IsAtEnd schemas name x s Gone
-    at_end = (no_step, λ p w. true≢false (sym w.1 ∙ idle p w.0))
+    at_end = at_end_by schemas name x s Gone no_call no_keep no_turn (λ p w. true≢false (sym w.1 ∙ idle p w.0))
 
   ends : IsAtEnd schemas name x s Gone → (e : Entry) × MayFollowIn schemas name x [] s Gone e
   ends end = by (is_cleared s) refl where
     by : (b : Bool) → is_cleared s ≡ b → (e : Entry) × MayFollowIn schemas name x [] s Gone e
     by true e = (entry.Done s.operation status.DeleteComplete [], (none_flying s, end, subst (λ k. EndsAs schemas name x s k status.DeleteComplete) (sym gone) e, refl))
-    by false e = (entry.Done s.operation status.DeleteFailed (failed_list s), (none_flying s, end, subst (λ k. EndsAs schemas name x s k status.DeleteFailed) (sym gone) e, are_failed s))
+    by false e = (
+      entry.Done s.operation status.DeleteFailed (failed_list s),
+      (none_flying s, end, subst (λ k. EndsAs schemas name x s k status.DeleteFailed) (sym gone) e, are_failed s),
+    )
 
   steps_gone : StepsIn schemas name x s Gone ⊎ IsAtEnd schemas name x s Gone
   steps_gone = by (one_or_none (may_repeat Gone [] s) s.tokens) where

@@ -14,7 +14,7 @@ use Rattle.cf_tree.specs.Lists.{is_among}
 use Rattle.cf_tree.specs.Named.{all_differ}
 use Rattle.cf_tree.specs.declared.source.Source.{Source}
 use Rattle.cf_schema.specs.declared.described.Schema.{Schema}
-use Rattle.cf_change.specs.Changes.{found_of, held_seen}
+use Rattle.cf_change.specs.Changes.{found_of}
 use Rattle.cf_change.proofs.Shown.{shape_is_held}
 use Rattle.cf_desired.specs.declared.flaw.Flaw.{Flaw}
 use Rattle.cf_desired.specs.declared.seen.SeenAt.{SeenAt}
@@ -25,11 +25,10 @@ use Rattle.cf_desired.specs.declared.wanted.Plan.{Plan}
 use Rattle.cf_desired.specs.declared.wanted.Wanted.{Wanted}
 use Rattle.cf_desired.specs.Met.{bind_flaw_in}
 use Rattle.cf_desired.specs.NeededIsKnown.{is_bound}
-use Rattle.cf_desired.specs.PathsDiffer.{paths_of}
 use Rattle.cf_desired.specs.Plan.{fault_at, member_at, nesting_at, plan_by, props_at, wanted_of}
 use Rattle.cf_desired.specs.Seeing.{Seen}
 use Rattle.cf_desired.specs.Shape.{given_root, shape_of}
-use Rattle.cf_desired.specs.Stays.{AgreeAt, attrs_seen, id_seen, is_of_evaluation, is_settled, is_shown}
+use Rattle.cf_desired.specs.Stays.{AgreeAt, is_of_evaluation, is_settled, is_shown}
 use Rattle.cf_desired.specs.Valued.{nestings_in, resources_in}
 use Rattle.cf_desired.specs.Whole.{known_props_from, wanted_at}
 use Rattle.cf_desired.specs.Work.{Member, Nesting, Shape}
@@ -47,12 +46,12 @@ use Rattle.cf_stacks.specs.End.{seen_now}
 use Rattle.cf_stacks.specs.Reply.{terms_of}
 use Rattle.cf_plan.specs.Between.{needs_at}
 use Rattle.cf_plan.specs.Done.{AreDone}
-use Rattle.cf_plan.specs.Forward.{Bad, Finding, HasFailed, In, IsDone, IsReady, Known, Later, evaluated_at, finding, here, is_made, is_right, is_updated, known_or_later, plan_in, plan_now, there, wanted_paths}
+use Rattle.cf_plan.specs.Forward.{HasFailed, In, IsDone, IsReady, Later, evaluated_at, finding, here, is_made, is_right, is_updated, known_or_later, plan_in, plan_now, there}
 use Rattle.cf_plan.proofs.CreatedEnd.{in_changed}
 use Rattle.cf_plan.proofs.CreatedSeen.{shown, shown_at}
 use Rattle.cf_plan.proofs.CreatedStays.{found_one}
 use Rattle.cf_plan.proofs.OneShape.{root_bound}
-use Rattle.cf_plan.proofs.RunLists.{any_of, is_found_in, some_of}
+use Rattle.cf_plan.proofs.RunLists.{is_found_in, some_of}
 use Rattle.cf_core.specs.Advancing.{IsAdvancing, held_before_as}
 use Rattle.cf_core.proofs.GoingDone.{needs_are, paths_are}
 use Rattle.cf_core.proofs.HidSeen.{shape_before}
@@ -71,7 +70,8 @@ value_left done q [] = by (is_among q done) where
 value_left done q (v ∷ vs) = by (is_among v.0 done) refl (bytes_eq q v.0) refl (value_left done q vs) where
   by : (b : Bool) → is_among v.0 done ≡ b → (c : Bool) → bytes_eq q v.0 ≡ c → value_at q (seen_of done vs) ≡ cond (is_among q done) (value_at q vs) None
       → value_at q (cond b (v ∷ seen_of done vs) (seen_of done vs)) ≡ cond (is_among q done) (cond c (Some v.1) (value_at q vs)) None
-  by true e true f ih = ap (λ c. cond c (Some v.1) (value_at q (seen_of done vs))) f ∙ sym (ap (λ b. cond b (Some v.1) None) (ap (λ p. is_among p done) ((bytes_eq-Decides q v.0).0 f) ∙ e))
+  by true e true f ih = ap (λ c. cond c (Some v.1) (value_at q (seen_of done vs))) f
+      ∙ sym (ap (λ b. cond b (Some v.1) None) (ap (λ p. is_among p done) ((bytes_eq-Decides q v.0).0 f) ∙ e))
   by true e false f ih = ap (λ c. cond c (Some v.1) (value_at q (seen_of done vs))) f ∙ ih
   by false e true f ih =
       let none = ap (λ p. is_among p done) ((bytes_eq-Decides q v.0).0 f) ∙ e in
@@ -127,10 +127,12 @@ module _ (schemas : List Schema) (name : List ℕ) (x : World) (s : StackState) 
   shown_so : (q : List ℕ) (o p : Option Held) (r : Held) → current_at q s.made ≡ o → current_at q s.held ≡ p → (o ≡ Some r) ⊎ (p ≡ Some r) → is_shown now q ≡ true
   shown_so q o p r e f w =
       let at : value_at q now ≡ option_map shown (option_or o p) =
-      shown_at q (s.made ++ s.held) ∙ ap (option_map shown) (find-append (is_current_at q) s.made s.held ∙ ap (λ k. option_or k (current_at q s.held)) e ∙ ap (option_or o) f) in
+      shown_at q (s.made ++ s.held) ∙ ap (option_map shown) (find-append (is_current_at q) s.made s.held ∙ ap (λ k. option_or k (current_at q s.held)) e
+      ∙ ap (option_or o) f) in
       ap (λ k. is_some (option_and_then (λ v. v.physical) k) && is_some (option_and_then (λ v. v.attrs) k)) at ∙ by o p w where
         by : (u v : Option Held) → (u ≡ Some r) ⊎ (v ≡ Some r)
-            → (is_some (option_and_then (λ (k : SeenAt). k.physical) (option_map shown (option_or u v))) && is_some (option_and_then (λ (k : SeenAt). k.attrs) (option_map shown (option_or u v)))) ≡ true
+            → (is_some (option_and_then (λ (k : SeenAt). k.physical) (option_map shown (option_or u v))) && is_some
+            (option_and_then (λ (k : SeenAt). k.attrs) (option_map shown (option_or u v)))) ≡ true
         by (Some h) v w = refl
         by None (Some h) w = refl
         by None None (inl e) = let no : ⊥ = cc in absurd no
@@ -180,7 +182,8 @@ module _ (schemas : List Schema) (name : List ℕ) (x : World) (s : StackState) 
       needs_done e q k = shown_left q (each_passes (is_shown left) i.needs q e k)
 
       -- it is as it is over all that is seen now
-      same_now : list_all (is_shown left) i.needs ≡ true → (n : Option Nesting) → nesting_at shape i.path ≡ n → (f : Option (Option Flaw)) → fault_at source shape left i.path ≡ f
+      same_now : list_all (is_shown left) i.needs ≡ true → (n : Option Nesting) → nesting_at shape i.path ≡ n → (f : Option (Option Flaw))
+          → fault_at source shape left i.path ≡ f
           → inner_from n f ≡ Some i → inner_at i.path (plan_by source shape now) ≡ Some i
       same_now e (Some n) g (Some f) k m =
           let is : record { path = n.path; needs = n.needs; fault = f } ≡ i = cc in
@@ -198,7 +201,8 @@ module _ (schemas : List Schema) (name : List ℕ) (x : World) (s : StackState) 
       by_fault e (Some f) k =
           let at_left : inner_at i.path (plan_by source shape left) ≡ Some i = first_of (plan_by source shape left).nested i (differ left) j in
           let at_now = same_now e (nesting_at shape i.path) refl (fault_at source shape left i.path) refl (sym ((by_paths source shape left).nested i.path) ∙ at_left) in
-          let there_now : In i (plan_now s).nested = subst (λ (p : Plan). In i p.nested) (sym now_is) (found_one (λ n. bytes_eq i.path n.path) (plan_by source shape now).nested i at_now).0 in
+          let there_now : In i (plan_now s).nested = subst (λ (p : Plan). In i p.nested) (sym now_is)
+          (found_one (λ n. bytes_eq i.path n.path) (plan_by source shape now).nested i at_now).0 in
           absurd (good (inr (inl (i.path, f, inr (i, there_now, refl, (λ q l. (are q).1 (needs_done e q l)), k)))))
 
       by : (b : Bool) → list_all (is_shown left) i.needs ≡ b → (not b || not (is_some i.fault)) ≡ true
@@ -218,7 +222,8 @@ module _ (schemas : List Schema) (name : List ℕ) (x : World) (s : StackState) 
       own_needs m f =
           let w = wanted_is before in
           needs_are s source a.going p ∙ ap (λ o. (terms_of o).needs) w.1
-          ∙ same (props_at source shape before p) (ap (λ o. wanted_from o (props_at source shape before p)) (sym f) ∙ sym ((by_paths source shape before).wanted p) ∙ w.1) where
+          ∙ same (props_at source shape before p) (ap (λ o. wanted_from o (props_at source shape before p)) (sym f) ∙ sym ((by_paths source shape before).wanted p)
+          ∙ w.1) where
             same : {w : Wanted} → (v : Option Evaluated) → wanted_from (Some m) v ≡ Some w → w.needs ≡ m.needs
             same {w = w} None k = let no : ⊥ = cc in absurd no
             same {w = w} (Some v) k = ap (λ (u : Wanted). u.needs) (sym (some_same (wanted_of (m, v)) w k))
@@ -234,14 +239,16 @@ module _ (schemas : List Schema) (name : List ℕ) (x : World) (s : StackState) 
       by : (o : Option Member) → member_at shape p ≡ o → (v : Option Evaluated) → props_at source shape now p ≡ v → ⊥
       by None f v g =
           let w = wanted_is now in
-          let none : wanted_from None (props_at source shape now p) ≡ Some w.0 = ap (λ o. wanted_from o (props_at source shape now p)) (sym f) ∙ sym ((by_paths source shape now).wanted p) ∙ w.1 in
+          let none : wanted_from None (props_at source shape now p) ≡ Some w.0 = ap (λ o. wanted_from o (props_at source shape now p)) (sym f)
+          ∙ sym ((by_paths source shape now).wanted p) ∙ w.1 in
           none_from (props_at source shape now p) none where
             none_from : {w : Wanted} → (v : Option Evaluated) → wanted_from None v ≡ Some w → ⊥
             none_from None k = cc
             none_from (Some v) k = cc
       by (Some m) f None g =
           let w = wanted_is now in
-          let none : wanted_from (Some m) None ≡ Some w.0 = ap (wanted_from (Some m)) (sym g) ∙ ap (λ o. wanted_from o (props_at source shape now p)) (sym f) ∙ sym ((by_paths source shape now).wanted p) ∙ w.1 in
+          let none : wanted_from (Some m) None ≡ Some w.0 = ap (wanted_from (Some m)) (sym g) ∙ ap (λ o. wanted_from o (props_at source shape now p)) (sym f)
+          ∙ sym ((by_paths source shape now).wanted p) ∙ w.1 in
           cc
       by (Some m) f (Some v) g =
           let at : wanted_at p (plan_now s) ≡ Some (wanted_of (m, v)) =

@@ -178,9 +178,9 @@ module _ (schemas : List Schema) (s : StackState) (source : Source) (a : IsAdvan
   more_seen = hidden_less (hides_id rows) (hides_attrs rows) (held_seen held) (seen_now s) (compared_rest (hides_id rows) (hides_attrs rows) s (seen_now s) a.rest)
 
   -- what is said of a path now, and what it was for the change set
-  record IsSaid (path k : List ℕ) (props : List (List ℕ × Data)) : Type 0 where
-    member : Member
-    kind : member.kind ≡ k
+  pub record IsSaid (path k : List ℕ) (props : List (List ℕ × Data)) : Type 0 where
+    pub member : Member
+    pub kind : member.kind ≡ k
     at : path ≡ member.path
     was : Props
     now : Props
@@ -229,7 +229,7 @@ module _ (schemas : List Schema) (s : StackState) (source : Source) (a : IsAdvan
       }
 
   -- a path that is not done was not updated, and so its resource is as it was
-  not_updated : (path : List ℕ) (b : Held) → In b s.before → path ≡ b.path → (IsDone s path → ⊥) → was_updated b.physical s ≡ false
+  pub not_updated : (path : List ℕ) (b : Held) → In b s.before → path ≡ b.path → (IsDone s path → ⊥) → was_updated b.physical s ≡ false
   not_updated path b i at undone = none_false (was_updated b.physical s) (λ t.
       let p = some_of (λ (c : Call). goes_forward c.status && (updates b.physical c.request && succeeded c)) s.ledger t in
       let calls = second_so (goes_forward p.one.status) (updates b.physical p.one.request && succeeded p.one) p.passes in
@@ -240,15 +240,15 @@ module _ (schemas : List Schema) (s : StackState) (source : Source) (a : IsAdvan
       (and_from (is_update p.one.request) (succeeded p.one) (updates_one b.physical p.one.request is) (second_so (updates b.physical p.one.request) (succeeded p.one) calls))))))
 
   -- the resource that is held at a path, and what it was
-  record IsHeldAt (path : List ℕ) (h : Held) : Type 0 where
-    before : Held
-    of_before : current_at path s.before ≡ Some before
-    in_before : In before s.before
-    at : path ≡ before.path
-    in_held : In h s.held
-    same : IsSameThing before h
+  pub record IsHeldAt (path : List ℕ) (h : Held) : Type 0 where
+    pub before : Held
+    pub of_before : current_at path s.before ≡ Some before
+    pub in_before : In before s.before
+    pub at : path ≡ before.path
+    pub in_held : In h s.held
+    pub same : IsSameThing before h
 
-  was_held : (path : List ℕ) (h : Held) → current_at path s.held ≡ Some h → IsHeldAt path h
+  pub was_held : (path : List ℕ) (h : Held) → current_at path s.held ≡ Some h → IsHeldAt path h
   was_held path h e = by_before (current_at path s.before) refl (subst (SameAt (current_at path s.before)) e (same_at path s.before s.held a.held)) where
     by_before : (o : Option Held) → current_at path s.before ≡ o → SameAt o (Some h) → IsHeldAt path h
     by_before None g w = absurd w
@@ -264,16 +264,16 @@ module _ (schemas : List Schema) (s : StackState) (source : Source) (a : IsAdvan
         }
 
   module _ (path k : List ℕ) (props : List (List ℕ × Data)) (e : evaluated_at path s ≡ Known k props) (undone : IsDone s path → ⊥) (h : Held) (at_path : current_at path s.held ≡ Some h) where
-    it : IsSaid path k props
+    pub it : IsSaid path k props
     it = said path k props e
 
-    was : IsHeldAt path h
+    pub was : IsHeldAt path h
     was = was_held path h at_path
 
     abbrev b : Held
     b = was.before
 
-    as_before : IsAsBefore b h
+    pub as_before : IsAsBefore b h
     as_before = a.unchanged b h was.in_before was.in_held was.same.physical (not_updated path b was.in_before was.at undone)
 
     abbrev w : Wanted
@@ -282,7 +282,7 @@ module _ (schemas : List Schema) (s : StackState) (source : Source) (a : IsAdvan
     resource : resource_held it.member.path held ≡ Some (held_as b)
     resource = ap (λ p. resource_held p held) (sym it.at) ∙ same_found path s.before ∙ ap (option_map held_as) was.of_before
 
-    one_kind : h.kind ≡ it.member.kind
+    pub one_kind : h.kind ≡ it.member.kind
     one_kind = was.same.kind ∙ (bytes_eq-Decides b.kind it.member.kind).0 (not_not (bytes_eq b.kind it.member.kind) (sym (ap (λ o. is_other_kind o w) resource) ∙ it.same_kind))
 
     abbrev details : List Detail

@@ -101,3 +101,8 @@ pub mod Always
 pub mod KeepSound
 pub mod GoingDone
 pub mod GoingKnown
+pub mod OneThread
+pub mod GoingFails
+pub mod GoingForward
+pub mod GoingOn
+pub mod GoingTold

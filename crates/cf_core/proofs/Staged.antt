@@ -1,6 +1,7 @@
 -- Every entry that is written leaves a stack on its course, stage by stage.
 use Rattle.std.proofs.Common.{◌≡◌, ◌≢◌, ℕ, ◌+◌, true, false, List, [], ◌∷◌, Bool, ◌||◌, Option, Some, None, refl, sym, ap, subst, ◌∙◌, true≢false, filter}
 use Rattle.std.specs.Prelude.{cond, IsTrue}
+use Rattle.std.proofs.lemmas.Bool.{or_left, or_right}
 use Rattle.std.specs.Option.{option_map, unwrap_or}
 use Rattle.cf_tree.specs.declared.source.Source.{Source}
 use Rattle.cf_entry.specs.declared.entry.Entry.{Entry}
@@ -26,6 +27,7 @@ use Rattle.cf_core.specs.Advancing.{IsAdvancing}
 use Rattle.cf_core.specs.Completing.{IsNoBegin}
 use Rattle.cf_core.specs.Course.{IsCleaning, IsOnCourse}
 use Rattle.cf_core.specs.Fits.{BecomesBy, IsWritten, own, at_opening, other as another}
+use Rattle.cf_core.specs.GoesOn.{IsTold}
 use Rattle.cf_core.specs.Hiding.{AreDescribed}
 use Rattle.cf_core.specs.Moving.{IsMove, stays as goes_on, turns, ends, begins, reviewed as is_reviewed, other}
 use Rattle.cf_core.specs.Blaming.{HoldsIfWhole}
@@ -42,6 +44,7 @@ use Rattle.cf_core.proofs.BackLaws.{cleanup_stays, failed_stay, rest_stays, upda
 use Rattle.cf_core.proofs.BackSkips.{updates_skip}
 use Rattle.cf_core.proofs.BlameFailed.{failed_blamed}
 use Rattle.cf_core.proofs.BlameStays.{none_booked, stays_booked}
+use Rattle.cf_core.proofs.GoingTold.{told_begins, told_stays}
 use Rattle.cf_core.proofs.HidKept.{none_is_ordered, order_stays}
 use Rattle.cf_core.proofs.HidSeen.{shape_stays}
 use Rattle.cf_core.proofs.StatusMoves.{status_moves}
@@ -299,6 +302,14 @@ holds_whole schemas name y t status.UpdateCompleteCleanupInProgress c = c.whole
 holds_whole schemas name y t status.CreateComplete c = c.0
 holds_whole schemas name y t b c = tt
 
+-- no call is open where a forward phase begins
+module _ (schemas : List Schema) (name : List ℕ) (x : World) (s : StackState) where
+  none_open : (a b : Status) → StatusMoves a b → goes_forward a ≡ false → goes_forward b ≡ true → s.status ≡ a → IsOnCourse schemas name x s s.status → s.tokens ≡ []
+  none_open a b stays g h e c = absurd (true≢false (sym h ∙ g))
+  none_open a b (creates from) g h e c = (course_is_free schemas name x s c (ap (λ (v : Status). creates_from v || updates_from v) e ∙ or_left (creates_from a) (updates_from a) from)).0
+  none_open a b (updates from) g h e c = (course_is_free schemas name x s c (ap (λ (v : Status). creates_from v || updates_from v) e ∙ or_right (creates_from a) (updates_from a) from)).0
+  none_open a b m g h e c = absurd (true≢false (sym h))
+
 -- so the stack is on its way
 pub way_kept : WayIsKept
 way_kept schemas x out e name s t w described k = record {
@@ -310,9 +321,19 @@ way_kept schemas x out e name s t w described k = record {
     ordered = order_stays schemas x out e name s t w k.supported.ordered;
     skips_none = updates_skip schemas x out e name s t w k.supported.skips_none;
     undeleted = nothing_deleted schemas x out e name s t w k.supported.undeleted;
+    told = told (goes_forward s.status) refl;
   };
 }
   where
+    advancing : (a : Status) → goes_forward a ≡ true → IsOnCourse schemas name x s a → (source : Source) × IsAdvancing schemas s source
+    advancing status.CreateInProgress g c = (c.0, c.1)
+    advancing status.UpdateInProgress g c = (c.0, c.1)
+    advancing a g c = absurd (true≢false (sym g))
+
+    told : (b : Bool) → goes_forward s.status ≡ b → goes_forward t.status ≡ true → IsTold t
+    told true g h = let a = advancing s.status g k.course.stage in told_stays schemas x out e name s t a.0 w g h a.1 (k.supported.told g)
+    told false g h = told_begins schemas x out e name s t w g h (none_open schemas name x s s.status t.status (status_moves schemas x out e name s t w) g h refl k.course.stage)
+
     stage : IsOnCourse schemas name (world_after x e) t t.status
     stage = moved schemas x out e name s t w described k.supported (failed_blamed schemas x out e name s t w k.course) s.status t.status refl refl (status_moves schemas x out e name s t w) k.course.stage
 
@@ -320,5 +341,5 @@ way_kept schemas x out e name s t w described k = record {
 pub none_on_way : (schemas : List Schema) (name : List ℕ) (x : World) → IsOnWay schemas name x no_stack
 none_on_way schemas name x = record {
   course = record { stage = record { settled = record { none_open = refl; none_made = refl }; none_held = refl }; booked = none_booked };
-  supported = record { ordered = none_is_ordered; skips_none = λ e. let no : ⊥ = cc in absurd no; undeleted = λ e. absurd (true≢false (sym e)) };
+  supported = record { ordered = none_is_ordered; skips_none = λ e. let no : ⊥ = cc in absurd no; undeleted = λ e. absurd (true≢false (sym e)); told = λ e. absurd (true≢false (sym e)) };
 }

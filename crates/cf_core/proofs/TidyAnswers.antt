@@ -48,7 +48,8 @@ row_after token a c = cond (is_call token c) (answered_call a c) c
 pub row_keeps : (token : ℕ) (a : Reply) (c : Call)
     → ((row_after token a c).token ≡ c.token) × ((row_after token a c).number ≡ c.number) × ((row_after token a c).request ≡ c.request)
 row_keeps token a c = by (is_call token c) where
-  by : (b : Bool) → ((cond b (answered_call a c) c).token ≡ c.token) × ((cond b (answered_call a c) c).number ≡ c.number) × ((cond b (answered_call a c) c).request ≡ c.request)
+  by : (b : Bool) → ((cond b (answered_call a c) c).token ≡ c.token) × ((cond b (answered_call a c) c).number ≡ c.number) ×
+      ((cond b (answered_call a c) c).request ≡ c.request)
   by true = answered_keeps a c
   by false = (refl, refl, refl)
 
@@ -154,13 +155,15 @@ module _ (x : World) (s : StackState) (fits : Fits x s) (stage : Stage) (at : St
           not_yet : was_refused row ≡ false
           not_yet = ap (λ r. is_refusal r row.answer) row_request ∙ ap (is_refusal (request.Delete id)) (fits.rows p of_tokens).2.unanswered
 
-          one_more : is_try s.operation id row ≡ true → IsOneMore s.operation id (tries s.operation id s.ledger) (tries s.operation id (where_call token (answered_call a) s.ledger))
+          one_more : is_try s.operation id row ≡ true → IsOneMore s.operation id (tries s.operation id s.ledger)
+              (tries s.operation id (where_call token (answered_call a) s.ledger))
           one_more e =
               tries_refused s.operation id token (answered_call a) s.ledger row row_at fits.row_tokens e not_yet
               (try_keeps s.operation id row (answered_call a row) (answered_keeps a row).1 (answered_keeps a row).2 ∙ e) now_refused
 
           own_try : row.number ≡ s.operation → is_try s.operation id row ≡ true
-          own_try n = and_from (row.number == s.operation) (deletes id row.request) (eq-eqb row.number s.operation n) (ap (deletes id) row_request ∙ (bytes_eq-Decides id id).1 refl)
+          own_try n = and_from (row.number == s.operation) (deletes id row.request) (eq-eqb row.number s.operation n)
+              (ap (deletes id) row_request ∙ (bytes_eq-Decides id id).1 refl)
 
           by : (b : Bool) → is_try s.operation id row ≡ b → IsTried s id → IsTried t id
           by true e (inl l) =

@@ -27,10 +27,10 @@ use Rattle.cf_stacks.specs.declared.held.Held.{Held}
 use Rattle.cf_stacks.specs.declared.held.Pending.{Pending}
 use Rattle.cf_stacks.specs.World.{StackState, World, known_stack, no_stack, stack_at}
 use Rattle.cf_stacks.specs.Apart.{AreApart}
-use Rattle.cf_stacks.specs.Words.{deletes, has_physical, has_token, is_create_at, pending_of, resources_of}
+use Rattle.cf_stacks.specs.Words.{deletes, has_physical, has_token, is_create_at, pending_of, resources_of, where_physical}
 use Rattle.cf_stacks.specs.Status.{Back, BackClean, Clean, Forward, Stage, begun, stage_of, turned, reviewed as reviewed_status}
 use Rattle.cf_stacks.specs.Calls.{anew, answered_call, is_open_call, is_restore, new_call, refusals_of, deletions_of, where_call}
-use Rattle.cf_stacks.specs.Reply.{answered, intending, keeping, keeping_known, keeping_unknown, replied}
+use Rattle.cf_stacks.specs.Reply.{answered, changing, intending, keeping, keeping_known, keeping_unknown, replied}
 use Rattle.cf_stacks.specs.Fold.{effect_at}
 use Rattle.cf_plan.specs.Follow.{EndsAs, IntendsIn, MayFollowIn, MayIntend, MayTurn, cleaned_in}
 use Rattle.cf_plan.specs.Forward.{AllDone, In, IsDone, IsReady, here}
@@ -43,7 +43,7 @@ use Rattle.cf_core.specs.Advancing.{IsAdvancing}
 use Rattle.cf_core.specs.Fits.{Fits}
 use Rattle.cf_core.specs.Tidying.{BackTidyingBegins, HasNoDeletion, IsCleanup, IsTidying, NothingDeleted, TidyingBegins, deletes_nothing, of_rollback, of_update}
 use Rattle.cf_core.specs.Written.{IsTo, begins, opened, other, reviewed, step}
-use Rattle.cf_core.proofs.TidyAnswers.{like_changed, row_after, row_keeps}
+use Rattle.cf_core.proofs.TidyAnswers.{row_after, row_keeps}
 use Rattle.cf_core.proofs.TidyLedger.{is_try, refusals, tried_length, tried_refused, tries_none}
 use Rattle.cf_core.proofs.TidyOwn.{some_same}
 use Rattle.cf_core.proofs.Written.{written_is_to}
@@ -76,28 +76,49 @@ none_anew s t operation ledger h =
 none_called : (s : StackState) (number : ℕ) (q : Pending) → ((id : List ℕ) → deletes id q.request ≡ false) → HasNoDeletion s → HasNoDeletion (intending number q s)
 none_called s number q none h = by (list_any (has_token q.token) s.tokens) where
   more : NoneIn s.operation (s.ledger ++ new_call number s.status q ∷ [])
-  more c i id = let f = in_filter (λ d. d.number == s.operation) (s.ledger ++ new_call number s.status q ∷ []) c i in each (in_either c s.ledger (new_call number s.status q ∷ []) f.0) f.1 where
-    each : In c s.ledger ⊎ In c (new_call number s.status q ∷ []) → (c.number == s.operation) ≡ true → deletes id c.request ≡ false
-    each (inl j) e = h c (in_kept (λ d. d.number == s.operation) s.ledger c j e) id
-    each (inr j) e = ap (λ d. deletes id d.request) (in_one c (new_call number s.status q) j) ∙ none id
+  more c i id = let f = in_filter (λ d. d.number == s.operation) (s.ledger ++ new_call number s.status q ∷ []) c i in each
+      (in_either c s.ledger (new_call number s.status q ∷ []) f.0) f.1 where
+        each : In c s.ledger ⊎ In c (new_call number s.status q ∷ []) → (c.number == s.operation) ≡ true → deletes id c.request ≡ false
+        each (inl j) e = h c (in_kept (λ d. d.number == s.operation) s.ledger c j e) id
+        each (inr j) e = ap (λ d. deletes id d.request) (in_one c (new_call number s.status q) j) ∙ none id
 
   by : (b : Bool) → HasNoDeletion (cond b s (record s { tokens = s.tokens ++ q ∷ []; ledger = s.ledger ++ new_call number s.status q ∷ [] }))
   by true = h
   by false = more
 
--- an answer to one leaves the rows but for it
-answered_ledger : (restores : Bool) (path : List ℕ) (r : Request) (a : Reply) (s : StackState) → (answered restores path r a s).ledger ≡ s.ledger
-answered_ledger restores path (request.Create k props) (reply.Success physical attrs) s = refl
-answered_ledger restores path (request.Create k props) (reply.Failed c) s = refl
-answered_ledger restores path (request.Update id props) (reply.Success physical attrs) s = (like_changed id _ s).2
-answered_ledger true path (request.Update id props) (reply.Failed c) s = (like_changed id _ s).2
-answered_ledger false path (request.Update id props) (reply.Failed c) s = refl
-answered_ledger restores path (request.Delete id) (reply.Success physical attrs) s = refl
-answered_ledger restores path (request.Delete id) (reply.Failed code.NotFound) s = refl
-answered_ledger restores path (request.Delete id) (reply.Failed c) s = (like_changed id _ s).2
-answered_ledger restores path (request.Create k props) reply.Doubt s = refl
-answered_ledger restores path (request.Update id props) reply.Doubt s = refl
-answered_ledger restores path (request.Delete id) reply.Doubt s = refl
+-- an answer to one changes resources alone
+pub record IsRest (s u : StackState) : Type 0 where
+  pub ledger : u.ledger ≡ s.ledger
+  pub tokens : u.tokens ≡ s.tokens
+  pub entries : u.entries ≡ s.entries
+  pub going : u.going ≡ s.going
+  pub before : u.before ≡ s.before
+  pub operation : u.operation ≡ s.operation
+
+rest_same : (s : StackState) → IsRest s s
+rest_same s = record { ledger = refl; tokens = refl; entries = refl; going = refl; before = refl; operation = refl }
+
+rest_changed : (id : List ℕ) (change : Held → Held) (s : StackState) → IsRest s (changing id change s)
+rest_changed id change s = by (list_any (has_physical id) s.held) where
+  by : (b : Bool) → IsRest s (cond b (record s { held = where_physical id change s.held }) (record s { made = where_physical id change s.made }))
+  by true = record { ledger = refl; tokens = refl; entries = refl; going = refl; before = refl; operation = refl }
+  by false = record { ledger = refl; tokens = refl; entries = refl; going = refl; before = refl; operation = refl }
+
+pub rest_answered : (restores : Bool) (path : List ℕ) (r : Request) (a : Reply) (s : StackState) → IsRest s (answered restores path r a s)
+rest_answered restores path (request.Create k props) (reply.Success physical attrs) s =
+    record { ledger = refl; tokens = refl; entries = refl; going = refl; before = refl; operation = refl }
+rest_answered restores path (request.Create k props) (reply.Failed c) s = rest_same s
+rest_answered restores path (request.Update id props) (reply.Success physical attrs) s = rest_changed id _ s
+rest_answered true path (request.Update id props) (reply.Failed c) s = rest_changed id _ s
+rest_answered false path (request.Update id props) (reply.Failed c) s = rest_same s
+rest_answered restores path (request.Delete id) (reply.Success physical attrs) s =
+    record { ledger = refl; tokens = refl; entries = refl; going = refl; before = refl; operation = refl }
+rest_answered restores path (request.Delete id) (reply.Failed code.NotFound) s =
+    record { ledger = refl; tokens = refl; entries = refl; going = refl; before = refl; operation = refl }
+rest_answered restores path (request.Delete id) (reply.Failed c) s = rest_changed id _ s
+rest_answered restores path (request.Create k props) reply.Doubt s = rest_same s
+rest_answered restores path (request.Update id props) reply.Doubt s = rest_same s
+rest_answered restores path (request.Delete id) reply.Doubt s = rest_same s
 
 none_replied : (s : StackState) (token : ℕ) (a : Reply) (o : Option Pending) → HasNoDeletion s → HasNoDeletion (replied token a o s)
 none_replied s token a None h = h
@@ -105,7 +126,7 @@ none_replied s token a (Some p) h =
     let u = answered (is_restore token s) p.path p.request a s in
     let like = like_replied token a (Some p) s in
     subst (λ n. NoneIn n (where_call token (answered_call a) u.ledger)) (sym like.operation)
-    (subst (λ cs. NoneIn s.operation (where_call token (answered_call a) cs)) (sym (answered_ledger (is_restore token s) p.path p.request a s))
+    (subst (λ cs. NoneIn s.operation (where_call token (answered_call a) cs)) (sym (rest_answered (is_restore token s) p.path p.request a s).ledger)
     (none_changed s.operation (row_after token a) (λ c. let k = row_keeps token a c in (k.1, k.2)) s.ledger h))
 
 kept_ledger : (path physical : List ℕ) (w : Why) (s : StackState) → (keeping path physical w s).ledger ≡ s.ledger
@@ -123,7 +144,8 @@ forward_deletes_nothing status.UpdateInProgress e = refl
 forward_deletes_nothing status.UpdateRollbackInProgress e = refl
 forward_deletes_nothing st e = let no : ⊥ = cc in absurd no
 
-turns_from : (schemas : List Schema) (name : List ℕ) (x : World) (s : StackState) (p : Phase) (c : Option Cause) → MayTurn schemas name x s p c → deletes_nothing s.status ≡ true
+turns_from : (schemas : List Schema) (name : List ℕ) (x : World) (s : StackState) (p : Phase) (c : Option Cause) → MayTurn schemas name x s p c
+    → deletes_nothing s.status ≡ true
 turns_from schemas name x s phase.Clean None may = ap deletes_nothing may.0
 turns_from schemas name x s phase.Clean (Some c) may = absurd may
 turns_from schemas name x s phase.Back (Some c) may = forward_deletes_nothing s.status may.0
@@ -151,14 +173,15 @@ module _ (schemas : List Schema) (name : List ℕ) (x : World) (s : StackState) 
   never_back status.CreateInProgress e = e
   never_back st e = e
 
-  never_ends_so : (state : Status) → deletes_nothing state ≡ true → EndsAs schemas name x s s.status state → ⊥
+  pub never_ends_so : (state : Status) → deletes_nothing state ≡ true → EndsAs schemas name x s s.status state → ⊥
   never_ends_so status.CreateInProgress e = never_create s.status
   never_ends_so status.UpdateInProgress e = never_update s.status
   never_ends_so status.UpdateRollbackInProgress e = never_back s.status
   never_ends_so state e = absurd (true≢false (sym e))
 
 -- as an operation begins all rows are of earlier ones
-none_begun : (name : List ℕ) (number place : ℕ) (k : Begun) (s : StackState) → ((c : Call) → In c s.ledger → c.number < number) → HasNoDeletion (effect_at place (entry.Begin number name k) s).stack
+none_begun : (name : List ℕ) (number place : ℕ) (k : Begun) (s : StackState) → ((c : Call) → In c s.ledger → c.number < number)
+    → HasNoDeletion (effect_at place (entry.Begin number name k) s).stack
 none_begun name number place k s low = by k where
   old : (cs : List Call) → ((c : Call) → In c cs → In c s.ledger) → NoneIn number (map anew cs)
   old cs of c i id =
@@ -191,9 +214,12 @@ module _ (schemas : List Schema) (x : World) (out : List ℕ) (name : List ℕ) 
   module _ (number token : ℕ) (lane path : List ℕ) (r : Request) (stage : Stage) (in_stage : stage_of s.status ≡ Some stage)
       (may : MayIntend schemas name x out s stage token lane path r) where
     none_asked : (st : Status) → s.status ≡ st → deletes_nothing st ≡ true → (id : List ℕ) → deletes id r ≡ false
-    none_asked status.CreateInProgress is e = asked_forward path r (subst (λ g. IntendsIn g schemas name x s path r) (some_same stage Forward (sym in_stage ∙ ap stage_of is)) may.chosen)
-    none_asked status.UpdateInProgress is e = asked_forward path r (subst (λ g. IntendsIn g schemas name x s path r) (some_same stage Forward (sym in_stage ∙ ap stage_of is)) may.chosen)
-    none_asked status.UpdateRollbackInProgress is e = asked_back is path r (subst (λ g. IntendsIn g schemas name x s path r) (some_same stage Back (sym in_stage ∙ ap stage_of is)) may.chosen)
+    none_asked status.CreateInProgress is e = asked_forward path r (subst (λ g. IntendsIn g schemas name x s path r)
+        (some_same stage Forward (sym in_stage ∙ ap stage_of is)) may.chosen)
+    none_asked status.UpdateInProgress is e = asked_forward path r (subst (λ g. IntendsIn g schemas name x s path r)
+        (some_same stage Forward (sym in_stage ∙ ap stage_of is)) may.chosen)
+    none_asked status.UpdateRollbackInProgress is e = asked_back is path r
+        (subst (λ g. IntendsIn g schemas name x s path r) (some_same stage Back (sym in_stage ∙ ap stage_of is)) may.chosen)
     none_asked st is e = absurd (true≢false (sym e))
 
   module _ (fits : Fits x s) (apart : AreApart x) (was : known_stack name x ≡ s) (h : deletes_nothing s.status ≡ true → HasNoDeletion s) where
@@ -207,7 +233,8 @@ module _ (schemas : List Schema) (x : World) (out : List ℕ) (name : List ℕ) 
         → deletes_nothing (effect_at place e s).stack.status ≡ true → HasNoDeletion (effect_at place e s).stack
     none_by_own place (entry.Kept number path physical w) stage in_stage own may e =
         let like = like_kept path physical w s in
-        none_same s (effect_at place (entry.Kept number path physical w) s).stack like.operation (kept_ledger path physical w s) (h (ap deletes_nothing (sym like.status) ∙ e))
+        none_same s (effect_at place (entry.Kept number path physical w) s).stack like.operation (kept_ledger path physical w s)
+        (h (ap deletes_nothing (sym like.status) ∙ e))
     none_by_own place (entry.Intent number token lane path r) stage in_stage own may e =
         let q : Pending = record { token = token; path = path; lane = lane; request = r } in
         let g = ap deletes_nothing (sym (like_intended number q s).status) ∙ e in
@@ -261,7 +288,7 @@ pub record IsTurned (schemas : List Schema) (name : List ℕ) (x : World) (s t :
   pub ledger : t.ledger ≡ map anew s.ledger
   pub tokens : t.tokens ≡ s.tokens
 
-turned_by : (place number : ℕ) (p : Phase) (c : Option Cause) (s : StackState)
+pub turned_by : (place number : ℕ) (p : Phase) (c : Option Cause) (s : StackState)
     → ((effect_at place (entry.Phase number p c) s).stack.status ≡ turned s.status p) × ((effect_at place (entry.Phase number p c) s).stack.tokens ≡ s.tokens)
 turned_by place number phase.Clean c s = (refl, refl)
 turned_by place number phase.Back c s = (refl, refl)
@@ -354,10 +381,12 @@ back_tidied schemas name x s t h now is l phase.Clean (Some c) g may = absurd ma
 
 pub tidying_begins : TidyingBegins
 tidying_begins schemas x out e name s t source w is now a h =
-    let l = turned_to schemas x out name s Clean status.UpdateCompleteCleanupInProgress of_update (λ k. let f = sym is ∙ k in cc) (written_is_to schemas x out e name s t w) now in
+    let l = turned_to schemas x out name s Clean status.UpdateCompleteCleanupInProgress of_update (λ k. let f = sym is ∙ k in cc)
+    (written_is_to schemas x out e name s t w) now in
     forward_tidied schemas name x s t source a h is now l l.turn l.why l.status l.may
 
 pub back_tidying_begins : BackTidyingBegins
 back_tidying_begins schemas x out e name s t w is now h =
-    let l = turned_to schemas x out name s BackClean status.UpdateRollbackCompleteCleanupInProgress of_rollback (λ k. let f = sym is ∙ k in cc) (written_is_to schemas x out e name s t w) now in
+    let l = turned_to schemas x out name s BackClean status.UpdateRollbackCompleteCleanupInProgress of_rollback (λ k. let f = sym is ∙ k in cc)
+    (written_is_to schemas x out e name s t w) now in
     back_tidied schemas name x s t h now is l l.turn l.why l.status l.may

@@ -1,10 +1,10 @@
 -- A deletion of a cleanup goes out, or its resource is kept.
-use Rattle.std.proofs.Common.{◌≡◌, ◌≢◌, ◌⊎◌, inl, inr, ℕ, ◌<◌, ◌==◌, Bool, true, false, not, List, [], ◌∷◌, ◌++◌, Option, Some, None, refl, sym, ap, subst, ◌∙◌, true≢false, find, length, arith}
+use Rattle.std.proofs.Common.{◌≡◌, ◌≢◌, ◌⊎◌, inl, inr, ℕ, ◌<◌, ◌==◌, Bool, true, false, not, List, [], ◌∷◌, ◌++◌, Some, None, refl, sym, ap, subst, ◌∙◌, true≢false, find, length, arith}
 use Rattle.std.specs.Prelude.{cond}
 use Rattle.std.specs.List.{list_any}
 use Rattle.std.specs.Option.{option_map_or}
 use Rattle.std.specs.Str.{bytes_eq}
-use Rattle.std.proofs.lemmas.Bool.{and_from, and_left, and_right, eq-eqb, eqb-true}
+use Rattle.std.proofs.lemmas.Bool.{and_from, and_left, and_right, eq-eqb}
 use Rattle.std.proofs.lemmas.List.{append-nil}
 use Rattle.std.proofs.lemmas.Slice.Eq.{bytes_eq-Decides}
 use Rattle.cf_tree.specs.declared.request.Request.TheVariants as request
@@ -21,13 +21,14 @@ use Rattle.cf_stacks.specs.Reply.{keeping, keeping_known, keeping_unknown}
 use Rattle.cf_plan.specs.Follow.{cleaned_in, is_free}
 use Rattle.cf_plan.specs.Forward.{In}
 use Rattle.cf_plan.proofs.CreatedRight.{free_path, in_filter, not_so}
-use Rattle.cf_plan.proofs.CreatedStays.{found_in_more, found_one, found_still}
+use Rattle.cf_plan.proofs.CreatedStays.{found_in_more, found_still}
 use Rattle.cf_plan.proofs.RunLists.{in_either, in_end, in_front, in_kept, in_one, none_any}
 use Rattle.cf_core.specs.Course.{IsOpenDeletion, IsOwnCall, IsTried}
 use Rattle.cf_core.specs.Fits.{Fits}
 use Rattle.cf_core.specs.Tidying.{IsCleanup, IsTidying}
 use Rattle.cf_core.proofs.TidyLedger.{is_try, refusals, tried_length, tried_refused, tries, tries_end, try, one_more}
 use Rattle.cf_core.proofs.TidyLists.{bytes_or, one_of_bytes}
+use Rattle.cf_core.proofs.TidyOwn.{new_called, new_open}
 use Rattle.cf_core.proofs.TidySteps.{IsLeftSo, IsOther, carried, cleaned_same, left_deleted, of_stack, quiet, quiet_same, tried_still}
 
 module _ (x : World) (s : StackState) (fits : Fits x s) (stage : Stage) (at : Status) (cleanup : IsCleanup stage at) (h : IsTidying (cleaned_in stage s) s) where
@@ -42,23 +43,8 @@ module _ (x : World) (s : StackState) (fits : Fits x s) (stage : Stage) (at : St
     abbrev row : Call
     row = new_call number state q
 
-    not_called : (c : Call) → find (is_call q.token) s.ledger ≡ Some c → ⊥
-    not_called c f =
-        let one = found_one (is_call q.token) s.ledger c f in
-        let same = eqb-true q.token c.token one.1 in
-        let low = fits.last c one.0 in
-        omega (arith, same, low, new)
-
-    none_called : find (is_call q.token) s.ledger ≡ None
-    none_called = by (find (is_call q.token) s.ledger) not_called where
-      by : (o : Option Call) → ((c : Call) → o ≡ Some c → ⊥) → o ≡ None
-      by None g = refl
-      by (Some c) g = absurd (g c refl)
-
     pub none_open : list_any (has_token q.token) s.tokens ≡ false
-    none_open = none_any (has_token q.token) s.tokens (λ p i e.
-        let c = fits.rows p i in
-        not_called c.0 (ap (λ n. call_of n s) (eqb-true q.token p.token e) ∙ c.1))
+    none_open = new_open x s fits q.token new
 
     abbrev with_call : StackState
     with_call = record s { tokens = s.tokens ++ q ∷ []; ledger = s.ledger ++ row ∷ [] }
@@ -81,20 +67,22 @@ module _ (x : World) (s : StackState) (fits : Fits x s) (stage : Stage) (at : St
       old_open id p o = (subst (In p) (sym l.tokens) (in_front p s.tokens (q ∷ []) o.0), o.1, rows_now p o.2)
 
       other_tried : (id : List ℕ) → id ≢ r.physical → IsTried s id → IsTried t id
-      other_tried id n = tried_still s t id (counts_now id ∙ ap (λ b. tries s.operation id s.ledger ++ cond b (was_refused row ∷ []) []) apart ∙ no_more) (old_open id) where
-        apart : is_try s.operation id row ≡ false
-        apart = and_right (number == s.operation) (deletes id q.request) (ap (deletes id) deletes_it ∙ by (bytes_eq id r.physical) refl) where
-          by : (b : Bool) → bytes_eq id r.physical ≡ b → b ≡ false
-          by true e = absurd (n ((bytes_eq-Decides id r.physical).0 e))
-          by false e = refl
+      other_tried id n = tried_still s t id (counts_now id ∙ ap (λ b. tries s.operation id s.ledger ++ cond b (was_refused row ∷ []) []) apart ∙ no_more)
+          (old_open id) where
+            apart : is_try s.operation id row ≡ false
+            apart = and_right (number == s.operation) (deletes id q.request) (ap (deletes id) deletes_it ∙ by (bytes_eq id r.physical) refl) where
+              by : (b : Bool) → bytes_eq id r.physical ≡ b → b ≡ false
+              by true e = absurd (n ((bytes_eq-Decides id r.physical).0 e))
+              by false e = refl
 
-        no_more : tries s.operation id s.ledger ++ [] ≡ tries s.operation id s.ledger
-        no_more = append-nil (tries s.operation id s.ledger)
+            no_more : tries s.operation id s.ledger ++ [] ≡ tries s.operation id s.ledger
+            no_more = append-nil (tries s.operation id s.ledger)
 
       this_tried : IsTried s r.physical → IsTried t r.physical
       this_tried (inr (p, o, m)) = absurd (not_open p o.0 o.1)
       this_tried (inl m) =
-          let is_one : is_try s.operation r.physical row ≡ true = and_from (number == s.operation) (deletes r.physical q.request) (eq-eqb number s.operation of_it) (ap (deletes r.physical) deletes_it ∙ (bytes_eq-Decides r.physical r.physical).1 refl) in
+          let is_one : is_try s.operation r.physical row ≡ true = and_from (number == s.operation) (deletes r.physical q.request) (eq-eqb number s.operation of_it)
+          (ap (deletes r.physical) deletes_it ∙ (bytes_eq-Decides r.physical r.physical).1 refl) in
           let not_yet : was_refused row ≡ false = ap (λ k. is_refusal k None) deletes_it in
           let now : tries t.operation r.physical t.ledger ≡ tries s.operation r.physical s.ledger ++ false ∷ [] =
           counts_now r.physical ∙ ap (λ b. tries s.operation r.physical s.ledger ++ cond b (was_refused row ∷ []) []) is_one
@@ -105,13 +93,17 @@ module _ (x : World) (s : StackState) (fits : Fits x s) (stage : Stage) (at : St
           let e = more.0 in let f = more.1 in
           inr (q, (subst (In q) (sym l.tokens) (in_end q s.tokens), deletes_it, (row, found_now, of_it ∙ sym l.operation)), omega (arith, a, b, c, d, e, f, m)) where
             found_now : call_of q.token t ≡ Some row
-            found_now = ap (find (is_call q.token)) l.ledger ∙ found_in_more (is_call q.token) s.ledger row (eq-eqb q.token q.token refl) none_called
+            found_now = ap (find (is_call q.token)) l.ledger ∙ found_in_more (is_call q.token) s.ledger row (eq-eqb q.token q.token refl) (new_called x s fits q.token new)
 
       is_kept : cleaned_in stage t ≡ cleaned_in stage s
       is_kept = cleaned_same stage at cleanup s t l.held l.made
 
       pub tidy_called : IsTidying (cleaned_in stage t) t
-      tidy_called = subst (λ rs. IsTidying rs t) (sym is_kept) (record { calls = λ p i. each p (in_either p s.tokens (q ∷ []) (subst (In p) l.tokens i)); tried = λ k i. by k (bytes_or k.physical r.physical) (h.tried k i) }) where
+      tidy_called = subst (λ rs. IsTidying rs t) (sym is_kept) (record {
+        calls = λ p i. each p (in_either p s.tokens (q ∷ []) (subst (In p) l.tokens i));
+        tried =
+            λ k i. by k (bytes_or k.physical r.physical) (h.tried k i);
+      }) where
         each : (p : Pending) → In p s.tokens ⊎ In p (q ∷ []) → (k : Held) × In k (cleaned_in stage s) × (p.request ≡ request.Delete k.physical) × (p.path ≡ k.path)
         each p (inl i) = h.calls p i
         each p (inr i) = let e = in_one p q i in (r, is_cleaned, ap (λ k. k.request) e ∙ deletes_it, ap (λ k. k.path) e ∙ at_path)
@@ -141,14 +133,16 @@ module _ (x : World) (s : StackState) (fits : Fits x s) (stage : Stage) (at : St
           on_it p id e same = ap (λ k. option_map_or (bytes_eq physical) (id_named k) false) e ∙ (bytes_eq-Decides physical id).1 (sym same)
 
           stays : (p : Pending) (id : List ℕ) → In p s.tokens → p.request ≡ request.Delete id → id ≢ physical → In p t.tokens
-          stays p id i e n = subst (In p) (sym l.tokens) (in_kept (λ k. not (is_on physical k)) s.tokens p i (ap (λ k. not (option_map_or (bytes_eq physical) (id_named k) false)) e ∙ by (bytes_eq physical id) refl)) where
-            by : (b : Bool) → bytes_eq physical id ≡ b → not b ≡ true
-            by true g = absurd (n (sym ((bytes_eq-Decides physical id).0 g)))
-            by false g = refl
+          stays p id i e n = subst (In p) (sym l.tokens) (in_kept (λ k. not (is_on physical k)) s.tokens p i
+              (ap (λ k. not (option_map_or (bytes_eq physical) (id_named k) false)) e ∙ by (bytes_eq physical id) refl)) where
+                by : (b : Bool) → bytes_eq physical id ≡ b → not b ≡ true
+                by true g = absurd (n (sym ((bytes_eq-Decides physical id).0 g)))
+                by false g = refl
 
     pub tidy_kept : (t : StackState) → IsLeftSo t (keeping path physical w s) → IsTidying (cleaned_in stage t) t
     tidy_kept t = by (bytes_eq physical []) (list_any (is_create_at path) s.tokens) (list_any (has_physical physical) (resources_of s)) no_create where
-      by : (a b c : Bool) → b ≡ false → IsLeftSo t (cond a (cond b (keeping_unknown path w s) s) (cond c (keeping_known path physical w s) s)) → IsTidying (cleaned_in stage t) t
+      by : (a b c : Bool) → b ≡ false → IsLeftSo t (cond a (cond b (keeping_unknown path w s) s) (cond c (keeping_known path physical w s) s))
+          → IsTidying (cleaned_in stage t) t
       by true true c e l = absurd (true≢false e)
       by true false c e l = tidy_same t l
       by false b true e l = kept_known t l

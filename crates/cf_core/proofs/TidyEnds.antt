@@ -1,14 +1,17 @@
 -- A cleanup has a next step until nothing of it is left, and then it ends.
-use Rattle.std.proofs.Common.{◌≡◌, ◌⊎◌, inl, inr, ℕ, ◌+◌, Bool, true, false, not, nat_lt, List, [], ◌∷◌, Some, refl, sym, ap, subst, ◌∙◌, true≢false, map, filter, length}
+use Rattle.std.proofs.Common.{◌≡◌, ◌⊎◌, inl, inr, ℕ, ◌+◌, Bool, true, false, not, nat_lt, List, [], Option, ◌∷◌, Some, refl, sym, ap, subst, ◌∙◌, true≢false, map, filter, length}
 use Rattle.std.specs.List.{list_any}
 use Rattle.std.specs.Str.{bytes_eq}
 use Rattle.std.proofs.lemmas.Bool.{ltb-false}
 use Rattle.std.proofs.lemmas.Slice.Eq.{bytes_eq-Decides}
+use Rattle.cf_tree.specs.declared.request.Request.{Request}
 use Rattle.cf_tree.specs.declared.request.Request.TheVariants as request
 use Rattle.cf_entry.specs.declared.entry.Entry.{Entry}
 use Rattle.cf_entry.specs.declared.entry.Entry.TheVariants as entry
 use Rattle.cf_entry.specs.declared.status.Status.{Status}
 use Rattle.cf_entry.specs.declared.status.Status.TheVariants as status
+use Rattle.cf_entry.specs.declared.turn.Cause.{Cause}
+use Rattle.cf_entry.specs.declared.turn.Phase.{Phase}
 use Rattle.cf_entry.specs.declared.turn.Why.{Why}
 use Rattle.cf_entry.specs.declared.turn.Why.TheVariants as why
 use Rattle.cf_handler.specs.Move.{IsOfLane}
@@ -23,7 +26,7 @@ use Rattle.cf_stacks.specs.Calls.{deletions_of, doubts_of, refusals_of}
 use Rattle.cf_stacks.specs.End.{marked}
 use Rattle.cf_stacks.specs.Fold.{effect_at}
 use Rattle.cf_stacks.specs.Status.{Gone, Stage, stage_of, reviewed as reviewed_status}
-use Rattle.cf_plan.specs.Follow.{EndsAs, IntendsIn, IsAtEnd, IsNamedLane, MayDelete, MayFollowIn, MayKeep, MayRepeat, MayStep, calls_in_flight, cleaned_in, is_free, is_in_flight, is_lane_leased, is_tried_less, keeps, none_in_flight, waits_for_repeats}
+use Rattle.cf_plan.specs.Follow.{EndsAs, IntendsIn, IsAtEnd, IsNamedLane, MayDelete, MayFollowIn, MayIntend, MayKeep, MayRepeat, MayStep, MayTurn, calls_in_flight, cleaned_in, is_free, is_in_flight, is_lane_leased, is_tried_less, keeps, none_in_flight, waits_for_repeats}
 use Rattle.cf_plan.specs.Forward.{In, here}
 use Rattle.cf_plan.specs.Run.{IsOwn}
 use Rattle.cf_plan.proofs.Going.{like_intended, like_kept, like_replied}
@@ -31,7 +34,7 @@ use Rattle.cf_plan.proofs.CreatedRight.{in_filter}
 use Rattle.cf_plan.proofs.RunLists.{any_of, in_kept, none_any}
 use Rattle.cf_core.specs.Course.{IsTried}
 use Rattle.cf_core.specs.Fits.{Fits}
-use Rattle.cf_core.specs.GoesOn.{CleanupGoesOn, GoesOn, StepsIn}
+use Rattle.cf_core.specs.GoesOn.{CleanupGoesOn, HasNext, StepsIn}
 use Rattle.cf_core.specs.Tidying.{IsCleanup, IsTidied, IsTidying, TidyingEnds, cleaned_up, of_rollback, of_update}
 use Rattle.cf_core.specs.Written.{IsTo, begins, opened, other, reviewed, step}
 use Rattle.cf_core.proofs.TidyLaws.{deleted_of}
@@ -53,8 +56,25 @@ at_home x lane = none_any (λ (s : List ℕ × StackState). list_any (λ c. byte
 pub none_flying : (s : StackState) → none_in_flight [] s ≡ true
 none_flying s = ap is_empty (none_calls s)
 
+-- a stage is at its end where no call begins or is made again, nothing is kept and no phase begins
+pub at_end_by : (schemas : List Schema) (name : List ℕ) (x : World) (s : StackState) (stage : Stage)
+    → ((token : ℕ) (lane path : List ℕ) (r : Request) → MayIntend schemas name x [] s stage token lane path r → ⊥)
+    → ((path id : List ℕ) (w : Why) → MayKeep stage [] s path id w → ⊥) → ((p : Phase) (c : Option Cause) → MayTurn schemas name x s p c → ⊥)
+    → ((p : Pending) → MayRepeat schemas name x [] s stage p → ⊥) → IsAtEnd schemas name x s stage
+at_end_by schemas name x s stage no_call no_keep no_turn no_repeat = (no_step, no_repeat) where
+  no_step : (e : Entry) → MayStep schemas name x [] s stage e → ⊥
+  no_step (entry.Intent number token lane path r) w = no_call token lane path r w
+  no_step (entry.Kept number path id w) k = no_keep path id w k
+  no_step (entry.Phase number p c) w = no_turn p c w
+  no_step (entry.Opened epoch lanes) w = w
+  no_step (entry.Begin number n k) w = w
+  no_step (entry.Outcome number token a before after) w = w
+  no_step (entry.Done number state failed) w = w
+  no_step (entry.ChangeSet number n source rows outputs) w = w
+
 -- a lane that an id names
-pub lane_of : (x : World) (physical k : List ℕ) → IsNamedLane x.lanes physical k → (lane : List ℕ) × IsOfLane lane physical × (list_any (λ l. bytes_eq lane l.0) x.lanes ≡ true)
+pub lane_of : (x : World) (physical k : List ℕ) → IsNamedLane x.lanes physical k
+    → (lane : List ℕ) × IsOfLane lane physical × (list_any (λ l. bytes_eq lane l.0) x.lanes ≡ true)
 lane_of x physical k (l, i, of_lane, kind) = (l.0, of_lane, any_of (λ (m : List ℕ × List ℕ). bytes_eq l.0 m.0) x.lanes l i ((bytes_eq-Decides l.0 l.0).1 refl))
 
 module _ (schemas : List Schema) (name : List ℕ) (x : World) (s : StackState) (stage : Stage) (at : Status) (cleanup : IsCleanup stage at) (is : s.status ≡ at)
@@ -159,29 +179,27 @@ module _ (schemas : List Schema) (name : List ℕ) (x : World) (s : StackState) 
     no_keep path physical why.Failed k = none_cleaned k.0.0 k.0.1
     no_keep path physical why.Doubt k = none_cleaned k.0.0 k.0.1
 
-    no_step : (e : Entry) → MayStep schemas name x [] s stage e → ⊥
-    no_step (entry.Intent number token lane path r) may = let w = deleted_of schemas name x s stage at cleanup path r may.chosen in none_cleaned w.0 w.1
-    no_step (entry.Kept number path physical w) may = no_keep path physical w may
-    no_step (entry.Phase number p c) may = never_turns schemas name x s stage at cleanup is p c may
-    no_step (entry.Opened epoch lanes) may = may
-    no_step (entry.Begin number n k) may = may
-    no_step (entry.Outcome number token a before after) may = may
-    no_step (entry.Done number state failed) may = may
-    no_step (entry.ChangeSet number n source rows outputs) may = may
-
     of_tokens : (k : Stage) (a : Status) → IsCleanup k a → (p : Pending) → MayRepeat schemas name x [] s k p → In p s.tokens
     of_tokens k a of_update p may = may.0
     of_tokens k a of_rollback p may = may.0
 
     at_end : IsAtEnd schemas name x s stage
-    at_end = (no_step, λ p may. elim (subst (In p) d.0 (of_tokens stage at cleanup p may)) [ ])
+    at_end = at_end_by schemas name x s stage (λ token lane path r may. let w = deleted_of schemas name x s stage at cleanup path r may.chosen in none_cleaned w.0 w.1)
+        no_keep (never_turns schemas name x s stage at cleanup is) (λ p may. elim (subst (In p) d.0 (of_tokens stage at cleanup p may)) [ ])
 
     ends_so : (k : Stage) (a : Status) → IsCleanup k a → s.status ≡ a → IsAtEnd schemas name x s k → (e : Entry) × MayFollowIn schemas name x [] s k e
-    ends_so k a of_update e end = (entry.Done s.operation status.UpdateComplete [], (none_flying s, end, subst (λ b. EndsAs schemas name x s b status.UpdateComplete) (sym e) tt, refl))
-    ends_so k a of_rollback e end = (entry.Done s.operation status.UpdateRollbackComplete [], (none_flying s, end, subst (λ b. EndsAs schemas name x s b status.UpdateRollbackComplete) (sym e) tt, refl))
+    ends_so k a of_update e end = (
+      entry.Done s.operation status.UpdateComplete [],
+      (none_flying s, end, subst (λ b. EndsAs schemas name x s b status.UpdateComplete) (sym e) tt, refl),
+    )
+    ends_so k a of_rollback e end = (
+      entry.Done s.operation status.UpdateRollbackComplete [],
+      (none_flying s, end, subst (λ b. EndsAs schemas name x s b status.UpdateRollbackComplete) (sym e) tt, refl),
+    )
 
 -- a step may follow where no lease is out
-step_follows : (schemas : List Schema) (name : List ℕ) (x : World) (s : StackState) (stage : Stage) (e : Entry) → MayStep schemas name x [] s stage e → MayFollowIn schemas name x [] s stage e
+step_follows : (schemas : List Schema) (name : List ℕ) (x : World) (s : StackState) (stage : Stage) (e : Entry) → MayStep schemas name x [] s stage e
+    → MayFollowIn schemas name x [] s stage e
 step_follows schemas name x s stage (entry.Intent number token lane path r) may = may
 step_follows schemas name x s stage (entry.Kept number path physical w) may = may
 step_follows schemas name x s stage (entry.Phase number p c) may = (none_flying s, may)
@@ -193,10 +211,10 @@ step_follows schemas name x s stage (entry.ChangeSet number n source rows output
 
 module _ (schemas : List Schema) (name : List ℕ) (x : World) (s : StackState) (stage : Stage) (going : stack_of_operation s.operation x ≡ Some (name, s))
     (in_stage : stage_of s.status ≡ Some stage) where
-  pub follows : (e : Entry) → MayFollowIn schemas name x [] s stage e → GoesOn schemas x s.operation
+  pub follows : (e : Entry) → MayFollowIn schemas name x [] s stage e → HasNext schemas x s.operation
   follows e may = inl (e, (name, s, stage, going, in_stage, may))
 
-  pub steps : StepsIn schemas name x s stage → GoesOn schemas x s.operation
+  pub steps : StepsIn schemas name x s stage → HasNext schemas x s.operation
   steps (inl (e, may)) = follows e (step_follows schemas name x s stage e may)
   steps (inr (p, may)) = inr (p, (name, s, stage, going, in_stage, may))
 
@@ -205,9 +223,10 @@ cleanup_goes_on schemas name x s stage at going cleanup is fits h = by (steps_or
   in_stage : stage_of s.status ≡ Some stage
   in_stage = ap stage_of is ∙ cleanup_stage stage at cleanup
 
-  by : StepsIn schemas name x s stage ⊎ IsTidied stage s → GoesOn schemas x s.operation
+  by : StepsIn schemas name x s stage ⊎ IsTidied stage s → HasNext schemas x s.operation
   by (inl n) = steps schemas name x s stage going in_stage n
-  by (inr d) = let e = ends_so schemas name x s stage at cleanup is fits h d stage at cleanup is (at_end schemas name x s stage at cleanup is fits h d) in follows schemas name x s stage going in_stage e.0 e.1
+  by (inr d) = let e = ends_so schemas name x s stage at cleanup is fits h d stage at cleanup is
+      (at_end schemas name x s stage at cleanup is fits h d) in follows schemas name x s stage going in_stage e.0 e.1
 
 -- An entry that leaves the status of a cleanup is its end.
 none_marked : (ps : List Pending) → ps ≡ [] → (hs : List Held) → map (marked ps) hs ≡ hs
@@ -274,7 +293,8 @@ module _ (schemas : List Schema) (x : World) (out : List ℕ) (name : List ℕ) 
   ended_own place (entry.ChangeSet number m source rows outputs) own may n = absurd own
 
   ended_to : {e : Entry} {t : StackState} → IsTo schemas x out name s e t → (t.status ≡ at → ⊥) → IsEnded stage at s t
-  ended_to (step {e = e} g in_g own may) n = ended_own (x.place + 1) e own (subst (λ k. MayFollowIn schemas name x out s k e) (some_same g stage (sym in_g ∙ in_this)) may) n
+  ended_to (step {e = e} g in_g own may) n = ended_own (x.place + 1) e own
+      (subst (λ k. MayFollowIn schemas name x out s k e) (some_same g stage (sym in_g ∙ in_this)) may) n
   ended_to (begins k from by) n = absurd (never_begins stage at cleanup s is k from)
   ended_to (reviewed number source rows outputs from) n = absurd (n (ap reviewed_status is ∙ reviewed_cleanup stage at cleanup))
   ended_to (opened epoch lanes) n = absurd (n is)

@@ -35,7 +35,8 @@ use Rattle.cf_core.proofs.Written.{written_is_to}
 pub deleted_of :
     (schemas : List Schema) (name : List ℕ) (x : World) (s : StackState) (stage : Stage) (at : Status) → IsCleanup stage at → (path : List ℕ) (q : Request)
     → IntendsIn stage schemas name x s path q → (r : Held) × In r (cleaned_in stage s) × (q ≡ request.Delete r.physical) × (path ≡ r.path)
-deleted_of schemas name x s stage at of_update path (request.Delete physical) (r, may, keeps, p, id) = (r, in_kept (λ k. k.superseded) s.held r may.0 may.1, ap (λ i. request.Delete i) id, p)
+deleted_of schemas name x s stage at of_update path (request.Delete physical) (r, may, keeps, p, id) =
+    (r, in_kept (λ k. k.superseded) s.held r may.0 may.1, ap (λ i. request.Delete i) id, p)
 deleted_of schemas name x s stage at of_rollback path (request.Delete physical) (r, may, keeps, p, id) = (r, may.0, ap (λ i. request.Delete i) id, p)
 deleted_of schemas name x s stage at of_update path (request.Create kind props) may = absurd may
 deleted_of schemas name x s stage at of_rollback path (request.Create kind props) may = absurd may
@@ -70,7 +71,8 @@ module _ (schemas : List Schema) (x : World) (out : List ℕ) (name : List ℕ) 
       (subst (IsLeftSo t) (ap (λ b. cond b s (record s { tokens = s.tokens ++ q ∷ []; ledger = s.ledger ++ new_call number s.status q ∷ [] }))
       (none_open x s fits stage at cleanup h q number s.status of_it new may.free d.0 d.1 d.2 d.3)) l)
 
-  answering : (t : StackState) (token : ℕ) (a : Reply) → (o : Option Pending) → pending_of token s ≡ o → IsLeftSo t (replied token a o s) → IsTidying (cleaned_in stage t) t
+  answering : (t : StackState) (token : ℕ) (a : Reply) → (o : Option Pending) → pending_of token s ≡ o → IsLeftSo t (replied token a o s)
+      → IsTidying (cleaned_in stage t) t
   answering t token a None e l = tidy_same x s fits stage at cleanup h t l
   answering t token a (Some p) e l =
       let c = h.calls p (found_one (has_token token) s.tokens p e).0 in

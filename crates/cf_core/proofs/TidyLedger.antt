@@ -90,34 +90,39 @@ module _ (number : ℕ) (id : List ℕ) where
     pub tries_refused : (cs : List Call) (c : Call) → find (is_call token) cs ≡ Some c → all_differ ◌==◌ (map (λ d. d.token) cs) ≡ true → is_try c ≡ true
         → was_refused c ≡ false → is_try (change c) ≡ true → was_refused (change c) ≡ true → IsOneMore (tries cs) (tries (map changed cs))
     tries_refused [] c f d a r b q = let no : ⊥ = cc in absurd no
-    tries_refused (e ∷ es) c f d a r b q = by (is_call token e) refl f (λ g. tries_refused es c g (second_so (not (list_any (◌==◌ e.token) (map (λ k. k.token) es))) (all_differ ◌==◌ (map (λ k. k.token) es)) d) a r b q) where
-      at_head : (g : is_call token e ≡ true) → e ≡ c → IsOneMore (tries (e ∷ es)) (tries (map changed (e ∷ es)))
-      at_head g same =
-          let apart : list_any (◌==◌ token) (map (λ k. k.token) es) ≡ false = ap (λ n. list_any (◌==◌ n) (map (λ k. k.token) es)) (eqb-true token e.token g) ∙ not_so _ (first_so (not (list_any (◌==◌ e.token) (map (λ k. k.token) es))) (all_differ ◌==◌ (map (λ k. k.token) es)) d) in
-          let now : tries (map changed (e ∷ es)) ≡ true ∷ tries es =
-          ap (λ k. tries (cond k (change e) e ∷ map changed es)) g ∙ ap (λ ks. tries (change e ∷ ks)) (not_called es apart) ∙ tries_more (change e) es
-          ∙ ap (λ k. cond k (was_refused (change e) ∷ tries es) (tries es)) (ap (λ k. is_try (change k)) same ∙ b) ∙ ap (λ k. k ∷ tries es) (ap (λ k. was_refused (change k)) same ∙ q) in
-          let was : tries (e ∷ es) ≡ false ∷ tries es =
-          tries_more e es ∙ ap (λ k. cond k (was_refused e ∷ tries es) (tries es)) (ap is_try same ∙ a) ∙ ap (λ k. k ∷ tries es) (ap was_refused same ∙ r) in
-          record {
-            length = ap length now ∙ sym (ap length was);
-            count = let n = ap refusals now in let w = ap refusals was in omega (arith, n, w);
-          }
+    tries_refused (e ∷ es) c f d a r b q = by (is_call token e) refl f (λ g. tries_refused es c g
+        (second_so (not (list_any (◌==◌ e.token) (map (λ k. k.token) es))) (all_differ ◌==◌ (map (λ k. k.token) es)) d) a r b q) where
+          at_head : (g : is_call token e ≡ true) → e ≡ c → IsOneMore (tries (e ∷ es)) (tries (map changed (e ∷ es)))
+          at_head g same =
+              let apart : list_any (◌==◌ token) (map (λ k. k.token) es) ≡ false = ap (λ n. list_any (◌==◌ n) (map (λ k. k.token) es)) (eqb-true token e.token g)
+              ∙ not_so _ (first_so (not (list_any (◌==◌ e.token) (map (λ k. k.token) es))) (all_differ ◌==◌ (map (λ k. k.token) es)) d) in
+              let now : tries (map changed (e ∷ es)) ≡ true ∷ tries es =
+              ap (λ k. tries (cond k (change e) e ∷ map changed es)) g ∙ ap (λ ks. tries (change e ∷ ks)) (not_called es apart) ∙ tries_more (change e) es
+              ∙ ap (λ k. cond k (was_refused (change e) ∷ tries es) (tries es)) (ap (λ k. is_try (change k)) same ∙ b)
+              ∙ ap (λ k. k ∷ tries es) (ap (λ k. was_refused (change k)) same ∙ q) in
+              let was : tries (e ∷ es) ≡ false ∷ tries es =
+              tries_more e es ∙ ap (λ k. cond k (was_refused e ∷ tries es) (tries es)) (ap is_try same ∙ a) ∙ ap (λ k. k ∷ tries es) (ap was_refused same ∙ r) in
+              record {
+                length = ap length now ∙ sym (ap length was);
+                count = let n = ap refusals now in let w = ap refusals was in omega (arith, n, w);
+              }
 
-      later : is_call token e ≡ false → IsOneMore (tries es) (tries (map changed es)) → (k : Bool) → IsOneMore (cond k (was_refused e ∷ tries es) (tries es)) (cond k (was_refused e ∷ tries (map changed es)) (tries (map changed es)))
-      later g m true = record { length = let n = m.length in omega (arith, n); count = by_refused (was_refused e) m.count } where
-        by_refused : (w : Bool) → refusals (tries (map changed es)) ≡ refusals (tries es) + 1 → refusals (w ∷ tries (map changed es)) ≡ refusals (w ∷ tries es) + 1
-        by_refused true n = omega (arith, n)
-        by_refused false n = n
-      later g m false = m
+          later : is_call token e ≡ false → IsOneMore (tries es) (tries (map changed es)) → (k : Bool)
+              → IsOneMore (cond k (was_refused e ∷ tries es) (tries es)) (cond k (was_refused e ∷ tries (map changed es)) (tries (map changed es)))
+          later g m true = record { length = let n = m.length in omega (arith, n); count = by_refused (was_refused e) m.count } where
+            by_refused : (w : Bool) → refusals (tries (map changed es)) ≡ refusals (tries es) + 1 → refusals (w ∷ tries (map changed es)) ≡ refusals (w ∷ tries es) + 1
+            by_refused true n = omega (arith, n)
+            by_refused false n = n
+          later g m false = m
 
-      by : (k : Bool) → is_call token e ≡ k → cond k (Some e) (find (is_call token) es) ≡ Some c → (find (is_call token) es ≡ Some c → IsOneMore (tries es) (tries (map changed es)))
-          → IsOneMore (tries (e ∷ es)) (tries (map changed (e ∷ es)))
-      by true g h more = at_head g (cc)
-      by false g h more =
-          subst (λ ks. IsOneMore (tries (e ∷ es)) (tries (ks ∷ map changed es))) (ap (λ k. cond k (change e) e) (sym g))
-          (subst (λ bs. IsOneMore bs (tries (e ∷ map changed es))) (sym (tries_more e es))
-          (subst (IsOneMore (try e (tries es))) (sym (tries_more e (map changed es))) (later g (more h) (is_try e))))
+          by : (k : Bool) → is_call token e ≡ k → cond k (Some e) (find (is_call token) es) ≡ Some c
+              → (find (is_call token) es ≡ Some c → IsOneMore (tries es) (tries (map changed es)))
+              → IsOneMore (tries (e ∷ es)) (tries (map changed (e ∷ es)))
+          by true g h more = at_head g (cc)
+          by false g h more =
+              subst (λ ks. IsOneMore (tries (e ∷ es)) (tries (ks ∷ map changed es))) (ap (λ k. cond k (change e) e) (sym g))
+              (subst (λ bs. IsOneMore bs (tries (e ∷ map changed es))) (sym (tries_more e es))
+              (subst (IsOneMore (try e (tries es))) (sym (tries_more e (map changed es))) (later g (more h) (is_try e))))
 
 -- the same, of a stack
 pub tried_length : (id : List ℕ) (s : StackState) → length (deletions_of id s) ≡ length (tries s.operation id s.ledger)
@@ -143,11 +148,12 @@ try_keeps number id c d n r = ap (λ m. (m == number) && deletes id d.request) n
 pub row_found : (change : Call → Call) → ((c : Call) → (change c).token ≡ c.token) → (token : ℕ) (cs : List Call) (c : Call)
     → find (is_call token) cs ≡ Some c → find (is_call token) (map change cs) ≡ Some (change c)
 row_found change same token [] c f = let no : ⊥ = cc in absurd no
-row_found change same token (d ∷ ds) c f = ap (λ n. cond (token == n) (Some (change d)) (find (is_call token) (map change ds))) (same d) ∙ by (is_call token d) f (row_found change same token ds c) where
-  by : (b : Bool) → cond b (Some d) (find (is_call token) ds) ≡ Some c → (find (is_call token) ds ≡ Some c → find (is_call token) (map change ds) ≡ Some (change c))
-      → cond b (Some (change d)) (find (is_call token) (map change ds)) ≡ Some (change c)
-  by true g more = ap (λ k. Some (change k)) (cc)
-  by false g more = more g
+row_found change same token (d ∷ ds) c f = ap (λ n. cond (token == n) (Some (change d)) (find (is_call token) (map change ds))) (same d)
+    ∙ by (is_call token d) f (row_found change same token ds c) where
+      by : (b : Bool) → cond b (Some d) (find (is_call token) ds) ≡ Some c → (find (is_call token) ds ≡ Some c → find (is_call token) (map change ds) ≡ Some (change c))
+          → cond b (Some (change d)) (find (is_call token) (map change ds)) ≡ Some (change c)
+      by true g more = ap (λ k. Some (change k)) (cc)
+      by false g more = more g
 
 pub one_more : (bs : List Bool) → (length (bs ++ false ∷ []) ≡ length bs + 1) × (refusals (bs ++ false ∷ []) ≡ refusals bs)
 one_more [] = (refl, refl)

@@ -23,9 +23,11 @@ pub one_of_key : {A K : Type 0} (same : K → K → Bool) (key : A → K) (xs : 
     → same (key a) (key b) ≡ true → same (key b) (key a) ≡ true → a ≡ b
 one_of_key same key (x ∷ xs) a b d here here e g = refl
 one_of_key same key (x ∷ xs) a b d here (there j) e g =
-    absurd (true≢false (sym e ∙ none_of (same (key x)) (map key xs) (key b) (not_so _ (first_so (not (list_any (same (key x)) (map key xs))) (all_differ same (map key xs)) d)) (in_map key b xs j)))
+    absurd (true≢false (sym e ∙ none_of (same (key x)) (map key xs) (key b)
+    (not_so _ (first_so (not (list_any (same (key x)) (map key xs))) (all_differ same (map key xs)) d)) (in_map key b xs j)))
 one_of_key same key (x ∷ xs) a b d (there i) here e g =
-    absurd (true≢false (sym g ∙ none_of (same (key x)) (map key xs) (key a) (not_so _ (first_so (not (list_any (same (key x)) (map key xs))) (all_differ same (map key xs)) d)) (in_map key a xs i)))
+    absurd (true≢false (sym g ∙ none_of (same (key x)) (map key xs) (key a)
+    (not_so _ (first_so (not (list_any (same (key x)) (map key xs))) (all_differ same (map key xs)) d)) (in_map key a xs i)))
 one_of_key same key (x ∷ xs) a b d (there i) (there j) e g =
     one_of_key same key xs a b (second_so (not (list_any (same (key x)) (map key xs))) (all_differ same (map key xs)) d) i j e g
 one_of_key same key [] a b d i j e g = elim i [ ]

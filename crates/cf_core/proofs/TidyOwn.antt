@@ -1,6 +1,8 @@
--- What does not come in a cleanup.
-use Rattle.std.proofs.Common.{◌≡◌, ℕ, false, List, Option, Some, None, refl, sym, ap, ◌∙◌, true≢false}
+-- A new token, and what does not come in a cleanup.
+use Rattle.std.proofs.Common.{◌≡◌, ℕ, ◌<◌, false, List, Option, Some, None, refl, sym, ap, ◌∙◌, true≢false, find, arith}
 use Rattle.std.specs.Prelude.{IsTrue}
+use Rattle.std.specs.List.{list_any}
+use Rattle.std.proofs.lemmas.Bool.{eqb-true}
 use Rattle.cf_entry.specs.declared.entry.Begun.{Begun}
 use Rattle.cf_entry.specs.declared.entry.Begun.TheVariants as begin
 use Rattle.cf_entry.specs.declared.status.Status.{Status}
@@ -8,13 +10,38 @@ use Rattle.cf_entry.specs.declared.turn.Phase.{Phase}
 use Rattle.cf_entry.specs.declared.turn.Phase.TheVariants as phase
 use Rattle.cf_entry.specs.declared.turn.Cause.{Cause}
 use Rattle.cf_schema.specs.declared.described.Schema.{Schema}
+use Rattle.cf_stacks.specs.declared.call.Call.{Call}
+use Rattle.cf_stacks.specs.Calls.{call_of, is_call}
+use Rattle.cf_stacks.specs.Words.{has_token}
 use Rattle.cf_stacks.specs.World.{StackState, World}
 use Rattle.cf_stacks.specs.Status.{Stage, reviewed, stage_of}
 use Rattle.cf_plan.specs.Follow.{MayTurn, begins_from}
+use Rattle.cf_plan.proofs.CreatedStays.{found_one}
+use Rattle.cf_plan.proofs.RunLists.{none_any}
+use Rattle.cf_core.specs.Fits.{Fits}
 use Rattle.cf_core.specs.Tidying.{IsCleanup, of_rollback, of_update}
 
 pub some_same : {A : Type 0} (a b : A) → Some a ≡ Some b → a ≡ b
 some_same a b e = cc
+
+-- a token above the last one is that of no call
+module _ (x : World) (s : StackState) (fits : Fits x s) (token : ℕ) (new : x.token < token) where
+  not_called : (c : Call) → find (is_call token) s.ledger ≡ Some c → ⊥
+  not_called c f =
+      let one = found_one (is_call token) s.ledger c f in
+      let same = eqb-true token c.token one.1 in
+      let low = fits.last c one.0 in
+      omega (arith, same, low, new)
+
+  pub new_called : find (is_call token) s.ledger ≡ None
+  new_called = by (find (is_call token) s.ledger) not_called where
+    by : (o : Option Call) → ((c : Call) → o ≡ Some c → ⊥) → o ≡ None
+    by None g = refl
+    by (Some c) g = absurd (g c refl)
+
+  pub new_open : list_any (has_token token) s.tokens ≡ false
+  new_open = none_any (has_token token) s.tokens (λ p i e.
+      let c = fits.rows p i in not_called c.0 (ap (λ n. call_of n s) (eqb-true token p.token e) ∙ c.1))
 
 pub cleanup_stage : (stage : Stage) (at : Status) → IsCleanup stage at → stage_of at ≡ Some stage
 cleanup_stage stage at of_update = refl

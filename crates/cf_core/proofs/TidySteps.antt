@@ -148,7 +148,8 @@ left_superseded id rs = record {
 pub left_deleted :
     (stage : Stage) (at : Status) → IsCleanup stage at → (s t : StackState) (id : List ℕ) → t.held ≡ without id s.held → t.made ≡ without id s.made
     → AreLeft (IsOther id) (cleaned_in stage s) (cleaned_in stage t)
-left_deleted stage at of_update s t id held made = subst (λ hs. AreLeft (IsOther id) (filter (λ r. r.superseded) s.held) (filter (λ r. r.superseded) hs)) (sym held) (left_superseded id s.held)
+left_deleted stage at of_update s t id held made = subst (λ hs. AreLeft (IsOther id) (filter (λ r. r.superseded) s.held) (filter (λ r. r.superseded) hs)) (sym held)
+    (left_superseded id s.held)
 left_deleted stage at of_rollback s t id held made = subst (AreLeft (IsOther id) s.made) (sym made) (left_without id s.made)
 
 -- one resource changed, but for its path, its id and whether it is superseded
@@ -158,7 +159,8 @@ IsAny q = Unit {0}
 pub left_all : (rs : List Held) → AreLeft IsAny rs rs
 left_all rs = record { from = λ r i. (r, i, tt, refl); to = λ q i n. (q, i, refl, refl) }
 
-module _ (change : Held → Held) (keeps : (h : Held) → ((change h).physical ≡ h.physical) × ((change h).path ≡ h.path) × ((change h).superseded ≡ h.superseded)) (id : List ℕ) where
+module _ (change : Held → Held) (keeps : (h : Held) → ((change h).physical ≡ h.physical) × ((change h).path ≡ h.path) × ((change h).superseded ≡ h.superseded))
+    (id : List ℕ) where
   kept_by : (q r : Held) → IsOf (has_physical id) change q r → (r.physical ≡ q.physical) × (r.path ≡ q.path) × (r.superseded ≡ q.superseded)
   kept_by q r (inl e) = (ap (λ h. h.physical) e, ap (λ h. h.path) e, ap (λ h. h.superseded) e)
   kept_by q r (inr e) = (ap (λ h. h.physical) e ∙ (keeps q).0, ap (λ h. h.path) e ∙ (keeps q).1, ap (λ h. h.superseded) e ∙ (keeps q).2)
@@ -171,7 +173,8 @@ module _ (change : Held → Held) (keeps : (h : Held) → ((change h).physical �
 
   superseded_where : (rs : List Held) → AreLeft IsAny (filter (λ r. r.superseded) rs) (filter (λ r. r.superseded) (where_physical id change rs))
   superseded_where rs = record {
-    from = λ r i. let f = in_filter (λ q. q.superseded) (where_physical id change rs) r i in let w = from_changed (has_physical id) change rs r f.0 in let k = kept_by w.0 r w.2 in
+    from = λ r i. let f = in_filter (λ q. q.superseded) (where_physical id change rs) r i in let w = from_changed (has_physical id) change rs r f.0 in let k =
+        kept_by w.0 r w.2 in
         (w.0, in_kept (λ q. q.superseded) rs w.0 w.1 (sym k.2 ∙ f.1), tt, sym k.0);
     to = λ q i n. let f = in_filter (λ k. k.superseded) rs q i in let w = to_changed (has_physical id) change rs q f.0 in let k = kept_by q w.0 w.2 in
         (w.0, in_kept (λ k. k.superseded) (where_physical id change rs) w.0 w.1 (k.2 ∙ f.1), k.0, k.1);
@@ -179,7 +182,8 @@ module _ (change : Held → Held) (keeps : (h : Held) → ((change h).physical �
 
   left_changing : (stage : Stage) (at : Status) → IsCleanup stage at → (s : StackState) → AreLeft IsAny (cleaned_in stage s) (cleaned_in stage (changing id change s))
   left_changing stage at of_update s = by (list_any (has_physical id) s.held) where
-    by : (b : Bool) → AreLeft IsAny (filter (λ r. r.superseded) s.held) (filter (λ r. r.superseded) (cond b (record s { held = where_physical id change s.held }) (record s { made = where_physical id change s.made })).held)
+    by : (b : Bool) → AreLeft IsAny (filter (λ r. r.superseded) s.held)
+        (filter (λ r. r.superseded) (cond b (record s { held = where_physical id change s.held }) (record s { made = where_physical id change s.made })).held)
     by true = superseded_where s.held
     by false = left_all (filter (λ r. r.superseded) s.held)
   left_changing stage at of_rollback s = by (list_any (has_physical id) s.held) where
@@ -189,5 +193,6 @@ module _ (change : Held → Held) (keeps : (h : Held) → ((change h).physical �
 
   pub left_changed : (stage : Stage) (at : Status) → IsCleanup stage at → (s t : StackState) → t.held ≡ (changing id change s).held → t.made ≡ (changing id change s).made
       → AreLeft IsAny (cleaned_in stage s) (cleaned_in stage t)
-  left_changed stage at of_update s t held made = subst (λ hs. AreLeft IsAny (filter (λ r. r.superseded) s.held) (filter (λ r. r.superseded) hs)) (sym held) (left_changing Clean _ of_update s)
+  left_changed stage at of_update s t held made = subst (λ hs. AreLeft IsAny (filter (λ r. r.superseded) s.held) (filter (λ r. r.superseded) hs)) (sym held)
+      (left_changing Clean _ of_update s)
   left_changed stage at of_rollback s t held made = subst (AreLeft IsAny s.made) (sym made) (left_changing BackClean _ of_rollback s)

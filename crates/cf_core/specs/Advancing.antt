@@ -61,10 +61,12 @@ pub record IsAsSaid (s : StackState) (r : Held) : Type 0 where
 -- what a call asks for is what the template says of its path now
 abbrev pub IsAsked : StackState → List ℕ → Request → Type 0
 IsAsked s path (request.Create kind props) = evaluated_at path s ≡ Known kind props
-IsAsked s path (request.Update physical props) = (h : Held) × (current_at path s.held ≡ Some h) × (h.physical ≡ physical) × (evaluated_at path s ≡ Known h.kind props)
+IsAsked s path (request.Update physical props) = (h : Held) × (current_at path s.held ≡ Some h) × (h.physical ≡ physical)
+    × (evaluated_at path s ≡ Known h.kind props)
 IsAsked s path (request.Delete physical) = ⊥
 
--- its change set hid what a call may change: the id and the attributes of what a create takes the place of, the attributes of what is updated
+-- its change set hid what a call may change: the id and the attributes of what a create takes the place of, the attributes of what is
+-- updated
 abbrev pub IsHidden : List Row → StackState → List ℕ → Request → Type 0
 IsHidden rows s path (request.Create kind props) =
     (h : Held) → current_at path s.held ≡ Some h → (hides_id rows path ≡ true) × (hides_attrs rows path ≡ true)
@@ -76,7 +78,8 @@ pub record IsAdvancing (schemas : List Schema) (s : StackState) (source : Source
   -- the source was accepted, and what its change set did not hide is still seen
   pub no_flaw : (changes_begun schemas s source).flaws ≡ []
   pub no_clash : (changes_begun schemas s source).clash ≡ []
-  pub rest : KeepsRest (hides_id (changes_begun schemas s source).rows) (hides_attrs (changes_begun schemas s source).rows) (seen_in s.before) (seen_now s)
+  pub rest : KeepsRest (hides_id (changes_begun schemas s source).rows) (hides_attrs (changes_begun schemas s source).rows) (seen_in
+      s.before) (seen_now s)
   -- what was held before is still held, and what was not updated is as it was
   pub single_before : AreSingle s.before
   pub held : AreSameThings s.before s.held

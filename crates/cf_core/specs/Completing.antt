@@ -39,7 +39,8 @@ ShapeIsKept s source = shape_of source (seen_now s) ≡ shape_of source (seen_in
 -- wants, and no call is open
 abbrev pub UpdateIsWhole : Type 0
 UpdateIsWhole =
-    (schemas : List Schema) (x : World) (out : List ℕ) (number : ℕ) (why : Option Cause) (name : List ℕ) (s t : StackState) (source : Source)
+    (schemas : List Schema) (x : World) (out : List ℕ) (number : ℕ) (why : Option Cause) (name : List ℕ) (s t : StackState) (source :
+    Source)
     → IsWritten schemas x out (entry.Phase number phase.Clean why) name s t → s.status ≢ t.status → IsAdvancing schemas s source
     → ShapeIsKept s source
     → HoldsWhole name (world_after x (entry.Phase number phase.Clean why)) t × (s.tokens ≡ []) × (t.tokens ≡ [])
@@ -118,7 +119,8 @@ WholeIsComplete =
     → IsComplete name x s lanes
 
 abbrev pub BackIsRestored : Type 0
-BackIsRestored = (x : World) (s : StackState) (lanes : List Lane) → Fits x s → IsBackAll s → IsAtRest s → AreLive lanes s → IsRestored s lanes
+BackIsRestored = (x : World) (s : StackState) (lanes : List Lane) → Fits x s → IsBackAll s → IsAtRest s → AreLive lanes s
+    → IsRestored s lanes
 
 abbrev pub ClearedIsRestored : Type 0
 ClearedIsRestored = (s : StackState) (lanes : List Lane) → IsCleared s → s.before ≡ [] → IsRestored s lanes
@@ -126,5 +128,6 @@ ClearedIsRestored = (s : StackState) (lanes : List Lane) → IsCleared s → s.b
 -- what holds of a stack between two operations keeps the promise of its status, with what is live where no call is open
 abbrev pub CourseKeepsPromise : Type 0
 CourseKeepsPromise =
-    (schemas : List Schema) (name : List ℕ) (x : World) (s : StackState) (lanes : List Lane) → Fits x s → IsOnCourse schemas name x s s.status
+    (schemas : List Schema) (name : List ℕ) (x : World) (s : StackState) (lanes : List Lane) → Fits x s
+    → IsOnCourse schemas name x s s.status
     → (s.tokens ≡ [] → AreLive lanes s) → Promised s.status name x s lanes

@@ -31,7 +31,8 @@ pub record Fits (x : World) (s : StackState) : Type 0 where
   pub ids : all_differ bytes_eq (map (λ r. r.physical) (resources_of s)) ≡ true
   pub tokens : all_differ ◌==◌ (map (λ p. p.token) s.tokens) ≡ true
   pub paths : (p q : Pending) → In p s.tokens → In q s.tokens → p.path ≡ q.path → p ≡ q
-  pub named : (p : Pending) (id : List ℕ) → In p s.tokens → id_named p.request ≡ Some id → (r : Held) × In r (resources_of s) × (r.physical ≡ id) × (r.path ≡ p.path)
+  pub named : (p : Pending) (id : List ℕ) → In p s.tokens → id_named p.request ≡ Some id
+      → (r : Held) × In r (resources_of s) × (r.physical ≡ id) × (r.path ≡ p.path)
   pub rows : (p : Pending) → In p s.tokens → (c : Call) × (call_of p.token s ≡ Some c) × IsRowOf p c
   pub row_tokens : all_differ ◌==◌ (map (λ c. c.token) s.ledger) ≡ true
   pub last : (c : Call) → In c s.ledger → c.token ≤ x.token
@@ -56,7 +57,8 @@ pub data BecomesBy (x : World) (e : Entry) (name : List ℕ) (s : StackState) : 
   at_opening : is_opening e ≡ true → BecomesBy x e name s (effect_at (x.place + 1) e s).stack
   other : (is_opening e ≡ false) → ((t : StackState) → stack_for e x ≡ Some (name, t) → ⊥) → BecomesBy x e name s s
 
--- An entry is written, while the leases of these tokens are out: the stack of this name, s, becomes t. Where there was none, s is one of which nothing is known.
+-- An entry is written, while the leases of these tokens are out: the stack of this name, s, becomes t. Where there was none, s is one of
+-- which nothing is known.
 pub record IsWritten (schemas : List Schema) (x : World) (out : List ℕ) (e : Entry) (name : List ℕ) (s t : StackState) : Type 0 where
   pub may : MayFollow schemas x out e
   pub new : IsNew x e

@@ -24,3 +24,4 @@ pub mod SoundLife
 pub mod OnCourse
 pub mod StatusMoves
 pub mod Theorem
+pub mod OneThread

@@ -57,7 +57,8 @@ IsOfLanes _ = ⊥
 -- each of them keeps agreement
 abbrev pub LanesKeep : Type 0
 LanesKeep =
-    (schemas : List Schema) (life : Life) (e : Event) → IsOfLanes e → MayHappen schemas life e → AgreesIn life → AgreesIn (life_after life e)
+    (schemas : List Schema) (life : Life) (e : Event) → IsOfLanes e → MayHappen schemas life e → AgreesIn life
+    → AgreesIn (life_after life e)
 
 -- an opening, whole or broken
 abbrev pub OpenedKeeps : Type 0

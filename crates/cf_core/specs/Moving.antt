@@ -19,7 +19,8 @@ use Rattle.cf_plan.specs.Follow.{BeginsBy, MayFollowIn, MayTurn, begins_from, up
 pub data IsMove (schemas : List Schema) (x : World) (out : List ℕ) (name : List ℕ) (s : StackState) : Entry → StackState → Type 0 where
   stays : {e : Entry} {t : StackState} → t.status ≡ s.status → IsMove schemas x out name s e t
   turns :
-      (number : ℕ) (p : Phase) (why : Option Cause) → stack_for (entry.Phase number p why) x ≡ Some (name, s) → MayTurn schemas name x s p why
+      (number : ℕ) (p : Phase) (why : Option Cause) → stack_for (entry.Phase number p why) x ≡ Some (name, s)
+      → MayTurn schemas name x s p why
       → IsMove schemas x out name s (entry.Phase number p why) (effect_at (x.place + 1) (entry.Phase number p why) s).stack
   ends :
       (number : ℕ) (state : Status) (failed : List (List ℕ)) (stage : Stage) → stack_for (entry.Done number state failed) x ≡ Some (name, s)
@@ -27,8 +28,10 @@ pub data IsMove (schemas : List Schema) (x : World) (out : List ℕ) (name : Lis
       → IsMove schemas x out name s (entry.Done number state failed) (effect_at (x.place + 1) (entry.Done number state failed) s).stack
   begins :
       (k : Begun) → IsTrue (begins_from k s.status) → BeginsBy schemas name x (x.operation + 1) s k
-      → IsMove schemas x out name s (entry.Begin (x.operation + 1) name k) (effect_at (x.place + 1) (entry.Begin (x.operation + 1) name k) s).stack
+      → IsMove schemas x out name s (entry.Begin (x.operation + 1) name k) (effect_at (x.place + 1) (entry.Begin (x.operation + 1) name k)
+      s).stack
   reviewed :
       (number : ℕ) (source : Source) (rows : List Row) (outputs : Bool) → IsTrue (creates_from s.status || updates_from s.status)
-      → IsMove schemas x out name s (entry.ChangeSet number name source rows outputs) (effect_at (x.place + 1) (entry.ChangeSet number name source rows outputs) s).stack
+      → IsMove schemas x out name s (entry.ChangeSet number name source rows outputs) (effect_at (x.place + 1) (entry.ChangeSet number name
+      source rows outputs) s).stack
   other : {e : Entry} → IsMove schemas x out name s e s

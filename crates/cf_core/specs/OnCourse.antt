@@ -5,18 +5,21 @@ use Rattle.cf_entry.specs.declared.status.Status.TheVariants as status
 use Rattle.cf_schema.specs.declared.described.Schema.{Schema}
 use Rattle.cf_stacks.specs.World.{StackState, World}
 use Rattle.cf_stacks.specs.Fold.{world_after}
+use Rattle.cf_stacks.specs.Status.{goes_forward}
 use Rattle.cf_core.specs.Back.{SkipsNone}
 use Rattle.cf_core.specs.Course.{Course}
 use Rattle.cf_core.specs.Fits.{IsWritten}
+use Rattle.cf_core.specs.GoesOn.{IsTold}
 use Rattle.cf_core.specs.Hiding.{AreDescribed, IsOrdered}
 use Rattle.cf_core.specs.Tidying.{HasNoDeletion, deletes_nothing}
 
--- what an operation rests on in all its stages: properties stand in order, an update that goes forward was not continued, and nothing
--- is deleted before a cleanup
+-- what an operation rests on in all its stages: properties stand in order, an update that goes forward was not continued, nothing is
+-- deleted before a cleanup, and entries and ledger of a forward phase say so of each other
 pub record IsSupported (s : StackState) : Type 0 where
   pub ordered : IsOrdered s
   pub skips_none : s.status ≡ status.UpdateInProgress → SkipsNone s
   pub undeleted : deletes_nothing s.status ≡ true → HasNoDeletion s
+  pub told : goes_forward s.status ≡ true → IsTold s
 
 pub record IsOnWay (schemas : List Schema) (name : List ℕ) (x : World) (s : StackState) : Type 0 where
   pub course : Course schemas name x s

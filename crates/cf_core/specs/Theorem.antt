@@ -1,10 +1,12 @@
 -- The theorem: whatever happens in the life of an engine, journal and lanes agree, and each stack keeps what its status promises
 -- (this project's own; what a status says is that of the User Guide).
-use Rattle.std.specs.Prelude.{◌≡◌, ℕ, List, Some}
+use Rattle.std.specs.Prelude.{◌≡◌, ℕ, true, List, Option, Some}
 use Rattle.cf_schema.specs.declared.described.Schema.{Schema}
-use Rattle.cf_stacks.specs.World.{StackState, stack_at}
+use Rattle.cf_stacks.specs.World.{StackState, stack_at, stack_of_operation}
+use Rattle.cf_stacks.specs.Status.{goes_forward}
 use Rattle.cf_plan.specs.Life.{Event, IsLife, IsStart, Life, MayHappen, life_after, world_of}
 use Rattle.cf_plan.specs.Promise.{AreKept}
+use Rattle.cf_core.specs.GoesOn.{HasKinds, HasNext}
 use Rattle.cf_core.specs.Hiding.{AreDescribed}
 use Rattle.cf_core.specs.OnCourse.{IsOnWay}
 use Rattle.cf_core.specs.SoundLife.{IsSoundLife}
@@ -27,7 +29,16 @@ abbrev pub StartHolds : Type 0
 StartHolds = (schemas : List Schema) (life : Life) → IsStart schemas life → HoldsAlways schemas life
 
 abbrev pub EventHolds : Type 0
-EventHolds = (schemas : List Schema) (life : Life) (event : Event) → HoldsAlways schemas life → MayHappen schemas life event → HoldsAlways schemas (life_after life event)
+EventHolds = (schemas : List Schema) (life : Life) (event : Event) → HoldsAlways schemas life → MayHappen schemas life event
+    → HoldsAlways schemas (life_after life event)
 
 abbrev pub HoldsKeepsPromises : Type 0
 HoldsKeepsPromises = (schemas : List Schema) (life : Life) → HoldsAlways schemas life → AreKept life
+
+-- Each operation goes on until its end: where no call is out, some entry of it may follow, or some open call may be made again, as
+-- long as each type that its template wants has a lane.
+abbrev pub OperationsGoOn : Type 0
+OperationsGoOn =
+    (schemas : List Schema) (life : Life) (number : ℕ) (name : List ℕ) (s : StackState) → HoldsAlways schemas life
+    → ◌≡◌ {A = Option (List ℕ × StackState)} (stack_of_operation number (world_of life)) (Some (name, s))
+    → (goes_forward s.status ≡ true → HasKinds (world_of life) s) → HasNext schemas (world_of life) number

@@ -24,7 +24,8 @@ leaves_nothing _ = false
 
 abbrev pub EndsCleared : Type 0
 EndsCleared =
-    (schemas : List Schema) (name : List ℕ) (x : World) (out : List ℕ) (s : StackState) (stage : Stage) (place number : ℕ) (state : Status) (failed : List (List ℕ))
+    (schemas : List Schema) (name : List ℕ) (x : World) (out : List ℕ) (s : StackState) (stage : Stage) (place number : ℕ) (state : Status)
+    (failed : List (List ℕ))
     → MayFollowIn schemas name x out s stage (entry.Done number state failed) → IsTrue (leaves_nothing state)
     → IsCleared (effect_at place (entry.Done number state failed) s).stack
 

@@ -22,10 +22,12 @@ pub data IsTo (schemas : List Schema) (x : World) (out : List ℕ) (name : List 
       → IsTo schemas x out name s e (effect_at (x.place + 1) e s).stack
   begins :
       (k : Begun) → IsTrue (begins_from k s.status) → BeginsBy schemas name x (x.operation + 1) s k
-      → IsTo schemas x out name s (entry.Begin (x.operation + 1) name k) (effect_at (x.place + 1) (entry.Begin (x.operation + 1) name k) s).stack
+      → IsTo schemas x out name s (entry.Begin (x.operation + 1) name k) (effect_at (x.place + 1) (entry.Begin (x.operation + 1) name k)
+      s).stack
   reviewed :
       (number : ℕ) (source : Source) (rows : List Row) (outputs : Bool) → IsTrue (creates_from s.status || updates_from s.status)
-      → IsTo schemas x out name s (entry.ChangeSet number name source rows outputs) (effect_at (x.place + 1) (entry.ChangeSet number name source rows outputs) s).stack
+      → IsTo schemas x out name s (entry.ChangeSet number name source rows outputs) (effect_at (x.place + 1) (entry.ChangeSet number name
+      source rows outputs) s).stack
   opened :
       (epoch : ℕ) (lanes : List (List ℕ × List ℕ))
       → IsTo schemas x out name s (entry.Opened epoch lanes) (effect_at (x.place + 1) (entry.Opened epoch lanes) s).stack

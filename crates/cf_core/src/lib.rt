@@ -41,9 +41,11 @@ pub use returning::{
     updates_skip_none, updates_turn_back,
 };
 pub use theorem::{
-    event_holds, holds_keeps_promises, lives_keep_promises, starts_hold, way_is_kept,
+    cut_runs_keep_promises, event_holds, holds_keeps_promises, lives_keep_promises,
+    one_call_at_a_time, operations_go_on, runs_keep_promises, starts_hold, way_is_kept,
 };
 pub use tidying::{
-    back_tidying_begins, cleanup_goes_on, deletion_goes_on, nothing_deleted, rollback_goes_on,
-    tidying_begins, tidying_ends, tidying_stays,
+    back_tidying_begins, cleanup_goes_on, deletion_goes_on, forward_goes_on, nothing_deleted,
+    operation_goes_on, rollback_goes_on, tidying_begins, tidying_ends, tidying_stays, told_begins,
+    told_stays,
 };

@@ -1,5 +1,5 @@
 //! Laws about cleanups, and that an operation goes on until its end. None of these functions does anything when it runs.
-ghost use Rattle.cf_core.specs.GoesOn.{CleanupGoesOn, DeletionGoesOn, RollbackGoesOn};
+ghost use Rattle.cf_core.specs.GoesOn.{CleanupGoesOn, DeletionGoesOn, ForwardGoesOn, OperationGoesOn, RollbackGoesOn, ToldBegins, ToldStays};
 ghost use Rattle.cf_core.specs.Tidying.{BackTidyingBegins, NothingDeleted, TidyingBegins, TidyingEnds, TidyingStays};
 
 /// An operation has deleted nothing as it begins, and deletes nothing while it goes forward or gives back.
@@ -41,4 +41,24 @@ pub fn rollback_goes_on()
 /// So does a deletion.
 pub fn deletion_goes_on()
     ensures { DeletionGoesOn }
+{}
+
+/// So does a creation, and an update, as it goes forward, where each type that its template wants has a lane.
+pub fn forward_goes_on()
+    ensures { ForwardGoesOn }
+{}
+
+/// So every operation on its course goes on until its end.
+pub fn operation_goes_on()
+    ensures { OperationGoesOn }
+{}
+
+/// As a creation or an update begins, its entries and its ledger say of each other what its going on rests on.
+pub fn told_begins()
+    ensures { ToldBegins }
+{}
+
+/// So they do with each entry of its forward phase.
+pub fn told_stays()
+    ensures { ToldStays }
 {}

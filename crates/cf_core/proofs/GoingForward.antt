@@ -1,0 +1,321 @@
+-- A forward phase has a next step, or it ends.
+use Rattle.std.proofs.Common.{◌≡◌, ◌⊎◌, inl, inr, ℕ, ◌+◌, ◌==◌, Bool, true, false, not, ◌&&◌, nat_lt, List, [], Option, Some, None, refl, sym, ap, subst, ◌∙◌, true≢false, map, arith}
+use Rattle.std.specs.Prelude.{cond, is_some}
+use Rattle.std.specs.List.{list_any}
+use Rattle.std.specs.Option.{option_map_or}
+use Rattle.std.specs.Str.{bytes_eq}
+use Rattle.std.specs.Cmp.{first_so, second_so}
+use Rattle.std.proofs.lemmas.Bool.{and_from, eq-eqb, eqb-true, ltb-false}
+use Rattle.std.proofs.lemmas.Slice.Eq.{bytes_eq-Decides}
+use Rattle.cf_tree.specs.Datum.{Data, members_of}
+use Rattle.cf_tree.specs.Lists.{is_among}
+use Rattle.cf_tree.specs.Same.{same_members}
+use Rattle.cf_tree.specs.declared.code.Code.{Code}
+use Rattle.cf_tree.specs.declared.code.Code.TheVariants as code
+use Rattle.cf_tree.specs.declared.request.Request.{Request}
+use Rattle.cf_tree.specs.declared.request.Request.TheVariants as request
+use Rattle.cf_tree.specs.declared.source.Source.{Source}
+use Rattle.cf_entry.specs.declared.entry.Entry.TheVariants as entry
+use Rattle.cf_entry.specs.declared.entry.Reply.TheVariants as reply
+use Rattle.cf_entry.specs.declared.status.Status.{Status}
+use Rattle.cf_entry.specs.declared.status.Status.TheVariants as status
+use Rattle.cf_entry.specs.declared.turn.Cause.{Cause}
+use Rattle.cf_entry.specs.declared.turn.Phase.{Phase}
+use Rattle.cf_entry.specs.declared.turn.Phase.TheVariants as phase
+use Rattle.cf_entry.specs.declared.turn.Reason.{Reason}
+use Rattle.cf_entry.specs.declared.turn.Reason.TheVariants as reason
+use Rattle.cf_entry.specs.declared.turn.Why.{Why}
+use Rattle.cf_entry.specs.declared.turn.Why.TheVariants as why
+use Rattle.cf_schema.specs.declared.described.Schema.{Schema}
+use Rattle.cf_schema.specs.declared.changed.Difference.{Difference}
+use Rattle.cf_schema.specs.declared.changed.Difference.TheVariants as difference
+use Rattle.cf_schema.specs.Change.{any_differs, difference_of}
+use Rattle.cf_schema.specs.Kinds.{found}
+use Rattle.cf_desired.specs.Whole.{is_wanted_at, wanted_at}
+use Rattle.cf_stacks.specs.declared.call.Call.{Call}
+use Rattle.cf_stacks.specs.declared.call.Settled.{Settled}
+use Rattle.cf_stacks.specs.declared.call.Settled.TheVariants as settled
+use Rattle.cf_stacks.specs.declared.held.Held.{Held}
+use Rattle.cf_stacks.specs.declared.held.Pending.{Pending}
+use Rattle.cf_stacks.specs.World.{StackState, World, stack_of_operation}
+use Rattle.cf_stacks.specs.Words.{current_at, has_physical, is_current_at, is_update, resources_of, updates}
+use Rattle.cf_stacks.specs.Calls.{call_of, doubts_of, is_call, is_success, own_calls, succeeded, was_updated}
+use Rattle.cf_stacks.specs.Status.{Forward, stage_of}
+use Rattle.cf_plan.specs.Follow.{IsAtEnd, MayKeep, MayTurn, WantsNew, WantsUpdate, EndsAs, is_free, is_lane_of, is_not_updatable, was_not_updatable}
+use Rattle.cf_plan.specs.Forward.{AllDone, Bad, Finding, HasFailed, In, IsCause, IsDone, IsReady, Known, Later, difference_to, evaluated_at, held_before, is_conditional, is_excused, is_refused_call, is_right, is_updated, plan_now, refusing, was_answered_at}
+use Rattle.cf_plan.specs.Done.{AreDone}
+use Rattle.cf_plan.proofs.CreatedRight.{in_filter}
+use Rattle.cf_plan.proofs.CreatedStays.{found_one, is_found}
+use Rattle.cf_plan.proofs.CreatedEnd.{in_changed}
+use Rattle.cf_plan.proofs.RunLists.{Passes, any_of, in_front, is_found_in, some_of}
+use Rattle.cf_core.specs.Advancing.{IsAdvancing}
+use Rattle.cf_core.specs.Fits.{Fits}
+use Rattle.cf_core.specs.GoesOn.{ForwardGoesOn, HasNext, HasKinds, IsRefusedAhead, IsTold, StepsIn}
+use Rattle.cf_core.proofs.AdvAnswers.{still_held}
+use Rattle.cf_core.proofs.GoingDone.{all_found, first_or_all, props_same}
+use Rattle.cf_core.proofs.GoingFails.{excused, failed_or, none_failing, not_thrice}
+use Rattle.cf_core.proofs.GoingKnown.{ready_known}
+use Rattle.cf_core.proofs.HidCalls.{it, not_updated, one_kind, was}
+use Rattle.cf_core.proofs.TidyEnds.{at_end_by, at_home, follows, lane_of, none_flying, steps}
+use Rattle.cf_core.proofs.TidyLists.{one_of_bytes, one_of_number}
+use Rattle.cf_core.proofs.TidyOwn.{some_same}
+
+-- a resource whose properties don't differ has them
+same_props : (schemas : List Schema) (h : Held) (props : List (List ℕ × Data)) → difference_to schemas h props ≡ difference.Same → h.props ≡ props
+same_props schemas h props = by (found h.kind schemas) where
+  by_create : (b c : Bool) → cond b difference.Replace (cond c difference.MayReplace difference.Update) ≡ difference.Same → ⊥
+  by_create true c e = cc
+  by_create false true e = cc
+  by_create false false e = cc
+
+  by_same : (schema : Schema) (b : Bool) → same_members (members_of h.props) (members_of props) ≡ b
+      → cond b difference.Same (cond (any_differs schema.create_only h.props props) difference.Replace
+      (cond (any_differs schema.conditional h.props props) difference.MayReplace difference.Update)) ≡ difference.Same
+      → h.props ≡ props
+  by_same schema true f e = props_same h.props props f
+  by_same schema false f e = absurd (by_create (any_differs schema.create_only h.props props) (any_differs schema.conditional h.props props) e)
+
+  by : (o : Option Schema) → option_map_or (λ schema. difference_of schema h.props props) o difference.Update ≡ difference.Same → h.props ≡ props
+  by None e = let no : ⊥ = cc in absurd no
+  by (Some schema) e = by_same schema (same_members (members_of h.props) (members_of props)) refl e
+
+forward_or : (st : Status) → stage_of st ≡ Some Forward → (st ≡ status.CreateInProgress) ⊎ (st ≡ status.UpdateInProgress)
+forward_or status.CreateInProgress e = inl refl
+forward_or status.UpdateInProgress e = inr refl
+forward_or st e = let no : ⊥ = cc in absurd no
+
+conditional : (d : Difference) → is_conditional d ≡ true → d ≡ difference.MayReplace
+conditional difference.MayReplace e = refl
+conditional d e = absurd (true≢false (sym e))
+
+-- going forward nothing is kept
+pub no_kept : (s : StackState) (out : List ℕ) (path id : List ℕ) (w : Why) → MayKeep Forward out s path id w → ⊥
+no_kept s out path id why.Retained (inl k) = k.1
+no_kept s out path id why.Retained (inr k) = let g = k.0 in cc
+no_kept s out path id why.Failed k = elim k.0.1 [ ]
+no_kept s out path id why.Doubt k = elim k.0.1 [ ]
+
+same_known : (k j : List ℕ) (ps qs : List (List ℕ × Data)) → Known k ps ≡ Known j qs → (k ≡ j) × (ps ≡ qs)
+same_known k j ps qs e = (cc, cc)
+
+module _ (schemas : List Schema) (name : List ℕ) (x : World) (s : StackState) (source : Source) (in_forward : stage_of s.status ≡ Some Forward)
+    (fits : Fits x s) (a : IsAdvancing schemas s source) (kinds : HasKinds x s) (told : IsTold s) (good : HasFailed schemas name x s → ⊥) where
+  abbrev Steps : Type 0
+  Steps = StepsIn schemas name x s Forward
+
+  -- an open call is made again
+  open_goes : (p : Pending) → In p s.tokens → Steps
+  open_goes p i = by (nat_lt (doubts_of p.token s) 3) refl where
+    by : (b : Bool) → nat_lt (doubts_of p.token s) 3 ≡ b → Steps
+    by true e = inr (p, (good, i, e))
+    by false e = absurd (not_thrice schemas s (none_failing schemas name x s good) p.token
+        (let many = ltb-false (doubts_of p.token s) 3 e in let told_of = told.doubted p i in omega (arith, many, told_of)))
+
+  -- A path that is ready and not done, of which no call is open.
+  module _ (p : List ℕ) (ready : IsReady s p) (undone : IsDone s p → ⊥) (free : is_free p s ≡ true) (k : List ℕ) (props : List (List ℕ × Data))
+      (said : evaluated_at p s ≡ Known k props) where
+    creates : WantsNew schemas s (current_at p s.held) props → Steps
+    creates wants =
+        let w = is_found k props (wanted_at p (plan_now s)) said in
+        let i = (found_one (is_wanted_at p) (plan_now s).wanted w.wanted w.there).0 in
+        let e = some_of (bytes_eq k) (map (λ (l : List ℕ × List ℕ). l.1) x.lanes)
+        (ap (λ n. is_among n (map (λ (l : List ℕ × List ℕ). l.1) x.lanes)) (sym w.kind) ∙ kinds w.wanted i) in
+        let l = in_changed (λ (m : List ℕ × List ℕ). m.1) x.lanes e.one e.of_list in
+        let fit = any_of (is_lane_of l.one.0 k) x.lanes l.one l.of_list
+        (and_from (bytes_eq l.one.0 l.one.0) _ ((bytes_eq-Decides l.one.0 l.one.0).1 refl) (ap (bytes_eq k) l.same ∙ e.passes)) in
+        inl (
+          entry.Intent s.operation (x.token + 1) l.one.0 p (request.Create k props),
+          record { next = refl; free = free; home = at_home x l.one.0; fits = fit; no_repeat = refl; chosen = (good, ready, undone, (said, wants)) },
+        )
+
+    -- of what is held at it
+    module _ (h : Held) (at : current_at p s.held ≡ Some h) where
+      kind_is : k ≡ h.kind
+      kind_is = sym (it schemas s source a p k props said undone h at).kind ∙ sym (one_kind schemas s source a p k props said undone h at)
+
+      updates_it : WantsUpdate schemas s h props → was_answered_at p s ≡ false → Steps
+      updates_it wants none =
+          let i = in_front h s.held s.made (found_one (is_current_at p) s.held h at).0 in
+          let l = lane_of x h.physical h.kind (fits.lanes.0 h i) in
+          inl (
+            entry.Intent s.operation (x.token + 1) l.0 p (request.Update h.physical props),
+            record {
+              next = refl;
+              free = free;
+              home = at_home x l.0;
+              fits = (l.1, l.2);
+              no_repeat = refl;
+              chosen = (good, ready, undone, (h, at, refl, said ∙ ap (λ n. Known n props) kind_is, wants, none));
+            },
+          )
+
+      creates_new : WantsNew schemas s (Some h) props → Steps
+      creates_new wants = creates (subst (λ o. WantsNew schemas s o props) (sym at) wants)
+
+      -- where its update was answered, it was refused because a new resource is needed
+      abbrev IsReplaced : Type 0
+      IsReplaced = (difference_to schemas h props ≡ difference.MayReplace) × (was_not_updatable s h ≡ true)
+
+      refused_so : (c : Call) → In c (own_calls s) → (id : List ℕ) (asked : List (List ℕ × Data)) (r : Code) → c.request ≡ request.Update id asked
+          → c.answer ≡ Some (settled.Failed r) → p ≡ c.path → IsReplaced
+      refused_so c i id asked r asks answer path = by_code r refl excuse where
+        of_ledger : In c s.ledger
+        of_ledger = (in_filter (λ d. d.number == s.operation) s.ledger c i).0
+
+        call_is : call_of c.token s ≡ Some c
+        call_is =
+            let f = is_found_in (is_call c.token) s.ledger c of_ledger (eq-eqb c.token c.token refl) in
+            let one = found_one (is_call c.token) s.ledger f.0 f.1 in
+            f.1 ∙ ap (λ d. Some d) (one_of_number (λ d. d.token) s.ledger f.0 c fits.row_tokens one.0 of_ledger (sym (eqb-true c.token f.0.token one.1)))
+
+        t : IsRefusedAhead s c id asked r
+        t = told.refused c id asked r of_ledger asks answer
+
+        excuse : is_excused schemas s (request.Update id asked) r ≡ true
+        excuse = by (is_excused schemas s (request.Update id asked) r) refl where
+          refuses : refusing schemas s (entry.Outcome t.told.0 c.token (reply.Failed r) t.told.1 t.told.2) ≡ None
+          refuses = excused schemas s (none_failing schemas name x s good) told.no_phase (entry.Outcome t.told.0 c.token (reply.Failed r) t.told.1 t.told.2) t.told.3
+
+          by : (b : Bool) → is_excused schemas s (request.Update id asked) r ≡ b → b ≡ true
+          by true e = refl
+          by false e =
+              let refused : is_refused_call schemas s (call_of c.token s) r ≡ true =
+              ap (λ o. is_refused_call schemas s o r) call_is ∙ ap (λ q. not (is_excused schemas s q r)) asks ∙ ap not e in
+              let some : ◌≡◌ {A = Option (ℕ × Reason)} (Some (c.token, reason.Code r)) None = sym (ap (λ b. cond b (Some (c.token, reason.Code r)) None) refused)
+              ∙ refuses in
+              let no : ⊥ = cc in absurd no
+
+        same_held : t.asks.0 ≡ h
+        same_held = some_same t.asks.0 h (sym t.asks.1 ∙ ap (λ q. current_at q s.held) (sym path) ∙ at)
+
+        of_id : h.physical ≡ id
+        of_id = ap (λ (g : Held). g.physical) (sym same_held) ∙ t.asks.2
+
+        same_asked : props ≡ asked
+        same_asked = (same_known k t.asks.0.kind props asked (sym said ∙ ap (λ q. evaluated_at q s) path ∙ t.asks.3)).1
+
+        by_before : r ≡ code.NotUpdatable → (b : Held) → held_before id s ≡ Some b → is_conditional (difference_to schemas b asked) ≡ true → IsReplaced
+        by_before n b e d =
+            let f = found_one (has_physical id) s.before b e in
+            let same : b.physical ≡ h.physical = sym ((bytes_eq-Decides id b.physical).0 f.1) ∙ sym of_id in
+            let g = still_held s.before s.held a.held b f.0 in
+            let now = was schemas s source a p k props said undone h at in
+            let is_h : g.0 ≡ h = one_of_bytes (λ (y : Held). y.physical) (resources_of s) g.0 h fits.ids (in_front g.0 s.held s.made g.1)
+            (in_front h s.held s.made now.in_held) (g.2.physical ∙ same) in
+            let kind : h.kind ≡ b.kind = ap (λ (y : Held). y.kind) (sym is_h) ∙ g.2.kind in
+            let still = not_updated schemas s source a p now.before now.in_before now.at undone in
+            let props_are : h.props ≡ b.props =
+            (a.unchanged b h f.0 now.in_held (sym same) (ap (λ q. was_updated q s) (same ∙ now.same.physical) ∙ still)).props in
+            let differs : difference_to schemas h props ≡ difference_to schemas b asked =
+            λ i. option_map_or (λ schema. difference_of schema (props_are i) (same_asked i)) (found (kind i) schemas) difference.Update in (
+              differs ∙ conditional (difference_to schemas b asked) d,
+              any_of (λ (q : Call). updates h.physical q.request && is_not_updatable q.answer) (own_calls s) c i
+                  (and_from (updates h.physical c.request) _ (ap (updates h.physical) asks ∙ (bytes_eq-Decides h.physical id).1 of_id)
+                  (ap is_not_updatable answer ∙ ap (λ q. is_not_updatable (Some (settled.Failed q))) n)),
+            )
+
+        by_held : r ≡ code.NotUpdatable → (o : Option Held) → held_before id s ≡ o → option_map_or (λ b. is_conditional (difference_to schemas b asked)) o false ≡ true
+            → IsReplaced
+        by_held n None e d = absurd (true≢false (sym d))
+        by_held n (Some b) e d = by_before n b e d
+
+        by_code : (q : Code) → r ≡ q → is_excused schemas s (request.Update id asked) q ≡ true → IsReplaced
+        by_code code.NotUpdatable n e = by_held n (held_before id s) refl e
+        by_code q n e = absurd (true≢false (sym e))
+
+      answered_so : was_answered_at p s ≡ true → IsReplaced
+      answered_so e = by_request c.one.request refl (first_so (is_update c.one.request) _ rest) where
+        c : Passes (λ d. bytes_eq p d.path && (is_update d.request && is_some d.answer)) (own_calls s)
+        c = some_of (λ d. bytes_eq p d.path && (is_update d.request && is_some d.answer)) (own_calls s) e
+
+        path : p ≡ c.one.path
+        path = (bytes_eq-Decides p c.one.path).0 (first_so (bytes_eq p c.one.path) _ c.passes)
+
+        rest : (is_update c.one.request && is_some c.one.answer) ≡ true
+        rest = second_so (bytes_eq p c.one.path) _ c.passes
+
+        by_answer : (id : List ℕ) (asked : List (List ℕ × Data)) → c.one.request ≡ request.Update id asked → (o : Option Settled) → c.one.answer ≡ o → is_some o ≡ true
+            → IsReplaced
+        by_answer id asked q None g t = absurd (true≢false (sym t))
+        by_answer id asked q (Some (settled.Failed r)) g t = refused_so c.one c.of_list id asked r q g path
+        by_answer id asked q (Some settled.Success) g t =
+            absurd (undone (is_updated (any_of (λ d. bytes_eq p d.path && (is_update d.request && succeeded d)) (own_calls s) c.one c.of_list
+            (and_from (bytes_eq p c.one.path) _ ((bytes_eq-Decides p c.one.path).1 path) (and_from (is_update c.one.request) _ (ap is_update q) (ap is_success g))))))
+
+        by_request : (q : Request) → c.one.request ≡ q → is_update q ≡ true → IsReplaced
+        by_request (request.Update id asked) q t = by_answer id asked q c.one.answer refl (second_so (is_update c.one.request) _ rest)
+        by_request (request.Create kind asked) q t = absurd (true≢false (sym t))
+        by_request (request.Delete id) q t = absurd (true≢false (sym t))
+
+      by_answer : WantsUpdate schemas s h props → (IsReplaced → Steps) → Steps
+      by_answer wants more = by (was_answered_at p s) refl where
+        by : (b : Bool) → was_answered_at p s ≡ b → Steps
+        by true e = more (answered_so e)
+        by false e = updates_it wants e
+
+      held_goes : (d : Difference) → difference_to schemas h props ≡ d → Steps
+      held_goes difference.Replace e = creates_new (inl e)
+      held_goes difference.MayReplace e = by_answer ((λ n. let k = sym e ∙ n in cc), inr (λ n. let k = sym e ∙ n in cc)) (λ w. creates_new (inr (e, w.1)))
+      held_goes difference.Update e = by_answer ((λ n. let k = sym e ∙ n in cc), inr (λ n. let k = sym e ∙ n in cc))
+          (λ w. let k = sym e ∙ w.0 in let no : ⊥ = cc in absurd no)
+      held_goes difference.Same e = by h.unsure refl where
+        by : (b : Bool) → h.unsure ≡ b → Steps
+        by true u = by_answer ((λ n. let k = sym e ∙ n in cc), inl u) (λ w. let k = sym e ∙ w.0 in let no : ⊥ = cc in absurd no)
+        by false u = absurd (undone (is_right h ready.0 ready.1 at u (said ∙ ap (λ n. Known n props) kind_is ∙ ap (Known h.kind) (sym (same_props schemas h props e)))))
+
+    path_goes : Steps
+    path_goes = by (current_at p s.held) refl where
+      by : (o : Option Held) → current_at p s.held ≡ o → Steps
+      by None e = creates (subst (λ o. WantsNew schemas s o props) (sym e) tt)
+      by (Some h) e = held_goes h e (difference_to schemas h props) refl
+
+  -- a path that is ready and not done goes on
+  ready_goes : (done : List (List ℕ)) → AreDone s done → (p : List ℕ) → IsReady s p → (IsDone s p → ⊥) → Steps
+  ready_goes done are p ready undone = by (list_any (λ q. bytes_eq p q.path) s.tokens) refl where
+    by_said : is_free p s ≡ true → (f : Finding) → evaluated_at p s ≡ f → Steps
+    by_said free (Bad fault) e = absurd (good (inr (inl (p, fault, inl (ready, e)))))
+    by_said free Later e = absurd (ready_known schemas name x s source a done are good p ready e)
+    by_said free (Known k props) e = path_goes p ready undone free k props e
+
+    by : (b : Bool) → list_any (λ q. bytes_eq p q.path) s.tokens ≡ b → Steps
+    by true e = let q = some_of (λ (q : Pending). bytes_eq p q.path) s.tokens e in open_goes q.one q.of_list
+    by false e = by_said (ap not e) (evaluated_at p s) refl
+
+  -- where all is done the next phase begins, or the creation ends
+  all_goes : AllDone s → stack_of_operation s.operation x ≡ Some (name, s) → HasNext schemas x s.operation
+  all_goes all going = by (forward_or s.status in_forward) where
+    none_open : (p : Pending) → In p s.tokens → ⊥
+    none_open p i = a.not_done p i (all p.path (a.ready p i).0)
+
+    module_end : s.status ≡ status.CreateInProgress → IsAtEnd schemas name x s Forward
+    module_end e = at_end_by schemas name x s Forward (λ token lane path r w. w.chosen.2 (all path w.chosen.1.0)) (no_kept s []) no_turn (λ p w. none_open p w.1) where
+      no_turn : (p : Phase) (c : Option Cause) → MayTurn schemas name x s p c → ⊥
+      no_turn phase.Clean None w = let g = sym e ∙ w.0 in cc
+      no_turn phase.Clean (Some c) w = w
+      no_turn phase.Back (Some c) w = good w.1
+      no_turn phase.Back None w = w
+      no_turn phase.BackClean (Some c) w = w
+      no_turn phase.BackClean None w = let g = sym e ∙ w.0 in cc
+
+    by : (s.status ≡ status.CreateInProgress) ⊎ (s.status ≡ status.UpdateInProgress) → HasNext schemas x s.operation
+    by (inr e) = steps schemas name x s Forward going in_forward (inl (entry.Phase s.operation phase.Clean None, (e, good, all)))
+    by (inl e) =
+        follows schemas name x s Forward going in_forward (entry.Done s.operation status.CreateComplete [])
+        (none_flying s, module_end e, subst (λ k. EndsAs schemas name x s k status.CreateComplete) (sym e) (good, all), refl)
+
+pub forward_goes_on : ForwardGoesOn
+forward_goes_on schemas name x s source going in_forward fits a kinds told = by_done (all_found s source a.going) where
+  by_path : (done : List (List ℕ)) → AreDone s done → (HasFailed schemas name x s → ⊥) → ((p : List ℕ) × IsReady s p × (is_among p done ≡ false)) ⊎ AllDone s
+      → HasNext schemas x s.operation
+  by_path done are good (inl (p, ready, e)) =
+      steps schemas name x s Forward going in_forward
+      (ready_goes schemas name x s source in_forward fits a kinds told good done are p ready (λ d. true≢false (sym ((are p).0 d) ∙ e)))
+  by_path done are good (inr all) = all_goes schemas name x s source in_forward fits a kinds told good all going
+
+  by_failed : (done : List (List ℕ)) → AreDone s done → (HasFailed schemas name x s × ((c : Cause) × IsCause schemas name x s c)) ⊎ (HasFailed schemas name x s → ⊥)
+      → HasNext schemas x s.operation
+  by_failed done are (inl (failed, c)) = steps schemas name x s Forward going in_forward (inl (entry.Phase s.operation phase.Back (Some c.0), (in_forward, failed, c.1)))
+  by_failed done are (inr good) = by_path done are good (first_or_all s source a.going done are)
+
+  by_done : ((done : List (List ℕ)) × AreDone s done) → HasNext schemas x s.operation
+  by_done (done, are) = by_failed done are (failed_or schemas name x s source a.going done are told)

@@ -1,0 +1,33 @@
+-- Every operation on its course goes on until its end.
+use Rattle.std.proofs.Common.{◌≡◌, ℕ, inl, inr, true, List, Some, refl, sym, ap, true≢false}
+use Rattle.cf_entry.specs.declared.status.Status.{Status}
+use Rattle.cf_entry.specs.declared.status.Status.TheVariants as status
+use Rattle.cf_schema.specs.declared.described.Schema.{Schema}
+use Rattle.cf_stacks.specs.World.{StackState, World, stack_of_operation}
+use Rattle.cf_stacks.specs.Status.{BackClean, Clean, goes_forward, is_in_progress, stage_of}
+use Rattle.cf_core.specs.Course.{IsOnCourse}
+use Rattle.cf_core.specs.Fits.{Fits}
+use Rattle.cf_core.specs.GoesOn.{HasKinds, HasNext, IsTold, OperationGoesOn}
+use Rattle.cf_core.specs.Tidying.{of_rollback, of_update}
+use Rattle.cf_core.proofs.GoingBack.{rollback_goes_on}
+use Rattle.cf_core.proofs.GoingForward.{forward_goes_on}
+use Rattle.cf_core.proofs.GoingGone.{deletion_goes_on}
+use Rattle.cf_core.proofs.TidyEnds.{cleanup_goes_on}
+use Rattle.cf_core.proofs.TidyParts.{of_cleaning, of_cleaning_back}
+
+module _ (schemas : List Schema) (name : List ℕ) (x : World) (s : StackState) (going : stack_of_operation s.operation x ≡ Some (name, s)) (fits : Fits x s) where
+  by_status : (st : Status) → s.status ≡ st → is_in_progress st ≡ true → IsOnCourse schemas name x s st → (goes_forward st ≡ true → HasKinds x s × IsTold s)
+      → HasNext schemas x s.operation
+  by_status status.CreateInProgress e g c told = let w = told refl in forward_goes_on schemas name x s c.0 going (ap stage_of e) fits c.1 w.0 w.1
+  by_status status.UpdateInProgress e g c told = let w = told refl in forward_goes_on schemas name x s c.0 going (ap stage_of e) fits c.1 w.0 w.1
+  by_status status.UpdateCompleteCleanupInProgress e g c told = cleanup_goes_on schemas name x s Clean status.UpdateCompleteCleanupInProgress going of_update e fits
+      (of_cleaning name x s c)
+  by_status status.UpdateRollbackCompleteCleanupInProgress e g c told =
+      cleanup_goes_on schemas name x s BackClean status.UpdateRollbackCompleteCleanupInProgress going of_rollback e fits (of_cleaning_back s c)
+  by_status status.RollbackInProgress e g c told = rollback_goes_on schemas name x s going (inl e)
+  by_status status.UpdateRollbackInProgress e g c told = rollback_goes_on schemas name x s going (inr e)
+  by_status status.DeleteInProgress e g c told = deletion_goes_on schemas name x s going e
+  by_status st e g c told = absurd (true≢false (sym g))
+
+pub operation_goes_on : OperationGoesOn
+operation_goes_on schemas name x s going g fits c told = by_status schemas name x s going fits s.status refl g c told
