@@ -1,16 +1,20 @@
 -- Lists in which the first that passes a test is changed, or each is, or one more stands at the end.
-use Rattle.std.proofs.Common.{◌≡◌, ◌⊎◌, inl, inr, List, [], ◌∷◌, ◌++◌, Bool, true, false, ◌&&◌, Option, Some, None, refl, sym, ap, subst, ◌∙◌, true≢false, filter, find, map}
-use Rattle.std.specs.Prelude.{◌||◌, cond}
-use Rattle.std.specs.Cmp.{first_so, second_so}
+use Rattle.std.proofs.Common.{◌≡◌, ◌⊎◌, inl, inr, List, [], ◌∷◌, ◌++◌, Bool, true, false, ◌&&◌, Option, Some, None, refl, sym, ap, subst, ◌∙◌, true≢false, find, map}
+use Rattle.std.specs.Prelude.{◌||◌, cond, fold, ◌↔◌}
 use Rattle.std.specs.List.{list_any}
 use Rattle.std.specs.Option.{option_or}
 use Rattle.std.proofs.lemmas.List.Folds.{find-append, list_any-append}
-use Rattle.cf_tree.specs.Named.{all_differ}
 use Rattle.cf_stacks.specs.Words.{change_first}
+use Rattle.cf_tree.specs.Lists.{insert_by}
+use Rattle.cf_plan.proofs.Listed.{in_cons}
 use Rattle.cf_plan.specs.Forward.{In, here, there}
-use Rattle.cf_plan.proofs.CreatedRight.{none_of, not_so}
-use Rattle.cf_plan.proofs.Told.{any_mapped}
 use Rattle.cf_plan.proofs.CreatedStays.{found_one}
+use Rattle.std.proofs.lemmas.Bool.{cond_both}
+use Rattle.cf_plan.proofs.CreatedEnd.{in_changed as from_map}
+
+-- of two, whichever it is
+pub either_way : {A : Type 0} (P : A → Type 0) (b : Bool) (x y : A) → P x → P y → P (cond b x y)
+either_way P b x y p q = cond_both b x y P (λ e. p) (λ e. q)
 
 pub and_no : (a b : Bool) → b ≡ false → (a && b) ≡ false
 and_no true b e = e
@@ -21,18 +25,7 @@ no_and a b e = ap (λ c. c && b) e
 
 -- what is so of each that is made of a list
 pub each_map : {A B : Type 0} (P : B → Type 0) (f : A → B) (xs : List A) → ((x : A) → In x xs → P (f x)) → (y : B) → In y (map f xs) → P y
-each_map P f [] h y i = elim i [ ]
-each_map P f (x ∷ xs) h y here = h x here
-each_map P f (x ∷ xs) h y (there i) = each_map P f xs (λ z j. h z (there j)) y i
-
--- those of a part that pass
-pub any_part : {A : Type 0} (test part : A → Bool) (xs : List A) → list_any test (filter part xs) ≡ list_any (λ x. part x && test x) xs
-any_part test part [] = refl
-any_part test part (x ∷ xs) = by (part x) (any_part test part xs) where
-  by : (b : Bool) → list_any test (filter part xs) ≡ list_any (λ y. part y && test y) xs
-      → list_any test (cond b (x ∷ filter part xs) (filter part xs)) ≡ ((b && test x) || list_any (λ y. part y && test y) xs)
-  by true e = ap (λ b. test x || b) e
-  by false e = e
+each_map P f xs h y i = let m = from_map f xs y i in subst P m.same (h m.one m.of_list)
 
 -- one more at the end that doesn't pass
 pub any_no_more : {A : Type 0} (test : A → Bool) (xs : List A) (x : A) → test x ≡ false → list_any test (xs ++ x ∷ []) ≡ list_any test xs
@@ -40,23 +33,6 @@ any_no_more test xs x e = list_any-append test xs (x ∷ []) ∙ ap (λ b. list_
   none : (b : Bool) → (b || false) ≡ b
   none true = refl
   none false = refl
-
--- two of a list whose keys are the same are one, where keys differ
-pub only_one :
-    {A K : Type 0} (same : K → K → Bool) (self : (a b : K) → a ≡ b → same a b ≡ true) (key : A → K) (xs : List A) → all_differ same (map key xs) ≡ true
-    → (x y : A) → In x xs → In y xs → key x ≡ key y → x ≡ y
-only_one same self key [] d x y i j e = elim i [ ]
-only_one {A} {K} same self key (a ∷ xs) d x y i j e = by x y i j e (only_one same self key xs (second_so _ (all_differ same (map key xs)) d)) where
-  never : (z : A) → In z xs → key a ≡ key z → ⊥
-  never z k q =
-      let none : list_any (λ w. same (key a) (key w)) xs ≡ false = sym (any_mapped key (same (key a)) xs) ∙ not_so _ (first_so _ (all_differ same (map key xs)) d) in
-      true≢false (sym (self (key a) (key z) q) ∙ none_of (λ w. same (key a) (key w)) xs z none k)
-
-  by : (x y : A) → In x (a ∷ xs) → In y (a ∷ xs) → key x ≡ key y → ((x y : A) → In x xs → In y xs → key x ≡ key y → x ≡ y) → x ≡ y
-  by x y here here e ih = refl
-  by x y here (there j) e ih = absurd (never y j e)
-  by x y (there i) here e ih = absurd (never x i (sym e))
-  by x y (there i) (there j) e ih = ih x y i j e
 
 -- where the first that passes is changed
 module _ {A : Type 0} (test : A → Bool) (change : A → A) where
@@ -113,3 +89,40 @@ found_no_more {A} f xs y e = find-append f xs (y ∷ []) ∙ ap (λ b. option_or
   none : (o : Option A) → option_or o None ≡ o
   none None = refl
   none (Some a) = refl
+
+-- what joins a list in its place is of it, beside what was of it
+module _ {A : Type 0} (test : A → A → Bool) (e : A) where
+  inserted : (xs : List A) (a : A) → In e (insert_by test xs a) ↔ (In e xs ⊎ (a ≡ e))
+  inserted [] a = (
+    λ i. elim (in_cons i) [ inl q ↦ inr q | inr j ↦ inl j ],
+    λ s. elim s [ inl i ↦ elim i [ ] | inr q ↦ subst (λ (z : A). In e (z ∷ [])) (sym q) here ],
+  )
+  inserted (b ∷ xs) a = by (test b a) (inserted xs a)
+    where
+      by : (t : Bool) → In e (insert_by test xs a) ↔ (In e xs ⊎ (a ≡ e)) → In e (cond t (b ∷ insert_by test xs a) (a ∷ b ∷ xs)) ↔ (In e (b ∷ xs) ⊎ (a ≡ e))
+      by true ih = (
+        λ i. elim (in_cons i) [ inl q ↦ inl (subst (λ (z : A). In e (z ∷ xs)) (sym q) here) | inr j ↦ elim (ih.0 j) [ inl k ↦ inl (there k) | inr q ↦ inr q ] ],
+        λ s. elim s [
+          | inl i ↦ elim (in_cons i) [ inl q ↦ subst (λ (z : A). In e (z ∷ insert_by test xs a)) (sym q) here | inr j ↦ there (ih.1 (inl j)) ]
+          | inr q ↦ there (ih.1 (inr q))
+        ],
+      )
+      by false ih = (
+        λ i. elim (in_cons i) [ inl q ↦ inr q | inr j ↦ inl j ],
+        λ s. elim s [ inl i ↦ there i | inr q ↦ subst (λ (z : A). In e (z ∷ b ∷ xs)) (sym q) here ],
+      )
+
+  pub all_inserted : (ys xs : List A) → In e (fold (insert_by test) xs ys) ↔ (In e xs ⊎ In e ys)
+  all_inserted [] xs = (λ i. inl i, λ s. elim s [ inl i ↦ i | inr j ↦ elim j [ ] ])
+  all_inserted (y ∷ ys) xs =
+      let ih = all_inserted ys (insert_by test xs y) in
+      let one = inserted xs y in (
+        λ i. elim (ih.0 i) [
+          | inl j ↦ elim (one.0 j) [ inl k ↦ inl k | inr q ↦ inr (subst (λ (z : A). In e (z ∷ ys)) (sym q) here) ]
+          | inr j ↦ inr (there j)
+        ],
+        λ s. elim s [
+          | inl k ↦ ih.1 (inl (one.1 (inl k)))
+          | inr j ↦ elim (in_cons j) [ inl q ↦ ih.1 (inl (one.1 (inr q))) | inr k ↦ ih.1 (inr k) ]
+        ],
+      )

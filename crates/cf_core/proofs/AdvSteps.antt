@@ -1,60 +1,553 @@
--- The forward phase goes on behind each entry that is written: an answer, a call that goes out, an opening, and what is of another stack.
-use Rattle.std.proofs.Common.{◌≡◌, ℕ, ◌+◌, ◌==◌, List, [], ◌∷◌, ◌++◌, inl, inr, Bool, true, false, ◌&&◌, Option, Some, None, refl, sym, ap, subst, ◌∙◌, true≢false, map}
-use Rattle.std.specs.Prelude.{◌||◌, cond, IsTrue}
+-- The forward phase begins, and goes on behind each entry that is written.
+use Rattle.std.proofs.Common.{◌≡◌, ℕ, List, [], ◌++◌, Option, Some, None, refl, sym, ap, subst, ◌∙◌, map, option_map, ◌==◌, Bool, true, false, ◌&&◌, not, true≢false, find, ◌∷◌, inl, inr, ◌+◌, ◌||◌, IsTrue, is_some, filter}
+use Rattle.std.specs.Option.{option_map_or, option_or, option_and_then}
 use Rattle.std.specs.Str.{bytes_eq}
-use Rattle.std.specs.List.{list_any}
+use Rattle.std.proofs.lemmas.List.Folds.{find-append}
 use Rattle.std.proofs.lemmas.Slice.Eq.{bytes_eq-Decides}
-use Rattle.cf_tree.specs.Datum.{Data}
-use Rattle.cf_tree.specs.declared.request.Request.{Request}
-use Rattle.cf_tree.specs.declared.request.Request.TheVariants as request
+use Rattle.std.specs.Prelude.{cond}
+use Rattle.std.specs.List.{list_any}
+use Rattle.std.proofs.lemmas.Bool.{eqb-true, or_right}
+use Rattle.cf_tree.specs.Keys.{value_at}
 use Rattle.cf_tree.specs.declared.source.Source.{Source}
-use Rattle.cf_entry.specs.declared.entry.Entry.{Entry}
-use Rattle.cf_entry.specs.declared.entry.Entry.TheVariants as entry
-use Rattle.cf_entry.specs.declared.entry.Reply.{Reply}
-use Rattle.cf_entry.specs.declared.entry.Reply.TheVariants as reply
-use Rattle.cf_schema.specs.declared.described.Schema.{Schema}
-use Rattle.cf_change.specs.Hidden.{hides_attrs, hides_id}
+use Rattle.cf_tree.specs.declared.request.Request.{Request}
+use Rattle.cf_tree.specs.declared.row.Row.{Row}
+use Rattle.cf_tree.specs.Datum.{Data}
+use Rattle.cf_tree.specs.declared.request.Request.TheVariants as request
+use Rattle.cf_desired.specs.Plan.{member_at, plan_by, props_at}
+use Rattle.cf_desired.specs.Seeing.{Seen}
+use Rattle.cf_desired.specs.Shape.{shape_of}
+use Rattle.cf_desired.specs.Stays.{AgreeAt}
+use Rattle.cf_desired.specs.Whole.{wanted_at}
+use Rattle.cf_desired.specs.Work.{Member}
+use Rattle.cf_desired.specs.declared.shape.Terms.{Terms}
+use Rattle.cf_desired.specs.declared.wanted.Wanted.{Wanted}
+use Rattle.cf_desired.proofs.NeedsMatter.{needs_suffice}
+use Rattle.cf_desired.proofs.Termed.{terms_by, wanted_terms}
 use Rattle.cf_desired.specs.ShapeStays.{KeepsRest}
-use Rattle.cf_entry.specs.declared.entry.Begun.{Begun}
-use Rattle.cf_entry.specs.declared.entry.Begun.TheVariants as begin
-use Rattle.cf_entry.specs.declared.status.Status.{Status}
-use Rattle.cf_entry.specs.declared.status.Status.TheVariants as status
-use Rattle.cf_entry.specs.declared.turn.Phase.{Phase}
-use Rattle.cf_entry.specs.declared.turn.Phase.TheVariants as phase
-use Rattle.cf_entry.specs.declared.turn.Why.{Why}
-use Rattle.cf_entry.specs.declared.turn.Why.TheVariants as why
-use Rattle.cf_entry.proofs.Codec.{some_is}
+use Rattle.cf_desired.proofs.Puts.{kept_self}
+use Rattle.cf_desired.specs.Turns as turn
+use Rattle.cf_rests.specs.Views.{wanted_from}
+use Rattle.cf_rests.proofs.Viewed.{by_paths}
+use Rattle.cf_stacks.specs.World.{StackState, World}
+use Rattle.cf_stacks.specs.Words.{is_current_at, has_token, is_update, updates, without_token, change_first, current_at, has_physical, resources_of, where_physical, pending_of}
+use Rattle.cf_stacks.specs.Begin.{seen_in, source_for}
+use Rattle.cf_stacks.specs.End.{seen_now}
+use Rattle.cf_stacks.specs.Reply.{terms_of, wanted_in, still_open, updating, answered, closing, made_of, replied, status_made, terms_at}
 use Rattle.cf_stacks.specs.declared.call.Call.{Call}
 use Rattle.cf_stacks.specs.declared.held.Held.{Held}
 use Rattle.cf_stacks.specs.declared.held.Pending.{Pending}
-use Rattle.cf_stacks.specs.World.{StackState, World}
-use Rattle.cf_stacks.specs.Words.{current_at, is_current_at, updates, has_physical, has_token, is_update, pending_of, where_physical}
-use Rattle.cf_stacks.specs.Calls.{anew, new_call, is_restore, is_success}
-use Rattle.cf_stacks.specs.Begin.{seen_in}
-use Rattle.cf_stacks.specs.End.{seen_now}
-use Rattle.cf_stacks.specs.Effect.{entries_with, heard, on_stack}
-use Rattle.cf_stacks.specs.Event.{lines_of}
+use Rattle.cf_stacks.specs.Calls.{answered_call, is_call, is_restore, is_success, succeeded, was_updated, where_call, anew, new_call, is_open_call}
+use Rattle.cf_stacks.specs.Status.{goes_back, goes_forward, Forward, Gone, Stage, stage_of, turned, is_in_progress, reviewed}
+use Rattle.cf_stacks.specs.Effect.{heard, on_stack}
 use Rattle.cf_stacks.specs.Fold.{effect_at}
-use Rattle.cf_stacks.specs.Reply.{answered, closing, made_of, replied, status_made, terms_at, updating}
-use Rattle.cf_stacks.specs.Status.{Forward, Gone, Stage, goes_forward, stage_of, turned}
-use Rattle.cf_plan.specs.Accept.{creates_from}
-use Rattle.cf_plan.specs.Follow.{EndsAs, IntendsForward, MayFollowIn, MayIntend, MayKeep, begins_from, settled_by, updates_from}
+use Rattle.cf_plan.specs.Between.{needs_at}
+use Rattle.cf_plan.specs.Forward.{In, IsDone, IsReady, Later, evaluated_at, finding, is_made, is_right, is_updated, plan_in, wanted_paths, was_updated_at, Known}
+use Rattle.cf_plan.proofs.CreatedSeen.{shown, shown_at}
+use Rattle.cf_plan.proofs.Members.{in_any, false_from, same_in}
+use Rattle.cf_plan.specs.Follow.{settled_by, EndsAs, IntendsForward, MayFollowIn, MayIntend, MayKeep, begins_from, updates_from, BeginsBy}
+use Rattle.cf_plan.proofs.CreatedRight.{in_filter, not_so, none_kept}
+use Rattle.cf_plan.proofs.CreatedStays.{found_one, found_in_more, found_still, in_more}
+use Rattle.cf_plan.proofs.Told.{any_filtered, any_mapped}
+use Rattle.cf_plan.proofs.RunLists.{any_of, some_of, in_front}
+use Rattle.cf_plan.specs.Accept.{creates_from, IsAccepted}
 use Rattle.cf_plan.specs.Run.{IsOwn}
-use Rattle.cf_plan.specs.Forward.{In}
-use Rattle.cf_plan.proofs.CreatedStays.{found_one, in_more}
-use Rattle.cf_plan.proofs.Told.{any_mapped}
-use Rattle.cf_plan.proofs.RunLists.{any_of}
-use Rattle.cf_core.specs.Advancing.{IsAdvancing, IsAsked, IsHidden, changes_begun}
-use Rattle.cf_core.specs.Ahead.{AdvancingGoesOn, GoesOn}
-use Rattle.cf_core.specs.Fits.{Fits}
-use Rattle.cf_core.specs.Still.{IsOpenAhead}
-use Rattle.cf_core.specs.Written.{IsTo, begins, opened, other, reviewed, step}
+use Rattle.cf_plan.specs.Ends.{IsCleared}
+use Rattle.cf_entry.specs.declared.entry.Entry.{Entry}
+use Rattle.cf_entry.specs.declared.entry.Reply.{Reply}
+use Rattle.cf_entry.specs.declared.status.Status.{Status}
+use Rattle.cf_entry.specs.declared.entry.Begun.{Begun}
+use Rattle.cf_entry.specs.declared.turn.Phase.{Phase}
+use Rattle.cf_entry.specs.declared.turn.Why.{Why}
+use Rattle.cf_entry.proofs.Codec.{some_is}
+use Rattle.cf_entry.specs.declared.entry.Reply.TheVariants as reply
+use Rattle.cf_entry.specs.declared.status.Status.TheVariants as status
+use Rattle.cf_entry.specs.declared.entry.Entry.TheVariants as entry
+use Rattle.cf_entry.specs.declared.entry.Begun.TheVariants as begin
+use Rattle.cf_entry.specs.declared.turn.Phase.TheVariants as phase
+use Rattle.cf_entry.specs.declared.turn.Why.TheVariants as why
+use Rattle.cf_schema.specs.declared.described.Schema.{Schema}
+use Rattle.cf_change.specs.Hidden.{hides_attrs, hides_id}
+use Rattle.cf_core.specs.Still.{IsFurther, IsStill, IsMoved, IsOpenAhead, moved, AreAhead}
+use Rattle.cf_core.specs.Advancing.{IsAdvancing, IsAsSaid, IsAsked, IsHidden, changes_begun, AreSameThings, IsAsBefore, IsSameThing, AreSingle}
+use Rattle.cf_core.specs.Fits.{Fits, IsRowOf}
+use Rattle.cf_core.proofs.AdvLists.{and_no, each_map, found_changed, found_else, found_no_more, in_changed, no_and, any_no_more}
+use Rattle.cf_core.proofs.FitLists.{one_number, one_id}
+use Rattle.cf_core.specs.Ahead.{AdvancingGoesOn, GoesOn, AdvancingBegins, CourseIsFree, HasBegun, IsFreeToBegin}
+use Rattle.cf_core.specs.Written.{IsTo}
 use Rattle.cf_core.proofs.Statuses.{ended_status, turned_status}
 use Rattle.cf_core.proofs.Written.{written_is_to}
-use Rattle.cf_core.proofs.AdvAnswers.{found_at, one_id, still_held, makes, quiet, still_goes, updates_so}
-use Rattle.cf_core.proofs.AdvCalls.{no_restore, only_forward}
-use Rattle.cf_core.proofs.AdvLists.{and_no, any_no_more, any_part, each_map}
-use Rattle.cf_core.proofs.AdvMoves.{open_of}
+use Rattle.cf_core.proofs.BackLists.{is_of, same_things}
+use Rattle.cf_core.specs.Course.{IsOnCourse}
+use Rattle.cf_core.specs.Advancing as things
+use Rattle.cf_core.specs.Written as to
+
+-- What the template says of a path that is ready stays so, as long as what is done is left as it was: it rests on what is seen of the
+-- paths that it needs.
+
+abbrev needs_in : Option Terms → List (List ℕ)
+needs_in None = []
+needs_in (Some t) = t.needs
+
+needs_of : (o : Option Wanted) → (terms_of o).needs ≡ needs_in (option_map terms_by o)
+needs_of None = refl
+needs_of (Some w) = refl
+
+-- over one shape a plan says the same of a path where the same is seen of what the path needs
+says_same :
+    (source : Source) (before a b : Seen) (path : List ℕ) → ((m : Member) → member_at (shape_of source before) path ≡ Some m → AgreeAt m.needs a b)
+    → wanted_at path (plan_by source (shape_of source before) b) ≡ wanted_at path (plan_by source (shape_of source before) a)
+says_same source before a b path agree =
+    (by_paths source (shape_of source before) b).wanted path ∙ by (member_at (shape_of source before) path) refl
+    ∙ sym ((by_paths source (shape_of source before) a).wanted path)
+  where
+    by :
+        (o : Option Member) → member_at (shape_of source before) path ≡ o
+        → wanted_from o (props_at source (shape_of source before) b path) ≡ wanted_from o (props_at source (shape_of source before) a path)
+    by None e = refl
+    by (Some m) e = ap (wanted_from (Some m)) (needs_suffice source before a b path m e (agree m e))
+
+-- what is seen of a path is told by what is made and held at it
+seen_still : (s t : StackState) (path : List ℕ) → IsStill s t path → value_at path (seen_now t) ≡ value_at path (seen_now s)
+seen_still s t path h =
+    shown_at path (t.made ++ t.held) ∙ ap (option_map shown) (find-append (is_current_at path) t.made t.held)
+    ∙ (λ i. option_map shown (option_or (h.made i) (h.held i)))
+    ∙ sym (shown_at path (s.made ++ s.held) ∙ ap (option_map shown) (find-append (is_current_at path) s.made s.held))
+
+-- The same source over what was held before: paths and needs are the same.
+module _ (s t : StackState) (source : Source) (going : s.going ≡ Some source) (goes : t.going ≡ Some source) (before : t.before ≡ s.before) where
+  pub same_paths : wanted_paths t ≡ wanted_paths s
+  same_paths = λ i. map (λ w. w.path) (plan_in ((goes ∙ sym going) i) (seen_in (before i)) (seen_in (before i))).wanted
+
+  pub same_needs : (path : List ℕ) → needs_at path t ≡ needs_at path s
+  same_needs path = λ i. (terms_of (wanted_in ((goes ∙ sym going) i) (seen_in (before i)) path)).needs
+
+  -- what a path needs is what its shape says
+  member_needs : (path : List ℕ) (m : Member) → member_at (shape_of source (seen_in s.before)) path ≡ Some m → needs_at path s ≡ m.needs
+  member_needs path m e =
+      ap (λ g. (terms_of (wanted_in g (seen_in s.before) path)).needs) going
+      ∙ needs_of (wanted_at path (plan_by source (shape_of source (seen_in s.before)) (seen_in s.before)))
+      ∙ ap needs_in (wanted_terms source (seen_in s.before) (shape_of source (seen_in s.before)) path ∙ ap (option_map turn.terms_of) e)
+
+  -- what the template says of a path rests on what is seen of the paths that it needs
+  pub said_still : (path : List ℕ) → ((q : List ℕ) → In q (needs_at path s) → IsStill s t q) → evaluated_at path t ≡ evaluated_at path s
+  said_still path still =
+      let agree : (m : Member) → member_at (shape_of source (seen_in s.before)) path ≡ Some m → AgreeAt m.needs (seen_now s) (seen_now t) =
+      λ m e q among.
+      let found = in_any (λ n. bytes_eq q n) m.needs among in
+      let same : q ≡ found.0 = (bytes_eq-Decides q found.0).0 found.2 in
+      let of_path : In q (needs_at path s) = subst (λ ns. In q ns) (sym (member_needs path m e)) (subst (λ n. In n m.needs) (sym same) found.1) in
+      let shown_same = seen_still s t q (still q of_path) in
+      (ap (option_and_then (λ v. v.physical)) shown_same, ap (option_and_then (λ v. v.attrs)) shown_same) in
+      (λ i. option_map_or (λ w. finding w.kind w.props) (wanted_at path (plan_in (goes i) (seen_in (before i)) (seen_now t))) Later)
+      ∙ ap (λ o. option_map_or (λ w. finding w.kind w.props) o Later) (says_same source (seen_in s.before) (seen_now s) (seen_now t) path agree)
+      ∙ ap (λ g. option_map_or (λ w. finding w.kind w.props) (wanted_at path (plan_in g (seen_in s.before) (seen_now s))) Later) (sym going)
+
+-- Each path that was done is as it was.
+module _ (s t : StackState) (source : Source) (h : IsFurther s t source) where
+  -- so the template says the same of what is ready
+  pub ready_said : (path : List ℕ) → IsReady s path → evaluated_at path t ≡ evaluated_at path s
+  ready_said path ready = said_still s t source h.going h.goes h.before path (λ q i. h.done q (ready.1 q i))
+
+  -- what was done is done
+  pub done_stays : (path : List ℕ) → IsDone s path → IsDone t path
+  done_stays path (is_made r e) = is_made r ((h.done path (is_made r e)).made ∙ e)
+  done_stays path (is_updated u) = is_updated ((h.done path (is_updated u)).updated ∙ u)
+  done_stays path (is_right r i needs e sure said) =
+      is_right r (subst (λ ps. In path ps) (sym (same_paths s t source h.going h.goes h.before)) i)
+      (λ q j. done_stays q (needs q (subst (λ ns. In q ns) (same_needs s t source h.going h.goes h.before path) j)))
+      ((h.done path (is_right r i needs e sure said)).held ∙ e) sure (ready_said path (i, needs) ∙ said)
+
+  -- and what was ready is ready
+  pub ready_stays : (path : List ℕ) → IsReady s path → IsReady t path
+  ready_stays path ready = (
+    subst (λ ps. In path ps) (sym (same_paths s t source h.going h.goes h.before)) ready.0,
+    λ q j. done_stays q (ready.1 q (subst (λ ns. In q ns) (same_needs s t source h.going h.goes h.before path) j)),
+  )
+
+  -- a ready path that is left as it was is done only where it was
+  pub not_done_stays : (path : List ℕ) → IsReady s path → IsStill s t path → IsDone t path → IsDone s path
+  not_done_stays path ready still (is_made r e) = is_made r (sym still.made ∙ e)
+  not_done_stays path ready still (is_updated u) = is_updated (sym still.updated ∙ u)
+  not_done_stays path ready still (is_right r i needs e sure said) =
+      is_right r ready.0 ready.1 (sym still.held ∙ e) sure (sym (ready_said path ready) ∙ said)
+
+-- A stack that goes forward and moves so goes forward.
+
+asked_stays : (s t : StackState) (source : Source) → IsFurther s t source → (path : List ℕ) (r : Request) → IsReady s path → IsStill s t path → IsAsked s path r → IsAsked t path r
+asked_stays s t source f path (request.Create kind props) ready still a = ready_said s t source f path ready ∙ a
+asked_stays s t source f path (request.Update physical props) ready still (h, e, id, said) = (h, still.held ∙ e, id, ready_said s t source f path ready ∙ said)
+asked_stays s t source f path (request.Delete physical) ready still a = a
+
+hidden_stays : (rows : List Row) (s t : StackState) (path : List ℕ) (r : Request) → IsStill s t path → IsHidden rows s path r → IsHidden rows t path r
+hidden_stays rows s t path (request.Create kind props) still h = λ g e. h g (sym still.held ∙ e)
+hidden_stays rows s t path (request.Update physical props) still h = h
+hidden_stays rows s t path (request.Delete physical) still h = h
+
+-- what is open as a stack that goes forward has it
+pub open_of : (schemas : List Schema) (s : StackState) (source : Source) → IsAdvancing schemas s source → (p : Pending) → In p s.tokens → IsOpenAhead schemas s source p
+open_of schemas s source h p i = record { ready = h.ready p i; not_done = h.not_done p i; asked = h.asked p i; hidden = h.hidden p i }
+
+module _ (schemas : List Schema) (s : StackState) (source : Source) (h : IsAdvancing schemas s source)
+    (hs ms : List Held) (ts : List Pending) (cs : List Call) (es : List Entry) (lines : List (List ℕ)) where
+  module _ (m : IsMoved schemas s (moved s hs ms ts cs es lines) source) where
+    further : IsFurther s (moved s hs ms ts cs es lines) source
+    further = record { going = h.going; goes = h.going; before = refl; done = m.done }
+
+    said_stays : (r : Held) → IsAsSaid s r → IsAsSaid (moved s hs ms ts cs es lines) r
+    said_stays r a = record {
+      sure = a.sure;
+      said = ready_said s (moved s hs ms ts cs es lines) source further r.path a.ready ∙ a.said;
+      ready = ready_stays s (moved s hs ms ts cs es lines) source further r.path a.ready;
+    }
+
+    pub goes_on :
+        KeepsRest (hides_id (changes_begun schemas s source).rows) (hides_attrs (changes_begun schemas s source).rows) (seen_in s.before) (seen_in (ms ++ hs))
+        → IsAdvancing schemas (moved s hs ms ts cs es lines) source
+    goes_on rest = record {
+      going = h.going;
+      no_flaw = h.no_flaw;
+      no_clash = h.no_clash;
+      rest = rest;
+      single_before = h.single_before;
+      held = m.held;
+      unchanged = m.unchanged;
+      single_made = m.single_made;
+      made = λ r i. said_stays r (m.made r i);
+      updated = λ path u. let (g, e, a) = m.updated path u in (g, e, said_stays g a);
+      ready = λ p i. ready_stays s (moved s hs ms ts cs es lines) source further p.path (m.open_ p i).ready;
+      not_done = λ p i d.
+          (m.open_ p i).not_done (not_done_stays s (moved s hs ms ts cs es lines) source further p.path (m.open_ p i).ready (m.open_still p i) d);
+      asked = λ p i.
+          asked_stays s (moved s hs ms ts cs es lines) source further p.path p.request (m.open_ p i).ready (m.open_still p i) (m.open_ p i).asked;
+      hidden = λ p i.
+          hidden_stays (changes_begun schemas s source).rows s (moved s hs ms ts cs es lines) p.path p.request (m.open_still p i) (m.open_ p i).hidden;
+      calls = m.calls.calls;
+      at_path = m.calls.at_path;
+    }
+
+-- What the ledger tells of updates as an open call is answered.
+
+-- a row is what it was but for its answer and doubts
+record Stays (c d : Call) : Type 0 where
+  number : d.number ≡ c.number
+  path : d.path ≡ c.path
+  request : d.request ≡ c.request
+  status : d.status ≡ c.status
+
+answered_stays : (a : Reply) (c : Call) → Stays c (answered_call a c)
+answered_stays (reply.Success physical attrs) c = record { number = refl; path = refl; request = refl; status = refl }
+answered_stays a c = record { number = refl; path = refl; request = refl; status = refl }
+
+success_by : (a : Reply) (c : Call) → c.answer ≡ None → succeeded (answered_call a c) ≡ is_success (settled_by a)
+success_by (reply.Success physical attrs) c e = refl
+success_by (reply.Failed k) c e = refl
+success_by reply.Doubt c e = ap is_success e
+
+-- what is so of the two statuses of a forward phase
+pub only_forward : (P : Status → Type 0) → P status.CreateInProgress → P status.UpdateInProgress → (z : Status) → goes_forward z ≡ true → P z
+only_forward P a b status.CreateInProgress e = a
+only_forward P a b status.UpdateInProgress e = b
+only_forward P a b z e = absurd (true≢false (sym e))
+
+-- the row as it is answered, where it is that of the token
+abbrev pub with_answer : ℕ → Reply → Call → Call
+with_answer token a c = cond (is_call token c) (answered_call a c) c
+
+-- a good update in the operation of this number at a path; a success of an update of a resource that went out as it went forward
+abbrev is_updated_at : ℕ → List ℕ → Call → Bool
+is_updated_at n q c = (c.number == n) && (bytes_eq q c.path && (is_update c.request && succeeded c))
+
+abbrev is_good_update : List ℕ → Call → Bool
+is_good_update id c = goes_forward c.status && (updates id c.request && succeeded c)
+
+-- paths that were updated are told by all rows alike
+pub updated_all : (q : List ℕ) (s : StackState) → was_updated_at q s ≡ list_any (is_updated_at s.operation q) s.ledger
+updated_all q s = any_filtered (λ c. c.number == s.operation) (λ c. bytes_eq q c.path && (is_update c.request && succeeded c)) s.ledger
+
+module _ (x : World) (s : StackState) (fits : Fits x s) (token : ℕ) (p : Pending) (i : In p s.tokens) (named : has_token token p ≡ true) where
+  token_is : token ≡ p.token
+  token_is = eqb-true token p.token named
+
+  row_of : IsRowOf p (fits.rows p i).0
+  row_of = (fits.rows p i).2
+
+  row_in : In (fits.rows p i).0 s.ledger × (is_call p.token (fits.rows p i).0 ≡ true)
+  row_in = found_one (is_call p.token) s.ledger (fits.rows p i).0 (fits.rows p i).1
+
+  -- no other row is of the token
+  row_only : (c : Call) → In c s.ledger → is_call token c ≡ true → c ≡ (fits.rows p i).0
+  row_only c j e =
+      one_number (λ c. c.token) s.ledger fits.row_tokens c (fits.rows p i).0 j row_in.0
+      (sym (eqb-true token c.token e) ∙ token_is ∙ eqb-true p.token (fits.rows p i).0.token row_in.1)
+
+  open_row : (c : Call) → In c s.ledger → is_call token c ≡ true → IsRowOf p c
+  open_row c j e = subst (IsRowOf p) (sym (row_only c j e)) row_of
+
+  fails_yet : (c : Call) → In c s.ledger → is_call token c ≡ true → succeeded c ≡ false
+  fails_yet c j e = ap is_success (open_row c j e).unanswered
+
+  -- another open call is at another path
+  pub elsewhere : (q : Pending) → In q (without_token token s.tokens) → In q s.tokens × (q.path ≡ p.path → ⊥)
+  elsewhere q j =
+      let k = in_filter (λ y. not (has_token token y)) s.tokens q j in
+      (k.0, λ e. true≢false (sym (ap (has_token token) (fits.paths q p k.0 i e) ∙ named) ∙ not_so _ k.1))
+
+  -- a call that went out as its stack went forward gives nothing back
+  pub no_restore : AreAhead s s.ledger → is_restore token s ≡ false
+  no_restore h =
+      ap (λ t. option_map_or (λ c. goes_back c.status) (find (is_call t) s.ledger) false) token_is
+      ∙ ap (λ o. option_map_or (λ c. goes_back c.status) o false) (fits.rows p i).1
+      ∙ only_forward (λ z. goes_back z ≡ false) refl refl (fits.rows p i).0.status (h.calls (fits.rows p i).0 row_in.0).1
+
+  module _ (a : Reply) where
+    stays_so : (c : Call) → Stays c (with_answer token a c)
+    stays_so c = by (is_call token c) where
+      by : (b : Bool) → Stays c (cond b (answered_call a c) c)
+      by true = answered_stays a c
+      by false = record { number = refl; path = refl; request = refl; status = refl }
+
+    pub rows_ahead : AreAhead s s.ledger → AreAhead s (where_call token (answered_call a) s.ledger)
+    rows_ahead h = record {
+      calls =
+          each_map (λ d. (d.number ≡ s.operation) × IsTrue (goes_forward d.status)) (with_answer token a) s.ledger
+          (λ c j. ((stays_so c).number ∙ (h.calls c j).0, ap goes_forward (stays_so c).status ∙ (h.calls c j).1));
+      at_path = λ d b j k u.
+          each_map (λ e. IsTrue (updates b.physical e.request) → e.path ≡ b.path) (with_answer token a) s.ledger
+          (λ c l v. (stays_so c).path ∙ h.at_path c b l k (sym (ap (updates b.physical) (stays_so c).request) ∙ v)) d j u;
+    }
+
+    -- a path is updated as before, but for that of the call where an update succeeds
+    pub updated_same :
+        (q : List ℕ) → (bytes_eq q p.path && (is_update p.request && is_success (settled_by a))) ≡ false
+        → list_any (is_updated_at s.operation q) (where_call token (answered_call a) s.ledger) ≡ list_any (is_updated_at s.operation q) s.ledger
+    updated_same q none =
+        any_mapped (with_answer token a) (is_updated_at s.operation q) s.ledger
+        ∙ same_in (λ c. is_updated_at s.operation q (with_answer token a c)) (is_updated_at s.operation q) s.ledger (λ c j. by c j (is_call token c) refl)
+      where
+        by : (c : Call) → In c s.ledger → (b : Bool) → is_call token c ≡ b
+            → is_updated_at s.operation q (cond b (answered_call a c) c) ≡ is_updated_at s.operation q c
+        by c j false e = refl
+        by c j true e =
+            let r = open_row c j e in
+            let k = answered_stays a c in
+            and_no ((answered_call a c).number == s.operation) _
+            ((λ n. bytes_eq q ((k.path ∙ r.path) n) && (is_update ((k.request ∙ r.request) n) && success_by a c r.unanswered n)) ∙ none)
+            ∙ sym (and_no (c.number == s.operation) _ (and_no (bytes_eq q c.path) _ (and_no (is_update c.request) _ (fails_yet c j e))))
+
+    -- what was updated stays so
+    pub updated_more : (id : List ℕ) → list_any (is_good_update id) (where_call token (answered_call a) s.ledger) ≡ false → was_updated id s ≡ false
+    updated_more id none = false_from (was_updated id s) (λ yes.
+        let one = some_of (is_good_update id) s.ledger yes in
+        let passes : is_good_update id (with_answer token a one.one) ≡ true = by one.one one.of_list one.passes (is_call token one.one) refl in
+        true≢false (sym (any_of (λ c. is_good_update id (with_answer token a c)) s.ledger one.one one.of_list passes)
+        ∙ (sym (any_mapped (with_answer token a) (is_good_update id) s.ledger) ∙ none)))
+      where
+        by : (c : Call) → In c s.ledger → is_good_update id c ≡ true → (b : Bool) → is_call token c ≡ b → is_good_update id (cond b (answered_call a c) c) ≡ true
+        by c j u false e = u
+        by c j u true e =
+            absurd (true≢false (sym u ∙ and_no (goes_forward c.status) _ (and_no (updates id c.request) _ (fails_yet c j e))))
+
+  -- and what is updated now is
+  pub updated_now :
+      (id physical : List ℕ) (attrs : List (List ℕ × Data)) → AreAhead s s.ledger → updates id p.request ≡ true
+      → list_any (is_good_update id) (where_call token (answered_call (reply.Success physical attrs)) s.ledger) ≡ true
+  updated_now id physical attrs h u =
+      any_mapped (with_answer token (reply.Success physical attrs)) (is_good_update id) s.ledger
+      ∙ any_of (λ c. is_good_update id (with_answer token (reply.Success physical attrs) c)) s.ledger (fits.rows p i).0 row_in.0
+      (ap (λ b. is_good_update id (cond b (answered_call (reply.Success physical attrs) (fits.rows p i).0) (fits.rows p i).0))
+      (ap (λ t. is_call t (fits.rows p i).0) token_is ∙ row_in.1)
+      ∙ (λ n. (h.calls (fits.rows p i).0 row_in.0).1 n && (updates id (row_of.request n) && true)) ∙ ap (λ b. b && true) u)
+
+-- A stack that goes forward does so behind the answer to an open call.
+
+-- what has one id is one, of all resources of a stack
+pub one_held : (x : World) (s : StackState) → Fits x s → (g h : Held) → In g s.held → In h s.held → g.physical ≡ h.physical → g ≡ h
+one_held x s fits g h i j e =
+    one_id (λ r. r.physical) (resources_of s) fits.ids g h (in_front g s.held s.made i) (in_front h s.held s.made j) e
+
+-- what is found at a path is at it
+pub found_at : (path : List ℕ) (hs : List Held) (h : Held) → current_at path hs ≡ Some h → h.path ≡ path
+found_at path hs h e = by (bytes_eq path h.path) refl (found_one (is_current_at path) hs h e).1 where
+  by : (b : Bool) → bytes_eq path h.path ≡ b → (b && not h.superseded) ≡ true → h.path ≡ path
+  by true q t = sym ((bytes_eq-Decides path h.path).0 q)
+  by false q t = absurd (true≢false (sym t))
+
+-- at a path that is not done nothing is made
+not_made : (path : List ℕ) (s : StackState) → (IsDone s path → ⊥) → current_at path s.made ≡ None
+not_made path s n = by (current_at path s.made) refl where
+  by : (o : Option Held) → current_at path s.made ≡ o → o ≡ None
+  by None e = refl
+  by (Some r) e = absurd (n (is_made r e))
+
+-- two paths are told apart
+pub apart : (q path : List ℕ) → (q ≡ path → ⊥) → bytes_eq q path ≡ false
+apart q path n = false_from (bytes_eq q path) (λ e. n ((bytes_eq-Decides q path).0 e))
+
+same_changed : (test : Held → Bool) (change : Held → Held) → ((b h : Held) → IsSameThing b h → IsSameThing b (change h)) → (bs hs : List Held)
+    → AreSameThings bs hs → AreSameThings bs (change_first test change hs)
+same_changed test change keeps _ _ things.none = things.none
+same_changed test change keeps _ _ (things.more {b} {h} {bs} {hs} one rest) = by (test h) (same_changed test change keeps bs hs rest) where
+  by : (c : Bool) → AreSameThings bs (change_first test change hs) → AreSameThings (b ∷ bs) (cond c (change h ∷ hs) (h ∷ change_first test change hs))
+  by true ih = things.more (keeps b h one) rest
+  by false ih = things.more one ih
+
+module _ (schemas : List Schema) (x : World) (s : StackState) (source : Source) (h : IsAdvancing schemas s source) (fits : Fits x s) where
+  -- what is hidden by the change set, and what is still seen
+  abbrev pub Shows : List Held → Type 0
+  Shows rs = KeepsRest (hides_id (changes_begun schemas s source).rows) (hides_attrs (changes_begun schemas s source).rows) (seen_in s.before) (seen_in rs)
+
+  -- other open calls and other rows, where no path is updated that was not
+  module _ (ts : List Pending) (cs : List Call) (es : List Entry) (lines : List (List ℕ)) where
+    pub still_goes :
+        ((p : Pending) → In p ts → IsOpenAhead schemas s source p) → ((q : List ℕ) → was_updated_at q (moved s s.held s.made ts cs es lines) ≡ was_updated_at q s)
+        → ((id : List ℕ) → was_updated id (moved s s.held s.made ts cs es lines) ≡ false → was_updated id s ≡ false) → AreAhead s cs
+        → Shows (s.made ++ s.held) → IsAdvancing schemas (moved s s.held s.made ts cs es lines) source
+    still_goes open_ same more rows shows = goes_on schemas s source h s.held s.made ts cs es lines (record {
+      done = λ q d. record { made = refl; held = refl; updated = same q };
+      open_ = open_;
+      open_still = λ p i. record { made = refl; held = refl; updated = same p.path };
+      held = h.held;
+      unchanged = λ b g i j e n. h.unchanged b g i j e (more b.physical n);
+      single_made = h.single_made;
+      made = h.made;
+      updated = λ q u. h.updated q (sym (same q) ∙ u);
+      calls = rows;
+    }) shows
+
+  module _ (token : ℕ) (p : Pending) (i : In p s.tokens) (named : has_token token p ≡ true) (es : List Entry) (lines : List (List ℕ)) where
+    abbrev rows : Reply → List Call
+    rows a = where_call token (answered_call a) s.ledger
+
+    pub ahead : AreAhead s s.ledger
+    ahead = record { calls = h.calls; at_path = h.at_path }
+
+    abbrev others : List Pending
+    others = without_token token s.tokens
+
+    still_open_of : (a : Reply) (q : Pending) → In q (still_open token a s.tokens) → In q s.tokens
+    still_open_of reply.Doubt q j = j
+    still_open_of a q j = (elsewhere x s fits token p i named q j).0
+
+    -- a path is updated as before, but for that of the call where an update succeeds
+    same : (a : Reply) (hs ms : List Held) (ts : List Pending) (q : List ℕ) → (bytes_eq q p.path && (is_update p.request && is_success (settled_by a))) ≡ false
+        → was_updated_at q (moved s hs ms ts (rows a) es lines) ≡ was_updated_at q s
+    same a hs ms ts q none =
+        updated_all q (moved s hs ms ts (rows a) es lines) ∙ updated_same x s fits token p i named a q none ∙ sym (updated_all q s)
+
+    -- an answer that neither makes nor updates
+    pub quiet : (a : Reply) → (is_update p.request && is_success (settled_by a)) ≡ false → Shows (s.made ++ s.held)
+        → IsAdvancing schemas (moved s s.held s.made (still_open token a s.tokens) (rows a) es lines) source
+    quiet a none =
+        still_goes (still_open token a s.tokens) (rows a) es lines (λ q j. open_of schemas s source h q (still_open_of a q j))
+        (λ q. same a s.held s.made (still_open token a s.tokens) q (and_no (bytes_eq q p.path) _ none)) (updated_more x s fits token p i named a)
+        (rows_ahead x s fits token p i named a ahead)
+
+    -- a create succeeds
+    pub makes : (physical : List ℕ) (attrs : List (List ℕ × Data)) (m : Held) → m.path ≡ p.path → m.superseded ≡ false
+        → IsAsSaid s m → is_update p.request ≡ false → Shows ((s.made ++ m ∷ []) ++ s.held)
+        → IsAdvancing schemas (moved s s.held (s.made ++ m ∷ []) others (rows (reply.Success physical attrs)) es lines) source
+    makes physical attrs m at current said none =
+        let a : Reply = reply.Success physical attrs in
+        let passes : (q : List ℕ) → is_current_at q m ≡ bytes_eq q p.path = λ q. (λ n. bytes_eq q (at n) && not (current n)) ∙ with_true (bytes_eq q p.path) in
+        let as_before : (q : List ℕ) → (q ≡ p.path → ⊥) → IsStill s (moved s s.held (s.made ++ m ∷ []) others (rows a) es lines) q =
+        λ q n. record {
+          made = found_no_more (is_current_at q) s.made m (passes q ∙ apart q p.path n);
+          held = refl;
+          updated = same a s.held (s.made ++ m ∷ []) others q (and_no (bytes_eq q p.path) _ (no_and (is_update p.request) _ none));
+        } in
+        goes_on schemas s source h s.held (s.made ++ m ∷ []) others (rows a) es lines (record {
+          done = λ q d. as_before q (λ e. h.not_done p i (subst (IsDone s) e d));
+          open_ = λ q j. open_of schemas s source h q (elsewhere x s fits token p i named q j).0;
+          open_still = λ q j. as_before q.path (elsewhere x s fits token p i named q j).1;
+          held = h.held;
+          unchanged = λ b g j l e n. h.unchanged b g j l e (updated_more x s fits token p i named a b.physical n);
+          single_made =
+              in_more (λ r. current_at r.path (s.made ++ m ∷ []) ≡ Some r) m s.made
+              (λ r j. found_still (is_current_at r.path) s.made (m ∷ []) r (h.single_made r j))
+              (found_in_more (is_current_at m.path) s.made m (passes m.path ∙ (bytes_eq-Decides m.path p.path).1 at)
+              (not_made m.path s (λ d. h.not_done p i (subst (IsDone s) at d))));
+          made = in_more (IsAsSaid s) m s.made h.made said;
+          updated = λ q u.
+              h.updated q (sym (same a s.held (s.made ++ m ∷ []) others q (and_no (bytes_eq q p.path) _ (no_and (is_update p.request) _ none))) ∙ u);
+          calls = rows_ahead x s fits token p i named a ahead;
+        })
+      where
+        with_true : (b : Bool) → (b && true) ≡ b
+        with_true true = refl
+        with_true false = refl
+
+    -- an update succeeds
+    module _ (id : List ℕ) (props : List (List ℕ × Data)) (physical : List ℕ) (attrs : List (List ℕ × Data)) (of_call : p.request ≡ request.Update id props)
+        (g : Held) (at : current_at p.path s.held ≡ Some g) (named_so : g.physical ≡ id) (said : evaluated_at p.path s ≡ Known g.kind props) where
+      abbrev changed : List Held
+      changed = where_physical id (updating props attrs) s.held
+
+      abbrev updated_to : StackState
+      updated_to = moved s changed s.made others (rows (reply.Success physical attrs)) es lines
+
+      pub is_held : has_physical id g ≡ true
+      is_held = (bytes_eq-Decides id g.physical).1 (sym named_so)
+
+      pub in_held : In g s.held
+      in_held = (found_one (is_current_at p.path) s.held g at).0
+
+      only : (r : Held) → In r s.held → has_physical id r ≡ true → r ≡ g
+      only r j e = one_held x s fits r g j in_held (sym ((bytes_eq-Decides id r.physical).0 e) ∙ sym named_so)
+
+      now : current_at p.path changed ≡ Some (updating props attrs g)
+      now = found_changed (has_physical id) (updating props attrs) (is_current_at p.path) (λ a. refl) g s.held is_held only at
+
+      as_it_was : (q : List ℕ) → (q ≡ p.path → ⊥) → IsStill s updated_to q
+      as_it_was q n = record {
+        made = refl;
+        held =
+            found_else (has_physical id) (updating props attrs) (is_current_at q) (λ a. refl) s.held
+            (λ r j e. no_and (bytes_eq q r.path) _ (apart q r.path (λ f. n (f ∙ ap (λ o. o.path) (only r j e) ∙ found_at p.path s.held g at))));
+        updated = same (reply.Success physical attrs) changed s.made others q (no_and (bytes_eq q p.path) _ (apart q p.path n));
+      }
+
+      is_said : IsAsSaid s (updating props attrs g)
+      is_said = record {
+        sure = refl;
+        said = ap (λ q. evaluated_at q s) (found_at p.path s.held g at) ∙ said;
+        ready = subst (IsReady s) (sym (found_at p.path s.held g at)) (h.ready p i);
+      }
+
+      to_updated : (q : List ℕ) → IsTrue (was_updated_at q updated_to) → (b : Bool) → bytes_eq q p.path ≡ b
+          → (r : Held) × (current_at q changed ≡ Some r) × IsAsSaid s r
+      to_updated q u true e = (updating props attrs g, ap (λ o. current_at o changed) ((bytes_eq-Decides q p.path).0 e) ∙ now, is_said)
+      to_updated q u false e =
+          let k = as_it_was q (λ f. true≢false (sym ((bytes_eq-Decides q p.path).1 f) ∙ e)) in
+          let (r, f, a) = h.updated q (sym k.updated ∙ u) in (r, k.held ∙ f, a)
+
+      -- the resource counts as updated
+      counts : (b r : Held) → r.physical ≡ b.physical → ((o : Held) × (has_physical id o ≡ true) × (r ≡ updating props attrs o)) → was_updated b.physical updated_to ≡ false → ⊥
+      counts b r e (o, t, q) n =
+          let is_id : b.physical ≡ id = sym e ∙ ap (λ v. v.physical) q ∙ sym ((bytes_eq-Decides id o.physical).0 t) in
+          let self : bytes_eq id id ≡ true = (bytes_eq-Decides id id).1 refl in
+          true≢false (sym (updated_now x s fits token p i named id physical attrs ahead (ap (updates id) of_call ∙ self))
+          ∙ ap (λ v. was_updated v updated_to) (sym is_id) ∙ n)
+
+      pub updates_so : Shows (s.made ++ changed) → IsAdvancing schemas updated_to source
+      updates_so = goes_on schemas s source h changed s.made others (rows (reply.Success physical attrs)) es lines (record {
+        done = λ q d. as_it_was q (λ e. h.not_done p i (subst (IsDone s) e d));
+        open_ = λ q j. open_of schemas s source h q (elsewhere x s fits token p i named q j).0;
+        open_still = λ q j. as_it_was q.path (elsewhere x s fits token p i named q j).1;
+        held =
+            same_changed (has_physical id) (updating props attrs)
+            (λ b r k. record { path = k.path; physical = k.physical; kind = k.kind; needs = k.needs; deletion = k.deletion; replace = k.replace; superseded = k.superseded })
+            s.before s.held h.held;
+        unchanged = λ b r j l e n. elim (in_changed (has_physical id) (updating props attrs) s.held r l) [
+          | inl k ↦ h.unchanged b r j k e (updated_more x s fits token p i named (reply.Success physical attrs) b.physical n)
+          | inr k ↦ absurd (counts b r e k n)
+        ];
+        single_made = h.single_made;
+        made = h.made;
+        updated = λ q u. to_updated q u (bytes_eq q p.path) refl;
+        calls = rows_ahead x s fits token p i named (reply.Success physical attrs) ahead;
+      })
+
+-- The forward phase goes on behind each entry that is written: an answer, a call that goes out, an opening, and what is of another stack.
 
 module _ (schemas : List Schema) (x : World) (s : StackState) (source : Source) (h : IsAdvancing schemas s source) (fits : Fits x s) (place : ℕ) where
   -- what the change set did not hide is still seen in a stack
@@ -65,62 +558,42 @@ module _ (schemas : List Schema) (x : World) (s : StackState) (source : Source) 
   abbrev Goes : StackState → Type 0
   Goes t = Rest t → GoesOn schemas s t source
 
+  on : {t : StackState} → t.status ≡ s.status → t.before ≡ s.before → (Rest t → IsAdvancing schemas t source) → Goes t
+  on same before goes rest = record { status = same; before = before; advancing = goes rest }
+
   -- an answer to an open call
   module _ (number token before after : ℕ) (p : Pending) (i : In p s.tokens) (named : has_token token p ≡ true) where
     abbrev heard_by : Reply → StackState → StackState
     heard_by a t = (heard place (entry.Outcome number token a before after) s (on_stack (closing token a t))).stack
 
-    abbrev es : Reply → List Entry
-    es a = entries_with (entry.Outcome number token a before after) s.entries
-
-    abbrev lines : Reply → List (List ℕ)
-    lines a = s.events ++ lines_of place (entry.Outcome number token a before after) s
-
     by_held : (id : List ℕ) (props : List (List ℕ × Data)) (physical : List ℕ) (attrs : List (List ℕ × Data)) → p.request ≡ request.Update id props
         → IsAsked s p.path (request.Update id props) → (b : Bool) → list_any (has_physical id) s.held ≡ b
         → Goes (heard_by (reply.Success physical attrs) (cond b (record s { held = where_physical id (updating props attrs) s.held })
         (record s { made = where_physical id (updating props attrs) s.made })))
-    by_held id props physical attrs of_call (g, at, named_so, said) true e = λ rest. record {
-      status = refl;
-      before = refl;
-      advancing =
-          updates_so schemas x s source h fits token p i named (es (reply.Success physical attrs)) (lines (reply.Success physical attrs)) id props physical
-          attrs of_call g at named_so said rest;
-    }
+    by_held id props physical attrs of_call (g, at, named_so, said) true e =
+        on refl refl (updates_so schemas x s source h fits token p i named _ _ id props physical attrs of_call g at named_so said)
     by_held id props physical attrs of_call (g, at, named_so, said) false e =
         absurd (true≢false (sym (any_of (has_physical id) s.held g (found_one (is_current_at p.path) s.held g at).0 ((bytes_eq-Decides id g.physical).1 (sym named_so))) ∙ e))
 
     changes_nothing : (a : Reply) → (is_update p.request && is_success (settled_by a)) ≡ false → Goes (heard_by a s)
-    changes_nothing a none = λ rest. record { status = refl; before = refl; advancing = quiet schemas x s source h fits token p i named (es a) (lines a) a none rest }
+    changes_nothing a none = on refl refl (quiet schemas x s source h fits token p i named _ _ a none)
 
     by_request : (r : Request) (restores : Bool) (a : Reply) → p.request ≡ r → restores ≡ false → IsAsked s p.path r → Goes (heard_by a (answered restores p.path r a s))
-    by_request (request.Create k props) restores (reply.Success physical attrs) e none asked = λ rest. record {
-      status = refl;
-      before = refl;
-      advancing =
-          makes schemas x s source h fits token p i named (es (reply.Success physical attrs)) (lines (reply.Success physical attrs)) physical attrs
-          (made_of (terms_at p.path s) (status_made (current_at p.path s.held)) p.path k props physical attrs) refl refl
-          (record { sure = refl; said = asked; ready = h.ready p i }) (ap is_update e) rest;
-    }
-    by_request (request.Create k props) restores (reply.Failed c) e none asked = changes_nothing (reply.Failed c) (and_no (is_update p.request) false refl)
-    by_request (request.Create k props) restores reply.Doubt e none asked = changes_nothing reply.Doubt (and_no (is_update p.request) false refl)
+    by_request (request.Create k props) restores (reply.Success physical attrs) e none asked =
+        on refl refl (makes schemas x s source h fits token p i named _ _ physical attrs
+        (made_of (terms_at p.path s) (status_made (current_at p.path s.held)) p.path k props physical attrs) refl refl
+        (record { sure = refl; said = asked; ready = h.ready p i }) (ap is_update e))
     by_request (request.Update id props) restores (reply.Success physical attrs) e none asked = by_held id props physical attrs e asked (list_any (has_physical id) s.held) refl
     by_request (request.Update id props) true (reply.Failed c) e none asked = absurd (true≢false none)
-    by_request (request.Update id props) false (reply.Failed c) e none asked = changes_nothing (reply.Failed c) (and_no (is_update p.request) false refl)
-    by_request (request.Update id props) restores reply.Doubt e none asked = changes_nothing reply.Doubt (and_no (is_update p.request) false refl)
     by_request (request.Delete id) restores a e none asked = absurd asked
+    by_request r restores a e none asked = changes_nothing a (and_no (is_update p.request) false refl)
 
   -- an answer, be its call open or not
   by_pending : (number token before after : ℕ) (a : Reply) (o : Option Pending) → pending_of token s ≡ o
       → Goes (heard place (entry.Outcome number token a before after) s (on_stack (replied token a o s))).stack
-  by_pending number token before after a None e = λ rest. record {
-    status = refl;
-    before = refl;
-    advancing =
-        still_goes schemas x s source h fits s.tokens s.ledger (entries_with (entry.Outcome number token a before after) s.entries)
-        (s.events ++ lines_of place (entry.Outcome number token a before after) s) (λ q j. open_of schemas s source h q j) (λ q. refl) (λ id n. n)
-        (record { calls = h.calls; at_path = h.at_path }) rest;
-  }
+  by_pending number token before after a None e =
+      on refl refl (still_goes schemas x s source h fits s.tokens s.ledger _ _ (λ q j. open_of schemas s source h q j) (λ q. refl) (λ id n. n)
+      (record { calls = h.calls; at_path = h.at_path }))
   by_pending number token before after a (Some p) e =
       let found = found_one (has_token token) s.tokens p e in
       by_request number token before after p found.0 found.1 p.request (is_restore token s) a refl
@@ -131,18 +604,13 @@ module _ (schemas : List Schema) (x : World) (s : StackState) (source : Source) 
 
   -- an opening
   pub opening_goes : (epoch : ℕ) (lanes : List (List ℕ × List ℕ)) → Goes (effect_at place (entry.Opened epoch lanes) s).stack
-  opening_goes epoch lanes = λ rest. record {
-    status = refl;
-    before = refl;
-    advancing =
-        still_goes schemas x s source h fits s.tokens (map anew s.ledger) (entries_with (entry.Opened epoch lanes) s.entries)
-        (s.events ++ lines_of place (entry.Opened epoch lanes) s) (λ q j. open_of schemas s source h q j)
-        (λ q. any_part _ _ (map anew s.ledger) ∙ any_mapped anew _ s.ledger ∙ sym (any_part _ _ s.ledger)) (λ id n. sym (any_mapped anew _ s.ledger) ∙ n)
-        (record {
-          calls = each_map (λ d. (d.number ≡ s.operation) × IsTrue (goes_forward d.status)) anew s.ledger h.calls;
-          at_path = λ d b j k u. each_map (λ c. IsTrue (updates b.physical c.request) → c.path ≡ b.path) anew s.ledger (λ c l v. h.at_path c b l k v) d j u;
-        }) rest;
-  }
+  opening_goes epoch lanes =
+      on refl refl (still_goes schemas x s source h fits s.tokens (map anew s.ledger) _ _ (λ q j. open_of schemas s source h q j)
+      (λ q. any_filtered _ _ (map anew s.ledger) ∙ any_mapped anew _ s.ledger ∙ sym (any_filtered _ _ s.ledger)) (λ id n. sym (any_mapped anew _ s.ledger) ∙ n)
+      (record {
+        calls = each_map (λ d. (d.number ≡ s.operation) × IsTrue (goes_forward d.status)) anew s.ledger h.calls;
+        at_path = λ d b j k u. each_map (λ c. IsTrue (updates b.physical c.request) → c.path ≡ b.path) anew s.ledger (λ c l v. h.at_path c b l k v) d j u;
+      }))
 
   -- a call that goes out
   asked_by : (path : List ℕ) (r : Request) → IntendsForward schemas s path r → IsAsked s path r
@@ -153,8 +621,8 @@ module _ (schemas : List Schema) (x : World) (s : StackState) (source : Source) 
   at_its_path : (path : List ℕ) (r : Request) → IntendsForward schemas s path r → (b : Held) → In b s.before → IsTrue (updates b.physical r) → path ≡ b.path
   at_its_path path (request.Create k props) f b i u = absurd (true≢false (sym u))
   at_its_path path (request.Update id props) (g, at, same, said, wants, first) b i u =
-      let (k, j, thing) = still_held s.before s.held h.held b i in
-      let is_it : k ≡ g = one_id x s fits k g j (found_one (is_current_at path) s.held g at).0 (thing.physical ∙ (bytes_eq-Decides b.physical id).0 u ∙ same) in
+      let (k, j, thing) = is_of h.held i in
+      let is_it : k ≡ g = one_held x s fits k g j (found_one (is_current_at path) s.held g at).0 (thing.physical ∙ (bytes_eq-Decides b.physical id).0 u ∙ same) in
       sym (found_at path s.held g at) ∙ sym (ap (λ r. r.path) is_it) ∙ thing.path
   at_its_path path (request.Delete id) f b i u = absurd f
 
@@ -166,57 +634,42 @@ module _ (schemas : List Schema) (x : World) (s : StackState) (source : Source) 
     abbrev row_out : Call
     row_out = new_call number s.status (record { token = token; path = path; lane = lane; request = r })
 
-    abbrev out_lines : List (List ℕ)
-    out_lines = s.events ++ lines_of place (entry.Intent number token lane path r) s
-
     by_open : (b : Bool)
         → Goes (heard place (entry.Intent number token lane path r) s (on_stack (cond b s (record s { tokens = s.tokens ++ call_out ∷ []; ledger = s.ledger ++ row_out ∷ [] })))).stack
-    by_open true = λ rest. record {
-      status = refl;
-      before = refl;
-      advancing =
-          still_goes schemas x s source h fits s.tokens s.ledger (entries_with (entry.Intent number token lane path r) s.entries) out_lines
-          (λ q j. open_of schemas s source h q j) (λ q. refl) (λ id n. n) (record { calls = h.calls; at_path = h.at_path }) rest;
-    }
-    by_open false = λ rest. record {
-      status = refl;
-      before = refl;
-      advancing =
-          still_goes schemas x s source h fits (s.tokens ++ call_out ∷ []) (s.ledger ++ row_out ∷ [])
-          (entries_with (entry.Intent number token lane path r) s.entries) out_lines
-          (in_more (IsOpenAhead schemas s source) call_out s.tokens (open_of schemas s source h)
-          (record { ready = may.chosen.1; not_done = may.chosen.2; asked = asked_by path r may.chosen.3; hidden = hidden }))
-          (λ q. any_part _ _ (s.ledger ++ row_out ∷ [])
-          ∙ any_no_more _ s.ledger row_out (and_no (number == s.operation) _ (and_no (bytes_eq q path) _ (and_no (is_update r) _ refl))) ∙ sym (any_part _ _ s.ledger))
-          (λ id n. sym (any_no_more _ s.ledger row_out (and_no (goes_forward s.status) _ (and_no (updates id r) _ refl))) ∙ n)
-          (record {
-            calls = in_more (λ c. (c.number ≡ s.operation) × IsTrue (goes_forward c.status)) row_out s.ledger h.calls (own, forward);
-            at_path = λ c b i j u.
-                in_more (λ d. IsTrue (updates b.physical d.request) → d.path ≡ b.path) row_out s.ledger (λ d k v. h.at_path d b k j v)
-                (at_its_path path r may.chosen.3 b j) c i u;
-          }) rest;
-    }
+    by_open true =
+        on refl refl (still_goes schemas x s source h fits s.tokens s.ledger _ _ (λ q j. open_of schemas s source h q j) (λ q. refl) (λ id n. n)
+        (record { calls = h.calls; at_path = h.at_path }))
+    by_open false =
+        on refl refl (still_goes schemas x s source h fits (s.tokens ++ call_out ∷ []) (s.ledger ++ row_out ∷ []) _ _
+        (in_more (IsOpenAhead schemas s source) call_out s.tokens (open_of schemas s source h)
+        (record { ready = may.chosen.1; not_done = may.chosen.2; asked = asked_by path r may.chosen.3; hidden = hidden }))
+        (λ q. any_filtered _ _ (s.ledger ++ row_out ∷ [])
+        ∙ any_no_more _ s.ledger row_out (and_no (number == s.operation) _ (and_no (bytes_eq q path) _ (and_no (is_update r) _ refl))) ∙ sym (any_filtered _ _ s.ledger))
+        (λ id n. sym (any_no_more _ s.ledger row_out (and_no (goes_forward s.status) _ (and_no (updates id r) _ refl))) ∙ n)
+        (record {
+          calls = in_more (λ c. (c.number ≡ s.operation) × IsTrue (goes_forward c.status)) row_out s.ledger h.calls (own, forward);
+          at_path = λ c b i j u.
+              in_more (λ d. IsTrue (updates b.physical d.request) → d.path ≡ b.path) row_out s.ledger (λ d k v. h.at_path d b k j v)
+              (at_its_path path r may.chosen.3 b j) c i u;
+        }))
 
     pub intent_goes : Goes (effect_at place (entry.Intent number token lane path r) s).stack
     intent_goes = by_open (list_any (has_token token) s.tokens)
 
 -- nothing is kept in the forward phase
-none_kept : (out : List ℕ) (s : StackState) (path physical : List ℕ) (w : Why) → MayKeep Forward out s path physical w → ⊥
-none_kept out s path physical why.Retained m = elim m [ inl k ↦ k.1 | inr k ↦ let e : Forward ≡ Gone = k.0 in cc ]
-none_kept out s path physical why.Failed m = elim m.0.1 [ ]
-none_kept out s path physical why.Doubt m = elim m.0.1 [ ]
+keeps_nothing : (out : List ℕ) (s : StackState) (path physical : List ℕ) (w : Why) → MayKeep Forward out s path physical w → ⊥
+keeps_nothing out s path physical why.Retained m = elim m [ inl k ↦ k.1 | inr k ↦ let e : Forward ≡ Gone = k.0 in cc ]
+keeps_nothing out s path physical why.Failed m = elim m.0.1 [ ]
+keeps_nothing out s path physical why.Doubt m = elim m.0.1 [ ]
 
-none_begins : (k : Begun) (z : Status) → goes_forward z ≡ true → begins_from k z ≡ true → ⊥
+pub none_begins : (k : Begun) (z : Status) → goes_forward z ≡ true → begins_from k z ≡ true → ⊥
 none_begins (begin.Create source) = only_forward _ (λ e. true≢false (sym e)) (λ e. true≢false (sym e))
-none_begins (begin.Update source) = only_forward _ (λ e. true≢false (sym e)) (λ e. true≢false (sym e))
-none_begins (begin.Delete paths) = only_forward _ (λ e. true≢false (sym e)) (λ e. true≢false (sym e))
-none_begins (begin.Continue paths) = only_forward _ (λ e. true≢false (sym e)) (λ e. true≢false (sym e))
+none_begins k = only_forward _ (λ e. true≢false (sym e)) (λ e. true≢false (sym e))
 
 -- a later phase leaves another status, and so does an end
 none_turns : (p : Phase) (z : Status) → goes_forward z ≡ true → goes_forward (turned z p) ≡ true → ⊥
 none_turns phase.Clean = only_forward _ (λ e. true≢false (sym e)) (λ e. true≢false (sym e))
-none_turns phase.Back = only_forward _ (λ e. true≢false (sym e)) (λ e. true≢false (sym e))
-none_turns phase.BackClean = only_forward _ (λ e. true≢false (sym e)) (λ e. true≢false (sym e))
+none_turns p = only_forward _ (λ e. true≢false (sym e)) (λ e. true≢false (sym e))
 
 none_ends : (schemas : List Schema) (name : List ℕ) (x : World) (s : StackState) (z state : Status) → goes_forward z ≡ true → EndsAs schemas name x s z state
     → goes_forward state ≡ true → ⊥
@@ -225,34 +678,154 @@ none_ends schemas name x s z state f ends g =
     (only_forward (λ w. EndsAs schemas name x s w status.CreateInProgress → ⊥) (λ e. e) (λ e. e) z f)
     (only_forward (λ w. EndsAs schemas name x s w status.UpdateInProgress → ⊥) (λ e. e) (λ e. e) z f) state g ends
 
-module _ (schemas : List Schema) (x : World) (out name : List ℕ) (s : StackState) (source : Source) (h : IsAdvancing schemas s source) (fits : Fits x s)
-    (forward : goes_forward s.status ≡ true)
-    (hidden : (token : ℕ) (lane path : List ℕ) (r : Request) → MayIntend schemas name x out s Forward token lane path r
-    → IsHidden (changes_begun schemas s source).rows s path r) where
+-- what is written as the phase goes on: a call that may go out, an answer, an opening, or what is of another stack
+pub data IsAhead (schemas : List Schema) (x : World) (out name : List ℕ) (s : StackState) : Entry → StackState → Type 0 where
+  asks :
+      (number token : ℕ) (lane path : List ℕ) (r : Request) → number ≡ s.operation → MayIntend schemas name x out s Forward token lane path r
+      → IsAhead schemas x out name s (entry.Intent number token lane path r) (effect_at (x.place + 1) (entry.Intent number token lane path r) s).stack
+  hears :
+      (number token before after : ℕ) (a : Reply)
+      → IsAhead schemas x out name s (entry.Outcome number token a before after) (effect_at (x.place + 1) (entry.Outcome number token a before after) s).stack
+  opens : (epoch : ℕ) (lanes : List (List ℕ × List ℕ)) → IsAhead schemas x out name s (entry.Opened epoch lanes) (effect_at (x.place + 1) (entry.Opened epoch lanes) s).stack
+  is_other : {e : Entry} → IsAhead schemas x out name s e s
+
+module _ (schemas : List Schema) (x : World) (out name : List ℕ) (s : StackState) (forward : goes_forward s.status ≡ true) where
   stepped : (e : Entry) → IsOwn s.operation e → MayFollowIn schemas name x out s Forward e → goes_forward (effect_at (x.place + 1) e s).stack.status ≡ true
-      → Goes schemas x s source h fits (x.place + 1) (effect_at (x.place + 1) e s).stack
-  stepped (entry.Kept number path physical w) own may on = absurd (none_kept out s path physical w may)
-  stepped (entry.Intent number token lane path r) own may on =
-      intent_goes schemas x s source h fits (x.place + 1) name out number token lane path r own forward may (hidden token lane path r may)
-  stepped (entry.Outcome number token a before after) own may on = outcome_goes schemas x s source h fits (x.place + 1) number token before after a
+      → IsAhead schemas x out name s e (effect_at (x.place + 1) e s).stack
+  stepped (entry.Kept number path physical w) own may on = absurd (keeps_nothing out s path physical w may)
+  stepped (entry.Intent number token lane path r) own may on = asks number token lane path r own may
+  stepped (entry.Outcome number token a before after) own may on = hears number token before after a
   stepped (entry.Phase number p c) own may on =
       absurd (none_turns p s.status forward (sym (ap goes_forward (turned_status (x.place + 1) number p s c)) ∙ on))
   stepped (entry.Done number state failed) own may on =
       absurd (none_ends schemas name x s s.status state forward may.2 (sym (ap goes_forward (ended_status (x.place + 1) number state failed s)) ∙ on))
-  stepped (entry.Opened epoch lanes) own may on = absurd own
-  stepped (entry.Begin number n k) own may on = absurd own
-  stepped (entry.ChangeSet number n from rows outputs) own may on = absurd own
+  stepped e own may on = absurd own
 
-  by_kind : (e : Entry) (t : StackState) → IsTo schemas x out name s e t → goes_forward t.status ≡ true → Goes schemas x s source h fits (x.place + 1) t
-  by_kind e _ (step stage at own may) on =
+  pub is_ahead : {e : Entry} {t : StackState} → IsTo schemas x out name s e t → goes_forward t.status ≡ true → IsAhead schemas x out name s e t
+  is_ahead (to.step {e = e} stage at own may) on =
       let is_forward : stage ≡ Forward = some_is _ _ (sym at ∙ only_forward (λ z. stage_of z ≡ Some Forward) refl refl s.status forward) in
       stepped e own (subst (λ (g : Stage). MayFollowIn schemas name x out s g e) is_forward may) on
-  by_kind _ _ (begins k from by) on = absurd (none_begins k s.status forward from)
-  by_kind _ _ (reviewed number from rows outputs may) on =
+  is_ahead (to.begins k from by) on = absurd (none_begins k s.status forward from)
+  is_ahead (to.reviewed number from rows outputs may) on =
       absurd (only_forward (λ z. (creates_from z || updates_from z) ≡ true → ⊥) (λ e. true≢false (sym e)) (λ e. true≢false (sym e)) s.status forward may)
-  by_kind _ _ (opened epoch lanes) on = opening_goes schemas x s source h fits (x.place + 1) epoch lanes
-  by_kind e _ other on = λ rest. record { status = refl; before = refl; advancing = h }
+  is_ahead (to.opened epoch lanes) on = opens epoch lanes
+  is_ahead to.other on = is_other
+
+module _ (schemas : List Schema) (x : World) (out name : List ℕ) (s : StackState) (source : Source) (h : IsAdvancing schemas s source) (fits : Fits x s)
+    (forward : goes_forward s.status ≡ true)
+    (hidden : (token : ℕ) (lane path : List ℕ) (r : Request) → MayIntend schemas name x out s Forward token lane path r
+    → IsHidden (changes_begun schemas s source).rows s path r) where
+  goes_by : {e : Entry} {t : StackState} → IsAhead schemas x out name s e t → Goes schemas x s source h fits (x.place + 1) t
+  goes_by (asks number token lane path r own may) =
+      intent_goes schemas x s source h fits (x.place + 1) name out number token lane path r own forward may (hidden token lane path r may)
+  goes_by (hears number token before after a) = outcome_goes schemas x s source h fits (x.place + 1) number token before after a
+  goes_by (opens epoch lanes) = opening_goes schemas x s source h fits (x.place + 1) epoch lanes
+  goes_by is_other = on schemas x s source h fits (x.place + 1) refl refl (λ rest. h)
 
 pub advancing_goes_on : AdvancingGoesOn
 advancing_goes_on schemas x out e name s t source w forward on h hid =
-    by_kind schemas x out name s source h w.fits forward hid.calls e t (written_is_to schemas x out e name s t w) on hid.rest
+    goes_by schemas x out name s source h w.fits forward hid.calls (is_ahead schemas x out name s forward (written_is_to schemas x out e name s t w) on) hid.rest
+
+-- The forward phase of a creation or an update begins where no call is open and each resource is the one of its path.
+
+module _ (schemas : List Schema) (x : World) (s : StackState) (fits : Fits x s) (none_open : s.tokens ≡ []) (single : AreSingle s.held) where
+  -- the stack as a creation or an update has begun on it
+  abbrev begun_by : Status → ℕ → ℕ → List Entry → List (List ℕ) → Source → StackState
+  begun_by z number operation es lines source = record s {
+    status = z;
+    number = number;
+    operation = operation;
+    before = s.held;
+    made = [];
+    going = Some source;
+    sets = [];
+    entries = es;
+    events = lines;
+    ledger = map anew (filter (is_open_call s.tokens) s.ledger);
+  }
+
+  none : map anew (filter (is_open_call s.tokens) s.ledger) ≡ []
+  none = ap (λ ts. map anew (filter (is_open_call ts) s.ledger)) none_open ∙ ap (map anew) (none_kept s.ledger)
+
+  no_call : {A : Type 0} (c : Call) → In c (map anew (filter (is_open_call s.tokens) s.ledger)) → A
+  no_call c i = elim (subst (In c) none i) [ ]
+
+  no_open : {A : Type 0} (p : Pending) → In p s.tokens → A
+  no_open p i = elim (subst (In p) none_open i) [ ]
+
+  begins_so : (z : Status) (number operation : ℕ) (es : List Entry) (lines : List (List ℕ)) (source : Source) (kinds : List (List ℕ)) (name : List ℕ)
+      → IsAccepted schemas kinds name x s source → IsAdvancing schemas (begun_by z number operation es lines source) source
+  begins_so z number operation es lines source kinds name accepted = record {
+    going = refl;
+    no_flaw = accepted.no_flaw;
+    no_clash = accepted.same_types;
+    rest = λ path. (λ e. kept_self _, λ e. kept_self _);
+    single_before = single;
+    held = same_things s.held;
+    unchanged = λ b r i j e u.
+        let same : r ≡ b = one_held x s fits r b j i e in
+        record { props = ap (λ g. g.props) same; attrs = ap (λ g. g.attrs) same; unsure = ap (λ g. g.unsure) same };
+    single_made = λ r i. elim i [ ];
+    made = λ r i. elim i [ ];
+    updated = λ path u.
+        absurd (true≢false (sym u ∙ ap (λ cs. list_any (λ c. bytes_eq path c.path && (is_update c.request && succeeded c)) (filter (λ c. c.number == operation) cs)) none));
+    ready = λ p i. no_open p i;
+    not_done = λ p i. no_open p i;
+    asked = λ p i. no_open p i;
+    hidden = λ p i. no_open p i;
+    calls = λ c i. no_call c i;
+    at_path = λ c b i j u. no_call c i;
+  }
+
+differ : status.UpdateInProgress ≡ status.CreateInProgress → ⊥
+differ e = let no : ⊥ = cc in no
+
+-- what begins
+by_begun :
+    (schemas : List Schema) (x : World) (place number : ℕ) (name : List ℕ) (k : Begun) (s : StackState) → Fits x s → IsTrue (begins_from k s.status)
+    → BeginsBy schemas name x number s k → goes_forward (effect_at place (entry.Begin number name k) s).stack.status ≡ true → IsFreeToBegin s
+    → (source : Source) × HasBegun schemas s (effect_at place (entry.Begin number name k) s).stack source
+by_begun schemas x place number name (begin.Create source) s fits from by on free =
+    let f = free (ap (λ b. b || updates_from s.status) from) in
+    let goes = begins_so schemas x s fits f.0 f.1 _ _ _ _ _ (source_for name number source) _ name by in
+    (source_for name number source, record { creates = λ e. from; updates = λ e. absurd (differ (sym e)); before = refl; advancing = goes })
+by_begun schemas x place number name (begin.Update source) s fits from by on free =
+    let f = free (or_right (creates_from s.status) (updates_from s.status) from) in
+    let goes = begins_so schemas x s fits f.0 f.1 _ _ _ _ _ (source_for name s.number source) _ name by in
+    (source_for name s.number source, record { creates = λ e. absurd (differ e); updates = λ e. from; before = refl; advancing = goes })
+by_begun schemas x place number name k s fits from by on free = absurd (true≢false (sym on))
+
+-- no operation goes forward on a stack on which none is in progress, and a change set begins none
+none_forward : (z : Status) → is_in_progress z ≡ false → goes_forward z ≡ true → ⊥
+none_forward z n f = only_forward (λ v. is_in_progress v ≡ false → ⊥) true≢false true≢false z f n
+
+was_forward : (z : Status) → goes_forward (reviewed z) ≡ true → goes_forward z ≡ true
+was_forward status.DeleteComplete e = absurd (true≢false (sym e))
+was_forward z e = e
+
+begun_by_kind : (schemas : List Schema) (x : World) (out name : List ℕ) (s : StackState) → Fits x s → is_in_progress s.status ≡ false → IsFreeToBegin s
+    → (e : Entry) (t : StackState) → IsTo schemas x out name s e t → goes_forward t.status ≡ true → (source : Source) × HasBegun schemas s t source
+begun_by_kind schemas x out name s fits rests free e _ (to.step stage at own may) on = absurd (true≢false (sym (ap is_some at) ∙ rests))
+begun_by_kind schemas x out name s fits rests free _ _ (to.begins k from by) on = by_begun schemas x (x.place + 1) (x.operation + 1) name k s fits from by on free
+begun_by_kind schemas x out name s fits rests free _ _ (to.reviewed number from rows outputs may) on = absurd (none_forward s.status rests (was_forward s.status on))
+begun_by_kind schemas x out name s fits rests free _ _ (to.opened epoch lanes) on = absurd (none_forward s.status rests on)
+begun_by_kind schemas x out name s fits rests free e _ to.other on = absurd (none_forward s.status rests on)
+
+pub advancing_begins : AdvancingBegins
+advancing_begins schemas x out e name s t w rests on free = begun_by_kind schemas x out name s w.fits rests free e t (written_is_to schemas x out e name s t w) on
+
+-- a stack at rest, and one of which nothing is left, are free to begin
+cleared : (s : StackState) → IsCleared s → (s.tokens ≡ []) × AreSingle s.held
+cleared s c = (c.settled.none_open, λ r i. elim (subst (In r) c.none_held i) [ ])
+
+free_by : (schemas : List Schema) (name : List ℕ) (x : World) (s : StackState) (z : Status) → IsOnCourse schemas name x s z → (creates_from z || updates_from z) ≡ true
+    → (s.tokens ≡ []) × AreSingle s.held
+free_by schemas name x s status.CreateComplete c e = (c.1.none_open, c.1.single)
+free_by schemas name x s status.UpdateComplete c e = (c.1.none_open, c.1.single)
+free_by schemas name x s status.UpdateRollbackComplete c e = (c.1.none_open, c.1.single)
+free_by schemas name x s status.DeleteComplete c e = cleared s c
+free_by schemas name x s status.ReviewInProgress c e = cleared s c
+free_by schemas name x s z c e = absurd (true≢false (sym e))
+
+pub course_is_free : CourseIsFree
+course_is_free schemas name x s c = free_by schemas name x s s.status c

@@ -1,5 +1,5 @@
 -- A forward phase has a next step, or it ends.
-use Rattle.std.proofs.Common.{◌≡◌, ◌⊎◌, inl, inr, ℕ, ◌+◌, ◌==◌, Bool, true, false, not, ◌&&◌, nat_lt, List, [], Option, Some, None, refl, sym, ap, subst, ◌∙◌, true≢false, map, arith}
+use Rattle.std.proofs.Common.{◌∷◌, ◌≡◌, ◌⊎◌, inl, inr, ℕ, ◌+◌, ◌==◌, Bool, true, false, not, ◌&&◌, nat_lt, List, [], Option, Some, None, refl, sym, ap, subst, ◌∙◌, true≢false, map, arith}
 use Rattle.std.specs.Prelude.{cond, is_some}
 use Rattle.std.specs.List.{list_any}
 use Rattle.std.specs.Option.{option_map_or}
@@ -48,10 +48,9 @@ use Rattle.cf_plan.proofs.CreatedRight.{in_filter}
 use Rattle.cf_plan.proofs.CreatedStays.{found_one, is_found}
 use Rattle.cf_plan.proofs.CreatedEnd.{in_changed}
 use Rattle.cf_plan.proofs.RunLists.{Passes, any_of, in_front, is_found_in, some_of}
-use Rattle.cf_core.specs.Advancing.{IsAdvancing}
+use Rattle.cf_core.specs.Advancing.{AreSameThings, IsSameThing, IsAdvancing}
 use Rattle.cf_core.specs.Fits.{Fits}
 use Rattle.cf_core.specs.GoesOn.{ForwardGoesOn, HasNext, HasKinds, IsRefusedAhead, IsTold, StepsIn}
-use Rattle.cf_core.proofs.AdvAnswers.{still_held}
 use Rattle.cf_core.proofs.GoingDone.{all_found, first_or_all, props_same}
 use Rattle.cf_core.proofs.GoingFails.{excused, failed_or, none_failing, not_thrice}
 use Rattle.cf_core.proofs.GoingKnown.{ready_known}
@@ -59,6 +58,16 @@ use Rattle.cf_core.proofs.HidCalls.{it, not_updated, one_kind, was}
 use Rattle.cf_core.proofs.TidyEnds.{at_end_by, at_home, follows, lane_of, none_flying, steps}
 use Rattle.cf_core.proofs.TidyLists.{one_of_bytes, one_of_number}
 use Rattle.cf_core.proofs.TidyOwn.{some_same}
+use Rattle.cf_core.specs.Advancing as things
+use Rattle.cf_plan.specs.Forward.{here as at_head, there as further}
+
+-- what was held before is held
+still_held : (bs hs : List Held) → AreSameThings bs hs → (b : Held) → In b bs → (r : Held) × In r hs × IsSameThing b r
+still_held _ _ things.none b i = elim i [ ]
+still_held _ _ (things.more {b = c} {h = g} {bs = bs} {hs = hs} one rest) b i = by c i refl (still_held bs hs rest b) where
+  by : (d : Held) → In b (d ∷ bs) → d ≡ c → (In b bs → (r : Held) × In r hs × IsSameThing b r) → (r : Held) × In r (g ∷ hs) × IsSameThing b r
+  by d at_head e ih = (g, at_head, subst (λ w. IsSameThing w g) (sym e) one)
+  by d (further j) e ih = let (r, k, t) = ih j in (r, further k, t)
 
 -- a resource whose properties don't differ has them
 same_props : (schemas : List Schema) (h : Held) (props : List (List ℕ × Data)) → difference_to schemas h props ≡ difference.Same → h.props ≡ props

@@ -55,10 +55,8 @@ use Rattle.cf_core.specs.GoesOn.{AsksOfNow, IsRefusedIn, IsTold, ToldBegins, Tol
 use Rattle.cf_core.specs.Still.{IsFurther}
 use Rattle.cf_core.specs.Tidying.{deletes_nothing}
 use Rattle.cf_core.specs.Written.{IsTo, begins, opened as opened_anew, other, reviewed, step}
-use Rattle.cf_core.proofs.AdvAnswers.{apart, found_at, one_id}
-use Rattle.cf_core.proofs.AdvCalls.{elsewhere, no_restore, only_forward, updated_all, updated_same}
+use Rattle.cf_core.proofs.AdvSteps.{apart, elsewhere, found_at, no_restore, only_forward, ready_said, ready_stays, updated_all, updated_same}
 use Rattle.cf_core.proofs.AdvLists.{and_no, any_no_more, found_else, found_no_more, no_and}
-use Rattle.cf_core.proofs.AdvSeen.{ready_said, ready_stays}
 use Rattle.cf_core.proofs.GoingFails.{doubts_both}
 use Rattle.cf_core.proofs.GoingForward.{no_kept}
 use Rattle.cf_core.proofs.TidyAnswers.{answered_keeps, row_after, row_keeps}
@@ -67,6 +65,13 @@ use Rattle.cf_core.proofs.TidyLists.{one_of_number}
 use Rattle.cf_core.proofs.TidyBegins.{never_ends_so, rest_answered, turned_by}
 use Rattle.cf_core.proofs.TidyOwn.{new_called, new_open, some_same}
 use Rattle.cf_core.proofs.Written.{written_is_to}
+use Rattle.cf_core.proofs.FitLists.{one_id as one_of}
+use Rattle.cf_stacks.specs.Words.{resources_of as resources_in}
+
+-- what is held under one id is one
+one_id : (x : World) (s : StackState) → Fits x s → (g h : Held) → In g s.held → In h s.held → g.physical ≡ h.physical → g ≡ h
+one_id x s fits g h i j e =
+    one_of (λ (r : Held). r.physical) (resources_in s) fits.ids g h (in_front g s.held s.made i) (in_front h s.held s.made j) e
 
 path_keeps : (a : Reply) (c : Call) → (answered_call a c).path ≡ c.path
 path_keeps (reply.Success physical attrs) c = refl

@@ -9,25 +9,12 @@ pub mod TidyBegins
 pub mod TidyEnds
 pub mod TidyParts
 pub mod Written
-pub mod Unmade
 pub mod Statuses
 pub mod HidSeen
-pub mod HidRest
 pub mod HidProps
-pub mod HidRows
-pub mod HidSame
 pub mod HidCalls
-pub mod AdvSeen
-pub mod AdvMoves
 pub mod AdvLists
-pub mod AdvCalls
-pub mod AdvAnswers
 pub mod AdvSteps
-pub mod AdvBegins
-pub mod WholeLists
-pub mod WholeDone
-pub mod WholeEnd
-pub mod WholeStays
 pub mod BackLists
 pub mod BackCalls
 pub mod BackGoing
@@ -61,7 +48,6 @@ pub mod Keepings
 pub mod Quiet
 pub mod Moving
 pub mod WholeKept
-pub mod WholeLive
 pub mod BlameOutcome
 pub mod BlameRank
 pub mod BlameTurns
@@ -83,25 +69,20 @@ pub mod Repeats
 pub mod Starts
 pub mod Sound
 pub mod Living
-pub mod HidOrder
 pub mod GoingBack
 pub mod GoingGone
-pub mod AdvStays
-pub mod StatusMoves
-pub mod HidKept
-pub mod Staged
-pub mod HidLanes
 pub mod BlameFails
 pub mod BlameFailed
 pub mod KeepGoing
 pub mod BeginEvents
 pub mod KeepEvents
-pub mod Steady
 pub mod Always
 pub mod KeepSound
 pub mod GoingDone
 pub mod GoingKnown
-pub mod OneThread
+mod MoreLives
+mod MoreStacks
+mod OneThread
 pub mod GoingFails
 pub mod GoingForward
 pub mod GoingOn

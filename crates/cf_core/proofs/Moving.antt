@@ -20,10 +20,10 @@ module _ (schemas : List Schema) (x : World) (out : List ℕ) (name : List ℕ) 
   after e = (effect_at (x.place + 1) e s).stack
 
   -- a step of the operation in progress is one in the stage of its stack
-  abbrev InStage : Entry → Type 0
+  abbrev pub InStage : Entry → Type 0
   InStage e = (stage : Stage) × (stage_of s.status ≡ Some stage) × MayFollowIn schemas name x out s stage e
 
-  in_stage : (e : Entry) (number : ℕ) → stack_of_operation number x ≡ Some (name, s) → MayFollowOn schemas number x out e → InStage e
+  pub in_stage : (e : Entry) (number : ℕ) → stack_of_operation number x ≡ Some (name, s) → MayFollowOn schemas number x out e → InStage e
   in_stage e number going (n, t, stage, found, at, may) =
       let same : ◌≡◌ {A = List ℕ × StackState} (name, s) (n, t) = some_is (name, s) (n, t) (sym going ∙ found) in
       (stage, ap (λ (q : List ℕ × StackState). stage_of q.1.status) same ∙ at, subst (λ (q : List ℕ × StackState). MayFollowIn schemas q.0 x out q.1 stage e) (sym same) may)
@@ -42,19 +42,11 @@ module _ (schemas : List Schema) (x : World) (out : List ℕ) (name : List ℕ) 
   of_it (entry.Outcome number token answer b a) was q may = stays (replied_status token answer s)
   of_it (entry.Phase number p why) was q may = let m = in_stage (entry.Phase number p why) number q may in turns number p why q m.2.1
   of_it (entry.Done number state failed) was q may = let m = in_stage (entry.Done number state failed) number q may in ends number state failed m.0 q m.1 m.2
-  of_it (entry.Begin number n k) was q may = converted (λ o. o) (to_own schemas x out name s (entry.Begin number n k) was q may)
-  of_it (entry.ChangeSet number n source rows outputs) was q may = converted (λ o. o) (to_own schemas x out name s (entry.ChangeSet number n source rows outputs) was q may)
-  of_it (entry.Opened epoch lanes) was q may = stays refl
+  of_it e was q may = converted (λ o. o) (to_own schemas x out name s e was q may)
 
   of_all : (e : Entry) → is_opening e ≡ true → IsMove schemas x out name s e (after e)
   of_all (entry.Opened epoch lanes) q = stays refl
-  of_all (entry.Begin number n k) q = absurd (true≢false (sym q))
-  of_all (entry.Kept number path physical w) q = absurd (true≢false (sym q))
-  of_all (entry.Intent number token lane path r) q = absurd (true≢false (sym q))
-  of_all (entry.Outcome number token answer b a) q = absurd (true≢false (sym q))
-  of_all (entry.Phase number p c) q = absurd (true≢false (sym q))
-  of_all (entry.Done number state failed) q = absurd (true≢false (sym q))
-  of_all (entry.ChangeSet number n source rows outputs) q = absurd (true≢false (sym q))
+  of_all e q = absurd (true≢false (sym q))
 
   moves : (e : Entry) (t : StackState) → known_stack name x ≡ s → MayFollow schemas x out e → BecomesBy x e name s t → IsMove schemas x out name s e t
   moves e t was may (own q) = of_it e was q may

@@ -59,21 +59,14 @@ module _ (schemas : List Schema) (x : World) (out : List ℕ) (name : List ℕ) 
       at_stack : known_stack n x ≡ s
       at_stack = ap (λ (o : List ℕ). known_stack o x) same ∙ was
 
-  beginning_name : (number : ℕ) (n : List ℕ) (k : Begun) → stack_for (entry.Begin number n k) x ≡ Some (name, s) → n ≡ name
+  pub beginning_name : (number : ℕ) (n : List ℕ) (k : Begun) → stack_for (entry.Begin number n k) x ≡ Some (name, s) → n ≡ name
   beginning_name number n (begin.Create source) q = ap (λ (p : List ℕ × StackState). p.0) (some_is (n, known_stack n x) (name, s) q)
-  beginning_name number n (begin.Update source) q = named_so n (stack_at n x) q
-  beginning_name number n (begin.Delete paths) q = named_so n (stack_at n x) q
-  beginning_name number n (begin.Continue paths) q = named_so n (stack_at n x) q
+  beginning_name number n k q = named_so n (stack_at n x) q
 
   -- by what the entry is
   pub to_own : (e : Entry) → known_stack name x ≡ s → stack_for e x ≡ Some (name, s) → MayFollow schemas x out e → IsTo schemas x out name s e (becoming e)
   to_own (entry.Opened epoch lanes) was q may = opened epoch lanes
   to_own (entry.Begin number n k) was q may = beginning_so number n k was (beginning_name number n k q) may
-  to_own (entry.Kept number path physical w) was q may = stepping (entry.Kept number path physical w) number (λ m e. e) q may
-  to_own (entry.Intent number token lane path r) was q may = stepping (entry.Intent number token lane path r) number (λ m e. e) q may
-  to_own (entry.Outcome number token answer before after) was q may = stepping (entry.Outcome number token answer before after) number (λ m e. e) q may
-  to_own (entry.Phase number p c) was q may = stepping (entry.Phase number p c) number (λ m e. e) q may
-  to_own (entry.Done number state failed) was q may = stepping (entry.Done number state failed) number (λ m e. e) q may
   to_own (entry.ChangeSet number n source rows outputs) was q (next, from, accepted) =
       subst (λ (o : List ℕ). IsTo schemas x out name s (entry.ChangeSet number o source rows outputs) (becoming (entry.ChangeSet number o source rows outputs))) (sym same)
       (reviewed number source rows outputs (subst (λ (v : StackState). IsTrue (creates_from v.status || updates_from v.status)) (ap (λ (p : List ℕ × StackState). p.1) pair) from))
@@ -83,16 +76,11 @@ module _ (schemas : List Schema) (x : World) (out : List ℕ) (name : List ℕ) 
 
       same : n ≡ name
       same = ap (λ (p : List ℕ × StackState). p.0) pair
+  to_own e was q may = stepping e _ (λ m o. o) q may
 
   to_all : (e : Entry) → is_opening e ≡ true → IsTo schemas x out name s e (becoming e)
   to_all (entry.Opened epoch lanes) q = opened epoch lanes
-  to_all (entry.Begin number n k) q = absurd (true≢false (sym q))
-  to_all (entry.Kept number path physical w) q = absurd (true≢false (sym q))
-  to_all (entry.Intent number token lane path r) q = absurd (true≢false (sym q))
-  to_all (entry.Outcome number token answer before after) q = absurd (true≢false (sym q))
-  to_all (entry.Phase number p c) q = absurd (true≢false (sym q))
-  to_all (entry.Done number state failed) q = absurd (true≢false (sym q))
-  to_all (entry.ChangeSet number n source rows outputs) q = absurd (true≢false (sym q))
+  to_all e q = absurd (true≢false (sym q))
 
   becomes_to : (e : Entry) (t : StackState) → known_stack name x ≡ s → MayFollow schemas x out e → BecomesBy x e name s t → IsTo schemas x out name s e t
   becomes_to e t was may (own q) = to_own e was q may

@@ -24,4 +24,5 @@ pub mod SoundLife
 pub mod OnCourse
 pub mod StatusMoves
 pub mod Theorem
+pub mod More
 pub mod OneThread

@@ -11,15 +11,21 @@ use Rattle.cf_core.specs.Course.{Course}
 use Rattle.cf_core.specs.Fits.{IsWritten}
 use Rattle.cf_core.specs.GoesOn.{IsTold}
 use Rattle.cf_core.specs.Hiding.{AreDescribed, IsOrdered}
+use Rattle.cf_core.specs.More.{CompletesBegun, LeavesOnce, ListsGivenUp}
+use Rattle.cf_core.specs.OneStack.{IsOnce}
 use Rattle.cf_core.specs.Tidying.{HasNoDeletion, deletes_nothing}
 
 -- what an operation rests on in all its stages: properties stand in order, an update that goes forward was not continued, nothing is
--- deleted before a cleanup, and entries and ledger of a forward phase say so of each other
+-- deleted before a cleanup, and entries and ledger of a forward phase say so of each other; what completed is what was begun, what was
+-- given up is listed, and nothing is left over twice
 pub record IsSupported (s : StackState) : Type 0 where
   pub ordered : IsOrdered s
   pub skips_none : s.status ≡ status.UpdateInProgress → SkipsNone s
   pub undeleted : deletes_nothing s.status ≡ true → HasNoDeletion s
   pub told : goes_forward s.status ≡ true → IsTold s
+  pub completes : CompletesBegun s
+  pub lists : ListsGivenUp s
+  pub leaves : LeavesOnce s
 
 pub record IsOnWay (schemas : List Schema) (name : List ℕ) (x : World) (s : StackState) : Type 0 where
   pub course : Course schemas name x s
@@ -28,4 +34,4 @@ pub record IsOnWay (schemas : List Schema) (name : List ℕ) (x : World) (s : St
 abbrev pub WayIsKept : Type 0
 WayIsKept =
     (schemas : List Schema) (x : World) (out : List ℕ) (e : Entry) (name : List ℕ) (s t : StackState) → IsWritten schemas x out e name s t
-    → AreDescribed schemas x → IsOnWay schemas name x s → IsOnWay schemas name (world_after x e) t
+    → AreDescribed schemas x → IsOnce s → IsOnWay schemas name x s → IsOnWay schemas name (world_after x e) t

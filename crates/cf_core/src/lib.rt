@@ -9,6 +9,7 @@ mod events;
 mod fitting;
 mod hiding;
 mod laws;
+mod more;
 mod moves;
 mod returning;
 mod theorem;
@@ -32,6 +33,10 @@ pub use hiding::{
     rest_stays_seen, said_is_in_order, shape_stays_advancing, start_is_described,
 };
 pub use laws::{cleared_stays, ends_cleared, unmaking_begins, unmaking_stays, written_is_to};
+pub use more::{
+    completes_begun_stays, leases_once_stays, leaves_once_stays, lists_given_up_stays,
+    settles_once_stays, start_is_once,
+};
 pub use moves::{
     done_moves, doubt_moves, intent_moves, kept_may, kept_moves, one_is_put, opening_moves,
     outcome_moves, own_kept, phase_moves,

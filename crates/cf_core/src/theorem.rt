@@ -6,11 +6,13 @@ ghost use Rattle.cf_core.specs.Theorem.{EventHolds, HoldsKeepsPromises, LivesKee
 /// From every start, after every list of events of an engine's life each of which may happen in its turn, journal and lanes
 /// agree and each stack keeps what its status promises.
 ///
-/// Whatever is answered or breaks off, acts late, is parked or crashes, with any number of stacks, for nested sources too:
-/// CREATE_COMPLETE and UPDATE_COMPLETE say that the template is live and nothing else of the stack is, ROLLBACK_COMPLETE and
-/// UPDATE_ROLLBACK_COMPLETE that what was there before is live under its old ids with its old properties, DELETE_COMPLETE and
-/// REVIEW_IN_PROGRESS that nothing is left, and each FAILED status that paths are named, each with an outcome that was refused
-/// or broke off and whose handler's count rose.
+/// So it is whatever is answered or breaks off, acts late, is parked or crashes, with any number of stacks, for nested sources
+/// too. CREATE_COMPLETE and UPDATE_COMPLETE promise that the stack's template is live, just as its evaluation over what is live
+/// says, and that the stack holds nothing else; ROLLBACK_COMPLETE that it holds nothing; UPDATE_ROLLBACK_COMPLETE that it holds
+/// what it held before, live under its old ids and, but for what is unsure, with its old properties; DELETE_COMPLETE and
+/// REVIEW_IN_PROGRESS that it holds nothing; each FAILED status that paths are named, each with an outcome that was refused or
+/// broke off and whose handler's count rose. By agreement all that is live is a resource of a stack, left over and listed, or of
+/// a create that is open, or was given up and is listed.
 pub fn lives_keep_promises()
     ensures { LivesKeepPromises }
 {}

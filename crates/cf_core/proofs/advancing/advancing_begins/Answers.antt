@@ -1,4 +1,4 @@
-use Rattle.cf_core.proofs.AdvBegins as shown
+use Rattle.cf_core.proofs.AdvSteps as shown
 use Rattle.cf_core.proofs.advancing.advancing_begins.Goals as goal
 
 pub returns : goal.returns

@@ -1,4 +1,4 @@
-use Rattle.cf_core.proofs.AdvStays as shown
+use Rattle.cf_core.proofs.HidCalls as shown
 use Rattle.cf_core.proofs.advancing.advancing_stays.Goals as goal
 
 pub returns : goal.returns

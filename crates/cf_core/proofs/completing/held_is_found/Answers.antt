@@ -1,4 +1,4 @@
-use Rattle.cf_core.proofs.WholeLive as whole
+use Rattle.cf_core.proofs.WholeKept as whole
 use Rattle.cf_core.proofs.completing.held_is_found.Goals as goal
 
 pub returns : goal.returns

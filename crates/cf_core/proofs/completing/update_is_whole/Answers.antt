@@ -1,4 +1,4 @@
-use Rattle.cf_core.proofs.WholeEnd as whole
+use Rattle.cf_core.proofs.WholeKept as whole
 use Rattle.cf_core.proofs.completing.update_is_whole.Goals as goal
 
 pub returns : goal.returns

@@ -1,4 +1,4 @@
-use Rattle.cf_core.proofs.HidLanes.{described_kept}
+use Rattle.cf_core.proofs.Always.{described_kept}
 use Rattle.cf_core.proofs.hiding.described_is_kept.Goals as goal
 
 pub returns : goal.returns

@@ -1,4 +1,4 @@
-use Rattle.cf_core.proofs.HidKept.{none_is_ordered}
+use Rattle.cf_core.proofs.HidCalls.{none_is_ordered}
 use Rattle.cf_core.proofs.hiding.none_is_ordered.Goals as goal
 
 pub returns : goal.returns

@@ -1,4 +1,4 @@
-use Rattle.cf_core.proofs.HidRest.{rest_begins}
+use Rattle.cf_core.proofs.HidCalls.{rest_begins}
 use Rattle.cf_core.proofs.hiding.rest_begins_seen.Goals as goal
 
 pub returns : goal.returns

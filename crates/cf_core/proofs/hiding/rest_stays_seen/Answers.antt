@@ -1,4 +1,4 @@
-use Rattle.cf_core.proofs.HidRest.{rest_stays}
+use Rattle.cf_core.proofs.HidCalls.{rest_stays}
 use Rattle.cf_core.proofs.hiding.rest_stays_seen.Goals as goal
 
 pub returns : goal.returns

@@ -1,4 +1,4 @@
-use Rattle.cf_core.proofs.Unmade as unmade
+use Rattle.cf_core.proofs.Always as unmade
 use Rattle.cf_core.proofs.laws.cleared_stays.Goals as goal
 
 pub returns : goal.returns

@@ -1,4 +1,4 @@
-use Rattle.cf_core.proofs.Unmade as unmade
+use Rattle.cf_core.proofs.Always as unmade
 use Rattle.cf_core.proofs.laws.unmaking_begins.Goals as goal
 
 pub returns : goal.returns

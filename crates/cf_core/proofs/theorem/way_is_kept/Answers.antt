@@ -1,4 +1,4 @@
-use Rattle.cf_core.proofs.Staged as proved
+use Rattle.cf_core.proofs.Always as proved
 use Rattle.cf_core.proofs.theorem.way_is_kept.Goals as goal
 
 pub returns : goal.returns

@@ -1,0 +1,232 @@
+-- In a life no two calls that are out are of one token, and no lane settles a token twice.
+use Rattle.std.proofs.Common.{◌≡◌, inl, inr, ℕ, ◌+◌, ◌≤◌, ◌==◌, List, [], ◌∷◌, ◌++◌, Bool, true, false, not, Option, Some, None, map, filter, find, refl, sym, ap, subst, ◌∙◌, true≢false, cond, arith}
+use Rattle.std.specs.Option.{option_map, option_or}
+use Rattle.std.specs.Str.{bytes_eq}
+use Rattle.std.proofs.lemmas.Bool.{eq-eqb, eqb-true, ne_eqb}
+use Rattle.cf_tree.specs.Named.{all_differ}
+use Rattle.cf_tree.specs.declared.request.Request.{Request}
+use Rattle.cf_tree.specs.declared.request.Answer.{Answer}
+use Rattle.cf_tree.specs.declared.request.Answer.TheVariants as answer
+use Rattle.cf_handler.specs.declared.settled.Settlement.{Settlement}
+use Rattle.cf_handler.specs.declared.settled.Settlement.TheVariants as settlement
+use Rattle.cf_handler.specs.declared.settled.Settled.{Settled}
+use Rattle.cf_handler.specs.Fence.{CallMove, FencedLane, Flying, LateMove, Left, late_by, left_by, raised_to, settled_late}
+use Rattle.cf_handler.specs.Lane.{LaneState, settlement_of}
+use Rattle.cf_handler.specs.Move.{LaneMove, SettlesBy}
+use Rattle.cf_entry.specs.declared.entry.Entry.{Entry}
+use Rattle.cf_entry.specs.declared.entry.Entry.TheVariants as entry
+use Rattle.cf_schema.specs.declared.described.Schema.{Schema}
+use Rattle.cf_stacks.specs.declared.held.Pending.{Pending}
+use Rattle.cf_stacks.specs.Calls.{is_call}
+use Rattle.cf_stacks.specs.Words.{has_token}
+use Rattle.cf_plan.specs.Follow.{is_in_flight}
+use Rattle.cf_plan.specs.Forward.{In, here, there}
+use Rattle.cf_plan.specs.Lanes.{Lane, lane_at}
+use Rattle.cf_plan.specs.Life.{Answered, CallEnd, End, Event, Lease, Life, BrokenWith, BrokenWithout, MayHappen, MayLeave, Stale, Whole, acted, appended, changed, first_again, granted, lease_at, lease_for, life_after, repeated, replied_to, replying, tokens_out, with_lease, world_of}
+use Rattle.cf_plan.specs.Life as life
+use Rattle.cf_plan.proofs.CreatedEnd.{in_changed}
+use Rattle.cf_plan.proofs.CreatedStays.{found_one}
+use Rattle.cf_plan.proofs.RunLists.{any_of}
+use Rattle.cf_agree.proofs.Words.{bytes_same}
+use Rattle.cf_core.specs.AccountOf.{Named}
+use Rattle.cf_core.specs.More.{LeasesOnce, LeasesOnceStays, SettlesOnce, SettlesOnceStays, StartIsOnce}
+use Rattle.cf_core.specs.SoundLife.{IsSoundLife}
+use Rattle.cf_core.proofs.FitLists.{into_mapped, one_id}
+use Rattle.cf_core.proofs.Keepings.{token_of}
+use Rattle.cf_core.proofs.Repeats.{may_again}
+use Rattle.cf_core.proofs.StackLists.{differ_end, differ_less}
+
+-- the lease of a call that goes out again is of its token
+again_token : (token : ℕ) (ss : Named) (l : Lease) → first_again token ss ≡ Some l → l.token ≡ token
+again_token token [] l e = let no : ⊥ = cc in absurd no
+again_token token (s ∷ ss) l e = by (find (has_token token) (s.1).tokens) refl e (again_token token ss l) where
+  by : (q : Option Pending) → find (has_token token) (s.1).tokens ≡ q → option_or (option_map (lease_for (s.1).operation) q) (first_again token ss) ≡ Some l
+      → (first_again token ss ≡ Some l → l.token ≡ token) → l.token ≡ token
+  by None k f ih = ih f
+  by (Some p) k f ih = let one : lease_for (s.1).operation p ≡ l = cc in ap (λ (z : Lease). z.token) (sym one) ∙ sym (token_of token (s.1).tokens p k)
+
+tokens_replied : (t : ℕ) (r : CallEnd) (ls : List Lease) → map (λ (l : Lease). l.token) (map (replying t r) ls) ≡ map (λ (l : Lease). l.token) ls
+tokens_replied t r [] = refl
+tokens_replied t r (l ∷ ls) = by (t == l.token) (tokens_replied t r ls) where
+  by : (b : Bool) → map (λ (z : Lease). z.token) (map (replying t r) ls) ≡ map (λ (z : Lease). z.token) ls
+      → (cond b (record l { reply = Some r }) l).token ∷ map (λ (z : Lease). z.token) (map (replying t r) ls) ≡ l.token ∷ map (λ (z : Lease). z.token) ls
+  by true ih = ap (λ ns. l.token ∷ ns) ih
+  by false ih = ap (λ ns. l.token ∷ ns) ih
+
+abbrev differ : {A : Type 0} → (A → ℕ) → List A → Bool
+differ f xs = all_differ ◌==◌ (map f xs)
+
+-- an append changes neither lanes nor leases
+appended_same : (end : End) (e : Entry) (m : Life) → ((appended end e m).leases ≡ m.leases) × ((appended end e m).lanes ≡ m.lanes)
+appended_same Whole e m = (refl, refl)
+appended_same BrokenWith e m = (refl, refl)
+appended_same BrokenWithout e m = (refl, refl)
+
+above : (a n : ℕ) → a ≤ n → a ≡ n + 1 → ⊥
+above a n h e = omega arith
+
+module _ (schemas : List Schema) (l : Life) (h : IsSoundLife schemas l) (once : LeasesOnce l) where
+  -- no call that is out has a token above the last one
+  below : (k : Lease) → In k l.leases → k.token ≤ (world_of l).token
+  below k i =
+      let g = h.going k i in
+      let c = found_one (is_call k.token) (g.stack).ledger g.call g.written in
+      subst (λ n. n ≤ (world_of l).token) (sym (eqb-true k.token (g.call).token c.1)) ((h.fitted g.name g.stack g.stands).last g.call c.0)
+
+  one_more : (lease : Lease) → ((k : Lease) → In k l.leases → k.token ≡ lease.token → ⊥) → LeasesOnce (with_lease lease l)
+  one_more lease none = differ_end ◌==◌ (λ (k : Lease). k.token) l.leases lease (λ k i. ne_eqb k.token lease.token (none k i)) once
+
+  less : (token : ℕ) → all_differ ◌==◌ (map (λ (k : Lease). k.token) (filter (λ (k : Lease). not (token == k.token)) l.leases)) ≡ true
+  less token = differ_less ◌==◌ (λ (k : Lease). k.token) (λ (k : Lease). not (token == k.token)) l.leases once
+
+  grants : (end : End) (e : Entry) → MayHappen schemas l (life.Grant e end) → LeasesOnce (granted end e (appended end e l))
+  grants Whole (entry.Intent number token lane path r) (running, is, may) =
+      let (n, s, stage, found, at, m) = may in
+      one_more (record { number = number; token = token; lane = lane; request = r; reply = None })
+      (λ k i same. above k.token (world_of l).token (below k i) (same ∙ m.next))
+  grants Whole e may = once
+  grants BrokenWith e may = once
+  grants BrokenWithout e may = once
+
+  repeats : (token : ℕ) → MayHappen schemas l (life.Repeat token) → (o : Option Lease) → first_again token (world_of l).stacks ≡ o → LeasesOnce (repeated o l)
+  repeats token may None e = once
+  repeats token (running, name, s, stage, p, m) (Some lease) e = one_more lease (λ k i same. true≢false (sym (out k i (sym (again_token token (world_of l).stacks lease e) ∙ sym same)) ∙ home)) where
+    home : is_in_flight (tokens_out l) token ≡ false
+    home = ap (is_in_flight (tokens_out l)) (sym m.of_token) ∙ (may_again schemas name (world_of l) (tokens_out l) s stage p m.may).1
+
+    out : (k : Lease) → In k l.leases → token ≡ k.token → is_in_flight (tokens_out l) token ≡ true
+    out k i same = any_of (λ t. token == t) (tokens_out l) k.token (into_mapped (λ (z : Lease). z.token) l.leases k i) (eq-eqb token k.token same)
+
+  leases_after : (ev : Event) → MayHappen schemas l ev → LeasesOnce (life_after l ev)
+  leases_after (life.Opened epoch lanes end) may =
+      ap (λ ls. differ (λ (k : Lease). k.token) ls) (appended_same end (entry.Opened epoch lanes) (record l { leases = []; is_open = true; has_granted = false; is_stopped = false })).0
+  leases_after (life.ChangeSet e end) may = ap (λ ls. differ (λ (k : Lease). k.token) ls) (appended_same end e l).0 ∙ once
+  leases_after (life.Begin e end) may = ap (λ ls. differ (λ (k : Lease). k.token) ls) (appended_same end e l).0 ∙ once
+  leases_after (life.Grant e end) may = grants end e may
+  leases_after (life.Settle token e end) may =
+      ap (λ ls. differ (λ (k : Lease). k.token) (filter (λ (k : Lease). not (token == k.token)) ls)) (appended_same end e l).0 ∙ less token
+  leases_after (life.Repeat token) may = repeats token may (first_again token (world_of l).stacks) refl
+  leases_after (life.Act token reply left) may = by (lease_at token l) where
+    by : (o : Option Lease) → LeasesOnce (replied_to token reply (acted left o l))
+    by None = ap (all_differ ◌==◌) (tokens_replied token reply l.leases) ∙ once
+    by (Some k) = ap (all_differ ◌==◌) (tokens_replied token reply l.leases) ∙ once
+  leases_after (life.Raise name a moved before counted) may = by moved where
+    by : (b : Bool) → LeasesOnce (life_after l (life.Raise name a b before counted))
+    by true = once
+    by false = once
+  leases_after (life.Park token) may = less token
+  leases_after (life.Late name place s) may = once
+  leases_after life.Close may = once
+  leases_after life.Crash may = refl
+
+pub leases_once_stays : LeasesOnceStays
+leases_once_stays schemas l ev may h once = leases_after schemas l h once ev may
+
+-- a lane that settles each token once
+abbrev Once : LaneState → Type 0
+Once a = all_differ ◌==◌ (map (λ (s : Settled). s.token) a.settled) ≡ true
+
+not_settled : (t : ℕ) (ss : List Settled) → settlement_of t ss ≡ None → (s : Settled) → In s ss → (s.token == t) ≡ false
+not_settled t [] e s i = elim i [ ]
+not_settled t (q ∷ ss) e _ here = ne_eqb q.token t (λ same. by (t == q.token) (eq-eqb t q.token (sym same)) e) where
+  by : (b : Bool) → b ≡ true → cond b (Some q.settlement) (settlement_of t ss) ≡ None → ⊥
+  by true k f = cc
+  by false k f = true≢false (sym k)
+not_settled t (q ∷ ss) e s (there i) = by (t == q.token) e (not_settled t ss) where
+  by : (b : Bool) → cond b (Some q.settlement) (settlement_of t ss) ≡ None → (settlement_of t ss ≡ None → (z : Settled) → In z ss → (z.token == t) ≡ false) → (s.token == t) ≡ false
+  by true f ih = let no : ⊥ = cc in absurd no
+  by false f ih = ih f s i
+
+settles_new : (a : LaneState) (s : Settled) → Once a → settlement_of s.token a.settled ≡ None → all_differ ◌==◌ (map (λ (z : Settled). z.token) (a.settled ++ s ∷ [])) ≡ true
+settles_new a s once none = differ_end ◌==◌ (λ (z : Settled). z.token) a.settled s (not_settled s.token a.settled none) once
+
+settled_by : (name : List ℕ) (a b : LaneState) (token : ℕ) (r : Request) (s : Settlement) → Once a → (o : Option Settlement) → settlement_of token a.settled ≡ o → SettlesBy o name a b token r s → Once b
+settled_by name a b token r s once (Some earlier) e m = subst Once (sym m.1) once
+settled_by name a b token r s once None e m = subst Once (sym m.1) (settles_new a (record { token = token; request = r; settlement = s }) once e)
+
+moved_once : (name : List ℕ) (a b : LaneState) (token : ℕ) (r : Request) (x : Answer) → Once a → LaneMove name a b token r x → Once b
+moved_once name a b token r (answer.Success physical attrs) once m = settled_by name a b token r (settlement.Success physical attrs) once (settlement_of token a.settled) refl m
+moved_once name a b token r (answer.Failed code) once m = settled_by name a b token r (settlement.Failed code) once (settlement_of token a.settled) refl m
+moved_once name a b token r answer.Fault once (inl same) = subst Once (sym same) once
+moved_once name a b token r answer.Fault once (inr (s, none, m)) = settled_by name a b token r s once (settlement_of token a.settled) refl m
+moved_once name a b token r answer.NoMemory once m = subst Once (sym m) once
+
+abbrev OnceOn : FencedLane → Type 0
+OnceOn f = Once f.state
+
+called_once : (name : List ℕ) (f g : FencedLane) (epoch token : ℕ) (r : Request) (x : Answer) → OnceOn f → CallMove name f g epoch token r x → OnceOn g
+called_once name f g epoch token r (answer.Success physical attrs) once (le, (b, m, e)) = subst OnceOn (sym e) (moved_once name f.state b token r (answer.Success physical attrs) once m)
+called_once name f g epoch token r (answer.Failed code) once (le, (b, m, e)) = subst OnceOn (sym e) (moved_once name f.state b token r (answer.Failed code) once m)
+called_once name f g epoch token r answer.Fault once (le, inl (b, m, e)) = subst OnceOn (sym e) (moved_once name f.state b token r answer.Fault once m)
+called_once name f g epoch token r answer.Fault once (le, inr (none, e)) = subst OnceOn (sym e) once
+called_once name f g epoch token r answer.NoMemory once m = subst OnceOn (sym m) once
+
+late_once : (name : List ℕ) (f g : FencedLane) (place : ℕ) (s : Settlement) → OnceOn f → LateMove name f g place s → OnceOn (late_by place s f)
+late_once name f g place s once m =
+    subst (λ (o : Option Flying). OnceOn (settled_late place s f o)) (sym m.stands)
+    (settles_new f.state (record { token = (m.flying).token; request = (m.flying).request; settlement = s }) once m.is_new)
+
+module _ (schemas : List Schema) (l : Life) (h : IsSoundLife schemas l) (once : SettlesOnce l) where
+  -- the lane of a name is changed, and it alone
+  one_changed : (name : List ℕ) (change : FencedLane → FencedLane) (lane : Lane) → lane_at name l.lanes ≡ Some lane → (OnceOn lane.state → OnceOn (change lane.state))
+      → (k : Lane) → In k (map (changed name change) l.lanes) → OnceOn k.state
+  one_changed name change lane found keeps k i = subst (λ (z : Lane). OnceOn z.state) f.same (by (bytes_eq name (f.one).name) refl) where
+    f : Rattle.cf_plan.proofs.CreatedEnd.IsFrom (changed name change) l.lanes k
+    f = in_changed (changed name change) l.lanes k i
+
+    at : In lane l.lanes × (bytes_eq name lane.name ≡ true)
+    at = found_one (λ (z : Lane). bytes_eq name z.name) l.lanes lane found
+
+    by : (b : Bool) → bytes_eq name (f.one).name ≡ b → OnceOn (cond b (record f.one { state = change (f.one).state }) f.one).state
+    by true e =
+        let same : lane ≡ f.one = one_id (λ (z : Lane). z.name) l.lanes (h.named).names_differ lane f.one at.0 f.of_list (sym (bytes_same name lane.name at.1) ∙ bytes_same name (f.one).name e) in
+        subst (λ (z : Lane). OnceOn (change z.state)) same (keeps (once lane at.0))
+    by false e = once f.one f.of_list
+
+  acts : (token : ℕ) (reply : CallEnd) (left : Left) → MayHappen schemas l (life.Act token reply left) → SettlesOnce (life_after l (life.Act token reply left))
+  acts token reply left (lease, lane, found, unreplied, home, leaves) =
+      subst (λ (o : Option Lease). SettlesOnce (replied_to token reply (acted left o l))) (sym found)
+      (one_changed lease.lane (left_by left (world_of l).epoch lease.token lease.request) lane home (by reply leaves))
+    where
+      by : (r : CallEnd) → MayLeave lane (left_by left (world_of l).epoch lease.token lease.request lane.state) (world_of l).epoch lease r → OnceOn lane.state
+          → OnceOn (left_by left (world_of l).epoch lease.token lease.request lane.state)
+      by (Answered x before counted) m o = called_once lane.name lane.state _ (world_of l).epoch lease.token lease.request x o m.1
+      by (Stale fence) m o = subst OnceOn (sym m.2) o
+
+  same_lanes : {lanes : List Lane} → lanes ≡ l.lanes → (k : Lane) → In k lanes → OnceOn k.state
+  same_lanes e k i = once k (subst (In k) e i)
+
+  settles_after : (ev : Event) → MayHappen schemas l ev → SettlesOnce (life_after l ev)
+  settles_after (life.Opened epoch lanes end) may =
+      same_lanes (appended_same end (entry.Opened epoch lanes) (record l { leases = []; is_open = true; has_granted = false; is_stopped = false })).1
+  settles_after (life.ChangeSet e end) may = same_lanes (appended_same end e l).1
+  settles_after (life.Begin e end) may = same_lanes (appended_same end e l).1
+  settles_after (life.Grant e end) may = by end e where
+    by : (end : End) (e : Entry) → SettlesOnce (granted end e (appended end e l))
+    by Whole (entry.Intent number token lane path r) = once
+    by Whole e = once
+    by BrokenWith e = once
+    by BrokenWithout e = once
+  settles_after (life.Settle token e end) may = same_lanes (appended_same end e l).1
+  settles_after (life.Repeat token) may = by (first_again token (world_of l).stacks) where
+    by : (o : Option Lease) → SettlesOnce (repeated o l)
+    by None = once
+    by (Some k) = once
+  settles_after (life.Act token reply left) may = acts token reply left may
+  settles_after (life.Raise name a moved before counted) may = by moved where
+    by : (b : Bool) → SettlesOnce (life_after l (life.Raise name a b before counted))
+    by true = one_changed name (λ (f : FencedLane). raised_to f (world_of l).epoch) may.2 may.3 (λ o. o)
+    by false = once
+  settles_after (life.Park token) may = once
+  settles_after (life.Late name place s) (lane, home, m) = one_changed name (late_by place s) lane home (λ o. late_once name lane.state (late_by place s lane.state) place s o m)
+  settles_after life.Close may = once
+  settles_after life.Crash may = once
+
+pub settles_once_stays : SettlesOnceStays
+settles_once_stays schemas l ev may h once = settles_after schemas l h once ev may
+
+pub start_is_once : StartIsOnce
+start_is_once schemas l s = (
+  ap (λ (ls : List Lease). all_differ ◌==◌ (map (λ (k : Lease). k.token) ls)) s.no_leases,
+  λ k i. ap (λ (ss : List Settled). all_differ ◌==◌ (map (λ (z : Settled). z.token) ss)) (s.untouched k i).0,
+)

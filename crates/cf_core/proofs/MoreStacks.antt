@@ -1,0 +1,247 @@
+-- What completed is what was begun, what was given up is listed, and nothing is left over twice.
+use Rattle.std.proofs.Common.{◌≡◌, ◌⊎◌, inl, inr, ℕ, ◌+◌, List, [], ◌∷◌, ◌++◌, Option, Bool, true, false, not, ◌&&◌, Some, None, refl, sym, ap, subst, ◌∙◌, true≢false, map, filter, cond}
+use Rattle.std.specs.Cmp.{second_so}
+use Rattle.std.specs.List.{list_any}
+use Rattle.std.specs.Str.{bytes_eq}
+use Rattle.std.proofs.lemmas.List.Elements.{filter-append}
+use Rattle.std.proofs.lemmas.List.{append-nil}
+use Rattle.cf_tree.specs.Named.{all_differ}
+use Rattle.cf_entry.specs.declared.entry.Entry.{Entry}
+use Rattle.cf_entry.specs.declared.entry.Entry.TheVariants as entry
+use Rattle.cf_entry.specs.declared.entry.Begun.{Begun}
+use Rattle.cf_entry.specs.declared.entry.Begun.TheVariants as begin
+use Rattle.cf_entry.specs.declared.entry.Reply.{Reply}
+use Rattle.cf_entry.specs.declared.status.Status.{Status}
+use Rattle.cf_entry.specs.declared.status.Status.TheVariants as status
+use Rattle.cf_entry.specs.declared.turn.Phase.{Phase}
+use Rattle.cf_entry.specs.declared.turn.Phase.TheVariants as phase
+use Rattle.cf_entry.specs.declared.turn.Why.{Why}
+use Rattle.cf_schema.specs.declared.described.Schema.{Schema}
+use Rattle.cf_stacks.specs.declared.held.GivenUp.{GivenUp}
+use Rattle.cf_stacks.specs.declared.held.Leftover.{Leftover}
+use Rattle.cf_stacks.specs.declared.held.Pending.{Pending}
+use Rattle.cf_stacks.specs.World.{StackState, World}
+use Rattle.cf_stacks.specs.Words.{has_physical, has_token, is_create_at, is_created, pending_of, resources_of}
+use Rattle.cf_stacks.specs.Begin.{given_up, lost_create, skipped_creates, unknown_id}
+use Rattle.cf_stacks.specs.Calls.{is_restore, new_call}
+use Rattle.cf_stacks.specs.End.{ended_effect, turned_effect}
+use Rattle.cf_stacks.specs.Fold.{effect_of}
+use Rattle.cf_stacks.specs.Reply.{intending, keeping, keeping_known, keeping_unknown, replied, replying}
+use Rattle.cf_stacks.specs.Status.{Stage, begun, reviewed as reviewed_as, turned}
+use Rattle.cf_plan.specs.Follow.{EndsAs, MayFollowIn}
+use Rattle.cf_plan.specs.Forward.{In, here, there}
+use Rattle.cf_plan.proofs.BlameMade.{answered_left}
+use Rattle.cf_plan.proofs.CreatedEnd.{in_changed}
+use Rattle.cf_plan.proofs.CreatedRight.{in_filter}
+use Rattle.cf_plan.proofs.Members.{in_any}
+use Rattle.cf_plan.proofs.RunLists.{any_of, in_back, in_either, in_front, in_one}
+use Rattle.cf_agree.proofs.Words.{bytes_same, same_bytes}
+use Rattle.cf_core.specs.More.{CompletesBegun, CompletesBegunStays, LeavesOnce, LeavesOnceStays, ListsGivenUp, ListsGivenUpStays, has_completed, has_known_id}
+use Rattle.cf_core.specs.OneStack.{IsOnce}
+use Rattle.cf_core.specs.Written.{IsTo, step, begins, reviewed, opened, other}
+use Rattle.cf_core.proofs.FitLists.{into_mapped}
+use Rattle.cf_core.proofs.NewLocal.{held_of}
+use Rattle.cf_core.proofs.StackLists.{differ_end}
+use Rattle.cf_core.proofs.Written.{written_is_to}
+
+-- What an entry leaves of the lists of what is left over and given up: nothing changes, a resource of the stack is left over, or creates
+-- are given up, each of which is left over under no known id.
+data LeftMove (s : StackState) (ls : List Leftover) (gs : List GivenUp) : Type 0 where
+  same : ls ≡ s.leftovers → gs ≡ s.abandoned → LeftMove s ls gs
+  known : (l : Leftover) → list_any (has_physical l.physical) (resources_of s) ≡ true → ls ≡ s.leftovers ++ l ∷ [] → gs ≡ s.abandoned → LeftMove s ls gs
+  lost :
+      (ms : List Leftover) (ps : List Pending) → ls ≡ s.leftovers ++ ms → gs ≡ s.abandoned ++ map given_up ps
+      → ((p : Pending) → In p ps → (l : Leftover) × In l ms × (l.path ≡ p.path) × (l.physical ≡ unknown_id))
+      → ((l : Leftover) → In l ms → l.physical ≡ unknown_id) → LeftMove s ls gs
+
+-- what an entry of the operation leaves as it was
+record IsRest (s t : StackState) : Type 0 where
+  pub status : t.status ≡ s.status
+  pub source : t.source ≡ s.source
+  pub going : t.going ≡ s.going
+
+module _ (s : StackState) where
+  abbrev LeftBy : StackState → Type 0
+  LeftBy t = LeftMove s t.leftovers t.abandoned
+
+  intended : (number : ℕ) (p : Pending) → IsRest s (intending number p s) × LeftBy (intending number p s)
+  intended number p = by (list_any (has_token p.token) s.tokens) where
+    by : (b : Bool) → (let t = cond b s (record s { tokens = s.tokens ++ p ∷ []; ledger = s.ledger ++ new_call number s.status p ∷ [] }) in IsRest s t × LeftBy t)
+    by true = (record { status = refl; source = refl; going = refl }, same refl refl)
+    by false = (record { status = refl; source = refl; going = refl }, same refl refl)
+
+  replied_rest : (token : ℕ) (a : Reply) (o : Option Pending) → IsRest s (replied token a o s) × LeftBy (replied token a o s)
+  replied_rest token a None = (record { status = refl; source = refl; going = refl }, same refl refl)
+  replied_rest token a (Some p) =
+      let e = (answered_left (is_restore token s) p.path p.request a s).as_was in (
+        record { status = ap (λ (t : StackState). t.status) e; source = ap (λ (t : StackState). t.source) e; going = ap (λ (t : StackState). t.going) e },
+        same (ap (λ (t : StackState). t.leftovers) e) (ap (λ (t : StackState). t.abandoned) e),
+      )
+
+  kept : (path physical : List ℕ) (w : Why) → IsRest s (keeping path physical w s) × LeftBy (keeping path physical w s)
+  kept path physical w = by (bytes_eq physical []) (list_any (is_create_at path) s.tokens) (list_any (has_physical physical) (resources_of s)) refl where
+    given : (p : Pending) → In p (filter (is_create_at path) s.tokens) → path ≡ p.path
+    given p i = bytes_same path p.path (second_so (is_created p) (bytes_eq path p.path) (in_filter (is_create_at path) s.tokens p i).1)
+
+    by : (b c d : Bool) → list_any (has_physical physical) (resources_of s) ≡ d
+        → (let t = cond b (cond c (keeping_unknown path w s) s) (cond d (keeping_known path physical w s) s) in IsRest s t × LeftBy t)
+    by true true d e =
+        let l : Leftover = record { path = path; physical = unknown_id; why = w } in (
+          record { status = refl; source = refl; going = refl },
+          lost (l ∷ []) (filter (is_create_at path) s.tokens) refl refl (λ p i. (l, here, given p i, refl)) (λ m i. ap (λ (z : Leftover). z.physical) (in_one m l i)),
+        )
+    by true false d e = (record { status = refl; source = refl; going = refl }, same refl refl)
+    by false c true e = (record { status = refl; source = refl; going = refl }, known (record { path = path; physical = physical; why = w }) e refl refl)
+    by false c false e = (record { status = refl; source = refl; going = refl }, same refl refl)
+
+  turned_left : (p : Phase) → LeftBy (turned_effect p s).stack
+  turned_left phase.Clean = same refl refl
+  turned_left phase.Back = same refl refl
+  turned_left phase.BackClean = same refl refl
+
+  ended_left : (state : Status) → LeftBy (ended_effect state s).stack
+  ended_left status.CreateComplete = same refl refl
+  ended_left status.RollbackFailed = same refl refl
+  ended_left status.UpdateRollbackComplete = same refl refl
+  ended_left status.RollbackComplete = same refl refl
+  ended_left status.DeleteComplete = same refl refl
+  ended_left state = same refl refl
+
+  begun_left : (number : ℕ) (name : List ℕ) (k : Begun) → LeftBy (effect_of (entry.Begin number name k) s).stack
+  begun_left number name (begin.Create source) = same refl refl
+  begun_left number name (begin.Update source) = same refl refl
+  begun_left number name (begin.Delete paths) = same refl refl
+  begun_left number name (begin.Continue paths) =
+      let ps = skipped_creates paths s.tokens in
+      lost (map lost_create ps) ps refl refl (λ p i. (lost_create p, into_mapped lost_create ps p i, refl, refl))
+      (λ l i. ap (λ (z : Leftover). z.physical) (sym (in_changed lost_create ps l i).same))
+
+  entry_left : (e : Entry) → LeftBy (effect_of e s).stack
+  entry_left (entry.Opened epoch lanes) = same refl refl
+  entry_left (entry.Begin number n k) = begun_left number n k
+  entry_left (entry.Kept number path physical w) = (kept path physical w).1
+  entry_left (entry.Intent number token lane path r) = (intended number (record { token = token; path = path; lane = lane; request = r })).1
+  entry_left (entry.Outcome number token a before after) = (replied_rest token a (pending_of token s)).1
+  entry_left (entry.Phase number p c) = turned_left p
+  entry_left (entry.Done number state failed) = ended_left state
+  entry_left (entry.ChangeSet number n source rows outputs) = same refl refl
+
+  module _ {schemas : List Schema} {x : World} {out name : List ℕ} where
+    left_move : {e : Entry} {t : StackState} → IsTo schemas x out name s e t → LeftBy t
+    left_move {e} (step stage at is_own may) = entry_left e
+    left_move (begins k from by) = begun_left (x.operation + 1) name k
+    left_move (reviewed number source rows outputs from) = same refl refl
+    left_move (opened epoch lanes) = same refl refl
+    left_move other = same refl refl
+
+  -- what was given up stays listed
+  lists : (ls : List Leftover) (gs : List GivenUp) → LeftMove s ls gs → ListsGivenUp s → (g : GivenUp) → In g gs → (l : Leftover) × In l ls × (l.path ≡ g.path) × (l.physical ≡ unknown_id)
+  lists ls gs (same a b) h g i = subst (λ ms. (l : Leftover) × In l ms × (l.path ≡ g.path) × (l.physical ≡ unknown_id)) (sym a) (h g (subst (In g) b i))
+  lists ls gs (known m is a b) h g i =
+      let q = h g (subst (In g) b i) in
+      (q.0, subst (In q.0) (sym a) (in_front q.0 s.leftovers (m ∷ []) q.1), q.2, q.3)
+  lists ls gs (lost ms ps a b each none) h g i = by (in_either g s.abandoned (map given_up ps) (subst (In g) b i)) where
+    by : In g s.abandoned ⊎ In g (map given_up ps) → (l : Leftover) × In l ls × (l.path ≡ g.path) × (l.physical ≡ unknown_id)
+    by (inl j) = let q = h g j in (q.0, subst (In q.0) (sym a) (in_front q.0 s.leftovers ms q.1), q.2, q.3)
+    by (inr j) =
+        let f = in_changed given_up ps g j in
+        let q = each f.one f.of_list in
+        (q.0, subst (In q.0) (sym a) (in_back q.0 s.leftovers ms q.1), q.2 ∙ ap (λ (z : GivenUp). z.path) f.same, q.3)
+
+pub lists_given_up_stays : ListsGivenUpStays
+lists_given_up_stays schemas x out e name s t w h = lists s t.leftovers t.abandoned (left_move s (written_is_to schemas x out e name s t w)) h
+
+-- no two known ids of what is left over
+abbrev known_ids : List Leftover → List (List ℕ)
+known_ids ls = map (λ (l : Leftover). l.physical) (filter has_known_id ls)
+
+none_known : (ls : List Leftover) → ((l : Leftover) → In l ls → l.physical ≡ unknown_id) → filter has_known_id ls ≡ []
+none_known [] h = refl
+none_known (l ∷ ls) h = ap (λ b. cond (not b) (l ∷ filter has_known_id ls) (filter has_known_id ls)) (same_bytes l.physical unknown_id (h l here)) ∙ none_known ls (λ m i. h m (there i))
+
+module _ (s : StackState) (once : IsOnce s) (h : LeavesOnce s) where
+  -- a resource of the stack is not left over yet
+  not_left : (l m : Leftover) → list_any (has_physical l.physical) (resources_of s) ≡ true → has_known_id l ≡ true → In m (filter has_known_id s.leftovers) → bytes_eq m.physical l.physical ≡ false
+  not_left l m held is i = by (bytes_eq m.physical l.physical) refl where
+    by : (b : Bool) → bytes_eq m.physical l.physical ≡ b → b ≡ false
+    by false e = refl
+    by true e =
+        let r = in_any (has_physical l.physical) (resources_of s) held in
+        let g = held_of l.physical s r.0 r.1 (sym (bytes_same l.physical (r.0).physical r.2)) in
+        let j = any_of (λ (z : Leftover). bytes_eq l.physical z.physical) s.leftovers m (in_filter has_known_id s.leftovers m i).0 (same_bytes l.physical m.physical (sym (bytes_same m.physical l.physical e))) in
+        sym (ap (λ b. b && list_any (λ (z : Leftover). bytes_eq l.physical z.physical) s.leftovers) is ∙ j) ∙ once.left l.physical g.0 g.1
+
+  one_more : (l : Leftover) (b : Bool) → list_any (has_physical l.physical) (resources_of s) ≡ true → has_known_id l ≡ b
+      → all_differ bytes_eq (map (λ (z : Leftover). z.physical) (filter has_known_id s.leftovers ++ cond b (l ∷ []) [])) ≡ true
+  one_more l true held is = differ_end bytes_eq (λ (z : Leftover). z.physical) (filter has_known_id s.leftovers) l (λ m i. not_left l m held is i) h
+  one_more l false held is = ap (λ ls. all_differ bytes_eq (map (λ (z : Leftover). z.physical) ls)) (append-nil (filter has_known_id s.leftovers)) ∙ h
+
+  abbrev differ : List Leftover → Bool
+  differ ls = all_differ bytes_eq (map (λ (z : Leftover). z.physical) ls)
+
+  leaves : (ls : List Leftover) (gs : List GivenUp) → LeftMove s ls gs → all_differ bytes_eq (known_ids ls) ≡ true
+  leaves ls gs (same a b) = ap (λ ms. differ (filter has_known_id ms)) a ∙ h
+  leaves ls gs (known l held a b) =
+      ap (λ ms. differ (filter has_known_id ms)) a ∙ ap differ (filter-append has_known_id s.leftovers (l ∷ [])) ∙ one_more l (has_known_id l) held refl
+  leaves ls gs (lost ms ps a b each none) =
+      ap (λ ns. differ (filter has_known_id ns)) a ∙ ap differ (filter-append has_known_id s.leftovers ms)
+      ∙ ap (λ ns. differ (filter has_known_id s.leftovers ++ ns)) (none_known ms none) ∙ ap differ (append-nil (filter has_known_id s.leftovers)) ∙ h
+
+pub leaves_once_stays : LeavesOnceStays
+leaves_once_stays schemas x out e name s t w once h = leaves s once h t.leftovers t.abandoned (left_move s (written_is_to schemas x out e name s t w))
+
+-- What completes: the forward phase of an update, which cleans up, and the end of a creation; the others leave the source as it was.
+module _ (schemas : List Schema) (x : World) (out name : List ℕ) (s : StackState) (h : CompletesBegun s) where
+  rest : (t : StackState) → IsRest s t → CompletesBegun t
+  rest t r e = r.source ∙ h (ap has_completed (sym r.status) ∙ e) ∙ sym r.going
+
+  never_back : (a : Status) → (has_completed (turned a phase.Back) ≡ false) × (has_completed (turned a phase.BackClean) ≡ false)
+  never_back status.CreateInProgress = (refl, refl)
+  never_back a = (refl, refl)
+
+  turned_completes : (p : Phase) → CompletesBegun (turned_effect p s).stack
+  turned_completes phase.Clean e = refl
+  turned_completes phase.Back e = absurd (true≢false (sym e ∙ (never_back s.status).0))
+  turned_completes phase.BackClean e = absurd (true≢false (sym e ∙ (never_back s.status).1))
+
+  ended_completes : (a b : Status) → s.status ≡ a → EndsAs schemas name x s a b → CompletesBegun (ended_effect b s).stack
+  ended_completes status.CreateInProgress status.CreateComplete was k e = refl
+  ended_completes status.UpdateCompleteCleanupInProgress status.UpdateComplete was k e = h (ap has_completed was)
+  ended_completes status.RollbackInProgress status.RollbackComplete was k e = absurd (true≢false (sym e))
+  ended_completes status.RollbackInProgress status.RollbackFailed was k e = absurd (true≢false (sym e))
+  ended_completes status.DeleteInProgress status.DeleteComplete was k e = absurd (true≢false (sym e))
+  ended_completes status.DeleteInProgress status.DeleteFailed was k e = absurd (true≢false (sym e))
+  ended_completes status.UpdateRollbackCompleteCleanupInProgress status.UpdateRollbackComplete was k e = absurd (true≢false (sym e))
+  ended_completes status.UpdateRollbackInProgress status.UpdateRollbackFailed was k e = absurd (true≢false (sym e))
+  ended_completes a b was k e = absurd k
+
+  begun_completes : (number : ℕ) (k : Begun) → CompletesBegun (effect_of (entry.Begin number name k) s).stack
+  begun_completes number (begin.Create source) e = absurd (true≢false (sym e))
+  begun_completes number (begin.Update source) e = absurd (true≢false (sym e))
+  begun_completes number (begin.Delete paths) e = absurd (true≢false (sym e))
+  begun_completes number (begin.Continue paths) e = absurd (true≢false (sym e))
+
+  reviewed_completes : (a : Status) → has_completed (reviewed_as a) ≡ true → has_completed a ≡ true
+  reviewed_completes status.DeleteComplete e = e
+  reviewed_completes a e = e
+
+  step_completes : (e : Entry) (stage : Stage) → MayFollowIn schemas name x out s stage e → CompletesBegun (effect_of e s).stack
+  step_completes (entry.Opened epoch lanes) stage may = h
+  step_completes (entry.Begin number n k) stage never = absurd never
+  step_completes (entry.Kept number path physical w) stage may = rest (keeping path physical w s) (kept s path physical w).0
+  step_completes (entry.Intent number token lane path r) stage may =
+      let p : Pending = record { token = token; path = path; lane = lane; request = r } in rest (intending number p s) (intended s number p).0
+  step_completes (entry.Outcome number token a before after) stage may = rest (replying token a s) (replied_rest s token a (pending_of token s)).0
+  step_completes (entry.Phase number p c) stage may = turned_completes p
+  step_completes (entry.Done number state failed) stage may = ended_completes s.status state refl may.2
+  step_completes (entry.ChangeSet number n source rows outputs) stage never = absurd never
+
+  completes : {e : Entry} {t : StackState} → IsTo schemas x out name s e t → CompletesBegun t
+  completes {e} (step stage at is_own may) = step_completes e stage may
+  completes (begins k from by) = begun_completes (x.operation + 1) k
+  completes (reviewed number source rows outputs from) = λ e. h (reviewed_completes s.status e)
+  completes (opened epoch lanes) = h
+  completes other = h
+
+pub completes_begun_stays : CompletesBegunStays
+completes_begun_stays schemas x out e name s t w h = completes schemas x out name s h (written_is_to schemas x out e name s t w)
