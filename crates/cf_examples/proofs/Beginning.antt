@@ -9,6 +9,7 @@ use Rattle.cf_plan.specs.Follow.{HasLanes}
 use Rattle.cf_plan.specs.Accept.{ImportsWhatItUses, with_imports, exports_of_others, without_import}
 use Rattle.cf_desired.specs.Seeing.{Seen}
 use Rattle.cf_desired.specs.Plan.{plan_of}
+use Rattle.cf_examples.proofs.Lists.{some_is}
 
 nothing_at : (n v : List ℕ) (imports : List (List ℕ × List ℕ)) → imports ≡ [] → value_at n imports ≡ Some v → ⊥
 nothing_at n v imports none e = let z = sym (ap (value_at n) none) ∙ e in cc
@@ -31,6 +32,14 @@ one_stack P name other a b p e = by_test (bytes_eq name other) e
 
 pub opens_one : (lanes : List (List ℕ × List ℕ)) (x : World) (other : List ℕ) (a : StackState) → x.stacks ≡ (other, a) ∷ [] → HasLanes lanes a → (name : List ℕ) (s : StackState) → stack_at name x ≡ Some s → HasLanes lanes s
 opens_one lanes x other a is has name s e = one_stack (HasLanes lanes) name other a s has (subst (λ ss. value_at name ss ≡ Some s) is e)
+
+-- over two stacks
+pub opens_two : (lanes : List (List ℕ × List ℕ)) (x : World) (one other : List ℕ) (a b : StackState) → x.stacks ≡ (one, a) ∷ (other, b) ∷ [] → HasLanes lanes a → HasLanes lanes b → (name : List ℕ) (s : StackState) → stack_at name x ≡ Some s → HasLanes lanes s
+opens_two lanes x one other a b is has_a has_b name s e = by_test (bytes_eq name one) (subst (λ ss. value_at name ss ≡ Some s) is e)
+  where
+    by_test : (t : Bool) → (if t then Some a else value_at name ((other, b) ∷ [])) ≡ Some s → HasLanes lanes s
+    by_test true k = subst (HasLanes lanes) (some_is k) has_a
+    by_test false k = one_stack (HasLanes lanes) name other b s has_b k
 
 -- one import, which the source uses, and no other export of another stack
 pub one_import : (name : List ℕ) (x : World) (source : Source) (seen : Seen) (m v : List ℕ) → source.imports ≡ (m, v) ∷ [] → exports_of_others name x ≡ (m, v) ∷ [] → plan_of source seen ≡ plan_of (with_imports source (exports_of_others name x)) seen → plan_of (with_imports source []) seen ≢ plan_of source seen → ImportsWhatItUses name x source seen

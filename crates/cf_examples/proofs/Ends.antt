@@ -1,7 +1,6 @@
 -- The ends of some runs.
 use Rattle.std.proofs.Common.{◌≡◌, refl, List, [], ◌∷◌, Some, true, false, ℕ, Bool, sym, subst, ap, true≢false, lit≤}
 use Rattle.std.specs.Prelude.{codes}
-use Rattle.cf_tree.specs.Keys.{value_at}
 use Rattle.cf_tree.specs.declared.template.Deletion.TheVariants as deletion
 use Rattle.cf_tree.specs.declared.template.Replace.TheVariants as replace
 use Rattle.cf_tree.specs.declared.request.Request.TheVariants as request
@@ -17,7 +16,7 @@ use Rattle.cf_stacks.specs.World.{StackState, empty_world, known_stack}
 use Rattle.cf_stacks.specs.Fold.{fold_of}
 use Rattle.cf_stacks.specs.Begin.{source_for}
 use Rattle.cf_plan.specs.Forward.{In, here, there}
-use Rattle.cf_plan.specs.Ends.{IsLive, Sees, right_at, IsWholeLive, IsComplete, IsRestored, IsCleared, IsBlamedFor, IsBlamed}
+use Rattle.cf_plan.specs.Ends.{IsLive, IsComplete, IsRestored, IsCleared, IsBlamedFor, IsBlamed}
 use Rattle.cf_examples.specs.RollbackFailed as unblamed
 use Rattle.cf_examples.proofs.Retained as deleted
 use Rattle.cf_examples.proofs.Skipped as unskipped
@@ -30,8 +29,8 @@ use Rattle.cf_examples.specs.Given.{file, note, file_props, file_attrs, note_pro
 use Rattle.cf_examples.specs.Replacement.{second}
 use Rattle.cf_examples.specs.Ends.{files_replaced, notes_replaced, files_restored, lanes_replaced, lanes_restored, IsPromised, ReplacementIsComplete, LateEffectIsRestored, RollbackIsRestored, DeletionIsCleared, FailuresAreBlamed, FailedRollbackIsBlamed, FailedDeletionIsBlamed}
 use Rattle.cf_examples.proofs.Computing.{computing}
-use Rattle.cf_examples.proofs.Standing.{held_there, wanted_there}
-use Rattle.cf_examples.proofs.Lists.{some_is, in_none, only, either}
+use Rattle.cf_examples.proofs.Standing.{IsWell, complete_of}
+use Rattle.cf_examples.proofs.Lists.{in_none, only, either}
 use Rattle.cf_examples.proofs.Replacement.{until_16, world_16, stack_16_app}
 use Rattle.cf_examples.proofs.LateEffect as late
 use Rattle.cf_examples.specs.RolledBack as rolled
@@ -67,49 +66,17 @@ ptr_is_live = record { lane = notes_replaced; home = record { handed_in = refl; 
 web_is_live : IsLive lanes_replaced web_held web_live
 web_is_live = record { lane = files_replaced; home = record { handed_in = refl; named = (codes "3", refl) }; live = refl }
 
-abbrev SeesOne : Held → Type 0
-SeesOne r = (v : Live) × IsLive lanes_replaced r v × (value_at r.path seen ≡ Some (record { physical = Some r.physical; attrs = Some v.attrs }))
+abbrev IsWellReplaced : Held → Type 0
+IsWellReplaced = IsWell lanes_replaced stack_16_app seen whole
 
-sees : Sees lanes_replaced stack_16_app seen
-sees path r e =
-    let found = held_there path stack_16_app.held r e in
-    subst (λ p. (v : Live) × IsLive lanes_replaced r v × (value_at p seen ≡ Some (record { physical = Some r.physical; attrs = Some v.attrs }))) found.0 (either SeesOne {a = ptr_held} {b = web_held} (ptr_live, ptr_is_live, refl) (web_live, web_is_live, refl) r found.1)
-
-abbrev IsRightFor : Right → Held → Type 0
-IsRightFor w r = (v : Live) × IsLive lanes_replaced r v × (v.kind ≡ w.kind) × (v.props ≡ w.props)
-
-abbrev IsRightLive : Held → Type 0
-IsRightLive r = (w : Right) → right_at r.path whole ≡ Some w → IsRightFor w r
-
-ptr_right : IsRightLive ptr_held
-ptr_right w e = subst (λ q. IsRightFor q ptr_held) (some_is {a = ptr} e) (ptr_live, ptr_is_live, refl, refl)
-
-web_right : IsRightLive web_held
-web_right w e = subst (λ q. IsRightFor q web_held) (some_is {a = web} e) (web_live, web_is_live, refl, refl)
-
-abbrev HasRight : List ℕ → Type 0
-HasRight path = (w : Right) × (right_at path whole ≡ Some w)
-
-abbrev HasHeld : List ℕ → Type 0
-HasHeld path = (r : Held) × (current_at path stack_16_app.held ≡ Some r)
-
-whole_live : IsWholeLive lanes_replaced stack_16_app whole
-whole_live = record {
-  paths = λ path. (
-    (λ (w, e). let found = wanted_there path whole.wanted w e in subst HasHeld found.0 (either (λ (q : Right). HasHeld q.path) {a = web} {b = ptr} (web_held, refl) (ptr_held, refl) w found.1)),
-    (λ (r, e). let found = held_there path stack_16_app.held r e in subst HasRight found.0 (either (λ (q : Held). HasRight q.path) {a = ptr_held} {b = web_held} (ptr, refl) (web, refl) r found.1)),
-  );
-  live = λ path w r wanted held. let found = held_there path stack_16_app.held r held in either IsRightLive {a = ptr_held} {b = web_held} ptr_right web_right r found.1 w (subst (λ p. right_at p whole ≡ Some w) (sym found.0) wanted);
-  nothing_else = λ r i. either (λ (q : Held). current_at q.path stack_16_app.held ≡ Some q) {a = ptr_held} {b = web_held} refl refl r i;
-  outputs = refl;
-}
+well : (r : Held) → In r stack_16_app.held → IsWellReplaced r
+well r i = either IsWellReplaced {a = ptr_held} {b = web_held}
+    (record { right = ptr; live = ptr_live; is_right = refl; is_live = ptr_is_live; kind = refl; props = refl; is_seen = refl; alone = refl })
+    (record { right = web; live = web_live; is_right = refl; is_live = web_is_live; kind = refl; props = refl; is_seen = refl; alone = refl }) r i
 
 complete : IsComplete (codes "app") world_16 stack_16_app lanes_replaced
 unfolding computing
-complete = record {
-  settled = record { none_open = refl; none_made = refl };
-  evaluated = (source_for (codes "app") 1 second, seen, whole, refl, sees, refl, whole_live, λ e. (λ i. i, λ i. i));
-}
+complete = complete_of (codes "app") world_16 stack_16_app lanes_replaced (source_for (codes "app") 1 second) seen whole refl refl refl refl refl refl refl well (λ w i. either (λ (q : Right). (r : Held) × (current_at q.path stack_16_app.held ≡ Some r)) {a = web} {b = ptr} (web_held, refl) (ptr_held, refl) w i)
 
 pub replacement_is_complete : ReplacementIsComplete
 replacement_is_complete = subst (λ x. IsPromised (codes "app") x lanes_replaced) (sym until_16.arrives) complete
@@ -198,7 +165,7 @@ reply_doubted = record { token = 2; answer = reply.Doubt; before = 0; after = 1 
 abbrev call_doubted : Call
 call_doubted = record late.call_2 { fresh = false; doubts = 3 }
 
-doubted : IsBlamed unskipped.stack_15_s (codes "A" ∷ [])
+pub doubted : IsBlamed unskipped.stack_15_s (codes "A" ∷ [])
 doubted = record {
   some = λ e. true≢false (ap is_none e);
   each = λ path i. only (IsBlamedFor unskipped.stack_15_s) {a = codes "A"} (record { reply = reply_doubted; call = call_doubted; of_call = refl; at_path = refl; stands = here; failed = refl; rose = λ _. lit≤ tt }) path i;

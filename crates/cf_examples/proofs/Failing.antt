@@ -77,6 +77,9 @@ not_failed schemas name x s h failed = elim failed [
     no_lost : (export : List ℕ) → option_map (λ (f : Export). f.name) (first_in []) ≡ Some export → ⊥
     no_lost export e = cc
 
+pub sound : (schemas : List Schema) (name : List ℕ) (x : World) (s : StackState) → first_failing schemas s ≡ None → list_all (is_sound s) (wanted_paths s) ≡ true → list_all is_sound_inner (plan_now s).nested ≡ true → (plan_now s).flaws ≡ [] → lost_exports name x s ≡ [] → ¬ HasFailed schemas name x s
+sound schemas name x s calls paths inner flaws exports = not_failed schemas name x s (record { calls = calls; paths = paths; inner = inner; flaws = flaws; exports = exports })
+
 -- the first path at fault in byte order: those before it are not at fault
 abbrev pub is_sound_before : StackState → List ℕ → List ℕ → Bool
 is_sound_before s p q = is_sound s q || not (bytes_lt q p)

@@ -1,5 +1,5 @@
 -- The life that makes the first resource.
-use Rattle.std.proofs.Common.{inr, ◌∙◌, ap, ◌≡◌, refl, List, [], ◌∷◌, Some, None, true, false, ℕ, inl, sym, subst, lit≤, Bool, true≢false}
+use Rattle.std.proofs.Common.{inr, ◌∙◌, ap, ◌≡◌, refl, List, [], ◌∷◌, Some, None, true, false, ℕ, inl, sym, subst, lit≤, Bool}
 use Rattle.std.specs.Prelude.{codes, option_map, if◌then◌else◌}
 use Rattle.cf_tree.specs.declared.request.Answer.TheVariants as answer
 use Rattle.cf_entry.specs.declared.status.Status.TheVariants as status
@@ -8,63 +8,37 @@ use Rattle.std.specs.Str.{bytes_eq}
 use Rattle.cf_handler.specs.declared.settled.Settlement.{Settlement}
 use Rattle.cf_handler.specs.declared.settled.Settled.{Settled}
 use Rattle.cf_handler.specs.Lane.{Live, live_of, is_used, settlement_of}
-use Rattle.cf_handler.specs.Fence.{Flying, Raised, SettledBy, live_at}
+use Rattle.cf_handler.specs.Fence.{Flying, live_at}
 use Rattle.cf_stacks.specs.declared.held.Held.{Held}
 use Rattle.cf_stacks.specs.declared.held.Pending.{Pending}
 use Rattle.cf_stacks.specs.declared.call.Call.{Call}
 use Rattle.cf_stacks.specs.Operation.{Response}
-use Rattle.cf_stacks.specs.World.{stack_at, World, empty_world, known_stack, StackState}
+use Rattle.cf_stacks.specs.World.{stack_at, empty_world, known_stack, StackState}
 use Rattle.cf_stacks.specs.Words.{current_at}
-use Rattle.cf_stacks.specs.Fold.{fold_of}
+use Rattle.cf_stacks.specs.Fold.{world_after}
 use Rattle.cf_stacks.specs.Begin.{source_for}
 use Rattle.cf_plan.specs.Forward.{In, here}
 use Rattle.cf_plan.specs.Lanes.{Lane, AreLanes, AreSchemas, lane_at, open_at, IsAnswered, told_of, LiveChange, change_of, Nothing, Made, Set, ids_of, IsHome}
 use Rattle.cf_plan.specs.Agrees.{Ties, FitsCall, IsListed, IsAccounted, call_at}
 use Rattle.cf_plan.specs.Life.{Life, Lease, MayHappen, IsLife, AreLeased, IsGoing, IsStart, Holds, AreHandedIn, named_lane}
-use Rattle.cf_plan.specs.Ends.{IsLive, Sees, right_at, IsWholeLive, IsComplete}
+use Rattle.cf_plan.specs.Ends.{IsLive, IsComplete}
 use Rattle.cf_plan.specs.Promise.{Promised}
 use Rattle.cf_tree.specs.Named.{all_differ}
 use Rattle.std.proofs.lemmas.Slice.Eq.{bytes_eq-Decides}
 use Rattle.cf_plan.specs.Life as life
-use Rattle.cf_tree.specs.Keys.{value_at}
 use Rattle.cf_tree.specs.declared.template.Deletion.TheVariants as deletion
 use Rattle.cf_tree.specs.declared.template.Replace.TheVariants as replace
 use Rattle.cf_desired.specs.Seeing.{Seen}
 use Rattle.cf_desired.specs.Whole.{Right, Whole}
-use Rattle.cf_examples.proofs.Standing.{held_there, wanted_there}
+use Rattle.cf_examples.proofs.Standing.{IsWell, complete_of}
 use Rattle.cf_examples.specs.Given.{file, file_props, file_attrs, schemas}
-use Rattle.cf_examples.specs.FirstResource.{source, opened, begun, intended, answered, done, run, app, web, world}
-use Rattle.cf_examples.specs.FirstLife.{files_with, start, made, end, StartIsOne, Lives, KeepsItsPromises, HoldsInTheEnd, unwritten, lease_answered, HoldsBeforeItIsWritten}
+use Rattle.cf_examples.specs.FirstResource.{source, done, run, app, web, world}
+use Rattle.cf_examples.specs.FirstLife.{files_with, start, events, made, end, StartIsOne, Lives, KeepsItsPromises, HoldsInTheEnd, unwritten, lease_answered, HoldsBeforeItIsWritten}
 use Rattle.cf_examples.proofs.Computing.{computing}
 use Rattle.cf_examples.proofs.Lists.{some_is, in_none, only, found_passes}
-use Rattle.cf_examples.proofs.FirstResource.{leaves, legal, opens, begins, intends, answers, ends}
-
-abbrev life_1 : Life
-life_1 = record { entries = opened ∷ []; lanes = files_with [] [] 0 ∷ []; leases = []; is_open = true; has_granted = false; is_stopped = false }
-
-abbrev life_2 : Life
-life_2 = record life_1 { lanes = files_with [] [] 1 ∷ [] }
-
-abbrev life_3 : Life
-life_3 = record life_2 { entries = opened ∷ begun ∷ [] }
-
-abbrev lease : Lease
-lease = record { number = 1; token = 1; lane = codes "f1"; request = made.request; reply = None }
-
-abbrev life_4 : Life
-life_4 = record life_3 { entries = opened ∷ begun ∷ intended ∷ []; leases = lease ∷ []; has_granted = true }
-
-abbrev answer_1 : life.CallEnd
-answer_1 = life.Answered (answer.Success (codes "f1:1") (file_attrs (codes "f1:1") 5 (codes "web.txt") (codes "hello"))) 0 0
-
-abbrev life_5 : Life
-life_5 = record life_4 { leases = record lease { reply = Some answer_1 } ∷ []; lanes = files_with (made ∷ []) [] 1 ∷ [] }
-
-abbrev life_6 : Life
-life_6 = record life_5 { entries = opened ∷ begun ∷ intended ∷ answered ∷ []; leases = [] }
-
-abbrev life_7 : Life
-life_7 = record life_6 { entries = run }
+use Rattle.cf_examples.proofs.Living as step
+use Rattle.cf_examples.proofs.Living.{none_leased, IsLived}
+use Rattle.cf_examples.proofs.FirstResource.{world_1, world_2, world_3, world_4, leaves, legal, opens, begins, intends, answers, ends}
 
 -- its name is one, and its type has a schema
 pub named_lanes : {settled : List Settled} {flying : List Flying} {fence : ℕ} → AreLanes (files_with settled flying fence ∷ [])
@@ -83,43 +57,23 @@ starts = record {
   untouched = λ l i. only (λ (q : Lane). (q.state.state.settled ≡ []) × (q.state.flying ≡ []) × (q.state.fence ≡ 0) × (live_of q.state.state ≡ [])) {a = files_with [] [] 0} (refl, refl, refl, refl) l i;
 }
 
--- the one lane is handed in
-pub handed_in : (l : Lane) (before : Life) → before.lanes ≡ l ∷ [] → AreHandedIn before (named_lane l ∷ [])
-handed_in l before e = record {
-  there_are = λ n i. only (λ q. (m : Lane) × (lane_at q.0 before.lanes ≡ Some m) × (q ≡ named_lane m)) {a = named_lane l} (l, ap (lane_at l.name) e ∙ itself (bytes_eq l.name l.name) ((bytes_eq-Decides l.name l.name).1 refl), refl) n i;
-  once = refl;
-}
-  where
-    itself : (t : Bool) → t ≡ true → (if t then Some l else None) ≡ Some l
-    itself true k = refl
-    itself false k = absurd (true≢false (sym k))
-
-opening : MayHappen schemas start (life.Opened 1 ((codes "f1", file) ∷ []) life.Whole)
-opening = (refl, opens, handed_in (files_with [] [] 0) start refl)
-
-raising : MayHappen schemas life_1 (life.Raise (codes "f1") Raised true 0 0)
-raising = (refl, refl, files_with [] [] 0, refl, here, lit≤ tt, (lit≤ tt, refl))
-
-beginning : MayHappen schemas life_2 (life.Begin begun life.Whole)
-beginning = (refl, (λ l i named. only (λ (q : Lane). q.state.fence ≡ 1) {a = files_with [] [] 1} refl l i), tt, begins)
-
-granting : MayHappen schemas life_3 (life.Grant intended life.Whole)
-granting = (refl, tt, intends)
-
-acting : MayHappen schemas life_4 (life.Act 1 answer_1 (SettledBy made.settlement))
-acting = (lease, files_with [] [] 1, refl, refl, refl, ((lit≤ tt, tt), (lit≤ tt, (_, (((codes "1", refl), lit≤ tt, refl, lit≤ tt), refl), refl))))
-
-settling : MayHappen schemas life_5 (life.Settle 1 answered life.Whole)
-settling = (refl, record lease { reply = Some answer_1 }, answer_1, refl, refl, refl, answers)
-
-ending : MayHappen schemas life_6 (life.Grant done life.Whole)
-ending = (refl, tt, ends)
-
-closing : MayHappen schemas life_7 life.Close
-closing = (refl, refl)
+living_it : IsLived start empty_world events end
+unfolding computing
+living_it =
+    step.opens world_1 refl opens refl refl refl
+    (step.raises refl refl refl here (lit≤ tt) (lit≤ tt, refl)
+    (step.begins world_2 refl refl tt begins refl
+    (step.grants world_3 refl tt intends refl refl
+    (step.acts refl refl refl ((lit≤ tt, tt), (lit≤ tt, (_, (((codes "1", refl), lit≤ tt, refl, lit≤ tt), refl), refl)))
+    (step.settles world_4 refl refl refl refl answers refl
+    (step.grants (world_after world_4 done) refl tt ends refl refl
+    (step.closes refl refl step.ended)))))))
 
 pub lives : Lives
-lives = (opening, (raising, (beginning, (granting, (acting, (settling, (ending, (closing, refl))))))))
+lives = living_it.lives refl
+
+abbrev answer_1 : life.CallEnd
+answer_1 = life.Answered (answer.Success (codes "f1:1") (file_attrs (codes "f1:1") 5 (codes "web.txt") (codes "hello"))) 0 0
 
 -- In the end: no call is open, one lane is there, and one resource is live on it.
 abbrev f1 : Lane
@@ -184,18 +138,9 @@ ties = record {
   listed = λ l v i j. only (λ (q : Lane). In v (live_of q.state.state) → IsListed world end.lanes q v.id) {a = f1} (λ k. only (λ (w : Live). IsListed world end.lanes f1 w.id) {a = web_live} (inl (codes "app", app, web, refl, inl here, refl)) v k) l i j;
 }
 
-abbrev leased : AreLeased end
-leased = record {
-  once = refl;
-  own_call = λ l i. absurd (in_none i);
-  accounted = λ l i. absurd (in_none i);
-  settled = λ l reply s lane i. absurd (in_none i);
-  going = λ l i. absurd (in_none i);
-}
-
 pub holds : HoldsInTheEnd
 unfolding computing
-holds = record { agrees = record { named = named_lanes; described = described_lanes; legal = legal; ties = subst (λ x. Ties run x end.lanes) (sym leaves) ties }; leased = leased }
+holds = record { agrees = record { named = named_lanes; described = described_lanes; legal = legal; ties = subst (λ x. Ties run x end.lanes) (sym leaves) ties }; leased = none_leased end refl }
 
 -- The stack is what its status promises.
 abbrev seen : Seen
@@ -210,37 +155,12 @@ whole = record { wanted = web_right ∷ []; outputs = []; exports = [] }
 web_is_live : IsLive end.lanes web web_live
 web_is_live = record { lane = f1; home = record { handed_in = refl; named = (codes "1", refl) }; live = refl }
 
-abbrev HasRight : List ℕ → Type 0
-HasRight path = (w : Right) × (right_at path whole ≡ Some w)
-
-abbrev HasHeld : List ℕ → Type 0
-HasHeld path = (r : Held) × (current_at path app.held ≡ Some r)
-
-abbrev IsRightFor : Right → Held → Type 0
-IsRightFor w r = (v : Live) × IsLive end.lanes r v × (v.kind ≡ w.kind) × (v.props ≡ w.props)
-
-whole_live : IsWholeLive end.lanes app whole
-whole_live = record {
-  paths = λ path. (
-    (λ (w, e). let found = wanted_there path whole.wanted w e in subst HasHeld found.0 (only (λ (q : Right). HasHeld q.path) {a = web_right} (web, refl) w found.1)),
-    (λ (r, e). let found = held_there path app.held r e in subst HasRight found.0 (only (λ (q : Held). HasRight q.path) {a = web} (web_right, refl) r found.1)),
-  );
-  live = λ path w r wanted held. only (λ (q : Right). IsRightFor q r) {a = web_right} (only (λ (q : Held). IsRightFor web_right q) {a = web} (web_live, web_is_live, refl, refl) r (held_there path app.held r held).1) w (wanted_there path whole.wanted w wanted).1;
-  nothing_else = λ r i. only (λ (q : Held). current_at q.path app.held ≡ Some q) {a = web} refl r i;
-  outputs = refl;
-}
-
-sees : Sees end.lanes app seen
-sees path r e =
-    let found = held_there path app.held r e in
-    subst (λ p. (v : Live) × IsLive end.lanes r v × (value_at p seen ≡ Some (record { physical = Some r.physical; attrs = Some v.attrs }))) found.0 (only (λ (q : Held). (v : Live) × IsLive end.lanes q v × (value_at q.path seen ≡ Some (record { physical = Some q.physical; attrs = Some v.attrs }))) {a = web} (web_live, web_is_live, refl) r found.1)
+well : (r : Held) → In r app.held → IsWell end.lanes app seen whole r
+well r i = only (IsWell end.lanes app seen whole) {a = web} (record { right = web_right; live = web_live; is_right = refl; is_live = web_is_live; kind = refl; props = refl; is_seen = refl; alone = refl }) r i
 
 complete : IsComplete (codes "app") world app end.lanes
 unfolding computing
-complete = record {
-  settled = record { none_open = refl; none_made = refl };
-  evaluated = (source_for (codes "app") 1 source, seen, whole, refl, sees, refl, whole_live, λ e. (λ i. i, λ i. i));
-}
+complete = complete_of (codes "app") world app end.lanes (source_for (codes "app") 1 source) seen whole refl refl refl refl refl refl refl well (λ w i. only (λ (q : Right). (r : Held) × (current_at q.path app.held ≡ Some r)) {a = web_right} (web, refl) w i)
 
 -- the only stack is this one, under its own name
 app_promised : (name : List ℕ) (s : StackState) → stack_at name world ≡ Some s → Promised s.status name world s end.lanes
@@ -254,9 +174,6 @@ pub promises : KeepsItsPromises
 promises = λ name s. subst (λ x. stack_at name x ≡ Some s → Promised s.status name x s end.lanes) (sym leaves) (app_promised name s)
 
 -- Before the answer is written down: the create is open and answered, and its resource is live.
-abbrev world_3 : World
-world_3 = fold_of empty_world unwritten.entries
-
 -- the row of the call in the ledger of its stack
 abbrev made_call : Call
 made_call = record { number = 1; token = 1; lane = codes "f1"; path = codes "Web"; request = made.request; status = status.CreateInProgress; fresh = true; doubts = 0; answer = None }

@@ -19,16 +19,16 @@ pub leaves : Leaves
 unfolding computing
 leaves = refl
 
-abbrev world_1 : World
+abbrev pub world_1 : World
 world_1 = world_after empty_world opened
 
-abbrev world_2 : World
+abbrev pub world_2 : World
 world_2 = world_after world_1 begun
 
-abbrev world_3 : World
+abbrev pub world_3 : World
 world_3 = world_after world_2 intended
 
-abbrev world_4 : World
+abbrev pub world_4 : World
 world_4 = world_after world_3 answered
 
 abbrev app_at : World → StackState

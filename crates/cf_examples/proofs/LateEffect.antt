@@ -7,7 +7,6 @@ use Rattle.cf_stacks.specs.declared.call.Call.{Call}
 use Rattle.cf_stacks.specs.declared.call.Settled.TheVariants as settled
 use Rattle.cf_stacks.specs.declared.held.Held.{Held}
 use Rattle.cf_stacks.specs.World.{World, StackState, empty_world, no_stack}
-use Rattle.cf_stacks.specs.Fold.{world_after}
 use Rattle.cf_stacks.specs.Begin.{source_for}
 use Rattle.cf_stacks.specs.Status.{Forward, Back, BackClean}
 use Rattle.cf_plan.specs.Forward.{here, HasFailed, IsReady, AllDone, IsDone, is_made}
@@ -36,10 +35,6 @@ may_opened = (refl, refl, λ name s e. absurd (cc))
 abbrev pub world_1 : World
 world_1 = record world_0 { lanes = (lane_pair (codes "f1") file ∷ []); epoch = 1; place = 1 }
 
-pub leads_1 : world_after world_0 opened ≡ world_1
-unfolding computing
-leads_1 = refl
-
 pub may_begun : MayFollow schemas world_1 [] begun
 unfolding computing
 may_begun = (refl, refl, record { no_flaw = refl; known_types = refl; same_types = refl; imports = no_imports _ _ _ _ refl refl; free = refl; not_in_use = refl; changing = inl refl })
@@ -49,10 +44,6 @@ stack_2_s = record no_stack { status = status.CreateInProgress; number = 1; oper
 
 abbrev pub world_2 : World
 world_2 = record world_1 { stacks = (((codes "s"), stack_2_s) ∷ []); operation = 1; place = 2 }
-
-pub leads_2 : world_after world_1 begun ≡ world_2
-unfolding computing
-leads_2 = refl
 
 sound_2 : ¬ HasFailed schemas (codes "s") world_2 stack_2_s
 unfolding computing
@@ -75,10 +66,6 @@ stack_3_s = record stack_2_s { tokens = (record { token = 1; path = (codes "A");
 abbrev pub world_3 : World
 world_3 = record world_2 { stacks = (((codes "s"), stack_3_s) ∷ []); token = 1; place = 3 }
 
-pub leads_3 : world_after world_2 intended ≡ world_3
-unfolding computing
-leads_3 = refl
-
 pub may_made : MayFollow schemas world_3 (1 ∷ []) made
 unfolding computing
 may_made = ((codes "s"), stack_3_s, Forward, refl, refl, (refl, refl, lit≤ tt))
@@ -91,10 +78,6 @@ stack_4_s = record stack_3_s { made = (a_1 ∷ []); tokens = []; events = stack_
 
 abbrev pub world_4 : World
 world_4 = record world_3 { stacks = (((codes "s"), stack_4_s) ∷ []); place = 4 }
-
-pub leads_4 : world_after world_3 made ≡ world_4
-unfolding computing
-leads_4 = refl
 
 all_done_4 : AllDone stack_4_s
 unfolding computing
@@ -114,10 +97,6 @@ stack_5_s = record stack_4_s { status = status.CreateComplete; held = (a_1 ∷ [
 abbrev pub world_5 : World
 world_5 = record world_4 { stacks = (((codes "s"), stack_5_s) ∷ []); place = 5 }
 
-pub leads_5 : world_after world_4 created ≡ world_5
-unfolding computing
-leads_5 = refl
-
 pub may_updating : MayFollow schemas world_5 [] updating
 unfolding computing
 may_updating = (refl, refl, record { no_flaw = refl; known_types = refl; same_types = refl; imports = no_imports _ _ _ _ refl refl; free = refl; not_in_use = refl; changing = inr (inl refl) })
@@ -127,10 +106,6 @@ stack_6_s = record stack_5_s { status = status.UpdateInProgress; operation = 2; 
 
 abbrev pub world_6 : World
 world_6 = record world_5 { stacks = (((codes "s"), stack_6_s) ∷ []); operation = 2; place = 6 }
-
-pub leads_6 : world_after world_5 updating ≡ world_6
-unfolding computing
-leads_6 = refl
 
 sound_6 : ¬ HasFailed schemas (codes "s") world_6 stack_6_s
 unfolding computing
@@ -153,10 +128,6 @@ stack_7_s = record stack_6_s { tokens = (record { token = 2; path = (codes "A");
 abbrev pub world_7 : World
 world_7 = record world_6 { stacks = (((codes "s"), stack_7_s) ∷ []); token = 2; place = 7 }
 
-pub leads_7 : world_after world_6 intended_change ≡ world_7
-unfolding computing
-leads_7 = refl
-
 pub may_broken_once : MayFollow schemas world_7 (2 ∷ []) broken_once
 unfolding computing
 may_broken_once = ((codes "s"), stack_7_s, Forward, refl, refl, (refl, refl, (lit≤ tt, λ _. lit≤ tt)))
@@ -166,10 +137,6 @@ stack_8_s = record stack_7_s { events = stack_7_s.events ++ (codes "event 8 A UP
 
 abbrev pub world_8 : World
 world_8 = record world_7 { stacks = (((codes "s"), stack_8_s) ∷ []); place = 8 }
-
-pub leads_8 : world_after world_7 broken_once ≡ world_8
-unfolding computing
-leads_8 = refl
 
 pub may_broken_twice : MayFollow schemas world_8 (2 ∷ []) broken_twice
 unfolding computing
@@ -181,10 +148,6 @@ stack_9_s = record stack_8_s { events = stack_8_s.events ++ (codes "event 9 A UP
 abbrev pub world_9 : World
 world_9 = record world_8 { stacks = (((codes "s"), stack_9_s) ∷ []); place = 9 }
 
-pub leads_9 : world_after world_8 broken_twice ≡ world_9
-unfolding computing
-leads_9 = refl
-
 pub may_broken_thrice : MayFollow schemas world_9 (2 ∷ []) broken_thrice
 unfolding computing
 may_broken_thrice = ((codes "s"), stack_9_s, Forward, refl, refl, (refl, refl, (lit≤ tt, λ _. lit≤ tt)))
@@ -195,10 +158,6 @@ stack_10_s = record stack_9_s { events = stack_9_s.events ++ (codes "event 10 A 
 abbrev pub world_10 : World
 world_10 = record world_9 { stacks = (((codes "s"), stack_10_s) ∷ []); place = 10 }
 
-pub leads_10 : world_after world_9 broken_thrice ≡ world_10
-unfolding computing
-leads_10 = refl
-
 pub may_turned : MayFollow schemas world_10 [] turned
 unfolding computing
 may_turned = ((codes "s"), stack_10_s, Forward, refl, refl, (refl, (refl, (inl ((2, reason.Fault), refl)), (2, refl, refl))))
@@ -208,10 +167,6 @@ stack_11_s = record stack_10_s { status = status.UpdateRollbackInProgress; event
 
 abbrev pub world_11 : World
 world_11 = record world_10 { stacks = (((codes "s"), stack_11_s) ∷ []); place = 11 }
-
-pub leads_11 : world_after world_10 turned ≡ world_11
-unfolding computing
-leads_11 = refl
 
 pub may_repeated : MayFollow schemas world_11 (2 ∷ []) repeated
 unfolding computing
@@ -226,10 +181,6 @@ stack_12_s = record stack_11_s { held = (a_2 ∷ []); tokens = []; events = stac
 abbrev pub world_12 : World
 world_12 = record world_11 { stacks = (((codes "s"), stack_12_s) ∷ []); place = 12 }
 
-pub leads_12 : world_after world_11 repeated ≡ world_12
-unfolding computing
-leads_12 = refl
-
 pub may_intended_restore : MayFollow schemas world_12 [] intended_restore
 unfolding computing
 may_intended_restore = ((codes "s"), stack_12_s, Back, refl, refl, record { next = refl; free = refl; home = refl; fits = ((codes "1", refl), refl); no_repeat = refl; chosen = inr (refl, _, (here, refl, refl, refl), refl, refl, refl, refl) })
@@ -242,10 +193,6 @@ stack_13_s = record stack_12_s { tokens = (record { token = 3; path = (codes "A"
 
 abbrev pub world_13 : World
 world_13 = record world_12 { stacks = (((codes "s"), stack_13_s) ∷ []); token = 3; place = 13 }
-
-pub leads_13 : world_after world_12 intended_restore ≡ world_13
-unfolding computing
-leads_13 = refl
 
 pub may_restored : MayFollow schemas world_13 (3 ∷ []) restored
 unfolding computing
@@ -260,10 +207,6 @@ stack_14_s = record stack_13_s { held = (a_3 ∷ []); tokens = []; events = stac
 abbrev pub world_14 : World
 world_14 = record world_13 { stacks = (((codes "s"), stack_14_s) ∷ []); place = 14 }
 
-pub leads_14 : world_after world_13 restored ≡ world_14
-unfolding computing
-leads_14 = refl
-
 pub may_cleaning : MayFollow schemas world_14 [] cleaning
 unfolding computing
 may_cleaning = ((codes "s"), stack_14_s, Back, refl, refl, (refl, (refl, refl, nothing_to_restore stack_14_s refl, refl)))
@@ -273,10 +216,6 @@ stack_15_s = record stack_14_s { status = status.UpdateRollbackCompleteCleanupIn
 
 abbrev pub world_15 : World
 world_15 = record world_14 { stacks = (((codes "s"), stack_15_s) ∷ []); place = 15 }
-
-pub leads_15 : world_after world_14 cleaning ≡ world_15
-unfolding computing
-leads_15 = refl
 
 pub may_rolled_back : MayFollow schemas world_15 [] rolled_back
 unfolding computing
@@ -288,39 +227,35 @@ stack_16_s = record stack_15_s { status = status.UpdateRollbackComplete; events 
 abbrev pub world_16 : World
 world_16 = record world_15 { stacks = (((codes "s"), stack_16_s) ∷ []); place = 16 }
 
-pub leads_16 : world_after world_15 rolled_back ≡ world_16
-unfolding computing
-leads_16 = refl
-
 pub until_3 : IsRun empty_world (take 3 run) world_3
 unfolding computing
 until_3 =
-    step world_1 [] may_opened leads_1
-    (step world_2 [] may_begun leads_2
-    (step world_3 [] may_intended leads_3 ended))
+    step world_1 [] may_opened refl
+    (step world_2 [] may_begun refl
+    (step world_3 [] may_intended refl ended))
 
 pub until_11 : IsRun empty_world (take 11 run) world_11
 unfolding computing
 until_11 =
     joined (take 8 (drop 3 run)) until_3
-    (step world_4 (1 ∷ []) may_made leads_4
-    (step world_5 [] may_created leads_5
-    (step world_6 [] may_updating leads_6
-    (step world_7 [] may_intended_change leads_7
-    (step world_8 (2 ∷ []) may_broken_once leads_8
-    (step world_9 (2 ∷ []) may_broken_twice leads_9
-    (step world_10 (2 ∷ []) may_broken_thrice leads_10
-    (step world_11 [] may_turned leads_11 ended))))))))
+    (step world_4 (1 ∷ []) may_made refl
+    (step world_5 [] may_created refl
+    (step world_6 [] may_updating refl
+    (step world_7 [] may_intended_change refl
+    (step world_8 (2 ∷ []) may_broken_once refl
+    (step world_9 (2 ∷ []) may_broken_twice refl
+    (step world_10 (2 ∷ []) may_broken_thrice refl
+    (step world_11 [] may_turned refl ended))))))))
 
 pub until_16 : IsRun empty_world run world_16
 unfolding computing
 until_16 =
     joined (drop 11 run) until_11
-    (step world_12 (2 ∷ []) may_repeated leads_12
-    (step world_13 [] may_intended_restore leads_13
-    (step world_14 (3 ∷ []) may_restored leads_14
-    (step world_15 [] may_cleaning leads_15
-    (step world_16 [] may_rolled_back leads_16 ended)))))
+    (step world_12 (2 ∷ []) may_repeated refl
+    (step world_13 [] may_intended_restore refl
+    (step world_14 (3 ∷ []) may_restored refl
+    (step world_15 [] may_cleaning refl
+    (step world_16 [] may_rolled_back refl ended)))))
 
 pub legal : Legal
 legal = until_16.legal

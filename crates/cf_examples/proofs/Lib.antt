@@ -26,3 +26,13 @@ pub mod Ends
 pub mod FirstLife
 pub mod CrashedLife
 pub mod LateLife
+pub mod Living
+pub mod ContinuedLife
+pub mod LeftOutLife
+pub mod StoppedLife
+pub mod PairedLife
+pub mod PutBackLife
+pub mod DeletedLife
+pub mod Always
+pub mod BrokenAgreement
+pub mod BrokenStacks

@@ -22,37 +22,37 @@ use Rattle.cf_examples.proofs.Beginning.{no_imports, opens_one}
 use Rattle.cf_examples.specs.Skipped.{broken_back_once, broken_back_twice, broken_back_thrice, failed, opened_again, continued, cleaning, rolled_back, until_opened_again, run, rows, reviewed, ReviewIsLegal, Legal, Fails, Shows, SkipsAnother, ContinuedAtOnce, UnsureLeftOut}
 use Rattle.cf_examples.proofs.LateEffect.{until_11, stack_11_s, world_11, call_2}
 
-may_broken_back_once : MayFollow schemas world_11 (2 ∷ []) broken_back_once
+pub may_broken_back_once : MayFollow schemas world_11 (2 ∷ []) broken_back_once
 unfolding computing
 may_broken_back_once = ((codes "s"), stack_11_s, Back, refl, refl, (refl, refl, (lit≤ tt, λ _. lit≤ tt)))
 
-abbrev stack_12_s : StackState
+abbrev pub stack_12_s : StackState
 stack_12_s = record stack_11_s { events = stack_11_s.events ++ (codes "event 12 A UPDATE_FAILED Fault") ∷ []; entries = stack_11_s.entries ++ broken_back_once ∷ []; ledger = (record call_2 { fresh = false; doubts = 1 } ∷ []) }
 
-abbrev world_12 : World
+abbrev pub world_12 : World
 world_12 = record world_11 { stacks = (((codes "s"), stack_12_s) ∷ []); place = 12 }
 
-may_broken_back_twice : MayFollow schemas world_12 (2 ∷ []) broken_back_twice
+pub may_broken_back_twice : MayFollow schemas world_12 (2 ∷ []) broken_back_twice
 unfolding computing
 may_broken_back_twice = ((codes "s"), stack_12_s, Back, refl, refl, (refl, refl, (lit≤ tt, λ _. lit≤ tt)))
 
-abbrev stack_13_s : StackState
+abbrev pub stack_13_s : StackState
 stack_13_s = record stack_12_s { events = stack_12_s.events ++ (codes "event 13 A UPDATE_FAILED Fault") ∷ []; entries = stack_12_s.entries ++ broken_back_twice ∷ []; ledger = (record call_2 { fresh = false; doubts = 2 } ∷ []) }
 
-abbrev world_13 : World
+abbrev pub world_13 : World
 world_13 = record world_12 { stacks = (((codes "s"), stack_13_s) ∷ []); place = 13 }
 
-may_broken_back_thrice : MayFollow schemas world_13 (2 ∷ []) broken_back_thrice
+pub may_broken_back_thrice : MayFollow schemas world_13 (2 ∷ []) broken_back_thrice
 unfolding computing
 may_broken_back_thrice = ((codes "s"), stack_13_s, Back, refl, refl, (refl, refl, (lit≤ tt, λ _. lit≤ tt)))
 
-abbrev stack_14_s : StackState
+abbrev pub stack_14_s : StackState
 stack_14_s = record stack_13_s { events = stack_13_s.events ++ (codes "event 14 A UPDATE_FAILED Fault") ∷ []; entries = stack_13_s.entries ++ broken_back_thrice ∷ []; ledger = (record call_2 { fresh = false; doubts = 3 } ∷ []) }
 
-abbrev world_14 : World
+abbrev pub world_14 : World
 world_14 = record world_13 { stacks = (((codes "s"), stack_14_s) ∷ []); place = 14 }
 
-may_failed : MayFollow schemas world_14 [] failed
+pub may_failed : MayFollow schemas world_14 [] failed
 unfolding computing
 may_failed = ((codes "s"), stack_14_s, Back, refl, refl, (refl, end_of_undoing schemas (codes "s") world_14 stack_14_s refl refl (λ e f. not_empty stack_14_s.tokens refl e) refl, tt, (refl, are_failed stack_14_s ((codes "A") ∷ []) refl refl)))
 
@@ -65,47 +65,47 @@ stack_15_s = record stack_14_s { status = status.UpdateRollbackFailed; held = (a
 abbrev pub world_15 : World
 world_15 = record world_14 { stacks = (((codes "s"), stack_15_s) ∷ []); place = 15 }
 
-may_opened_again : MayFollow schemas world_15 [] opened_again
+pub may_opened_again : MayFollow schemas world_15 [] opened_again
 unfolding computing
 may_opened_again = (refl, refl, opens_one _ world_15 (codes "s") stack_15_s refl ((λ h i. only (λ (g : Held). IsNamedLane (lane_pair (codes "f1") file ∷ []) g.physical g.kind) (lane_pair (codes "f1") file, here, (codes "1", refl), refl) h i), (λ p i. only (λ (q : Pending). (l : List ℕ × List ℕ) × In l (lane_pair (codes "f1") file ∷ []) × IsLaneFor q l) (lane_pair (codes "f1") file, here, (refl, tt)) p i)))
 
-abbrev stack_16_s : StackState
+abbrev pub stack_16_s : StackState
 stack_16_s = record stack_15_s { entries = stack_15_s.entries ++ opened_again ∷ []; ledger = (record call_2 { fresh = false } ∷ []) }
 
-abbrev world_16 : World
+abbrev pub world_16 : World
 world_16 = record world_15 { stacks = (((codes "s"), stack_16_s) ∷ []); epoch = 2; place = 16 }
 
-may_continued : MayFollow schemas world_16 [] continued
+pub may_continued : MayFollow schemas world_16 [] continued
 unfolding computing
 may_continued = (refl, refl, (refl, refl, refl))
 
-abbrev a_3 : Held
+abbrev pub a_3 : Held
 a_3 = record { path = (codes "A"); kind = file; physical = (codes "f1:1"); props = (file_props (codes "a") (codes "x")); attrs = (file_attrs (codes "f1:1") 1 (codes "a") (codes "x")); needs = []; deletion = deletion.Delete; replace = replace.Delete; status = held.UpdateComplete; unsure = true; superseded = false }
 
-abbrev stack_17_s : StackState
+abbrev pub stack_17_s : StackState
 stack_17_s = record stack_16_s { status = status.UpdateRollbackInProgress; operation = 3; held = (a_3 ∷ []); tokens = []; events = stack_16_s.events ++ (codes "event 17 - UPDATE_ROLLBACK_IN_PROGRESS") ∷ []; entries = stack_16_s.entries ++ continued ∷ [] }
 
-abbrev world_17 : World
+abbrev pub world_17 : World
 world_17 = record world_16 { stacks = (((codes "s"), stack_17_s) ∷ []); operation = 3; place = 17 }
 
-may_cleaning : MayFollow schemas world_17 [] cleaning
+pub may_cleaning : MayFollow schemas world_17 [] cleaning
 unfolding computing
 may_cleaning = ((codes "s"), stack_17_s, Back, refl, refl, (refl, (refl, refl, nothing_to_restore stack_17_s refl, refl)))
 
-abbrev stack_18_s : StackState
+abbrev pub stack_18_s : StackState
 stack_18_s = record stack_17_s { status = status.UpdateRollbackCompleteCleanupInProgress; events = stack_17_s.events ++ (codes "event 18 - UPDATE_ROLLBACK_COMPLETE_CLEANUP_IN_PROGRESS") ∷ []; entries = stack_17_s.entries ++ cleaning ∷ [] }
 
-abbrev world_18 : World
+abbrev pub world_18 : World
 world_18 = record world_17 { stacks = (((codes "s"), stack_18_s) ∷ []); place = 18 }
 
-may_rolled_back : MayFollow schemas world_18 [] rolled_back
+pub may_rolled_back : MayFollow schemas world_18 [] rolled_back
 unfolding computing
 may_rolled_back = ((codes "s"), stack_18_s, BackClean, refl, refl, (refl, end_of_back_clean schemas (codes "s") world_18 stack_18_s refl refl refl, tt, refl))
 
-abbrev stack_19_s : StackState
+abbrev pub stack_19_s : StackState
 stack_19_s = record stack_18_s { status = status.UpdateRollbackComplete; events = stack_18_s.events ++ (codes "event 19 - UPDATE_ROLLBACK_COMPLETE") ∷ []; entries = stack_18_s.entries ++ rolled_back ∷ [] }
 
-abbrev world_19 : World
+abbrev pub world_19 : World
 world_19 = record world_18 { stacks = (((codes "s"), stack_19_s) ∷ []); place = 19 }
 
 pub until_15 : IsRun empty_world (take 15 run) world_15

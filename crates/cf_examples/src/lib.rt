@@ -19,10 +19,19 @@ ghost use Rattle.cf_examples.specs.Nested as a_nested_stack_run;
 ghost use Rattle.cf_examples.specs.Ends.{ReplacementIsComplete, LateEffectIsRestored, RollbackIsRestored, DeletionIsCleared, FailedDeletionIsBlamed, FailedRollbackIsBlamed, FailuresAreBlamed};
 ghost use Rattle.cf_examples.specs.CrashedLife.{Crashes, HoldsWhileItFlies, GoesOn};
 ghost use Rattle.cf_examples.specs.LateLife as the_late_life_run;
+ghost use Rattle.cf_examples.specs.ContinuedLife as the_continued_life_run;
+ghost use Rattle.cf_examples.specs.LeftOutLife as the_left_out_life_run;
+ghost use Rattle.cf_examples.specs.StoppedLife as the_stopped_life_run;
+ghost use Rattle.cf_examples.specs.PairedLife as the_paired_life_run;
+ghost use Rattle.cf_examples.specs.PutBackLife as the_put_back_life_run;
+ghost use Rattle.cf_examples.specs.DeletedLife as the_deleted_life_run;
 ghost use Rattle.cf_examples.specs.FirstLife.{StartIsOne, Lives, HoldsBeforeItIsWritten, HoldsInTheEnd, KeepsItsPromises};
 ghost use Rattle.cf_examples.specs.Pinned as a_pinned_export_run;
 ghost use Rattle.cf_examples.specs.Site as a_site_deleted_run;
 ghost use Rattle.cf_examples.specs.SiteKept as a_site_kept_run;
+ghost use Rattle.cf_examples.specs.Always as always_told;
+ghost use Rattle.cf_examples.specs.BrokenAgreement as agreements_told;
+ghost use Rattle.cf_examples.specs.BrokenStacks as stacks_told;
 
 /// A stack of one file: the whole world that is left is told. An update that changes nothing may not begin.
 pub fn the_first_resource()
@@ -198,4 +207,85 @@ pub fn the_late_life()
     ensures acts { the_late_life_run.Acts }
     ensures holds { the_late_life_run.HoldsAsItHasActed }
     ensures goes_on { the_late_life_run.GoesOn }
+{}
+
+/// A life with a continued rollback: an update breaks off each time, its rollback fails, and while the engine is closed it
+/// acts after all. The rollback is continued without it in the next opening; the stack is at each end what its status promises.
+pub fn the_continued_life()
+    ensures fails { the_continued_life_run.Fails }
+    ensures blamed { the_continued_life_run.FailsAsPromised }
+    ensures goes_on { the_continued_life_run.GoesOn }
+    ensures restored { the_continued_life_run.EndsAsPromised }
+{}
+
+/// A life with a lane that an opening leaves out: a creation stays in doubt until its stack is deleted without it, and acts
+/// on its lane while the stack is made anew on another. The stack is at each end what its status promises, and journal and
+/// lanes agree in the end, where the first lane's file is no stack's.
+pub fn the_left_out_life()
+    ensures start { the_left_out_life_run.StartIsOne }
+    ensures deletes { the_left_out_life_run.Deletes }
+    ensures cleared { the_left_out_life_run.ClearsAsPromised }
+    ensures goes_on { the_left_out_life_run.GoesOn }
+    ensures complete { the_left_out_life_run.EndsAsPromised }
+    ensures holds { the_left_out_life_run.HoldsInTheEnd }
+{}
+
+/// A life with two calls at once, whose book is stopped by appends that break with their entry and without it: calls that are
+/// out answer, are parked, and are made again in the next opening, with the same answers. The stack is complete in the end.
+pub fn the_stopped_life()
+    ensures start { the_stopped_life_run.StartIsOne }
+    ensures stops { the_stopped_life_run.Stops }
+    ensures stops_again { the_stopped_life_run.StopsAgain }
+    ensures goes_on { the_stopped_life_run.GoesOn }
+    ensures complete { the_stopped_life_run.EndsAsPromised }
+{}
+
+/// A life of two stacks: a change set is kept while the engine is closed, and carried out by a creation while the other stack
+/// rests; that one is updated before it ends, with a call of each stack out at once. Both are complete in the end.
+pub fn the_paired_life()
+    ensures reviews { the_paired_life_run.Reviews }
+    ensures cleared { the_paired_life_run.ReviewsAsPromised }
+    ensures goes_on { the_paired_life_run.GoesOn }
+    ensures updated { the_paired_life_run.UpdatesAsPromised }
+    ensures created { the_paired_life_run.CreatesAsPromised }
+{}
+
+/// A life of a journal that was put back from an earlier copy: its lane is ahead, and a call is stale until the openings have
+/// caught up. Where journal and lanes agree, no call is stale.
+pub fn the_put_back_life()
+    ensures catches_up { the_put_back_life_run.CatchesUp }
+    ensures never_stale { the_put_back_life_run.NeverStale }
+{}
+
+/// A life with a deletion that nobody knows of, since the engine is gone before it is written down: journal and lanes agree
+/// though the stack holds what is gone. Called again it answers as it did, and the stack is cleared.
+pub fn the_deleted_life()
+    ensures crashes { the_deleted_life_run.Crashes }
+    ensures holds { the_deleted_life_run.HoldsThoughGone }
+    ensures goes_on { the_deleted_life_run.GoesOn }
+    ensures cleared { the_deleted_life_run.EndsAsPromised }
+{}
+
+/// The theorem is met: journal and lanes agree and promises are kept at the ends of the worked lives, and midway.
+pub fn the_theorem_met()
+    ensures { always_told.MetInLives }
+{}
+
+/// Accounts, leases and lanes of which one part of the agreement of journal and lanes is false: calls, resources, leases, what
+/// the lanes were called with, and what is live on them.
+pub fn wrong_agreements()
+    ensures no_such_calls { agreements_told.NoSuchCalls }
+    ensures no_such_lanes { agreements_told.NoSuchLanes }
+{}
+
+/// Ends that no status promises, as a wrong engine would leave them; worlds and journals of which one part of what always holds
+/// is false; and stacks that an operation never leaves so while it stands there.
+pub fn wrong_stacks()
+    ensures not_complete { stacks_told.NotComplete }
+    ensures not_restored { stacks_told.NotRestored }
+    ensures not_blamed { stacks_told.NotBlamed }
+    ensures no_such_worlds { stacks_told.NoSuchWorlds }
+    ensures not_advancing { stacks_told.NotAdvancing }
+    ensures not_back { stacks_told.NotBack }
+    ensures not_booked { stacks_told.NotBooked }
 {}
