@@ -71,7 +71,7 @@ use Rattle.cf_core.specs.Still.{IsFurther, IsStill, IsMoved, IsOpenAhead, moved,
 use Rattle.cf_core.specs.Advancing.{IsAdvancing, IsAsSaid, IsAsked, IsHidden, changes_begun, AreSameThings, IsAsBefore, IsSameThing, AreSingle}
 use Rattle.cf_core.specs.Fits.{Fits, IsRowOf}
 use Rattle.cf_core.proofs.AdvLists.{and_no, each_map, found_changed, found_else, found_no_more, in_changed, no_and, any_no_more}
-use Rattle.cf_core.proofs.FitLists.{one_number, one_id}
+use Rattle.cf_core.proofs.FitKept.{one_number, one_id}
 use Rattle.cf_core.specs.Ahead.{AdvancingGoesOn, GoesOn, AdvancingBegins, CourseIsFree, HasBegun, IsFreeToBegin}
 use Rattle.cf_core.specs.Written.{IsTo}
 use Rattle.cf_core.proofs.Statuses.{ended_status, turned_status}

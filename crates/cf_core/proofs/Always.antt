@@ -82,19 +82,19 @@ use Rattle.cf_core.proofs.TidyEnds.{tidying_ends}
 use Rattle.cf_core.proofs.TidyLaws.{tidying_stays}
 use Rattle.cf_core.proofs.WholeKept.{creation_is_whole, update_is_whole, cleanup_keeps_whole, rest_keeps_whole, update_ends_at_rest, course_keeps_promise, held_is_found}
 use Rattle.cf_core.specs.Theorem.{EventHolds, HoldsAlways, HoldsKeepsPromises, LivesKeepPromises, OperationsGoOn, StartHolds}
-use Rattle.cf_core.proofs.Appended.{fold_more}
+use Rattle.cf_core.proofs.Settling.{fold_more, held_is_live}
 use Rattle.cf_core.proofs.KeepSound.{event_keeps, event_writes, start_is_sound_life}
+use Rattle.cf_core.specs.More.{LeavesApart}
+use Rattle.cf_core.proofs.MoreApart.{leaves_apart_stays}
 use Rattle.cf_core.proofs.MoreLives.{leases_once_stays, settles_once_stays, start_is_once}
 use Rattle.cf_core.proofs.MoreStacks.{completes_begun_stays, leaves_once_stays, lists_given_up_stays}
-use Rattle.cf_core.proofs.Owning.{once_here}
+use Rattle.cf_core.proofs.Entries.{is_working, once_here, stands_on}
 use Rattle.cf_core.specs.OneStack.{IsOnce}
-use Rattle.cf_core.proofs.Living.{held_is_live}
 use Rattle.cf_core.specs.SoundLife as sound
 use Rattle.cf_core.specs.Written as to
 use Rattle.cf_core.specs.GoesOn.{IsTold, HasNext}
 use Rattle.cf_core.proofs.GoingTold.{told_stays, told_begins}
 use Rattle.cf_stacks.proofs.Worlds.{found_stands}
-use Rattle.cf_core.proofs.Entries.{is_working, stands_on}
 use Rattle.cf_core.proofs.FitKept.{number_of}
 use Rattle.cf_core.proofs.GoingOn.{operation_goes_on}
 
@@ -670,10 +670,16 @@ module _ (schemas : List Schema) (l : Life) (h : HoldsAlways schemas l) where
   ways : (ev : Event) → MayHappen schemas l ev → AreOnWay schemas (world_of (life_after l ev))
   ways ev may = entries_after l (λ es. AreOnWay schemas (fold_of empty_world es)) h.way ev (λ e out appends. ways_more ev e out appends may)
 
+  apart : (ev : Event) → MayHappen schemas l ev → LeavesApart (world_of (life_after l ev))
+  apart ev may = entries_after l (λ es. LeavesApart (fold_of empty_world es)) h.leaves ev (λ e out appends.
+      subst LeavesApart (sym (fold_more empty_world l.entries e))
+      (leaves_apart_stays schemas (world_of l) out e (event_writes schemas l ev e out appends may are_steady h.sound) h.sound.orderly.own h.leaves))
+
   holds_after : (ev : Event) → MayHappen schemas l ev → HoldsAlways schemas (life_after l ev)
   holds_after ev may = record {
     sound = event_keeps schemas l ev may are_steady h.sound;
     described = described_kept schemas l ev may h.sound.described h.described;
+    leaves = apart ev may;
     leases = leases_once_stays schemas l ev may h.sound h.leases;
     settles = settles_once_stays schemas l ev may h.sound h.settles;
     way = ways ev may;
@@ -693,6 +699,7 @@ starts_hold schemas l s = record {
   sound = start_is_sound_life schemas l s;
   described = start_described schemas l s;
   leases = (start_is_once schemas l s).0;
+  leaves = subst (λ es. LeavesApart (fold_of empty_world es)) (sym s.no_entries) (λ n m d u v i. elim i [ ]);
   settles = (start_is_once schemas l s).1;
   way = λ name v there. none name v (ap (λ (es : List Entry). stack_at name (fold_of empty_world es)) (sym s.no_entries) ∙ there);
 }

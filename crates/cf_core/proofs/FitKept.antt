@@ -1,45 +1,774 @@
 -- Each entry that may be written keeps the fit of every stack.
-use Rattle.std.proofs.Common.{◌≡◌, ℕ, ◌+◌, ◌≤◌, ◌==◌, ◌⊎◌, inl, inr, List, [], ◌∷◌, ◌++◌, Bool, true, false, not, Option, Some, None, refl, sym, ap, subst, ◌∙◌, true≢false, arith}
-use Rattle.std.specs.Prelude.{cond, is_some}
+use Rattle.std.proofs.lemmas.List.Folds.{find-append}
+use Rattle.cf_core.specs.AccountOf.{thing_of, held_in}
+use Rattle.cf_agree.specs.Account.{Thing}
+use Rattle.cf_core.proofs.Entries.{known_for}
+use Rattle.cf_core.proofs.Outcomes.{differ_end, differ_less, differ_once, LeavesThing, settled_leaves, marked_leaves, none_passes}
+use Rattle.cf_core.specs.Fits.{Fits, IsRowOf, BecomesBy, own, at_opening, other, IsNew}
+use Rattle.cf_core.specs.Fitting.{AllFit, AreSteady, EachIsWritten, FitsKept, IsOfItsLane, IsSteady}
+use Rattle.cf_entry.specs.declared.entry.Begun.{Begun}
+use Rattle.cf_entry.specs.declared.entry.Entry.{Entry}
+use Rattle.cf_entry.specs.declared.entry.Reply.{Reply}
+use Rattle.cf_entry.specs.declared.status.Status.{Status}
+use Rattle.cf_entry.specs.declared.turn.Phase.{Phase}
+use Rattle.cf_entry.specs.declared.turn.Why.{Why}
+use Rattle.cf_handler.specs.Move.{IsOfLane}
+use Rattle.cf_plan.proofs.CreatedRight.{in_filter}
+use Rattle.cf_plan.proofs.CreatedStays.{found_one, found_in_more, found_still, in_more}
+use Rattle.cf_plan.proofs.Frame.{token_after}
+use Rattle.cf_plan.proofs.RunLists.{in_kept, any_of, in_front, none_false, in_back, none_any, some_of}
+use Rattle.cf_plan.specs.Accept.{creates_from}
+use Rattle.cf_plan.specs.Follow.{HasLanes, IsLaneFor, IsNamedLane, IsKindFor, FitsLane, begins_from, IntendsDeletion, IntendsIn, MayDelete, MayFollow, MayFollowIn, MayFollowOn, MayIntend, is_lane_of, updates_from}
+use Rattle.cf_plan.specs.Forward.{In, here, there}
+use Rattle.cf_schema.specs.declared.described.Schema.{Schema}
+use Rattle.cf_stacks.proofs.Worlds.{value_under}
+use Rattle.cf_stacks.specs.Apart.{AreApart}
+use Rattle.cf_stacks.specs.Begin.{as_before, beginning, skipped_in}
+use Rattle.cf_stacks.specs.Calls.{anew, answered_call, is_call, is_open_call, where_call, new_call, is_restore}
+use Rattle.cf_stacks.specs.Effect.{leaving, heard, on_stack}
+use Rattle.cf_stacks.specs.End.{ended_effect, marked, settled_in, stopping, turned_effect, turning, whole_now}
+use Rattle.cf_stacks.specs.Fold.{effect_at, is_opening, stack_for, world_after}
+use Rattle.cf_stacks.specs.Reply.{changing, deleting, still_open, keeping, keeping_known, keeping_unknown, answered, closing, made_of, status_made, terms_at, updating, with_status, replied}
+use Rattle.cf_stacks.specs.Status.{Stage, Forward, Clean, Back, BackClean, Gone, is_in_progress, stage_of}
+use Rattle.cf_stacks.specs.Words.{change_first, has_physical, resources_of, where_physical, without, has_token, without_token, id_named, is_create_at, is_on, current_at, pending_of, is_at}
+use Rattle.cf_stacks.specs.World.{StackState, World, known_stack, no_stack, stack_at, is_going, stack_of_operation}
+use Rattle.cf_stacks.specs.declared.call.Call.{Call}
+use Rattle.cf_stacks.specs.declared.held.Held.{Held}
+use Rattle.cf_stacks.specs.declared.held.Pending.{Pending}
+use Rattle.cf_tree.proofs.Lookups.{put_here, put_else}
+use Rattle.cf_tree.specs.Datum.{Data}
+use Rattle.cf_tree.specs.Keys.{put, value_at}
+use Rattle.cf_tree.specs.Lists.{is_among}
+use Rattle.cf_tree.specs.Named.{all_differ}
+use Rattle.cf_tree.specs.declared.code.Code.{Code}
+use Rattle.cf_tree.specs.declared.request.Request.{Request}
+use Rattle.std.proofs.Common.{◌≡◌, ℕ, ◌==◌, List, [], ◌∷◌, Bool, true, false, Some, map, filter, find, refl, sym, ap, ◌∙◌, true≢false, option_map, ◌++◌, not, subst, None, ◌+◌, ◌≤◌, Option, arith, ◌⊎◌, inl, inr, unwrap_or}
+use Rattle.std.proofs.lemmas.Bool.{eq-eqb, eqb-true, not-true, or_left, or_right}
+use Rattle.std.proofs.lemmas.List.{map-append, append-nil, append_assoc}
+use Rattle.std.proofs.lemmas.List.Elements.{filter-append}
+use Rattle.std.proofs.lemmas.Slice.Eq.{bytes_eq-Decides}
 use Rattle.std.specs.Bool.{IsTrue}
 use Rattle.std.specs.Cmp.{first_so, second_so}
 use Rattle.std.specs.List.{list_any}
-use Rattle.std.specs.Option.{unwrap_or}
+use Rattle.std.specs.Option.{option_map_or}
+use Rattle.std.specs.Prelude.{cond, is_some}
 use Rattle.std.specs.Str.{bytes_eq}
-use Rattle.std.proofs.lemmas.Bool.{eqb-true, or_left, or_right, not-true}
-use Rattle.std.proofs.lemmas.Slice.Eq.{bytes_eq-Decides}
-use Rattle.cf_tree.specs.declared.request.Request.{Request}
-use Rattle.cf_tree.specs.declared.request.Request.TheVariants as request
-use Rattle.cf_schema.specs.declared.described.Schema.{Schema}
-use Rattle.cf_entry.specs.declared.entry.Begun.{Begun}
 use Rattle.cf_entry.specs.declared.entry.Begun.TheVariants as begin
-use Rattle.cf_entry.specs.declared.entry.Entry.{Entry}
 use Rattle.cf_entry.specs.declared.entry.Entry.TheVariants as entry
-use Rattle.cf_entry.specs.declared.entry.Reply.{Reply}
-use Rattle.cf_stacks.specs.declared.held.Held.{Held}
-use Rattle.cf_stacks.specs.declared.held.Pending.{Pending}
-use Rattle.cf_stacks.specs.World.{StackState, World, is_going, known_stack, no_stack, stack_at, stack_of_operation}
-use Rattle.cf_stacks.specs.Status.{Stage, Forward, Clean, Back, BackClean, Gone, is_in_progress, stage_of}
-use Rattle.cf_stacks.specs.Words.{current_at, has_token, id_named, is_at, pending_of, resources_of}
-use Rattle.cf_stacks.specs.Begin.{beginning}
-use Rattle.cf_stacks.specs.Calls.{is_restore, new_call}
-use Rattle.cf_stacks.specs.Reply.{answered, closing, keeping, replied}
-use Rattle.cf_stacks.specs.End.{ended_effect, turned_effect}
-use Rattle.cf_stacks.specs.Apart.{AreApart}
-use Rattle.cf_stacks.specs.Effect.{heard, on_stack}
-use Rattle.cf_stacks.specs.Fold.{effect_at, is_opening, stack_for, world_after}
-use Rattle.cf_plan.specs.Accept.{creates_from}
-use Rattle.cf_plan.specs.Forward.{In}
-use Rattle.cf_plan.specs.Follow.{FitsLane, HasLanes, IsKindFor, begins_from, IntendsDeletion, IntendsIn, IsLaneFor, MayDelete, MayFollow, MayFollowIn, MayFollowOn, MayIntend, is_lane_of, updates_from}
-use Rattle.cf_plan.proofs.CreatedStays.{found_one}
-use Rattle.cf_plan.proofs.RunLists.{any_of, in_back, in_front, none_any, some_of}
-use Rattle.cf_core.specs.Fits.{BecomesBy, Fits, IsNew, own, at_opening, other}
-use Rattle.cf_core.specs.Fitting.{AllFit, AreSteady, EachIsWritten, FitsKept, IsOfItsLane, IsSteady}
-use Rattle.cf_core.proofs.RowsKept.{rows_anew, rows_same}
-use Rattle.cf_core.proofs.FitStep.{IsLess, fits_called, fits_less, none_open}
-use Rattle.cf_core.proofs.FitEntries.{HasNoneMade, less_begun, less_ended, less_heard, less_kept, less_stay, less_turned, same_number}
-use Rattle.cf_core.proofs.FitAnswer.{fits_answered, left_by}
-use Rattle.cf_core.proofs.FitWorld.{Stands, after_lanes, after_token, begun_known, stands_by}
+use Rattle.cf_entry.specs.declared.entry.Reply.TheVariants as reply
+use Rattle.cf_entry.specs.declared.status.Status.TheVariants as status
+use Rattle.cf_entry.specs.declared.turn.Phase.TheVariants as phase
+use Rattle.cf_stacks.specs.declared.held.HeldStatus.TheVariants as held
+use Rattle.cf_tree.specs.declared.code.Code.TheVariants as code
+use Rattle.cf_tree.specs.declared.request.Request.TheVariants as request
+
+-- Members of lists that are mapped, and of which no two have the same key.
+
+pub into_mapped : {A B : Type 0} (f : A → B) (xs : List A) (x : A) → In x xs → In (f x) (map f xs)
+into_mapped f (y ∷ xs) x here = here
+into_mapped f (y ∷ xs) x (there i) = there (into_mapped f xs x i)
+into_mapped f [] x i = elim i [ ]
+
+-- a member of a mapped list is what one of the list is mapped to
+pub from_mapped : {A B : Type 0} (f : A → B) (xs : List A) (y : B) → In y (map f xs) → (x : A) × In x xs × (f x ≡ y)
+from_mapped f [] y i = elim i [ ]
+from_mapped f (x ∷ xs) _ here = (x, here, refl)
+from_mapped f (x ∷ xs) y (there i) = let (z, j, e) = from_mapped f xs y i in (z, there j, e)
+
+pub one_id : {A : Type 0} (key : A → List ℕ) (xs : List A) → all_differ bytes_eq (map key xs) ≡ true → (x y : A) → In x xs → In y xs → key x ≡ key y → x ≡ y
+one_id key xs = differ_once bytes_eq key xs (λ a b. (bytes_eq-Decides a b).1)
+
+pub one_number : {A : Type 0} (key : A → ℕ) (xs : List A) → all_differ ◌==◌ (map key xs) ≡ true → (x y : A) → In x xs → In y xs → key x ≡ key y → x ≡ y
+one_number key xs = differ_once ◌==◌ key xs eq-eqb
+
+-- keys of what is mapped
+pub keys_mapped : {A B K : Type 0} (f : A → B) (key : B → K) (key' : A → K) (xs : List A) → ((x : A) → key (f x) ≡ key' x) → map key (map f xs) ≡ map key' xs
+keys_mapped f key key' [] h = refl
+keys_mapped f key key' (x ∷ xs) h = ap (λ k. k ∷ map key (map f xs)) (h x) ∙ ap (λ ks. key' x ∷ ks) (keys_mapped f key key' xs h)
+
+-- what is searched among mapped ones
+pub find_mapped : {A : Type 0} (test : A → Bool) (f : A → A) (xs : List A) → ((x : A) → test (f x) ≡ test x) → find test (map f xs) ≡ option_map f (find test xs)
+find_mapped test f [] h = refl
+find_mapped test f (x ∷ xs) h = ap (λ b. cond b (Some (f x)) (find test (map f xs))) (h x) ∙ by_test (test x) (find_mapped test f xs h) where
+  by_test : (b : Bool) → find test (map f xs) ≡ option_map f (find test xs) → cond b (Some (f x)) (find test (map f xs)) ≡ option_map f (cond b (Some x) (find test xs))
+  by_test true e = refl
+  by_test false e = e
+
+-- what is found stays found among those that a test leaves, where it passes
+pub find_left : {A : Type 0} (test left : A → Bool) (xs : List A) (x : A) → find test xs ≡ Some x → left x ≡ true → find test (filter left xs) ≡ Some x
+find_left test left [] x e l = e
+find_left {A} test left (y ∷ xs) x e l = by_test (test y) refl (left y) refl e (find_left test left xs x) where
+  by_test :
+      (b : Bool) → test y ≡ b → (c : Bool) → left y ≡ c → cond b (Some y) (find test xs) ≡ Some x → (find test xs ≡ Some x → left x ≡ true → find test (filter left xs) ≡ Some x)
+      → find test (cond c (y ∷ filter left xs) (filter left xs)) ≡ Some x
+  by_test true t true k f ih = ap (λ b. cond b (Some y) (find test (filter left xs))) t ∙ f
+  by_test true t false k f ih = let same : y ≡ x = cc in absurd (true≢false (sym l ∙ ap left (sym same) ∙ k))
+  by_test false t true k f ih = ap (λ b. cond b (Some y) (find test (filter left xs))) t ∙ ih f l
+  by_test false t false k f ih = ih f l
+
+-- What names the resources of a stack, their paths, ids and types, and what is left of them.
+
+pub record Key : Type 0 where
+  pub path : List ℕ
+  pub physical : List ℕ
+  pub kind : List ℕ
+
+abbrev pub key_of : Held → Key
+key_of h = record { path = h.path; physical = h.physical; kind = h.kind }
+
+abbrev pub keys_in : List Held → List Key
+keys_in hs = map key_of hs
+
+abbrev pub keys_of : StackState → List Key
+keys_of s = keys_in (resources_of s)
+
+abbrev pub has_other : List ℕ → Key → Bool
+has_other id k = not (bytes_eq id k.physical)
+
+-- they stay, or that of one id is gone
+pub data Keyed (ks ls : List Key) : Type 0 where
+  stay : ls ≡ ks → Keyed ks ls
+  one_less : (id : List ℕ) → ls ≡ filter (has_other id) ks → Keyed ks ls
+
+abbrev pub IsLeft : {ks ls : List Key} → Keyed ks ls → List ℕ → Type 0
+IsLeft (stay e) i = Unit {0}
+IsLeft (one_less id e) i = bytes_eq id i ≡ false
+
+pub in_keyed : {ks ls : List Key} → Keyed ks ls → (k : Key) → In k ls → In k ks
+in_keyed (stay e) k i = subst (In k) e i
+in_keyed {ks} (one_less id e) k i = (in_filter (has_other id) ks k (subst (In k) e i)).0
+
+pub still_keyed : {ks ls : List Key} (d : Keyed ks ls) (k : Key) → In k ks → IsLeft d k.physical → In k ls
+still_keyed (stay e) k i l = subst (In k) (sym e) i
+still_keyed {ks} (one_less id e) k i l = subst (In k) (sym e) (in_kept (has_other id) ks k i (ap not l))
+
+ids_by : (hs : List Held) → map (λ (k : Key). k.physical) (keys_in hs) ≡ map (λ h. h.physical) hs
+ids_by hs = keys_mapped key_of (λ (k : Key). k.physical) (λ h. h.physical) hs (λ h. refl)
+
+pub differ_keyed : (hs gs : List Held) → Keyed (keys_in hs) (keys_in gs) → all_differ bytes_eq (map (λ h. h.physical) hs) ≡ true → all_differ bytes_eq (map (λ h. h.physical) gs) ≡ true
+differ_keyed hs gs k d = ap (all_differ bytes_eq) (sym (ids_by gs)) ∙ by k (ap (all_differ bytes_eq) (ids_by hs) ∙ d) where
+  by : Keyed (keys_in hs) (keys_in gs) → all_differ bytes_eq (map (λ (k : Key). k.physical) (keys_in hs)) ≡ true → all_differ bytes_eq (map (λ (k : Key). k.physical) (keys_in gs)) ≡ true
+  by (stay e) h = ap (λ ks. all_differ bytes_eq (map (λ (k : Key). k.physical) ks)) e ∙ h
+  by (one_less id e) h = ap (λ ks. all_differ bytes_eq (map (λ (k : Key). k.physical) ks)) e ∙ differ_less bytes_eq (λ (k : Key). k.physical) (has_other id) (keys_in hs) h
+
+-- a change that keeps the keys
+abbrev pub KeepsKey : (Held → Held) → Type 0
+KeepsKey f = (h : Held) → key_of (f h) ≡ key_of h
+
+pub keys_changed : (f : Held → Held) → KeepsKey f → (hs : List Held) → keys_in (map f hs) ≡ keys_in hs
+keys_changed f k hs = keys_mapped f key_of key_of hs k
+
+keys_first : (test : Held → Bool) (f : Held → Held) → KeepsKey f → (hs : List Held) → keys_in (change_first test f hs) ≡ keys_in hs
+keys_first test f k [] = refl
+keys_first test f k (h ∷ hs) = by (test h) (keys_first test f k hs) where
+  by : (b : Bool) → keys_in (change_first test f hs) ≡ keys_in hs → keys_in (cond b (f h ∷ hs) (h ∷ change_first test f hs)) ≡ keys_in (h ∷ hs)
+  by true e = ap (λ x. x ∷ keys_in hs) (k h)
+  by false e = ap (λ xs. key_of h ∷ xs) e
+
+keys_two : (hs gs hs' gs' : List Held) → keys_in hs' ≡ keys_in hs → keys_in gs' ≡ keys_in gs → keys_in (hs' ++ gs') ≡ keys_in (hs ++ gs)
+keys_two hs gs hs' gs' e f = map-append key_of hs' gs' ∙ ap (λ ks. ks ++ keys_in gs') e ∙ ap (λ ks. keys_in hs ++ ks) f ∙ sym (map-append key_of hs gs)
+
+pub keys_each : (f : Held → Held) → KeepsKey f → (hs gs : List Held) → keys_in (map f hs ++ map f gs) ≡ keys_in (hs ++ gs)
+keys_each f k hs gs = keys_two hs gs (map f hs) (map f gs) (keys_changed f k hs) (keys_changed f k gs)
+
+pub keys_front : (f : Held → Held) → KeepsKey f → (hs gs : List Held) → keys_in (map f hs ++ gs) ≡ keys_in (hs ++ gs)
+keys_front f k hs gs = keys_two hs gs (map f hs) gs (keys_changed f k hs) refl
+
+pub keys_joined : (f : Held → Held) → KeepsKey f → (hs : List Held) → keys_in (map f hs ++ []) ≡ keys_in hs
+keys_joined f k hs = ap keys_in (append-nil (map f hs)) ∙ keys_changed f k hs
+
+-- one resource is changed
+pub keys_changing : (id : List ℕ) (f : Held → Held) → KeepsKey f → (s : StackState) → keys_of (changing id f s) ≡ keys_of s
+keys_changing id f k s = by (list_any (has_physical id) s.held) where
+  by : (b : Bool) → keys_of (cond b (record s { held = where_physical id f s.held }) (record s { made = where_physical id f s.made })) ≡ keys_of s
+  by true = keys_two s.held s.made (where_physical id f s.held) s.made (keys_first (has_physical id) f k s.held) refl
+  by false = keys_two s.held s.made s.held (where_physical id f s.made) refl (keys_first (has_physical id) f k s.made)
+
+-- one is taken off
+keys_without : (id : List ℕ) (hs : List Held) → keys_in (without id hs) ≡ filter (has_other id) (keys_in hs)
+keys_without id [] = refl
+keys_without id (h ∷ hs) = by (bytes_eq id h.physical) (keys_without id hs) where
+  by : (b : Bool) → keys_in (without id hs) ≡ filter (has_other id) (keys_in hs)
+      → keys_in (cond (not b) (h ∷ without id hs) (without id hs)) ≡ cond (not b) (key_of h ∷ filter (has_other id) (keys_in hs)) (filter (has_other id) (keys_in hs))
+  by true e = e
+  by false e = ap (λ ks. key_of h ∷ ks) e
+
+pub keys_deleted : (id : List ℕ) (s : StackState) → keys_of (deleting id s) ≡ filter (has_other id) (keys_of s)
+keys_deleted id s = ap keys_in (sym (filter-append (λ h. not (has_physical id h)) s.held s.made)) ∙ keys_without id (resources_of s)
+
+-- What stays of the rows of a ledger: each open call keeps its row.
+
+-- the same call
+pub record IsSameCall (c d : Call) : Type 0 where
+  pub number : d.number ≡ c.number
+  pub token : d.token ≡ c.token
+  pub lane : d.lane ≡ c.lane
+  pub path : d.path ≡ c.path
+  pub request : d.request ≡ c.request
+
+pub same_call : (c : Call) → IsSameCall c c
+same_call c = record { number = refl; token = refl; lane = refl; path = refl; request = refl }
+
+same_then : (c d e : Call) → IsSameCall c d → IsSameCall d e → IsSameCall c e
+same_then c d e h k = record {
+  number = k.number ∙ h.number;
+  token = k.token ∙ h.token;
+  lane = k.lane ∙ h.lane;
+  path = k.path ∙ h.path;
+  request = k.request ∙ h.request;
+}
+
+-- of these rows those are left, where these calls are open
+pub record AreRowsLeft (ps : List Pending) (cs ds : List Call) : Type 0 where
+  pub row :
+      (p : Pending) → In p ps → (c : Call) → find (is_call p.token) cs ≡ Some c → c.answer ≡ None → (d : Call) × (find (is_call p.token) ds ≡ Some d)
+      × IsSameCall c d × (d.answer ≡ None)
+  pub tokens : all_differ ◌==◌ (map (λ c. c.token) cs) ≡ true → all_differ ◌==◌ (map (λ c. c.token) ds) ≡ true
+  pub from : (d : Call) → In d ds → (c : Call) × In c cs × IsSameCall c d
+
+pub rows_same : (ps : List Pending) (cs : List Call) → AreRowsLeft ps cs cs
+rows_same ps cs = record { row = λ p i c e n. (c, e, same_call c, n); tokens = λ d. d; from = λ d i. (d, i, same_call d) }
+
+pub rows_then : (ps : List Pending) (cs ds es : List Call) → AreRowsLeft ps cs ds → AreRowsLeft ps ds es → AreRowsLeft ps cs es
+rows_then ps cs ds es h k = record {
+  row = λ p i c e n.
+      let (d, f, s, m) = h.row p i c e n in
+      let (b, g, r, o) = k.row p i d f m in
+      (b, g, same_then c d b s r, o);
+  tokens = λ d. k.tokens (h.tokens d);
+  from = λ e i.
+      let (d, j, r) = k.from e i in
+      let (c, l, s) = h.from d j in
+      (c, l, same_then c d e s r);
+}
+
+-- rows that change one by one
+pub rows_mapped :
+    (ps : List Pending) (f : Call → Call) → ((c : Call) → IsSameCall c (f c)) → ((p : Pending) (c : Call) → In p ps → p.token ≡ c.token → c.answer ≡ None → (f c).answer ≡ None)
+    → (cs : List Call) → AreRowsLeft ps cs (map f cs)
+rows_mapped ps f same open_ cs = record {
+  row = λ p i c e n. (
+    f c,
+    find_mapped (is_call p.token) f cs (λ d. ap (λ t. p.token == t) (same d).token) ∙ ap (option_map f) e,
+    same c,
+    open_ p c i (eqb-true p.token c.token (found_one (is_call p.token) cs c e).1) n,
+  );
+  tokens = λ d. ap (all_differ ◌==◌) (keys_mapped f (λ c. c.token) (λ c. c.token) cs (λ c. (same c).token)) ∙ d;
+  from = λ d i.
+      let (c, j, e) = from_mapped f cs d i in
+      (c, j, subst (IsSameCall c) e (same c));
+}
+
+pub rows_anew : (ps : List Pending) (cs : List Call) → AreRowsLeft ps cs (map anew cs)
+rows_anew ps cs = rows_mapped ps anew (λ c. record { number = refl; token = refl; lane = refl; path = refl; request = refl }) (λ p c i e n. n) cs
+
+-- those of the open calls alone
+pub rows_open : (ps : List Pending) (cs : List Call) → AreRowsLeft ps cs (filter (is_open_call ps) cs)
+rows_open ps cs = record {
+  row = λ p i c e n.
+      let t = eqb-true p.token c.token (found_one (is_call p.token) cs c e).1 in
+      (c, find_left (is_call p.token) (is_open_call ps) cs c e (any_of (has_token c.token) ps p i (eq-eqb c.token p.token (sym t))), same_call c, n);
+  tokens = λ d. differ_less ◌==◌ (λ c. c.token) (is_open_call ps) cs d;
+  from = λ d i. (d, (in_filter (is_open_call ps) cs d i).0, same_call d);
+}
+
+-- A call that is answered: its row has the answer, and it is not open any more, but where it is in doubt.
+pub still_in : (token : ℕ) (a : Reply) (ps : List Pending) (p : Pending) → In p (still_open token a ps) → In p ps
+still_in token (reply.Success physical attrs) ps p i = (in_filter (λ q. not (has_token token q)) ps p i).0
+still_in token (reply.Failed c) ps p i = (in_filter (λ q. not (has_token token q)) ps p i).0
+still_in token reply.Doubt ps p i = i
+
+pub still_differ : (token : ℕ) (a : Reply) (ps : List Pending) → all_differ ◌==◌ (map (λ p. p.token) ps) ≡ true → all_differ ◌==◌ (map (λ p. p.token) (still_open token a ps)) ≡ true
+still_differ token (reply.Success physical attrs) ps d = differ_less ◌==◌ (λ p. p.token) (λ q. not (has_token token q)) ps d
+still_differ token (reply.Failed c) ps d = differ_less ◌==◌ (λ p. p.token) (λ q. not (has_token token q)) ps d
+still_differ token reply.Doubt ps d = d
+
+closed_other : (token : ℕ) (ps : List Pending) (p : Pending) → In p (without_token token ps) → token ≡ p.token → ⊥
+closed_other token ps p i e =
+    let z : (token == p.token) ≡ false = not-true (token == p.token) (in_filter (λ q. not (has_token token q)) ps p i).1 in
+    true≢false (sym (eq-eqb token p.token e) ∙ z)
+
+pub same_answered : (a : Reply) (c : Call) → IsSameCall c (answered_call a c)
+same_answered (reply.Success physical attrs) c = record { number = refl; token = refl; lane = refl; path = refl; request = refl }
+same_answered (reply.Failed k) c = record { number = refl; token = refl; lane = refl; path = refl; request = refl }
+same_answered reply.Doubt c = record { number = refl; token = refl; lane = refl; path = refl; request = refl }
+
+pub rows_answered : (token : ℕ) (a : Reply) (ps : List Pending) (cs : List Call) → AreRowsLeft (still_open token a ps) cs (where_call token (answered_call a) cs)
+rows_answered token a ps cs = rows_mapped (still_open token a ps) (λ c. cond (is_call token c) (answered_call a c) c) (λ c. same c (is_call token c)) (λ p c i e n. open_ p c (is_call token c) refl i e n) cs where
+  same : (c : Call) (b : Bool) → IsSameCall c (cond b (answered_call a c) c)
+  same c true = same_answered a c
+  same c false = same_call c
+
+  by : (b : Reply) (p : Pending) (c : Call) → token ≡ c.token → In p (still_open token b ps) → p.token ≡ c.token → c.answer ≡ None → (answered_call b c).answer ≡ None
+  by (reply.Success physical attrs) p c t i e n = absurd (closed_other token ps p i (t ∙ sym e))
+  by (reply.Failed k) p c t i e n = absurd (closed_other token ps p i (t ∙ sym e))
+  by reply.Doubt p c t i e n = n
+
+  open_ : (p : Pending) (c : Call) (b : Bool) → is_call token c ≡ b → In p (still_open token a ps) → p.token ≡ c.token → c.answer ≡ None → (cond b (answered_call a c) c).answer ≡ None
+  open_ p c true t i e n = by a p c (eqb-true token c.token t) i e n
+  open_ p c false t i e n = n
+
+-- A stack fits after a change that leaves of its calls and resources what it does.
+
+-- no call is new, and no resource
+pub record IsLess (s t : StackState) : Type 0 where
+  pub keyed : Keyed (keys_of s) (keys_of t)
+  pub left : (p : Pending) (i : List ℕ) → In p t.tokens → id_named p.request ≡ Some i → IsLeft keyed i
+  pub open_ : (p : Pending) → In p t.tokens → In p s.tokens
+  pub tokens : all_differ ◌==◌ (map (λ p. p.token) s.tokens) ≡ true → all_differ ◌==◌ (map (λ p. p.token) t.tokens) ≡ true
+  pub rows : AreRowsLeft t.tokens s.ledger t.ledger
+  pub operation : s.operation ≤ t.operation
+
+-- a resource of a stack is one of another, where the keys are
+pub with_key : (s : StackState) (k : Key) → In k (keys_of s) → (r : Held) × In r (resources_of s) × (key_of r ≡ k)
+with_key s k i = from_mapped key_of (resources_of s) k i
+
+pub lane_by : (lanes : List (List ℕ × List ℕ)) (q r : Held) → key_of q ≡ key_of r → IsNamedLane lanes q.physical q.kind → IsNamedLane lanes r.physical r.kind
+lane_by lanes q r e h = subst (λ (k : Key). IsNamedLane lanes k.physical k.kind) e h
+
+module _ (x y : World) (s t : StackState) (h : Fits x s) where
+  pub fits_less : IsLess s t → HasLanes y.lanes s → x.token ≤ y.token → Fits y t
+  fits_less d lanes more = record {
+    ids = differ_keyed (resources_of s) (resources_of t) d.keyed h.ids;
+    tokens = d.tokens h.tokens;
+    paths = λ p q i j e. h.paths p q (d.open_ p i) (d.open_ q j) e;
+    named = λ p id i e.
+        let (r, j, f, g) = h.named p id (d.open_ p i) e in
+        let (q, k, m) = with_key t (key_of r) (still_keyed d.keyed (key_of r) (into_mapped key_of (resources_of s) r j) (subst (IsLeft d.keyed) (sym f) (d.left p id i e))) in
+        (q, k, ap (λ (z : Key). z.physical) m ∙ f, ap (λ (z : Key). z.path) m ∙ g);
+    rows = λ p i.
+        let (c, e, r) = h.rows p (d.open_ p i) in
+        let (b, f, m, n) = (d.rows).row p i c e r.unanswered in
+        (b, f, record { lane = m.lane ∙ r.lane; path = m.path ∙ r.path; request = m.request ∙ r.request; unanswered = n });
+    row_tokens = (d.rows).tokens h.row_tokens;
+    last = λ b i.
+        let (c, j, m) = (d.rows).from b i in
+        let low : c.token ≤ x.token = h.last c j in
+        let same : b.token ≡ c.token = m.token in
+        omega (arith, low, same, more);
+    numbers = λ b i.
+        let (c, j, m) = (d.rows).from b i in
+        let low : c.number ≤ s.operation = h.numbers c j in
+        let same : b.number ≡ c.number = m.number in
+        let up : s.operation ≤ t.operation = d.operation in
+        omega (arith, low, same, up);
+    lanes = (
+      λ r i.
+          let (q, j, e) = with_key s (key_of r) (in_keyed d.keyed (key_of r) (into_mapped key_of (resources_of t) r i)) in
+          lane_by y.lanes q r e (lanes.0 q j),
+      λ p i. lanes.1 p (d.open_ p i),
+    );
+  }
+
+  -- one resource more, of a new id
+  pub fits_made :
+      (r : Held) → resources_of t ≡ resources_of s ++ r ∷ [] → ((q : Held) → In q (resources_of s) → q.physical ≡ r.physical → ⊥) → IsNamedLane x.lanes r.physical r.kind
+      → t.tokens ≡ s.tokens → t.ledger ≡ s.ledger → t.operation ≡ s.operation → Fits x t
+  fits_made r made new lane tokens ledger operation = record {
+    ids = ap (λ hs. all_differ bytes_eq (map (λ (g : Held). g.physical) hs)) made
+        ∙ differ_end bytes_eq (λ (g : Held). g.physical) (resources_of s) r (λ q i. none_false _ (λ e. new q i ((bytes_eq-Decides q.physical r.physical).0 e))) h.ids;
+    tokens = ap (λ ps. all_differ ◌==◌ (map (λ (p : Pending). p.token) ps)) tokens ∙ h.tokens;
+    paths = λ p q i j. h.paths p q (subst (In p) tokens i) (subst (In q) tokens j);
+    named = λ p id i e.
+        let (q, j, f, g) = h.named p id (subst (In p) tokens i) e in
+        (q, subst (In q) (sym made) (in_front q (resources_of s) (r ∷ []) j), f, g);
+    rows = λ p i.
+        let (c, e, f) = h.rows p (subst (In p) tokens i) in
+        (c, ap (find (is_call p.token)) ledger ∙ e, f);
+    row_tokens = ap (λ cs. all_differ ◌==◌ (map (λ (c : Call). c.token) cs)) ledger ∙ h.row_tokens;
+    last = λ c i. h.last c (subst (In c) ledger i);
+    numbers = λ c i. subst (λ n. c.number ≤ n) (sym operation) (h.numbers c (subst (In c) ledger i));
+    lanes = (
+      λ q i. in_more (λ (z : Held). IsNamedLane x.lanes z.physical z.kind) r (resources_of s) (λ z j. (h.lanes).0 z j) lane q (subst (In q) made i),
+      λ p i. (h.lanes).1 p (subst (In p) tokens i),
+    );
+  }
+
+  -- no call has a token above the last
+  none_above : (t : ℕ) → t ≡ x.token + 1 → (c : Call) → In c s.ledger → t ≡ c.token → ⊥
+  none_above t new c i e = let low : c.token ≤ x.token = h.last c i in omega (arith, low, new, e)
+
+  pub none_open : (t : ℕ) → t ≡ x.token + 1 → (p : Pending) → In p s.tokens → t ≡ p.token → ⊥
+  none_open t new p i e =
+      let (c, f, m) = h.rows p i in
+      let (j, k) = found_one (is_call p.token) s.ledger c f in
+      none_above t new c j (e ∙ eqb-true p.token c.token k)
+
+  -- one call more, of the next token
+  module _ (number : ℕ) (state : Status) (p : Pending) (new : p.token ≡ x.token + 1) (tokens : t.tokens ≡ s.tokens ++ p ∷ []) (ledger : t.ledger ≡ s.ledger ++ new_call number state p ∷ []) where
+    found_new : find (is_call p.token) (s.ledger ++ new_call number state p ∷ []) ≡ Some (new_call number state p)
+    found_new = found_in_more (is_call p.token) s.ledger (new_call number state p) (eq-eqb p.token p.token refl) (none (find (is_call p.token) s.ledger) refl) where
+      none : (o : Option Call) → find (is_call p.token) s.ledger ≡ o → o ≡ None
+      none None e = refl
+      none (Some c) e = let (i, k) = found_one (is_call p.token) s.ledger c e in absurd (none_above p.token new c i (eqb-true p.token c.token k))
+
+    abbrev HasRow : Pending → Type 0
+    HasRow q = (c : Call) × (find (is_call q.token) (s.ledger ++ new_call number state p ∷ []) ≡ Some c) × IsRowOf q c
+
+    abbrev HasNamed : Pending → Type 0
+    HasNamed q = (id : List ℕ) → id_named q.request ≡ Some id → (r : Held) × In r (resources_of s) × (r.physical ≡ id) × (r.path ≡ q.path)
+
+    pub fits_called :
+        resources_of t ≡ resources_of s → t.operation ≡ s.operation → number ≤ s.operation → y.lanes ≡ x.lanes → y.token ≡ p.token
+        → ((q : Pending) → In q s.tokens → p.path ≡ q.path → ⊥) → HasNamed p → (l : List ℕ × List ℕ) → In l x.lanes → IsLaneFor p l → Fits y t
+    fits_called same operation low lanes token free names l l_in l_for = record {
+      ids = ap (λ hs. all_differ bytes_eq (map (λ (g : Held). g.physical) hs)) same ∙ h.ids;
+      tokens = ap (λ ps. all_differ ◌==◌ (map (λ (q : Pending). q.token) ps)) tokens
+          ∙ differ_end ◌==◌ (λ (q : Pending). q.token) s.tokens p (λ q i. none_false _ (λ e. none_open p.token new q i (sym (eqb-true q.token p.token e)))) h.tokens;
+      paths = λ q r i j e. paths_more q r (subst (In q) tokens i) (subst (In r) tokens j) e;
+      named = λ q id i e.
+          let (r, j, f, g) = in_more HasNamed p s.tokens (λ z k id e. h.named z id k e) names q (subst (In q) tokens i) id e in
+          (r, subst (In r) (sym same) j, f, g);
+      rows = λ q i.
+          let (c, e, f) = in_more HasRow p s.tokens row_still (new_call number state p, found_new, record { lane = refl; path = refl; request = refl; unanswered = refl }) q (subst (In q) tokens i) in
+          (c, ap (find (is_call q.token)) ledger ∙ e, f);
+      row_tokens = ap (λ cs. all_differ ◌==◌ (map (λ (c : Call). c.token) cs)) ledger
+          ∙ differ_end ◌==◌ (λ (c : Call). c.token) s.ledger (new_call number state p) (λ c i. none_false _ (λ e. none_above p.token new c i (sym (eqb-true c.token p.token e)))) h.row_tokens;
+      last = λ c i. subst (λ n. c.token ≤ n) (sym token) (in_more (λ (z : Call). z.token ≤ p.token) (new_call number state p) s.ledger
+          (λ z j. let lower : z.token ≤ x.token = h.last z j in omega (arith, lower, new)) (omega arith) c (subst (In c) ledger i));
+      numbers = λ c i. subst (λ n. c.number ≤ n) (sym operation) (in_more (λ (z : Call). z.number ≤ s.operation) (new_call number state p) s.ledger h.numbers low c (subst (In c) ledger i));
+      lanes = (
+        λ r i. subst (λ ls. IsNamedLane ls r.physical r.kind) (sym lanes) ((h.lanes).0 r (subst (In r) same i)),
+        λ q i. subst (λ ls. (m : List ℕ × List ℕ) × In m ls × IsLaneFor q m) (sym lanes)
+            (in_more (λ (z : Pending). (m : List ℕ × List ℕ) × In m x.lanes × IsLaneFor z m) p s.tokens (h.lanes).1 (l, l_in, l_for) q (subst (In q) tokens i)),
+      );
+    } where
+      row_still : (q : Pending) → In q s.tokens → HasRow q
+      row_still q i = let (c, e, f) = h.rows q i in (c, found_still (is_call q.token) s.ledger (new_call number state p ∷ []) c e, f)
+
+      paths_more : (q r : Pending) → In q (s.tokens ++ p ∷ []) → In r (s.tokens ++ p ∷ []) → q.path ≡ r.path → q ≡ r
+      paths_more q r i j e =
+          in_more (λ (z : Pending). z.path ≡ r.path → z ≡ r) p s.tokens
+          (λ z k f. in_more (λ (w : Pending). z.path ≡ w.path → z ≡ w) p s.tokens (λ w m. h.paths z w k m) (λ g. absurd (free z k (sym g))) r j f)
+          (λ f. in_more (λ (w : Pending). p.path ≡ w.path → p ≡ w) p s.tokens (λ w m g. absurd (free w m g)) (λ g. refl) r j f)
+          q i e
+
+-- What each entry leaves of its stack's calls and resources.
+
+pub same_number : (n : ℕ) → n ≤ n
+same_number n = omega arith
+
+-- the stack hears of an entry
+pub less_heard : (s u : StackState) (es : List Entry) (lines : List (List ℕ)) → IsLess s u → IsLess s (record u { entries = es; events = lines })
+less_heard s u es lines h = record { keyed = h.keyed; left = h.left; open_ = h.open_; tokens = h.tokens; rows = h.rows; operation = h.operation }
+
+-- calls and resources stay, and so do rows or they count anew
+module _ (s t : StackState) where
+  pub less_stay : keys_of t ≡ keys_of s → t.tokens ≡ s.tokens → AreRowsLeft s.tokens s.ledger t.ledger → s.operation ≤ t.operation → IsLess s t
+  less_stay keys tokens rows op = record {
+    keyed = stay keys;
+    left = λ p i j e. tt;
+    open_ = λ p i. subst (In p) tokens i;
+    tokens = λ d. ap (λ ps. all_differ ◌==◌ (map (λ (p : Pending). p.token) ps)) tokens ∙ d;
+    rows = subst (λ ps. AreRowsLeft ps s.ledger t.ledger) (sym tokens) rows;
+    operation = op;
+  }
+
+  -- some calls are given up
+  pub less_open : (test : Pending → Bool) (k : Keyed (keys_of s) (keys_of t)) → ((p : Pending) (i : List ℕ) → test p ≡ true → id_named p.request ≡ Some i → IsLeft k i)
+      → t.tokens ≡ filter test s.tokens → AreRowsLeft t.tokens s.ledger t.ledger → s.operation ≤ t.operation → IsLess s t
+  less_open test k left tokens rows op = record {
+    keyed = k;
+    left = λ p i j e. left p i (in_filter test s.tokens p (subst (In p) tokens j)).1 e;
+    open_ = λ p i. (in_filter test s.tokens p (subst (In p) tokens i)).0;
+    tokens = λ d. ap (λ ps. all_differ ◌==◌ (map (λ (p : Pending). p.token) ps)) tokens ∙ differ_less ◌==◌ (λ (p : Pending). p.token) test s.tokens d;
+    rows = rows;
+    operation = op;
+  }
+
+-- a change of what is held at skipped paths
+keeps_before : (o : Option Held) (h : Held) → key_of (as_before o h) ≡ key_of h
+keeps_before None h = refl
+keeps_before (Some b) h = refl
+
+pub keeps_skipped : (paths : List (List ℕ)) (before : List Held) → KeepsKey (skipped_in paths before)
+keeps_skipped paths before h = by (is_among h.path paths) where
+  by : (b : Bool) → key_of (cond b (as_before (find (has_physical h.physical) before) h) h) ≡ key_of h
+  by true = keeps_before (find (has_physical h.physical) before) h
+  by false = refl
+
+-- an operation begins: a creation or an update where nothing is made
+abbrev pub HasNoneMade : Begun → StackState → Type 0
+HasNoneMade (begin.Create source) s = s.made ≡ []
+HasNoneMade (begin.Update source) s = s.made ≡ []
+HasNoneMade (begin.Delete paths) s = Unit {0}
+HasNoneMade (begin.Continue paths) s = Unit {0}
+
+rows_begun : (s : StackState) → AreRowsLeft s.tokens s.ledger (map anew (filter (is_open_call s.tokens) s.ledger))
+rows_begun s = rows_then s.tokens s.ledger (filter (is_open_call s.tokens) s.ledger) (map anew (filter (is_open_call s.tokens) s.ledger)) (rows_open s.tokens s.ledger) (rows_anew s.tokens (filter (is_open_call s.tokens) s.ledger))
+
+pub less_begun : (name : List ℕ) (number : ℕ) (k : Begun) (s : StackState) → s.operation ≤ number → HasNoneMade k s → IsLess s (beginning name number k s)
+less_begun name number (begin.Create source) s up none =
+    less_stay s (beginning name number (begin.Create source) s) (ap (λ ms. keys_in (s.held ++ ms)) (sym none)) refl (rows_begun s) up
+less_begun name number (begin.Update source) s up none =
+    less_stay s (beginning name number (begin.Update source) s) (ap (λ ms. keys_in (s.held ++ ms)) (sym none)) refl (rows_begun s) up
+less_begun name number (begin.Delete paths) s up none = less_stay s (beginning name number (begin.Delete paths) s) refl refl (rows_begun s) up
+less_begun name number (begin.Continue paths) s up none =
+    less_open s (beginning name number (begin.Continue paths) s) (λ p. not (is_among p.path paths))
+    (stay (keys_front (skipped_in paths s.before) (keeps_skipped paths s.before) s.held s.made)) (λ p i t e. tt) refl
+    (rows_anew (filter (λ (p : Pending). not (is_among p.path paths)) s.tokens) s.ledger) up
+
+-- a resource is kept, or the open create of a path is given up
+is_on_other : (id : List ℕ) (p : Pending) (i : List ℕ) → not (is_on id p) ≡ true → id_named p.request ≡ Some i → bytes_eq id i ≡ false
+is_on_other id p i t e = sym (ap (λ o. option_map_or (bytes_eq id) o false) e) ∙ not-true (is_on id p) t
+
+pub less_kept : (path id : List ℕ) (w : Why) (s : StackState) → IsLess s (keeping path id w s)
+less_kept path id w s = by (bytes_eq id []) (list_any (is_create_at path) s.tokens) (list_any (has_physical id) (resources_of s)) where
+  same : IsLess s s
+  same = less_stay s s refl refl (rows_same s.tokens s.ledger) (same_number s.operation)
+
+  open_rows : (ps : List Pending) → AreRowsLeft ps s.ledger s.ledger
+  open_rows ps = rows_same ps s.ledger
+
+  known : IsLess s (keeping_known path id w s)
+  known = less_open s (keeping_known path id w s) (λ p. not (is_on id p)) (one_less id (keys_deleted id s)) (λ p i t e. is_on_other id p i t e) refl
+      (open_rows (filter (λ (p : Pending). not (is_on id p)) s.tokens)) (same_number s.operation)
+
+  unknown : IsLess s (keeping_unknown path w s)
+  unknown = less_open s (keeping_unknown path w s) (λ p. not (is_create_at path p)) (stay refl) (λ p i t e. tt) refl
+      (open_rows (filter (λ (p : Pending). not (is_create_at path p)) s.tokens)) (same_number s.operation)
+
+  by : (a b c : Bool) → IsLess s (cond a (cond b (keeping_unknown path w s) s) (cond c (keeping_known path id w s) s))
+  by true true c = unknown
+  by true false c = same
+  by false b true = known
+  by false b false = same
+
+-- a later phase
+-- what leaves a resource's id and what is told of it keeps its key
+abbrev keyed : List ℕ → Thing → Key
+keyed i t = record { path = t.path; physical = i; kind = t.kind }
+
+keeps_thing : (f : Held → Held) → LeavesThing f → KeepsKey f
+keeps_thing f l h = ap (keyed (f h).physical) (l.thing [] h) ∙ ap (λ i. keyed i (thing_of [] h)) (l.physical h)
+
+pub less_turned : (p : Phase) (s : StackState) → IsLess s (turned_effect p s).stack
+less_turned phase.Clean s =
+    less_stay s (turned_effect phase.Clean s).stack (keys_joined (settled_in (whole_now s) (turning phase.Clean s)) (keeps_thing (settled_in (whole_now s) (turning phase.Clean s)) (settled_leaves (whole_now s) (turning phase.Clean s))) (resources_of s)) refl (rows_anew s.tokens s.ledger) (same_number s.operation)
+less_turned phase.Back s = less_stay s (turned_effect phase.Back s).stack refl refl (rows_anew s.tokens s.ledger) (same_number s.operation)
+less_turned phase.BackClean s = less_stay s (turned_effect phase.BackClean s).stack refl refl (rows_anew s.tokens s.ledger) (same_number s.operation)
+
+-- an end
+keys_stopped : (state : Status) (s : StackState) → keys_of (stopping state s) ≡ keys_of s
+keys_stopped state s = keys_each (marked s.tokens) (keeps_thing (marked s.tokens) (marked_leaves s.tokens)) s.held s.made
+
+pub less_ended : (state : Status) (s : StackState) → IsLess s (ended_effect state s).stack
+less_ended status.CreateComplete s =
+    let u = stopping status.CreateComplete s in
+    less_stay s (ended_effect status.CreateComplete s).stack (keys_joined (settled_in (whole_now u) u) (keeps_thing (settled_in (whole_now u) u) (settled_leaves (whole_now u) u)) (resources_of u) ∙ keys_stopped status.CreateComplete s) refl (rows_same s.tokens s.ledger) (same_number s.operation)
+less_ended status.RollbackFailed s =
+    less_stay s (ended_effect status.RollbackFailed s).stack (ap keys_in (append-nil (resources_of (stopping status.RollbackFailed s))) ∙ keys_stopped status.RollbackFailed s) refl (rows_same s.tokens s.ledger) (same_number s.operation)
+less_ended status.UpdateRollbackComplete s = less_stay s (ended_effect status.UpdateRollbackComplete s).stack (keys_stopped status.UpdateRollbackComplete s) refl (rows_same s.tokens s.ledger) (same_number s.operation)
+less_ended status.RollbackComplete s = less_stay s (ended_effect status.RollbackComplete s).stack (keys_stopped status.RollbackComplete s) refl (rows_same s.tokens s.ledger) (same_number s.operation)
+less_ended status.DeleteComplete s = less_stay s (ended_effect status.DeleteComplete s).stack (keys_stopped status.DeleteComplete s) refl (rows_same s.tokens s.ledger) (same_number s.operation)
+less_ended state s = less_stay s (ended_effect state s).stack (keys_stopped state s) refl (rows_same s.tokens s.ledger) (same_number s.operation)
+
+-- A stack fits after the answer to one of its open calls.
+
+-- the calls stay
+pub record IsSameBut (s u : StackState) : Type 0 where
+  pub tokens : u.tokens ≡ s.tokens
+  pub ledger : u.ledger ≡ s.ledger
+  pub operation : u.operation ≡ s.operation
+
+same_self : (s : StackState) → IsSameBut s s
+same_self s = record { tokens = refl; ledger = refl; operation = refl }
+
+same_changing : (id : List ℕ) (f : Held → Held) (s : StackState) → IsSameBut s (changing id f s)
+same_changing id f s = by (list_any (has_physical id) s.held) where
+  by : (b : Bool) → IsSameBut s (cond b (record s { held = where_physical id f s.held }) (record s { made = where_physical id f s.made }))
+  by true = record { tokens = refl; ledger = refl; operation = refl }
+  by false = record { tokens = refl; ledger = refl; operation = refl }
+
+-- What an answer leaves of the resources: they stay, or that which was to be deleted is gone, or one more is made.
+pub data IsLeftBy (s : StackState) (path : List ℕ) : Request → Reply → StackState → Type 0 where
+  same : {r : Request} {a : Reply} {u : StackState} → IsSameBut s u → keys_of u ≡ keys_of s → IsLeftBy s path r a u
+  gone : {r : Request} {a : Reply} {u : StackState} (id : List ℕ) → IsSameBut s u → id_named r ≡ Some id → (a ≡ reply.Doubt → ⊥) → keys_of u ≡ filter (has_other id) (keys_of s) → IsLeftBy s path r a u
+  made : {u : StackState} (k id : List ℕ) (props attrs : List (List ℕ × Data)) (h : Held) → IsSameBut s u → resources_of u ≡ resources_of s ++ h ∷ [] → h.physical ≡ id → h.kind ≡ k
+      → IsLeftBy s path (request.Create k props) (reply.Success id attrs) u
+
+by_change : (s : StackState) (path : List ℕ) (r : Request) (a : Reply) (id : List ℕ) (f : Held → Held) → ((h : Held) → key_of (f h) ≡ key_of h) → IsLeftBy s path r a (changing id f s)
+by_change s path r a id f k = same (same_changing id f s) (keys_changing id f k s)
+
+by_deletion : (s : StackState) (path : List ℕ) (a : Reply) (id : List ℕ) → (a ≡ reply.Doubt → ⊥) → IsLeftBy s path (request.Delete id) a (deleting id s)
+by_deletion s path a id n = gone id (record { tokens = refl; ledger = refl; operation = refl }) refl n (keys_deleted id s)
+
+by_refusal : (restores : Bool) (s : StackState) (path id : List ℕ) (c : Code) → IsLeftBy s path (request.Delete id) (reply.Failed c) (answered restores path (request.Delete id) (reply.Failed c) s)
+by_refusal restores s path id code.NotFound = by_deletion s path (reply.Failed code.NotFound) id (λ e. let no : ⊥ = cc in no)
+by_refusal restores s path id c = by_change s path (request.Delete id) (reply.Failed c) id (λ h. record h { status = held.DeleteFailed }) (λ h. refl)
+
+pub left_by : (restores : Bool) (path : List ℕ) (r : Request) (a : Reply) (s : StackState) → IsLeftBy s path r a (answered restores path r a s)
+left_by restores path (request.Create k props) (reply.Success id attrs) s =
+    made k id props attrs (made_of (terms_at path s) (status_made (current_at path s.held)) path k props id attrs) (record { tokens = refl; ledger = refl; operation = refl })
+    (sym (append_assoc s.held s.made (made_of (terms_at path s) (status_made (current_at path s.held)) path k props id attrs ∷ []))) refl refl
+left_by restores path (request.Update id props) (reply.Success physical attrs) s = by_change s path (request.Update id props) (reply.Success physical attrs) id (updating props attrs) (λ h. refl)
+left_by restores path (request.Update id props) (reply.Failed c) s = by restores where
+  by : (b : Bool) → IsLeftBy s path (request.Update id props) (reply.Failed c) (cond b (with_status id held.UpdateFailed s) s)
+  by true = by_change s path (request.Update id props) (reply.Failed c) id (λ h. record h { status = held.UpdateFailed }) (λ h. refl)
+  by false = same (same_self s) refl
+left_by restores path (request.Delete id) (reply.Success physical attrs) s = by_deletion s path (reply.Success physical attrs) id (λ e. let no : ⊥ = cc in no)
+left_by restores path (request.Delete id) (reply.Failed c) s = by_refusal restores s path id c
+left_by restores path r a s = same (same_self s) refl
+
+still_other : (token : ℕ) (a : Reply) (ps : List Pending) (p : Pending) → (a ≡ reply.Doubt → ⊥) → In p (still_open token a ps) → token ≡ p.token → ⊥
+still_other token (reply.Success physical attrs) ps p n i e = true≢false (sym (eq-eqb token p.token e) ∙ not-true (token == p.token) (in_filter (λ q. not (has_token token q)) ps p i).1)
+still_other token (reply.Failed c) ps p n i e = true≢false (sym (eq-eqb token p.token e) ∙ not-true (token == p.token) (in_filter (λ q. not (has_token token q)) ps p i).1)
+still_other token reply.Doubt ps p n i e = n refl
+
+module _ (x y : World) (s : StackState) (h : Fits x s) (token : ℕ) (q : Pending) (found : pending_of token s ≡ Some q) (lanes : y.lanes ≡ x.lanes) (last : y.token ≡ x.token) where
+  -- no other open call names the id that this one names
+  not_named : (a : Reply) (id : List ℕ) → id_named q.request ≡ Some id → (a ≡ reply.Doubt → ⊥) → (p : Pending) (i : List ℕ) → In p (still_open token a s.tokens) → id_named p.request ≡ Some i → bytes_eq id i ≡ false
+  not_named a id e n p i j f = by (bytes_eq id i) refl where
+    by : (b : Bool) → bytes_eq id i ≡ b → b ≡ false
+    by false t = refl
+    by true t =
+        let (k, m) = found_one (has_token token) s.tokens q found in
+        let same : id ≡ i = (bytes_eq-Decides id i).0 t in
+        let (r, r_in, r_id, r_path) = h.named q id k e in
+        let (g, g_in, g_id, g_path) = h.named p i (still_in token a s.tokens p j) f in
+        let one : r ≡ g = one_id (λ (z : Held). z.physical) (resources_of s) h.ids r g r_in g_in (r_id ∙ same ∙ sym g_id) in
+        let path : q.path ≡ p.path = sym r_path ∙ ap (λ (z : Held). z.path) one ∙ g_path in
+        let call : q ≡ p = h.paths q p k (still_in token a s.tokens p j) path in
+        absurd (still_other token a s.tokens p n j (eqb-true token q.token m ∙ ap (λ (z : Pending). z.token) call))
+
+  -- the calls of what is left
+  less_closed : (a : Reply) (u : StackState) → IsSameBut s u → (k : Keyed (keys_of s) (keys_of u)) → ((p : Pending) (i : List ℕ) → In p (still_open token a s.tokens) → id_named p.request ≡ Some i → IsLeft k i) → IsLess s (closing token a u)
+  less_closed a u b k left = record {
+    keyed = k;
+    left = λ p i j. left p i (subst (λ ps. In p (still_open token a ps)) b.tokens j);
+    open_ = λ p i. still_in token a s.tokens p (subst (λ ps. In p (still_open token a ps)) b.tokens i);
+    tokens = λ d. ap (λ ps. all_differ ◌==◌ (map (λ (p : Pending). p.token) (still_open token a ps))) b.tokens ∙ still_differ token a s.tokens d;
+    rows = subst (λ cs. AreRowsLeft (still_open token a u.tokens) s.ledger (where_call token (answered_call a) cs)) (sym b.ledger)
+        (subst (λ ps. AreRowsLeft (still_open token a ps) s.ledger (where_call token (answered_call a) s.ledger)) (sym b.tokens) (rows_answered token a s.tokens s.ledger));
+    operation = let same : u.operation ≡ s.operation = b.operation in omega (arith, same);
+  }
+
+  last_kept : x.token ≤ y.token
+  last_kept = omega (arith, last)
+
+  lanes_kept : HasLanes y.lanes s
+  lanes_kept = subst (λ ls. HasLanes ls s) (sym lanes) h.lanes
+
+  pub fits_answered :
+      (a : Reply) (u : StackState) → IsLeftBy s q.path q.request a u
+      → ((id : List ℕ) (attrs : List (List ℕ × Data)) → a ≡ reply.Success id attrs → id_named q.request ≡ None → (IsOfLane q.lane id) × ((r : Held) → In r (resources_of s) → r.physical ≡ id → ⊥))
+      → Fits y (closing token a u)
+  fits_answered a u d new = by q.request a u refl refl d where
+    by : (r : Request) (b : Reply) (u : StackState) → q.request ≡ r → a ≡ b → IsLeftBy s q.path r b u → Fits y (closing token a u)
+    by r b u e f (same k keys) = fits_less x y s (closing token a u) h (less_closed a u k (stay keys) (λ p i j g. tt)) lanes_kept last_kept
+    by r b u e f (gone id k named n keys) =
+        fits_less x y s (closing token a u) h
+        (less_closed a u k (one_less id keys) (λ p i j g. not_named a id (ap id_named e ∙ named) (λ z. n (sym f ∙ z)) p i j g)) lanes_kept last_kept
+    by _ _ u e f (made k id props attrs g b made_is id_is kind_is) =
+        let (of, none) = new id attrs f (ap id_named e) in
+        let (l, l_in, (l_lane, l_kind)) = (h.lanes).1 q (found_one (has_token token) s.tokens q found).0 in
+        let closed = fits_less x y s (closing token a s) h (less_closed a s (same_self s) (stay refl) (λ p i j g. tt)) lanes_kept last_kept in
+        fits_made y y (closing token a s) (closing token a u) closed g made_is (λ r i m. none r i (m ∙ id_is))
+        (l, subst (In l) (sym lanes) l_in, subst (λ n. IsOfLane n g.physical) (sym l_lane) (subst (IsOfLane q.lane) (sym id_is) of), subst (λ r. IsKindFor r l.1) e l_kind ∙ sym kind_is)
+        (ap (still_open token a) b.tokens) (ap (where_call token (answered_call a)) b.ledger) b.operation
+
+-- Which stacks stand in the world after an entry, and what else it leaves.
+
+abbrev pub Found : Type 0
+Found = Option (List ℕ × StackState)
+
+abbrev pub put_by : World → Entry → Found → List (List ℕ × StackState)
+put_by x e o = option_map_or (λ (s : List ℕ × StackState). put s.0 (effect_at (x.place + 1) e s.1).stack x.stacks) o x.stacks
+
+abbrev pub world_left : World → Entry → Found → World
+world_left x e o = option_map_or (λ (s : List ℕ × StackState). leaving s.0 (effect_at (x.place + 1) e s.1) x) o x
+
+-- what an entry of one stack leaves
+pub record LeavesBy (x : World) (e : Entry) (o : Found) (y : World) : Type 0 where
+  pub stacks : y.stacks ≡ put_by x e o
+  pub lanes : y.lanes ≡ x.lanes
+  pub epoch : y.epoch ≡ x.epoch
+
+is_left : (x : World) (e : Entry) (o : Found) → LeavesBy x e o (world_left x e o)
+is_left x e None = record { stacks = refl; lanes = refl; epoch = refl }
+is_left x e (Some s) = record { stacks = refl; lanes = refl; epoch = refl }
+
+-- the last numbers are told besides
+also_left : (x : World) (e : Entry) (o : Found) (y : World) → y.stacks ≡ (world_left x e o).stacks → y.lanes ≡ (world_left x e o).lanes → y.epoch ≡ (world_left x e o).epoch → LeavesBy x e o y
+also_left x e o y a b c = let l = is_left x e o in record { stacks = a ∙ l.stacks; lanes = b ∙ l.lanes; epoch = c ∙ l.epoch }
+
+pub after_left : (x : World) (e : Entry) → is_opening e ≡ false → LeavesBy x e (stack_for e x) (world_after x e)
+after_left x (entry.Opened epoch lanes) n = absurd (true≢false n)
+after_left x e n = also_left x e (stack_for e x) (world_after x e) refl refl refl
+
+pub after_stacks : (x : World) (e : Entry) → is_opening e ≡ false → (world_after x e).stacks ≡ put_by x e (stack_for e x)
+after_stacks x e n = (after_left x e n).stacks
+
+pub after_lanes : (x : World) (e : Entry) → is_opening e ≡ false → (world_after x e).lanes ≡ x.lanes
+after_lanes x e n = (after_left x e n).lanes
+
+same_token : (x : World) (e : Entry) (o : Found) → (world_left x e o).token ≡ x.token
+same_token x e None = refl
+same_token x e (Some s) = refl
+
+pub after_token : (x : World) (e : Entry) → (world_after x e).token ≡ token_after e x.token
+after_token x (entry.Opened epoch lanes) = refl
+after_token x (entry.Intent number token lane path r) = refl
+after_token x e = same_token x e (stack_for e x)
+
+-- the stack that an entry is of is the one that is known by its name
+known_by : (x : World) (name : List ℕ) (s : StackState) → stack_at name x ≡ Some s → known_stack name x ≡ s
+known_by x name s e = ap (λ (o : Option StackState). unwrap_or o no_stack) e
+
+abbrev named : List ℕ → StackState → List ℕ × StackState
+named n s = (n, s)
+
+-- a beginning is of the stack of its name
+known_same : (x : World) (n name : List ℕ) (s : StackState) → Some (named n (known_stack n x)) ≡ Some (named name s) → (n ≡ name) × (known_stack n x ≡ s)
+known_same x n name s e = (ap (λ (o : Found). (unwrap_or o (n, s)).0) e, ap (λ (o : Found). (unwrap_or o (n, s)).1) e)
+
+there_known : (x : World) (n name : List ℕ) (s : StackState) (o : Option StackState) → stack_at n x ≡ o → option_map (named n) o ≡ Some (named name s) → (n ≡ name) × (known_stack n x ≡ s)
+there_known x n name s None f e = let none : ⊥ = cc in absurd none
+there_known x n name s (Some t) f e = known_same x n name s (ap (λ (z : StackState). Some (named n z)) (known_by x n t f) ∙ e)
+
+pub begun_known : (x : World) (number : ℕ) (n : List ℕ) (k : Begun) (name : List ℕ) (s : StackState) → stack_for (entry.Begin number n k) x ≡ Some (name, s) → (n ≡ name) × (known_stack n x ≡ s)
+begun_known x number n (begin.Create source) name s e = known_same x n name s e
+begun_known x number n (begin.Update source) name s e = there_known x n name s (stack_at n x) refl e
+begun_known x number n (begin.Delete paths) name s e = there_known x n name s (stack_at n x) refl e
+begun_known x number n (begin.Continue paths) name s e = there_known x n name s (stack_at n x) refl e
+
+pub stack_known : (x : World) → AreApart x → (e : Entry) (name : List ℕ) (s : StackState) → stack_for e x ≡ Some (name, s) → known_stack name x ≡ s
+stack_known x h e name s f = known_for x h.names name s e f
+
+-- A stack after an entry is the one before, changed by it or not.
+pub record Stands (x : World) (e : Entry) (name : List ℕ) (t : StackState) : Type 0 where
+  pub stack : StackState
+  pub known : known_stack name x ≡ stack
+  pub becomes : BecomesBy x e name stack t
+  pub there : (stack_for e x ≡ Some (name, stack)) ⊎ (stack_at name x ≡ Some stack)
+
+module _ (x : World) (h : AreApart x) (e : Entry) (name : List ℕ) (t : StackState) where
+  unmoved : is_opening e ≡ false → ((s : StackState) → stack_for e x ≡ Some (name, s) → ⊥) → stack_at name x ≡ Some t → Stands x e name t
+  unmoved n apart f = record { stack = t; known = known_by x name t f; becomes = other n apart; there = inr f }
+
+  by_found : is_opening e ≡ false → (o : Found) → stack_for e x ≡ o → value_at name (put_by x e o) ≡ Some t → Stands x e name t
+  by_found n None f g = unmoved n (λ s k. let none : ⊥ = cc in none) g
+  by_found n (Some p) f g = by (bytes_eq name p.0) refl where
+    by : (b : Bool) → bytes_eq name p.0 ≡ b → Stands x e name t
+    by true k =
+        let same : name ≡ p.0 = (bytes_eq-Decides name p.0).0 k in
+        let mine : stack_for e x ≡ Some (name, p.1) = f ∙ ap (λ (m : List ℕ). Some (m, p.1)) (sym same) in
+        let now : Some (effect_at (x.place + 1) e p.1).stack ≡ Some t = sym (ap (λ m. value_at m (put_by x e (Some p))) same ∙ put_here p.0 (effect_at (x.place + 1) e p.1).stack x.stacks) ∙ g in
+        let is : (effect_at (x.place + 1) e p.1).stack ≡ t = cc in
+        record { stack = p.1; known = stack_known x h e name p.1 mine; becomes = subst (BecomesBy x e name p.1) is (own mine); there = inl mine }
+    by false k =
+        unmoved n
+        (λ s m. true≢false (sym ((bytes_eq-Decides name p.0).1 (ap (λ (o : Found). (unwrap_or o (name, t)).0) (sym m ∙ f))) ∙ k))
+        (sym (put_else name p.0 (effect_at (x.place + 1) e p.1).stack x.stacks k) ∙ g)
+
+pub stands_by : (x : World) → AreApart x → (e : Entry) (name : List ℕ) (t : StackState) → stack_at name (world_after x e) ≡ Some t → Stands x e name t
+stands_by x h (entry.Opened epoch lanes) name t g = by (stack_at name x) refl (sym (value_under (λ (s : StackState). (effect_at (x.place + 1) (entry.Opened epoch lanes) s).stack) name x.stacks) ∙ g) where
+  by : (o : Option StackState) → stack_at name x ≡ o → option_map (λ (s : StackState). (effect_at (x.place + 1) (entry.Opened epoch lanes) s).stack) o ≡ Some t → Stands x (entry.Opened epoch lanes) name t
+  by None f k = let none : ⊥ = cc in absurd none
+  by (Some s) f k =
+      let is : (effect_at (x.place + 1) (entry.Opened epoch lanes) s).stack ≡ t = cc in
+      record { stack = s; known = known_by x name s f; becomes = subst (BecomesBy x (entry.Opened epoch lanes) name s) is (at_opening refl); there = inr f }
+stands_by x h e name t g = by_found x h e name t refl (stack_for e x) refl (sym (ap (value_at name) (after_stacks x e refl)) ∙ g)
 
 pub less_self : (s : StackState) → IsLess s s
 less_self s = less_stay s s refl refl (rows_same s.tokens s.ledger) (same_number s.operation)
@@ -102,12 +831,16 @@ fitting_lane x p (request.Delete physical) e t =
     let l = f.one in
     (l, f.of_list, (sym ((bytes_eq-Decides p.lane l.0).0 f.passes), subst (λ q. IsKindFor q l.1) (sym e) tt))
 
+-- what holds of each stack that is there, and of one of which nothing is known, holds of the known one of a name
+pub at_known : (P : StackState → Type 0) (x : World) (name : List ℕ) → P no_stack → ((s : StackState) → stack_at name x ≡ Some s → P s) → P (known_stack name x)
+at_known P x name none each = by (stack_at name x) refl where
+  by : (o : Option StackState) → stack_at name x ≡ o → P (unwrap_or o no_stack)
+  by None e = none
+  by (Some s) e = each s e
+
 -- no operation is above the last one
 last_known : (x : World) → AreApart x → (n : List ℕ) → (known_stack n x).operation ≤ x.operation
-last_known x h n = by (stack_at n x) refl where
-  by : (o : Option StackState) → stack_at n x ≡ o → (unwrap_or o no_stack).operation ≤ x.operation
-  by None e = omega arith
-  by (Some s) e = h.last n s e
+last_known x h n = at_known (λ (s : StackState). s.operation ≤ x.operation) x n (omega arith) (h.last n)
 
 none_made : (k : Begun) (s : StackState) → IsSteady s → IsTrue (begins_from k s.status) → HasNoneMade k s
 none_made (begin.Create source) s steady t = (steady.rests (or_left (creates_from s.status) (updates_from s.status) t)).1
@@ -139,6 +872,12 @@ module _ (schemas : List Schema) (x : World) (out : List ℕ) (apart : AreApart 
     intent_fits : (name : List ℕ) (number token : ℕ) (lane path : List ℕ) (r : Request) → number ≡ s.operation → (stage : Stage) → MayIntend schemas name x out s stage token lane path r
         → Fits (world_after x (entry.Intent number token lane path r)) (effect_at (x.place + 1) (entry.Intent number token lane path r) s).stack
     intent_fits name number token lane path r of stage m =
+        let called : Bool → StackState =
+        λ b. cond b s (record s { tokens = s.tokens ++ p ∷ []; ledger = s.ledger ++ new_call number s.status p ∷ [] }) in
+        let none : list_any (has_token token) s.tokens ≡ false =
+        none_any (has_token token) s.tokens (λ q i t. none_open x (world_after x (entry.Intent number token lane path r)) s s h token m.next q i (eqb-true token q.token t)) in
+        let free : (q : Pending) → In q s.tokens → path ≡ q.path → ⊥ =
+        λ q i e. true≢false (sym (any_of (λ (z : Pending). bytes_eq path z.path) s.tokens q i ((bytes_eq-Decides path q.path).1 e)) ∙ not-true (list_any (λ (z : Pending). bytes_eq path z.path) s.tokens) m.free) in
         let (l, l_in, l_for) = fitting_lane x p r refl m.fits in
         fits_called x (world_after x (entry.Intent number token lane path r)) s (effect_at (x.place + 1) (entry.Intent number token lane path r) s).stack h number s.status p m.next
         (ap (λ b. (called b).tokens) none) (ap (λ b. (called b).ledger) none) (ap (λ b. resources_of (called b)) none) (ap (λ b. (called b).operation) none)
@@ -147,19 +886,10 @@ module _ (schemas : List Schema) (x : World) (out : List ℕ) (apart : AreApart 
         p : Pending
         p = record { token = token; path = path; lane = lane; request = r }
 
-        called : Bool → StackState
-        called b = cond b s (record s { tokens = s.tokens ++ p ∷ []; ledger = s.ledger ++ new_call number s.status p ∷ [] })
-
-        none : list_any (has_token token) s.tokens ≡ false
-        none = none_any (has_token token) s.tokens (λ q i t. none_open x (world_after x (entry.Intent number token lane path r)) s s h token m.next q i (eqb-true token q.token t))
-
-        free : (q : Pending) → In q s.tokens → path ≡ q.path → ⊥
-        free q i e = true≢false (sym (any_of (λ (z : Pending). bytes_eq path z.path) s.tokens q i ((bytes_eq-Decides path q.path).1 e)) ∙ not-true (list_any (λ (z : Pending). bytes_eq path z.path) s.tokens) m.free)
-
     outcome_fits : (name : List ℕ) (number token : ℕ) (a : Reply) (before after : ℕ) → stack_of_operation number x ≡ Some (name, s) → IsTrue (is_some (pending_of token s))
         → IsNew x (entry.Outcome number token a before after) → IsOfItsLane x (entry.Outcome number token a before after)
         → Fits (world_after x (entry.Outcome number token a before after)) (effect_at (x.place + 1) (entry.Outcome number token a before after) s).stack
-    outcome_fits name number token a before after going there new lane = by (pending_of token s) refl there where
+    outcome_fits name number token a before after going stands new lane = by (pending_of token s) refl stands where
       e : Entry
       e = entry.Outcome number token a before after
 
@@ -235,16 +965,10 @@ pub steady_none : IsSteady no_stack
 steady_none = record { rests = λ t. (refl, refl); restores = λ e b i. elim i [ ]; gives_up = λ e p i. elim i [ ] }
 
 pub known_fits : (x : World) → AllFit x → (name : List ℕ) → Fits x (known_stack name x)
-known_fits x all name = by (stack_at name x) refl where
-  by : (o : Option StackState) → stack_at name x ≡ o → Fits x (unwrap_or o no_stack)
-  by None e = fits_none x
-  by (Some s) e = all name s e
+known_fits x all name = at_known (Fits x) x name (fits_none x) (all name)
 
 pub known_steady : (x : World) → AreSteady x → (name : List ℕ) → IsSteady (known_stack name x)
-known_steady x all name = by (stack_at name x) refl where
-  by : (o : Option StackState) → stack_at name x ≡ o → IsSteady (unwrap_or o no_stack)
-  by None e = steady_none
-  by (Some s) e = all name s e
+known_steady x all name = at_known IsSteady x name steady_none (all name)
 
 -- an opening is of every stack
 pub opening_less : (x : World) (epoch : ℕ) (lanes : List (List ℕ × List ℕ)) (s : StackState) → IsLess s (effect_at (x.place + 1) (entry.Opened epoch lanes) s).stack
@@ -257,7 +981,7 @@ opening_fits schemas x out (entry.Opened epoch lanes) name s n may (inl e) h = l
 opening_fits schemas x out (entry.Opened epoch lanes) name s n may (inr e) h =
     fits_less x (world_after x (entry.Opened epoch lanes)) s (effect_at (x.place + 1) (entry.Opened epoch lanes) s).stack h
     (opening_less x epoch lanes s) (may.2 name s e) (omega arith)
-opening_fits schemas x out e name s n may there h = absurd (true≢false (sym n))
+opening_fits schemas x out e name s n may stands h = absurd (true≢false (sym n))
 
 token_up : (x : World) (e : Entry) (schemas : List Schema) (out : List ℕ) → MayFollow schemas x out e → x.token ≤ (world_after x e).token
 token_up x (entry.Intent number token lane path r) schemas out (n, s, stage, at, is, m) = let next : token ≡ x.token + 1 = m.next in omega (arith, next)
@@ -290,3 +1014,13 @@ each_is_written schemas x out e may new lane apart steady all name t g =
       fits = known_fits x all name;
       fits_after = fits_kept schemas x out e may new lane apart steady all name t g;
     }
+
+-- no two resources have one id after an answer, where what is made is new
+pub differ_left : (s u : StackState) (path : List ℕ) (r : Request) (a : Reply) → IsLeftBy s path r a u → all_differ bytes_eq (map (λ (h : Held). h.physical) (resources_of s)) ≡ true
+    → ((k : List ℕ) (q : List (List ℕ × Data)) (i : List ℕ) (v : List (List ℕ × Data)) → r ≡ request.Create k q → a ≡ reply.Success i v → held_in i s ≡ None) → all_differ bytes_eq (map (λ (h : Held). h.physical) (resources_of u)) ≡ true
+differ_left s u path r a (same k keys) d new = differ_keyed (resources_of s) (resources_of u) (stay keys) d
+differ_left s u path r a (gone id k named n keys) d new = differ_keyed (resources_of s) (resources_of u) (one_less id keys) d
+differ_left s u path _ _ (made k id props attrs g b made_is id_is kind_is) d new =
+    let not_new : (q : Held) → In q (resources_of s) → q.physical ≡ g.physical → ⊥ =
+    λ q i e. true≢false (sym ((bytes_eq-Decides id q.physical).1 (sym (e ∙ id_is))) ∙ none_passes (has_physical id) (resources_of s) (find-append (has_physical id) s.held s.made ∙ new k props id attrs refl refl) q i) in
+    ap (λ hs. all_differ bytes_eq (map (λ (h : Held). h.physical) hs)) made_is ∙ differ_end bytes_eq (λ (h : Held). h.physical) (resources_of s) g (λ q i. none_false _ (λ e. not_new q i ((bytes_eq-Decides q.physical g.physical).0 e))) d

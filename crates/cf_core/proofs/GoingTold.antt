@@ -65,7 +65,7 @@ use Rattle.cf_core.proofs.TidyLists.{one_of_number}
 use Rattle.cf_core.proofs.TidyBegins.{never_ends_so, rest_answered, turned_by}
 use Rattle.cf_core.proofs.TidyOwn.{new_called, new_open, some_same}
 use Rattle.cf_core.proofs.Written.{written_is_to}
-use Rattle.cf_core.proofs.FitLists.{one_id as one_of}
+use Rattle.cf_core.proofs.FitKept.{one_id as one_of}
 use Rattle.cf_stacks.specs.Words.{resources_of as resources_in}
 
 -- what is held under one id is one

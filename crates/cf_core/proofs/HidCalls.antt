@@ -90,7 +90,7 @@ use Rattle.cf_core.proofs.HidSeen.{rest_itself, compared_rest, same_found, shape
 use Rattle.cf_core.proofs.Written.{written_is_to}
 use Rattle.cf_core.proofs.AdvSteps.{IsAhead, asks, hears, opens, is_other, is_ahead, none_begins, advancing_goes_on, only_forward, found_at}
 use Rattle.cf_core.proofs.Statuses.{begun_status, intended_way, kept_way}
-use Rattle.cf_core.proofs.FitLists.{one_id}
+use Rattle.cf_core.proofs.FitKept.{one_id}
 use Rattle.cf_core.proofs.HidProps.{said_in_order, Becomes, Props, PropsBecome, find_on, flawless, had_before, known_is, unmapped, no_change, no_detail, no_replacement}
 use Rattle.cf_core.proofs.AdvLists.{either_way, found_changed, found_else, found_no_more, no_and, all_inserted}
 use Rattle.cf_core.proofs.TidyLists.{from_changed}

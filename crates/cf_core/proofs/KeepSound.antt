@@ -1,44 +1,373 @@
 -- What holds at each moment of a life is kept by every event.
-use Rattle.std.proofs.Common.{◌≡◌, ◌≢◌, ◌⊎◌, inl, inr, ℕ, ◌+◌, ◌==◌, List, [], ◌∷◌, ◌++◌, Bool, true, false, not, Option, Some, None, filter, find, map, is_some, refl, sym, ap, subst, ◌∙◌}
-use Rattle.std.specs.Prelude.{cond}
-use Rattle.std.proofs.lemmas.Bool.{eq-eqb, eqb-true}
-use Rattle.cf_tree.specs.declared.request.Answer.TheVariants as answer
-use Rattle.cf_tree.specs.declared.request.Request.{Request}
-use Rattle.cf_handler.specs.Fence.{FencedLane, Left, late_by, left_by, raised_to}
-use Rattle.cf_schema.specs.declared.described.Schema.{Schema}
-use Rattle.cf_entry.specs.declared.entry.Entry.{Entry}
-use Rattle.cf_entry.specs.declared.entry.Entry.TheVariants as entry
-use Rattle.cf_stacks.specs.declared.held.Pending.{Pending}
-use Rattle.cf_stacks.specs.World.{StackState, World, empty_world}
-use Rattle.cf_stacks.specs.Words.{has_token}
-use Rattle.cf_stacks.specs.Status.{is_in_progress}
-use Rattle.cf_stacks.specs.Fold.{fold_of, is_opening, world_after}
-use Rattle.cf_plan.specs.Follow.{IsLegal, MayFollow, is_in_flight}
-use Rattle.cf_plan.specs.Forward.{In, there}
-use Rattle.cf_plan.specs.Lanes.{Lane, AreLanes, AreSchemas}
-use Rattle.cf_plan.specs.Life.{CallEnd, Life, Event, Opened, ChangeSet, Begin, Grant, Repeat, Settle, Park, Raise, Act, Late, Close, Crash, End, Whole, BrokenWith, BrokenWithout, Answered, Stale, IsBegin, IsChangeSet, IsGoing, IsGranted, IsOutcomeOf, Lease, appended, granted as granted_by, MayHappen, acted, changed, first_again, lease_at, lease_for, life_after, repeated, replied_to, replying, tokens_out, world_of}
-use Rattle.cf_plan.proofs.CreatedRight.{in_filter}
-use Rattle.cf_plan.proofs.CreatedStays.{found_one, in_more}
-use Rattle.cf_plan.proofs.RunLists.{any_of, is_found_in}
 use Rattle.cf_agree.specs.Laws.{Agree}
-use Rattle.cf_core.specs.AccountOf.{account_of, lanes_of}
+use Rattle.cf_change.specs.Changes.{is_empty}
+use Rattle.cf_core.proofs.BeginEvents.{begun_holds, held_one, kept_holds, set_holds, plain_orderly, alike}
+use Rattle.cf_core.proofs.Entries.{Sends, is_working, sends}
+use Rattle.cf_core.proofs.FitKept.{Found, IsLeftBy, IsSameBut, IsSameCall, after_stacks, begun_known, each_is_written, find_mapped, fits_kept, from_mapped, gone, intends_named, into_mapped, keys_mapped, known_fits, known_steady, left_by, made, may_on, none_open, number_of, one_number, put_by, same, same_answered, same_call, stack_known}
+use Rattle.cf_core.proofs.Outcomes.{done_moves, done_quiet, phase_moves, phase_quiet}
+use Rattle.cf_core.proofs.RowsWritten.{names_same, origins_kept, settled_new, written_kept}
+use Rattle.cf_core.proofs.Settling.{NamesOwn, intent_keeps_in, lanes_keep, may_again, opened_keeps, repeat_keeps, settle_keeps, start_agrees, fold_more, kept_name, kept_kind}
+use Rattle.cf_core.proofs.Statuses.{kept_status, replied_status, turned_status}
+use Rattle.cf_core.specs.AccountOf.{lanes_of, account_of, has_leftover}
 use Rattle.cf_core.specs.Bridges.{account_with}
-use Rattle.cf_core.specs.Fits.{Fits, IsNew}
+use Rattle.cf_core.specs.Fits.{BecomesBy, IsRowOf, own, at_opening, other, Fits, IsNew}
 use Rattle.cf_core.specs.Fitting.{AllFit, AreSteady, IsOfItsLane, IsSteady}
-use Rattle.cf_core.specs.LifeAgrees.{AgreesIn, IsOrderly, IsSettledEvent, IsSound, NamesOwn, lease_of}
+use Rattle.cf_core.specs.LifeAgrees.{AgreesIn, IsOrderly, IsSound, lease_of}
 use Rattle.cf_core.specs.SoundLife.{Appends, AreSound, AreWritten, EventKeeps, EventWrites, HaveOrigins, IsSoundLife, StartIsSoundLife, opened, set, begun, granted, settled}
-use Rattle.cf_core.proofs.Sound.{sound_kept, start_is_sound}
-use Rattle.cf_core.proofs.BeginEvents.{begun_holds, set_holds}
-use Rattle.cf_core.proofs.FitKept.{each_is_written, fits_kept, intends_named, known_fits, known_steady, may_on}
-use Rattle.cf_core.proofs.FitLists.{from_mapped, into_mapped, one_number}
-use Rattle.cf_core.proofs.FitWorld.{stack_known}
-use Rattle.cf_core.proofs.KeepEvents.{kept_holds}
-use Rattle.cf_core.proofs.KeepGoing.{intent_going, repeat_going, repeats_as, stands_in, stays_going}
-use Rattle.cf_core.proofs.Repeats.{may_again}
-use Rattle.cf_core.proofs.LegalKept.{fold_with, kinds_kept, lanes_described, lanes_named, legal_with}
-use Rattle.cf_core.proofs.NewLocal.{held_one}
-use Rattle.cf_core.proofs.NewMade.{settled_new}
-use Rattle.cf_core.proofs.RowsWritten.{names_same, origins_kept, written_kept}
+use Rattle.cf_entry.specs.declared.entry.Begun.{Begun}
+use Rattle.cf_entry.specs.declared.entry.Entry.{Entry}
+use Rattle.cf_entry.specs.declared.entry.Reply.{Reply}
+use Rattle.cf_entry.specs.declared.status.Status.{Status}
+use Rattle.cf_entry.specs.declared.turn.Cause.{Cause}
+use Rattle.cf_entry.specs.declared.turn.Phase.{Phase}
+use Rattle.cf_entry.specs.declared.turn.Why.{Why}
+use Rattle.cf_handler.specs.Fence.{FencedLane, Left, late_by, left_by as lane_left, raised_to}
+use Rattle.cf_handler.specs.Name.{is_lane_name}
+use Rattle.cf_plan.proofs.CreatedRight.{in_filter}
+use Rattle.cf_plan.proofs.CreatedStays.{found_one, found_still, in_more}
+use Rattle.cf_plan.proofs.Listed.{in_none}
+use Rattle.cf_plan.proofs.RunLists.{in_kept, in_end, any_of, is_found_in}
+use Rattle.cf_plan.specs.Accept.{creates_from}
+use Rattle.cf_plan.specs.Follow.{IsLegal, MayFollow, begins_from, calls_in_flight, continues_from, deletes_from, is_in_flight, updates_from}
+use Rattle.cf_plan.specs.Forward.{In, here, there}
+use Rattle.cf_plan.specs.Lanes.{Lane, AreLanes, AreSchemas, lane_at}
+use Rattle.cf_plan.specs.Life.{changed, IsGoing, Lease, first_again, lease_for, CallEnd, Life, Event, Opened, ChangeSet, Begin, Grant, Repeat, Settle, Park, Raise, Act, Late, Close, Crash, End, Whole, BrokenWith, BrokenWithout, Answered, Stale, IsBegin, IsChangeSet, IsGranted, IsOutcomeOf, appended, granted as granted_by, MayHappen, acted, lease_at, life_after, repeated, replied_to, replying, tokens_out, world_of}
+use Rattle.cf_schema.specs.Kinds.{found}
+use Rattle.cf_schema.specs.declared.described.Schema.{Schema}
+use Rattle.cf_stacks.proofs.Worlds.{found_stands}
+use Rattle.cf_stacks.specs.Apart.{AreApart}
+use Rattle.cf_stacks.specs.Calls.{anew, answered_call, call_of, is_call, is_restore, new_call, where_call}
+use Rattle.cf_stacks.specs.Effect.{heard, on_stack}
+use Rattle.cf_stacks.specs.End.{turned_effect}
+use Rattle.cf_stacks.specs.Fold.{fold_of, world_after, effect_at, is_opening, stack_for}
+use Rattle.cf_stacks.specs.Reply.{answered, closing, keeping_known, keeping_unknown, replied}
+use Rattle.cf_stacks.specs.Status.{is_in_progress, turned}
+use Rattle.cf_stacks.specs.Words.{has_physical, has_token, is_create_at, pending_of, resources_of}
+use Rattle.cf_stacks.specs.World.{World, StackState, is_going, known_stack, no_stack, stack_at, stack_of_operation, empty_world}
+use Rattle.cf_stacks.specs.declared.call.Call.{Call}
+use Rattle.cf_stacks.specs.declared.held.Pending.{Pending}
+use Rattle.cf_tree.proofs.Lookups.{put_here, put_else}
+use Rattle.cf_tree.specs.Keys.{value_at}
+use Rattle.cf_tree.specs.Named.{all_differ}
+use Rattle.cf_tree.specs.declared.request.Request.{Request}
+use Rattle.std.proofs.Common.{◌≡◌, ℕ, List, [], ◌∷◌, ◌++◌, Bool, true, false, ◌&&◌, Option, Some, None, map, option_map, is_some, refl, ap, ◌∙◌, ◌≢◌, ◌+◌, ◌==◌, ◌||◌, find, sym, subst, true≢false, unwrap_or, ◌⊎◌, inl, inr, not, filter}
+use Rattle.std.proofs.lemmas.Bool.{eqb-true, eq-eqb}
+use Rattle.std.proofs.lemmas.Slice.Eq.{bytes_eq-Decides}
+use Rattle.std.specs.Bool.{IsTrue}
+use Rattle.std.specs.List.{list_all, list_any}
+use Rattle.std.specs.Option.{option_or}
+use Rattle.std.specs.Prelude.{cond}
+use Rattle.std.specs.Str.{bytes_eq}
+use Rattle.cf_entry.specs.declared.entry.Begun.TheVariants as begin
+use Rattle.cf_entry.specs.declared.entry.Entry.TheVariants as entry
+use Rattle.cf_entry.specs.declared.status.Status.TheVariants as status
+use Rattle.cf_entry.specs.declared.turn.Phase.TheVariants as phase
+use Rattle.cf_tree.specs.declared.request.Answer.TheVariants as answer
+
+-- One more entry of a journal, and lanes that change: what stays told of them.
+
+pub legal_with : (schemas : List Schema) (x : World) (es : List Entry) (e : Entry) (out : List ℕ) → IsLegal schemas x es → MayFollow schemas (fold_of x es) out e → IsLegal schemas x (es ++ e ∷ [])
+legal_with schemas x [] e out l m = ((out, m), tt)
+legal_with schemas x (d ∷ es) e out l m = (l.0, legal_with schemas (world_after x d) es e out l.1 m)
+
+-- a lane that changes keeps its name and its type
+module _ (n : List ℕ) (f : FencedLane → FencedLane) where
+  all_kept : (test : Lane → Bool) → ((l : Lane) → test (changed n f l) ≡ test l) → (ls : List Lane) → list_all test (map (changed n f) ls) ≡ list_all test ls
+  all_kept test h [] = refl
+  all_kept test h (l ∷ ls) = ap (λ b. b && list_all test (map (changed n f) ls)) (h l) ∙ ap (λ b. test l && b) (all_kept test h ls)
+
+  pub lanes_named : (ls : List Lane) → AreLanes ls → AreLanes (map (changed n f) ls)
+  lanes_named ls h = record {
+    named = all_kept (λ l. is_lane_name l.name) (λ l. ap is_lane_name (kept_name n f l)) ls ∙ h.named;
+    names_differ = ap (all_differ bytes_eq) (keys_mapped (changed n f) (λ l. l.name) (λ l. l.name) ls (kept_name n f)) ∙ h.names_differ;
+  }
+
+  pub lanes_described : (schemas : List Schema) (ls : List Lane) → AreSchemas schemas ls → AreSchemas schemas (map (changed n f) ls)
+  lanes_described schemas ls h = record {
+    kinds_differ = h.kinds_differ;
+    described = all_kept (λ l. is_some (found l.kind schemas)) (λ l. ap (λ k. is_some (found k schemas)) (kept_kind n f l)) ls ∙ h.described;
+  }
+
+  pub kinds_kept : (ls : List Lane) (m : List ℕ) → (lanes_of (map (changed n f) ls)).kind m ≡ (lanes_of ls).kind m
+  kinds_kept ls m = ap (option_map (λ (l : Lane). l.kind)) (find_mapped (λ (l : Lane). bytes_eq m l.name) (changed n f) ls (λ l. ap (bytes_eq m) (kept_name n f l))) ∙ by (lane_at m ls) where
+    by : (o : Option Lane) → option_map (λ (l : Lane). l.kind) (option_map (changed n f) o) ≡ option_map (λ (l : Lane). l.kind) o
+    by None = refl
+    by (Some l) = ap Some (kept_kind n f l)
+
+-- A call that is out has its row in the ledger of a stack whose operation is in progress: each entry keeps that.
+
+-- a status from which an operation begins is none in which one is in progress
+creates_idle : (s : Status) → creates_from s ≡ true → is_in_progress s ≡ false
+creates_idle status.DeleteComplete h = cc
+creates_idle s h = cc
+
+updates_idle : (s : Status) → updates_from s ≡ true → is_in_progress s ≡ false
+updates_idle status.CreateComplete h = cc
+updates_idle s h = cc
+
+deletes_idle : (s : Status) → deletes_from s ≡ true → is_in_progress s ≡ false
+deletes_idle status.ReviewInProgress h = cc
+deletes_idle s h = cc
+
+continues_idle : (s : Status) → continues_from s ≡ true → is_in_progress s ≡ false
+continues_idle status.UpdateRollbackFailed h = cc
+continues_idle s h = cc
+
+pub begins_idle : (k : Begun) (s : Status) → begins_from k s ≡ true → is_in_progress s ≡ false
+begins_idle (begin.Create source) s h = creates_idle s h
+begins_idle (begin.Update source) s h = updates_idle s h
+begins_idle (begin.Delete paths) s h = deletes_idle s h
+begins_idle (begin.Continue paths) s h = continues_idle s h
+
+pub reviews_idle : (s : Status) → (creates_from s || updates_from s) ≡ true → is_in_progress s ≡ false
+reviews_idle s h = by (creates_from s) refl h where
+  by : (b : Bool) → creates_from s ≡ b → (b || updates_from s) ≡ true → is_in_progress s ≡ false
+  by true e k = creates_idle s e
+  by false e k = updates_idle s k
+
+-- a call keeps its row, and its stack its operation in progress
+pub record KeepsCall (t : ℕ) (c : Call) (s s' : StackState) : Type 0 where
+  pub working : is_in_progress s'.status ≡ true
+  pub operation : s'.operation ≡ s.operation
+  pub call : Call
+  pub found : call_of t s' ≡ Some call
+  pub lane : call.lane ≡ c.lane
+
+module _ (t : ℕ) (c : Call) (s : StackState) (working : is_in_progress s.status ≡ true) (row : call_of t s ≡ Some c) where
+  same_row : (s' : StackState) → s'.status ≡ s.status → s'.operation ≡ s.operation → s'.ledger ≡ s.ledger → KeepsCall t c s s'
+  same_row s' state op ledger = record { working = ap is_in_progress state ∙ working; operation = op; call = c; found = ap (find (is_call t)) ledger ∙ row; lane = refl }
+
+  changed_row : (s' : StackState) (f : Call → Call) → ((d : Call) → IsSameCall d (f d)) → is_in_progress s'.status ≡ true → s'.operation ≡ s.operation → s'.ledger ≡ map f s.ledger → KeepsCall t c s s'
+  changed_row s' f is state op ledger = record {
+    working = state;
+    operation = op;
+    call = f c;
+    found = ap (find (is_call t)) ledger ∙ find_mapped (is_call t) f s.ledger (λ d. ap (λ u. t == u) (is d).token) ∙ ap (option_map f) row;
+    lane = (is c).lane;
+  }
+
+  kept_row : (place number : ℕ) (path id : List ℕ) (w : Why) → KeepsCall t c s (effect_at place (entry.Kept number path id w) s).stack
+  kept_row place number path id w =
+      same_row (effect_at place (entry.Kept number path id w) s).stack (kept_status path id w s)
+      (op (bytes_eq id []) (list_any (is_create_at path) s.tokens) (list_any (has_physical id) (resources_of s)))
+      (rows (bytes_eq id []) (list_any (is_create_at path) s.tokens) (list_any (has_physical id) (resources_of s)))
+    where
+      op : (b d f : Bool) → (cond b (cond d (keeping_unknown path w s) s) (cond f (keeping_known path id w s) s)).operation ≡ s.operation
+      op true true f = refl
+      op true false f = refl
+      op false d true = refl
+      op false d false = refl
+
+      rows : (b d f : Bool) → (cond b (cond d (keeping_unknown path w s) s) (cond f (keeping_known path id w s) s)).ledger ≡ s.ledger
+      rows true true f = refl
+      rows true false f = refl
+      rows false d true = refl
+      rows false d false = refl
+
+  intended_row : (place number token : ℕ) (lane path : List ℕ) (r : Request) → KeepsCall t c s (effect_at place (entry.Intent number token lane path r) s).stack
+  intended_row place number token lane path r = by (list_any (has_token token) s.tokens) where
+    by : (b : Bool) → KeepsCall t c s (heard place (entry.Intent number token lane path r) s (on_stack (cond b s (record s {
+      tokens = s.tokens ++ record { token = token; path = path; lane = lane; request = r } ∷ [];
+      ledger = s.ledger ++ new_call number s.status (record { token = token; path = path; lane = lane; request = r }) ∷ [];
+    })))).stack
+    by true = record { working = working; operation = refl; call = c; found = row; lane = refl }
+    by false = record { working = working; operation = refl; call = c; found = found_still (is_call t) s.ledger _ c row; lane = refl }
+
+  same_but : (path : List ℕ) (r : Request) (a : Reply) (u : StackState) → IsLeftBy s path r a u → IsSameBut s u
+  same_but path r a u (same b k) = b
+  same_but path r a u (gone id b n d k) = b
+  same_but path _ _ u (made k id props attrs h b m i j) = b
+
+  answered_row : (place number token : ℕ) (a : Reply) (before after : ℕ) → KeepsCall t c s (effect_at place (entry.Outcome number token a before after) s).stack
+  answered_row place number token a before after = by (pending_of token s) refl where
+    e : Entry
+    e = entry.Outcome number token a before after
+
+    state : is_in_progress (effect_at place (entry.Outcome number token a before after) s).stack.status ≡ true
+    state = ap is_in_progress (replied_status token a s) ∙ working
+
+    by : (o : Option Pending) → pending_of token s ≡ o → KeepsCall t c s (effect_at place (entry.Outcome number token a before after) s).stack
+    by None k =
+        subst (λ o. KeepsCall t c s (heard place (entry.Outcome number token a before after) s (on_stack (replied token a o s))).stack) (sym k)
+        (record { working = working; operation = refl; call = c; found = row; lane = refl })
+    by (Some p) k =
+        let u = answered (is_restore token s) p.path p.request a s in
+        let b = same_but p.path p.request a u (left_by (is_restore token s) p.path p.request a s) in
+        let at : replied token a (pending_of token s) s ≡ closing token a u = ap (λ o. replied token a o s) k in
+        changed_row (effect_at place (entry.Outcome number token a before after) s).stack (λ d. cond (is_call token d) (answered_call a d) d) (λ d. each d (is_call token d)) state
+        (ap (λ (z : StackState). z.operation) at ∙ b.operation) (ap (λ (z : StackState). z.ledger) at ∙ ap (where_call token (answered_call a)) b.ledger)
+      where
+        each : (d : Call) (b : Bool) → IsSameCall d (cond b (answered_call a d) d)
+        each d true = same_answered a d
+        each d false = same_call d
+
+  turned_row : (place number : ℕ) (p : Phase) (cause : Option Cause) → KeepsCall t c s (effect_at place (entry.Phase number p cause) s).stack
+  turned_row place number p cause =
+      changed_row (effect_at place (entry.Phase number p cause) s).stack anew (λ d. record { number = refl; token = refl; lane = refl; path = refl; request = refl })
+      (ap is_in_progress (turned_status place number p s cause) ∙ going s.status p) (op p) (rows p)
+    where
+      going : (st : Status) (p : Phase) → is_in_progress (turned st p) ≡ true
+      going status.CreateInProgress phase.Back = refl
+      going st phase.Back = refl
+      going st phase.Clean = refl
+      going st phase.BackClean = refl
+
+      op : (p : Phase) → (turned_effect p s).stack.operation ≡ s.operation
+      op phase.Clean = refl
+      op phase.Back = refl
+      op phase.BackClean = refl
+
+      rows : (p : Phase) → (turned_effect p s).stack.ledger ≡ map anew s.ledger
+      rows phase.Clean = refl
+      rows phase.Back = refl
+      rows phase.BackClean = refl
+
+module _ (schemas : List Schema) (x : World) (out : List ℕ) (apart : AreApart x) where
+  -- a call that is out keeps its row
+  keeps_row : (e : Entry) (name : List ℕ) (s : StackState) → stack_for e x ≡ Some (name, s) → MayFollow schemas x out e → (t : ℕ) → is_in_flight out t ≡ true → (c : Call) → is_in_progress s.status ≡ true → call_of t s ≡ Some c
+      → KeepsCall t c s (effect_at (x.place + 1) e s).stack
+  keeps_row (entry.Opened epoch lanes) name s mine may t flies c working row = let none : ⊥ = cc in absurd none
+  keeps_row (entry.Begin number n k) name s mine may t flies c working row =
+      absurd (true≢false (sym working ∙ begins_idle k s.status (subst (λ (z : StackState). IsTrue (begins_from k z.status)) (begun_known x number n k name s mine).1 may.1)))
+  keeps_row (entry.ChangeSet number n source rows outputs) name s mine may t flies c working row =
+      let known : known_stack n x ≡ s = ap (λ (o : Found). (unwrap_or o (n, s)).1) mine in
+      absurd (true≢false (sym working ∙ reviews_idle s.status (subst (λ (z : StackState). IsTrue (creates_from z.status || updates_from z.status)) known may.1)))
+  keeps_row (entry.Kept number path id w) name s mine may t flies c working row = kept_row t c s working row (x.place + 1) number path id w
+  keeps_row (entry.Intent number token lane path r) name s mine may t flies c working row = intended_row t c s working row (x.place + 1) number token lane path r
+  keeps_row (entry.Outcome number token a before after) name s mine may t flies c working row = answered_row t c s working row (x.place + 1) number token a before after
+  keeps_row (entry.Phase number p cause) name s mine may t flies c working row = turned_row t c s working row (x.place + 1) number p cause
+  keeps_row (entry.Done number state failed) name s mine may t flies c working row =
+      let (stage, is, m) = may_on schemas x out apart number name s mine (entry.Done number state failed) may in
+      let (i, passed) = found_one (is_call t) s.ledger c row in
+      let flying : is_in_flight out c.token ≡ true = ap (is_in_flight out) (sym (eqb-true t c.token passed)) ∙ flies in
+      absurd (some_out (calls_in_flight out s) (in_kept (λ (d : Call). is_in_flight out d.token) s.ledger c i flying) m.0)
+    where
+      some_out : (cs : List Call) → In c cs → is_empty cs ≡ true → ⊥
+      some_out [] i h = elim i [ ]
+      some_out (d ∷ cs) i h = true≢false (sym h)
+
+  -- a stack that is there stays there
+  stays_there : (e : Entry) → is_opening e ≡ false → (name : List ℕ) (s : StackState) → stack_at name x ≡ Some s → (t : StackState) × (stack_at name (world_after x e) ≡ Some t) × BecomesBy x e name s t
+  stays_there e n name s stands =
+      let (t, f, g) = by (stack_for e x) refl in
+      (t, ap (value_at name) (after_stacks x e n) ∙ f, g)
+    where
+      by : (o : Found) → stack_for e x ≡ o → (t : StackState) × (value_at name (put_by x e o) ≡ Some t) × BecomesBy x e name s t
+      by None k = (s, stands, other n (λ t j. (let none : ⊥ = cc in none)))
+      by (Some p) k = at (bytes_eq name p.0) refl where
+        at : (b : Bool) → bytes_eq name p.0 ≡ b → (t : StackState) × (value_at name (put_by x e (Some p)) ≡ Some t) × BecomesBy x e name s t
+        at true q =
+            let is : name ≡ p.0 = (bytes_eq-Decides name p.0).0 q in
+            let known : known_stack name x ≡ p.1 = stack_known x apart e name p.1 (k ∙ ap (λ (m : List ℕ). Some (m, p.1)) (sym is)) in
+            let mine : p.1 ≡ s = sym known ∙ ap (λ (o : Option StackState). unwrap_or o no_stack) stands in (
+              (effect_at (x.place + 1) e s).stack,
+              ap (λ m. value_at m (put_by x e (Some p))) is ∙ put_here p.0 (effect_at (x.place + 1) e p.1).stack x.stacks ∙ ap (λ (z : StackState). Some (effect_at (x.place + 1) e z).stack) mine,
+              own (k ∙ (λ i. Some (sym is i, mine i))),
+            )
+        at false q = (
+          s,
+          put_else name p.0 (effect_at (x.place + 1) e p.1).stack x.stacks q ∙ stands,
+          other n (λ t j. true≢false (sym ((bytes_eq-Decides name p.0).1 (ap (λ (o : Found). (unwrap_or o (name, s)).0) (sym j ∙ k))) ∙ q)),
+        )
+
+  pub stays_going : (e : Entry) → is_opening e ≡ false → MayFollow schemas x out e → (l : Lease) → is_in_flight out l.token ≡ true → IsGoing x l → IsGoing (world_after x e) l
+  stays_going e n may l flies g =
+      let t : StackState = (stays_there e n g.name g.stack g.stands).0 in
+      let f : stack_at g.name (world_after x e) ≡ Some t = (stays_there e n g.name g.stack g.stands).1 in
+      let b : BecomesBy x e g.name g.stack t = (stays_there e n g.name g.stack g.stands).2 in
+      by t f b
+    where
+      by : (u : StackState) → stack_at g.name (world_after x e) ≡ Some u → BecomesBy x e g.name g.stack u → IsGoing (world_after x e) l
+      by _ k (own mine) =
+          let c = keeps_row e g.name g.stack mine may l.token flies g.call g.in_progress g.written in
+          record { name = g.name; stack = _; call = c.call; stands = k; in_progress = c.working; number = c.operation ∙ g.number; written = c.found; lane = c.lane ∙ g.lane }
+      by _ k (at_opening o) = absurd (true≢false (sym o ∙ n))
+      by _ k (other m no_one) = record { name = g.name; stack = g.stack; call = g.call; stands = k; in_progress = g.in_progress; number = g.number; written = g.written; lane = g.lane }
+
+-- a stack that stands is one of all
+pub stands_in : (name : List ℕ) (s : StackState) (ss : List (List ℕ × StackState)) → value_at name ss ≡ Some s → In (name, s) ss
+stands_in name s [] e = absurd (cc)
+stands_in name s (q ∷ ss) e = by (bytes_eq name q.0) refl e (stands_in name s ss) where
+  by : (b : Bool) → bytes_eq name q.0 ≡ b → cond b (Some q.1) (value_at name ss) ≡ Some s → (value_at name ss ≡ Some s → In (name, s) ss) → In (name, s) (q ∷ ss)
+  by true k g ih = let mine : q.1 ≡ s = cc in let is = (bytes_eq-Decides name q.0).0 k in subst (λ z. In z (q ∷ ss)) (λ i. (sym is i, mine i)) here
+  by false k g ih = there (ih g)
+
+-- a call that is made again
+again_found : (token : ℕ) (name : List ℕ) (s : StackState) (p : Pending) (ss : List (List ℕ × StackState)) → value_at name ss ≡ Some s → find (has_token token) s.tokens ≡ Some p
+    → ((q : List ℕ × StackState) → In q ss → q.0 ≢ name → find (has_token token) (q.1).tokens ≡ None) → first_again token ss ≡ Some (lease_for s.operation p)
+again_found token name s p [] e f others = absurd (cc)
+again_found token name s p (q ∷ ss) e f others = by (bytes_eq name q.0) refl e (λ k. again_found token name s p ss k f (λ r i. others r (there i))) where
+  by : (b : Bool) → bytes_eq name q.0 ≡ b → cond b (Some q.1) (value_at name ss) ≡ Some s → (value_at name ss ≡ Some s → first_again token ss ≡ Some (lease_for s.operation p)) → first_again token (q ∷ ss) ≡ Some (lease_for s.operation p)
+  by true k g ih = let same_stack : q.1 ≡ s = cc in
+      ap (λ (z : StackState). option_or (option_map (lease_for z.operation) (find (has_token token) z.tokens)) (first_again token ss)) same_stack ∙ ap (λ o. option_or (option_map (lease_for s.operation) o) (first_again token ss)) f
+  by false k g ih =
+      let other_name : q.0 ≢ name = λ z. true≢false (sym ((bytes_eq-Decides name q.0).1 (sym z)) ∙ k) in
+      ap (λ o. option_or (option_map (lease_for (q.1).operation) o) (first_again token ss)) (others q here other_name) ∙ ih g
+
+pub repeats_as : (x : World) (token : ℕ) (name : List ℕ) (s : StackState) (p : Pending) → stack_at name x ≡ Some s → find (has_token token) s.tokens ≡ Some p
+    → ((q : List ℕ × StackState) → In q x.stacks → q.0 ≢ name → find (has_token token) (q.1).tokens ≡ None) → first_again token x.stacks ≡ Some (lease_for s.operation p)
+repeats_as x token name s p stands found others = again_found token name s p x.stacks stands found others
+
+pub repeat_going : (x : World) → AllFit x → (name : List ℕ) (s : StackState) (p : Pending) → stack_at name x ≡ Some s → is_in_progress s.status ≡ true → In p s.tokens → IsGoing x (lease_for s.operation p)
+repeat_going x fit name s p stands working i =
+    let (c, f, r) = (fit name s stands).rows p i in
+    record { name = name; stack = s; call = c; stands = stands; in_progress = working; number = refl; written = f; lane = r.lane }
+
+-- a call that goes out as it is written down
+pub intent_going : (schemas : List Schema) (x : World) (out : List ℕ) → AreApart x → (number token : ℕ) (lane path : List ℕ) (r : Request) → MayFollow schemas x out (entry.Intent number token lane path r) → AllFit x
+    → AllFit (world_after x (entry.Intent number token lane path r)) → IsGoing (world_after x (entry.Intent number token lane path r)) (record { number = number; token = token; lane = lane; request = r; reply = None })
+intent_going schemas x out apart number token lane path r may fit fits = done where
+  name : List ℕ
+  name = may.0
+
+  s : StackState
+  s = may.1
+
+  at : stack_of_operation number x ≡ Some (may.0, may.1)
+  at = may.3
+
+  e : Entry
+  e = entry.Intent number token lane path r
+
+  p : Pending
+  p = record { token = token; path = path; lane = lane; request = r }
+
+  s' : StackState
+  s' = (effect_at (x.place + 1) (entry.Intent number token lane path r) s).stack
+
+  stands : stack_at name x ≡ Some s
+  stands = found_stands (λ (q : List ℕ × StackState). is_going number q.1) x.stacks (name, s) apart.names at
+
+  none : (o : Option Pending) → find (has_token token) s.tokens ≡ o → o ≡ None
+  none None k = refl
+  none (Some q) k = let (i, m) = found_one (has_token token) s.tokens q k in absurd (none_open x x s s (fit name s stands) token (may.5).next q i (eqb-true token q.token m))
+
+  sent : Sends p s s'
+  sent = sends (x.place + 1) number p s (none (find (has_token token) s.tokens) refl)
+
+  there_after : stack_at name (world_after x (entry.Intent number token lane path r)) ≡ Some s'
+  there_after =
+      ap (value_at name) (after_stacks x (entry.Intent number token lane path r) refl) ∙ ap (λ o. value_at name (put_by x (entry.Intent number token lane path r) o)) at
+      ∙ put_here name (effect_at (x.place + 1) (entry.Intent number token lane path r) s).stack x.stacks
+
+  operation : (b : Bool) → (cond b s (record s { tokens = s.tokens ++ p ∷ []; ledger = s.ledger ++ new_call number s.status p ∷ [] })).operation ≡ s.operation
+  operation true = refl
+  operation false = refl
+
+  row : (c : Call) × (call_of token s' ≡ Some c) × IsRowOf p c
+  row = (fits name s' there_after).rows p (subst (In p) (sym sent.tokens) (in_end p s.tokens))
+
+  done : IsGoing (world_after x (entry.Intent number token lane path r)) (record { number = number; token = token; lane = lane; request = r; reply = None })
+  done = record {
+    name = name;
+    stack = s';
+    call = row.0;
+    stands = there_after;
+    in_progress = ap is_in_progress sent.status ∙ is_working number x name s at;
+    number = operation (list_any (has_token token) s.tokens) ∙ number_of schemas x out apart number name s at;
+    written = row.1;
+    lane = (row.2).lane;
+  }
 
 -- an entry that is no answer makes nothing new
 plain_new : (x : World) (e : Entry) → IsBegin e ⊎ IsChangeSet e ⊎ IsGranted e → IsNew x e × IsOfItsLane x e
@@ -78,7 +407,7 @@ module _ (schemas : List Schema) (es : List Entry) (lanes : List Lane) (leases :
       described = h.described;
     } where
       rest : IsRest (es ++ e ∷ []) (fold_of empty_world (es ++ e ∷ [])) lanes leases'
-      rest = subst (λ z. IsRest (es ++ e ∷ []) z lanes leases') (sym (fold_with empty_world es e)) (record {
+      rest = subst (λ z. IsRest (es ++ e ∷ []) z lanes leases') (sym (fold_more empty_world es e)) (record {
         fitted = fits_kept schemas x out e may new of_lane (h.orderly).apart steady h.fitted;
         written = written_kept schemas es x lanes out e may (h.orderly).apart (h.orderly).own steady ((h.agrees).tied).books h.origins h.written;
         origins = origins_kept schemas es x lanes out e may (h.orderly).apart (h.orderly).own steady ((h.agrees).tied).books h.origins ((h.agrees).tied).ties;
@@ -92,7 +421,7 @@ module _ (schemas : List Schema) (es : List Entry) (lanes : List Lane) (leases :
     -- what was shown of the world that an entry leaves
     at_fold : (e : Entry) → Agree (account_with e es x) (lanes_of lanes) (map lease_of leases) × IsOrderly (world_after x e)
         → Agree (account_of (es ++ e ∷ []) (fold_of empty_world (es ++ e ∷ []))) (lanes_of lanes) (map lease_of leases) × IsOrderly (fold_of empty_world (es ++ e ∷ []))
-    at_fold e g = subst (λ z. Agree (account_of (es ++ e ∷ []) z) (lanes_of lanes) (map lease_of leases) × IsOrderly z) (sym (fold_with empty_world es e)) g
+    at_fold e g = subst (λ z. Agree (account_of (es ++ e ∷ []) z) (lanes_of lanes) (map lease_of leases) × IsOrderly z) (sym (fold_more empty_world es e)) g
 
     plain_sound : (steady : AreSteady x) (e : Entry) → is_opening e ≡ false → MayFollow schemas x (map (λ (l : Lease). l.token) leases) e → IsNew x e × IsOfItsLane x e
         → Agree (account_with e es x) (lanes_of lanes) (map lease_of leases) × IsOrderly (world_after x e) → AreSound schemas (es ++ e ∷ []) (fold_of empty_world (es ++ e ∷ [])) lanes leases
@@ -138,22 +467,18 @@ module _ (schemas : List Schema) (life : Life) (steady : AreSteady (world_of lif
   sound : IsSound life
   sound = record { agrees = h.agrees; orderly = h.orderly }
 
-  -- agreement after an event
-  after : (e : Event) → IsSettledEvent life e → MayHappen schemas life e → IsSound (life_after life e)
-  after e of may = sound_kept schemas life e of may sound
-
   none_going : (y : World) (l : Lease) → In l [] → IsGoing y l
   none_going y l i = elim i [ ]
 
   opened_sound : (epoch : ℕ) (lanes : List (List ℕ × List ℕ)) (end : End) → MayHappen schemas life (Opened epoch lanes end) → IsSoundLife schemas (life_after life (Opened epoch lanes end))
   opened_sound epoch lanes Whole may =
-      let g = after (Opened epoch lanes Whole) tt may in
+      let g = opened_keeps schemas life epoch lanes Whole may sound in
       entry_sound schemas life.entries life.lanes life.leases h steady [] (entry.Opened epoch lanes) may.1 (tt, tt) [] g.agrees g.orderly (none_going (world_after (world_of life) (entry.Opened epoch lanes)))
   opened_sound epoch lanes BrokenWith may =
-      let g = after (Opened epoch lanes BrokenWith) tt may in
+      let g = opened_keeps schemas life epoch lanes BrokenWith may sound in
       entry_sound schemas life.entries life.lanes life.leases h steady [] (entry.Opened epoch lanes) may.1 (tt, tt) [] g.agrees g.orderly (none_going (world_after (world_of life) (entry.Opened epoch lanes)))
   opened_sound epoch lanes BrokenWithout may =
-      let g = after (Opened epoch lanes BrokenWithout) tt may in
+      let g = opened_keeps schemas life epoch lanes BrokenWithout may sound in
       fewer_sound schemas life.entries life.lanes life.leases h [] g.agrees (none_going (world_of life))
 
   -- an entry that hands out nothing, whole or broken
@@ -197,18 +522,18 @@ module _ (schemas : List Schema) (life : Life) (steady : AreSteady (world_of lif
 
     ended : (end : End) → IsSoundLife schemas (life_after life (Grant (entry.Intent number token lane path r) end))
     ended Whole =
-        let g = after (Grant (entry.Intent number token lane path r) Whole) own (running, is, may) in
+        let g = intent_keeps_in schemas life number token lane path r Whole own (running, is, may) sound in
         entry_sound schemas life.entries life.lanes life.leases h steady (tokens_out life) (entry.Intent number token lane path r) may (tt, tt) _ g.agrees g.orderly
         (in_more (IsGoing (world_after (world_of life) (entry.Intent number token lane path r))) _ life.leases going (intent_going schemas (world_of life) (tokens_out life) (h.orderly).apart number token lane path r may h.fitted fits))
     ended BrokenWith =
-        let g = after (Grant (entry.Intent number token lane path r) BrokenWith) own (running, is, may) in
+        let g = intent_keeps_in schemas life number token lane path r BrokenWith own (running, is, may) sound in
         entry_sound schemas life.entries life.lanes life.leases h steady (tokens_out life) (entry.Intent number token lane path r) may (tt, tt) life.leases g.agrees g.orderly going
     ended BrokenWithout = h
 
   -- an entry of the operation that tells no call
   granted_end : (e : Entry) → ((end : End) → life_after life (Grant e end) ≡ appended end e life) → AreSound schemas (life.entries ++ e ∷ []) (fold_of empty_world (life.entries ++ e ∷ [])) life.lanes life.leases
       → (end : End) → IsSoundLife schemas (life_after life (Grant e end))
-  granted_end e same g end = subst (IsSoundLife schemas) (sym (same end)) (by_end e g end)
+  granted_end e is g end = subst (IsSoundLife schemas) (sym (is end)) (by_end e g end)
 
   same_granted : (e : Entry) → (granted_by Whole e (appended Whole e life) ≡ appended Whole e life) → (end : End) → life_after life (Grant e end) ≡ appended end e life
   same_granted e k Whole = k
@@ -222,14 +547,18 @@ module _ (schemas : List Schema) (life : Life) (steady : AreSteady (world_of lif
       (plain_sound schemas life.entries life.lanes life.leases h steady (entry.Kept number path physical w) refl may (tt, tt) (kept_holds schemas life.entries (world_of life) life.lanes life.leases h steady (tokens_out life) number path physical w may))
       end
   grant_sound (entry.Phase number p c) end (running, is, may) =
-      let g = after (Grant (entry.Phase number p c) Whole) tt (running, is, may) in
       granted_end (entry.Phase number p c) (same_granted (entry.Phase number p c) refl)
-      (entry_sound schemas life.entries life.lanes life.leases h steady (tokens_out life) (entry.Phase number p c) may (tt, tt) life.leases g.agrees g.orderly (still_going schemas life.entries life.lanes life.leases h (entry.Phase number p c) refl may))
+      (plain_sound schemas life.entries life.lanes life.leases h steady (entry.Phase number p c) refl may (tt, tt) (
+        subst (λ b. Agree b (lanes_of life.lanes) (map lease_of life.leases)) (sym (phase_moves life.entries (world_of life) may.0 may.1 number p c (h.orderly).own may.3)) h.agrees,
+        plain_orderly schemas (world_of life) (tokens_out life) h.orderly steady (entry.Phase number p c) may.0 may.1 refl may.3 may tt tt (λ i. alike (ap (has_leftover i) (phase_quiet ((world_of life).place + 1) number p c may.1).leftovers)),
+      ))
       end
   grant_sound (entry.Done number state failed) end (running, is, may) =
-      let g = after (Grant (entry.Done number state failed) Whole) tt (running, is, may) in
       granted_end (entry.Done number state failed) (same_granted (entry.Done number state failed) refl)
-      (entry_sound schemas life.entries life.lanes life.leases h steady (tokens_out life) (entry.Done number state failed) may (tt, tt) life.leases g.agrees g.orderly (still_going schemas life.entries life.lanes life.leases h (entry.Done number state failed) refl may))
+      (plain_sound schemas life.entries life.lanes life.leases h steady (entry.Done number state failed) refl may (tt, tt) (
+        subst (λ b. Agree b (lanes_of life.lanes) (map lease_of life.leases)) (sym (done_moves life.entries (world_of life) may.0 may.1 number state failed (h.orderly).own may.3)) h.agrees,
+        plain_orderly schemas (world_of life) (tokens_out life) h.orderly steady (entry.Done number state failed) may.0 may.1 refl may.3 may tt tt (λ i. alike (ap (has_leftover i) (done_quiet ((world_of life).place + 1) number state failed may.1).leftovers)),
+      ))
       end
   grant_sound e end may = absurd may.1
 
@@ -257,34 +586,30 @@ module _ (schemas : List Schema) (life : Life) (steady : AreSteady (world_of lif
 
     ended : (end : End) → IsSoundLife schemas (life_after life (Settle token e end))
     ended Whole =
-        let g = after (Settle token e Whole) tt (running, lease, r, found, replied, is, may) in
+        let g = settle_keeps schemas life token e Whole (running, lease, r, found, replied, is, may) sound in
         entry_sound schemas life.entries life.lanes life.leases h steady (tokens_out life) e may new _ g.agrees g.orderly going
     ended BrokenWith =
-        let g = after (Settle token e BrokenWith) tt (running, lease, r, found, replied, is, may) in
+        let g = settle_keeps schemas life token e BrokenWith (running, lease, r, found, replied, is, may) sound in
         entry_sound schemas life.entries life.lanes life.leases h steady (tokens_out life) e may new _ g.agrees g.orderly going
     ended BrokenWithout =
-        let g = after (Settle token e BrokenWithout) tt (running, lease, r, found, replied, is, may) in
+        let g = settle_keeps schemas life token e BrokenWithout (running, lease, r, found, replied, is, may) sound in
         fewer_sound schemas life.entries life.lanes life.leases h _ g.agrees (λ l i. h.going l (back_in token l i))
 
   -- a call that is made again
   repeat_sound : (token : ℕ) → MayHappen schemas life (Repeat token) → IsSoundLife schemas (life_after life (Repeat token))
   repeat_sound token (running, name, s, stage, p, m) =
-      ended (first_again token (world_of life).stacks) again (after (Repeat token) tt (running, name, s, stage, p, m)).agrees
+      let found : find (has_token token) s.tokens ≡ Some p =
+      let (q, f) = is_found_in (has_token token) s.tokens p open_ (eq-eqb token p.token (sym m.of_token)) in
+      let (i, k) = found_one (has_token token) s.tokens q f in
+      f ∙ ap Some (one_number (λ (z : Pending). z.token) s.tokens (h.fitted name s m.stands).tokens q p i open_ (sym (eqb-true token q.token k) ∙ sym m.of_token)) in
+      let others : (q : List ℕ × StackState) → In q (world_of life).stacks → q.0 ≢ name → find (has_token token) (q.1).tokens ≡ None =
+      λ q i n. ((h.orderly).own).tokens (name, s) q token p (stands_in name s (world_of life).stacks m.stands) i (λ e. n (sym e)) found in
+      let again : first_again token (world_of life).stacks ≡ Some (lease_for s.operation p) =
+      repeats_as (world_of life) token name s p m.stands found others in
+      ended (first_again token (world_of life).stacks) again (repeat_keeps schemas life token (running, name, s, stage, p, m) sound).agrees
     where
       open_ : In p s.tokens
       open_ = (may_again schemas name (world_of life) (tokens_out life) s stage p m.may).0
-
-      found : find (has_token token) s.tokens ≡ Some p
-      found =
-          let (q, f) = is_found_in (has_token token) s.tokens p open_ (eq-eqb token p.token (sym m.of_token)) in
-          let (i, k) = found_one (has_token token) s.tokens q f in
-          f ∙ ap Some (one_number (λ (z : Pending). z.token) s.tokens (h.fitted name s m.stands).tokens q p i open_ (sym (eqb-true token q.token k) ∙ sym m.of_token))
-
-      others : (q : List ℕ × StackState) → In q (world_of life).stacks → q.0 ≢ name → find (has_token token) (q.1).tokens ≡ None
-      others q i n = ((h.orderly).own).tokens (name, s) q token p (stands_in name s (world_of life).stacks m.stands) i (λ e. n (sym e)) found
-
-      again : first_again token (world_of life).stacks ≡ Some (lease_for s.operation p)
-      again = repeats_as (world_of life) token name s p m.stands found others
 
       working : is_in_progress s.status ≡ true
       working = ap is_some m.at_stage
@@ -303,13 +628,13 @@ module _ (schemas : List Schema) (life : Life) (steady : AreSteady (world_of lif
       lanes_sound schemas life.entries life.lanes life.leases h (map (changed n f) life.lanes) leases' agrees (kinds_kept n f life.lanes) (lanes_named n f life.lanes h.named) (lanes_described n f schemas life.lanes h.described) going
 
   act_sound : (token : ℕ) (r : CallEnd) (left : Left) → MayHappen schemas life (Act token r left) → IsSoundLife schemas (life_after life (Act token r left))
-  act_sound token r left may = by (lease_at token life) (after (Act token r left) tt may).agrees where
+  act_sound token r left may = by (lease_at token life) (lanes_keep schemas life (Act token r left) tt may h.agrees) where
     going : (l : Lease) → In l (map (replying token r) life.leases) → IsGoing (world_of life) l
     going l i = let (k, j, e) = from_mapped (replying token r) life.leases l i in subst (IsGoing (world_of life)) e (replied_going (world_of life) token r k (h.going k j))
 
     by : (o : Option Lease) → AgreesIn (replied_to token r (acted left o life)) → IsSoundLife schemas (replied_to token r (acted left o life))
     by None g = fewer_sound schemas life.entries life.lanes life.leases h (map (replying token r) life.leases) g going
-    by (Some l) g = changed_sound l.lane (left_by left (world_of life).epoch l.token l.request) (map (replying token r) life.leases) g going
+    by (Some l) g = changed_sound l.lane (lane_left left (world_of life).epoch l.token l.request) (map (replying token r) life.leases) g going
 
   event_sound : (e : Event) → MayHappen schemas life e → IsSoundLife schemas (life_after life e)
   event_sound (Opened epoch lanes end) may = opened_sound epoch lanes end may
@@ -319,14 +644,14 @@ module _ (schemas : List Schema) (life : Life) (steady : AreSteady (world_of lif
   event_sound (Repeat token) may = repeat_sound token may
   event_sound (Settle token e end) may = settle_sound token e end may
   event_sound (Park token) may =
-      fewer_sound schemas life.entries life.lanes life.leases h (filter (λ (l : Lease). not (token == l.token)) life.leases) (after (Park token) tt may).agrees (λ l i. h.going l (back_in token l i))
+      fewer_sound schemas life.entries life.lanes life.leases h (filter (λ (l : Lease). not (token == l.token)) life.leases) (lanes_keep schemas life (Park token) tt may h.agrees) (λ l i. h.going l (back_in token l i))
   event_sound (Raise n a true before counted) may =
-      changed_sound n (λ l. raised_to l (world_of life).epoch) life.leases (after (Raise n a true before counted) tt may).agrees h.going
+      changed_sound n (λ l. raised_to l (world_of life).epoch) life.leases (lanes_keep schemas life (Raise n a true before counted) tt may h.agrees) h.going
   event_sound (Raise n a false before counted) may = h
   event_sound (Act token r left) may = act_sound token r left may
-  event_sound (Late n place s) may = changed_sound n (late_by place s) life.leases (after (Late n place s) tt may).agrees h.going
+  event_sound (Late n place s) may = changed_sound n (late_by place s) life.leases (lanes_keep schemas life (Late n place s) tt may h.agrees) h.going
   event_sound Close may = h
-  event_sound Crash may = fewer_sound schemas life.entries life.lanes life.leases h [] (after Crash tt may).agrees (none_going (world_of life))
+  event_sound Crash may = fewer_sound schemas life.entries life.lanes life.leases h [] (lanes_keep schemas life Crash tt may h.agrees) (none_going (world_of life))
 
   -- what an event appends makes nothing that is not new
   appended_new : (ev : Event) (e : Entry) (out : List ℕ) → Appends life ev e out → MayHappen schemas life ev → MayFollow schemas (world_of life) out e × (IsNew (world_of life) e × IsOfItsLane (world_of life) e)
@@ -347,8 +672,17 @@ event_writes schemas life ev e out of may steady h name t g =
 
 pub start_is_sound_life : StartIsSoundLife
 start_is_sound_life schemas life start = record {
-  agrees = sound.agrees;
-  orderly = sound.orderly;
+  agrees = start_agrees schemas life start;
+  orderly = at_start (λ es. IsOrderly (fold_of empty_world es)) (record {
+    apart = record { names = refl; last = λ n s e. absurd (cc); apart = λ a b s t e. absurd (cc) };
+    own = record {
+      names = refl;
+      once = λ p i. absurd (in_none i);
+      held = λ p q i h j. absurd (in_none j);
+      tokens = λ p q t v j. absurd (in_none j);
+    };
+    once = λ l m i. absurd (in_none i);
+  });
   fitted = at_start (λ es. AllFit (fold_of empty_world es)) (λ name s e. absurd (cc));
   written = at_start (λ es. AreWritten es (fold_of empty_world es)) (λ name s c e. absurd (cc));
   origins = at_start (λ es. HaveOrigins es (fold_of empty_world es) life.lanes) (record { made = λ name s r e. absurd (cc); named = λ t c id e. absurd (cc); there = λ t c e. absurd (cc) });
@@ -357,8 +691,5 @@ start_is_sound_life schemas life start = record {
   named = start.named;
   described = start.described;
 } where
-  sound : IsSound life
-  sound = start_is_sound schemas life start
-
   at_start : (P : List Entry → Type 0) → P [] → P life.entries
   at_start P p = subst P (sym start.no_entries) p

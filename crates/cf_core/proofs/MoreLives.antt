@@ -31,10 +31,9 @@ use Rattle.cf_agree.proofs.Words.{bytes_same}
 use Rattle.cf_core.specs.AccountOf.{Named}
 use Rattle.cf_core.specs.More.{LeasesOnce, LeasesOnceStays, SettlesOnce, SettlesOnceStays, StartIsOnce}
 use Rattle.cf_core.specs.SoundLife.{IsSoundLife}
-use Rattle.cf_core.proofs.FitLists.{into_mapped, one_id}
-use Rattle.cf_core.proofs.Keepings.{token_of}
-use Rattle.cf_core.proofs.Repeats.{may_again}
-use Rattle.cf_core.proofs.StackLists.{differ_end, differ_less}
+use Rattle.cf_core.proofs.FitKept.{into_mapped, one_id}
+use Rattle.cf_core.proofs.Outcomes.{differ_end, differ_less, token_of}
+use Rattle.cf_core.proofs.Settling.{may_again}
 
 -- the lease of a call that goes out again is of its token
 again_token : (token : ℕ) (ss : Named) (l : Lease) → first_again token ss ≡ Some l → l.token ≡ token

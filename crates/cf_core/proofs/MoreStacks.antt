@@ -36,17 +36,19 @@ use Rattle.cf_plan.proofs.CreatedRight.{in_filter}
 use Rattle.cf_plan.proofs.Members.{in_any}
 use Rattle.cf_plan.proofs.RunLists.{any_of, in_back, in_either, in_front, in_one}
 use Rattle.cf_agree.proofs.Words.{bytes_same, same_bytes}
+use Rattle.cf_core.specs.AccountOf.{held_in}
+use Rattle.cf_stacks.specs.declared.held.Held.{Held}
 use Rattle.cf_core.specs.More.{CompletesBegun, CompletesBegunStays, LeavesOnce, LeavesOnceStays, ListsGivenUp, ListsGivenUpStays, has_completed, has_known_id}
 use Rattle.cf_core.specs.OneStack.{IsOnce}
 use Rattle.cf_core.specs.Written.{IsTo, step, begins, reviewed, opened, other}
-use Rattle.cf_core.proofs.FitLists.{into_mapped}
-use Rattle.cf_core.proofs.NewLocal.{held_of}
-use Rattle.cf_core.proofs.StackLists.{differ_end}
+use Rattle.cf_core.proofs.FitKept.{into_mapped}
+use Rattle.cf_core.proofs.BeginEvents.{held_of}
+use Rattle.cf_core.proofs.Outcomes.{differ_end}
 use Rattle.cf_core.proofs.Written.{written_is_to}
 
 -- What an entry leaves of the lists of what is left over and given up: nothing changes, a resource of the stack is left over, or creates
 -- are given up, each of which is left over under no known id.
-data LeftMove (s : StackState) (ls : List Leftover) (gs : List GivenUp) : Type 0 where
+pub data LeftMove (s : StackState) (ls : List Leftover) (gs : List GivenUp) : Type 0 where
   same : ls ≡ s.leftovers → gs ≡ s.abandoned → LeftMove s ls gs
   known : (l : Leftover) → list_any (has_physical l.physical) (resources_of s) ≡ true → ls ≡ s.leftovers ++ l ∷ [] → gs ≡ s.abandoned → LeftMove s ls gs
   lost :
@@ -127,7 +129,7 @@ module _ (s : StackState) where
   entry_left (entry.ChangeSet number n source rows outputs) = same refl refl
 
   module _ {schemas : List Schema} {x : World} {out name : List ℕ} where
-    left_move : {e : Entry} {t : StackState} → IsTo schemas x out name s e t → LeftBy t
+    pub left_move : {e : Entry} {t : StackState} → IsTo schemas x out name s e t → LeftBy t
     left_move {e} (step stage at is_own may) = entry_left e
     left_move (begins k from by) = begun_left (x.operation + 1) name k
     left_move (reviewed number source rows outputs from) = same refl refl
@@ -151,6 +153,23 @@ module _ (s : StackState) where
 pub lists_given_up_stays : ListsGivenUpStays
 lists_given_up_stays schemas x out e name s t w h = lists s t.leftovers t.abandoned (left_move s (written_is_to schemas x out e name s t w)) h
 
+-- what is left over was so before, was held, or has no known id
+pub data FromLeft (s : StackState) (l : Leftover) : Type 0 where
+  was : In l s.leftovers → FromLeft s l
+  of_held : (g : Held) → held_in l.physical s ≡ Some g → FromLeft s l
+  unknown : l.physical ≡ unknown_id → FromLeft s l
+
+held_by : (s : StackState) (i : List ℕ) → list_any (has_physical i) (resources_of s) ≡ true → (g : Held) × (held_in i s ≡ Some g)
+held_by s i held = let r = in_any (has_physical i) (resources_of s) held in held_of i s r.0 r.1 (sym (bytes_same i (r.0).physical r.2))
+
+pub from_left : (s : StackState) (ls : List Leftover) (gs : List GivenUp) → LeftMove s ls gs → (l : Leftover) → In l ls → FromLeft s l
+from_left s ls gs (same a b) l i = was (subst (In l) a i)
+from_left s ls gs (known m held a b) l i = elim (in_either l s.leftovers (m ∷ []) (subst (In l) a i)) [
+  | inl j ↦ was j
+  | inr j ↦ (let g = held_by s m.physical held in of_held g.0 (ap (λ (z : Leftover). held_in z.physical s) (in_one l m j) ∙ g.1))
+]
+from_left s ls gs (lost ms ps a b each none) l i = elim (in_either l s.leftovers ms (subst (In l) a i)) [ inl j ↦ was j | inr j ↦ unknown (none l j) ]
+
 -- no two known ids of what is left over
 abbrev known_ids : List Leftover → List (List ℕ)
 known_ids ls = map (λ (l : Leftover). l.physical) (filter has_known_id ls)
@@ -166,8 +185,7 @@ module _ (s : StackState) (once : IsOnce s) (h : LeavesOnce s) where
     by : (b : Bool) → bytes_eq m.physical l.physical ≡ b → b ≡ false
     by false e = refl
     by true e =
-        let r = in_any (has_physical l.physical) (resources_of s) held in
-        let g = held_of l.physical s r.0 r.1 (sym (bytes_same l.physical (r.0).physical r.2)) in
+        let g = held_by s l.physical held in
         let j = any_of (λ (z : Leftover). bytes_eq l.physical z.physical) s.leftovers m (in_filter has_known_id s.leftovers m i).0 (same_bytes l.physical m.physical (sym (bytes_same m.physical l.physical e))) in
         sym (ap (λ b. b && list_any (λ (z : Leftover). bytes_eq l.physical z.physical) s.leftovers) is ∙ j) ∙ once.left l.physical g.0 g.1
 
@@ -205,15 +223,15 @@ module _ (schemas : List Schema) (x : World) (out name : List ℕ) (s : StackSta
   turned_completes phase.BackClean e = absurd (true≢false (sym e ∙ (never_back s.status).1))
 
   ended_completes : (a b : Status) → s.status ≡ a → EndsAs schemas name x s a b → CompletesBegun (ended_effect b s).stack
-  ended_completes status.CreateInProgress status.CreateComplete was k e = refl
-  ended_completes status.UpdateCompleteCleanupInProgress status.UpdateComplete was k e = h (ap has_completed was)
-  ended_completes status.RollbackInProgress status.RollbackComplete was k e = absurd (true≢false (sym e))
-  ended_completes status.RollbackInProgress status.RollbackFailed was k e = absurd (true≢false (sym e))
-  ended_completes status.DeleteInProgress status.DeleteComplete was k e = absurd (true≢false (sym e))
-  ended_completes status.DeleteInProgress status.DeleteFailed was k e = absurd (true≢false (sym e))
-  ended_completes status.UpdateRollbackCompleteCleanupInProgress status.UpdateRollbackComplete was k e = absurd (true≢false (sym e))
-  ended_completes status.UpdateRollbackInProgress status.UpdateRollbackFailed was k e = absurd (true≢false (sym e))
-  ended_completes a b was k e = absurd k
+  ended_completes status.CreateInProgress status.CreateComplete at k e = refl
+  ended_completes status.UpdateCompleteCleanupInProgress status.UpdateComplete at k e = h (ap has_completed at)
+  ended_completes status.RollbackInProgress status.RollbackComplete at k e = absurd (true≢false (sym e))
+  ended_completes status.RollbackInProgress status.RollbackFailed at k e = absurd (true≢false (sym e))
+  ended_completes status.DeleteInProgress status.DeleteComplete at k e = absurd (true≢false (sym e))
+  ended_completes status.DeleteInProgress status.DeleteFailed at k e = absurd (true≢false (sym e))
+  ended_completes status.UpdateRollbackCompleteCleanupInProgress status.UpdateRollbackComplete at k e = absurd (true≢false (sym e))
+  ended_completes status.UpdateRollbackInProgress status.UpdateRollbackFailed at k e = absurd (true≢false (sym e))
+  ended_completes a b at k e = absurd k
 
   begun_completes : (number : ℕ) (k : Begun) → CompletesBegun (effect_of (entry.Begin number name k) s).stack
   begun_completes number (begin.Create source) e = absurd (true≢false (sym e))

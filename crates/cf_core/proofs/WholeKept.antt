@@ -69,7 +69,7 @@ use Rattle.cf_desired.proofs.Planned.{is_seen_at, plan_known}
 use Rattle.cf_core.specs.Advancing.{IsAdvancing, IsAsSaid, AreSameThings, more as more_same, none as none_same, AreSingle}
 use Rattle.cf_core.specs.Completing.{ShapeIsKept, CreationIsWhole, UpdateIsWhole, ExportsSame, CleanupKeepsWhole, IsAsItWas, IsNoBegin, RestKeepsWhole, StaysAtRest, UpdateEndsAtRest, BackIsRestored, ClearedIsRestored, CourseKeepsPromise, HeldIsFound, WholeIsComplete}
 use Rattle.cf_core.specs.Fits.{Fits, BecomesBy, at_opening, other as of_another, own as is_own}
-use Rattle.cf_core.proofs.FitLists.{one_id}
+use Rattle.cf_core.proofs.FitKept.{one_id}
 use Rattle.cf_core.specs.Whole.{HoldsWhole, IsAtRest, DeletesSuperseded}
 use Rattle.cf_core.proofs.Moving.{in_stage}
 use Rattle.cf_core.proofs.TidyLists.{from_changed, to_changed}

@@ -1,6 +1,6 @@
 -- What else holds at each moment: what completed is what was begun, a create that was given up is listed, and nothing stands twice: no
 -- lease, no settled token, no known id of what is left over (this project's own; what a status says is that of the User Guide).
-use Rattle.std.specs.Prelude.{◌≡◌, ℕ, ◌==◌, Bool, true, false, not, List, map, filter}
+use Rattle.std.specs.Prelude.{◌≡◌, ◌≢◌, Some, ℕ, ◌==◌, Bool, true, false, not, List, map, filter}
 use Rattle.std.specs.Str.{bytes_eq}
 use Rattle.cf_tree.specs.Named.{all_differ}
 use Rattle.cf_entry.specs.declared.entry.Entry.{Entry}
@@ -9,13 +9,14 @@ use Rattle.cf_entry.specs.declared.status.Status.TheVariants as status
 use Rattle.cf_schema.specs.declared.described.Schema.{Schema}
 use Rattle.cf_stacks.specs.declared.held.GivenUp.{GivenUp}
 use Rattle.cf_stacks.specs.declared.held.Leftover.{Leftover}
-use Rattle.cf_stacks.specs.World.{StackState, World}
+use Rattle.cf_stacks.specs.World.{StackState, World, known_stack, stack_at}
+use Rattle.cf_stacks.specs.Fold.{world_after}
 use Rattle.cf_stacks.specs.Begin.{unknown_id}
 use Rattle.cf_plan.specs.Forward.{In}
 use Rattle.cf_plan.specs.Lanes.{Lane}
 use Rattle.cf_plan.specs.Life.{Event, IsStart, Life, MayHappen, life_after, tokens_out}
 use Rattle.cf_core.specs.Fits.{IsWritten}
-use Rattle.cf_core.specs.OneStack.{IsOnce}
+use Rattle.cf_core.specs.OneStack.{AreOwn, IsOnce}
 use Rattle.cf_core.specs.SoundLife.{IsSoundLife}
 
 -- in these statuses the source that the last creation or update began with is the one that was completed last
@@ -55,6 +56,18 @@ abbrev pub LeavesOnceStays : Type 0
 LeavesOnceStays =
     (schemas : List Schema) (x : World) (out : List ℕ) (e : Entry) (name : List ℕ) (s t : StackState) → IsWritten schemas x out e name s t
     → IsOnce s → LeavesOnce s → LeavesOnce t
+
+-- what is left over of two stacks has no known id in common
+abbrev pub LeavesApart : World → Type 0
+LeavesApart x =
+    (n m : List ℕ) → n ≢ m → (l k : Leftover) → In l (known_stack n x).leftovers → In k (known_stack m x).leftovers
+    → has_known_id l ≡ true → l.physical ≡ k.physical → ⊥
+
+abbrev pub LeavesApartStays : Type 0
+LeavesApartStays =
+    (schemas : List Schema) (x : World) (out : List ℕ) (e : Entry)
+    → ((name : List ℕ) (t : StackState) → stack_at name (world_after x e) ≡ Some t → IsWritten schemas x out e name (known_stack name x) t)
+    → AreOwn x.stacks → LeavesApart x → LeavesApart (world_after x e)
 
 -- no two calls that are out are of one token
 abbrev pub LeasesOnce : Life → Type 0

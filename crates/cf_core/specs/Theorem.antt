@@ -8,17 +8,18 @@ use Rattle.cf_plan.specs.Life.{Event, IsLife, IsStart, Life, MayHappen, life_aft
 use Rattle.cf_plan.specs.Promise.{AreKept}
 use Rattle.cf_core.specs.GoesOn.{HasKinds, HasNext}
 use Rattle.cf_core.specs.Hiding.{AreDescribed}
-use Rattle.cf_core.specs.More.{LeasesOnce, SettlesOnce}
+use Rattle.cf_core.specs.More.{LeasesOnce, LeavesApart, SettlesOnce}
 use Rattle.cf_core.specs.OnCourse.{IsOnWay}
 use Rattle.cf_core.specs.SoundLife.{IsSoundLife}
 
 -- what holds at every moment: journal and lanes agree, each type of a lane has its schema, no two calls that are out are of one token, no
--- lane settles a token twice, and each stack is on its course
+-- lane settles a token twice, what is left over of two stacks has no known id in common, and each stack is on its course
 pub record HoldsAlways (schemas : List Schema) (life : Life) : Type 0 where
   pub sound : IsSoundLife schemas life
   pub described : AreDescribed schemas (world_of life)
   pub leases : LeasesOnce life
   pub settles : SettlesOnce life
+  pub leaves : LeavesApart (world_of life)
   pub way : (name : List ℕ) (s : StackState) → stack_at name (world_of life) ≡ Some s → IsOnWay schemas name (world_of life) s
 
 -- From every start, after every list of events each of which may happen in its turn: agreement, and each status keeps its promise.

@@ -1,6 +1,6 @@
 //! Laws about the events of an engine's life: which of them keep agreement of journal and lanes. None
 //! of these functions does anything when it runs.
-ghost use Rattle.cf_core.specs.LifeAgrees.{HeldIsLive, IntentKeepsIn, LanesKeep, OpenedKeeps, RepeatKeeps, RunIsSound, SettleKeeps, SoundKept, StartIsSound};
+ghost use Rattle.cf_core.specs.LifeAgrees.{HeldIsLive, LanesKeep, OpenedKeeps, RepeatKeeps, SettleKeeps};
 
 /// Calls, late effects, fences, parked leases, closings and crashes keep agreement in a life.
 pub fn lanes_keep()
@@ -12,12 +12,6 @@ pub fn opened_keeps()
     ensures { OpenedKeeps }
 {}
 
-/// A call that is written down and granted keeps what holds at each moment, where it names a resource
-/// of its stack at its path.
-pub fn intent_keeps_in()
-    ensures { IntentKeepsIn }
-{}
-
 /// An outcome that is written down keeps what holds at each moment, whatever was asked and answered.
 pub fn settle_keeps()
     ensures { SettleKeeps }
@@ -26,22 +20,6 @@ pub fn settle_keeps()
 /// A call that is made again keeps what holds at each moment.
 pub fn repeat_keeps()
     ensures { RepeatKeeps }
-{}
-
-/// What holds at each moment of a life is kept by each event of lanes and leases, by openings, by calls
-/// that are written down, by outcomes, by later phases, by ends, and by calls that are made again.
-pub fn sound_kept()
-    ensures { SoundKept }
-{}
-
-/// A list of these events keeps what holds at each moment.
-pub fn run_is_sound()
-    ensures { RunIsSound }
-{}
-
-/// It holds at a start.
-pub fn start_is_sound()
-    ensures { StartIsSound }
 {}
 
 /// Where no call of a stack is open, what it holds is live: under its id, on the lane that the id names,

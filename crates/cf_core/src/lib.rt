@@ -23,10 +23,7 @@ pub use completing::{
     creation_is_whole, held_is_found, rest_keeps_whole, stays_at_rest, update_ends_at_rest,
     update_is_whole, whole_is_complete,
 };
-pub use events::{
-    held_is_live, intent_keeps_in, lanes_keep, opened_keeps, repeat_keeps, run_is_sound,
-    settle_keeps, sound_kept, start_is_sound,
-};
+pub use events::{held_is_live, lanes_keep, opened_keeps, repeat_keeps, settle_keeps};
 pub use fitting::{each_is_written, fits_kept};
 pub use hiding::{
     described_is_kept, intended_is_hidden, none_is_ordered, order_stays, rest_begins_seen,
@@ -34,8 +31,8 @@ pub use hiding::{
 };
 pub use laws::{cleared_stays, ends_cleared, unmaking_begins, unmaking_stays, written_is_to};
 pub use more::{
-    completes_begun_stays, leases_once_stays, leaves_once_stays, lists_given_up_stays,
-    settles_once_stays, start_is_once,
+    completes_begun_stays, leases_once_stays, leaves_apart_stays, leaves_once_stays,
+    lists_given_up_stays, settles_once_stays, start_is_once,
 };
 pub use moves::{
     done_moves, doubt_moves, intent_moves, kept_may, kept_moves, one_is_put, opening_moves,

@@ -2,6 +2,7 @@
 ghost use Rattle.cf_core.specs.More.{
   CompletesBegunStays,
   LeasesOnceStays,
+  LeavesApartStays,
   LeavesOnceStays,
   ListsGivenUpStays,
   SettlesOnceStays,
@@ -21,6 +22,11 @@ pub fn lists_given_up_stays()
 /// No two things that are left over of a stack have one known id.
 pub fn leaves_once_stays()
     ensures { LeavesOnceStays }
+{}
+
+/// What is left over of two stacks has no known id in common.
+pub fn leaves_apart_stays()
+    ensures { LeavesApartStays }
 {}
 
 /// No two calls that are out are of one token.

@@ -1,4 +1,4 @@
-use Rattle.cf_core.proofs.Living.{held_is_live}
+use Rattle.cf_core.proofs.Settling.{held_is_live}
 use Rattle.cf_core.proofs.events.held_is_live.Goals as goal
 
 pub returns : goal.returns

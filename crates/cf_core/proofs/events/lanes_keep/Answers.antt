@@ -1,4 +1,4 @@
-use Rattle.cf_core.proofs.LifeLanes.{lanes_keep}
+use Rattle.cf_core.proofs.Settling.{lanes_keep}
 use Rattle.cf_core.proofs.events.lanes_keep.Goals as goal
 
 pub returns : goal.returns

@@ -1,4 +1,4 @@
-use Rattle.cf_core.proofs.Openings.{opened_keeps}
+use Rattle.cf_core.proofs.Settling.{opened_keeps}
 use Rattle.cf_core.proofs.events.opened_keeps.Goals as goal
 
 pub returns : goal.returns

@@ -1,4 +1,4 @@
-use Rattle.cf_core.proofs.Quiet.{done_moves}
+use Rattle.cf_core.proofs.Outcomes.{done_moves}
 use Rattle.cf_core.proofs.moves.done_moves.Goals as goal
 
 pub returns : goal.returns

@@ -1,4 +1,4 @@
-use Rattle.cf_core.proofs.Moved.{intent_moves}
+use Rattle.cf_core.proofs.Entries.{intent_moves}
 use Rattle.cf_core.proofs.moves.intent_moves.Goals as goal
 
 pub returns : goal.returns

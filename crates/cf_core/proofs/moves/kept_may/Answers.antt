@@ -1,4 +1,4 @@
-use Rattle.cf_core.proofs.Keepings.{kept_may}
+use Rattle.cf_core.proofs.Outcomes.{kept_may}
 use Rattle.cf_core.proofs.moves.kept_may.Goals as goal
 
 pub returns : goal.returns

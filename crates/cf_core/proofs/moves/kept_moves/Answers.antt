@@ -1,4 +1,4 @@
-use Rattle.cf_core.proofs.Keepings.{kept_moves}
+use Rattle.cf_core.proofs.Outcomes.{kept_moves}
 use Rattle.cf_core.proofs.moves.kept_moves.Goals as goal
 
 pub returns : goal.returns

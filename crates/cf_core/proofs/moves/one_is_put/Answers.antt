@@ -1,4 +1,4 @@
-use Rattle.cf_core.proofs.Going.{one_is_put}
+use Rattle.cf_core.proofs.Entries.{one_is_put}
 use Rattle.cf_core.proofs.moves.one_is_put.Goals as goal
 
 pub returns : goal.returns

@@ -1,4 +1,4 @@
-use Rattle.cf_core.proofs.Moved.{opening_moves}
+use Rattle.cf_core.proofs.Entries.{opening_moves}
 use Rattle.cf_core.proofs.moves.opening_moves.Goals as goal
 
 pub returns : goal.returns

@@ -1,4 +1,4 @@
-use Rattle.cf_core.proofs.Quiet.{phase_moves}
+use Rattle.cf_core.proofs.Outcomes.{phase_moves}
 use Rattle.cf_core.proofs.moves.phase_moves.Goals as goal
 
 pub returns : goal.returns
