@@ -4,7 +4,7 @@ use Rattle.std.specs.Prelude.{◌||◌, cond, fold, ◌↔◌}
 use Rattle.std.specs.List.{list_any}
 use Rattle.std.specs.Option.{option_or}
 use Rattle.std.proofs.lemmas.List.Folds.{find-append, list_any-append}
-use Rattle.cf_stacks.specs.Words.{change_first}
+use Rattle.cf_effect.specs.Words.{change_first}
 use Rattle.cf_tree.specs.Lists.{insert_by}
 use Rattle.cf_plan.proofs.Listed.{in_cons}
 use Rattle.cf_plan.specs.Forward.{In, here, there}

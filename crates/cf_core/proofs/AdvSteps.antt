@@ -28,18 +28,18 @@ use Rattle.cf_desired.proofs.Puts.{kept_self}
 use Rattle.cf_desired.specs.Turns as turn
 use Rattle.cf_rests.specs.Views.{wanted_from}
 use Rattle.cf_rests.proofs.Viewed.{by_paths}
-use Rattle.cf_stacks.specs.World.{StackState, World}
-use Rattle.cf_stacks.specs.Words.{is_current_at, has_token, is_update, updates, without_token, change_first, current_at, has_physical, resources_of, where_physical, pending_of}
-use Rattle.cf_stacks.specs.Begin.{seen_in, source_for}
-use Rattle.cf_stacks.specs.End.{seen_now}
-use Rattle.cf_stacks.specs.Reply.{terms_of, wanted_in, still_open, updating, answered, closing, made_of, replied, status_made, terms_at}
-use Rattle.cf_stacks.specs.declared.call.Call.{Call}
-use Rattle.cf_stacks.specs.declared.held.Held.{Held}
-use Rattle.cf_stacks.specs.declared.held.Pending.{Pending}
-use Rattle.cf_stacks.specs.Calls.{answered_call, is_call, is_restore, is_success, succeeded, was_updated, where_call, anew, new_call, is_open_call}
-use Rattle.cf_stacks.specs.Status.{goes_back, goes_forward, Forward, Gone, Stage, stage_of, turned, is_in_progress, reviewed}
-use Rattle.cf_stacks.specs.Effect.{heard, on_stack}
-use Rattle.cf_stacks.specs.Fold.{effect_at}
+use Rattle.cf_effect.specs.World.{StackState, World}
+use Rattle.cf_effect.specs.Words.{is_current_at, has_token, is_update, updates, without_token, change_first, current_at, has_physical, resources_of, where_physical, pending_of}
+use Rattle.cf_effect.specs.Begin.{seen_in, source_for}
+use Rattle.cf_effect.specs.End.{seen_now}
+use Rattle.cf_effect.specs.Reply.{terms_of, wanted_in, still_open, updating, answered, closing, made_of, replied, status_made, terms_at}
+use Rattle.cf_effect.specs.declared.call.Call.{Call}
+use Rattle.cf_effect.specs.declared.held.Held.{Held}
+use Rattle.cf_effect.specs.declared.held.Pending.{Pending}
+use Rattle.cf_effect.specs.Calls.{answered_call, is_call, is_restore, is_success, succeeded, was_updated, where_call, anew, new_call, is_open_call}
+use Rattle.cf_effect.specs.Status.{goes_back, goes_forward, Forward, Gone, Stage, stage_of, turned, is_in_progress, reviewed}
+use Rattle.cf_effect.specs.Effect.{heard, on_stack}
+use Rattle.cf_effect.specs.Fold.{effect_at}
 use Rattle.cf_plan.specs.Between.{needs_at}
 use Rattle.cf_plan.specs.Forward.{In, IsDone, IsReady, Later, evaluated_at, finding, is_made, is_right, is_updated, plan_in, wanted_paths, was_updated_at, Known}
 use Rattle.cf_plan.proofs.CreatedSeen.{shown, shown_at}

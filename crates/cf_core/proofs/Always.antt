@@ -18,17 +18,17 @@ use Rattle.cf_entry.specs.declared.status.Status.TheVariants as status
 use Rattle.cf_entry.specs.declared.turn.Phase.TheVariants as phase
 use Rattle.cf_schema.specs.declared.described.Schema.{Schema}
 use Rattle.cf_schema.specs.Kinds.{found}
-use Rattle.cf_stacks.specs.World.{StackState, World, empty_world, known_stack, no_stack, stack_at, is_going, stack_of_operation}
-use Rattle.cf_stacks.specs.Effect.{leaving}
-use Rattle.cf_stacks.specs.Fold.{effect_at, fold_of, is_opening, stack_for, world_after}
+use Rattle.cf_effect.specs.World.{StackState, World, empty_world, known_stack, no_stack, stack_at, is_going, stack_of_operation}
+use Rattle.cf_effect.specs.Effect.{leaving}
+use Rattle.cf_effect.specs.Fold.{effect_at, fold_of, is_opening, stack_for, world_after}
 use Rattle.cf_stacks.proofs.Folded.{folded_more}
-use Rattle.cf_stacks.specs.Status.{Forward, begun, reviewed as review, stage_of, turned, is_in_progress, Clean, BackClean, goes_forward}
-use Rattle.cf_stacks.specs.declared.held.Held.{Held}
-use Rattle.cf_stacks.specs.declared.held.Pending.{Pending}
-use Rattle.cf_stacks.specs.Words.{pending_of, resources_of, without}
-use Rattle.cf_stacks.specs.Calls.{is_restore}
-use Rattle.cf_stacks.specs.End.{marked}
-use Rattle.cf_stacks.specs.Reply.{answered, intending, keeping, replied, replying}
+use Rattle.cf_effect.specs.Status.{Forward, begun, reviewed as review, stage_of, turned, is_in_progress, Clean, BackClean, goes_forward}
+use Rattle.cf_effect.specs.declared.held.Held.{Held}
+use Rattle.cf_effect.specs.declared.held.Pending.{Pending}
+use Rattle.cf_effect.specs.Words.{pending_of, resources_of, without}
+use Rattle.cf_effect.specs.Calls.{is_restore}
+use Rattle.cf_effect.specs.End.{marked}
+use Rattle.cf_effect.specs.Reply.{answered, intending, keeping, replied, replying}
 use Rattle.cf_handler.specs.Fence.{Left}
 use Rattle.cf_plan.specs.Forward.{In}
 use Rattle.cf_plan.specs.Lanes.{AreSchemas, Lane}

@@ -10,16 +10,16 @@ use Rattle.cf_tree.specs.declared.request.Request.TheVariants as request
 use Rattle.cf_entry.specs.declared.entry.Reply.{Reply}
 use Rattle.cf_entry.specs.declared.entry.Reply.TheVariants as reply
 use Rattle.cf_entry.specs.declared.status.Status.{Status}
-use Rattle.cf_stacks.specs.declared.call.Call.{Call}
-use Rattle.cf_stacks.specs.declared.held.Held.{Held}
-use Rattle.cf_stacks.specs.declared.held.HeldStatus.TheVariants as held
-use Rattle.cf_stacks.specs.declared.held.Pending.{Pending}
-use Rattle.cf_stacks.specs.World.{StackState, World}
-use Rattle.cf_stacks.specs.Words.{current_at, has_physical, has_token, id_named, pending_of, resources_of, updates, where_physical, without_token}
-use Rattle.cf_stacks.specs.Calls.{answered_call, call_of, is_call, is_restore, is_success, succeeded, was_restored, where_call}
-use Rattle.cf_stacks.specs.Operation.{was_skipped}
-use Rattle.cf_stacks.specs.Reply.{answered, changing, closing, made_of, making, replied, replying, status_made, still_open, terms_at, updating, with_status}
-use Rattle.cf_stacks.specs.Status.{goes_back, goes_forward}
+use Rattle.cf_effect.specs.declared.call.Call.{Call}
+use Rattle.cf_effect.specs.declared.held.Held.{Held}
+use Rattle.cf_effect.specs.declared.held.HeldStatus.TheVariants as held
+use Rattle.cf_effect.specs.declared.held.Pending.{Pending}
+use Rattle.cf_effect.specs.World.{StackState, World}
+use Rattle.cf_effect.specs.Words.{current_at, has_physical, has_token, id_named, pending_of, resources_of, updates, where_physical, without_token}
+use Rattle.cf_effect.specs.Calls.{answered_call, call_under as call_of, is_call, is_restore, is_success, succeeded, was_restored, where_call}
+use Rattle.cf_effect.specs.Operation.{was_skipped}
+use Rattle.cf_effect.specs.Reply.{answered, changing, closing, made_of, making, replied, replying, status_made, still_open, terms_at, updating, with_status}
+use Rattle.cf_effect.specs.Status.{goes_back, goes_forward}
 use Rattle.cf_plan.specs.Follow.{settled_by}
 use Rattle.cf_plan.specs.Forward.{In}
 use Rattle.cf_plan.proofs.CreatedRight.{in_filter, not_so}

@@ -8,11 +8,11 @@ use Rattle.cf_entry.specs.declared.entry.Reply.{Reply}
 use Rattle.cf_entry.specs.declared.entry.Reply.TheVariants as reply
 use Rattle.cf_entry.specs.declared.status.Status.{Status}
 use Rattle.cf_entry.specs.declared.status.Status.TheVariants as status
-use Rattle.cf_stacks.specs.declared.call.Call.{Call}
-use Rattle.cf_stacks.specs.declared.held.Pending.{Pending}
-use Rattle.cf_stacks.specs.Calls.{anew, answered_call, is_call, is_success, new_call, succeeded, where_call}
-use Rattle.cf_stacks.specs.Status.{goes_back, goes_forward}
-use Rattle.cf_stacks.specs.Words.{updates}
+use Rattle.cf_effect.specs.declared.call.Call.{Call}
+use Rattle.cf_effect.specs.declared.held.Pending.{Pending}
+use Rattle.cf_effect.specs.Calls.{anew, answered_call, is_call, is_success, new_call, succeeded, where_call}
+use Rattle.cf_effect.specs.Status.{goes_back, goes_forward}
+use Rattle.cf_effect.specs.Words.{updates}
 use Rattle.cf_plan.specs.Follow.{settled_by}
 use Rattle.cf_plan.specs.Forward.{In}
 use Rattle.cf_plan.proofs.CreatedStays.{found_one, found_still}

@@ -21,18 +21,18 @@ use Rattle.cf_entry.specs.declared.entry.Reply.TheVariants as reply
 use Rattle.cf_entry.specs.declared.status.Status.{Status}
 use Rattle.cf_entry.specs.declared.turn.Why.{Why}
 use Rattle.cf_schema.specs.declared.described.Schema.{Schema}
-use Rattle.cf_stacks.specs.declared.held.Held.{Held}
-use Rattle.cf_stacks.specs.declared.held.HeldStatus.{HeldStatus}
-use Rattle.cf_stacks.specs.declared.held.HeldStatus.TheVariants as held
-use Rattle.cf_stacks.specs.declared.held.Pending.{Pending}
-use Rattle.cf_stacks.specs.World.{StackState, World}
-use Rattle.cf_stacks.specs.Words.{current_at, has_physical, has_token, is_create_at, is_current_at, is_on, pending_of, resources_of, where_physical}
-use Rattle.cf_stacks.specs.Begin.{as_before, beginning, skipped_in}
-use Rattle.cf_stacks.specs.Calls.{anew, is_call, is_restore, was_restored, was_updated}
-use Rattle.cf_stacks.specs.End.{left_in_doubt, marked, stopping}
-use Rattle.cf_stacks.specs.Operation.{named_in, was_skipped}
-use Rattle.cf_stacks.specs.Reply.{answered, deleting, keeping, keeping_known, keeping_unknown, replied, replying, with_status}
-use Rattle.cf_stacks.specs.Status.{goes_back, goes_forward}
+use Rattle.cf_effect.specs.declared.held.Held.{Held}
+use Rattle.cf_effect.specs.declared.held.HeldStatus.{HeldStatus}
+use Rattle.cf_effect.specs.declared.held.HeldStatus.TheVariants as held
+use Rattle.cf_effect.specs.declared.held.Pending.{Pending}
+use Rattle.cf_effect.specs.World.{StackState, World}
+use Rattle.cf_effect.specs.Words.{current_at, has_physical, has_token, is_create_at, is_current_at, is_on, pending_of, resources_of, where_physical}
+use Rattle.cf_effect.specs.Begin.{as_before, beginning, skipped_in}
+use Rattle.cf_effect.specs.Calls.{anew, is_call, is_restore, was_restored, was_updated}
+use Rattle.cf_effect.specs.End.{left_in_doubt, marked, stopping}
+use Rattle.cf_effect.specs.Operation.{named_in, was_skipped}
+use Rattle.cf_effect.specs.Reply.{answered, deleting, keeping, keeping_known, keeping_unknown, replied, replying, with_status}
+use Rattle.cf_effect.specs.Status.{goes_back, goes_forward}
 use Rattle.cf_plan.specs.Follow.{IsToRestore}
 use Rattle.cf_plan.specs.Forward.{In, is_made}
 use Rattle.cf_plan.proofs.CreatedRight.{in_filter, not_so}

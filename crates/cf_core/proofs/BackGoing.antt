@@ -9,16 +9,16 @@ use Rattle.cf_tree.specs.declared.request.Request.TheVariants as request
 use Rattle.cf_entry.specs.declared.entry.Entry.{Entry}
 use Rattle.cf_entry.specs.declared.entry.Entry.TheVariants as entry
 use Rattle.cf_entry.specs.declared.status.Status.{Status}
-use Rattle.cf_stacks.specs.declared.call.Call.{Call}
-use Rattle.cf_stacks.specs.declared.held.Held.{Held}
-use Rattle.cf_stacks.specs.declared.held.Pending.{Pending}
-use Rattle.cf_stacks.specs.World.{StackState}
-use Rattle.cf_stacks.specs.Words.{current_at, has_token, id_named}
-use Rattle.cf_stacks.specs.Calls.{anew, new_call, was_restored, was_updated}
-use Rattle.cf_stacks.specs.Effect.{entries_with}
-use Rattle.cf_stacks.specs.Operation.{named_in, was_skipped}
-use Rattle.cf_stacks.specs.Reply.{intending}
-use Rattle.cf_stacks.specs.Status.{goes_back, goes_forward}
+use Rattle.cf_effect.specs.declared.call.Call.{Call}
+use Rattle.cf_effect.specs.declared.held.Held.{Held}
+use Rattle.cf_effect.specs.declared.held.Pending.{Pending}
+use Rattle.cf_effect.specs.World.{StackState}
+use Rattle.cf_effect.specs.Words.{current_at, has_token, id_named}
+use Rattle.cf_effect.specs.Calls.{anew, new_call, was_restored, was_updated}
+use Rattle.cf_effect.specs.Effect.{entries_with}
+use Rattle.cf_effect.specs.Operation.{named_in, was_skipped}
+use Rattle.cf_effect.specs.Reply.{intending}
+use Rattle.cf_effect.specs.Status.{goes_back, goes_forward}
 use Rattle.cf_plan.specs.Forward.{In}
 use Rattle.cf_plan.proofs.CreatedStays.{in_more}
 use Rattle.cf_core.specs.Advancing.{AreSameThings, AreSingle, IsSameThing}

@@ -16,16 +16,16 @@ use Rattle.cf_entry.specs.declared.turn.Phase.TheVariants as phase
 use Rattle.cf_entry.specs.declared.turn.Why.{Why}
 use Rattle.cf_entry.specs.declared.turn.Why.TheVariants as why
 use Rattle.cf_schema.specs.declared.described.Schema.{Schema}
-use Rattle.cf_stacks.specs.declared.held.Pending.{Pending}
-use Rattle.cf_stacks.specs.World.{StackState, World}
-use Rattle.cf_stacks.specs.Words.{has_token}
-use Rattle.cf_stacks.specs.Calls.{new_call}
-use Rattle.cf_stacks.specs.Effect.{entries_with}
-use Rattle.cf_stacks.specs.End.{stopping}
-use Rattle.cf_stacks.specs.Fold.{effect_at, effect_of}
-use Rattle.cf_stacks.specs.Operation.{was_skipped}
-use Rattle.cf_stacks.specs.Reply.{intending, keeping, replying}
-use Rattle.cf_stacks.specs.Status.{Stage, Back, BackClean, Forward, Gone, reviewed as reviewed_as, stage_of}
+use Rattle.cf_effect.specs.declared.held.Pending.{Pending}
+use Rattle.cf_effect.specs.World.{StackState, World}
+use Rattle.cf_effect.specs.Words.{has_token}
+use Rattle.cf_effect.specs.Calls.{new_call}
+use Rattle.cf_effect.specs.Effect.{entries_with}
+use Rattle.cf_effect.specs.End.{stopping}
+use Rattle.cf_effect.specs.Fold.{effect_at, effect_of}
+use Rattle.cf_effect.specs.Operation.{was_skipped}
+use Rattle.cf_effect.specs.Reply.{intending, keeping, replying}
+use Rattle.cf_effect.specs.Status.{Stage, Back, BackClean, Forward, Gone, reviewed as reviewed_as, stage_of}
 use Rattle.cf_plan.specs.Accept.{creates_from}
 use Rattle.cf_plan.specs.Follow.{EndsAs, IntendsIn, MayFollowIn, MayKeep, MayTurn, begins_from, continues_from, deletes_from, updates_from}
 use Rattle.cf_plan.specs.Forward.{In}

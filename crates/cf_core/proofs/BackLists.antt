@@ -7,8 +7,8 @@ use Rattle.std.specs.Cmp.{first_so, second_so}
 use Rattle.std.proofs.lemmas.List.{map-append}
 use Rattle.std.proofs.lemmas.List.Folds.{find-append, list_any-append}
 use Rattle.cf_tree.specs.Named.{all_differ}
-use Rattle.cf_stacks.specs.declared.held.Held.{Held}
-use Rattle.cf_stacks.specs.Words.{change_first, current_at, has_physical, is_current_at, without}
+use Rattle.cf_effect.specs.declared.held.Held.{Held}
+use Rattle.cf_effect.specs.Words.{change_first, current_at, has_physical, is_current_at, without}
 use Rattle.cf_plan.specs.Forward.{In, here, there}
 use Rattle.cf_plan.proofs.CreatedStays.{found_in_more, found_one, found_still, in_more}
 use Rattle.cf_plan.proofs.CreatedWhole.{in_map}

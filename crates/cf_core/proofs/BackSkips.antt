@@ -13,15 +13,15 @@ use Rattle.cf_entry.specs.declared.turn.Phase.{Phase}
 use Rattle.cf_entry.specs.declared.turn.Phase.TheVariants as phase
 use Rattle.cf_entry.specs.declared.turn.Why.{Why}
 use Rattle.cf_schema.specs.declared.described.Schema.{Schema}
-use Rattle.cf_stacks.specs.declared.held.Pending.{Pending}
-use Rattle.cf_stacks.specs.World.{StackState, World}
-use Rattle.cf_stacks.specs.Words.{has_physical, is_create_at, pending_of, resources_of}
-use Rattle.cf_stacks.specs.Calls.{is_restore}
-use Rattle.cf_stacks.specs.Effect.{entries_with}
-use Rattle.cf_stacks.specs.Fold.{effect_at, effect_of}
-use Rattle.cf_stacks.specs.Operation.{named_in}
-use Rattle.cf_stacks.specs.Reply.{intending, keeping, keeping_known, keeping_unknown, replied, replying}
-use Rattle.cf_stacks.specs.Status.{Stage, reviewed as reviewed_as, turned}
+use Rattle.cf_effect.specs.declared.held.Pending.{Pending}
+use Rattle.cf_effect.specs.World.{StackState, World}
+use Rattle.cf_effect.specs.Words.{has_physical, is_create_at, pending_of, resources_of}
+use Rattle.cf_effect.specs.Calls.{is_restore}
+use Rattle.cf_effect.specs.Effect.{entries_with}
+use Rattle.cf_effect.specs.Fold.{effect_at, effect_of}
+use Rattle.cf_effect.specs.Operation.{named_in}
+use Rattle.cf_effect.specs.Reply.{intending, keeping, keeping_known, keeping_unknown, replied, replying}
+use Rattle.cf_effect.specs.Status.{Stage, reviewed as reviewed_as, turned}
 use Rattle.cf_stacks.proofs.Stepped.{intending_rest}
 use Rattle.cf_plan.specs.Follow.{EndsAs, MayFollowIn}
 use Rattle.cf_plan.proofs.BlameMade.{answered_left}

@@ -34,18 +34,18 @@ use Rattle.cf_plan.specs.Forward.{In, here, there}
 use Rattle.cf_plan.specs.Lanes.{Lane, lane_at}
 use Rattle.cf_plan.specs.Life.{Lease, named_lane}
 use Rattle.cf_schema.specs.declared.described.Schema.{Schema}
-use Rattle.cf_stacks.specs.Begin.{unknown_id, as_before, creates_at, given_up, skipped_creates, skipped_in, lost_create}
-use Rattle.cf_stacks.specs.Effect.{heard, on_stack}
-use Rattle.cf_stacks.specs.Fold.{changed_by, effect_at, world_after, stack_for, is_opening}
-use Rattle.cf_stacks.specs.Operation.{reply_in}
-use Rattle.cf_stacks.specs.Reply.{keeping_unknown}
-use Rattle.cf_stacks.specs.Status.{Stage, Forward, Clean, Back, BackClean, Gone, is_in_progress, reviewed}
-use Rattle.cf_stacks.specs.Words.{has_token, is_create, is_created, has_physical, resources_of, is_create_at}
-use Rattle.cf_stacks.specs.World.{StackState, World, stack_of_operation, known_stack, no_stack, stack_at}
-use Rattle.cf_stacks.specs.declared.held.GivenUp.{GivenUp as LostCall}
-use Rattle.cf_stacks.specs.declared.held.Held.{Held}
-use Rattle.cf_stacks.specs.declared.held.Leftover.{Leftover as Left}
-use Rattle.cf_stacks.specs.declared.held.Pending.{Pending}
+use Rattle.cf_effect.specs.Begin.{as_before, creates_at, given_up, skipped_creates, skipped_in, lost_create}
+use Rattle.cf_effect.specs.Words.{has_physical, has_token, is_create, is_create_at, is_created, resources_of, unknown_id}
+use Rattle.cf_effect.specs.Effect.{heard, on_stack}
+use Rattle.cf_effect.specs.Fold.{changed_by, effect_at, world_after, stack_for, is_opening}
+use Rattle.cf_effect.specs.Operation.{reply_in}
+use Rattle.cf_effect.specs.Reply.{keeping_unknown}
+use Rattle.cf_effect.specs.Status.{Stage, Forward, Clean, Back, BackClean, Gone, is_in_progress, reviewed}
+use Rattle.cf_effect.specs.World.{StackState, World, stack_of_operation, known_stack, no_stack, stack_at}
+use Rattle.cf_effect.specs.declared.held.GivenUp.{GivenUp as LostCall}
+use Rattle.cf_effect.specs.declared.held.Held.{Held}
+use Rattle.cf_effect.specs.declared.held.Leftover.{Leftover as Left}
+use Rattle.cf_effect.specs.declared.held.Pending.{Pending}
 use Rattle.cf_tree.proofs.Lookups.{put_here, put_else}
 use Rattle.cf_tree.specs.Keys.{put}
 use Rattle.cf_tree.specs.Lists.{is_among}

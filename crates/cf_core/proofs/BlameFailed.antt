@@ -14,13 +14,13 @@ use Rattle.cf_entry.specs.declared.status.Status.{Status}
 use Rattle.cf_entry.specs.declared.status.Status.TheVariants as status
 use Rattle.cf_entry.specs.declared.turn.Phase.{Phase}
 use Rattle.cf_entry.specs.declared.turn.Phase.TheVariants as phase
-use Rattle.cf_stacks.specs.Calls.{anew}
-use Rattle.cf_stacks.specs.Effect.{entries_with}
-use Rattle.cf_stacks.specs.End.{ended_effect}
-use Rattle.cf_stacks.specs.Fold.{effect_at, is_opening, stack_for}
-use Rattle.cf_stacks.specs.Operation.{is_of, own_of, replies_in}
-use Rattle.cf_stacks.specs.Status.{Stage, Back, Gone, begun, is_in_progress, reviewed, stage_of, turned}
-use Rattle.cf_stacks.specs.World.{StackState, World, known_stack}
+use Rattle.cf_effect.specs.Calls.{anew}
+use Rattle.cf_effect.specs.Effect.{entries_with}
+use Rattle.cf_effect.specs.End.{ended_effect}
+use Rattle.cf_effect.specs.Fold.{effect_at, is_opening, stack_for}
+use Rattle.cf_effect.specs.Operation.{is_of, own_of, replies_in}
+use Rattle.cf_effect.specs.Status.{Stage, Back, Gone, begun, is_in_progress, reviewed, stage_of, turned}
+use Rattle.cf_effect.specs.World.{StackState, World, known_stack}
 use Rattle.cf_plan.specs.Accept.{creates_from}
 use Rattle.cf_plan.specs.Ends.{IsBlamed, IsBlamedFor}
 use Rattle.cf_plan.specs.Follow.{EndsAs, IsAtEnd, MayFollow, failed_in, failed_of, is_cleared, is_failed_path, is_failed_status, updates_from}

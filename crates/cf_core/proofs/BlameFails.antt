@@ -21,17 +21,17 @@ use Rattle.cf_entry.specs.declared.entry.Reply.TheVariants as reply
 use Rattle.cf_entry.specs.declared.status.Status.TheVariants as status
 use Rattle.cf_entry.specs.declared.turn.Phase.TheVariants as phase
 use Rattle.cf_entry.specs.declared.turn.Why.TheVariants as why
-use Rattle.cf_stacks.specs.declared.call.Call.{Call}
-use Rattle.cf_stacks.specs.declared.call.Settled.{Settled}
-use Rattle.cf_stacks.specs.declared.call.Settled.TheVariants as settled
-use Rattle.cf_stacks.specs.declared.held.Held.{Held}
-use Rattle.cf_stacks.specs.declared.held.Pending.{Pending}
-use Rattle.cf_stacks.specs.World.{StackState, World}
-use Rattle.cf_stacks.specs.Status.{Stage, Back, Gone, goes_back}
-use Rattle.cf_stacks.specs.Words.{current_at, deletes, is_create, is_create_at, is_current_at, resource_at, resources_of, updates, id_named}
-use Rattle.cf_stacks.specs.Calls.{call_of, deletions_of, doubts_of, is_call, is_refusal, is_success, own_calls, refusals_of, succeeded, was_refused, was_restored, was_updated}
-use Rattle.cf_stacks.specs.End.{is_physical_of}
-use Rattle.cf_stacks.specs.Operation.{Response, named_paths, was_skipped}
+use Rattle.cf_effect.specs.declared.call.Call.{Call}
+use Rattle.cf_effect.specs.declared.call.Settled.{Settled}
+use Rattle.cf_effect.specs.declared.call.Settled.TheVariants as settled
+use Rattle.cf_effect.specs.declared.held.Held.{Held}
+use Rattle.cf_effect.specs.declared.held.Pending.{Pending}
+use Rattle.cf_effect.specs.World.{StackState, World}
+use Rattle.cf_effect.specs.Status.{Stage, Back, Gone, goes_back}
+use Rattle.cf_effect.specs.Words.{current_at, deletes, is_create, is_create_at, is_current_at, resource_at, resources_of, updates, id_named}
+use Rattle.cf_effect.specs.Calls.{call_under as call_of, deletions_of, doubts_of, is_call, is_refusal, is_success, own_calls, refusals_of, succeeded, was_refused, was_restored, was_updated}
+use Rattle.cf_effect.specs.End.{is_physical_of}
+use Rattle.cf_effect.specs.Operation.{Response, named_paths, was_skipped}
 use Rattle.cf_plan.specs.Between.{is_at_one, is_held_at_one, is_needed_by_create, is_needed_by_held, is_needed_by_made, needs_at}
 use Rattle.cf_plan.specs.Ends.{IsBlamedFor}
 use Rattle.cf_plan.specs.Follow.{IntendsDeletion, IntendsIn, IsAtEnd, IsToRestore, MayDelete, MayStep, calls_in_flight, has_path, has_refused_restore, has_restore, is_bad_last, is_bad_outcome, is_cleared, is_failed_path, is_free, is_in_flight, is_lane_leased, is_not_needed, is_repeated, is_retained_or_excepted, is_to_retain, is_untried, keeps, last_at, may_repeat, restores_of, settled_by, waits_for_repeats}

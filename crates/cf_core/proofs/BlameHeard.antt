@@ -9,13 +9,13 @@ use Rattle.cf_tree.specs.Lists.{is_among}
 use Rattle.cf_entry.specs.declared.entry.Entry.{Entry}
 use Rattle.cf_entry.specs.declared.entry.Entry.TheVariants as entry
 use Rattle.cf_entry.specs.declared.status.Status.TheVariants as status
-use Rattle.cf_stacks.specs.declared.call.Call.{Call}
-use Rattle.cf_stacks.specs.declared.held.Held.{Held}
-use Rattle.cf_stacks.specs.World.{StackState}
-use Rattle.cf_stacks.specs.Words.{deletes, resources_of}
-use Rattle.cf_stacks.specs.Effect.{entries_with}
-use Rattle.cf_stacks.specs.Operation.{is_of, named_in, named_paths, own_of, replies_in, reply_in}
-use Rattle.cf_stacks.specs.Status.{is_in_progress}
+use Rattle.cf_effect.specs.declared.call.Call.{Call}
+use Rattle.cf_effect.specs.declared.held.Held.{Held}
+use Rattle.cf_effect.specs.World.{StackState}
+use Rattle.cf_effect.specs.Words.{deletes, resources_of}
+use Rattle.cf_effect.specs.Effect.{entries_with}
+use Rattle.cf_effect.specs.Operation.{is_of, named_in, named_paths, own_of, replies_in, reply_in}
+use Rattle.cf_effect.specs.Status.{is_in_progress}
 use Rattle.cf_plan.specs.Between.{needs_at}
 use Rattle.cf_plan.specs.Follow.{failed_in, failed_of}
 use Rattle.cf_plan.specs.Forward.{In}

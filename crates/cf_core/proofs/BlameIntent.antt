@@ -16,15 +16,15 @@ use Rattle.cf_schema.specs.declared.described.Schema.{Schema}
 use Rattle.cf_entry.specs.declared.entry.Entry.{Entry}
 use Rattle.cf_entry.specs.declared.entry.Entry.TheVariants as entry
 use Rattle.cf_entry.specs.declared.status.Status.TheVariants as status
-use Rattle.cf_stacks.specs.declared.call.Call.{Call}
-use Rattle.cf_stacks.specs.declared.held.Held.{Held}
-use Rattle.cf_stacks.specs.declared.held.Pending.{Pending}
-use Rattle.cf_stacks.specs.World.{StackState, World}
-use Rattle.cf_stacks.specs.Words.{current_at, deletes, has_token, resources_of, updates}
-use Rattle.cf_stacks.specs.Calls.{call_of, is_call, new_call, own_calls}
-use Rattle.cf_stacks.specs.Operation.{named_paths}
-use Rattle.cf_stacks.specs.Reply.{intending}
-use Rattle.cf_stacks.specs.Status.{Stage, Forward, Clean, Back, BackClean, Gone, stage_of}
+use Rattle.cf_effect.specs.declared.call.Call.{Call}
+use Rattle.cf_effect.specs.declared.held.Held.{Held}
+use Rattle.cf_effect.specs.declared.held.Pending.{Pending}
+use Rattle.cf_effect.specs.World.{StackState, World}
+use Rattle.cf_effect.specs.Words.{current_at, deletes, has_token, resources_of, updates}
+use Rattle.cf_effect.specs.Calls.{call_under as call_of, is_call, new_call, own_calls}
+use Rattle.cf_effect.specs.Operation.{named_paths}
+use Rattle.cf_effect.specs.Reply.{intending}
+use Rattle.cf_effect.specs.Status.{Stage, Forward, Clean, Back, BackClean, Gone, stage_of}
 use Rattle.cf_plan.specs.Follow.{IntendsDeletion, IntendsIn, IntendsRestore, MayDelete, MayIntend, has_restore, is_retained_or_excepted, keeps, restores_of}
 use Rattle.cf_plan.specs.Forward.{In, here, there}
 use Rattle.cf_plan.proofs.CreatedRight.{not_so, second_not}

@@ -4,9 +4,9 @@ use Rattle.std.specs.Prelude.{cond, reverse}
 use Rattle.std.specs.Str.{bytes_eq}
 use Rattle.cf_entry.specs.declared.entry.Reply.{Reply}
 use Rattle.cf_entry.specs.declared.entry.Reply.TheVariants as reply
-use Rattle.cf_stacks.specs.declared.call.Call.{Call}
-use Rattle.cf_stacks.specs.Operation.{Response, is_doubt}
-use Rattle.cf_stacks.specs.Calls.{anew, answered_call, is_call, is_refusal}
+use Rattle.cf_effect.specs.declared.call.Call.{Call}
+use Rattle.cf_effect.specs.Operation.{Response, is_doubt}
+use Rattle.cf_effect.specs.Calls.{anew, answered_call, is_call, is_refusal}
 use Rattle.cf_plan.specs.Follow.{has_path, is_bad_outcome, settled_by}
 use Rattle.cf_plan.specs.Forward.{In, here, there}
 use Rattle.cf_plan.proofs.CreatedStays.{found_one, found_still}

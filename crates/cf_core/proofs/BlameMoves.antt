@@ -12,15 +12,15 @@ use Rattle.cf_tree.specs.declared.request.Request.TheVariants as request
 use Rattle.cf_entry.specs.declared.entry.Reply.{Reply}
 use Rattle.cf_entry.specs.declared.entry.Reply.TheVariants as reply
 use Rattle.cf_entry.specs.declared.status.Status.{Status}
-use Rattle.cf_stacks.specs.declared.call.Call.{Call}
-use Rattle.cf_stacks.specs.declared.call.Settled.TheVariants as settled
-use Rattle.cf_stacks.specs.declared.held.Held.{Held}
-use Rattle.cf_stacks.specs.declared.held.Pending.{Pending}
-use Rattle.cf_stacks.specs.Words.{deletes, has_token, is_update, updates, without_token}
-use Rattle.cf_stacks.specs.Calls.{anew, answered_call, is_call, is_refusal, is_success, new_call, succeeded, was_refused, where_call}
-use Rattle.cf_stacks.specs.Operation.{Response, is_doubt}
-use Rattle.cf_stacks.specs.Reply.{still_open}
-use Rattle.cf_stacks.specs.Status.{goes_back}
+use Rattle.cf_effect.specs.declared.call.Call.{Call}
+use Rattle.cf_effect.specs.declared.call.Settled.TheVariants as settled
+use Rattle.cf_effect.specs.declared.held.Held.{Held}
+use Rattle.cf_effect.specs.declared.held.Pending.{Pending}
+use Rattle.cf_effect.specs.Words.{deletes, has_token, is_update, updates, without_token}
+use Rattle.cf_effect.specs.Calls.{anew, answered_call, is_call, is_refusal, is_success, new_call, succeeded, was_refused, where_call}
+use Rattle.cf_effect.specs.Operation.{Response, is_doubt}
+use Rattle.cf_effect.specs.Reply.{still_open}
+use Rattle.cf_effect.specs.Status.{goes_back}
 use Rattle.cf_plan.specs.Follow.{IsCounted, is_bad_outcome, settled_by}
 use Rattle.cf_plan.specs.Forward.{In}
 use Rattle.cf_plan.proofs.CreatedRight.{in_filter, not_so}

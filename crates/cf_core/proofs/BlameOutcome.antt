@@ -19,15 +19,15 @@ use Rattle.cf_entry.specs.declared.entry.Reply.TheVariants as reply
 use Rattle.cf_entry.specs.declared.status.Status.TheVariants as status
 use Rattle.cf_entry.specs.declared.turn.Why.{Why}
 use Rattle.cf_entry.specs.declared.turn.Why.TheVariants as why
-use Rattle.cf_stacks.specs.declared.call.Call.{Call}
-use Rattle.cf_stacks.specs.declared.held.Held.{Held}
-use Rattle.cf_stacks.specs.declared.held.Pending.{Pending}
-use Rattle.cf_stacks.specs.World.{StackState, World, stack_of_operation}
-use Rattle.cf_stacks.specs.Words.{deletes, has_physical, has_token, id_named, is_create, is_create_at, is_on, pending_of, resources_of}
-use Rattle.cf_stacks.specs.Calls.{is_restore}
-use Rattle.cf_stacks.specs.Operation.{named_paths}
-use Rattle.cf_stacks.specs.Reply.{answered, closing, keeping, keeping_known, keeping_unknown, replied, replying}
-use Rattle.cf_stacks.specs.Status.{Stage, Back, Gone, stage_of}
+use Rattle.cf_effect.specs.declared.call.Call.{Call}
+use Rattle.cf_effect.specs.declared.held.Held.{Held}
+use Rattle.cf_effect.specs.declared.held.Pending.{Pending}
+use Rattle.cf_effect.specs.World.{StackState, World, stack_of_operation}
+use Rattle.cf_effect.specs.Words.{deletes, has_physical, has_token, id_named, is_create, is_create_at, is_on, pending_of, resources_of}
+use Rattle.cf_effect.specs.Calls.{is_restore}
+use Rattle.cf_effect.specs.Operation.{named_paths}
+use Rattle.cf_effect.specs.Reply.{answered, closing, keeping, keeping_known, keeping_unknown, replied, replying}
+use Rattle.cf_effect.specs.Status.{Stage, Back, Gone, stage_of}
 use Rattle.cf_plan.specs.Between.{needs_at}
 use Rattle.cf_plan.specs.Follow.{IsCounted, MayKeep}
 use Rattle.cf_plan.specs.Forward.{In}

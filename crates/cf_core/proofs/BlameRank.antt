@@ -14,10 +14,10 @@ use Rattle.cf_desired.specs.declared.wanted.Wanted.{Wanted}
 use Rattle.cf_desired.specs.Plan.{plan_of}
 use Rattle.cf_desired.specs.Seeing.{Seen}
 use Rattle.cf_desired.specs.Whole.{Right, Whole, all_of, is_wanted_at, known_of, right_export, right_of, right_output, unless_flawed, wanted_at, whole_from, whole_in, whole_with}
-use Rattle.cf_stacks.specs.World.{StackState, World}
-use Rattle.cf_stacks.specs.Begin.{seen_in}
-use Rattle.cf_stacks.specs.End.{is_right_at}
-use Rattle.cf_stacks.specs.Reply.{terms_of, wanted_in}
+use Rattle.cf_effect.specs.World.{StackState, World}
+use Rattle.cf_effect.specs.Begin.{seen_in}
+use Rattle.cf_effect.specs.End.{is_right_at}
+use Rattle.cf_effect.specs.Reply.{terms_of, wanted_in}
 use Rattle.cf_plan.specs.Between.{needs_at}
 use Rattle.cf_plan.specs.Forward.{In}
 use Rattle.cf_plan.proofs.BlameOrder.{needed_before, place_of}

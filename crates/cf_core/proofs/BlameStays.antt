@@ -18,15 +18,15 @@ use Rattle.cf_entry.specs.declared.turn.Phase.{Phase}
 use Rattle.cf_entry.specs.declared.turn.Phase.TheVariants as phase
 use Rattle.cf_entry.specs.declared.turn.Cause.{Cause}
 use Rattle.cf_entry.specs.declared.turn.Why.{Why}
-use Rattle.cf_stacks.specs.declared.call.Call.{Call}
-use Rattle.cf_stacks.specs.declared.held.Held.{Held}
+use Rattle.cf_effect.specs.declared.call.Call.{Call}
+use Rattle.cf_effect.specs.declared.held.Held.{Held}
 use Rattle.cf_stacks.specs.Apart.{AreApart}
-use Rattle.cf_stacks.specs.Begin.{as_before, skipped_in}
-use Rattle.cf_stacks.specs.End.{ended_effect, turned_effect}
-use Rattle.cf_stacks.specs.Fold.{effect_at, is_opening, stack_for, world_after}
-use Rattle.cf_stacks.specs.Status.{Stage, is_in_progress, stage_of}
-use Rattle.cf_stacks.specs.Words.{has_physical}
-use Rattle.cf_stacks.specs.World.{StackState, World, is_going, known_stack, no_stack, stack_at, stack_of_operation}
+use Rattle.cf_effect.specs.Begin.{as_before, skipped_in}
+use Rattle.cf_effect.specs.End.{ended_effect, turned_effect}
+use Rattle.cf_effect.specs.Fold.{effect_at, is_opening, stack_for, world_after}
+use Rattle.cf_effect.specs.Status.{Stage, is_in_progress, stage_of}
+use Rattle.cf_effect.specs.Words.{has_physical}
+use Rattle.cf_effect.specs.World.{StackState, World, is_going, known_stack, no_stack, stack_at, stack_of_operation}
 use Rattle.cf_plan.specs.Follow.{MayFollow, MayFollowIn, MayFollowOn}
 use Rattle.cf_plan.specs.Forward.{In}
 use Rattle.cf_plan.proofs.CreatedStays.{found_one}

@@ -12,13 +12,13 @@ use Rattle.cf_tree.specs.declared.code.Code.{Code}
 use Rattle.cf_tree.specs.declared.code.Code.TheVariants as code
 use Rattle.cf_entry.specs.declared.entry.Reply.{Reply}
 use Rattle.cf_entry.specs.declared.entry.Reply.TheVariants as reply
-use Rattle.cf_stacks.specs.declared.held.Held.{Held}
-use Rattle.cf_stacks.specs.declared.held.HeldStatus.TheVariants as held
-use Rattle.cf_stacks.specs.World.{StackState}
-use Rattle.cf_stacks.specs.Words.{current_at, deletes, has_physical, is_create, resources_of, where_physical, without}
-use Rattle.cf_stacks.specs.Calls.{is_refusal}
-use Rattle.cf_stacks.specs.Operation.{is_doubt}
-use Rattle.cf_stacks.specs.Reply.{answered, changing, deleting, made_of, status_made, terms_at, updating, with_status}
+use Rattle.cf_effect.specs.declared.held.Held.{Held}
+use Rattle.cf_effect.specs.declared.held.HeldStatus.TheVariants as held
+use Rattle.cf_effect.specs.World.{StackState}
+use Rattle.cf_effect.specs.Words.{current_at, deletes, has_physical, is_create, resources_of, where_physical, without}
+use Rattle.cf_effect.specs.Calls.{is_refusal}
+use Rattle.cf_effect.specs.Operation.{is_doubt}
+use Rattle.cf_effect.specs.Reply.{answered, changing, deleting, made_of, status_made, terms_at, updating, with_status}
 use Rattle.cf_plan.specs.Between.{needs_at}
 use Rattle.cf_plan.specs.Follow.{settled_by}
 use Rattle.cf_plan.specs.Forward.{In, here, there}

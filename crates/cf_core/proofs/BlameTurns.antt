@@ -16,18 +16,18 @@ use Rattle.cf_entry.specs.declared.turn.Phase.{Phase}
 use Rattle.cf_entry.specs.declared.turn.Phase.TheVariants as phase
 use Rattle.cf_entry.specs.declared.turn.Cause.{Cause}
 use Rattle.cf_desired.specs.Whole.{Right, Whole}
-use Rattle.cf_stacks.specs.declared.call.Call.{Call}
-use Rattle.cf_stacks.specs.declared.held.Held.{Held}
-use Rattle.cf_stacks.specs.declared.held.KeptSet.{KeptSet}
-use Rattle.cf_stacks.specs.declared.held.Pending.{Pending}
-use Rattle.cf_stacks.specs.World.{StackState, World}
-use Rattle.cf_stacks.specs.Words.{deletes, is_on, is_update, resource_at, resources_of}
-use Rattle.cf_stacks.specs.Begin.{calls_kept, continues}
-use Rattle.cf_stacks.specs.Calls.{anew, is_open_call}
-use Rattle.cf_stacks.specs.Effect.{entries_with}
-use Rattle.cf_stacks.specs.End.{as_wanted, ended_effect, ending, is_physical_of, is_right_at, left_in_doubt, marked, settled_in, stopping, turned_effect, turning, whole_now}
-use Rattle.cf_stacks.specs.Operation.{is_of, named_in, named_paths, own_of, replies_in}
-use Rattle.cf_stacks.specs.Status.{Forward, goes_back, goes_forward, is_in_progress, reviewed, stage_of, turned}
+use Rattle.cf_effect.specs.declared.call.Call.{Call}
+use Rattle.cf_effect.specs.declared.held.Held.{Held}
+use Rattle.cf_effect.specs.declared.held.KeptSet.{KeptSet}
+use Rattle.cf_effect.specs.declared.held.Pending.{Pending}
+use Rattle.cf_effect.specs.World.{StackState, World}
+use Rattle.cf_effect.specs.Words.{deletes, is_on, is_update, resource_at, resources_of}
+use Rattle.cf_effect.specs.Begin.{calls_kept, continues}
+use Rattle.cf_effect.specs.Calls.{anew, is_open_call}
+use Rattle.cf_effect.specs.Effect.{entries_with}
+use Rattle.cf_effect.specs.End.{as_wanted, ended_effect, ending, is_physical_of, is_right_at, left_in_doubt, marked, settled_in, stopping, turned_effect, turning, whole_now}
+use Rattle.cf_effect.specs.Operation.{is_of, named_in, named_paths, own_of, replies_in}
+use Rattle.cf_effect.specs.Status.{Forward, goes_back, goes_forward, is_in_progress, reviewed, stage_of, turned}
 use Rattle.cf_plan.specs.Between.{needs_at}
 use Rattle.cf_plan.specs.Follow.{EndsAs, MayTurn, failed_in}
 use Rattle.cf_plan.specs.Forward.{In, here, there}

@@ -16,22 +16,21 @@ use Rattle.cf_plan.proofs.RunLists.{in_front, in_back, in_either}
 use Rattle.cf_plan.specs.Agrees.{call_at, written_in}
 use Rattle.cf_plan.specs.Follow.{is_opened_since}
 use Rattle.cf_plan.specs.Forward.{In, here, there as there_}
-use Rattle.cf_stacks.proofs.Closed.{any_found}
+use Rattle.cf_effect.proofs.Closed.{any_found}
 use Rattle.cf_stacks.proofs.Worlds.{tail_ascends, found_stands}
-use Rattle.cf_stacks.specs.Begin.{unknown_id}
-use Rattle.cf_stacks.specs.Calls.{new_call}
-use Rattle.cf_stacks.specs.Effect.{leaving, entries_with}
-use Rattle.cf_stacks.specs.Event.{lines_of}
-use Rattle.cf_stacks.specs.Fold.{changed_by, effect_at, is_opening, stack_for, opening_heard}
-use Rattle.cf_stacks.specs.Operation.{Response, replies_in, reply_in}
-use Rattle.cf_stacks.specs.Reply.{answered as answer_on, changing, made_of, status_made, terms_at, updating, with_status}
-use Rattle.cf_stacks.specs.Status.{is_in_progress}
-use Rattle.cf_stacks.specs.Words.{has_token, resources_of, has_physical, change_first, current_at, where_physical, without}
-use Rattle.cf_stacks.specs.World.{StackState, no_stack, World, is_going, known_stack, stack_at, stack_of_operation}
-use Rattle.cf_stacks.specs.declared.held.GivenUp.{GivenUp}
-use Rattle.cf_stacks.specs.declared.held.Held.{Held}
-use Rattle.cf_stacks.specs.declared.held.HeldStatus.{HeldStatus}
-use Rattle.cf_stacks.specs.declared.held.Pending.{Pending}
+use Rattle.cf_effect.specs.Words.{change_first, current_at, has_physical, has_token, resources_of, unknown_id, where_physical, without}
+use Rattle.cf_effect.specs.Calls.{new_call}
+use Rattle.cf_effect.specs.Effect.{leaving, entries_with}
+use Rattle.cf_effect.specs.Event.{lines_of}
+use Rattle.cf_effect.specs.Fold.{changed_by, effect_at, is_opening, stack_for, opening_heard}
+use Rattle.cf_effect.specs.Operation.{Response, replies_in, reply_in}
+use Rattle.cf_effect.specs.Reply.{answered as answer_on, changing, made_of, status_made, terms_at, updating, with_status}
+use Rattle.cf_effect.specs.Status.{is_in_progress}
+use Rattle.cf_effect.specs.World.{StackState, no_stack, World, is_going, known_stack, stack_at, stack_of_operation}
+use Rattle.cf_effect.specs.declared.held.GivenUp.{GivenUp}
+use Rattle.cf_effect.specs.declared.held.Held.{Held}
+use Rattle.cf_effect.specs.declared.held.HeldStatus.{HeldStatus}
+use Rattle.cf_effect.specs.declared.held.Pending.{Pending}
 use Rattle.cf_tree.proofs.Lookups.{value_below}
 use Rattle.cf_tree.specs.Keys.{value_at, ascends, put}
 use Rattle.cf_tree.specs.Named.{all_differ}
@@ -53,7 +52,7 @@ use Rattle.cf_entry.specs.declared.entry.Begun.TheVariants as begin
 use Rattle.cf_entry.specs.declared.entry.Entry.TheVariants as entry
 use Rattle.cf_entry.specs.declared.entry.Reply.TheVariants as reply
 use Rattle.cf_handler.specs.declared.settled.Settlement.TheVariants as settlement
-use Rattle.cf_stacks.specs.declared.held.HeldStatus.TheVariants as held
+use Rattle.cf_effect.specs.declared.held.HeldStatus.TheVariants as held
 use Rattle.cf_tree.specs.declared.code.Code.TheVariants as code
 use Rattle.cf_tree.specs.declared.request.Request.TheVariants as request
 

@@ -23,18 +23,18 @@ use Rattle.cf_plan.specs.Forward.{In, here, there}
 use Rattle.cf_schema.specs.declared.described.Schema.{Schema}
 use Rattle.cf_stacks.proofs.Worlds.{value_under}
 use Rattle.cf_stacks.specs.Apart.{AreApart}
-use Rattle.cf_stacks.specs.Begin.{as_before, beginning, skipped_in}
-use Rattle.cf_stacks.specs.Calls.{anew, answered_call, is_call, is_open_call, where_call, new_call, is_restore}
-use Rattle.cf_stacks.specs.Effect.{leaving, heard, on_stack}
-use Rattle.cf_stacks.specs.End.{ended_effect, marked, settled_in, stopping, turned_effect, turning, whole_now}
-use Rattle.cf_stacks.specs.Fold.{effect_at, is_opening, stack_for, world_after}
-use Rattle.cf_stacks.specs.Reply.{changing, deleting, still_open, keeping, keeping_known, keeping_unknown, answered, closing, made_of, status_made, terms_at, updating, with_status, replied}
-use Rattle.cf_stacks.specs.Status.{Stage, Forward, Clean, Back, BackClean, Gone, is_in_progress, stage_of}
-use Rattle.cf_stacks.specs.Words.{change_first, has_physical, resources_of, where_physical, without, has_token, without_token, id_named, is_create_at, is_on, current_at, pending_of, is_at}
-use Rattle.cf_stacks.specs.World.{StackState, World, known_stack, no_stack, stack_at, is_going, stack_of_operation}
-use Rattle.cf_stacks.specs.declared.call.Call.{Call}
-use Rattle.cf_stacks.specs.declared.held.Held.{Held}
-use Rattle.cf_stacks.specs.declared.held.Pending.{Pending}
+use Rattle.cf_effect.specs.Begin.{as_before, beginning, skipped_in}
+use Rattle.cf_effect.specs.Calls.{anew, answered_call, is_call, is_open_call, where_call, new_call, is_restore}
+use Rattle.cf_effect.specs.Effect.{leaving, heard, on_stack}
+use Rattle.cf_effect.specs.End.{ended_effect, marked, settled_in, stopping, turned_effect, turning, whole_now}
+use Rattle.cf_effect.specs.Fold.{effect_at, is_opening, stack_for, world_after}
+use Rattle.cf_effect.specs.Reply.{changing, deleting, still_open, keeping, keeping_known, keeping_unknown, answered, closing, made_of, status_made, terms_at, updating, with_status, replied}
+use Rattle.cf_effect.specs.Status.{Stage, Forward, Clean, Back, BackClean, Gone, is_in_progress, stage_of}
+use Rattle.cf_effect.specs.Words.{change_first, has_physical, resources_of, where_physical, without, has_token, without_token, id_named, is_create_at, is_on, current_at, pending_of, is_at}
+use Rattle.cf_effect.specs.World.{StackState, World, known_stack, no_stack, stack_at, is_going, stack_of_operation}
+use Rattle.cf_effect.specs.declared.call.Call.{Call}
+use Rattle.cf_effect.specs.declared.held.Held.{Held}
+use Rattle.cf_effect.specs.declared.held.Pending.{Pending}
 use Rattle.cf_tree.proofs.Lookups.{put_here, put_else}
 use Rattle.cf_tree.specs.Datum.{Data}
 use Rattle.cf_tree.specs.Keys.{put, value_at}
@@ -58,7 +58,7 @@ use Rattle.cf_entry.specs.declared.entry.Entry.TheVariants as entry
 use Rattle.cf_entry.specs.declared.entry.Reply.TheVariants as reply
 use Rattle.cf_entry.specs.declared.status.Status.TheVariants as status
 use Rattle.cf_entry.specs.declared.turn.Phase.TheVariants as phase
-use Rattle.cf_stacks.specs.declared.held.HeldStatus.TheVariants as held
+use Rattle.cf_effect.specs.declared.held.HeldStatus.TheVariants as held
 use Rattle.cf_tree.specs.declared.code.Code.TheVariants as code
 use Rattle.cf_tree.specs.declared.request.Request.TheVariants as request
 

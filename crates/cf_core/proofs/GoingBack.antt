@@ -22,14 +22,14 @@ use Rattle.cf_entry.specs.declared.turn.Why.TheVariants as why
 use Rattle.cf_handler.specs.Move.{IsOfLane}
 use Rattle.cf_schema.specs.declared.described.Schema.{Schema}
 use Rattle.cf_change.specs.Changes.{is_empty}
-use Rattle.cf_stacks.specs.declared.call.Call.{Call}
-use Rattle.cf_stacks.specs.declared.held.Held.{Held}
-use Rattle.cf_stacks.specs.declared.held.Pending.{Pending}
-use Rattle.cf_stacks.specs.World.{StackState, World, stack_of_operation}
-use Rattle.cf_stacks.specs.Words.{resources_of}
-use Rattle.cf_stacks.specs.Calls.{call_of, refusals_of, was_restored, was_updated}
-use Rattle.cf_stacks.specs.Operation.{was_skipped}
-use Rattle.cf_stacks.specs.Status.{Back, Stage, stage_of}
+use Rattle.cf_effect.specs.declared.call.Call.{Call}
+use Rattle.cf_effect.specs.declared.held.Held.{Held}
+use Rattle.cf_effect.specs.declared.held.Pending.{Pending}
+use Rattle.cf_effect.specs.World.{StackState, World, stack_of_operation}
+use Rattle.cf_effect.specs.Words.{resources_of}
+use Rattle.cf_effect.specs.Calls.{call_under as call_of, refusals_of, was_restored, was_updated}
+use Rattle.cf_effect.specs.Operation.{was_skipped}
+use Rattle.cf_effect.specs.Status.{Back, Stage, stage_of}
 use Rattle.cf_plan.specs.Blaming.{Verdicts, bad_among, blamed, blames_of, noted, noted_call, verdicts_of}
 use Rattle.cf_plan.specs.Follow.{AreFailed, EndsAs, IntendsDeletion, IntendsRestore, IsAtEnd, IsToRestore, MayDelete, MayFollowIn, MayIntend, MayKeep, MayTurn, has_refused_restore, has_restore, is_cleared, is_free, is_lane_leased, is_not_needed, is_repeat_in_flight, is_repeated, is_retained, is_untried, may_repeat, waits_for_repeats}
 use Rattle.cf_plan.specs.Forward.{In}

@@ -18,13 +18,13 @@ use Rattle.cf_desired.specs.Seeing.{Seen}
 use Rattle.cf_desired.specs.Whole.{is_wanted_at, wanted_at}
 use Rattle.cf_desired.specs.declared.wanted.Wanted.{Wanted}
 use Rattle.cf_desired.proofs.Planned.{WantedFirst, wanted_first}
-use Rattle.cf_stacks.specs.declared.held.Held.{Held}
-use Rattle.cf_stacks.specs.World.{StackState}
-use Rattle.cf_stacks.specs.Words.{current_at, is_current_at, is_update}
-use Rattle.cf_stacks.specs.Calls.{own_calls, succeeded}
-use Rattle.cf_stacks.specs.declared.call.Call.{Call}
-use Rattle.cf_stacks.specs.Begin.{seen_in}
-use Rattle.cf_stacks.specs.Reply.{terms_of, wanted_in}
+use Rattle.cf_effect.specs.declared.held.Held.{Held}
+use Rattle.cf_effect.specs.World.{StackState}
+use Rattle.cf_effect.specs.Words.{current_at, is_current_at, is_update}
+use Rattle.cf_effect.specs.Calls.{own_calls, succeeded}
+use Rattle.cf_effect.specs.declared.call.Call.{Call}
+use Rattle.cf_effect.specs.Begin.{seen_in}
+use Rattle.cf_effect.specs.Reply.{terms_of, wanted_in}
 use Rattle.cf_plan.specs.Between.{needs_at}
 use Rattle.cf_plan.specs.Done.{AreDone, HasTerms, is_good_update, made_paths, updated_paths}
 use Rattle.cf_plan.specs.Forward.{AllDone, Bad, Finding, In, IsDone, IsReady, Known, Later, evaluated_at, here, is_made, is_right, is_updated, plan_before, plan_in, there, wanted_paths}

@@ -21,10 +21,10 @@ use Rattle.cf_export.specs.declared.Export.{Export}
 use Rattle.cf_desired.specs.declared.flaw.Flaw.{Flaw}
 use Rattle.cf_desired.specs.declared.wanted.Plan.{Plan}
 use Rattle.cf_schema.specs.declared.described.Schema.{Schema}
-use Rattle.cf_stacks.specs.declared.call.Call.{Call}
-use Rattle.cf_stacks.specs.World.{StackState, World}
-use Rattle.cf_stacks.specs.Calls.{call_of}
-use Rattle.cf_stacks.specs.Operation.{Response, after_last, before_first, doubts_in, forward_of, is_doubt, is_phase, is_turn_or_opening, now_of, replies_in, reply_in, up_to_last}
+use Rattle.cf_effect.specs.declared.call.Call.{Call}
+use Rattle.cf_effect.specs.World.{StackState, World}
+use Rattle.cf_effect.specs.Calls.{call_under as call_of}
+use Rattle.cf_effect.specs.Operation.{Response, after_last, before_first, doubts_in, forward_of, is_doubt, is_phase, is_turn_or_opening, now_of, replies_in, reply_in, up_to_last}
 use Rattle.cf_plan.specs.declared.cause.Failure.{Failure}
 use Rattle.cf_plan.specs.declared.cause.Failure.TheVariants.{Because, Nothing, Untold}
 use Rattle.cf_plan.specs.Causes.{IsFailureOf, end_failure, of_export, or_flaw, or_path, plan_failure}

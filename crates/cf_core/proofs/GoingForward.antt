@@ -32,15 +32,15 @@ use Rattle.cf_schema.specs.declared.changed.Difference.TheVariants as difference
 use Rattle.cf_schema.specs.Change.{any_differs, difference_of}
 use Rattle.cf_schema.specs.Kinds.{found}
 use Rattle.cf_desired.specs.Whole.{is_wanted_at, wanted_at}
-use Rattle.cf_stacks.specs.declared.call.Call.{Call}
-use Rattle.cf_stacks.specs.declared.call.Settled.{Settled}
-use Rattle.cf_stacks.specs.declared.call.Settled.TheVariants as settled
-use Rattle.cf_stacks.specs.declared.held.Held.{Held}
-use Rattle.cf_stacks.specs.declared.held.Pending.{Pending}
-use Rattle.cf_stacks.specs.World.{StackState, World, stack_of_operation}
-use Rattle.cf_stacks.specs.Words.{current_at, has_physical, is_current_at, is_update, resources_of, updates}
-use Rattle.cf_stacks.specs.Calls.{call_of, doubts_of, is_call, is_success, own_calls, succeeded, was_updated}
-use Rattle.cf_stacks.specs.Status.{Forward, stage_of}
+use Rattle.cf_effect.specs.declared.call.Call.{Call}
+use Rattle.cf_effect.specs.declared.call.Settled.{Settled}
+use Rattle.cf_effect.specs.declared.call.Settled.TheVariants as settled
+use Rattle.cf_effect.specs.declared.held.Held.{Held}
+use Rattle.cf_effect.specs.declared.held.Pending.{Pending}
+use Rattle.cf_effect.specs.World.{StackState, World, stack_of_operation}
+use Rattle.cf_effect.specs.Words.{current_at, has_physical, is_current_at, is_update, resources_of, updates}
+use Rattle.cf_effect.specs.Calls.{call_under as call_of, doubts_of, is_call, is_success, own_calls, succeeded, was_updated}
+use Rattle.cf_effect.specs.Status.{Forward, stage_of}
 use Rattle.cf_plan.specs.Follow.{IsAtEnd, MayKeep, MayTurn, WantsNew, WantsUpdate, EndsAs, is_free, is_lane_of, is_not_updatable, was_not_updatable}
 use Rattle.cf_plan.specs.Forward.{AllDone, Bad, Finding, HasFailed, In, IsCause, IsDone, IsReady, Known, Later, difference_to, evaluated_at, held_before, is_conditional, is_excused, is_refused_call, is_right, is_updated, plan_now, refusing, was_answered_at}
 use Rattle.cf_plan.specs.Done.{AreDone}

@@ -17,12 +17,12 @@ use Rattle.cf_entry.specs.declared.turn.Cause.{Cause}
 use Rattle.cf_entry.specs.declared.turn.Why.{Why}
 use Rattle.cf_entry.specs.declared.turn.Why.TheVariants as why
 use Rattle.cf_schema.specs.declared.described.Schema.{Schema}
-use Rattle.cf_stacks.specs.declared.held.Held.{Held}
-use Rattle.cf_stacks.specs.declared.held.Pending.{Pending}
-use Rattle.cf_stacks.specs.World.{StackState, World}
-use Rattle.cf_stacks.specs.Words.{is_create, is_create_at, resources_of}
-use Rattle.cf_stacks.specs.Operation.{named_paths}
-use Rattle.cf_stacks.specs.Status.{Gone, stage_of}
+use Rattle.cf_effect.specs.declared.held.Held.{Held}
+use Rattle.cf_effect.specs.declared.held.Pending.{Pending}
+use Rattle.cf_effect.specs.World.{StackState, World}
+use Rattle.cf_effect.specs.Words.{is_create, is_create_at, resources_of}
+use Rattle.cf_effect.specs.Operation.{named_paths}
+use Rattle.cf_effect.specs.Status.{Gone, stage_of}
 use Rattle.cf_plan.specs.Between.{is_needed_by_held}
 use Rattle.cf_plan.specs.Follow.{EndsAs, IsAtEnd, MayDelete, MayFollowIn, MayIntend, MayKeep, MayTurn, is_cleared, is_free, is_not_needed, is_repeat_in_flight, is_untried, keeps, may_repeat, waits_for_repeats}
 use Rattle.cf_plan.specs.Forward.{In}

@@ -38,12 +38,12 @@ use Rattle.cf_desired.proofs.NeedsMatter.{needs_suffice}
 use Rattle.cf_desired.proofs.StackNeeds.{stack_needs_suffice}
 use Rattle.cf_rests.specs.Views.{inner_at, inner_from, wanted_from}
 use Rattle.cf_rests.proofs.Viewed.{by_paths}
-use Rattle.cf_stacks.specs.declared.held.Held.{Held}
-use Rattle.cf_stacks.specs.World.{StackState, World}
-use Rattle.cf_stacks.specs.Words.{current_at, is_current_at}
-use Rattle.cf_stacks.specs.Begin.{seen_in}
-use Rattle.cf_stacks.specs.End.{seen_now}
-use Rattle.cf_stacks.specs.Reply.{terms_of}
+use Rattle.cf_effect.specs.declared.held.Held.{Held}
+use Rattle.cf_effect.specs.World.{StackState, World}
+use Rattle.cf_effect.specs.Words.{current_at, is_current_at}
+use Rattle.cf_effect.specs.Begin.{seen_in}
+use Rattle.cf_effect.specs.End.{seen_now}
+use Rattle.cf_effect.specs.Reply.{terms_of}
 use Rattle.cf_plan.specs.Between.{needs_at}
 use Rattle.cf_plan.specs.Done.{AreDone}
 use Rattle.cf_plan.specs.Forward.{HasFailed, In, IsDone, IsReady, Later, evaluated_at, finding, here, is_made, is_right, is_updated, known_or_later, plan_in, plan_now, there}

@@ -3,8 +3,8 @@ use Rattle.std.proofs.Common.{◌≡◌, ℕ, inl, inr, true, List, Some, refl, 
 use Rattle.cf_entry.specs.declared.status.Status.{Status}
 use Rattle.cf_entry.specs.declared.status.Status.TheVariants as status
 use Rattle.cf_schema.specs.declared.described.Schema.{Schema}
-use Rattle.cf_stacks.specs.World.{StackState, World, stack_of_operation}
-use Rattle.cf_stacks.specs.Status.{BackClean, Clean, goes_forward, is_in_progress, stage_of}
+use Rattle.cf_effect.specs.World.{StackState, World, stack_of_operation}
+use Rattle.cf_effect.specs.Status.{BackClean, Clean, goes_forward, is_in_progress, stage_of}
 use Rattle.cf_core.specs.Course.{IsOnCourse}
 use Rattle.cf_core.specs.Fits.{Fits}
 use Rattle.cf_core.specs.GoesOn.{HasKinds, HasNext, IsTold, OperationGoesOn}

@@ -24,21 +24,21 @@ use Rattle.cf_entry.specs.declared.turn.Cause.{Cause}
 use Rattle.cf_entry.specs.declared.turn.Phase.{Phase}
 use Rattle.cf_entry.specs.declared.turn.Phase.TheVariants as phase
 use Rattle.cf_schema.specs.declared.described.Schema.{Schema}
-use Rattle.cf_stacks.specs.declared.call.Call.{Call}
-use Rattle.cf_stacks.specs.declared.call.Settled.{Settled}
-use Rattle.cf_stacks.specs.declared.call.Settled.TheVariants as settled
-use Rattle.cf_stacks.specs.declared.held.Held.{Held}
-use Rattle.cf_stacks.specs.declared.held.HeldStatus.TheVariants as held
-use Rattle.cf_stacks.specs.declared.held.Pending.{Pending}
-use Rattle.cf_stacks.specs.World.{StackState, World}
-use Rattle.cf_stacks.specs.Words.{current_at, has_physical, has_token, is_current_at, is_update, pending_of, where_physical}
-use Rattle.cf_stacks.specs.Calls.{anew, answered_call, call_of, doubts_of, is_call, is_open_call, is_restore, is_success, new_call, one_more, own_calls, succeeded, where_call}
-use Rattle.cf_stacks.specs.Effect.{entries_with}
-use Rattle.cf_stacks.specs.Fold.{effect_at}
-use Rattle.cf_stacks.specs.Operation.{Response, after_last, doubts_in, is_phase, is_turn_or_opening, now_of, reply_in}
-use Rattle.cf_stacks.specs.Reply.{answered, made_of, replied, status_made, still_open, terms_at, updating, with_status}
-use Rattle.cf_stacks.specs.Event.{lines_of}
-use Rattle.cf_stacks.specs.Status.{Forward, Stage, goes_forward, stage_of, turned, reviewed as reviewed_status}
+use Rattle.cf_effect.specs.declared.call.Call.{Call}
+use Rattle.cf_effect.specs.declared.call.Settled.{Settled}
+use Rattle.cf_effect.specs.declared.call.Settled.TheVariants as settled
+use Rattle.cf_effect.specs.declared.held.Held.{Held}
+use Rattle.cf_effect.specs.declared.held.HeldStatus.TheVariants as held
+use Rattle.cf_effect.specs.declared.held.Pending.{Pending}
+use Rattle.cf_effect.specs.World.{StackState, World}
+use Rattle.cf_effect.specs.Words.{current_at, has_physical, has_token, is_current_at, is_update, pending_of, resources_of as resources_in, where_physical}
+use Rattle.cf_effect.specs.Calls.{anew, answered_call, call_under as call_of, doubts_of, is_call, is_open_call, is_restore, is_success, new_call, one_more, own_calls, succeeded, where_call}
+use Rattle.cf_effect.specs.Effect.{entries_with}
+use Rattle.cf_effect.specs.Fold.{effect_at}
+use Rattle.cf_effect.specs.Operation.{Response, after_last, doubts_in, is_phase, is_turn_or_opening, now_of, reply_in}
+use Rattle.cf_effect.specs.Reply.{answered, made_of, replied, status_made, still_open, terms_at, updating, with_status}
+use Rattle.cf_effect.specs.Event.{lines_of}
+use Rattle.cf_effect.specs.Status.{Forward, Stage, goes_forward, stage_of, turned, reviewed as reviewed_status}
 use Rattle.cf_plan.specs.Follow.{IntendsIn, MayFollowIn, MayIntend, MayTurn, begins_from, settled_by, updates_from}
 use Rattle.cf_plan.specs.Accept.{creates_from}
 use Rattle.cf_plan.specs.Run.{IsOwn}
@@ -66,7 +66,6 @@ use Rattle.cf_core.proofs.TidyBegins.{never_ends_so, rest_answered, turned_by}
 use Rattle.cf_core.proofs.TidyOwn.{new_called, new_open, some_same}
 use Rattle.cf_core.proofs.Written.{written_is_to}
 use Rattle.cf_core.proofs.FitKept.{one_id as one_of}
-use Rattle.cf_stacks.specs.Words.{resources_of as resources_in}
 
 -- what is held under one id is one
 one_id : (x : World) (s : StackState) → Fits x s → (g h : Held) → In g s.held → In h s.held → g.physical ≡ h.physical → g ≡ h

@@ -69,19 +69,19 @@ use Rattle.cf_entry.specs.declared.entry.Reply.TheVariants as reply
 use Rattle.cf_entry.specs.declared.status.Status.TheVariants as status
 use Rattle.cf_entry.specs.declared.turn.Phase.TheVariants as phase
 use Rattle.cf_eval.specs.Knows.{Keeps}
-use Rattle.cf_stacks.specs.declared.call.Call.{Call}
-use Rattle.cf_stacks.specs.declared.held.Held.{Held}
-use Rattle.cf_stacks.specs.declared.held.Pending.{Pending}
-use Rattle.cf_stacks.specs.World.{StackState, World, known_stack}
-use Rattle.cf_stacks.specs.Words.{current_at, has_physical, has_token, is_current_at, pending_of, resources_of, where_physical, is_on, resource_at, is_update, updates}
-use Rattle.cf_stacks.specs.Begin.{seen_in, source_for, as_before, beginning, skipped_in}
-use Rattle.cf_stacks.specs.Calls.{call_of, is_restore, own_calls, succeeded, was_updated}
-use Rattle.cf_stacks.specs.Fold.{effect_at, effect_of}
-use Rattle.cf_stacks.specs.Reply.{answered, intending, made_of, replied, status_made, terms_at, updating, with_status, changing, closing, deleting, keeping, still_open}
-use Rattle.cf_stacks.specs.Status.{begun, goes_forward, goes_back, Stage, Forward, Back}
-use Rattle.cf_stacks.specs.declared.held.HeldStatus.{HeldStatus}
-use Rattle.cf_stacks.specs.End.{as_wanted, completing, ending, left_in_doubt, marked, settled_in, stopping, turned_effect, turning, whole_now, is_physical_of, is_right_at, seen_now}
-use Rattle.cf_stacks.specs.declared.held.HeldStatus.TheVariants as held_status
+use Rattle.cf_effect.specs.declared.call.Call.{Call}
+use Rattle.cf_effect.specs.declared.held.Held.{Held}
+use Rattle.cf_effect.specs.declared.held.Pending.{Pending}
+use Rattle.cf_effect.specs.World.{StackState, World, known_stack}
+use Rattle.cf_effect.specs.Words.{current_at, has_physical, has_token, is_current_at, pending_of, resources_of, where_physical, is_on, resource_at, is_update, updates}
+use Rattle.cf_effect.specs.Begin.{seen_in, source_for, as_before, beginning, skipped_in}
+use Rattle.cf_effect.specs.Calls.{call_under as call_of, is_restore, own_calls, succeeded, was_updated}
+use Rattle.cf_effect.specs.Fold.{effect_at, effect_of}
+use Rattle.cf_effect.specs.Reply.{answered, intending, made_of, replied, status_made, terms_at, updating, with_status, changing, closing, deleting, keeping, still_open}
+use Rattle.cf_effect.specs.Status.{begun, goes_forward, goes_back, Stage, Forward, Back}
+use Rattle.cf_effect.specs.declared.held.HeldStatus.{HeldStatus}
+use Rattle.cf_effect.specs.End.{as_wanted, completing, ending, left_in_doubt, marked, settled_in, stopping, turned_effect, turning, whole_now, is_physical_of, is_right_at, seen_now}
+use Rattle.cf_effect.specs.declared.held.HeldStatus.TheVariants as held_status
 use Rattle.cf_core.specs.Advancing.{AreSameThings, IsAdvancing, IsAsked, IsHidden, IsSameThing, changes_begun, none as none_same, more as more_same, IsAsBefore, held_before_as}
 use Rattle.cf_core.specs.Fits.{Fits}
 use Rattle.cf_core.specs.Hiding.{BeginsSeen, RestBeginsSeen, RestIsSeen, RestStaysSeen, InOrder, IsOrdered, NoneIsOrdered, OrderStays, props_asked, AreDescribed, IntendedIsHidden}

@@ -78,8 +78,8 @@ use Rattle.cf_template.specs.Walk.{walk_fault}
 use Rattle.cf_template.specs.Whole.{count_fault, empty_fault, is_version, free_section, required_section, section, sections_fault, sections_of, template_from, template_of, value_template}
 use Rattle.cf_template.specs.Words.{is_name}
 use Rattle.cf_stacks.proofs.Worlds.{less_from}
-use Rattle.cf_stacks.specs.Begin.{seen_in}
-use Rattle.cf_stacks.specs.End.{seen_now}
+use Rattle.cf_effect.specs.Begin.{seen_in}
+use Rattle.cf_effect.specs.End.{seen_now}
 use Rattle.cf_graph.specs.Needs.{Tangle, needs_of, resource_named}
 use Rattle.cf_plan.specs.Forward.{In, Known, plan_in}
 use Rattle.cf_plan.proofs.CreatedStays.{found_in, found_one, in_more, is_found}

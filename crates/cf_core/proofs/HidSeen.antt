@@ -16,11 +16,11 @@ use Rattle.cf_desired.specs.Shape.{shape_of}
 use Rattle.cf_desired.specs.ShapeStays.{KeepsRest}
 use Rattle.cf_desired.specs.Stays.{attrs_seen, id_seen}
 use Rattle.cf_desired.proofs.Puts.{kept_self}
-use Rattle.cf_stacks.specs.declared.held.Held.{Held}
-use Rattle.cf_stacks.specs.World.{StackState}
-use Rattle.cf_stacks.specs.Words.{current_at}
-use Rattle.cf_stacks.specs.Begin.{seen_in}
-use Rattle.cf_stacks.specs.End.{seen_now}
+use Rattle.cf_effect.specs.declared.held.Held.{Held}
+use Rattle.cf_effect.specs.World.{StackState}
+use Rattle.cf_effect.specs.Words.{current_at}
+use Rattle.cf_effect.specs.Begin.{seen_in}
+use Rattle.cf_effect.specs.End.{seen_now}
 use Rattle.cf_plan.specs.Accept.{held_as}
 use Rattle.cf_plan.proofs.CreatedSeen.{shown, shown_at}
 use Rattle.cf_core.specs.Advancing.{IsAdvancing, changes_begun, held_before_as}

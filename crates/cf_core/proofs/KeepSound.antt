@@ -36,16 +36,16 @@ use Rattle.cf_schema.specs.Kinds.{found}
 use Rattle.cf_schema.specs.declared.described.Schema.{Schema}
 use Rattle.cf_stacks.proofs.Worlds.{found_stands}
 use Rattle.cf_stacks.specs.Apart.{AreApart}
-use Rattle.cf_stacks.specs.Calls.{anew, answered_call, call_of, is_call, is_restore, new_call, where_call}
-use Rattle.cf_stacks.specs.Effect.{heard, on_stack}
-use Rattle.cf_stacks.specs.End.{turned_effect}
-use Rattle.cf_stacks.specs.Fold.{fold_of, world_after, effect_at, is_opening, stack_for}
-use Rattle.cf_stacks.specs.Reply.{answered, closing, keeping_known, keeping_unknown, replied}
-use Rattle.cf_stacks.specs.Status.{is_in_progress, turned}
-use Rattle.cf_stacks.specs.Words.{has_physical, has_token, is_create_at, pending_of, resources_of}
-use Rattle.cf_stacks.specs.World.{World, StackState, is_going, known_stack, no_stack, stack_at, stack_of_operation, empty_world}
-use Rattle.cf_stacks.specs.declared.call.Call.{Call}
-use Rattle.cf_stacks.specs.declared.held.Pending.{Pending}
+use Rattle.cf_effect.specs.Calls.{anew, answered_call, call_under as call_of, is_call, is_restore, new_call, where_call}
+use Rattle.cf_effect.specs.Effect.{heard, on_stack}
+use Rattle.cf_effect.specs.End.{turned_effect}
+use Rattle.cf_effect.specs.Fold.{fold_of, world_after, effect_at, is_opening, stack_for}
+use Rattle.cf_effect.specs.Reply.{answered, closing, keeping_known, keeping_unknown, replied}
+use Rattle.cf_effect.specs.Status.{is_in_progress, turned}
+use Rattle.cf_effect.specs.Words.{has_physical, has_token, is_create_at, pending_of, resources_of}
+use Rattle.cf_effect.specs.World.{World, StackState, is_going, known_stack, no_stack, stack_at, stack_of_operation, empty_world}
+use Rattle.cf_effect.specs.declared.call.Call.{Call}
+use Rattle.cf_effect.specs.declared.held.Pending.{Pending}
 use Rattle.cf_tree.proofs.Lookups.{put_here, put_else}
 use Rattle.cf_tree.specs.Keys.{value_at}
 use Rattle.cf_tree.specs.Named.{all_differ}

@@ -3,11 +3,11 @@ use Rattle.std.proofs.Common.{◌≡◌, ◌≢◌, ℕ, List, ◌&&◌, not, Bo
 use Rattle.std.specs.List.{list_any}
 use Rattle.std.specs.Option.{unwrap_or}
 use Rattle.std.specs.Str.{bytes_eq}
-use Rattle.cf_stacks.specs.Begin.{unknown_id}
-use Rattle.cf_stacks.specs.declared.held.Held.{Held}
-use Rattle.cf_stacks.specs.declared.held.Leftover.{Leftover}
-use Rattle.cf_stacks.specs.Fold.{world_after}
-use Rattle.cf_stacks.specs.World.{StackState, World, known_stack, no_stack, stack_at}
+use Rattle.cf_effect.specs.Words.{unknown_id}
+use Rattle.cf_effect.specs.declared.held.Held.{Held}
+use Rattle.cf_effect.specs.declared.held.Leftover.{Leftover}
+use Rattle.cf_effect.specs.Fold.{world_after}
+use Rattle.cf_effect.specs.World.{StackState, World, known_stack, no_stack, stack_at}
 use Rattle.cf_entry.specs.declared.entry.Entry.{Entry}
 use Rattle.cf_schema.specs.declared.described.Schema.{Schema}
 use Rattle.cf_plan.specs.Forward.{In}

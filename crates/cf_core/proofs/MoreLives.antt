@@ -16,9 +16,9 @@ use Rattle.cf_handler.specs.Move.{LaneMove, SettlesBy}
 use Rattle.cf_entry.specs.declared.entry.Entry.{Entry}
 use Rattle.cf_entry.specs.declared.entry.Entry.TheVariants as entry
 use Rattle.cf_schema.specs.declared.described.Schema.{Schema}
-use Rattle.cf_stacks.specs.declared.held.Pending.{Pending}
-use Rattle.cf_stacks.specs.Calls.{is_call}
-use Rattle.cf_stacks.specs.Words.{has_token}
+use Rattle.cf_effect.specs.declared.held.Pending.{Pending}
+use Rattle.cf_effect.specs.Calls.{is_call}
+use Rattle.cf_effect.specs.Words.{has_token}
 use Rattle.cf_plan.specs.Follow.{is_in_flight}
 use Rattle.cf_plan.specs.Forward.{In, here, there}
 use Rattle.cf_plan.specs.Lanes.{Lane, lane_at}

@@ -17,17 +17,17 @@ use Rattle.cf_entry.specs.declared.turn.Phase.{Phase}
 use Rattle.cf_entry.specs.declared.turn.Phase.TheVariants as phase
 use Rattle.cf_entry.specs.declared.turn.Why.{Why}
 use Rattle.cf_schema.specs.declared.described.Schema.{Schema}
-use Rattle.cf_stacks.specs.declared.held.GivenUp.{GivenUp}
-use Rattle.cf_stacks.specs.declared.held.Leftover.{Leftover}
-use Rattle.cf_stacks.specs.declared.held.Pending.{Pending}
-use Rattle.cf_stacks.specs.World.{StackState, World}
-use Rattle.cf_stacks.specs.Words.{has_physical, has_token, is_create_at, is_created, pending_of, resources_of}
-use Rattle.cf_stacks.specs.Begin.{given_up, lost_create, skipped_creates, unknown_id}
-use Rattle.cf_stacks.specs.Calls.{is_restore, new_call}
-use Rattle.cf_stacks.specs.End.{ended_effect, turned_effect}
-use Rattle.cf_stacks.specs.Fold.{effect_of}
-use Rattle.cf_stacks.specs.Reply.{intending, keeping, keeping_known, keeping_unknown, replied, replying}
-use Rattle.cf_stacks.specs.Status.{Stage, begun, reviewed as reviewed_as, turned}
+use Rattle.cf_effect.specs.declared.held.GivenUp.{GivenUp}
+use Rattle.cf_effect.specs.declared.held.Leftover.{Leftover}
+use Rattle.cf_effect.specs.declared.held.Pending.{Pending}
+use Rattle.cf_effect.specs.World.{StackState, World}
+use Rattle.cf_effect.specs.Words.{has_physical, has_token, is_create_at, is_created, pending_of, resources_of, unknown_id}
+use Rattle.cf_effect.specs.Begin.{given_up, lost_create, skipped_creates}
+use Rattle.cf_effect.specs.Calls.{is_restore, new_call}
+use Rattle.cf_effect.specs.End.{ended_effect, turned_effect}
+use Rattle.cf_effect.specs.Fold.{effect_of}
+use Rattle.cf_effect.specs.Reply.{intending, keeping, keeping_known, keeping_unknown, replied, replying}
+use Rattle.cf_effect.specs.Status.{Stage, begun, reviewed as reviewed_as, turned}
 use Rattle.cf_plan.specs.Follow.{EndsAs, MayFollowIn}
 use Rattle.cf_plan.specs.Forward.{In, here, there}
 use Rattle.cf_plan.proofs.BlameMade.{answered_left}
@@ -37,7 +37,7 @@ use Rattle.cf_plan.proofs.Members.{in_any}
 use Rattle.cf_plan.proofs.RunLists.{any_of, in_back, in_either, in_front, in_one}
 use Rattle.cf_agree.proofs.Words.{bytes_same, same_bytes}
 use Rattle.cf_core.specs.AccountOf.{held_in}
-use Rattle.cf_stacks.specs.declared.held.Held.{Held}
+use Rattle.cf_effect.specs.declared.held.Held.{Held}
 use Rattle.cf_core.specs.More.{CompletesBegun, CompletesBegunStays, LeavesOnce, LeavesOnceStays, ListsGivenUp, ListsGivenUpStays, has_completed, has_known_id}
 use Rattle.cf_core.specs.OneStack.{IsOnce}
 use Rattle.cf_core.specs.Written.{IsTo, step, begins, reviewed, opened, other}

@@ -4,9 +4,9 @@ use Rattle.cf_entry.specs.declared.entry.Entry.{Entry}
 use Rattle.cf_entry.specs.declared.entry.Entry.TheVariants as entry
 use Rattle.cf_entry.proofs.Codec.{some_is}
 use Rattle.cf_schema.specs.declared.described.Schema.{Schema}
-use Rattle.cf_stacks.specs.World.{StackState, World, known_stack, stack_of_operation}
-use Rattle.cf_stacks.specs.Fold.{effect_at, is_opening, stack_for}
-use Rattle.cf_stacks.specs.Status.{Stage, stage_of}
+use Rattle.cf_effect.specs.World.{StackState, World, known_stack, stack_of_operation}
+use Rattle.cf_effect.specs.Fold.{effect_at, is_opening, stack_for}
+use Rattle.cf_effect.specs.Status.{Stage, stage_of}
 use Rattle.cf_plan.specs.Follow.{MayFollow, MayFollowIn, MayFollowOn}
 use Rattle.cf_plan.specs.Run.{IsOwn}
 use Rattle.cf_core.specs.Fits.{BecomesBy, IsWritten, own, at_opening, other as another}

@@ -5,7 +5,7 @@ use Rattle.cf_entry.specs.declared.entry.Entry.{Entry}
 use Rattle.cf_entry.specs.declared.entry.Entry.TheVariants as entry
 use Rattle.cf_schema.specs.declared.described.Schema.{Schema}
 use Rattle.cf_handler.specs.Fence.{Left}
-use Rattle.cf_stacks.specs.Room.{is_intent}
+use Rattle.cf_effect.specs.Fold.{is_intent}
 use Rattle.cf_plan.specs.Life.{CallEnd, IsLife, Lease, Life, Whole, acted, appended, first_again, granted, lease_at, repeated, replying, world_of}
 use Rattle.cf_core.specs.OneThread.{CutRunsKeepPromises, Deed, OneCallAtATime, RunsKeepPromises, calls, calls_again, events_of, events_of_run, writes}
 use Rattle.cf_core.proofs.Always.{lives_keep_promises}

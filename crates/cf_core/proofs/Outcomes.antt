@@ -27,20 +27,19 @@ use Rattle.cf_plan.specs.Agrees.{written_in}
 use Rattle.cf_plan.specs.Follow.{is_opened_since, is_done_entry, is_opened}
 use Rattle.cf_plan.specs.Forward.{In, here, there}
 use Rattle.cf_stacks.proofs.Worlds.{tail_ascends}
-use Rattle.cf_stacks.specs.Begin.{unknown_id}
-use Rattle.cf_stacks.specs.Calls.{is_restore}
-use Rattle.cf_stacks.specs.Effect.{heard, on_stack as stays_listed}
-use Rattle.cf_stacks.specs.End.{as_wanted, completing, ended_effect, ending, is_physical_of, is_right_at, left_in_doubt, marked, settled_in, stopping, turned_effect, turning, whole_now}
-use Rattle.cf_stacks.specs.Fold.{changed_by, effect_at, world_after, opening_heard}
-use Rattle.cf_stacks.specs.Operation.{after_last, reply_in}
-use Rattle.cf_stacks.specs.Reply.{answered as answer_on, closing, replied, still_open, keeping, keeping_known, keeping_unknown}
-use Rattle.cf_stacks.specs.Status.{is_in_progress, turned}
-use Rattle.cf_stacks.specs.Words.{has_token, without_token, pending_of, has_physical, resources_of, resource_at, is_on, is_create_at}
-use Rattle.cf_stacks.specs.World.{StackState, World}
-use Rattle.cf_stacks.specs.declared.held.GivenUp.{GivenUp}
-use Rattle.cf_stacks.specs.declared.held.Held.{Held}
-use Rattle.cf_stacks.specs.declared.held.Leftover.{Leftover as Left}
-use Rattle.cf_stacks.specs.declared.held.Pending.{Pending}
+use Rattle.cf_effect.specs.Words.{has_physical, has_token, is_create_at, is_on, pending_of, resource_at, resources_of, unknown_id, without_token}
+use Rattle.cf_effect.specs.Calls.{is_restore}
+use Rattle.cf_effect.specs.Effect.{heard, on_stack as stays_listed}
+use Rattle.cf_effect.specs.End.{as_wanted, completing, ended_effect, ending, is_physical_of, is_right_at, left_in_doubt, marked, settled_in, stopping, turned_effect, turning, whole_now}
+use Rattle.cf_effect.specs.Fold.{changed_by, effect_at, world_after, opening_heard}
+use Rattle.cf_effect.specs.Operation.{after_last, reply_in}
+use Rattle.cf_effect.specs.Reply.{answered as answer_on, closing, replied, still_open, keeping, keeping_known, keeping_unknown}
+use Rattle.cf_effect.specs.Status.{is_in_progress, turned}
+use Rattle.cf_effect.specs.World.{StackState, World}
+use Rattle.cf_effect.specs.declared.held.GivenUp.{GivenUp}
+use Rattle.cf_effect.specs.declared.held.Held.{Held}
+use Rattle.cf_effect.specs.declared.held.Leftover.{Leftover as Left}
+use Rattle.cf_effect.specs.declared.held.Pending.{Pending}
 use Rattle.cf_tree.proofs.Lookups.{value_below}
 use Rattle.cf_tree.specs.Keys.{ascends, value_at}
 use Rattle.cf_tree.specs.Named.{all_differ}

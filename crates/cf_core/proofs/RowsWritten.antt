@@ -25,16 +25,16 @@ use Rattle.cf_plan.specs.Lanes.{Lane}
 use Rattle.cf_plan.specs.Life.{CallEnd, Answered, Stale, IsOutcomeOf, Lease}
 use Rattle.cf_schema.specs.declared.described.Schema.{Schema}
 use Rattle.cf_stacks.specs.Apart.{AreApart}
-use Rattle.cf_stacks.specs.Calls.{answered_call, is_restore, new_call, where_call}
-use Rattle.cf_stacks.specs.Effect.{heard, on_stack}
-use Rattle.cf_stacks.specs.Fold.{effect_at, is_opening, stack_for, changed_by, world_after}
-use Rattle.cf_stacks.specs.Operation.{Response, reply_in}
-use Rattle.cf_stacks.specs.Reply.{answered, closing, replied}
-use Rattle.cf_stacks.specs.Words.{has_token, pending_of, resources_of, id_named}
-use Rattle.cf_stacks.specs.World.{StackState, World, known_stack, stack_of_operation}
-use Rattle.cf_stacks.specs.declared.call.Call.{Call}
-use Rattle.cf_stacks.specs.declared.held.Held.{Held}
-use Rattle.cf_stacks.specs.declared.held.Pending.{Pending}
+use Rattle.cf_effect.specs.Calls.{answered_call, is_restore, new_call, where_call}
+use Rattle.cf_effect.specs.Effect.{heard, on_stack}
+use Rattle.cf_effect.specs.Fold.{effect_at, is_opening, stack_for, changed_by, world_after}
+use Rattle.cf_effect.specs.Operation.{Response, reply_in}
+use Rattle.cf_effect.specs.Reply.{answered, closing, replied}
+use Rattle.cf_effect.specs.Words.{has_token, pending_of, resources_of, id_named}
+use Rattle.cf_effect.specs.World.{StackState, World, known_stack, stack_of_operation}
+use Rattle.cf_effect.specs.declared.call.Call.{Call}
+use Rattle.cf_effect.specs.declared.held.Held.{Held}
+use Rattle.cf_effect.specs.declared.held.Pending.{Pending}
 use Rattle.cf_tree.specs.Datum.{Data}
 use Rattle.cf_tree.specs.declared.request.Request.{Request}
 use Rattle.std.proofs.Common.{◌≡◌, ◌⊎◌, inl, inr, ℕ, ◌+◌, List, [], ◌∷◌, ◌++◌, Bool, true, false, Option, Some, None, refl, sym, ap, subst, ◌∙◌, true≢false, find, unwrap_or, arith, map}

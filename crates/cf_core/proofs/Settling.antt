@@ -1,5 +1,5 @@
 -- An outcome that is written down keeps what holds at each moment of a life.
-use Rattle.cf_stacks.specs.Calls.{is_restore}
+use Rattle.cf_effect.specs.Calls.{is_restore}
 use Rattle.cf_core.proofs.FitKept.{find_mapped, left_by as answered_left, differ_left}
 use Rattle.cf_agree.proofs.Effects.{gone_names, set_names}
 use Rattle.cf_agree.proofs.Keeps.{call_keeps, stale_keeps, late_keeps, fence_keeps, return_keeps, opening_keeps, intent_keeps, answer_keeps}
@@ -38,14 +38,14 @@ use Rattle.cf_schema.specs.declared.described.Schema.{Schema}
 use Rattle.cf_stacks.proofs.Apart.{stay_apart}
 use Rattle.cf_stacks.proofs.Worlds.{found_stands}
 use Rattle.cf_stacks.specs.Apart.{IsNext, AreApart}
-use Rattle.cf_stacks.specs.Effect.{heard, on_stack as stays_listed}
-use Rattle.cf_stacks.specs.Fold.{fold_of, world_after, changed_by, effect_at}
-use Rattle.cf_stacks.specs.Reply.{replied as reply_of}
-use Rattle.cf_stacks.specs.Status.{Stage, Forward, Clean, Back, BackClean, Gone}
-use Rattle.cf_stacks.specs.Words.{has_token, pending_of}
-use Rattle.cf_stacks.specs.World.{StackState, World, empty_world, is_going, stack_of_operation}
-use Rattle.cf_stacks.specs.declared.held.Held.{Held}
-use Rattle.cf_stacks.specs.declared.held.Pending.{Pending}
+use Rattle.cf_effect.specs.Effect.{heard, on_stack as stays_listed}
+use Rattle.cf_effect.specs.Fold.{fold_of, world_after, changed_by, effect_at}
+use Rattle.cf_effect.specs.Reply.{replied as reply_of}
+use Rattle.cf_effect.specs.Status.{Stage, Forward, Clean, Back, BackClean, Gone}
+use Rattle.cf_effect.specs.Words.{has_token, pending_of}
+use Rattle.cf_effect.specs.World.{StackState, World, empty_world, is_going, stack_of_operation}
+use Rattle.cf_effect.specs.declared.held.Held.{Held}
+use Rattle.cf_effect.specs.declared.held.Pending.{Pending}
 use Rattle.cf_tree.specs.Keys.{value_at}
 use Rattle.cf_tree.specs.declared.request.Answer.{Answer}
 use Rattle.cf_tree.specs.declared.request.Request.{Request}

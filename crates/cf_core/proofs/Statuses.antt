@@ -12,13 +12,13 @@ use Rattle.cf_entry.specs.declared.turn.Phase.{Phase}
 use Rattle.cf_entry.specs.declared.turn.Phase.TheVariants as phase
 use Rattle.cf_entry.specs.declared.turn.Cause.{Cause}
 use Rattle.cf_entry.specs.declared.turn.Why.{Why}
-use Rattle.cf_stacks.specs.declared.held.Pending.{Pending}
-use Rattle.cf_stacks.specs.World.{StackState}
-use Rattle.cf_stacks.specs.Words.{has_physical, has_token, is_create_at, pending_of, resources_of}
-use Rattle.cf_stacks.specs.Calls.{is_restore, new_call}
-use Rattle.cf_stacks.specs.Status.{begun, turned, is_in_progress}
-use Rattle.cf_stacks.specs.Fold.{effect_at}
-use Rattle.cf_stacks.specs.Reply.{intending, keeping, keeping_known, keeping_unknown, replied, replying}
+use Rattle.cf_effect.specs.declared.held.Pending.{Pending}
+use Rattle.cf_effect.specs.World.{StackState}
+use Rattle.cf_effect.specs.Words.{has_physical, has_token, is_create_at, pending_of, resources_of}
+use Rattle.cf_effect.specs.Calls.{is_restore, new_call}
+use Rattle.cf_effect.specs.Status.{begun, turned, is_in_progress}
+use Rattle.cf_effect.specs.Fold.{effect_at}
+use Rattle.cf_effect.specs.Reply.{intending, keeping, keeping_known, keeping_unknown, replied, replying}
 use Rattle.cf_plan.proofs.BlameMade.{answered_left}
 use Rattle.cf_core.proofs.AdvLists.{either_way}
 

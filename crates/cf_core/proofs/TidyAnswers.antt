@@ -12,16 +12,16 @@ use Rattle.cf_tree.specs.declared.request.Request.TheVariants as request
 use Rattle.cf_entry.specs.declared.entry.Reply.{Reply}
 use Rattle.cf_entry.specs.declared.entry.Reply.TheVariants as reply
 use Rattle.cf_entry.specs.declared.status.Status.{Status}
-use Rattle.cf_stacks.specs.declared.call.Call.{Call}
-use Rattle.cf_stacks.specs.declared.call.Settled.TheVariants as settled
-use Rattle.cf_stacks.specs.declared.held.Held.{Held}
-use Rattle.cf_stacks.specs.declared.held.HeldStatus.TheVariants as held
-use Rattle.cf_stacks.specs.declared.held.Pending.{Pending}
-use Rattle.cf_stacks.specs.World.{StackState, World}
-use Rattle.cf_stacks.specs.Status.{Stage}
-use Rattle.cf_stacks.specs.Words.{deletes, has_token, id_named, has_physical, pending_of, resources_of, where_physical, without_token}
-use Rattle.cf_stacks.specs.Calls.{answered_call, call_of, is_call, is_refusal, is_restore, was_refused, where_call}
-use Rattle.cf_stacks.specs.Reply.{answered, changing, closing, deleting, still_open, with_status}
+use Rattle.cf_effect.specs.declared.call.Call.{Call}
+use Rattle.cf_effect.specs.declared.call.Settled.TheVariants as settled
+use Rattle.cf_effect.specs.declared.held.Held.{Held}
+use Rattle.cf_effect.specs.declared.held.HeldStatus.TheVariants as held
+use Rattle.cf_effect.specs.declared.held.Pending.{Pending}
+use Rattle.cf_effect.specs.World.{StackState, World}
+use Rattle.cf_effect.specs.Status.{Stage}
+use Rattle.cf_effect.specs.Words.{deletes, has_token, id_named, has_physical, pending_of, resources_of, where_physical, without_token}
+use Rattle.cf_effect.specs.Calls.{answered_call, call_under as call_of, is_call, is_refusal, is_restore, was_refused, where_call}
+use Rattle.cf_effect.specs.Reply.{answered, changing, closing, deleting, still_open, with_status}
 use Rattle.cf_plan.specs.Follow.{cleaned_in}
 use Rattle.cf_plan.specs.Forward.{In}
 use Rattle.cf_plan.proofs.CreatedRight.{in_filter, not_so}

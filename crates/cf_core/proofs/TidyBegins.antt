@@ -22,16 +22,16 @@ use Rattle.cf_entry.specs.declared.turn.Phase.TheVariants as phase
 use Rattle.cf_entry.specs.declared.turn.Cause.{Cause}
 use Rattle.cf_entry.specs.declared.turn.Why.{Why}
 use Rattle.cf_schema.specs.declared.described.Schema.{Schema}
-use Rattle.cf_stacks.specs.declared.call.Call.{Call}
-use Rattle.cf_stacks.specs.declared.held.Held.{Held}
-use Rattle.cf_stacks.specs.declared.held.Pending.{Pending}
-use Rattle.cf_stacks.specs.World.{StackState, World, known_stack, no_stack, stack_at}
+use Rattle.cf_effect.specs.declared.call.Call.{Call}
+use Rattle.cf_effect.specs.declared.held.Held.{Held}
+use Rattle.cf_effect.specs.declared.held.Pending.{Pending}
+use Rattle.cf_effect.specs.World.{StackState, World, known_stack, no_stack, stack_at}
 use Rattle.cf_stacks.specs.Apart.{AreApart}
-use Rattle.cf_stacks.specs.Words.{deletes, has_physical, has_token, is_create_at, pending_of, resources_of, where_physical}
-use Rattle.cf_stacks.specs.Status.{Back, BackClean, Clean, Forward, Stage, begun, stage_of, turned, reviewed as reviewed_status}
-use Rattle.cf_stacks.specs.Calls.{anew, answered_call, is_open_call, is_restore, new_call, refusals_of, deletions_of, where_call}
-use Rattle.cf_stacks.specs.Reply.{answered, changing, intending, keeping, keeping_known, keeping_unknown, replied}
-use Rattle.cf_stacks.specs.Fold.{effect_at}
+use Rattle.cf_effect.specs.Words.{deletes, has_physical, has_token, is_create_at, pending_of, resources_of, where_physical}
+use Rattle.cf_effect.specs.Status.{Back, BackClean, Clean, Forward, Stage, begun, stage_of, turned, reviewed as reviewed_status}
+use Rattle.cf_effect.specs.Calls.{anew, answered_call, is_open_call, is_restore, new_call, refusals_of, deletions_of, where_call}
+use Rattle.cf_effect.specs.Reply.{answered, changing, intending, keeping, keeping_known, keeping_unknown, replied}
+use Rattle.cf_effect.specs.Fold.{effect_at}
 use Rattle.cf_plan.specs.Follow.{EndsAs, IntendsIn, MayFollowIn, MayIntend, MayTurn, cleaned_in}
 use Rattle.cf_plan.specs.Forward.{AllDone, In, IsDone, IsReady, here}
 use Rattle.cf_plan.specs.Run.{IsOwn}

@@ -10,14 +10,14 @@ use Rattle.std.proofs.lemmas.Slice.Eq.{bytes_eq-Decides}
 use Rattle.cf_tree.specs.declared.request.Request.TheVariants as request
 use Rattle.cf_entry.specs.declared.status.Status.{Status}
 use Rattle.cf_entry.specs.declared.turn.Why.{Why}
-use Rattle.cf_stacks.specs.declared.call.Call.{Call}
-use Rattle.cf_stacks.specs.declared.held.Held.{Held}
-use Rattle.cf_stacks.specs.declared.held.Pending.{Pending}
-use Rattle.cf_stacks.specs.World.{StackState, World}
-use Rattle.cf_stacks.specs.Status.{Stage}
-use Rattle.cf_stacks.specs.Words.{deletes, has_physical, has_token, id_named, is_create, is_create_at, is_on, resources_of}
-use Rattle.cf_stacks.specs.Calls.{call_of, is_call, is_refusal, new_call, was_refused}
-use Rattle.cf_stacks.specs.Reply.{keeping, keeping_known, keeping_unknown}
+use Rattle.cf_effect.specs.declared.call.Call.{Call}
+use Rattle.cf_effect.specs.declared.held.Held.{Held}
+use Rattle.cf_effect.specs.declared.held.Pending.{Pending}
+use Rattle.cf_effect.specs.World.{StackState, World}
+use Rattle.cf_effect.specs.Status.{Stage}
+use Rattle.cf_effect.specs.Words.{deletes, has_physical, has_token, id_named, is_create, is_create_at, is_on, resources_of}
+use Rattle.cf_effect.specs.Calls.{call_under as call_of, is_call, is_refusal, new_call, was_refused}
+use Rattle.cf_effect.specs.Reply.{keeping, keeping_known, keeping_unknown}
 use Rattle.cf_plan.specs.Follow.{cleaned_in, is_free}
 use Rattle.cf_plan.specs.Forward.{In}
 use Rattle.cf_plan.proofs.CreatedRight.{free_path, in_filter, not_so}

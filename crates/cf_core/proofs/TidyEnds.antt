@@ -17,15 +17,15 @@ use Rattle.cf_entry.specs.declared.turn.Why.TheVariants as why
 use Rattle.cf_handler.specs.Move.{IsOfLane}
 use Rattle.cf_schema.specs.declared.described.Schema.{Schema}
 use Rattle.cf_change.specs.Changes.{is_empty}
-use Rattle.cf_stacks.specs.declared.call.Call.{Call}
-use Rattle.cf_stacks.specs.declared.held.Held.{Held}
-use Rattle.cf_stacks.specs.declared.held.Pending.{Pending}
-use Rattle.cf_stacks.specs.World.{StackState, World, stack_of_operation}
-use Rattle.cf_stacks.specs.Words.{deletes, pending_of}
-use Rattle.cf_stacks.specs.Calls.{deletions_of, doubts_of, refusals_of}
-use Rattle.cf_stacks.specs.End.{marked}
-use Rattle.cf_stacks.specs.Fold.{effect_at}
-use Rattle.cf_stacks.specs.Status.{Gone, Stage, stage_of, reviewed as reviewed_status}
+use Rattle.cf_effect.specs.declared.call.Call.{Call}
+use Rattle.cf_effect.specs.declared.held.Held.{Held}
+use Rattle.cf_effect.specs.declared.held.Pending.{Pending}
+use Rattle.cf_effect.specs.World.{StackState, World, stack_of_operation}
+use Rattle.cf_effect.specs.Words.{deletes, pending_of}
+use Rattle.cf_effect.specs.Calls.{deletions_of, doubts_of, refusals_of}
+use Rattle.cf_effect.specs.End.{marked}
+use Rattle.cf_effect.specs.Fold.{effect_at}
+use Rattle.cf_effect.specs.Status.{Gone, Stage, stage_of, reviewed as reviewed_status}
 use Rattle.cf_plan.specs.Follow.{EndsAs, IntendsIn, IsAtEnd, IsNamedLane, MayDelete, MayFollowIn, MayIntend, MayKeep, MayRepeat, MayStep, MayTurn, calls_in_flight, cleaned_in, is_free, is_in_flight, is_lane_leased, is_tried_less, keeps, none_in_flight, waits_for_repeats}
 use Rattle.cf_plan.specs.Forward.{In, here}
 use Rattle.cf_plan.specs.Run.{IsOwn}

@@ -8,14 +8,14 @@ use Rattle.cf_entry.specs.declared.entry.Entry.TheVariants as entry
 use Rattle.cf_entry.specs.declared.entry.Reply.{Reply}
 use Rattle.cf_entry.specs.declared.status.Status.{Status}
 use Rattle.cf_schema.specs.declared.described.Schema.{Schema}
-use Rattle.cf_stacks.specs.declared.held.Held.{Held}
-use Rattle.cf_stacks.specs.declared.held.Pending.{Pending}
-use Rattle.cf_stacks.specs.World.{StackState, World}
-use Rattle.cf_stacks.specs.Words.{has_token, pending_of}
-use Rattle.cf_stacks.specs.Status.{Stage, stage_of}
-use Rattle.cf_stacks.specs.Calls.{anew, is_restore, new_call}
-use Rattle.cf_stacks.specs.Reply.{answered, closing, intending, replied}
-use Rattle.cf_stacks.specs.Fold.{effect_at}
+use Rattle.cf_effect.specs.declared.held.Held.{Held}
+use Rattle.cf_effect.specs.declared.held.Pending.{Pending}
+use Rattle.cf_effect.specs.World.{StackState, World}
+use Rattle.cf_effect.specs.Words.{has_token, pending_of}
+use Rattle.cf_effect.specs.Status.{Stage, stage_of}
+use Rattle.cf_effect.specs.Calls.{anew, is_restore, new_call}
+use Rattle.cf_effect.specs.Reply.{answered, closing, intending, replied}
+use Rattle.cf_effect.specs.Fold.{effect_at}
 use Rattle.cf_plan.specs.Follow.{EndsAs, IntendsIn, MayFollowIn, MayIntend, cleaned_in}
 use Rattle.cf_plan.specs.Run.{IsOwn}
 use Rattle.cf_plan.specs.Forward.{In}

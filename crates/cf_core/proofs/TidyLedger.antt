@@ -6,10 +6,10 @@ use Rattle.std.specs.Cmp.{first_so, second_so}
 use Rattle.std.proofs.lemmas.Bool.{eqb-true}
 use Rattle.std.proofs.lemmas.List.Sums.{count_by-le-length, length-filter}
 use Rattle.cf_tree.specs.Named.{all_differ}
-use Rattle.cf_stacks.specs.declared.call.Call.{Call}
-use Rattle.cf_stacks.specs.World.{StackState}
-use Rattle.cf_stacks.specs.Words.{deletes}
-use Rattle.cf_stacks.specs.Calls.{deletions_of, is_call, refusals_of, was_refused}
+use Rattle.cf_effect.specs.declared.call.Call.{Call}
+use Rattle.cf_effect.specs.World.{StackState}
+use Rattle.cf_effect.specs.Words.{deletes}
+use Rattle.cf_effect.specs.Calls.{deletions_of, is_call, refusals_of, was_refused}
 use Rattle.cf_plan.specs.Forward.{In, here, there}
 use Rattle.cf_plan.proofs.CreatedRight.{none_of, not_so}
 use Rattle.cf_plan.proofs.CreatedWhole.{in_map}

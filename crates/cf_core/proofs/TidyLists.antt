@@ -7,7 +7,7 @@ use Rattle.std.specs.Cmp.{first_so, second_so}
 use Rattle.std.proofs.lemmas.Slice.Eq.{bytes_eq-Decides}
 use Rattle.std.proofs.lemmas.Bool.{eq-eqb}
 use Rattle.cf_tree.specs.Named.{all_differ}
-use Rattle.cf_stacks.specs.Words.{change_first}
+use Rattle.cf_effect.specs.Words.{change_first}
 use Rattle.cf_plan.specs.Forward.{In, here, there}
 use Rattle.cf_plan.proofs.CreatedRight.{none_of, not_so}
 use Rattle.cf_plan.proofs.CreatedWhole.{in_map}

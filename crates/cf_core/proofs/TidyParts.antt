@@ -1,7 +1,7 @@
 -- The parts of a cleanup's record say that what it cleans up is tidied, and the other way round.
 use Rattle.std.proofs.Common.{ℕ, List}
-use Rattle.cf_stacks.specs.World.{StackState, World}
-use Rattle.cf_stacks.specs.Status.{BackClean, Clean}
+use Rattle.cf_effect.specs.World.{StackState, World}
+use Rattle.cf_effect.specs.Status.{BackClean, Clean}
 use Rattle.cf_plan.specs.Follow.{cleaned_in}
 use Rattle.cf_plan.proofs.CreatedRight.{in_filter}
 use Rattle.cf_plan.proofs.RunLists.{in_kept}

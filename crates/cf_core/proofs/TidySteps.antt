@@ -5,14 +5,14 @@ use Rattle.std.specs.List.{list_any}
 use Rattle.std.proofs.lemmas.Slice.Eq.{bytes_eq-Decides}
 use Rattle.cf_tree.specs.declared.request.Request.TheVariants as request
 use Rattle.cf_entry.specs.declared.status.Status.{Status}
-use Rattle.cf_stacks.specs.declared.call.Call.{Call}
-use Rattle.cf_stacks.specs.declared.held.Held.{Held}
-use Rattle.cf_stacks.specs.declared.held.Pending.{Pending}
-use Rattle.cf_stacks.specs.World.{StackState}
-use Rattle.cf_stacks.specs.Words.{has_physical, where_physical, without, resources_of}
-use Rattle.cf_stacks.specs.Calls.{deletions_of, refusals_of, was_refused}
-use Rattle.cf_stacks.specs.Reply.{changing}
-use Rattle.cf_stacks.specs.Status.{Stage, BackClean, Clean}
+use Rattle.cf_effect.specs.declared.call.Call.{Call}
+use Rattle.cf_effect.specs.declared.held.Held.{Held}
+use Rattle.cf_effect.specs.declared.held.Pending.{Pending}
+use Rattle.cf_effect.specs.World.{StackState}
+use Rattle.cf_effect.specs.Words.{has_physical, where_physical, without, resources_of}
+use Rattle.cf_effect.specs.Calls.{deletions_of, refusals_of, was_refused}
+use Rattle.cf_effect.specs.Reply.{changing}
+use Rattle.cf_effect.specs.Status.{Stage, BackClean, Clean}
 use Rattle.cf_plan.specs.Follow.{cleaned_in}
 use Rattle.cf_plan.specs.Forward.{In}
 use Rattle.cf_plan.proofs.CreatedRight.{in_filter, not_so}

@@ -13,20 +13,20 @@ use Rattle.cf_tree.specs.declared.source.Source.{Source}
 use Rattle.cf_tree.specs.declared.code.Code.TheVariants as code
 use Rattle.cf_tree.specs.declared.request.Request.TheVariants as request
 use Rattle.cf_export.specs.declared.Export.{Export}
-use Rattle.cf_stacks.specs.Listed.{export_by, is_export_before, not_export_of, reexported, exports_after}
-use Rattle.cf_stacks.specs.declared.held.Held.{Held}
-use Rattle.cf_stacks.specs.declared.held.Pending.{Pending}
-use Rattle.cf_stacks.specs.World.{StackState, World, known_stack, stack_of_operation}
-use Rattle.cf_stacks.specs.Words.{current_at, is_current_at, resource_at, resources_of, change_first, has_physical, has_token, is_on, pending_of, where_physical, without}
-use Rattle.cf_stacks.specs.Begin.{seen_as_held, seen_in}
-use Rattle.cf_stacks.specs.End.{as_wanted, empty_whole, is_physical_of, is_right_at, seen_now, settled_in, whole_now, whole_over, marked, stopping, turning, left_in_doubt}
-use Rattle.cf_stacks.specs.Fold.{effect_at, is_opening, stack_for, world_after, effect_of}
-use Rattle.cf_stacks.specs.declared.held.HeldStatus.{HeldStatus}
-use Rattle.cf_stacks.specs.Calls.{is_restore, new_call}
-use Rattle.cf_stacks.specs.Effect.{leaving}
-use Rattle.cf_stacks.specs.Reply.{answered, closing, deleting, keeping, replied, replying, with_status, intending}
-use Rattle.cf_stacks.specs.Status.{Clean, stage_of}
-use Rattle.cf_stacks.specs.declared.held.HeldStatus.TheVariants as held
+use Rattle.cf_effect.specs.Listed.{export_by, is_export_before, not_export_of, reexported, exports_after}
+use Rattle.cf_effect.specs.declared.held.Held.{Held}
+use Rattle.cf_effect.specs.declared.held.Pending.{Pending}
+use Rattle.cf_effect.specs.World.{StackState, World, known_stack, stack_of_operation}
+use Rattle.cf_effect.specs.Words.{current_at, is_current_at, resource_at, resources_of, change_first, has_physical, has_token, is_on, pending_of, where_physical, without}
+use Rattle.cf_effect.specs.Begin.{seen_as_held, seen_in}
+use Rattle.cf_effect.specs.End.{as_wanted, empty_whole, is_physical_of, is_right_at, seen_now, settled_in, whole_now, whole_over, marked, stopping, turning, left_in_doubt}
+use Rattle.cf_effect.specs.Fold.{effect_at, is_opening, stack_for, world_after, effect_of}
+use Rattle.cf_effect.specs.declared.held.HeldStatus.{HeldStatus}
+use Rattle.cf_effect.specs.Calls.{is_restore, new_call}
+use Rattle.cf_effect.specs.Effect.{leaving}
+use Rattle.cf_effect.specs.Reply.{answered, closing, deleting, keeping, replied, replying, with_status, intending}
+use Rattle.cf_effect.specs.Status.{Clean, stage_of}
+use Rattle.cf_effect.specs.declared.held.HeldStatus.TheVariants as held
 use Rattle.cf_plan.specs.Forward.{In, here, there, AllDone, HasFailed, IsDone, Known, evaluated_at, is_made, is_right, is_updated, plan_in, plan_now, wanted_paths}
 use Rattle.cf_plan.proofs.CreatedEnd.{in_changed, none_first}
 use Rattle.cf_plan.proofs.CreatedRight.{in_filter, not_so}

@@ -9,9 +9,9 @@ use Rattle.cf_entry.specs.declared.entry.Begun.{Begun}
 use Rattle.cf_entry.specs.declared.entry.Begun.TheVariants as begin
 use Rattle.cf_entry.proofs.Codec.{some_is}
 use Rattle.cf_schema.specs.declared.described.Schema.{Schema}
-use Rattle.cf_stacks.specs.World.{StackState, World, is_going, known_stack, stack_at, stack_of_operation}
-use Rattle.cf_stacks.specs.Fold.{effect_at, is_opening, stack_for}
-use Rattle.cf_stacks.specs.Status.{is_in_progress, stage_of}
+use Rattle.cf_effect.specs.World.{StackState, World, is_going, known_stack, stack_at, stack_of_operation}
+use Rattle.cf_effect.specs.Fold.{effect_at, is_opening, stack_for}
+use Rattle.cf_effect.specs.Status.{is_in_progress, stage_of}
 use Rattle.cf_plan.specs.Follow.{BeginsBy, MayBegin, MayFollow, MayFollowIn, MayFollowOn, begins_from, updates_from}
 use Rattle.cf_plan.specs.Accept.{creates_from}
 use Rattle.cf_plan.specs.Run.{IsOwn}

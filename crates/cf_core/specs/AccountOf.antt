@@ -9,14 +9,13 @@ use Rattle.cf_handler.specs.declared.settled.Settlement.TheVariants as settlemen
 use Rattle.cf_entry.specs.declared.entry.Entry.{Entry}
 use Rattle.cf_entry.specs.declared.entry.Reply.{Reply}
 use Rattle.cf_entry.specs.declared.entry.Reply.TheVariants as reply
-use Rattle.cf_stacks.specs.declared.held.Held.{Held}
-use Rattle.cf_stacks.specs.declared.held.Leftover.{Leftover as Left}
-use Rattle.cf_stacks.specs.declared.held.Pending.{Pending}
-use Rattle.cf_stacks.specs.World.{StackState, World}
-use Rattle.cf_stacks.specs.Status.{is_in_progress}
-use Rattle.cf_stacks.specs.Words.{has_physical, has_token}
-use Rattle.cf_stacks.specs.Operation.{Response, replies_in}
-use Rattle.cf_stacks.specs.Begin.{unknown_id}
+use Rattle.cf_effect.specs.declared.held.Held.{Held}
+use Rattle.cf_effect.specs.declared.held.Leftover.{Leftover as Left}
+use Rattle.cf_effect.specs.declared.held.Pending.{Pending}
+use Rattle.cf_effect.specs.World.{StackState, World}
+use Rattle.cf_effect.specs.Status.{is_in_progress}
+use Rattle.cf_effect.specs.Words.{has_physical, has_token, unknown_id}
+use Rattle.cf_effect.specs.Operation.{Response, replies_in}
 use Rattle.cf_plan.specs.Agrees.{call_at}
 use Rattle.cf_plan.specs.Follow.{is_opened_since}
 use Rattle.cf_plan.specs.Lanes.{Lane, lane_at}

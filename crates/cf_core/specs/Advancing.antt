@@ -9,15 +9,15 @@ use Rattle.cf_tree.specs.declared.row.Row.{Row}
 use Rattle.cf_change.specs.Changes.{Changes, HeldAt, changes_of}
 use Rattle.cf_change.specs.Hidden.{hides_attrs, hides_id}
 use Rattle.cf_desired.specs.ShapeStays.{KeepsRest}
-use Rattle.cf_stacks.specs.declared.call.Call.{Call}
-use Rattle.cf_stacks.specs.declared.held.Held.{Held}
-use Rattle.cf_stacks.specs.declared.held.Pending.{Pending}
-use Rattle.cf_stacks.specs.World.{StackState}
-use Rattle.cf_stacks.specs.Words.{current_at, updates}
-use Rattle.cf_stacks.specs.Begin.{seen_in}
-use Rattle.cf_stacks.specs.Calls.{was_updated}
-use Rattle.cf_stacks.specs.End.{seen_now}
-use Rattle.cf_stacks.specs.Status.{goes_forward}
+use Rattle.cf_effect.specs.declared.call.Call.{Call}
+use Rattle.cf_effect.specs.declared.held.Held.{Held}
+use Rattle.cf_effect.specs.declared.held.Pending.{Pending}
+use Rattle.cf_effect.specs.World.{StackState}
+use Rattle.cf_effect.specs.Words.{current_at, updates}
+use Rattle.cf_effect.specs.Begin.{seen_in}
+use Rattle.cf_effect.specs.Calls.{was_updated}
+use Rattle.cf_effect.specs.End.{seen_now}
+use Rattle.cf_effect.specs.Status.{goes_forward}
 use Rattle.cf_plan.specs.Accept.{held_as}
 use Rattle.cf_plan.specs.Forward.{In, IsDone, IsReady, Known, evaluated_at, was_updated_at}
 

@@ -6,8 +6,8 @@ use Rattle.cf_tree.specs.declared.source.Source.{Source}
 use Rattle.cf_entry.specs.declared.entry.Entry.{Entry}
 use Rattle.cf_entry.specs.declared.status.Status.TheVariants as status
 use Rattle.cf_schema.specs.declared.described.Schema.{Schema}
-use Rattle.cf_stacks.specs.World.{StackState, World}
-use Rattle.cf_stacks.specs.Status.{Forward, goes_forward, is_in_progress}
+use Rattle.cf_effect.specs.World.{StackState, World}
+use Rattle.cf_effect.specs.Status.{Forward, goes_forward, is_in_progress}
 use Rattle.cf_plan.specs.Accept.{creates_from}
 use Rattle.cf_plan.specs.Follow.{MayIntend, updates_from}
 use Rattle.cf_core.specs.Advancing.{AreSingle, IsAdvancing, IsHidden, changes_begun}

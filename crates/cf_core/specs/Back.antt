@@ -4,14 +4,14 @@ use Rattle.std.specs.Prelude.{◌≡◌, ◌⊎◌, ℕ, true, false, IsTrue, Li
 use Rattle.cf_tree.specs.Datum.{Data}
 use Rattle.cf_tree.specs.declared.request.Request.TheVariants as request
 use Rattle.cf_tree.specs.declared.request.Request.{Request}
-use Rattle.cf_stacks.specs.declared.call.Call.{Call}
-use Rattle.cf_stacks.specs.declared.held.Held.{Held}
-use Rattle.cf_stacks.specs.declared.held.Pending.{Pending}
-use Rattle.cf_stacks.specs.World.{StackState}
-use Rattle.cf_stacks.specs.Words.{current_at}
-use Rattle.cf_stacks.specs.Calls.{call_of, was_restored, was_updated}
-use Rattle.cf_stacks.specs.Operation.{named_in, was_skipped}
-use Rattle.cf_stacks.specs.Status.{goes_forward}
+use Rattle.cf_effect.specs.declared.call.Call.{Call}
+use Rattle.cf_effect.specs.declared.held.Held.{Held}
+use Rattle.cf_effect.specs.declared.held.Pending.{Pending}
+use Rattle.cf_effect.specs.World.{StackState}
+use Rattle.cf_effect.specs.Words.{current_at}
+use Rattle.cf_effect.specs.Calls.{call_under as call_of, was_restored, was_updated}
+use Rattle.cf_effect.specs.Operation.{named_in, was_skipped}
+use Rattle.cf_effect.specs.Status.{goes_forward}
 use Rattle.cf_plan.specs.Forward.{In}
 use Rattle.cf_core.specs.Advancing.{AreSameThings, AreSingle}
 

@@ -5,8 +5,8 @@ use Rattle.cf_entry.specs.declared.entry.Entry.{Entry}
 use Rattle.cf_entry.specs.declared.status.Status.{Status}
 use Rattle.cf_entry.specs.declared.status.Status.TheVariants as status
 use Rattle.cf_schema.specs.declared.described.Schema.{Schema}
-use Rattle.cf_stacks.specs.World.{StackState, World, no_stack}
-use Rattle.cf_stacks.specs.Fold.{world_after}
+use Rattle.cf_effect.specs.World.{StackState, World, no_stack}
+use Rattle.cf_effect.specs.Fold.{world_after}
 use Rattle.cf_plan.specs.Ends.{IsBlamed}
 use Rattle.cf_plan.specs.Follow.{failed_of, is_failed_status}
 use Rattle.cf_core.specs.Books.{IsBooked}

@@ -5,14 +5,14 @@ use Rattle.cf_tree.specs.Lists.{is_among}
 use Rattle.cf_tree.specs.Counts.{HasRisen}
 use Rattle.cf_entry.specs.declared.entry.Entry.{Entry}
 use Rattle.cf_entry.specs.declared.status.Status.TheVariants as status
-use Rattle.cf_stacks.specs.declared.call.Call.{Call}
-use Rattle.cf_stacks.specs.declared.held.Held.{Held}
-use Rattle.cf_stacks.specs.declared.held.Pending.{Pending}
-use Rattle.cf_stacks.specs.World.{StackState}
-use Rattle.cf_stacks.specs.Words.{deletes, is_update, resources_of, updates}
-use Rattle.cf_stacks.specs.Calls.{is_call, is_success, succeeded, was_refused}
-use Rattle.cf_stacks.specs.Operation.{Response, is_of, named_paths, own_of, replies_in}
-use Rattle.cf_stacks.specs.Status.{goes_back, is_in_progress}
+use Rattle.cf_effect.specs.declared.call.Call.{Call}
+use Rattle.cf_effect.specs.declared.held.Held.{Held}
+use Rattle.cf_effect.specs.declared.held.Pending.{Pending}
+use Rattle.cf_effect.specs.World.{StackState}
+use Rattle.cf_effect.specs.Words.{deletes, is_update, resources_of, updates}
+use Rattle.cf_effect.specs.Calls.{is_call, is_success, succeeded, was_refused}
+use Rattle.cf_effect.specs.Operation.{Response, is_of, named_paths, own_of, replies_in}
+use Rattle.cf_effect.specs.Status.{goes_back, is_in_progress}
 use Rattle.cf_plan.specs.Between.{needs_at}
 use Rattle.cf_plan.specs.Follow.{failed_of, has_path, is_bad_outcome, settled_by}
 use Rattle.cf_plan.specs.Forward.{In}

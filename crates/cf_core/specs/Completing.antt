@@ -12,14 +12,14 @@ use Rattle.cf_entry.specs.declared.turn.Phase.TheVariants as phase
 use Rattle.cf_schema.specs.declared.described.Schema.{Schema}
 use Rattle.cf_handler.specs.Lane.{Live}
 use Rattle.cf_desired.specs.Shape.{shape_of}
-use Rattle.cf_stacks.specs.declared.held.Held.{Held}
-use Rattle.cf_stacks.specs.declared.held.Pending.{Pending}
-use Rattle.cf_stacks.specs.World.{StackState, World}
-use Rattle.cf_stacks.specs.Words.{has_physical}
-use Rattle.cf_stacks.specs.Status.{reviewed, stage_of}
-use Rattle.cf_stacks.specs.Begin.{seen_in}
-use Rattle.cf_stacks.specs.End.{seen_now}
-use Rattle.cf_stacks.specs.Fold.{world_after}
+use Rattle.cf_effect.specs.declared.held.Held.{Held}
+use Rattle.cf_effect.specs.declared.held.Pending.{Pending}
+use Rattle.cf_effect.specs.World.{StackState, World}
+use Rattle.cf_effect.specs.Words.{has_physical}
+use Rattle.cf_effect.specs.Status.{reviewed, stage_of}
+use Rattle.cf_effect.specs.Begin.{seen_in}
+use Rattle.cf_effect.specs.End.{seen_now}
+use Rattle.cf_effect.specs.Fold.{world_after}
 use Rattle.cf_plan.specs.Accept.{exports_in}
 use Rattle.cf_plan.specs.Ends.{IsCleared, IsComplete, IsLive, IsRestored}
 use Rattle.cf_plan.specs.Forward.{In}

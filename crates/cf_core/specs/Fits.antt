@@ -7,14 +7,14 @@ use Rattle.cf_entry.specs.declared.entry.Entry.{Entry}
 use Rattle.cf_entry.specs.declared.entry.Entry.TheVariants as entry
 use Rattle.cf_entry.specs.declared.entry.Reply.TheVariants as reply
 use Rattle.cf_schema.specs.declared.described.Schema.{Schema}
-use Rattle.cf_stacks.specs.declared.call.Call.{Call}
-use Rattle.cf_stacks.specs.declared.held.Held.{Held}
-use Rattle.cf_stacks.specs.declared.held.Pending.{Pending}
-use Rattle.cf_stacks.specs.World.{StackState, World, known_stack, stack_at, stack_of_operation}
-use Rattle.cf_stacks.specs.Words.{id_named, pending_of, resources_of}
-use Rattle.cf_stacks.specs.Calls.{call_of}
+use Rattle.cf_effect.specs.declared.call.Call.{Call}
+use Rattle.cf_effect.specs.declared.held.Held.{Held}
+use Rattle.cf_effect.specs.declared.held.Pending.{Pending}
+use Rattle.cf_effect.specs.World.{StackState, World, known_stack, stack_at, stack_of_operation}
+use Rattle.cf_effect.specs.Words.{id_named, pending_of, resources_of}
+use Rattle.cf_effect.specs.Calls.{call_under as call_of}
 use Rattle.cf_stacks.specs.Apart.{AreApart}
-use Rattle.cf_stacks.specs.Fold.{effect_at, is_opening, stack_for, world_after}
+use Rattle.cf_effect.specs.Fold.{effect_at, is_opening, stack_for, world_after}
 use Rattle.cf_plan.specs.Forward.{In}
 use Rattle.cf_plan.specs.Follow.{HasLanes, MayFollow}
 

@@ -8,12 +8,12 @@ use Rattle.cf_entry.specs.declared.entry.Reply.TheVariants as reply
 use Rattle.cf_entry.specs.declared.status.Status.TheVariants as status
 use Rattle.cf_handler.specs.Move.{IsOfLane}
 use Rattle.cf_schema.specs.declared.described.Schema.{Schema}
-use Rattle.cf_stacks.specs.declared.held.Held.{Held}
-use Rattle.cf_stacks.specs.declared.held.Pending.{Pending}
-use Rattle.cf_stacks.specs.World.{StackState, World, known_stack, stack_at, stack_of_operation}
-use Rattle.cf_stacks.specs.Words.{id_named, pending_of}
+use Rattle.cf_effect.specs.declared.held.Held.{Held}
+use Rattle.cf_effect.specs.declared.held.Pending.{Pending}
+use Rattle.cf_effect.specs.World.{StackState, World, known_stack, stack_at, stack_of_operation}
+use Rattle.cf_effect.specs.Words.{id_named, pending_of}
 use Rattle.cf_stacks.specs.Apart.{AreApart}
-use Rattle.cf_stacks.specs.Fold.{world_after}
+use Rattle.cf_effect.specs.Fold.{world_after}
 use Rattle.cf_plan.specs.Accept.{creates_from}
 use Rattle.cf_plan.specs.Forward.{In}
 use Rattle.cf_plan.specs.Follow.{MayFollow, updates_from}

@@ -14,15 +14,15 @@ use Rattle.cf_entry.specs.declared.status.Status.{Status}
 use Rattle.cf_entry.specs.declared.status.Status.TheVariants as status
 use Rattle.cf_schema.specs.declared.described.Schema.{Schema}
 use Rattle.cf_desired.specs.declared.wanted.Wanted.{Wanted}
-use Rattle.cf_stacks.specs.declared.call.Call.{Call}
-use Rattle.cf_stacks.specs.declared.call.Settled.TheVariants as settled
-use Rattle.cf_stacks.specs.declared.held.Held.{Held}
-use Rattle.cf_stacks.specs.declared.held.Pending.{Pending}
-use Rattle.cf_stacks.specs.Calls.{call_of, doubts_of}
-use Rattle.cf_stacks.specs.Operation.{Response, doubts_in, is_phase, now_of, replies_in}
-use Rattle.cf_stacks.specs.Words.{current_at, is_update}
-use Rattle.cf_stacks.specs.World.{StackState, World, stack_of_operation}
-use Rattle.cf_stacks.specs.Status.{Forward, Stage, goes_forward, is_in_progress, stage_of}
+use Rattle.cf_effect.specs.declared.call.Call.{Call}
+use Rattle.cf_effect.specs.declared.call.Settled.TheVariants as settled
+use Rattle.cf_effect.specs.declared.held.Held.{Held}
+use Rattle.cf_effect.specs.declared.held.Pending.{Pending}
+use Rattle.cf_effect.specs.Calls.{call_under as call_of, doubts_of}
+use Rattle.cf_effect.specs.Operation.{Response, doubts_in, is_phase, now_of, replies_in}
+use Rattle.cf_effect.specs.Words.{current_at, is_update}
+use Rattle.cf_effect.specs.World.{StackState, World, stack_of_operation}
+use Rattle.cf_effect.specs.Status.{Forward, Stage, goes_forward, is_in_progress, stage_of}
 use Rattle.cf_plan.specs.Due.{MayRepeatOn}
 use Rattle.cf_plan.specs.Follow.{MayFollowOn, MayRepeat, MayStep, cleaned_in}
 use Rattle.cf_plan.specs.Forward.{In, IsReady, Known, evaluated_at, plan_now, was_answered_at}

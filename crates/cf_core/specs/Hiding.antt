@@ -14,12 +14,12 @@ use Rattle.cf_schema.specs.Kinds.{found}
 use Rattle.cf_change.specs.Hidden.{hides_attrs, hides_id}
 use Rattle.cf_desired.specs.Shape.{shape_of}
 use Rattle.cf_desired.specs.ShapeStays.{KeepsRest}
-use Rattle.cf_stacks.specs.declared.held.Held.{Held}
-use Rattle.cf_stacks.specs.declared.held.Pending.{Pending}
-use Rattle.cf_stacks.specs.World.{StackState, World, no_stack}
-use Rattle.cf_stacks.specs.Begin.{seen_in}
-use Rattle.cf_stacks.specs.End.{seen_now}
-use Rattle.cf_stacks.specs.Status.{Forward, goes_forward}
+use Rattle.cf_effect.specs.declared.held.Held.{Held}
+use Rattle.cf_effect.specs.declared.held.Pending.{Pending}
+use Rattle.cf_effect.specs.World.{StackState, World, no_stack}
+use Rattle.cf_effect.specs.Begin.{seen_in}
+use Rattle.cf_effect.specs.End.{seen_now}
+use Rattle.cf_effect.specs.Status.{Forward, goes_forward}
 use Rattle.cf_plan.specs.Follow.{MayIntend}
 use Rattle.cf_plan.specs.Forward.{In, Known, evaluated_at}
 use Rattle.cf_plan.specs.Lanes.{AreSchemas}

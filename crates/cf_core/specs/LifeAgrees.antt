@@ -4,8 +4,8 @@ use Rattle.cf_handler.specs.declared.settled.Settlement.{Settlement}
 use Rattle.cf_handler.specs.Lane.{Live}
 use Rattle.cf_schema.specs.declared.described.Schema.{Schema}
 use Rattle.cf_entry.specs.declared.entry.Entry.{Entry}
-use Rattle.cf_stacks.specs.declared.held.Held.{Held}
-use Rattle.cf_stacks.specs.World.{StackState, World, stack_at}
+use Rattle.cf_effect.specs.declared.held.Held.{Held}
+use Rattle.cf_effect.specs.World.{StackState, World, stack_at}
 use Rattle.cf_stacks.specs.Apart.{AreApart}
 use Rattle.cf_plan.specs.Ends.{IsLive}
 use Rattle.cf_plan.specs.Forward.{In}

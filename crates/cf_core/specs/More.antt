@@ -7,11 +7,11 @@ use Rattle.cf_entry.specs.declared.entry.Entry.{Entry}
 use Rattle.cf_entry.specs.declared.status.Status.{Status}
 use Rattle.cf_entry.specs.declared.status.Status.TheVariants as status
 use Rattle.cf_schema.specs.declared.described.Schema.{Schema}
-use Rattle.cf_stacks.specs.declared.held.GivenUp.{GivenUp}
-use Rattle.cf_stacks.specs.declared.held.Leftover.{Leftover}
-use Rattle.cf_stacks.specs.World.{StackState, World, known_stack, stack_at}
-use Rattle.cf_stacks.specs.Fold.{world_after}
-use Rattle.cf_stacks.specs.Begin.{unknown_id}
+use Rattle.cf_effect.specs.declared.held.GivenUp.{GivenUp}
+use Rattle.cf_effect.specs.declared.held.Leftover.{Leftover}
+use Rattle.cf_effect.specs.World.{StackState, World, known_stack, stack_at}
+use Rattle.cf_effect.specs.Fold.{world_after}
+use Rattle.cf_effect.specs.Words.{unknown_id}
 use Rattle.cf_plan.specs.Forward.{In}
 use Rattle.cf_plan.specs.Lanes.{Lane}
 use Rattle.cf_plan.specs.Life.{Event, IsStart, Life, MayHappen, life_after, tokens_out}

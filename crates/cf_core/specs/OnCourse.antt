@@ -3,9 +3,9 @@ use Rattle.std.specs.Prelude.{◌≡◌, ℕ, true, List}
 use Rattle.cf_entry.specs.declared.entry.Entry.{Entry}
 use Rattle.cf_entry.specs.declared.status.Status.TheVariants as status
 use Rattle.cf_schema.specs.declared.described.Schema.{Schema}
-use Rattle.cf_stacks.specs.World.{StackState, World}
-use Rattle.cf_stacks.specs.Fold.{world_after}
-use Rattle.cf_stacks.specs.Status.{goes_forward}
+use Rattle.cf_effect.specs.World.{StackState, World}
+use Rattle.cf_effect.specs.Fold.{world_after}
+use Rattle.cf_effect.specs.Status.{goes_forward}
 use Rattle.cf_core.specs.Back.{SkipsNone}
 use Rattle.cf_core.specs.Course.{Course}
 use Rattle.cf_core.specs.Fits.{IsWritten}

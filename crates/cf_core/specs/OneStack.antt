@@ -5,10 +5,10 @@ use Rattle.std.specs.Option.{unwrap_or}
 use Rattle.std.specs.Str.{bytes_eq}
 use Rattle.cf_tree.specs.Keys.{ascends, put, value_at}
 use Rattle.cf_tree.specs.Named.{all_differ}
-use Rattle.cf_stacks.specs.declared.held.Held.{Held}
-use Rattle.cf_stacks.specs.declared.held.Pending.{Pending}
-use Rattle.cf_stacks.specs.World.{StackState, no_stack}
-use Rattle.cf_stacks.specs.Words.{has_token, resources_of}
+use Rattle.cf_effect.specs.declared.held.Held.{Held}
+use Rattle.cf_effect.specs.declared.held.Pending.{Pending}
+use Rattle.cf_effect.specs.World.{StackState, no_stack}
+use Rattle.cf_effect.specs.Words.{has_token, resources_of}
 use Rattle.cf_plan.specs.Forward.{In}
 use Rattle.cf_agree.specs.Account.Role.{Stranger}
 use Rattle.cf_core.specs.AccountOf.{Named, held_in, has_leftover, role_in, role_on, open_in}

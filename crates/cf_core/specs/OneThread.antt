@@ -3,7 +3,7 @@ use Rattle.std.specs.Prelude.{◌≡◌, ℕ, Bool, false, List, [], ◌∷◌, 
 use Rattle.cf_handler.specs.Fence.{FenceAnswer, Left}
 use Rattle.cf_entry.specs.declared.entry.Entry.{Entry}
 use Rattle.cf_schema.specs.declared.described.Schema.{Schema}
-use Rattle.cf_stacks.specs.Room.{is_intent}
+use Rattle.cf_effect.specs.Fold.{is_intent}
 use Rattle.cf_plan.specs.Life.{Act, Begin, CallEnd, ChangeSet, Close, Event, Grant, IsLife, IsStart, Life, Opened, Raise, Repeat, Settle, Whole}
 use Rattle.cf_plan.specs.Promise.{AreKept}
 use Rattle.cf_core.specs.Theorem.{HoldsAlways}

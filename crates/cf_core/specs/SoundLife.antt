@@ -6,11 +6,11 @@ use Rattle.cf_tree.specs.Datum.{Data}
 use Rattle.cf_schema.specs.declared.described.Schema.{Schema}
 use Rattle.cf_entry.specs.declared.entry.Entry.{Entry}
 use Rattle.cf_entry.specs.declared.entry.Entry.TheVariants as entry
-use Rattle.cf_stacks.specs.declared.call.Call.{Call}
-use Rattle.cf_stacks.specs.declared.held.Held.{Held}
-use Rattle.cf_stacks.specs.World.{StackState, World, empty_world, known_stack, stack_at}
-use Rattle.cf_stacks.specs.Words.{resources_of}
-use Rattle.cf_stacks.specs.Fold.{world_after}
+use Rattle.cf_effect.specs.declared.call.Call.{Call}
+use Rattle.cf_effect.specs.declared.held.Held.{Held}
+use Rattle.cf_effect.specs.World.{StackState, World, empty_world, known_stack, stack_at}
+use Rattle.cf_effect.specs.Words.{resources_of}
+use Rattle.cf_effect.specs.Fold.{world_after}
 use Rattle.cf_plan.specs.Forward.{In}
 use Rattle.cf_plan.specs.Follow.{IsLegal}
 use Rattle.cf_plan.specs.Lanes.{Lane, AreLanes, AreSchemas}

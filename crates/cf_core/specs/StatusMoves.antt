@@ -4,7 +4,7 @@ use Rattle.cf_entry.specs.declared.entry.Entry.{Entry}
 use Rattle.cf_entry.specs.declared.status.Status.{Status}
 use Rattle.cf_entry.specs.declared.status.Status.TheVariants as status
 use Rattle.cf_schema.specs.declared.described.Schema.{Schema}
-use Rattle.cf_stacks.specs.World.{StackState, World}
+use Rattle.cf_effect.specs.World.{StackState, World}
 use Rattle.cf_plan.specs.Accept.{creates_from}
 use Rattle.cf_plan.specs.Follow.{deletes_from, updates_from}
 use Rattle.cf_core.specs.Fits.{IsWritten}

@@ -3,13 +3,13 @@ use Rattle.std.specs.Prelude.{◌≡◌, ℕ, false, IsTrue, List, Some}
 use Rattle.cf_tree.specs.declared.source.Source.{Source}
 use Rattle.cf_entry.specs.declared.entry.Entry.{Entry}
 use Rattle.cf_schema.specs.declared.described.Schema.{Schema}
-use Rattle.cf_stacks.specs.declared.call.Call.{Call}
-use Rattle.cf_stacks.specs.declared.held.Held.{Held}
-use Rattle.cf_stacks.specs.declared.held.Pending.{Pending}
-use Rattle.cf_stacks.specs.World.{StackState}
-use Rattle.cf_stacks.specs.Words.{current_at, updates}
-use Rattle.cf_stacks.specs.Calls.{was_updated}
-use Rattle.cf_stacks.specs.Status.{goes_forward}
+use Rattle.cf_effect.specs.declared.call.Call.{Call}
+use Rattle.cf_effect.specs.declared.held.Held.{Held}
+use Rattle.cf_effect.specs.declared.held.Pending.{Pending}
+use Rattle.cf_effect.specs.World.{StackState}
+use Rattle.cf_effect.specs.Words.{current_at, updates}
+use Rattle.cf_effect.specs.Calls.{was_updated}
+use Rattle.cf_effect.specs.Status.{goes_forward}
 use Rattle.cf_plan.specs.Forward.{In, IsDone, IsReady, was_updated_at}
 use Rattle.cf_core.specs.Advancing.{AreSameThings, AreSingle, IsAsBefore, IsAsSaid, IsAsked, IsHidden, changes_begun}
 

@@ -2,8 +2,8 @@
 -- (this project's own; what a status says is that of the User Guide).
 use Rattle.std.specs.Prelude.{◌≡◌, ℕ, true, List, Option, Some}
 use Rattle.cf_schema.specs.declared.described.Schema.{Schema}
-use Rattle.cf_stacks.specs.World.{StackState, stack_at, stack_of_operation}
-use Rattle.cf_stacks.specs.Status.{goes_forward}
+use Rattle.cf_effect.specs.World.{StackState, stack_at, stack_of_operation}
+use Rattle.cf_effect.specs.Status.{goes_forward}
 use Rattle.cf_plan.specs.Life.{Event, IsLife, IsStart, Life, MayHappen, life_after, world_of}
 use Rattle.cf_plan.specs.Promise.{AreKept}
 use Rattle.cf_core.specs.GoesOn.{HasKinds, HasNext}

@@ -7,13 +7,13 @@ use Rattle.cf_entry.specs.declared.entry.Entry.{Entry}
 use Rattle.cf_entry.specs.declared.status.Status.{Status}
 use Rattle.cf_entry.specs.declared.status.Status.TheVariants as status
 use Rattle.cf_schema.specs.declared.described.Schema.{Schema}
-use Rattle.cf_stacks.specs.declared.call.Call.{Call}
-use Rattle.cf_stacks.specs.declared.held.Held.{Held}
-use Rattle.cf_stacks.specs.declared.held.Pending.{Pending}
-use Rattle.cf_stacks.specs.World.{StackState, World}
-use Rattle.cf_stacks.specs.Words.{deletes}
-use Rattle.cf_stacks.specs.Calls.{own_calls}
-use Rattle.cf_stacks.specs.Status.{Stage, BackClean, Clean}
+use Rattle.cf_effect.specs.declared.call.Call.{Call}
+use Rattle.cf_effect.specs.declared.held.Held.{Held}
+use Rattle.cf_effect.specs.declared.held.Pending.{Pending}
+use Rattle.cf_effect.specs.World.{StackState, World}
+use Rattle.cf_effect.specs.Words.{deletes}
+use Rattle.cf_effect.specs.Calls.{own_calls}
+use Rattle.cf_effect.specs.Status.{Stage, BackClean, Clean}
 use Rattle.cf_plan.specs.Follow.{cleaned_in}
 use Rattle.cf_plan.specs.Forward.{In}
 use Rattle.cf_core.specs.Advancing.{IsAdvancing}

@@ -7,9 +7,9 @@ use Rattle.cf_entry.specs.declared.entry.Entry.TheVariants as entry
 use Rattle.cf_entry.specs.declared.status.Status.{Status}
 use Rattle.cf_entry.specs.declared.status.Status.TheVariants as status
 use Rattle.cf_schema.specs.declared.described.Schema.{Schema}
-use Rattle.cf_stacks.specs.World.{StackState, World}
-use Rattle.cf_stacks.specs.Fold.{effect_at}
-use Rattle.cf_stacks.specs.Status.{Stage, is_in_progress}
+use Rattle.cf_effect.specs.World.{StackState, World}
+use Rattle.cf_effect.specs.Fold.{effect_at}
+use Rattle.cf_effect.specs.Status.{Stage, is_in_progress}
 use Rattle.cf_plan.specs.Ends.{IsCleared}
 use Rattle.cf_plan.specs.Follow.{MayFollowIn}
 use Rattle.cf_core.specs.Advancing.{IsAdvancing}

@@ -7,12 +7,12 @@ use Rattle.cf_tree.specs.declared.source.Source.{Source}
 use Rattle.cf_export.specs.declared.Export.{Export}
 use Rattle.cf_desired.specs.Seeing.{Seen}
 use Rattle.cf_desired.specs.Whole.{Right, Whole, whole_of}
-use Rattle.cf_stacks.specs.declared.held.Held.{Held}
-use Rattle.cf_stacks.specs.declared.held.Pending.{Pending}
-use Rattle.cf_stacks.specs.World.{StackState, World}
-use Rattle.cf_stacks.specs.Words.{current_at}
-use Rattle.cf_stacks.specs.Begin.{seen_as_held}
-use Rattle.cf_stacks.specs.Listed.{export_by}
+use Rattle.cf_effect.specs.declared.held.Held.{Held}
+use Rattle.cf_effect.specs.declared.held.Pending.{Pending}
+use Rattle.cf_effect.specs.World.{StackState, World}
+use Rattle.cf_effect.specs.Words.{current_at}
+use Rattle.cf_effect.specs.Begin.{seen_as_held}
+use Rattle.cf_effect.specs.Listed.{export_by}
 use Rattle.cf_plan.specs.Accept.{exports_in}
 use Rattle.cf_plan.specs.Created.{IsHeldAs}
 use Rattle.cf_plan.specs.Ends.{right_at}

@@ -7,9 +7,9 @@ use Rattle.cf_entry.specs.declared.entry.Entry.{Entry}
 use Rattle.cf_entry.specs.declared.entry.Entry.TheVariants as entry
 use Rattle.cf_entry.specs.declared.entry.Begun.{Begun}
 use Rattle.cf_schema.specs.declared.described.Schema.{Schema}
-use Rattle.cf_stacks.specs.World.{StackState, World}
-use Rattle.cf_stacks.specs.Fold.{effect_at}
-use Rattle.cf_stacks.specs.Status.{Stage, stage_of}
+use Rattle.cf_effect.specs.World.{StackState, World}
+use Rattle.cf_effect.specs.Fold.{effect_at}
+use Rattle.cf_effect.specs.Status.{Stage, stage_of}
 use Rattle.cf_plan.specs.Accept.{creates_from}
 use Rattle.cf_plan.specs.Follow.{BeginsBy, MayFollowIn, begins_from, updates_from}
 use Rattle.cf_plan.specs.Run.{IsOwn}

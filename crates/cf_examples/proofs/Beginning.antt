@@ -4,7 +4,7 @@ use Rattle.std.specs.Str.{bytes_eq}
 use Rattle.std.specs.Prelude.{if◌then◌else◌, not}
 use Rattle.cf_tree.specs.Keys.{value_at}
 use Rattle.cf_tree.specs.declared.source.Source.{Source}
-use Rattle.cf_stacks.specs.World.{StackState, World, stack_at}
+use Rattle.cf_effect.specs.World.{StackState, World, stack_at}
 use Rattle.cf_plan.specs.Follow.{HasLanes}
 use Rattle.cf_plan.specs.Accept.{ImportsWhatItUses, with_imports, exports_of_others, without_import}
 use Rattle.cf_desired.specs.Seeing.{Seen}

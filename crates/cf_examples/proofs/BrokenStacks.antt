@@ -10,13 +10,13 @@ use Rattle.cf_export.specs.declared.Export.{Export}
 use Rattle.cf_entry.specs.declared.entry.Reply.{Reply}
 use Rattle.cf_desired.specs.Seeing.{Seen}
 use Rattle.cf_desired.specs.Whole.{Right, Whole, whole_of}
-use Rattle.cf_stacks.specs.declared.call.Call.{Call}
-use Rattle.cf_stacks.specs.declared.held.Held.{Held}
-use Rattle.cf_stacks.specs.Begin.{source_for}
-use Rattle.cf_stacks.specs.Calls.{call_of, is_success}
-use Rattle.cf_stacks.specs.Listed.{export_by}
-use Rattle.cf_stacks.specs.Operation.{Response}
-use Rattle.cf_stacks.specs.World.{StackState, World, known_stack}
+use Rattle.cf_effect.specs.declared.call.Call.{Call}
+use Rattle.cf_effect.specs.declared.held.Held.{Held}
+use Rattle.cf_effect.specs.Begin.{source_for}
+use Rattle.cf_effect.specs.Calls.{call_under as call_of, is_success}
+use Rattle.cf_effect.specs.Listed.{export_by}
+use Rattle.cf_effect.specs.Operation.{Response}
+use Rattle.cf_effect.specs.World.{StackState, World, known_stack}
 use Rattle.cf_plan.specs.Ends.{IsBlamedFor, IsComplete, IsLive, right_at}
 use Rattle.cf_plan.specs.Follow.{settled_by}
 use Rattle.cf_plan.specs.Forward.{evaluated_at, In, here, there, Finding, Known, is_made}
@@ -29,8 +29,8 @@ use Rattle.cf_examples.proofs.BrokenAgreement.{content_in}
 use Rattle.cf_examples.proofs.Computing.{computing}
 use Rattle.cf_examples.proofs.Lists.{found_passes, in_none, only, some_is}
 use Rattle.cf_examples.specs.BrokenStacks.{update, updating, restoring, url, other, exporting, deletion, failing, refused, wrong, NotComplete, NotRestored, NotBlamed, open_deletion, NoSuchWorlds, replaced, changed, NotAdvancing, NotBack, NotBooked}
-use Rattle.cf_stacks.specs.declared.held.Pending.{Pending}
-use Rattle.cf_stacks.specs.Status.{is_in_progress}
+use Rattle.cf_effect.specs.declared.held.Pending.{Pending}
+use Rattle.cf_effect.specs.Status.{is_in_progress}
 use Rattle.cf_examples.proofs.Beginning.{one_stack}
 use Rattle.cf_core.specs.Advancing.{AreSameThings}
 use Rattle.cf_tree.specs.declared.template.Deletion.TheVariants as deletion

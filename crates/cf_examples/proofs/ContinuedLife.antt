@@ -1,10 +1,10 @@
 -- The life with a continued rollback.
 use Rattle.std.proofs.Common.{◌≡◌, refl, [], ◌∷◌, false, sym, subst, inl, lit≤, true≢false}
 use Rattle.std.specs.Prelude.{codes, drop, ◌++◌}
-use Rattle.cf_stacks.specs.declared.held.Held.{Held}
+use Rattle.cf_effect.specs.declared.held.Held.{Held}
 use Rattle.cf_plan.specs.Life.{Life}
 use Rattle.cf_examples.specs.Skipped.{broken_back_once, broken_back_twice}
-use Rattle.cf_stacks.specs.Status.{Back}
+use Rattle.cf_effect.specs.Status.{Back}
 use Rattle.cf_plan.specs.Forward.{In, here}
 use Rattle.cf_plan.specs.Ends.{IsRestored, IsLive}
 use Rattle.cf_handler.specs.Lane.{Live}

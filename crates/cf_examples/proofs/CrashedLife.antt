@@ -5,10 +5,10 @@ use Rattle.std.specs.Str.{bytes_eq}
 use Rattle.cf_handler.specs.declared.settled.Settlement.{Settlement}
 use Rattle.cf_handler.specs.Lane.{live_of, settlement_of}
 use Rattle.cf_handler.specs.Fence.{Flying}
-use Rattle.cf_stacks.specs.declared.held.Pending.{Pending}
-use Rattle.cf_stacks.specs.World.{StackState, World, stack_at, empty_world, known_stack}
-use Rattle.cf_stacks.specs.Status.{Forward, is_in_progress}
-use Rattle.cf_stacks.specs.Fold.{world_after}
+use Rattle.cf_effect.specs.declared.held.Pending.{Pending}
+use Rattle.cf_effect.specs.World.{StackState, World, stack_at, empty_world, known_stack}
+use Rattle.cf_effect.specs.Status.{Forward, is_in_progress}
+use Rattle.cf_effect.specs.Fold.{world_after}
 use Rattle.cf_plan.specs.Forward.{In, here, AllDone, IsDone, is_made}
 use Rattle.cf_plan.specs.Follow.{MayFollow, MayRepeat, IsLaneFor}
 use Rattle.cf_plan.specs.Lanes.{Lane, IsAnswered}

@@ -6,12 +6,12 @@ use Rattle.cf_handler.specs.declared.settled.Settled.{Settled}
 use Rattle.cf_handler.specs.declared.settled.Settlement.{Settlement}
 use Rattle.cf_handler.specs.Lane.{Live, live_of, is_used, settlement_of}
 use Rattle.cf_handler.specs.Fence.{Flying, live_at}
-use Rattle.cf_stacks.specs.declared.held.Held.{Held}
-use Rattle.cf_stacks.specs.declared.held.Pending.{Pending}
-use Rattle.cf_stacks.specs.World.{World, StackState, empty_world, known_stack}
-use Rattle.cf_stacks.specs.Fold.{fold_of}
-use Rattle.cf_stacks.specs.Status.{Gone}
-use Rattle.cf_stacks.specs.Operation.{Response}
+use Rattle.cf_effect.specs.declared.held.Held.{Held}
+use Rattle.cf_effect.specs.declared.held.Pending.{Pending}
+use Rattle.cf_effect.specs.World.{World, StackState, empty_world, known_stack}
+use Rattle.cf_effect.specs.Fold.{fold_of}
+use Rattle.cf_effect.specs.Status.{Gone}
+use Rattle.cf_effect.specs.Operation.{Response}
 use Rattle.cf_plan.specs.Forward.{In, here}
 use Rattle.cf_plan.specs.Follow.{MayFollow, IsNamedLane, IsLaneFor, IsLegal}
 use Rattle.cf_plan.specs.Lanes.{Lane, IsAnswered, IsHome, lane_at, open_at, told_of, LiveChange, change_of, Nothing}

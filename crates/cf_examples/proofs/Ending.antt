@@ -14,13 +14,13 @@ use Rattle.cf_entry.specs.declared.turn.Why.TheVariants as why
 use Rattle.cf_entry.specs.declared.turn.Phase.{Phase}
 use Rattle.cf_entry.specs.declared.turn.Phase.TheVariants as phase
 use Rattle.cf_entry.specs.declared.turn.Cause.{Cause}
-use Rattle.cf_stacks.specs.declared.held.Held.{Held}
-use Rattle.cf_stacks.specs.declared.held.Pending.{Pending}
-use Rattle.cf_stacks.specs.World.{StackState, World}
-use Rattle.cf_stacks.specs.Status.{Stage, Forward, Clean, Back, BackClean, Gone, stage_of}
-use Rattle.cf_stacks.specs.Words.{resources_of, is_create_at}
-use Rattle.cf_stacks.specs.Calls.{was_updated, was_restored}
-use Rattle.cf_stacks.specs.Operation.{was_skipped, named_paths}
+use Rattle.cf_effect.specs.declared.held.Held.{Held}
+use Rattle.cf_effect.specs.declared.held.Pending.{Pending}
+use Rattle.cf_effect.specs.World.{StackState, World}
+use Rattle.cf_effect.specs.Status.{Stage, Forward, Clean, Back, BackClean, Gone, stage_of}
+use Rattle.cf_effect.specs.Words.{resources_of, is_create_at}
+use Rattle.cf_effect.specs.Calls.{was_updated, was_restored}
+use Rattle.cf_effect.specs.Operation.{was_skipped, named_paths}
 use Rattle.cf_plan.specs.Forward.{In, AllDone, HasFailed}
 use Rattle.cf_plan.specs.Follow.{IntendsDeletion, IntendsRestore, IsToRestore, MayDelete, MayKeep, MayTurn, MayStep, MayRepeat, IsAtEnd, may_repeat, is_untried, has_refused_restore, has_restore, cleaned_in, is_not_needed}
 use Rattle.cf_plan.specs.Between.{is_needed_by_held}

@@ -6,15 +6,15 @@ use Rattle.cf_tree.specs.declared.template.Replace.TheVariants as replace
 use Rattle.cf_tree.specs.declared.request.Request.TheVariants as request
 use Rattle.cf_tree.specs.declared.code.Code.TheVariants as code
 use Rattle.cf_entry.specs.declared.entry.Reply.TheVariants as reply
-use Rattle.cf_stacks.specs.declared.held.HeldStatus.TheVariants as held
-use Rattle.cf_stacks.specs.declared.call.Call.{Call}
-use Rattle.cf_stacks.specs.declared.call.Settled.TheVariants as settled
+use Rattle.cf_effect.specs.declared.held.HeldStatus.TheVariants as held
+use Rattle.cf_effect.specs.declared.call.Call.{Call}
+use Rattle.cf_effect.specs.declared.call.Settled.TheVariants as settled
 use Rattle.cf_entry.specs.declared.status.Status.TheVariants as status
-use Rattle.cf_stacks.specs.Operation.{Response}
-use Rattle.cf_stacks.specs.Words.{current_at}
-use Rattle.cf_stacks.specs.World.{StackState, empty_world, known_stack}
-use Rattle.cf_stacks.specs.Fold.{fold_of}
-use Rattle.cf_stacks.specs.Begin.{source_for}
+use Rattle.cf_effect.specs.Operation.{Response}
+use Rattle.cf_effect.specs.Words.{current_at}
+use Rattle.cf_effect.specs.World.{StackState, empty_world, known_stack}
+use Rattle.cf_effect.specs.Fold.{fold_of}
+use Rattle.cf_effect.specs.Begin.{source_for}
 use Rattle.cf_plan.specs.Forward.{In, here, there}
 use Rattle.cf_plan.specs.Ends.{IsLive, IsComplete, IsRestored, IsCleared, IsBlamedFor, IsBlamed}
 use Rattle.cf_examples.specs.RollbackFailed as unblamed
@@ -24,7 +24,7 @@ use Rattle.cf_examples.proofs.LostCreation as undeleted
 use Rattle.cf_handler.specs.Lane.{Live}
 use Rattle.cf_desired.specs.Seeing.{Seen}
 use Rattle.cf_desired.specs.Whole.{Right, Whole}
-use Rattle.cf_stacks.specs.declared.held.Held.{Held}
+use Rattle.cf_effect.specs.declared.held.Held.{Held}
 use Rattle.cf_examples.specs.Given.{file, note, file_props, file_attrs, note_props, note_attrs}
 use Rattle.cf_examples.specs.Replacement.{second}
 use Rattle.cf_examples.specs.Ends.{files_replaced, notes_replaced, files_restored, lanes_replaced, lanes_restored, IsPromised, ReplacementIsComplete, LateEffectIsRestored, RollbackIsRestored, DeletionIsCleared, FailuresAreBlamed, FailedRollbackIsBlamed, FailedDeletionIsBlamed}

@@ -8,9 +8,9 @@ use Rattle.cf_tree.specs.Same.{same_data}
 use Rattle.cf_tree.specs.Keys.{bytes_lt, value_at}
 use Rattle.cf_tree.specs.Lists.{first_in}
 use Rattle.cf_schema.specs.declared.described.Schema.{Schema}
-use Rattle.cf_stacks.specs.declared.held.Held.{Held}
-use Rattle.cf_stacks.specs.World.{StackState, World}
-use Rattle.cf_stacks.specs.Words.{current_at}
+use Rattle.cf_effect.specs.declared.held.Held.{Held}
+use Rattle.cf_effect.specs.World.{StackState, World}
+use Rattle.cf_effect.specs.Words.{current_at}
 use Rattle.cf_plan.specs.Forward.{IsDone, is_made, is_updated, is_right, Finding, Bad, Later, Known, evaluated_at, was_updated_at, wanted_paths, plan_now, first_failing, lost_exports, HasFailed, IsBadPath, IsBadOutput}
 use Rattle.cf_desired.specs.declared.flaw.Flaw.{Flaw}
 use Rattle.cf_desired.specs.declared.wanted.Inner.{Inner}

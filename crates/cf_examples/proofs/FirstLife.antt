@@ -9,14 +9,14 @@ use Rattle.cf_handler.specs.declared.settled.Settlement.{Settlement}
 use Rattle.cf_handler.specs.declared.settled.Settled.{Settled}
 use Rattle.cf_handler.specs.Lane.{Live, live_of, is_used, settlement_of}
 use Rattle.cf_handler.specs.Fence.{Flying, live_at}
-use Rattle.cf_stacks.specs.declared.held.Held.{Held}
-use Rattle.cf_stacks.specs.declared.held.Pending.{Pending}
-use Rattle.cf_stacks.specs.declared.call.Call.{Call}
-use Rattle.cf_stacks.specs.Operation.{Response}
-use Rattle.cf_stacks.specs.World.{stack_at, empty_world, known_stack, StackState}
-use Rattle.cf_stacks.specs.Words.{current_at}
-use Rattle.cf_stacks.specs.Fold.{world_after}
-use Rattle.cf_stacks.specs.Begin.{source_for}
+use Rattle.cf_effect.specs.declared.held.Held.{Held}
+use Rattle.cf_effect.specs.declared.held.Pending.{Pending}
+use Rattle.cf_effect.specs.declared.call.Call.{Call}
+use Rattle.cf_effect.specs.Operation.{Response}
+use Rattle.cf_effect.specs.World.{stack_at, empty_world, known_stack, StackState}
+use Rattle.cf_effect.specs.Words.{current_at}
+use Rattle.cf_effect.specs.Fold.{world_after}
+use Rattle.cf_effect.specs.Begin.{source_for}
 use Rattle.cf_plan.specs.Forward.{In, here}
 use Rattle.cf_plan.specs.Lanes.{Lane, AreLanes, AreSchemas, lane_at, open_at, IsAnswered, told_of, LiveChange, change_of, Nothing, Made, Set, ids_of, IsHome}
 use Rattle.cf_plan.specs.Agrees.{Ties, FitsCall, IsListed, IsAccounted, call_at}

@@ -1,9 +1,9 @@
 -- The first resource.
 use Rattle.std.proofs.Common.{List, ℕ, refl, [], ◌∷◌, inl, inr, sym, lit≤, true≢false}
 use Rattle.std.specs.Prelude.{codes}
-use Rattle.cf_stacks.specs.World.{World, StackState, empty_world, known_stack}
-use Rattle.cf_stacks.specs.Fold.{world_after}
-use Rattle.cf_stacks.specs.Status.{Forward}
+use Rattle.cf_effect.specs.World.{World, StackState, empty_world, known_stack}
+use Rattle.cf_effect.specs.Fold.{world_after}
+use Rattle.cf_effect.specs.Status.{Forward}
 use Rattle.cf_plan.specs.Forward.{here, HasFailed, IsReady, AllDone, IsDone, is_made}
 use Rattle.cf_plan.specs.Follow.{MayFollow}
 use Rattle.cf_examples.specs.Given.{schemas}

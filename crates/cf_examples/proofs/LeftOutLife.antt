@@ -7,8 +7,8 @@ use Rattle.cf_handler.specs.declared.settled.Settled.{Settled}
 use Rattle.cf_handler.specs.declared.settled.Settlement.{Settlement}
 use Rattle.cf_handler.specs.Fence.{Flying, live_at}
 use Rattle.cf_handler.specs.Move.{IsOfLane}
-use Rattle.cf_stacks.specs.declared.held.HeldStatus.TheVariants as held
-use Rattle.cf_stacks.specs.Operation.{Response, replies_in, is_doubt}
+use Rattle.cf_effect.specs.declared.held.HeldStatus.TheVariants as held
+use Rattle.cf_effect.specs.Operation.{Response, replies_in, is_doubt}
 use Rattle.cf_plan.specs.Agrees.{Ties, FitsCall, IsListed, call_at}
 use Rattle.cf_tree.specs.Named.{all_differ}
 use Rattle.cf_tree.specs.declared.template.Deletion.TheVariants as deletion
@@ -16,13 +16,13 @@ use Rattle.cf_tree.specs.declared.template.Replace.TheVariants as replace
 use Rattle.cf_desired.specs.Seeing.{Seen}
 use Rattle.cf_desired.specs.Whole.{Right, Whole}
 use Rattle.cf_handler.specs.Lane.{Live, live_of, is_used, settlement_of}
-use Rattle.cf_stacks.specs.declared.held.Held.{Held}
-use Rattle.cf_stacks.specs.declared.held.Pending.{Pending}
-use Rattle.cf_stacks.specs.World.{World, StackState, empty_world, known_stack}
-use Rattle.cf_stacks.specs.Fold.{fold_of}
-use Rattle.cf_stacks.specs.Begin.{source_for}
-use Rattle.cf_stacks.specs.Words.{current_at}
-use Rattle.cf_stacks.specs.Status.{Forward, Back, Gone}
+use Rattle.cf_effect.specs.declared.held.Held.{Held}
+use Rattle.cf_effect.specs.declared.held.Pending.{Pending}
+use Rattle.cf_effect.specs.World.{World, StackState, empty_world, known_stack}
+use Rattle.cf_effect.specs.Fold.{fold_of}
+use Rattle.cf_effect.specs.Begin.{source_for}
+use Rattle.cf_effect.specs.Words.{current_at}
+use Rattle.cf_effect.specs.Status.{Forward, Back, Gone}
 use Rattle.cf_plan.specs.Forward.{In, here, AllDone, IsDone, is_made}
 use Rattle.cf_plan.specs.Follow.{MayFollow, IsLegal}
 use Rattle.cf_plan.specs.Lanes.{Lane, IsHome, IsAnswered, lane_at, open_at, told_of}

@@ -9,10 +9,10 @@ use Rattle.cf_handler.specs.declared.settled.Settlement.{Settlement}
 use Rattle.cf_handler.specs.Fence.{Left, left_by, late_by, LateMove, FenceAnswer, FenceMove, raised_to}
 use Rattle.cf_entry.specs.declared.entry.Entry.{Entry}
 use Rattle.cf_entry.specs.declared.entry.Entry.TheVariants as entry
-use Rattle.cf_stacks.specs.declared.held.Pending.{Pending}
-use Rattle.cf_stacks.specs.World.{StackState, World, stack_at, empty_world}
-use Rattle.cf_stacks.specs.Fold.{fold_of, world_after}
-use Rattle.cf_stacks.specs.Status.{Stage, stage_of}
+use Rattle.cf_effect.specs.declared.held.Pending.{Pending}
+use Rattle.cf_effect.specs.World.{StackState, World, stack_at, empty_world}
+use Rattle.cf_effect.specs.Fold.{fold_of, world_after}
+use Rattle.cf_effect.specs.Status.{Stage, stage_of}
 use Rattle.cf_tree.specs.Named.{all_differ}
 use Rattle.cf_plan.specs.Forward.{In}
 use Rattle.cf_plan.specs.Follow.{MayFollow, MayRepeat, is_lane_leased}

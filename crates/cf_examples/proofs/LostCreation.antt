@@ -2,8 +2,8 @@
 use Rattle.std.proofs.Common.{refl, [], ◌∷◌, ◌++◌, inl, inr, ap, lit≤, false}
 use Rattle.std.specs.Prelude.{codes, take, drop}
 use Rattle.cf_entry.specs.declared.turn.Reason.TheVariants as reason
-use Rattle.cf_stacks.specs.World.{World, StackState, empty_world}
-use Rattle.cf_stacks.specs.Status.{Forward, Back, Gone}
+use Rattle.cf_effect.specs.World.{World, StackState, empty_world}
+use Rattle.cf_effect.specs.Status.{Forward, Back, Gone}
 use Rattle.cf_plan.specs.Follow.{MayFollow}
 use Rattle.cf_examples.specs.Given.{schemas, report_of}
 use Rattle.cf_examples.proofs.Computing.{computing}

@@ -2,10 +2,10 @@
 use Rattle.std.proofs.Common.{refl, List, [], ◌∷◌, ℕ, true, lit≤, arith, ◌<◌, ◌≤◌}
 use Rattle.std.specs.Prelude.{codes, drop, ◌++◌, take}
 use Rattle.std.specs.Str.{bytes_eq}
-use Rattle.cf_stacks.specs.declared.held.Pending.{Pending}
-use Rattle.cf_stacks.specs.World.{World}
-use Rattle.cf_stacks.specs.Fold.{fold_of}
-use Rattle.cf_stacks.specs.Status.{Forward}
+use Rattle.cf_effect.specs.declared.held.Pending.{Pending}
+use Rattle.cf_effect.specs.World.{World}
+use Rattle.cf_effect.specs.Fold.{fold_of}
+use Rattle.cf_effect.specs.Status.{Forward}
 use Rattle.cf_plan.specs.Forward.{In, here, AllDone, IsDone, is_made}
 use Rattle.cf_plan.specs.Follow.{MayFollow, IsLaneFor}
 use Rattle.cf_plan.specs.Lanes.{Lane}

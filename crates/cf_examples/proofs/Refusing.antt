@@ -6,15 +6,15 @@ use Rattle.std.specs.Option.{option_map_or}
 use Rattle.std.specs.Str.{bytes_eq}
 use Rattle.std.proofs.lemmas.Slice.Eq.{bytes_eq-Decides}
 use Rattle.cf_tree.specs.Lists.{is_among}
-use Rattle.cf_stacks.specs.declared.held.Held.{Held}
-use Rattle.cf_stacks.specs.declared.call.Call.{Call}
-use Rattle.cf_stacks.specs.Operation.{Response, replies_in, own_of}
-use Rattle.cf_stacks.specs.Calls.{call_of, refusals_of}
+use Rattle.cf_effect.specs.declared.held.Held.{Held}
+use Rattle.cf_effect.specs.declared.call.Call.{Call}
+use Rattle.cf_effect.specs.Operation.{Response, replies_in, own_of}
+use Rattle.cf_effect.specs.Calls.{call_under, refusals_of}
 use Rattle.cf_plan.specs.Forward.{In, here}
-use Rattle.cf_stacks.specs.World.{empty_world, StackState, World, stack_of_operation}
-use Rattle.cf_stacks.specs.Fold.{world_after, fold_of}
-use Rattle.cf_stacks.specs.Status.{Stage, stage_of}
-use Rattle.cf_stacks.specs.Words.{resources_of}
+use Rattle.cf_effect.specs.World.{empty_world, StackState, World, stack_of_operation}
+use Rattle.cf_effect.specs.Fold.{world_after, fold_of}
+use Rattle.cf_effect.specs.Status.{Stage, stage_of}
+use Rattle.cf_effect.specs.Words.{resources_of}
 use Rattle.cf_plan.specs.Follow.{MayFollow, IsLegal, MayFollowIn, MayFollowOn, is_failed_path, is_bad_last, last_at, has_path}
 use Rattle.cf_examples.specs.Given.{schemas, IsRefusedAfter}
 use Rattle.cf_examples.proofs.Lists.{some_is, each_passes, found_passes, some_passes, in_more, in_behind, in_parts, in_mapped, and_true}
@@ -36,7 +36,7 @@ follows_none schemas number x out e is (name, s, t, found, there_is, may) = let 
 
 -- The failed paths: each of them is the path of a call that was answered, or of a resource.
 abbrev pub path_of_reply : StackState → Response → List (List ℕ)
-path_of_reply s r = option_map_or (λ (c : Call). c.path ∷ []) (call_of r.token s) []
+path_of_reply s r = option_map_or (λ (c : Call). c.path ∷ []) (call_under r.token s) []
 
 abbrev pub candidates : StackState → List (List ℕ)
 candidates s = flat_map (path_of_reply s) (reverse (replies_in (own_of s))) ++ map (λ (r : Held). r.path) (resources_of s)
@@ -48,15 +48,15 @@ same_text : (a b : List ℕ) → bytes_eq a b ≡ true → b ≡ a
 same_text a b e = sym ((bytes_eq-Decides a b).0 e)
 
 -- a call at a path is a candidate
-at_call : (s : StackState) (p : List ℕ) (r : Response) (c : Option Call) → call_of r.token s ≡ c → has_path p c ≡ true → In p (path_of_reply s r)
+at_call : (s : StackState) (p : List ℕ) (r : Response) (c : Option Call) → call_under r.token s ≡ c → has_path p c ≡ true → In p (path_of_reply s r)
 at_call s p r None is e = absurd (true≢false (sym e))
 at_call s p r (Some c) is e = subst (λ (o : Option Call). In p (option_map_or (λ (d : Call). d.path ∷ []) o [])) (sym is) (subst (λ q. In p (q ∷ [])) (sym (same_text p c.path e)) here)
 
 last_is_candidate : (s : StackState) (p : List ℕ) (o : Option Response) → last_at p s ≡ o → is_bad_last s o ≡ true → In p (candidates s)
 last_is_candidate s p None is e = absurd (true≢false (sym e))
 last_is_candidate s p (Some r) is e =
-    let found = found_passes (λ (q : Response). has_path p (call_of q.token s)) (reverse (replies_in (own_of s))) r is in
-    in_more (flat_map (path_of_reply s) (reverse (replies_in (own_of s)))) (map (λ (h : Held). h.path) (resources_of s)) p (in_parts (path_of_reply s) (reverse (replies_in (own_of s))) r p found.1 (at_call s p r (call_of r.token s) refl found.0))
+    let found = found_passes (λ (q : Response). has_path p (call_under q.token s)) (reverse (replies_in (own_of s))) r is in
+    in_more (flat_map (path_of_reply s) (reverse (replies_in (own_of s)))) (map (λ (h : Held). h.path) (resources_of s)) p (in_parts (path_of_reply s) (reverse (replies_in (own_of s))) r p found.1 (at_call s p r (call_under r.token s) refl found.0))
 
 held_is_candidate : (s : StackState) (p : List ℕ) → list_any (λ r. bytes_eq p r.path && nat_lt 0 (refusals_of r.physical s)) (resources_of s) ≡ true → In p (candidates s)
 held_is_candidate s p e =

@@ -2,12 +2,12 @@
 use Rattle.std.proofs.Common.{◌≡◌, refl, List, [], ◌∷◌, ◌++◌, Some, None, true, false, ℕ, inl, inr, ap, lit≤, true≢false}
 use Rattle.std.specs.Prelude.{codes, take, drop}
 use Rattle.cf_tree.specs.declared.request.Request.TheVariants as request
-use Rattle.cf_stacks.specs.declared.call.Call.{Call}
-use Rattle.cf_stacks.specs.declared.call.Settled.TheVariants as settled
-use Rattle.cf_stacks.specs.declared.held.Held.{Held}
-use Rattle.cf_stacks.specs.World.{World, StackState, empty_world, no_stack}
-use Rattle.cf_stacks.specs.Begin.{source_for}
-use Rattle.cf_stacks.specs.Status.{Forward, Clean}
+use Rattle.cf_effect.specs.declared.call.Call.{Call}
+use Rattle.cf_effect.specs.declared.call.Settled.TheVariants as settled
+use Rattle.cf_effect.specs.declared.held.Held.{Held}
+use Rattle.cf_effect.specs.World.{World, StackState, empty_world, no_stack}
+use Rattle.cf_effect.specs.Begin.{source_for}
+use Rattle.cf_effect.specs.Status.{Forward, Clean}
 use Rattle.cf_plan.specs.Forward.{here, there, HasFailed, IsReady, AllDone, IsDone, is_made, is_updated}
 use Rattle.cf_plan.specs.Follow.{MayFollow}
 use Rattle.cf_schema.specs.declared.changed.Difference.TheVariants.{Same, Update, Replace}
@@ -22,7 +22,7 @@ use Rattle.cf_entry.specs.declared.entry.Entry.TheVariants as entry
 use Rattle.cf_entry.specs.declared.entry.Reply.TheVariants as reply
 use Rattle.cf_entry.specs.declared.status.Status.TheVariants as status
 use Rattle.cf_entry.specs.declared.turn.Phase.TheVariants as phase
-use Rattle.cf_stacks.specs.declared.held.HeldStatus.TheVariants as held
+use Rattle.cf_effect.specs.declared.held.HeldStatus.TheVariants as held
 use Rattle.cf_examples.proofs.Refusing.{follows_on, follows_none, refused_at, IsRun, ended, step, joined, followed}
 use Rattle.cf_examples.proofs.Beginning.{no_imports}
 use Rattle.cf_examples.specs.Replacement.{first, second, opened, begun, intended_web, made_web, intended_ptr, made_ptr, created, updating, intended_new, made_new, intended_change, changed_ptr, cleaning, intended_deletion, deleted, updated, Legal, Shows, third, updating_both, until_replaced, gets, NewIdIsLegal, CleanedTooEarly, DeletedBeforeCleanup, OldIdEvaluated, EndedUnderAnotherNumber, AnsweredUnderAnotherNumber, run}

@@ -4,11 +4,11 @@ use Rattle.std.specs.Prelude.{codes, take, drop}
 use Rattle.cf_tree.specs.declared.request.Request.TheVariants as request
 use Rattle.cf_tree.specs.declared.code.Code.TheVariants as code
 use Rattle.cf_entry.specs.declared.turn.Reason.TheVariants as reason
-use Rattle.cf_stacks.specs.declared.call.Call.{Call}
-use Rattle.cf_stacks.specs.declared.call.Settled.TheVariants as settled
-use Rattle.cf_stacks.specs.declared.held.Held.{Held}
-use Rattle.cf_stacks.specs.World.{World, StackState, empty_world}
-use Rattle.cf_stacks.specs.Status.{Forward, Back, BackClean}
+use Rattle.cf_effect.specs.declared.call.Call.{Call}
+use Rattle.cf_effect.specs.declared.call.Settled.TheVariants as settled
+use Rattle.cf_effect.specs.declared.held.Held.{Held}
+use Rattle.cf_effect.specs.World.{World, StackState, empty_world}
+use Rattle.cf_effect.specs.Status.{Forward, Back, BackClean}
 use Rattle.cf_plan.specs.Forward.{here, there, HasFailed, IsReady, IsDone, is_updated}
 use Rattle.cf_plan.specs.Follow.{MayFollow, IsNamedLane}
 use Rattle.cf_schema.specs.declared.changed.Difference.TheVariants.{Same, Update, Replace}
@@ -20,7 +20,7 @@ use Rattle.cf_examples.proofs.Ending.{end_of_back_clean, end_of_undoing, nothing
 use Rattle.cf_tree.specs.declared.template.Deletion.TheVariants as deletion
 use Rattle.cf_tree.specs.declared.template.Replace.TheVariants as replace
 use Rattle.cf_entry.specs.declared.status.Status.TheVariants as status
-use Rattle.cf_stacks.specs.declared.held.HeldStatus.TheVariants as held
+use Rattle.cf_effect.specs.declared.held.HeldStatus.TheVariants as held
 use Rattle.cf_examples.proofs.Refusing.{are_failed, IsRun, ended, step, joined}
 use Rattle.cf_examples.proofs.Beginning.{opens_one}
 use Rattle.cf_examples.specs.RestoreRefused.{changed, intended_other, refused, turned, intended_restore, unrestored, failed, opened_again, continued, cleaning, rolled_back, Legal, Fails, Shows, run}

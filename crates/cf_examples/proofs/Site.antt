@@ -10,13 +10,13 @@ use Rattle.cf_entry.specs.declared.entry.Begun.TheVariants as begin
 use Rattle.cf_entry.specs.declared.status.Status.TheVariants as status
 use Rattle.cf_entry.specs.declared.turn.Why.TheVariants as why
 use Rattle.cf_desired.specs.declared.wanted.Plan.{Plan}
-use Rattle.cf_stacks.specs.declared.call.Call.{Call}
-use Rattle.cf_stacks.specs.declared.call.Settled.TheVariants as settled
-use Rattle.cf_stacks.specs.declared.held.Held.{Held}
-use Rattle.cf_stacks.specs.declared.held.HeldStatus.TheVariants as held
-use Rattle.cf_stacks.specs.World.{World, StackState, empty_world, no_stack}
-use Rattle.cf_stacks.specs.Begin.{source_for}
-use Rattle.cf_stacks.specs.Status.{Forward, Gone}
+use Rattle.cf_effect.specs.declared.call.Call.{Call}
+use Rattle.cf_effect.specs.declared.call.Settled.TheVariants as settled
+use Rattle.cf_effect.specs.declared.held.Held.{Held}
+use Rattle.cf_effect.specs.declared.held.HeldStatus.TheVariants as held
+use Rattle.cf_effect.specs.World.{World, StackState, empty_world, no_stack}
+use Rattle.cf_effect.specs.Begin.{source_for}
+use Rattle.cf_effect.specs.Status.{Forward, Gone}
 use Rattle.cf_plan.specs.Between.{is_needed_by_held}
 use Rattle.cf_plan.specs.Forward.{here, there, HasFailed, IsReady, AllDone, IsDone, is_made}
 use Rattle.cf_plan.specs.Follow.{MayFollow, keeps}

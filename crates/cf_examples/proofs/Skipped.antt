@@ -1,12 +1,12 @@
 -- An update breaks off each time that it is called: the rollback fails, and a continued one skips it.
 use Rattle.std.proofs.Common.{◌≡◌, refl, List, [], ◌∷◌, ◌++◌, true, false, ℕ, inl, inr, sym, ap, lit≤, true≢false}
 use Rattle.std.specs.Prelude.{codes, take, drop}
-use Rattle.cf_stacks.specs.declared.held.Held.{Held}
-use Rattle.cf_stacks.specs.World.{World, StackState, empty_world}
-use Rattle.cf_stacks.specs.Status.{Back, BackClean}
+use Rattle.cf_effect.specs.declared.held.Held.{Held}
+use Rattle.cf_effect.specs.World.{World, StackState, empty_world}
+use Rattle.cf_effect.specs.Status.{Back, BackClean}
 use Rattle.cf_plan.specs.Forward.{In, here}
 use Rattle.cf_plan.specs.Follow.{MayFollow, IsNamedLane, IsLaneFor}
-use Rattle.cf_stacks.specs.declared.held.Pending.{Pending}
+use Rattle.cf_effect.specs.declared.held.Pending.{Pending}
 use Rattle.cf_examples.specs.Given.{schemas, file, file_props, file_attrs, lane_pair, report_of}
 use Rattle.cf_examples.proofs.Computing.{computing}
 use Rattle.cf_examples.proofs.Lists.{only, not_empty}
@@ -16,7 +16,7 @@ use Rattle.cf_tree.specs.declared.template.Replace.TheVariants as replace
 use Rattle.cf_entry.specs.declared.entry.Entry.TheVariants as entry
 use Rattle.cf_entry.specs.declared.entry.Begun.TheVariants as begin
 use Rattle.cf_entry.specs.declared.status.Status.TheVariants as status
-use Rattle.cf_stacks.specs.declared.held.HeldStatus.TheVariants as held
+use Rattle.cf_effect.specs.declared.held.HeldStatus.TheVariants as held
 use Rattle.cf_examples.proofs.Refusing.{are_failed, refused_at, IsRun, ended, step, joined, followed}
 use Rattle.cf_examples.proofs.Beginning.{no_imports, opens_one}
 use Rattle.cf_examples.specs.Skipped.{broken_back_once, broken_back_twice, broken_back_thrice, failed, opened_again, continued, cleaning, rolled_back, until_opened_again, run, rows, reviewed, ReviewIsLegal, Legal, Fails, Shows, SkipsAnother, ContinuedAtOnce, UnsureLeftOut}

@@ -4,17 +4,17 @@ use Rattle.std.specs.Prelude.{find, not, map}
 use Rattle.std.specs.Str.{bytes_eq}
 use Rattle.std.proofs.lemmas.Slice.Eq.{bytes_eq-Decides}
 use Rattle.cf_desired.specs.Whole.{Right}
-use Rattle.cf_stacks.specs.declared.held.Held.{Held}
-use Rattle.cf_stacks.specs.Words.{current_at, is_current_at}
-use Rattle.cf_stacks.specs.End.{is_right_at}
-use Rattle.cf_stacks.specs.Listed.{export_by}
+use Rattle.cf_effect.specs.declared.held.Held.{Held}
+use Rattle.cf_effect.specs.Words.{current_at, is_current_at}
+use Rattle.cf_effect.specs.End.{is_right_at}
+use Rattle.cf_effect.specs.Listed.{export_by}
 use Rattle.cf_plan.specs.Forward.{In}
 use Rattle.cf_tree.specs.Keys.{value_at}
 use Rattle.cf_tree.specs.declared.source.Source.{Source}
 use Rattle.cf_handler.specs.Lane.{Live}
 use Rattle.cf_desired.specs.Seeing.{Seen}
 use Rattle.cf_desired.specs.Whole.{Whole, whole_of}
-use Rattle.cf_stacks.specs.World.{StackState, World}
+use Rattle.cf_effect.specs.World.{StackState, World}
 use Rattle.cf_plan.specs.Accept.{exports_in}
 use Rattle.cf_plan.specs.Lanes.{Lane}
 use Rattle.cf_plan.specs.Ends.{IsLive, right_at, IsComplete}

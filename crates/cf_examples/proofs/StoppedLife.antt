@@ -6,13 +6,13 @@ use Rattle.cf_tree.specs.declared.template.Replace.TheVariants as replace
 use Rattle.cf_desired.specs.Seeing.{Seen}
 use Rattle.cf_desired.specs.Whole.{Right, Whole}
 use Rattle.cf_handler.specs.Lane.{live_of}
-use Rattle.cf_stacks.specs.declared.held.Held.{Held}
-use Rattle.cf_stacks.specs.declared.held.Pending.{Pending}
-use Rattle.cf_stacks.specs.World.{World, StackState, empty_world, known_stack}
-use Rattle.cf_stacks.specs.Fold.{fold_of}
-use Rattle.cf_stacks.specs.Begin.{source_for}
-use Rattle.cf_stacks.specs.Words.{current_at}
-use Rattle.cf_stacks.specs.Status.{Forward}
+use Rattle.cf_effect.specs.declared.held.Held.{Held}
+use Rattle.cf_effect.specs.declared.held.Pending.{Pending}
+use Rattle.cf_effect.specs.World.{World, StackState, empty_world, known_stack}
+use Rattle.cf_effect.specs.Fold.{fold_of}
+use Rattle.cf_effect.specs.Begin.{source_for}
+use Rattle.cf_effect.specs.Words.{current_at}
+use Rattle.cf_effect.specs.Status.{Forward}
 use Rattle.cf_plan.specs.Forward.{In, here, there, AllDone, IsDone, is_made}
 use Rattle.cf_plan.specs.Follow.{MayFollow, IsNamedLane, IsLaneFor}
 use Rattle.cf_plan.specs.Lanes.{Lane}

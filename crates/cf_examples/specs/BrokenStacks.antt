@@ -8,10 +8,10 @@ use Rattle.cf_entry.specs.declared.entry.Entry.{Entry}
 use Rattle.cf_entry.specs.declared.entry.Reply.{Reply}
 use Rattle.cf_entry.specs.declared.status.Status.{Status}
 use Rattle.cf_entry.specs.declared.status.Status.TheVariants.{CreateInProgress, CreateComplete, RollbackInProgress, RollbackComplete, RollbackFailed, UpdateInProgress, UpdateCompleteCleanupInProgress, UpdateComplete, UpdateRollbackInProgress, UpdateRollbackCompleteCleanupInProgress, UpdateRollbackComplete, DeleteInProgress, DeleteComplete, DeleteFailed, ReviewInProgress}
-use Rattle.cf_stacks.specs.declared.call.Call.{Call}
-use Rattle.cf_stacks.specs.declared.held.Held.{Held}
-use Rattle.cf_stacks.specs.declared.held.Pending.{Pending}
-use Rattle.cf_stacks.specs.World.{StackState, World, empty_world}
+use Rattle.cf_effect.specs.declared.call.Call.{Call}
+use Rattle.cf_effect.specs.declared.held.Held.{Held}
+use Rattle.cf_effect.specs.declared.held.Pending.{Pending}
+use Rattle.cf_effect.specs.World.{StackState, World, empty_world}
 use Rattle.cf_plan.specs.Lanes.{Lane, AreLanes, AreSchemas}
 use Rattle.cf_plan.specs.Promise.{AreKept, Promised}
 use Rattle.cf_examples.specs.Ends.{call}
@@ -40,7 +40,7 @@ use Rattle.cf_entry.specs.declared.entry.Reply.TheVariants as reply
 use Rattle.cf_examples.specs.FirstResource as first
 use Rattle.cf_entry.specs.declared.entry.Begun.TheVariants as begin
 use Rattle.cf_entry.specs.declared.turn.Why.TheVariants as why
-use Rattle.cf_stacks.specs.declared.call.Settled.TheVariants as settled
+use Rattle.cf_effect.specs.declared.call.Settled.TheVariants as settled
 
 -- the stack does not keep the promise of this status
 abbrev pub Breaks : Status → StackState → List Lane → Type 0

@@ -3,8 +3,8 @@
 use Rattle.std.specs.Prelude.{ℕ, List, [], ◌∷◌, codes, true, false}
 use Rattle.cf_tree.specs.declared.request.Answer.TheVariants as answer
 use Rattle.cf_handler.specs.Fence.{Raised, Untouched, SettledBy, FlyingOn}
-use Rattle.cf_stacks.specs.World.{empty_world}
-use Rattle.cf_stacks.specs.Fold.{fold_of}
+use Rattle.cf_effect.specs.World.{empty_world}
+use Rattle.cf_effect.specs.Fold.{fold_of}
 use Rattle.cf_plan.specs.Life.{Life, Event, CallEnd, Opened, Begin, Grant, Repeat, Settle, Raise, Act, Late, Close, Whole, Answered, IsLife}
 use Rattle.cf_examples.specs.Given.{file, schemas}
 use Rattle.cf_examples.specs.LateEffect.{begun, intended, made, created, updating, intended_change, broken_once, broken_twice, broken_thrice, turned}

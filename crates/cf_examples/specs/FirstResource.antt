@@ -9,13 +9,13 @@ use Rattle.cf_entry.specs.declared.entry.Entry.TheVariants as entry
 use Rattle.cf_entry.specs.declared.entry.Begun.TheVariants as begin
 use Rattle.cf_entry.specs.declared.entry.Reply.TheVariants as reply
 use Rattle.cf_entry.specs.declared.status.Status.TheVariants as status
-use Rattle.cf_stacks.specs.declared.call.Call.{Call}
-use Rattle.cf_stacks.specs.declared.call.Settled.TheVariants as settled
-use Rattle.cf_stacks.specs.declared.held.Held.{Held}
-use Rattle.cf_stacks.specs.declared.held.HeldStatus.TheVariants as held
-use Rattle.cf_stacks.specs.World.{StackState, World, empty_world}
-use Rattle.cf_stacks.specs.Fold.{fold_of}
-use Rattle.cf_stacks.specs.Begin.{source_for}
+use Rattle.cf_effect.specs.declared.call.Call.{Call}
+use Rattle.cf_effect.specs.declared.call.Settled.TheVariants as settled
+use Rattle.cf_effect.specs.declared.held.Held.{Held}
+use Rattle.cf_effect.specs.declared.held.HeldStatus.TheVariants as held
+use Rattle.cf_effect.specs.World.{StackState, World, empty_world}
+use Rattle.cf_effect.specs.Fold.{fold_of}
+use Rattle.cf_effect.specs.Begin.{source_for}
 use Rattle.cf_plan.specs.Follow.{IsLegal}
 use Rattle.cf_examples.specs.Given.{file, file_props, file_attrs, schemas, source_of, IsRefusedAfter}
 

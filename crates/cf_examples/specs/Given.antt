@@ -10,10 +10,10 @@ use Rattle.cf_export.specs.declared.Output.{Output}
 use Rattle.cf_entry.specs.declared.entry.Entry.{Entry}
 use Rattle.cf_entry.specs.declared.status.Status.{Status}
 use Rattle.cf_entry.specs.declared.status.Status.TheVariants as status
-use Rattle.cf_stacks.specs.declared.held.Held.{Held}
-use Rattle.cf_stacks.specs.declared.held.HeldStatus.{HeldStatus}
-use Rattle.cf_stacks.specs.declared.held.Leftover.{Leftover}
-use Rattle.cf_stacks.specs.World.{StackState, World, empty_world, known_stack}
+use Rattle.cf_effect.specs.declared.held.Held.{Held}
+use Rattle.cf_effect.specs.declared.held.HeldStatus.{HeldStatus}
+use Rattle.cf_effect.specs.declared.held.Leftover.{Leftover}
+use Rattle.cf_effect.specs.World.{StackState, World, empty_world, known_stack}
 use Rattle.cf_plan.specs.Accept.{exports_by}
 use Rattle.cf_plan.specs.Follow.{IsLegal, failed_in, is_done_entry}
 use Rattle.cf_plan.specs.Lanes.{Lane}

@@ -11,8 +11,8 @@ use Rattle.cf_entry.specs.declared.entry.Entry.TheVariants as entry
 use Rattle.cf_entry.specs.declared.entry.Begun.TheVariants as begin
 use Rattle.cf_entry.specs.declared.entry.Reply.TheVariants as reply
 use Rattle.cf_entry.specs.declared.status.Status.TheVariants as status
-use Rattle.cf_stacks.specs.World.{empty_world}
-use Rattle.cf_stacks.specs.Fold.{fold_of}
+use Rattle.cf_effect.specs.World.{empty_world}
+use Rattle.cf_effect.specs.Fold.{fold_of}
 use Rattle.cf_plan.specs.Lanes.{Lane}
 use Rattle.cf_plan.specs.Life.{Life, Event, CallEnd, Opened, Begin, Grant, Repeat, Settle, Raise, Act, Late, Close, Whole, Answered, IsLife, IsStart, Holds}
 use Rattle.cf_examples.specs.Given.{file, file_props, file_attrs, schemas, lane_with, lane_pair}

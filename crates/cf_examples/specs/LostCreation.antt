@@ -11,8 +11,8 @@ use Rattle.cf_entry.specs.declared.turn.Cause.TheVariants as cause
 use Rattle.cf_entry.specs.declared.turn.Phase.TheVariants as phase
 use Rattle.cf_entry.specs.declared.turn.Reason.TheVariants as reason
 use Rattle.cf_entry.specs.declared.turn.Why.TheVariants as why
-use Rattle.cf_stacks.specs.World.{empty_world}
-use Rattle.cf_stacks.specs.Fold.{fold_of}
+use Rattle.cf_effect.specs.World.{empty_world}
+use Rattle.cf_effect.specs.Fold.{fold_of}
 use Rattle.cf_plan.specs.Follow.{IsLegal}
 use Rattle.cf_examples.specs.Given.{file, file_props, schemas, source_of, lane_pair, report_of, bare}
 

@@ -16,8 +16,8 @@ use Rattle.cf_entry.specs.declared.entry.Begun.TheVariants as begin
 use Rattle.cf_entry.specs.declared.entry.Reply.TheVariants as reply
 use Rattle.cf_entry.specs.declared.status.Status.TheVariants as status
 use Rattle.cf_entry.specs.declared.turn.Phase.TheVariants as phase
-use Rattle.cf_stacks.specs.World.{empty_world}
-use Rattle.cf_stacks.specs.Fold.{fold_of}
+use Rattle.cf_effect.specs.World.{empty_world}
+use Rattle.cf_effect.specs.Fold.{fold_of}
 use Rattle.cf_plan.specs.Life.{Life, Event, CallEnd, Opened, ChangeSet, Begin, Grant, Settle, Raise, Act, Close, Whole, BrokenWithout, Answered, IsLife}
 use Rattle.cf_examples.specs.Given.{file, note, file_props, file_attrs, note_attrs, schemas, source_of, lane_pair}
 use Rattle.cf_examples.specs.LateEffect.{second, opened, begun, intended, made, created}

@@ -8,9 +8,9 @@ use Rattle.cf_entry.specs.declared.entry.Begun.TheVariants as begin
 use Rattle.cf_entry.specs.declared.entry.Reply.TheVariants as reply
 use Rattle.cf_entry.specs.declared.status.Status.TheVariants as status
 use Rattle.cf_entry.specs.declared.turn.Phase.TheVariants as phase
-use Rattle.cf_stacks.specs.declared.held.HeldStatus.TheVariants as held
-use Rattle.cf_stacks.specs.World.{empty_world}
-use Rattle.cf_stacks.specs.Fold.{fold_of}
+use Rattle.cf_effect.specs.declared.held.HeldStatus.TheVariants as held
+use Rattle.cf_effect.specs.World.{empty_world}
+use Rattle.cf_effect.specs.Fold.{fold_of}
 use Rattle.cf_plan.specs.Follow.{IsLegal}
 use Rattle.cf_examples.specs.Given.{file, note, file_props, file_attrs, note_props, note_attrs, schemas, source_of, lane_pair, report_of, bare, IsRefusedAfter}
 

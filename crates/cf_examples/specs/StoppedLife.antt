@@ -13,8 +13,8 @@ use Rattle.cf_entry.specs.declared.entry.Entry.TheVariants as entry
 use Rattle.cf_entry.specs.declared.entry.Begun.TheVariants as begin
 use Rattle.cf_entry.specs.declared.entry.Reply.TheVariants as reply
 use Rattle.cf_entry.specs.declared.status.Status.TheVariants as status
-use Rattle.cf_stacks.specs.World.{empty_world}
-use Rattle.cf_stacks.specs.Fold.{fold_of}
+use Rattle.cf_effect.specs.World.{empty_world}
+use Rattle.cf_effect.specs.Fold.{fold_of}
 use Rattle.cf_plan.specs.Lanes.{Lane}
 use Rattle.cf_plan.specs.Life.{Life, Event, CallEnd, Opened, Begin, Grant, Repeat, Settle, Park, Raise, Act, Close, Crash, Whole, BrokenWith, BrokenWithout, Answered, IsLife, IsStart}
 use Rattle.cf_examples.specs.Given.{file, note, file_props, file_attrs, note_props, note_attrs, schemas, source_of, lane_pair, lane_with}

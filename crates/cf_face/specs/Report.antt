@@ -19,11 +19,11 @@ use Rattle.cf_entry.specs.declared.entry.Entry.{Entry}
 use Rattle.cf_entry.specs.declared.entry.Entry.TheVariants.{Done}
 use Rattle.cf_entry.specs.declared.turn.Why.{Why}
 use Rattle.cf_entry.specs.declared.turn.Why.TheVariants as why
-use Rattle.cf_stacks.specs.declared.held.Held.{Held}
-use Rattle.cf_stacks.specs.declared.held.HeldStatus.{HeldStatus}
-use Rattle.cf_stacks.specs.declared.held.HeldStatus.TheVariants as held
-use Rattle.cf_stacks.specs.declared.held.Leftover.{Leftover}
-use Rattle.cf_stacks.specs.World.{StackState}
+use Rattle.cf_effect.specs.declared.held.Held.{Held}
+use Rattle.cf_effect.specs.declared.held.HeldStatus.{HeldStatus}
+use Rattle.cf_effect.specs.declared.held.HeldStatus.TheVariants as held
+use Rattle.cf_effect.specs.declared.held.Leftover.{Leftover}
+use Rattle.cf_effect.specs.World.{StackState}
 use Rattle.cf_face.specs.declared.exit.Exit.{Exit}
 use Rattle.cf_face.specs.Exit.{exit_line}
 use Rattle.cf_face.specs.Line.{line_of, text_word, texts_word}

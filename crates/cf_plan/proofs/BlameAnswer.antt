@@ -8,12 +8,12 @@ use Rattle.cf_tree.specs.Datum.{Data}
 use Rattle.cf_tree.specs.Counts.{HasRisen}
 use Rattle.cf_entry.specs.declared.entry.Reply.{Reply}
 use Rattle.cf_entry.specs.declared.entry.Reply.TheVariants as reply
-use Rattle.cf_stacks.specs.declared.held.Held.{Held}
-use Rattle.cf_stacks.specs.declared.held.Pending.{Pending}
-use Rattle.cf_stacks.specs.Words.{is_create, has_token, without_token, deletes}
-use Rattle.cf_stacks.specs.Operation.{Response, is_doubt}
-use Rattle.cf_stacks.specs.Calls.{is_success, is_refusal}
-use Rattle.cf_stacks.specs.Reply.{still_open}
+use Rattle.cf_effect.specs.declared.held.Held.{Held}
+use Rattle.cf_effect.specs.declared.held.Pending.{Pending}
+use Rattle.cf_effect.specs.Words.{is_create, has_token, without_token, deletes}
+use Rattle.cf_effect.specs.Operation.{Response, is_doubt}
+use Rattle.cf_effect.specs.Calls.{is_success, is_refusal}
+use Rattle.cf_effect.specs.Reply.{still_open}
 use Rattle.cf_plan.specs.Forward.{In, here, there}
 use Rattle.cf_plan.specs.Follow.{IsCounted, settled_by}
 use Rattle.cf_plan.specs.Run.{Told}

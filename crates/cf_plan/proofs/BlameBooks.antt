@@ -5,11 +5,11 @@ use Rattle.std.specs.Str.{bytes_eq}
 use Rattle.std.proofs.lemmas.Bool.{eq-eqb, eqb-true}
 use Rattle.cf_tree.specs.Counts.{HasRisen}
 use Rattle.cf_entry.specs.declared.entry.Reply.{Reply}
-use Rattle.cf_stacks.specs.declared.held.Held.{Held}
-use Rattle.cf_stacks.specs.declared.held.Pending.{Pending}
-use Rattle.cf_stacks.specs.Words.{has_token, is_create, deletes}
-use Rattle.cf_stacks.specs.Operation.{Response, is_doubt}
-use Rattle.cf_stacks.specs.Calls.{is_success, is_refusal}
+use Rattle.cf_effect.specs.declared.held.Held.{Held}
+use Rattle.cf_effect.specs.declared.held.Pending.{Pending}
+use Rattle.cf_effect.specs.Words.{has_token, is_create, deletes}
+use Rattle.cf_effect.specs.Operation.{Response, is_doubt}
+use Rattle.cf_effect.specs.Calls.{is_success, is_refusal}
 use Rattle.cf_plan.specs.Forward.{In}
 use Rattle.cf_plan.specs.Follow.{settled_by}
 use Rattle.cf_plan.specs.Run.{Told}

@@ -10,11 +10,11 @@ use Rattle.cf_entry.specs.declared.entry.Entry.{Entry}
 use Rattle.cf_entry.specs.declared.entry.Entry.TheVariants as entry
 use Rattle.cf_entry.specs.declared.status.Status.{Status}
 use Rattle.cf_entry.specs.declared.status.Status.TheVariants as status
-use Rattle.cf_stacks.specs.World.{StackState, World, is_going}
-use Rattle.cf_stacks.specs.Status.{Stage, Forward, Back, stage_of, is_in_progress}
-use Rattle.cf_stacks.specs.Operation.{Response, own_of, replies_in, reply_in, is_of}
-use Rattle.cf_stacks.specs.Effect.{entries_with}
-use Rattle.cf_stacks.specs.Fold.{effect_of, effect_at, world_after}
+use Rattle.cf_effect.specs.World.{StackState, World, is_going}
+use Rattle.cf_effect.specs.Status.{Stage, Forward, Back, stage_of, is_in_progress}
+use Rattle.cf_effect.specs.Operation.{Response, own_of, replies_in, reply_in, is_of}
+use Rattle.cf_effect.specs.Effect.{entries_with}
+use Rattle.cf_effect.specs.Fold.{effect_of, effect_at, world_after}
 use Rattle.cf_plan.specs.Follow.{MayFollowOn, MayFollowIn, failed_of, failed_in}
 use Rattle.cf_plan.specs.Run.{Told, IsOwn}
 use Rattle.cf_plan.proofs.Frame.{IsOn, token_after, number_is, frame_of, on_after}

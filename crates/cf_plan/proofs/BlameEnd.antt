@@ -17,17 +17,17 @@ use Rattle.cf_entry.specs.declared.entry.Reply.{Reply}
 use Rattle.cf_entry.specs.declared.entry.Reply.TheVariants as reply
 use Rattle.cf_entry.specs.declared.status.Status.TheVariants as status
 use Rattle.cf_entry.specs.declared.turn.Why.TheVariants as why
-use Rattle.cf_stacks.specs.declared.held.Held.{Held}
-use Rattle.cf_stacks.specs.declared.held.Pending.{Pending}
-use Rattle.cf_stacks.specs.World.{StackState, World}
-use Rattle.cf_stacks.specs.Status.{Back}
-use Rattle.cf_stacks.specs.Words.{current_at, resource_at, resources_of, is_current_at, is_create, deletes}
-use Rattle.cf_stacks.specs.declared.call.Call.{Call}
-use Rattle.cf_stacks.specs.Operation.{Response, own_of, replies_in}
-use Rattle.cf_stacks.specs.Calls.{call_of, is_call, is_success, own_calls, was_refused, deletions_of, refusals_of, doubts_of}
-use Rattle.cf_stacks.specs.End.{is_physical_of}
-use Rattle.cf_stacks.specs.Begin.{seen_in}
-use Rattle.cf_stacks.specs.Reply.{terms_of, wanted_in}
+use Rattle.cf_effect.specs.declared.held.Held.{Held}
+use Rattle.cf_effect.specs.declared.held.Pending.{Pending}
+use Rattle.cf_effect.specs.World.{StackState, World}
+use Rattle.cf_effect.specs.Status.{Back}
+use Rattle.cf_effect.specs.Words.{current_at, resource_at, resources_of, is_current_at, is_create, deletes}
+use Rattle.cf_effect.specs.declared.call.Call.{Call}
+use Rattle.cf_effect.specs.Operation.{Response, own_of, replies_in}
+use Rattle.cf_effect.specs.Calls.{call_under, is_call, is_success, own_calls, was_refused, deletions_of, refusals_of, doubts_of}
+use Rattle.cf_effect.specs.End.{is_physical_of}
+use Rattle.cf_effect.specs.Begin.{seen_in}
+use Rattle.cf_effect.specs.Reply.{terms_of, wanted_in}
 use Rattle.cf_desired.specs.Plan.{plan_of}
 use Rattle.cf_desired.specs.Whole.{wanted_at}
 use Rattle.cf_desired.specs.declared.wanted.Wanted.{Wanted}
@@ -87,7 +87,7 @@ module _
       sym o.at_path ∙ ap (λ c. c.path) same ∙ p.at_path
 
   -- a row is found by its token, or one of the same call
-  row_of : (token : ℕ) (c : Call) → In c s.ledger → token ≡ c.token → (d : Call) × (call_of token s ≡ Some d) × (d.path ≡ c.path)
+  row_of : (token : ℕ) (c : Call) → In c s.ledger → token ≡ c.token → (d : Call) × (call_under token s ≡ Some d) × (d.path ≡ c.path)
   row_of token c i e =
       let f = is_found_in (is_call token) s.ledger c i (eq-eqb token c.token e) in
       let one = found_one (is_call token) s.ledger f.0 f.1 in
@@ -97,12 +97,12 @@ module _
 
   bad_is : (o : Option Response) → is_bad_of calls o ≡ is_bad_last s o
   bad_is None = refl
-  bad_is (Some r) = ap (λ c. is_bad_answer c r.answer) (found_asked r.token s.ledger) ∙ asked_bad (call_of r.token s) r.answer
+  bad_is (Some r) = ap (λ c. is_bad_answer c r.answer) (found_asked r.token s.ledger) ∙ asked_bad (call_under r.token s) r.answer
 
   last_is : (path : List ℕ) → last_of path calls (answers s) ≡ last_at path s
   last_is path =
-      found_same (λ r. is_call_at path (call_for r.token calls)) (λ r. has_path path (call_of r.token s)) (answers s)
-      (λ r i. ap (is_call_at path) (found_asked r.token s.ledger) ∙ asked_at path (call_of r.token s))
+      found_same (λ r. is_call_at path (call_for r.token calls)) (λ r. has_path path (call_under r.token s)) (answers s)
+      (λ r i. ap (is_call_at path) (found_asked r.token s.ledger) ∙ asked_at path (call_under r.token s))
 
   -- a resource that is held or made is made
   resource_made : (r : Held) → In r (resources_of s) → In r s.made
@@ -117,7 +117,7 @@ module _
   -- a failed path is blamed, also where the calls and answers are as before
   module _ (t : StackState) (ledger : t.ledger ≡ s.ledger) (stand : replies_in (own_of t) ≡ replies) where
     blamed_by :
-        (path : List ℕ) (r : Response) (c : Call) → In r replies → call_of r.token s ≡ Some c → c.path ≡ path → is_success (settled_by r.answer) ≡ false → IsBlamedFor t path
+        (path : List ℕ) (r : Response) (c : Call) → In r replies → call_under r.token s ≡ Some c → c.path ≡ path → is_success (settled_by r.answer) ≡ false → IsBlamedFor t path
     blamed_by path r c i d p f = record {
       reply = r;
       call = c;
@@ -130,11 +130,11 @@ module _
 
     blamed_last : (path : List ℕ) (o : Option Response) → last_at path s ≡ o → is_bad_last s o ≡ true → IsBlamedFor t path
     blamed_last path None d b = let no : ⊥ = cc in absurd no
-    blamed_last path (Some r) d b = by_call (call_of r.token s) refl one.1 b where
-      one : In r (reverse replies) × (has_path path (call_of r.token s) ≡ true)
-      one = found_one (λ z. has_path path (call_of z.token s)) (reverse replies) r d
+    blamed_last path (Some r) d b = by_call (call_under r.token s) refl one.1 b where
+      one : In r (reverse replies) × (has_path path (call_under r.token s) ≡ true)
+      one = found_one (λ z. has_path path (call_under z.token s)) (reverse replies) r d
 
-      by_call : (o : Option Call) → call_of r.token s ≡ o → has_path path o ≡ true → is_bad_outcome o r.answer ≡ true → IsBlamedFor t path
+      by_call : (o : Option Call) → call_under r.token s ≡ o → has_path path o ≡ true → is_bad_outcome o r.answer ≡ true → IsBlamedFor t path
       by_call None f g k = let no : ⊥ = cc in absurd no
       by_call (Some c) f g k = blamed_by path r c (in_reversed r replies one.0) f (sym ((bytes_eq-Decides path c.path).0 g)) (bad_fails c r.answer k)
 
@@ -168,8 +168,8 @@ module _
 
     -- an open call has three doubts
     open_fails : (p : Pending) → In p s.tokens → Fails
-    open_fails p i = by_row (call_of p.token s) refl (above_none (doubts_of p.token s) (none_false (nat_lt (doubts_of p.token s) 3) (λ e. at_end.1 p (i, e)))) where
-      by_row : (o : Option Call) → call_of p.token s ≡ o → 0 < option_map_or (λ c. c.doubts) o 0 → Fails
+    open_fails p i = by_row (call_under p.token s) refl (above_none (doubts_of p.token s) (none_false (nat_lt (doubts_of p.token s) 3) (λ e. at_end.1 p (i, e)))) where
+      by_row : (o : Option Call) → call_under p.token s ≡ o → 0 < option_map_or (λ c. c.doubts) o 0 → Fails
       by_row None e l = absurd (none_below l)
       by_row (Some c) e l =
           let one = found_one (is_call p.token) s.ledger c e in

@@ -18,8 +18,8 @@ use Rattle.cf_handler.specs.Move.{IsOfLane, MaySettle, SettlesBy, LaneMove, Call
 use Rattle.cf_handler.specs.Name.{is_lane_name}
 use Rattle.cf_entry.specs.declared.entry.Reply.{Reply}
 use Rattle.cf_entry.specs.declared.entry.Reply.TheVariants as reply
-use Rattle.cf_stacks.specs.declared.held.Pending.{Pending}
-use Rattle.cf_stacks.specs.Words.{is_create}
+use Rattle.cf_effect.specs.declared.held.Pending.{Pending}
+use Rattle.cf_effect.specs.Words.{is_create}
 use Rattle.cf_plan.specs.Forward.{In}
 use Rattle.cf_plan.specs.Run.{Told, answer_as, IsAsked, AreFresh}
 use Rattle.cf_plan.proofs.RunLanes.{same_lane, bytes_named, lane_named, one_place, settled_still, settled_now, used_in}

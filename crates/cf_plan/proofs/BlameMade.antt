@@ -9,13 +9,13 @@ use Rattle.cf_tree.specs.declared.code.Code.{Code}
 use Rattle.cf_tree.specs.declared.code.Code.TheVariants as code
 use Rattle.cf_entry.specs.declared.entry.Reply.{Reply}
 use Rattle.cf_entry.specs.declared.entry.Reply.TheVariants as reply
-use Rattle.cf_stacks.specs.declared.held.Held.{Held}
-use Rattle.cf_stacks.specs.declared.held.HeldStatus.TheVariants as held
-use Rattle.cf_stacks.specs.declared.held.Pending.{Pending}
-use Rattle.cf_stacks.specs.World.{StackState}
-use Rattle.cf_stacks.specs.Words.{is_create, has_physical, where_physical, without, current_at, deletes}
-use Rattle.cf_stacks.specs.Calls.{is_refusal}
-use Rattle.cf_stacks.specs.Reply.{with_status, updating, changing, deleting, answered, made_of, status_made, terms_at}
+use Rattle.cf_effect.specs.declared.held.Held.{Held}
+use Rattle.cf_effect.specs.declared.held.HeldStatus.TheVariants as held
+use Rattle.cf_effect.specs.declared.held.Pending.{Pending}
+use Rattle.cf_effect.specs.World.{StackState}
+use Rattle.cf_effect.specs.Words.{is_create, has_physical, where_physical, without, current_at, deletes}
+use Rattle.cf_effect.specs.Calls.{is_refusal}
+use Rattle.cf_effect.specs.Reply.{with_status, updating, changing, deleting, answered, made_of, status_made, terms_at}
 use Rattle.cf_plan.specs.Forward.{In, here, there}
 use Rattle.cf_plan.specs.Follow.{settled_by}
 use Rattle.cf_plan.proofs.CreatedStays.{in_more}

@@ -8,14 +8,14 @@ use Rattle.cf_tree.specs.declared.request.Request.TheVariants as request
 use Rattle.cf_entry.specs.declared.entry.Reply.{Reply}
 use Rattle.cf_entry.specs.declared.entry.Reply.TheVariants as reply
 use Rattle.cf_entry.specs.declared.status.Status.{Status}
-use Rattle.cf_stacks.specs.declared.call.Call.{Call}
-use Rattle.cf_stacks.specs.declared.call.Settled.TheVariants as settled
-use Rattle.cf_stacks.specs.declared.held.Held.{Held}
-use Rattle.cf_stacks.specs.declared.held.Pending.{Pending}
-use Rattle.cf_stacks.specs.Words.{has_token, is_create, deletes}
-use Rattle.cf_stacks.specs.Operation.{Response, is_doubt}
-use Rattle.cf_stacks.specs.Calls.{new_call, anew, answered_call, is_call, where_call, is_success, is_refusal, was_refused}
-use Rattle.cf_stacks.specs.Reply.{still_open}
+use Rattle.cf_effect.specs.declared.call.Call.{Call}
+use Rattle.cf_effect.specs.declared.call.Settled.TheVariants as settled
+use Rattle.cf_effect.specs.declared.held.Held.{Held}
+use Rattle.cf_effect.specs.declared.held.Pending.{Pending}
+use Rattle.cf_effect.specs.Words.{has_token, is_create, deletes}
+use Rattle.cf_effect.specs.Operation.{Response, is_doubt}
+use Rattle.cf_effect.specs.Calls.{new_call, anew, answered_call, is_call, where_call, is_success, is_refusal, was_refused}
+use Rattle.cf_effect.specs.Reply.{still_open}
 use Rattle.cf_plan.specs.Forward.{In, here, there}
 use Rattle.cf_plan.specs.Follow.{settled_by, has_path, is_bad_outcome}
 use Rattle.cf_plan.specs.Run.{Told}

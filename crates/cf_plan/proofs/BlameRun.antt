@@ -14,11 +14,11 @@ use Rattle.cf_entry.specs.declared.entry.Entry.{Entry}
 use Rattle.cf_entry.specs.declared.entry.Entry.TheVariants as entry
 use Rattle.cf_entry.specs.declared.status.Status.{Status}
 use Rattle.cf_entry.specs.declared.status.Status.TheVariants as status
-use Rattle.cf_stacks.specs.World.{StackState, World, stack_at, stack_of_operation}
-use Rattle.cf_stacks.specs.Status.{Forward, Back, is_in_progress}
-use Rattle.cf_stacks.specs.Operation.{own_of, replies_in}
-use Rattle.cf_stacks.specs.End.{ending, stopping}
-use Rattle.cf_stacks.specs.Fold.{effect_at, world_after, fold_of}
+use Rattle.cf_effect.specs.World.{StackState, World, stack_at, stack_of_operation}
+use Rattle.cf_effect.specs.Status.{Forward, Back, is_in_progress}
+use Rattle.cf_effect.specs.Operation.{own_of, replies_in}
+use Rattle.cf_effect.specs.End.{ending, stopping}
+use Rattle.cf_effect.specs.Fold.{effect_at, world_after, fold_of}
 use Rattle.cf_plan.specs.Forward.{In, here, there}
 use Rattle.cf_plan.specs.Follow.{MayFollowOn, MayFollowIn, EndsAs, AreFailed, failed_of, failed_in}
 use Rattle.cf_plan.specs.Ends.{IsBlamed}

@@ -21,15 +21,15 @@ use Rattle.cf_entry.specs.declared.turn.Phase.{Phase}
 use Rattle.cf_entry.specs.declared.turn.Phase.TheVariants as phase
 use Rattle.cf_entry.specs.declared.turn.Cause.{Cause}
 use Rattle.cf_entry.specs.declared.turn.Why.{Why}
-use Rattle.cf_stacks.specs.declared.held.Held.{Held}
-use Rattle.cf_stacks.specs.declared.held.Pending.{Pending}
-use Rattle.cf_stacks.specs.World.{StackState, World}
-use Rattle.cf_stacks.specs.Status.{Forward, Back, stage_of, turned}
-use Rattle.cf_stacks.specs.Words.{current_at, resources_of, has_physical, has_token, without, pending_of, is_create, is_create_at, is_on, id_named, deletes}
-use Rattle.cf_stacks.specs.Calls.{new_call, is_restore}
-use Rattle.cf_stacks.specs.Reply.{intending, replied, closing, answered, keeping, keeping_known, keeping_unknown}
-use Rattle.cf_stacks.specs.End.{turning}
-use Rattle.cf_stacks.specs.Fold.{effect_at, world_after}
+use Rattle.cf_effect.specs.declared.held.Held.{Held}
+use Rattle.cf_effect.specs.declared.held.Pending.{Pending}
+use Rattle.cf_effect.specs.World.{StackState, World}
+use Rattle.cf_effect.specs.Status.{Forward, Back, stage_of, turned}
+use Rattle.cf_effect.specs.Words.{current_at, resources_of, has_physical, has_token, without, pending_of, is_create, is_create_at, is_on, id_named, deletes}
+use Rattle.cf_effect.specs.Calls.{new_call, is_restore}
+use Rattle.cf_effect.specs.Reply.{intending, replied, closing, answered, keeping, keeping_known, keeping_unknown}
+use Rattle.cf_effect.specs.End.{turning}
+use Rattle.cf_effect.specs.Fold.{effect_at, world_after}
 use Rattle.cf_plan.specs.Forward.{In}
 use Rattle.cf_plan.specs.Follow.{MayFollowOn, MayFollowIn, MayIntend, MayTurn, is_free, is_lane_of, IsCounted, IntendsDeletion, IntendsRestore}
 use Rattle.cf_plan.specs.Run.{Told, IsDone}

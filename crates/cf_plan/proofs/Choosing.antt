@@ -16,10 +16,10 @@ use Rattle.cf_entry.specs.declared.turn.Phase.{Phase}
 use Rattle.cf_entry.specs.declared.turn.Phase.TheVariants as phase
 use Rattle.cf_entry.specs.declared.turn.Cause.{Cause}
 use Rattle.cf_change.specs.Changes.{is_empty}
-use Rattle.cf_stacks.specs.declared.held.Held.{Held}
-use Rattle.cf_stacks.specs.declared.held.Pending.{Pending}
-use Rattle.cf_stacks.specs.World.{StackState, World}
-use Rattle.cf_stacks.specs.Status.{Forward, Back, Gone, stage_of}
+use Rattle.cf_effect.specs.declared.held.Held.{Held}
+use Rattle.cf_effect.specs.declared.held.Pending.{Pending}
+use Rattle.cf_effect.specs.World.{StackState, World}
+use Rattle.cf_effect.specs.Status.{Forward, Back, Gone, stage_of}
 use Rattle.cf_plan.specs.Forward.{In}
 use Rattle.cf_plan.specs.Follow.{is_not_needed, is_untried, is_free, may_repeat, is_repeat_in_flight, waits_for_repeats, is_lane_leased, MayIntend, MayKeep, MayTurn, IntendsDeletion, IntendsRestore}
 use Rattle.cf_plan.specs.declared.next.Next.{Next}

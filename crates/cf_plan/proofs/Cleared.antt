@@ -17,12 +17,12 @@ use Rattle.cf_entry.specs.declared.status.Status.{Status}
 use Rattle.cf_entry.specs.declared.status.Status.TheVariants as status
 use Rattle.cf_entry.specs.declared.turn.Phase.{Phase}
 use Rattle.cf_entry.specs.declared.turn.Phase.TheVariants as phase
-use Rattle.cf_stacks.specs.World.{StackState, World, stack_at, is_going, empty_world, no_stack, known_stack}
-use Rattle.cf_stacks.specs.Status.{turned, begun, is_in_progress, reviewed}
-use Rattle.cf_stacks.specs.Words.{pending_of, resources_of}
-use Rattle.cf_stacks.specs.End.{marked, turned_effect}
+use Rattle.cf_effect.specs.World.{StackState, World, stack_at, is_going, empty_world, no_stack, known_stack}
+use Rattle.cf_effect.specs.Status.{turned, begun, is_in_progress, reviewed}
+use Rattle.cf_effect.specs.Words.{pending_of, resources_of}
+use Rattle.cf_effect.specs.End.{marked, turned_effect}
 use Rattle.cf_stacks.specs.Apart.{AreApart, IsNext}
-use Rattle.cf_stacks.specs.Fold.{effect_at, fold_of, world_after}
+use Rattle.cf_effect.specs.Fold.{effect_at, fold_of, world_after}
 use Rattle.cf_stacks.proofs.Apart.{stay_apart}
 use Rattle.cf_stacks.proofs.Worlds.{value_under}
 use Rattle.cf_plan.specs.Accept.{creates_from}

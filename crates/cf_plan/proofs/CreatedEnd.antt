@@ -16,12 +16,12 @@ use Rattle.cf_entry.specs.declared.status.Status.TheVariants as status
 use Rattle.cf_desired.specs.declared.flaw.Flaw.{Flaw}
 use Rattle.cf_desired.specs.Seeing.{Seen}
 use Rattle.cf_desired.specs.Whole.{Right, Whole, is_wanted_at, wanted_at, whole_of}
-use Rattle.cf_stacks.specs.declared.held.Held.{Held}
-use Rattle.cf_stacks.specs.declared.held.Pending.{Pending}
-use Rattle.cf_stacks.specs.World.{StackState, World}
-use Rattle.cf_stacks.specs.Words.{current_at, is_current_at}
-use Rattle.cf_stacks.specs.Begin.{put_seen, seen_in}
-use Rattle.cf_stacks.specs.End.{seen_now, is_physical_of, is_right_at, as_wanted, settled_in, completing, whole_over, empty_whole, ended_effect}
+use Rattle.cf_effect.specs.declared.held.Held.{Held}
+use Rattle.cf_effect.specs.declared.held.Pending.{Pending}
+use Rattle.cf_effect.specs.World.{StackState, World}
+use Rattle.cf_effect.specs.Words.{current_at, is_current_at}
+use Rattle.cf_effect.specs.Begin.{put_seen, seen_in}
+use Rattle.cf_effect.specs.End.{seen_now, is_physical_of, is_right_at, as_wanted, settled_in, completing, whole_over, empty_whole, ended_effect}
 use Rattle.cf_schema.specs.declared.described.Schema.{Schema}
 use Rattle.cf_plan.specs.Follow.{EndsAs}
 use Rattle.cf_plan.specs.Forward.{In, here, there, plan_now, AllDone}

@@ -26,11 +26,11 @@ use Rattle.cf_desired.specs.Stays.{is_shown, is_settled}
 use Rattle.cf_desired.proofs.Planned.{WantedFirst, wanted_first}
 use Rattle.cf_desired.proofs.Termed.{terms_by}
 use Rattle.cf_desired.proofs.Puts.{among_pass}
-use Rattle.cf_stacks.specs.declared.held.Held.{Held}
-use Rattle.cf_stacks.specs.World.{StackState, World}
-use Rattle.cf_stacks.specs.Words.{current_at}
-use Rattle.cf_stacks.specs.Begin.{seen_in}
-use Rattle.cf_stacks.specs.Reply.{terms_of, wanted_in}
+use Rattle.cf_effect.specs.declared.held.Held.{Held}
+use Rattle.cf_effect.specs.World.{StackState, World}
+use Rattle.cf_effect.specs.Words.{current_at}
+use Rattle.cf_effect.specs.Begin.{seen_in}
+use Rattle.cf_effect.specs.Reply.{terms_of, wanted_in}
 use Rattle.cf_schema.specs.declared.described.Schema.{Schema}
 use Rattle.cf_plan.specs.Between.{needs_at}
 use Rattle.cf_plan.specs.Forward.{In, here, there, Finding, Bad, Later, Known, finding, known_or_later, plan_in, plan_now, evaluated_at, IsDone, is_made, IsReady, AllDone, HasFailed}

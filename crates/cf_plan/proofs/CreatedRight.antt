@@ -14,17 +14,17 @@ use Rattle.cf_entry.specs.declared.entry.Entry.{Entry}
 use Rattle.cf_entry.specs.declared.entry.Entry.TheVariants as entry
 use Rattle.cf_entry.specs.declared.entry.Reply.{Reply}
 use Rattle.cf_entry.specs.declared.entry.Reply.TheVariants as reply
-use Rattle.cf_stacks.specs.declared.held.Held.{Held}
-use Rattle.cf_stacks.specs.declared.held.Pending.{Pending}
-use Rattle.cf_stacks.specs.declared.call.Call.{Call}
-use Rattle.cf_stacks.specs.World.{StackState}
-use Rattle.cf_stacks.specs.Words.{current_at, is_current_at, has_token, pending_of, without_token, is_update}
-use Rattle.cf_stacks.specs.Event.{lines_of}
-use Rattle.cf_stacks.specs.Calls.{anew, answered_call, is_call, is_open_call, is_restore, new_call, where_call}
-use Rattle.cf_stacks.specs.Begin.{seen_in}
-use Rattle.cf_stacks.specs.Reply.{answered, closing, made_of, replied, status_made, terms_at}
-use Rattle.cf_stacks.specs.Effect.{entries_with, heard, on_stack}
-use Rattle.cf_stacks.specs.Fold.{effect_at}
+use Rattle.cf_effect.specs.declared.held.Held.{Held}
+use Rattle.cf_effect.specs.declared.held.Pending.{Pending}
+use Rattle.cf_effect.specs.declared.call.Call.{Call}
+use Rattle.cf_effect.specs.World.{StackState}
+use Rattle.cf_effect.specs.Words.{current_at, is_current_at, has_token, pending_of, without_token, is_update}
+use Rattle.cf_effect.specs.Event.{lines_of}
+use Rattle.cf_effect.specs.Calls.{anew, answered_call, is_call, is_open_call, is_restore, new_call, where_call}
+use Rattle.cf_effect.specs.Begin.{seen_in}
+use Rattle.cf_effect.specs.Reply.{answered, closing, made_of, replied, status_made, terms_at}
+use Rattle.cf_effect.specs.Effect.{entries_with, heard, on_stack}
+use Rattle.cf_effect.specs.Fold.{effect_at}
 use Rattle.cf_plan.specs.Forward.{In, here, there, Known, evaluated_at, IsDone, is_made}
 use Rattle.cf_plan.specs.Follow.{is_free}
 use Rattle.cf_plan.specs.Created.{IsCreating, IsSaid, IsRightCreate, BeginsRight, OpeningStaysRight, IntentStaysRight, OutcomeStaysRight}

@@ -6,9 +6,9 @@ use Rattle.std.specs.Str.{bytes_eq}
 use Rattle.cf_tree.specs.Keys.{value_at, put}
 use Rattle.std.proofs.lemmas.Slice.Eq.{bytes_eq-Decides}
 use Rattle.cf_eval.specs.Knows.{Keeps}
-use Rattle.cf_stacks.specs.declared.held.Held.{Held}
-use Rattle.cf_stacks.specs.Words.{current_at, is_current_at}
-use Rattle.cf_stacks.specs.Begin.{seen_in, put_seen, seen_as_held}
+use Rattle.cf_effect.specs.declared.held.Held.{Held}
+use Rattle.cf_effect.specs.Words.{current_at, is_current_at}
+use Rattle.cf_effect.specs.Begin.{seen_in, put_seen, seen_as_held}
 use Rattle.cf_desired.proofs.Puts.{value_put}
 use Rattle.cf_desired.specs.declared.seen.SeenAt.{SeenAt}
 use Rattle.cf_desired.specs.Seeing.{Seen}

@@ -9,13 +9,13 @@ use Rattle.std.proofs.lemmas.List.{append-nil}
 use Rattle.cf_tree.specs.Datum.{Data}
 use Rattle.cf_tree.specs.Keys.{value_at}
 use Rattle.cf_tree.specs.declared.source.Source.{Source}
-use Rattle.cf_stacks.specs.declared.held.Held.{Held}
-use Rattle.cf_stacks.specs.World.{StackState}
-use Rattle.cf_stacks.specs.Words.{current_at, is_update}
-use Rattle.cf_stacks.specs.declared.call.Call.{Call}
-use Rattle.cf_stacks.specs.Calls.{own_calls, succeeded}
-use Rattle.cf_stacks.specs.Begin.{seen_in}
-use Rattle.cf_stacks.specs.End.{seen_now, is_right_at}
+use Rattle.cf_effect.specs.declared.held.Held.{Held}
+use Rattle.cf_effect.specs.World.{StackState}
+use Rattle.cf_effect.specs.Words.{current_at, is_update}
+use Rattle.cf_effect.specs.declared.call.Call.{Call}
+use Rattle.cf_effect.specs.Calls.{own_calls, succeeded}
+use Rattle.cf_effect.specs.Begin.{seen_in}
+use Rattle.cf_effect.specs.End.{seen_now, is_right_at}
 use Rattle.cf_desired.specs.declared.wanted.Plan.{Plan}
 use Rattle.cf_desired.specs.declared.wanted.Wanted.{Wanted}
 use Rattle.cf_desired.specs.declared.seen.SeenAt.{SeenAt}

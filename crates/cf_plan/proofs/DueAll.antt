@@ -4,8 +4,8 @@ use Rattle.cf_tree.specs.declared.request.Request.{Request}
 use Rattle.cf_tree.specs.declared.request.Request.TheVariants as request
 use Rattle.cf_schema.specs.declared.described.Schema.{Schema}
 use Rattle.cf_entry.proofs.Codec.{some_is}
-use Rattle.cf_stacks.specs.World.{StackState, World, stack_of_operation}
-use Rattle.cf_stacks.specs.Status.{Stage, stage_of}
+use Rattle.cf_effect.specs.World.{StackState, World, stack_of_operation}
+use Rattle.cf_effect.specs.Status.{Stage, stage_of}
 use Rattle.cf_plan.specs.declared.next.Next.{Next}
 use Rattle.cf_plan.specs.declared.next.Next.TheVariants as next
 use Rattle.cf_plan.specs.Follow.{MayIntend}

@@ -11,9 +11,9 @@ use Rattle.cf_entry.specs.declared.status.Status.{Status}
 use Rattle.cf_entry.specs.declared.status.Status.TheVariants as status
 use Rattle.cf_entry.specs.declared.turn.Why.{Why}
 use Rattle.cf_entry.specs.declared.turn.Why.TheVariants as why
-use Rattle.cf_stacks.specs.declared.held.Held.{Held}
-use Rattle.cf_stacks.specs.World.{StackState, World}
-use Rattle.cf_stacks.specs.Status.{Back, Gone}
+use Rattle.cf_effect.specs.declared.held.Held.{Held}
+use Rattle.cf_effect.specs.World.{StackState, World}
+use Rattle.cf_effect.specs.Status.{Back, Gone}
 use Rattle.cf_plan.specs.declared.next.Next.{Next}
 use Rattle.cf_plan.specs.declared.next.Next.TheVariants as next
 use Rattle.cf_plan.specs.Forward.{In, here, there}

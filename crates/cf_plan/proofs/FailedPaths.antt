@@ -15,12 +15,12 @@ use Rattle.cf_entry.specs.declared.entry.Entry.{Entry}
 use Rattle.cf_entry.specs.declared.entry.Entry.TheVariants as entry
 use Rattle.cf_entry.specs.declared.entry.Reply.{Reply}
 use Rattle.cf_entry.specs.declared.status.Status.TheVariants as status
-use Rattle.cf_stacks.specs.declared.held.Held.{Held}
-use Rattle.cf_stacks.specs.World.{StackState}
-use Rattle.cf_stacks.specs.Words.{resources_of}
-use Rattle.cf_stacks.specs.declared.call.Call.{Call}
-use Rattle.cf_stacks.specs.Operation.{Response, replies_in, is_of}
-use Rattle.cf_stacks.specs.Calls.{call_of, refusals_of}
+use Rattle.cf_effect.specs.declared.held.Held.{Held}
+use Rattle.cf_effect.specs.World.{StackState}
+use Rattle.cf_effect.specs.Words.{resources_of}
+use Rattle.cf_effect.specs.declared.call.Call.{Call}
+use Rattle.cf_effect.specs.Operation.{Response, replies_in, is_of}
+use Rattle.cf_effect.specs.Calls.{call_under, refusals_of}
 use Rattle.cf_plan.specs.Forward.{In, here, there}
 use Rattle.cf_plan.specs.Follow.{is_bad_outcome, has_path, last_at, is_bad_last, is_failed_path, AreFailed}
 use Rattle.cf_plan.specs.Blaming.{Verdicts, noted, noted_call, verdicts_of, blamed, blames_of, bad_among}
@@ -44,21 +44,21 @@ or_assoc (Some y) b c = refl
 
 module _ (s : StackState) (p : List ℕ) where
   at_path : Response → Bool
-  at_path r = has_path p (call_of r.token s)
+  at_path r = has_path p (call_under r.token s)
 
   abbrev last_in : List Entry → Option Response
-  last_in es = find (λ r. has_path p (call_of r.token s)) (reverse (replies_in (filter (is_of s.operation) es)))
+  last_in es = find (λ r. has_path p (call_under r.token s)) (reverse (replies_in (filter (is_of s.operation) es)))
 
   abbrev verdict : Option Response → Option Bool
-  verdict o = option_map (λ r. is_bad_outcome (call_of r.token s) r.answer) o
+  verdict o = option_map (λ r. is_bad_outcome (call_under r.token s) r.answer) o
 
   -- one more outcome: the last at the path stays, where there is one
   last_first : (r : Response) (rs : List Response)
-      → find (λ q. has_path p (call_of q.token s)) (reverse (r ∷ rs))
-      ≡ option_or (find (λ q. has_path p (call_of q.token s)) (reverse rs)) (cond (has_path p (call_of r.token s)) (Some r) None)
+      → find (λ q. has_path p (call_under q.token s)) (reverse (r ∷ rs))
+      ≡ option_or (find (λ q. has_path p (call_under q.token s)) (reverse rs)) (cond (has_path p (call_under r.token s)) (Some r) None)
   last_first r rs =
-      ap (find (λ q. has_path p (call_of q.token s))) (reverse-append (r ∷ []) rs)
-      ∙ find-append (λ q. has_path p (call_of q.token s)) (reverse rs) (r ∷ [])
+      ap (find (λ q. has_path p (call_under q.token s))) (reverse-append (r ∷ []) rs)
+      ∙ find-append (λ q. has_path p (call_under q.token s)) (reverse rs) (r ∷ [])
 
   verdict_or : (a b : Option Response) → verdict (option_or a b) ≡ option_or (verdict a) (verdict b)
   verdict_or None b = refl
@@ -74,7 +74,7 @@ module _ (s : StackState) (p : List ℕ) where
       by true = refl
       by false = refl
 
-  verdict_if : (b : Bool) (r : Response) → verdict (cond b (Some r) None) ≡ cond b (Some (is_bad_outcome (call_of r.token s) r.answer)) None
+  verdict_if : (b : Bool) (r : Response) → verdict (cond b (Some r) None) ≡ cond b (Some (is_bad_outcome (call_under r.token s) r.answer)) None
   verdict_if true r = refl
   verdict_if false r = refl
 
@@ -84,18 +84,18 @@ module _ (s : StackState) (p : List ℕ) where
   walked (entry.Outcome number token answer before after ∷ es) vs = by (s.operation == number) (walked es)
     where
       by : (b : Bool) → ((ws : Verdicts) → value_at p (fold (noted s) ws es) ≡ option_or (verdict (last_in es)) (value_at p ws))
-          → value_at p (fold (noted s) (cond b (noted_call (call_of token s) answer vs) vs) es)
-          ≡ option_or (verdict (find (λ q. has_path p (call_of q.token s))
+          → value_at p (fold (noted s) (cond b (noted_call (call_under token s) answer vs) vs) es)
+          ≡ option_or (verdict (find (λ q. has_path p (call_under q.token s))
           (reverse (replies_in (cond b (entry.Outcome number token answer before after ∷ filter (is_of s.operation) es) (filter (is_of s.operation) es))))))
           (value_at p vs)
       by false rest = rest vs
       by true rest =
-          rest (noted_call (call_of token s) answer vs)
+          rest (noted_call (call_under token s) answer vs)
           ∙ (ap (λ (o : Option Bool). option_or (verdict (last_in es)) o)
-          (call_put (call_of token s) answer vs ∙ ap (λ (o : Option Bool). option_or o (value_at p vs)) (sym (verdict_if (has_path p (call_of token s)) (told token answer before after))))
-          ∙ (sym (or_assoc (verdict (last_in es)) (verdict (cond (has_path p (call_of token s)) (Some (told token answer before after)) None)) (value_at p vs))
+          (call_put (call_under token s) answer vs ∙ ap (λ (o : Option Bool). option_or o (value_at p vs)) (sym (verdict_if (has_path p (call_under token s)) (told token answer before after))))
+          ∙ (sym (or_assoc (verdict (last_in es)) (verdict (cond (has_path p (call_under token s)) (Some (told token answer before after)) None)) (value_at p vs))
           ∙ ap (λ (o : Option Bool). option_or o (value_at p vs))
-          (sym (verdict_or (last_in es) (cond (has_path p (call_of token s)) (Some (told token answer before after)) None))
+          (sym (verdict_or (last_in es) (cond (has_path p (call_under token s)) (Some (told token answer before after)) None))
           ∙ ap verdict (sym (last_first (told token answer before after) (replies_in (filter (is_of s.operation) es)))))))
   walked (entry.Opened epoch lanes ∷ es) vs = walked es vs
   walked (entry.ChangeSet number stack source rows outputs ∷ es) vs = walked es vs
@@ -103,7 +103,7 @@ module _ (s : StackState) (p : List ℕ) where
     where
       passed : (b : Bool) → value_at p (fold (noted s) vs es) ≡ option_or (verdict (last_in es)) (value_at p vs)
           → value_at p (fold (noted s) vs es)
-          ≡ option_or (verdict (find (λ q. has_path p (call_of q.token s))
+          ≡ option_or (verdict (find (λ q. has_path p (call_under q.token s))
           (reverse (replies_in (cond b (entry.Begin number stack kind ∷ filter (is_of s.operation) es) (filter (is_of s.operation) es)))))) (value_at p vs)
       passed true h = h
       passed false h = h
@@ -111,7 +111,7 @@ module _ (s : StackState) (p : List ℕ) where
     where
       passed : (b : Bool) → value_at p (fold (noted s) vs es) ≡ option_or (verdict (last_in es)) (value_at p vs)
           → value_at p (fold (noted s) vs es)
-          ≡ option_or (verdict (find (λ k. has_path p (call_of k.token s))
+          ≡ option_or (verdict (find (λ k. has_path p (call_under k.token s))
           (reverse (replies_in (cond b (entry.Kept number path physical w ∷ filter (is_of s.operation) es) (filter (is_of s.operation) es)))))) (value_at p vs)
       passed true h = h
       passed false h = h
@@ -119,7 +119,7 @@ module _ (s : StackState) (p : List ℕ) where
     where
       passed : (b : Bool) → value_at p (fold (noted s) vs es) ≡ option_or (verdict (last_in es)) (value_at p vs)
           → value_at p (fold (noted s) vs es)
-          ≡ option_or (verdict (find (λ k. has_path p (call_of k.token s))
+          ≡ option_or (verdict (find (λ k. has_path p (call_under k.token s))
           (reverse (replies_in (cond b (entry.Intent number token lane path r ∷ filter (is_of s.operation) es) (filter (is_of s.operation) es)))))) (value_at p vs)
       passed true h = h
       passed false h = h
@@ -127,7 +127,7 @@ module _ (s : StackState) (p : List ℕ) where
     where
       passed : (b : Bool) → value_at p (fold (noted s) vs es) ≡ option_or (verdict (last_in es)) (value_at p vs)
           → value_at p (fold (noted s) vs es)
-          ≡ option_or (verdict (find (λ k. has_path p (call_of k.token s))
+          ≡ option_or (verdict (find (λ k. has_path p (call_under k.token s))
           (reverse (replies_in (cond b (entry.Phase number q c ∷ filter (is_of s.operation) es) (filter (is_of s.operation) es)))))) (value_at p vs)
       passed true h = h
       passed false h = h
@@ -135,7 +135,7 @@ module _ (s : StackState) (p : List ℕ) where
     where
       passed : (b : Bool) → value_at p (fold (noted s) vs es) ≡ option_or (verdict (last_in es)) (value_at p vs)
           → value_at p (fold (noted s) vs es)
-          ≡ option_or (verdict (find (λ k. has_path p (call_of k.token s))
+          ≡ option_or (verdict (find (λ k. has_path p (call_under k.token s))
           (reverse (replies_in (cond b (entry.Done number state failed ∷ filter (is_of s.operation) es) (filter (is_of s.operation) es)))))) (value_at p vs)
       passed true h = h
       passed false h = h

@@ -7,8 +7,8 @@ use Rattle.cf_schema.specs.declared.described.Schema.{Schema}
 use Rattle.cf_entry.specs.declared.entry.Entry.{Entry}
 use Rattle.cf_entry.specs.declared.entry.Entry.TheVariants as entry
 use Rattle.cf_entry.proofs.Codec.{some_is}
-use Rattle.cf_stacks.specs.World.{StackState, World, stack_of_operation}
-use Rattle.cf_stacks.specs.Status.{Stage, stage_of}
+use Rattle.cf_effect.specs.World.{StackState, World, stack_of_operation}
+use Rattle.cf_effect.specs.Status.{Stage, stage_of}
 use Rattle.cf_plan.specs.declared.next.Home.{Home}
 use Rattle.cf_plan.specs.declared.next.Next.{Next}
 use Rattle.cf_plan.specs.declared.next.Next.TheVariants as next

@@ -15,11 +15,11 @@ use Rattle.cf_tree.proofs.Lookups.{put_here, put_else}
 use Rattle.cf_entry.specs.declared.entry.Begun.TheVariants as begin
 use Rattle.cf_entry.specs.declared.entry.Entry.{Entry}
 use Rattle.cf_entry.specs.declared.entry.Entry.TheVariants as entry
-use Rattle.cf_stacks.specs.World.{StackState, World, is_going, known_stack, stack_at, stack_of_operation}
-use Rattle.cf_stacks.specs.Status.{is_in_progress}
-use Rattle.cf_stacks.specs.Effect.{Effect, leaving}
-use Rattle.cf_stacks.specs.Listed.{exports_after, pins_after}
-use Rattle.cf_stacks.specs.Fold.{effect_at, numbered, world_after}
+use Rattle.cf_effect.specs.World.{StackState, World, is_going, known_stack, stack_at, stack_of_operation}
+use Rattle.cf_effect.specs.Status.{is_in_progress}
+use Rattle.cf_effect.specs.Effect.{Effect, leaving}
+use Rattle.cf_effect.specs.Listed.{exports_after, pins_after}
+use Rattle.cf_effect.specs.Fold.{effect_at, numbered, world_after}
 use Rattle.cf_stacks.specs.Apart.{AreApart}
 use Rattle.cf_stacks.proofs.Apart.{stay_apart}
 use Rattle.cf_stacks.proofs.Worlds.{found_stands}

@@ -5,7 +5,7 @@ use Rattle.std.specs.Str.{bytes_eq}
 use Rattle.cf_tree.specs.Lists.{is_among}
 use Rattle.cf_desired.specs.declared.wanted.Wanted.{Wanted}
 use Rattle.cf_desired.specs.declared.wanted.Plan.{Plan}
-use Rattle.cf_stacks.specs.declared.held.Held.{Held}
+use Rattle.cf_effect.specs.declared.held.Held.{Held}
 use Rattle.cf_plan.specs.Forward.{In}
 use Rattle.cf_plan.specs.Done.{Adds, IsFresh, Joined, none, one}
 use Rattle.cf_plan.proofs.Answered.{counted}

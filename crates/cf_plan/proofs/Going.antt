@@ -24,17 +24,17 @@ use Rattle.cf_entry.specs.declared.turn.Why.{Why}
 use Rattle.cf_entry.specs.declared.turn.Phase.{Phase}
 use Rattle.cf_entry.specs.declared.turn.Phase.TheVariants as phase
 use Rattle.cf_entry.specs.declared.turn.Cause.{Cause}
-use Rattle.cf_stacks.specs.declared.held.Held.{Held}
-use Rattle.cf_stacks.specs.declared.held.HeldStatus.TheVariants as held
-use Rattle.cf_stacks.specs.declared.held.Pending.{Pending}
-use Rattle.cf_stacks.specs.World.{StackState, World, stack_of_operation, is_going}
-use Rattle.cf_stacks.specs.Status.{Stage, Forward, Back, stage_of, turned, is_in_progress}
-use Rattle.cf_stacks.specs.Words.{has_token, pending_of, is_create_at, has_physical, resources_of, where_physical}
-use Rattle.cf_stacks.specs.Calls.{is_restore, new_call}
-use Rattle.cf_stacks.specs.Reply.{answered, changing, intending, keeping, keeping_known, keeping_unknown, replied, updating}
-use Rattle.cf_stacks.specs.End.{ended_effect}
-use Rattle.cf_stacks.specs.Effect.{Effect}
-use Rattle.cf_stacks.specs.Fold.{effect_at, fold_of, world_after}
+use Rattle.cf_effect.specs.declared.held.Held.{Held}
+use Rattle.cf_effect.specs.declared.held.HeldStatus.TheVariants as held
+use Rattle.cf_effect.specs.declared.held.Pending.{Pending}
+use Rattle.cf_effect.specs.World.{StackState, World, stack_of_operation, is_going}
+use Rattle.cf_effect.specs.Status.{Stage, Forward, Back, stage_of, turned, is_in_progress}
+use Rattle.cf_effect.specs.Words.{has_token, pending_of, is_create_at, has_physical, resources_of, where_physical}
+use Rattle.cf_effect.specs.Calls.{is_restore, new_call}
+use Rattle.cf_effect.specs.Reply.{answered, changing, intending, keeping, keeping_known, keeping_unknown, replied, updating}
+use Rattle.cf_effect.specs.End.{ended_effect}
+use Rattle.cf_effect.specs.Effect.{Effect}
+use Rattle.cf_effect.specs.Fold.{effect_at, fold_of, world_after}
 use Rattle.cf_plan.specs.Forward.{In, here, there}
 use Rattle.cf_plan.specs.Follow.{MayFollow, MayFollowOn, MayFollowIn, MayTurn, EndsAs}
 use Rattle.cf_plan.specs.Run.{Told, IsDone, IsOwn, Runs}

@@ -18,14 +18,14 @@ use Rattle.cf_entry.specs.declared.entry.Entry.TheVariants as entry
 use Rattle.cf_entry.specs.declared.status.Status.{Status}
 use Rattle.cf_entry.specs.declared.status.Status.TheVariants as status
 use Rattle.cf_desired.specs.Whole.{Right, Whole, whole_of}
-use Rattle.cf_stacks.specs.declared.held.Held.{Held}
-use Rattle.cf_stacks.specs.declared.held.Pending.{Pending}
-use Rattle.cf_stacks.specs.World.{StackState, World, stack_at, stack_of_operation, is_going}
-use Rattle.cf_stacks.specs.Words.{current_at, resource_at, is_current_at, is_on, resources_of}
-use Rattle.cf_stacks.specs.End.{marked, left_in_doubt, as_wanted, is_physical_of, is_right_at, settled_in, stopping, ended_effect, whole_now, whole_over, empty_whole, seen_now}
-use Rattle.cf_stacks.specs.Fold.{world_after}
-use Rattle.cf_stacks.specs.Begin.{seen_in}
-use Rattle.cf_stacks.specs.Listed.{reexported, is_export_before, not_export_of, export_by}
+use Rattle.cf_effect.specs.declared.held.Held.{Held}
+use Rattle.cf_effect.specs.declared.held.Pending.{Pending}
+use Rattle.cf_effect.specs.World.{StackState, World, stack_at, stack_of_operation, is_going}
+use Rattle.cf_effect.specs.Words.{current_at, resource_at, is_current_at, is_on, resources_of}
+use Rattle.cf_effect.specs.End.{marked, left_in_doubt, as_wanted, is_physical_of, is_right_at, settled_in, stopping, ended_effect, whole_now, whole_over, empty_whole, seen_now}
+use Rattle.cf_effect.specs.Fold.{world_after}
+use Rattle.cf_effect.specs.Begin.{seen_in}
+use Rattle.cf_effect.specs.Listed.{reexported, is_export_before, not_export_of, export_by}
 use Rattle.cf_plan.specs.Forward.{In, here, there}
 use Rattle.cf_plan.specs.Follow.{EndsAs, is_cleared}
 use Rattle.cf_plan.specs.Lanes.{Lane, lane_at}

@@ -22,16 +22,16 @@ use Rattle.cf_entry.specs.declared.entry.Entry.{Entry}
 use Rattle.cf_entry.specs.declared.entry.Entry.TheVariants as entry
 use Rattle.cf_entry.specs.declared.entry.Reply.{Reply}
 use Rattle.cf_entry.specs.declared.entry.Reply.TheVariants as reply
-use Rattle.cf_stacks.specs.declared.held.Held.{Held}
-use Rattle.cf_stacks.specs.declared.held.Leftover.{Leftover}
-use Rattle.cf_stacks.specs.declared.held.Pending.{Pending}
-use Rattle.cf_stacks.specs.World.{StackState, World}
-use Rattle.cf_stacks.specs.Status.{is_in_progress}
-use Rattle.cf_stacks.specs.Words.{current_at, is_update, is_create, has_physical, has_token, pending_of, without, without_token}
-use Rattle.cf_stacks.specs.Calls.{is_restore}
-use Rattle.cf_stacks.specs.Reply.{answered, closing, deleting, made_of, replied, replying, status_made, still_open, terms_at, with_status}
-use Rattle.cf_stacks.specs.Fold.{world_after}
-use Rattle.cf_stacks.specs.declared.held.HeldStatus.TheVariants as held
+use Rattle.cf_effect.specs.declared.held.Held.{Held}
+use Rattle.cf_effect.specs.declared.held.Leftover.{Leftover}
+use Rattle.cf_effect.specs.declared.held.Pending.{Pending}
+use Rattle.cf_effect.specs.World.{StackState, World}
+use Rattle.cf_effect.specs.Status.{is_in_progress}
+use Rattle.cf_effect.specs.Words.{current_at, is_update, is_create, has_physical, has_token, pending_of, without, without_token}
+use Rattle.cf_effect.specs.Calls.{is_restore}
+use Rattle.cf_effect.specs.Reply.{answered, closing, deleting, made_of, replied, replying, status_made, still_open, terms_at, with_status}
+use Rattle.cf_effect.specs.Fold.{world_after}
+use Rattle.cf_effect.specs.declared.held.HeldStatus.TheVariants as held
 use Rattle.cf_plan.specs.Forward.{In}
 use Rattle.cf_plan.specs.Created.{IsRightCreate, IsSaid}
 use Rattle.cf_plan.specs.Run.{Told, IsDone, IsAsked, answer_as, Tells, name_at, IsSettledAs}

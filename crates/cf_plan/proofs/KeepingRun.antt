@@ -12,11 +12,11 @@ use Rattle.cf_entry.specs.declared.entry.Entry.{Entry}
 use Rattle.cf_entry.specs.declared.entry.Entry.TheVariants as entry
 use Rattle.cf_entry.specs.declared.status.Status.{Status}
 use Rattle.cf_entry.specs.declared.status.Status.TheVariants as status
-use Rattle.cf_stacks.specs.declared.held.Held.{Held}
-use Rattle.cf_stacks.specs.declared.held.Pending.{Pending}
-use Rattle.cf_stacks.specs.World.{StackState, World, stack_at, stack_of_operation}
-use Rattle.cf_stacks.specs.Words.{resources_of}
-use Rattle.cf_stacks.specs.Fold.{world_after, fold_of}
+use Rattle.cf_effect.specs.declared.held.Held.{Held}
+use Rattle.cf_effect.specs.declared.held.Pending.{Pending}
+use Rattle.cf_effect.specs.World.{StackState, World, stack_at, stack_of_operation}
+use Rattle.cf_effect.specs.Words.{resources_of}
+use Rattle.cf_effect.specs.Fold.{world_after, fold_of}
 use Rattle.cf_plan.specs.Forward.{In, here, there}
 use Rattle.cf_plan.specs.Follow.{MayFollowOn, EndsAs}
 use Rattle.cf_plan.specs.Promise.{Promised}

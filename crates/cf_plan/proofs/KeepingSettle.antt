@@ -16,10 +16,10 @@ use Rattle.cf_handler.specs.declared.settled.Settled.{Settled}
 use Rattle.cf_handler.specs.Lane.{LaneState, Live, live_of, changed_by, has_id, is_used, settlement_of}
 use Rattle.cf_handler.specs.Move.{with_settled, IsOfLane, MaySettle}
 use Rattle.cf_handler.specs.Name.{is_lane_name}
-use Rattle.cf_stacks.specs.declared.held.Held.{Held}
-use Rattle.cf_stacks.specs.declared.held.Leftover.{Leftover}
-use Rattle.cf_stacks.specs.declared.held.Pending.{Pending}
-use Rattle.cf_stacks.specs.Words.{is_update, is_create}
+use Rattle.cf_effect.specs.declared.held.Held.{Held}
+use Rattle.cf_effect.specs.declared.held.Leftover.{Leftover}
+use Rattle.cf_effect.specs.declared.held.Pending.{Pending}
+use Rattle.cf_effect.specs.Words.{is_update, is_create}
 use Rattle.cf_plan.specs.Forward.{In}
 use Rattle.cf_plan.specs.Run.{Told, AreFresh, Tells, name_at, IsSettledAs, IsBorn, IsOurs, was_live, is_left, is_made, is_born}
 use Rattle.cf_plan.specs.Keeping.{IsKnown, has_gone, Agree, live_as, live_in, IsAlive, AreAlive}

@@ -4,10 +4,10 @@ use Rattle.std.specs.Prelude.{cond}
 use Rattle.cf_entry.specs.declared.entry.Entry.{Entry}
 use Rattle.cf_entry.specs.declared.entry.Entry.TheVariants as entry
 use Rattle.cf_entry.specs.declared.entry.Begun.TheVariants as begin
-use Rattle.cf_stacks.specs.World.{StackState, known_stack}
-use Rattle.cf_stacks.specs.Operation.{is_of, replies_in}
-use Rattle.cf_stacks.specs.Calls.{anew, is_open_call}
-use Rattle.cf_stacks.specs.Fold.{world_after}
+use Rattle.cf_effect.specs.World.{StackState, known_stack}
+use Rattle.cf_effect.specs.Operation.{is_of, replies_in}
+use Rattle.cf_effect.specs.Calls.{anew, is_open_call}
+use Rattle.cf_effect.specs.Fold.{world_after}
 use Rattle.cf_plan.specs.RunBegins.{CreationBegins}
 use Rattle.cf_plan.proofs.CreatedRight.{none_kept, begun_right}
 use Rattle.cf_plan.proofs.Frame.{IsOn, begun_on, begun_here}

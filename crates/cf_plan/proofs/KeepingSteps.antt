@@ -18,14 +18,14 @@ use Rattle.cf_entry.specs.declared.turn.Why.TheVariants as why
 use Rattle.cf_entry.specs.declared.turn.Phase.{Phase}
 use Rattle.cf_entry.specs.declared.turn.Phase.TheVariants as phase
 use Rattle.cf_entry.specs.declared.turn.Cause.{Cause}
-use Rattle.cf_stacks.specs.declared.held.Held.{Held}
-use Rattle.cf_stacks.specs.declared.held.Pending.{Pending}
-use Rattle.cf_stacks.specs.World.{StackState, World}
-use Rattle.cf_stacks.specs.Status.{Stage, Forward, Clean, Back, BackClean, Gone, stage_of, turned, is_in_progress}
-use Rattle.cf_stacks.specs.Words.{current_at, is_update, is_create_at, has_physical, has_token, without, resources_of}
-use Rattle.cf_stacks.specs.Calls.{new_call}
-use Rattle.cf_stacks.specs.Reply.{intending, keeping, keeping_known, keeping_unknown}
-use Rattle.cf_stacks.specs.Fold.{world_after}
+use Rattle.cf_effect.specs.declared.held.Held.{Held}
+use Rattle.cf_effect.specs.declared.held.Pending.{Pending}
+use Rattle.cf_effect.specs.World.{StackState, World}
+use Rattle.cf_effect.specs.Status.{Stage, Forward, Clean, Back, BackClean, Gone, stage_of, turned, is_in_progress}
+use Rattle.cf_effect.specs.Words.{current_at, is_update, is_create_at, has_physical, has_token, without, resources_of}
+use Rattle.cf_effect.specs.Calls.{new_call}
+use Rattle.cf_effect.specs.Reply.{intending, keeping, keeping_known, keeping_unknown}
+use Rattle.cf_effect.specs.Fold.{world_after}
 use Rattle.cf_plan.specs.Forward.{In}
 use Rattle.cf_plan.specs.Follow.{MayFollowOn, MayFollowIn, MayIntend, IntendsForward, IntendsDeletion, IntendsRestore, FitsLane, MayKeep, MayTurn}
 use Rattle.cf_plan.specs.Run.{Told}

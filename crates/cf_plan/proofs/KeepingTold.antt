@@ -14,11 +14,11 @@ use Rattle.cf_handler.specs.declared.settled.Settlement.TheVariants.{Success}
 use Rattle.cf_handler.specs.Lane.{LaneState, Live, live_of, has_id, is_used, settlement_of}
 use Rattle.cf_handler.specs.Move.{IsOfLane}
 use Rattle.cf_handler.specs.Name.{is_lane_name}
-use Rattle.cf_stacks.specs.declared.held.Held.{Held}
-use Rattle.cf_stacks.specs.declared.held.HeldStatus.{HeldStatus}
-use Rattle.cf_stacks.specs.declared.held.Leftover.{Leftover}
-use Rattle.cf_stacks.specs.declared.held.Pending.{Pending}
-use Rattle.cf_stacks.specs.Words.{is_update, has_token, without_token, has_physical, without, where_physical, is_on, id_named}
+use Rattle.cf_effect.specs.declared.held.Held.{Held}
+use Rattle.cf_effect.specs.declared.held.HeldStatus.{HeldStatus}
+use Rattle.cf_effect.specs.declared.held.Leftover.{Leftover}
+use Rattle.cf_effect.specs.declared.held.Pending.{Pending}
+use Rattle.cf_effect.specs.Words.{is_update, has_token, without_token, has_physical, without, where_physical, is_on, id_named}
 use Rattle.cf_plan.specs.Forward.{In, here, there}
 use Rattle.cf_plan.specs.Run.{Told, Tells, name_at, IsSettledAs, IsOurs, was_live, is_left, is_made, is_born}
 use Rattle.cf_plan.specs.Keeping.{IsKnown, has_gone, Agree, live_as, live_in, IsAlive, AreAlive}

@@ -4,9 +4,9 @@ use Rattle.std.specs.Option.{option_map_or}
 use Rattle.std.proofs.lemmas.Bool.{and_from, eq-eqb}
 use Rattle.cf_tree.specs.declared.source.Source.{Source}
 use Rattle.cf_entry.specs.declared.entry.Entry.{Entry}
-use Rattle.cf_stacks.specs.World.{StackState, World, is_going}
-use Rattle.cf_stacks.specs.Status.{is_in_progress}
-use Rattle.cf_stacks.specs.Fold.{effect_at, world_after}
+use Rattle.cf_effect.specs.World.{StackState, World, is_going}
+use Rattle.cf_effect.specs.Status.{is_in_progress}
+use Rattle.cf_effect.specs.Fold.{effect_at, world_after}
 use Rattle.cf_plan.specs.Run.{Told, IsOwn}
 use Rattle.cf_plan.specs.Keeping.{Agree, IsOnItsWay, IsKept}
 use Rattle.cf_plan.proofs.Frame.{IsOn, number_is, here_after, on_after}

@@ -7,12 +7,12 @@ use Rattle.std.specs.Str.{bytes_eq}
 use Rattle.std.proofs.lemmas.List.Folds.{list_any-append}
 use Rattle.std.proofs.lemmas.Slice.Eq.{bytes_eq-Decides}
 use Rattle.cf_tree.specs.Lists.{is_among}
-use Rattle.cf_stacks.specs.declared.held.Held.{Held}
-use Rattle.cf_stacks.specs.declared.held.Pending.{Pending}
-use Rattle.cf_stacks.specs.declared.terms.Terms.{Terms}
-use Rattle.cf_stacks.specs.World.{StackState}
-use Rattle.cf_stacks.specs.Words.{resource_at, is_at, is_create, is_create_at}
-use Rattle.cf_stacks.specs.End.{is_physical_of}
+use Rattle.cf_effect.specs.declared.held.Held.{Held}
+use Rattle.cf_effect.specs.declared.held.Pending.{Pending}
+use Rattle.cf_effect.specs.declared.terms.Terms.{Terms}
+use Rattle.cf_effect.specs.World.{StackState}
+use Rattle.cf_effect.specs.Words.{resource_at, is_at, is_create, is_create_at}
+use Rattle.cf_effect.specs.End.{is_physical_of}
 use Rattle.cf_plan.specs.Between.{is_at_one, needs_at, is_needed_by_made, is_needed_by_create}
 use Rattle.cf_plan.specs.Follow.{is_not_needed}
 use Rattle.cf_plan.specs.Forward.{In}

@@ -1,9 +1,9 @@
 -- Which calls of a stack are its last operation's, by what code compares.
 use Rattle.std.proofs.Common.{◌≡◌, ℕ, ◌==◌, ◌&&◌, Bool, List, filter, ap, sym, ◌∙◌}
 use Rattle.std.specs.List.{list_any}
-use Rattle.cf_stacks.specs.declared.call.Call.{Call}
-use Rattle.cf_stacks.specs.World.{StackState}
-use Rattle.cf_stacks.specs.Calls.{own_calls}
+use Rattle.cf_effect.specs.declared.call.Call.{Call}
+use Rattle.cf_effect.specs.World.{StackState}
+use Rattle.cf_effect.specs.Calls.{own_calls}
 use Rattle.cf_plan.proofs.Told.{any_filtered, filter_filtered}
 
 -- among all calls those with the operation's number

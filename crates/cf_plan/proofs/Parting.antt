@@ -2,7 +2,7 @@
 use Rattle.std.proofs.Common.{◌≡◌, ℕ, zero, suc, ◌-◌, ◌<◌, Bool, true, false, ◌||◌, List, [], ◌∷◌, ◌++◌, length, take, drop, get_or, refl, ap, arith}
 use Rattle.std.specs.List.{list_any}
 use Rattle.std.proofs.lemmas.List.{length-drop, take_all}
-use Rattle.cf_stacks.specs.Operation.{after_last, up_to_last, before_first}
+use Rattle.cf_effect.specs.Operation.{after_last, up_to_last, before_first}
 use Rattle.cf_plan.specs.Called.{last_place}
 
 module _ {A : Type 0} (test : A → Bool) where

@@ -9,10 +9,10 @@ use Rattle.cf_desired.specs.Whole.{wanted_at}
 use Rattle.cf_desired.specs.declared.wanted.Plan.{Plan}
 use Rattle.cf_desired.specs.declared.wanted.Wanted.{Wanted}
 use Rattle.cf_desired.proofs.Termed.{terms_by, wanted_terms}
-use Rattle.cf_stacks.specs.Begin.{seen_in}
-use Rattle.cf_stacks.specs.End.{seen_now}
-use Rattle.cf_stacks.specs.Reply.{terms_of, wanted_in}
-use Rattle.cf_stacks.specs.World.{StackState}
+use Rattle.cf_effect.specs.Begin.{seen_in}
+use Rattle.cf_effect.specs.End.{seen_now}
+use Rattle.cf_effect.specs.Reply.{terms_of, wanted_in}
+use Rattle.cf_effect.specs.World.{StackState}
 use Rattle.cf_plan.specs.Done.{HasTerms, needs_by}
 use Rattle.cf_plan.specs.Forward.{plan_before, plan_in, plan_now}
 use Rattle.cf_plan.proofs.OneShape.{plan_paths}

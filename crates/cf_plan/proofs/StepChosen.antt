@@ -21,13 +21,13 @@ use Rattle.cf_entry.specs.declared.turn.Why.TheVariants as why
 use Rattle.cf_entry.specs.declared.turn.Phase.{Phase}
 use Rattle.cf_entry.specs.declared.turn.Phase.TheVariants as phase
 use Rattle.cf_entry.specs.declared.turn.Cause.{Cause}
-use Rattle.cf_stacks.specs.declared.held.Held.{Held}
-use Rattle.cf_stacks.specs.declared.held.Pending.{Pending}
-use Rattle.cf_stacks.specs.declared.terms.Terms.{Terms}
-use Rattle.cf_stacks.specs.World.{StackState, World, stack_of_operation}
-use Rattle.cf_stacks.specs.Reply.{terms_at}
-use Rattle.cf_stacks.specs.Status.{Forward, Back, Gone, stage_of}
-use Rattle.cf_stacks.specs.Words.{is_at, is_create, is_create_at}
+use Rattle.cf_effect.specs.declared.held.Held.{Held}
+use Rattle.cf_effect.specs.declared.held.Pending.{Pending}
+use Rattle.cf_effect.specs.declared.terms.Terms.{Terms}
+use Rattle.cf_effect.specs.World.{StackState, World, stack_of_operation}
+use Rattle.cf_effect.specs.Reply.{terms_at}
+use Rattle.cf_effect.specs.Status.{Forward, Back, Gone, stage_of}
+use Rattle.cf_effect.specs.Words.{is_at, is_create, is_create_at}
 use Rattle.cf_plan.specs.declared.forward.Wants.{Wants}
 use Rattle.cf_plan.specs.declared.stepping.Start.{Start}
 use Rattle.cf_plan.specs.declared.next.Next.{Next}

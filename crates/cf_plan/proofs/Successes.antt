@@ -5,9 +5,9 @@ use Rattle.cf_schema.specs.declared.described.Schema.{Schema}
 use Rattle.cf_entry.specs.declared.entry.Entry.{Entry}
 use Rattle.cf_entry.specs.declared.entry.Entry.TheVariants as entry
 use Rattle.cf_entry.specs.declared.entry.Reply.TheVariants as reply
-use Rattle.cf_stacks.specs.Heard.{is_success_outcome}
-use Rattle.cf_stacks.specs.Operation.{is_doubt, is_phase, is_turn_or_opening}
-use Rattle.cf_stacks.specs.World.{StackState}
+use Rattle.cf_effect.specs.Heard.{is_success_outcome}
+use Rattle.cf_effect.specs.Operation.{is_doubt, is_phase, is_turn_or_opening}
+use Rattle.cf_effect.specs.World.{StackState}
 use Rattle.cf_plan.specs.Called.{reply_passes}
 use Rattle.cf_plan.specs.Forward.{doubting, refusing}
 

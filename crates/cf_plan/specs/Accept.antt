@@ -12,9 +12,9 @@ use Rattle.cf_export.specs.Export.{pins_name}
 use Rattle.cf_schema.specs.declared.described.Schema.{Schema}
 use Rattle.cf_entry.specs.declared.status.Status.{Status}
 use Rattle.cf_entry.specs.declared.status.Status.TheVariants as status
-use Rattle.cf_stacks.specs.declared.held.Held.{Held}
-use Rattle.cf_stacks.specs.World.{StackState, World}
-use Rattle.cf_stacks.specs.Words.{is_pinned}
+use Rattle.cf_effect.specs.declared.held.Held.{Held}
+use Rattle.cf_effect.specs.World.{StackState, World}
+use Rattle.cf_effect.specs.Words.{is_pinned}
 use Rattle.cf_tree.specs.Named.{all_differ}
 use Rattle.cf_tree.specs.Lists.{is_among}
 use Rattle.cf_change.specs.Changes.{HeldAt, Changes, changes_of, found_of, is_empty}

@@ -11,19 +11,19 @@ use Rattle.cf_handler.specs.Fence.{Flying, live_at}
 use Rattle.cf_handler.specs.Move.{IsOfLane}
 use Rattle.cf_entry.specs.declared.entry.Entry.{Entry}
 use Rattle.cf_entry.specs.declared.entry.Entry.TheVariants as entry
-use Rattle.cf_stacks.specs.declared.held.Held.{Held}
-use Rattle.cf_stacks.specs.declared.held.Pending.{Pending}
-use Rattle.cf_stacks.specs.World.{StackState, World, stack_at, empty_world}
-use Rattle.cf_stacks.specs.Status.{is_in_progress, is_complete}
-use Rattle.cf_stacks.specs.Words.{id_named}
-use Rattle.cf_stacks.specs.Operation.{Response, replies_in, is_doubt}
-use Rattle.cf_stacks.specs.Fold.{fold_of}
+use Rattle.cf_effect.specs.declared.held.Held.{Held}
+use Rattle.cf_effect.specs.declared.held.Pending.{Pending}
+use Rattle.cf_effect.specs.World.{StackState, World, stack_at, empty_world}
+use Rattle.cf_effect.specs.Status.{is_in_progress, is_complete}
+use Rattle.cf_effect.specs.Words.{id_named}
+use Rattle.cf_effect.specs.Operation.{Response, replies_in, is_doubt}
+use Rattle.cf_effect.specs.Fold.{fold_of}
 use Rattle.cf_tree.specs.Named.{all_differ}
 use Rattle.cf_plan.specs.Forward.{In}
 use Rattle.cf_plan.specs.Follow.{IsLegal, is_opened_since}
 use Rattle.cf_schema.specs.declared.described.Schema.{Schema}
 use Rattle.cf_plan.specs.Lanes.{Lane, AreLanes, AreSchemas, IsHome, lane_at, all_resources, ids_of, is_leftover, is_abandoned, open_at, told_of, gone_by, Made, Set, change_of, IsAnswered}
-use Rattle.cf_stacks.specs.Words.{has_token}
+use Rattle.cf_effect.specs.Words.{has_token}
 
 -- the call of a token, as the journal's Intent wrote it down
 abbrev pub written_in : Entry → Option Pending

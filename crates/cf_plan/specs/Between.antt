@@ -1,11 +1,11 @@
 -- Which resource of a stack needs which (User Guide, DependsOn and references: what is needed is made before and deleted after what needs it).
 use Rattle.std.specs.Prelude.{ℕ, Bool, ◌&&◌, not, List, filter}
 use Rattle.std.specs.List.{list_any}
-use Rattle.cf_stacks.specs.declared.held.Held.{Held}
-use Rattle.cf_stacks.specs.World.{StackState}
-use Rattle.cf_stacks.specs.Words.{current_at, resource_at, is_create}
-use Rattle.cf_stacks.specs.End.{is_physical_of}
-use Rattle.cf_stacks.specs.Reply.{terms_at}
+use Rattle.cf_effect.specs.declared.held.Held.{Held}
+use Rattle.cf_effect.specs.World.{StackState}
+use Rattle.cf_effect.specs.Words.{current_at, resource_at, is_create}
+use Rattle.cf_effect.specs.End.{is_physical_of}
+use Rattle.cf_effect.specs.Reply.{terms_at}
 
 -- the resource is the held one at one of these paths
 abbrev pub is_held_at_one : List (List ℕ) → StackState → Held → Bool

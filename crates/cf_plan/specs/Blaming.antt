@@ -4,11 +4,11 @@ use Rattle.cf_tree.specs.Keys.{put}
 use Rattle.cf_entry.specs.declared.entry.Entry.{Entry}
 use Rattle.cf_entry.specs.declared.entry.Entry.TheVariants as entry
 use Rattle.cf_entry.specs.declared.entry.Reply.{Reply}
-use Rattle.cf_stacks.specs.declared.held.Held.{Held}
-use Rattle.cf_stacks.specs.World.{StackState}
-use Rattle.cf_stacks.specs.Words.{resources_of}
-use Rattle.cf_stacks.specs.declared.call.Call.{Call}
-use Rattle.cf_stacks.specs.Calls.{call_of, refusals_of}
+use Rattle.cf_effect.specs.declared.held.Held.{Held}
+use Rattle.cf_effect.specs.World.{StackState}
+use Rattle.cf_effect.specs.Words.{resources_of}
+use Rattle.cf_effect.specs.declared.call.Call.{Call}
+use Rattle.cf_effect.specs.Calls.{call_under, refusals_of}
 use Rattle.cf_plan.specs.Follow.{is_bad_outcome}
 
 -- of each path, whether its last outcome is a doubt or a refusal
@@ -20,7 +20,7 @@ noted_call None answer vs = vs
 noted_call (Some c) answer vs = put c.path (is_bad_outcome (Some c) answer) vs
 
 abbrev pub noted : StackState → Verdicts → Entry → Verdicts
-noted s vs (entry.Outcome number token answer before after) = if s.operation == number then noted_call (call_of token s) answer vs else vs
+noted s vs (entry.Outcome number token answer before after) = if s.operation == number then noted_call (call_under token s) answer vs else vs
 noted s vs _ = vs
 
 abbrev pub verdicts_of : StackState → Verdicts

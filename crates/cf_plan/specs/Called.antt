@@ -3,7 +3,7 @@ use Rattle.std.specs.Prelude.{ℕ, suc, Bool, false, List, [], ◌∷◌, if◌t
 use Rattle.std.specs.List.{list_any}
 use Rattle.std.specs.Option.{option_map_or}
 use Rattle.cf_entry.specs.declared.entry.Entry.{Entry}
-use Rattle.cf_stacks.specs.Operation.{Response, reply_in}
+use Rattle.cf_effect.specs.Operation.{Response, reply_in}
 
 -- the entry writes down an answer that passes
 abbrev pub reply_passes : (Response → Bool) → Entry → Bool

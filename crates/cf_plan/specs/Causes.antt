@@ -9,7 +9,7 @@ use Rattle.cf_desired.specs.declared.flaw.Flaw.{Flaw}
 use Rattle.cf_desired.specs.declared.wanted.Plan.{Plan}
 use Rattle.cf_desired.specs.FlawText.{flaw_text}
 use Rattle.cf_schema.specs.declared.described.Schema.{Schema}
-use Rattle.cf_stacks.specs.World.{StackState, World}
+use Rattle.cf_effect.specs.World.{StackState, World}
 use Rattle.cf_plan.specs.Failed.{are_all_done, flaws_found, least}
 use Rattle.cf_plan.specs.Forward.{HasFailed, IsCause, is_lost, path_of_token}
 use Rattle.cf_plan.specs.declared.cause.Failure.{Failure}

@@ -3,8 +3,8 @@
 use Rattle.std.specs.Prelude.{ℕ, List, [], ◌∷◌, IsTrue}
 use Rattle.cf_schema.specs.declared.described.Schema.{Schema}
 use Rattle.cf_entry.specs.declared.entry.Entry.{Entry}
-use Rattle.cf_stacks.specs.World.{World, empty_world, known_stack}
-use Rattle.cf_stacks.specs.Fold.{world_after, fold_of}
+use Rattle.cf_effect.specs.World.{World, empty_world, known_stack}
+use Rattle.cf_effect.specs.Fold.{world_after, fold_of}
 use Rattle.cf_stacks.specs.Apart.{AreApart}
 use Rattle.cf_plan.specs.Accept.{creates_from}
 use Rattle.cf_plan.specs.Follow.{MayFollow}

@@ -9,13 +9,13 @@ use Rattle.cf_tree.specs.declared.source.Source.{Source}
 use Rattle.cf_entry.specs.declared.entry.Entry.TheVariants as entry
 use Rattle.cf_entry.specs.declared.entry.Begun.TheVariants as begin
 use Rattle.cf_entry.specs.declared.entry.Reply.{Reply}
-use Rattle.cf_stacks.specs.declared.held.Held.{Held}
-use Rattle.cf_stacks.specs.declared.held.Pending.{Pending}
-use Rattle.cf_stacks.specs.World.{StackState, World}
-use Rattle.cf_stacks.specs.Status.{Forward}
-use Rattle.cf_stacks.specs.Words.{current_at, is_update}
-use Rattle.cf_stacks.specs.Begin.{source_for, seen_in}
-use Rattle.cf_stacks.specs.End.{seen_now}
+use Rattle.cf_effect.specs.declared.held.Held.{Held}
+use Rattle.cf_effect.specs.declared.held.Pending.{Pending}
+use Rattle.cf_effect.specs.World.{StackState, World}
+use Rattle.cf_effect.specs.Status.{Forward}
+use Rattle.cf_effect.specs.Words.{current_at, is_update}
+use Rattle.cf_effect.specs.Begin.{source_for, seen_in}
+use Rattle.cf_effect.specs.End.{seen_now}
 use Rattle.cf_schema.specs.declared.described.Schema.{Schema}
 use Rattle.cf_entry.specs.declared.status.Status.TheVariants as status
 use Rattle.cf_desired.specs.Whole.{Right, Whole, whole_of}
@@ -26,9 +26,9 @@ use Rattle.cf_desired.specs.Stays.{other_flaws}
 use Rattle.cf_plan.specs.Forward.{In, Known, evaluated_at, plan_now, IsDone, IsReady, AllDone, HasFailed}
 use Rattle.cf_plan.specs.Ends.{right_at}
 use Rattle.cf_plan.specs.Follow.{MayIntend, EndsAs}
-use Rattle.cf_stacks.specs.Calls.{own_calls}
-use Rattle.cf_stacks.specs.Fold.{effect_at}
-use Rattle.cf_stacks.specs.End.{ended_effect}
+use Rattle.cf_effect.specs.Calls.{own_calls}
+use Rattle.cf_effect.specs.Fold.{effect_at}
+use Rattle.cf_effect.specs.End.{ended_effect}
 
 -- The order of work of a source, its kinds, policies and needs are the same whatever is seen: so they are where its plan has
 -- no flaw before anything is made.

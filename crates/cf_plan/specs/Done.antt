@@ -5,12 +5,12 @@ use Rattle.std.specs.Option.{option_map_or}
 use Rattle.cf_tree.specs.Lists.{is_among}
 use Rattle.cf_desired.specs.declared.wanted.Plan.{Plan}
 use Rattle.cf_desired.specs.Whole.{wanted_at}
-use Rattle.cf_stacks.specs.declared.held.Held.{Held}
-use Rattle.cf_stacks.specs.World.{StackState}
-use Rattle.cf_stacks.specs.Reply.{terms_of}
-use Rattle.cf_stacks.specs.Words.{current_at, is_update}
-use Rattle.cf_stacks.specs.declared.call.Call.{Call}
-use Rattle.cf_stacks.specs.Calls.{own_calls, succeeded}
+use Rattle.cf_effect.specs.declared.held.Held.{Held}
+use Rattle.cf_effect.specs.World.{StackState}
+use Rattle.cf_effect.specs.Reply.{terms_of}
+use Rattle.cf_effect.specs.Words.{current_at, is_update}
+use Rattle.cf_effect.specs.declared.call.Call.{Call}
+use Rattle.cf_effect.specs.Calls.{own_calls, succeeded}
 use Rattle.cf_plan.specs.declared.found.Found as found
 use Rattle.cf_plan.specs.declared.found.Found.TheVariants.{Bad as bad, Later as not_yet, Known as known}
 use Rattle.cf_plan.specs.Between.{needs_at}

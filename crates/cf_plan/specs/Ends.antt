@@ -7,22 +7,22 @@ use Rattle.cf_handler.specs.Fence.{live_at}
 use Rattle.cf_tree.specs.Counts.{HasRisen}
 use Rattle.cf_export.specs.declared.Export.{Export}
 use Rattle.cf_tree.specs.declared.source.Source.{Source}
-use Rattle.cf_stacks.specs.declared.held.Held.{Held}
-use Rattle.cf_stacks.specs.World.{StackState, World}
-use Rattle.cf_stacks.specs.Words.{current_at}
-use Rattle.cf_stacks.specs.declared.call.Call.{Call}
-use Rattle.cf_stacks.specs.Operation.{Response, replies_in}
-use Rattle.cf_stacks.specs.Calls.{is_success}
-use Rattle.cf_stacks.specs.Listed.{export_by}
-use Rattle.cf_stacks.specs.End.{is_right_at}
+use Rattle.cf_effect.specs.declared.held.Held.{Held}
+use Rattle.cf_effect.specs.World.{StackState, World}
+use Rattle.cf_effect.specs.Words.{current_at}
+use Rattle.cf_effect.specs.declared.call.Call.{Call}
+use Rattle.cf_effect.specs.Operation.{Response, replies_in}
+use Rattle.cf_effect.specs.Calls.{is_success}
+use Rattle.cf_effect.specs.Listed.{export_by}
+use Rattle.cf_effect.specs.End.{is_right_at}
 use Rattle.cf_desired.specs.Seeing.{Seen}
 use Rattle.cf_desired.specs.Whole.{Right, Whole, whole_of}
 use Rattle.cf_plan.specs.Accept.{exports_in}
 use Rattle.cf_plan.specs.Forward.{In}
 use Rattle.cf_plan.specs.Lanes.{Lane, IsHome}
 use Rattle.cf_plan.specs.Follow.{settled_by}
-use Rattle.cf_stacks.specs.Operation.{own_of}
-use Rattle.cf_stacks.specs.Calls.{call_of}
+use Rattle.cf_effect.specs.Operation.{own_of}
+use Rattle.cf_effect.specs.Calls.{call_under}
 
 -- what is live of a resource: its lane is the one that its id names
 pub record IsLive (lanes : List Lane) (r : Held) (v : Live) : Type 0 where
@@ -82,7 +82,7 @@ pub record IsCleared (s : StackState) : Type 0 where
 pub record IsBlamedFor (s : StackState) (path : List ℕ) : Type 0 where
   pub reply : Response
   pub call : Call
-  pub of_call : call_of reply.token s ≡ Some call
+  pub of_call : call_under reply.token s ≡ Some call
   pub at_path : call.path ≡ path
   pub stands : In reply (replies_in (own_of s))
   pub failed : is_success (settled_by reply.answer) ≡ false

@@ -24,16 +24,16 @@ use Rattle.cf_entry.specs.declared.turn.Phase.TheVariants as phase
 use Rattle.cf_entry.specs.declared.turn.Cause.{Cause}
 use Rattle.cf_tree.specs.declared.source.Source.{Source}
 use Rattle.cf_tree.specs.declared.row.Row.{Row}
-use Rattle.cf_stacks.specs.declared.held.Held.{Held}
-use Rattle.cf_stacks.specs.declared.held.Pending.{Pending}
-use Rattle.cf_stacks.specs.World.{StackState, World, stack_at, stack_of_operation, known_stack}
-use Rattle.cf_stacks.specs.Status.{Stage, Forward, Clean, Back, BackClean, Gone, stage_of}
-use Rattle.cf_stacks.specs.Words.{current_at, resources_of, is_update, is_create_at, pending_of, is_pinned, deletes, updates}
-use Rattle.cf_stacks.specs.Begin.{source_for}
-use Rattle.cf_stacks.specs.Fold.{world_after}
-use Rattle.cf_stacks.specs.declared.call.Call.{Call}
-use Rattle.cf_stacks.specs.Operation.{Response, after_last, replies_in, own_of, was_skipped, named_paths}
-use Rattle.cf_stacks.specs.Calls.{doubts_of, deletions_of, refusals_of, was_updated, was_restored, was_refused, is_refusal, call_of}
+use Rattle.cf_effect.specs.declared.held.Held.{Held}
+use Rattle.cf_effect.specs.declared.held.Pending.{Pending}
+use Rattle.cf_effect.specs.World.{StackState, World, stack_at, stack_of_operation, known_stack}
+use Rattle.cf_effect.specs.Status.{Stage, Forward, Clean, Back, BackClean, Gone, stage_of}
+use Rattle.cf_effect.specs.Words.{current_at, resources_of, is_update, is_create_at, pending_of, is_pinned, deletes, updates}
+use Rattle.cf_effect.specs.Begin.{source_for}
+use Rattle.cf_effect.specs.Fold.{world_after}
+use Rattle.cf_effect.specs.declared.call.Call.{Call}
+use Rattle.cf_effect.specs.Operation.{Response, after_last, replies_in, own_of, was_skipped, named_paths}
+use Rattle.cf_effect.specs.Calls.{doubts_of, deletions_of, refusals_of, was_updated, was_restored, was_refused, is_refusal, call_under}
 use Rattle.cf_tree.specs.declared.template.Deletion.{Deletion}
 use Rattle.cf_tree.specs.declared.template.Deletion.TheVariants as deletion
 use Rattle.cf_tree.specs.declared.template.Replace.{Replace}
@@ -45,11 +45,11 @@ use Rattle.cf_schema.specs.declared.described.Schema.{Schema}
 use Rattle.cf_schema.specs.declared.changed.Difference.TheVariants.{Same, MayReplace, Replace as ToReplace}
 use Rattle.cf_change.specs.Changes.{is_empty}
 use Rattle.cf_plan.specs.Accept.{IsAccepted, IsReviewed, creates_from}
-use Rattle.cf_stacks.specs.Calls.{own_calls}
-use Rattle.cf_stacks.specs.Operation.{is_doubt}
-use Rattle.cf_stacks.specs.Status.{goes_back}
-use Rattle.cf_stacks.specs.declared.call.Settled.{Settled}
-use Rattle.cf_stacks.specs.declared.call.Settled.TheVariants as settled
+use Rattle.cf_effect.specs.Calls.{own_calls}
+use Rattle.cf_effect.specs.Operation.{is_doubt}
+use Rattle.cf_effect.specs.Status.{goes_back}
+use Rattle.cf_effect.specs.declared.call.Settled.{Settled}
+use Rattle.cf_effect.specs.declared.call.Settled.TheVariants as settled
 
 -- Policies (template reference, DeletionPolicy and UpdateReplacePolicy): a rollback deletes what the operation made
 -- unless it is Retain; every other deletion keeps RetainExceptOnCreate too.
@@ -297,11 +297,11 @@ has_path path (Some c) = bytes_eq path c.path
 
 -- the operation's last outcome at the path
 abbrev pub last_at : List ℕ → StackState → Option Response
-last_at path s = find (λ r. has_path path (call_of r.token s)) (reverse (replies_in (own_of s)))
+last_at path s = find (λ r. has_path path (call_under r.token s)) (reverse (replies_in (own_of s)))
 
 abbrev pub is_bad_last : StackState → Option Response → Bool
 is_bad_last s None = false
-is_bad_last s (Some r) = is_bad_outcome (call_of r.token s) r.answer
+is_bad_last s (Some r) = is_bad_outcome (call_under r.token s) r.answer
 
 abbrev pub is_failed_path : StackState → List ℕ → Bool
 is_failed_path s path = is_bad_last s (last_at path s) || list_any (λ r. bytes_eq path r.path && nat_lt 0 (refusals_of r.physical s)) (resources_of s)

@@ -19,14 +19,14 @@ use Rattle.cf_entry.specs.declared.turn.Cause.{Cause}
 use Rattle.cf_entry.specs.declared.turn.Cause.TheVariants as cause
 use Rattle.cf_tree.specs.declared.source.Source.{Source}
 use Rattle.cf_tree.specs.Lists.{first_in}
-use Rattle.cf_stacks.specs.declared.held.Held.{Held}
-use Rattle.cf_stacks.specs.World.{StackState, World}
-use Rattle.cf_stacks.specs.Words.{current_at, has_physical, is_update, is_pinned}
-use Rattle.cf_stacks.specs.Begin.{seen_in}
-use Rattle.cf_stacks.specs.End.{seen_now}
-use Rattle.cf_stacks.specs.declared.call.Call.{Call}
-use Rattle.cf_stacks.specs.Operation.{now_of, forward_of, doubts_in, up_to_last, is_turn_or_opening}
-use Rattle.cf_stacks.specs.Calls.{call_of, succeeded}
+use Rattle.cf_effect.specs.declared.held.Held.{Held}
+use Rattle.cf_effect.specs.World.{StackState, World}
+use Rattle.cf_effect.specs.Words.{current_at, has_physical, is_update, is_pinned}
+use Rattle.cf_effect.specs.Begin.{seen_in}
+use Rattle.cf_effect.specs.End.{seen_now}
+use Rattle.cf_effect.specs.declared.call.Call.{Call}
+use Rattle.cf_effect.specs.Operation.{now_of, forward_of, doubts_in, up_to_last, is_turn_or_opening}
+use Rattle.cf_effect.specs.Calls.{call_under, succeeded}
 use Rattle.cf_schema.specs.declared.described.Schema.{Schema}
 use Rattle.cf_schema.specs.declared.changed.Difference.{Difference}
 use Rattle.cf_schema.specs.declared.changed.Difference.TheVariants.{Update, MayReplace}
@@ -43,7 +43,7 @@ use Rattle.cf_desired.specs.Shape.{shape_of}
 use Rattle.cf_desired.specs.Whole.{wanted_at, known_props_from}
 use Rattle.cf_desired.specs.FlawText.{flaw_text}
 use Rattle.cf_plan.specs.Between.{needs_at}
-use Rattle.cf_stacks.specs.Calls.{own_calls}
+use Rattle.cf_effect.specs.Calls.{own_calls}
 
 -- one of the list
 pub data In {A : Type 0} (a : A) : List A → Type 0 where
@@ -131,7 +131,7 @@ is_refused_call schemas s (Some call) c = not (is_excused schemas s call.request
 
 abbrev pub refusing : List Schema → StackState → Entry → Option (ℕ × Reason)
 refusing schemas s (entry.Outcome number token (reply.Failed c) before after) =
-    if is_refused_call schemas s (call_of token s) c then Some (token, reason.Code c) else None
+    if is_refused_call schemas s (call_under token s) c then Some (token, reason.Code c) else None
 refusing schemas s _ = None
 
 abbrev pub doubting : List Entry → Entry → Option (ℕ × Reason)
@@ -192,7 +192,7 @@ HasFailed schemas name x s =
 
 -- Its cause: the first outcome that fails it; else the fault of the first path in byte order, outputs after all paths; else the first export name.
 abbrev pub path_of_token : ℕ → StackState → Option (List ℕ)
-path_of_token token s = option_map (λ c. c.path) (call_of token s)
+path_of_token token s = option_map (λ c. c.path) (call_under token s)
 
 abbrev pub IsCause : List Schema → List ℕ → World → StackState → Cause → Type 0
 IsCause schemas name x s (cause.Handler path r) = (token : ℕ) × (first_failing schemas s ≡ Some (token, r)) × (path_of_token token s ≡ Some path)

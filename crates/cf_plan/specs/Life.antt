@@ -13,13 +13,13 @@ use Rattle.cf_handler.specs.Fence.{FencedLane, CallMove, IsStale, Left, left_by,
 use Rattle.cf_entry.specs.declared.entry.Entry.{Entry}
 use Rattle.cf_entry.specs.declared.entry.Entry.TheVariants as entry
 use Rattle.cf_entry.specs.declared.entry.Reply.TheVariants as reply
-use Rattle.cf_stacks.specs.declared.held.Pending.{Pending}
-use Rattle.cf_stacks.specs.World.{StackState, World, stack_at, empty_world}
-use Rattle.cf_stacks.specs.Status.{Stage, stage_of, is_in_progress}
-use Rattle.cf_stacks.specs.Words.{has_token}
-use Rattle.cf_stacks.specs.Fold.{fold_of}
-use Rattle.cf_stacks.specs.declared.call.Call.{Call}
-use Rattle.cf_stacks.specs.Calls.{call_of}
+use Rattle.cf_effect.specs.declared.held.Pending.{Pending}
+use Rattle.cf_effect.specs.World.{StackState, World, stack_at, empty_world}
+use Rattle.cf_effect.specs.Status.{Stage, stage_of, is_in_progress}
+use Rattle.cf_effect.specs.Words.{has_token}
+use Rattle.cf_effect.specs.Fold.{fold_of}
+use Rattle.cf_effect.specs.declared.call.Call.{Call}
+use Rattle.cf_effect.specs.Calls.{call_under}
 use Rattle.cf_tree.specs.Named.{all_differ}
 use Rattle.cf_plan.specs.Forward.{In}
 use Rattle.cf_plan.specs.Follow.{MayFollow, MayRepeat, is_lane_leased}
@@ -255,7 +255,7 @@ pub record IsGoing (x : World) (lease : Lease) : Type 0 where
   pub stands : stack_at name x ≡ Some stack
   pub in_progress : is_in_progress stack.status ≡ true
   pub number : stack.operation ≡ lease.number
-  pub written : call_of lease.token stack ≡ Some call
+  pub written : call_under lease.token stack ≡ Some call
   pub lane : call.lane ≡ lease.lane
 
 pub record AreLeased (life : Life) : Type 0 where

@@ -2,7 +2,7 @@
 use Rattle.std.specs.Prelude.{◌↔◌, ℕ, List, IsTrue}
 use Rattle.cf_entry.specs.declared.turn.Cause.{Cause}
 use Rattle.cf_schema.specs.declared.described.Schema.{Schema}
-use Rattle.cf_stacks.specs.World.{StackState, World}
+use Rattle.cf_effect.specs.World.{StackState, World}
 use Rattle.cf_plan.specs.Forward.{AllDone, HasFailed, IsCause}
 use Rattle.cf_plan.specs.Stepping.{AreOpen}
 use Rattle.cf_plan.specs.declared.progress.Progress.{Progress}

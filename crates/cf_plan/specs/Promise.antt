@@ -2,7 +2,7 @@
 use Rattle.std.specs.Prelude.{◌≡◌, ℕ, List, [], Some}
 use Rattle.cf_entry.specs.declared.status.Status.{Status}
 use Rattle.cf_entry.specs.declared.status.Status.TheVariants as status
-use Rattle.cf_stacks.specs.World.{StackState, World, stack_at}
+use Rattle.cf_effect.specs.World.{StackState, World, stack_at}
 use Rattle.cf_plan.specs.Follow.{failed_of}
 use Rattle.cf_plan.specs.Lanes.{Lane}
 use Rattle.cf_plan.specs.Ends.{IsComplete, IsRestored, IsCleared, IsBlamed}

@@ -21,14 +21,14 @@ use Rattle.cf_entry.specs.declared.entry.Entry.TheVariants as entry
 use Rattle.cf_entry.specs.declared.entry.Reply.{Reply}
 use Rattle.cf_entry.specs.declared.entry.Reply.TheVariants as reply
 use Rattle.cf_entry.specs.declared.status.Status.TheVariants as status
-use Rattle.cf_stacks.specs.declared.held.Held.{Held}
-use Rattle.cf_stacks.specs.declared.held.Leftover.{Leftover}
-use Rattle.cf_stacks.specs.declared.held.Pending.{Pending}
-use Rattle.cf_stacks.specs.World.{StackState, World, stack_at, stack_of_operation}
-use Rattle.cf_stacks.specs.Words.{pending_of, resources_of}
-use Rattle.cf_stacks.specs.Operation.{own_of, replies_in}
+use Rattle.cf_effect.specs.declared.held.Held.{Held}
+use Rattle.cf_effect.specs.declared.held.Leftover.{Leftover}
+use Rattle.cf_effect.specs.declared.held.Pending.{Pending}
+use Rattle.cf_effect.specs.World.{StackState, World, stack_at, stack_of_operation}
+use Rattle.cf_effect.specs.Words.{pending_of, resources_of}
+use Rattle.cf_effect.specs.Operation.{own_of, replies_in}
 use Rattle.cf_stacks.specs.Apart.{AreApart}
-use Rattle.cf_stacks.specs.Fold.{world_after, fold_of}
+use Rattle.cf_effect.specs.Fold.{world_after, fold_of}
 use Rattle.cf_plan.specs.Follow.{MayFollow}
 use Rattle.cf_plan.specs.Forward.{In}
 use Rattle.cf_plan.specs.Lanes.{Lane}

@@ -7,9 +7,9 @@ use Rattle.cf_tree.specs.declared.source.Source.{Source}
 use Rattle.cf_handler.specs.Name.{is_lane_name}
 use Rattle.cf_entry.specs.declared.entry.Entry.TheVariants as entry
 use Rattle.cf_entry.specs.declared.entry.Begun.TheVariants as begin
-use Rattle.cf_stacks.specs.World.{StackState, World, known_stack}
-use Rattle.cf_stacks.specs.Begin.{source_for}
-use Rattle.cf_stacks.specs.Fold.{world_after}
+use Rattle.cf_effect.specs.World.{StackState, World, known_stack}
+use Rattle.cf_effect.specs.Begin.{source_for}
+use Rattle.cf_effect.specs.Fold.{world_after}
 use Rattle.cf_stacks.specs.Apart.{AreApart}
 use Rattle.cf_plan.specs.Created.{HasOneShape}
 use Rattle.cf_plan.specs.Run.{Told, AreFresh, HasBegun}

@@ -7,13 +7,13 @@ use Rattle.cf_tree.specs.declared.request.Request.TheVariants as request
 use Rattle.cf_schema.specs.declared.described.Schema.{Schema}
 use Rattle.cf_schema.specs.Kinds.{with_kind}
 use Rattle.cf_entry.specs.declared.status.Status.TheVariants as status
-use Rattle.cf_stacks.specs.declared.held.Held.{Held}
-use Rattle.cf_stacks.specs.declared.held.Pending.{Pending}
-use Rattle.cf_stacks.specs.World.{StackState, World, stack_of_operation}
-use Rattle.cf_stacks.specs.declared.terms.Terms.{Terms}
-use Rattle.cf_stacks.specs.Reply.{terms_at}
-use Rattle.cf_stacks.specs.Status.{Stage, Back, stage_of}
-use Rattle.cf_stacks.specs.Words.{id_named}
+use Rattle.cf_effect.specs.declared.held.Held.{Held}
+use Rattle.cf_effect.specs.declared.held.Pending.{Pending}
+use Rattle.cf_effect.specs.World.{StackState, World, stack_of_operation}
+use Rattle.cf_effect.specs.declared.terms.Terms.{Terms}
+use Rattle.cf_effect.specs.Reply.{terms_at}
+use Rattle.cf_effect.specs.Status.{Stage, Back, stage_of}
+use Rattle.cf_effect.specs.Words.{id_named}
 use Rattle.cf_plan.specs.declared.next.Home.{Home}
 use Rattle.cf_plan.specs.declared.next.Next.{Next}
 use Rattle.cf_plan.specs.declared.next.Next.TheVariants as next

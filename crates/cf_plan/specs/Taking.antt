@@ -3,13 +3,13 @@ use Rattle.std.specs.Prelude.{◌≡◌, ℕ, ◌+◌, ◌==◌, ◌⊎◌, is_s
 use Rattle.std.specs.List.{list_any}
 use Rattle.std.specs.Option.{option_map_or}
 use Rattle.cf_tree.specs.Keys.{value_at}
-use Rattle.cf_stacks.specs.declared.held.Held.{Held}
-use Rattle.cf_stacks.specs.declared.held.Pending.{Pending}
-use Rattle.cf_stacks.specs.declared.terms.Terms.{Terms}
-use Rattle.cf_stacks.specs.World.{StackState, World}
-use Rattle.cf_stacks.specs.Status.{Back}
-use Rattle.cf_stacks.specs.Words.{resource_at, is_create, is_create_at, is_at}
-use Rattle.cf_stacks.specs.Reply.{terms_at}
+use Rattle.cf_effect.specs.declared.held.Held.{Held}
+use Rattle.cf_effect.specs.declared.held.Pending.{Pending}
+use Rattle.cf_effect.specs.declared.terms.Terms.{Terms}
+use Rattle.cf_effect.specs.World.{StackState, World}
+use Rattle.cf_effect.specs.Status.{Back}
+use Rattle.cf_effect.specs.Words.{resource_at, is_create, is_create_at, is_at}
+use Rattle.cf_effect.specs.Reply.{terms_at}
 use Rattle.cf_plan.specs.Follow.{is_not_needed, is_untried, is_retained, is_free, is_lane_leased, may_repeat, none_in_flight, waits_for_repeats, is_cleared, AreFailed}
 use Rattle.cf_entry.specs.declared.status.Status.TheVariants as status
 use Rattle.cf_entry.specs.declared.turn.Why.TheVariants as why

@@ -2,8 +2,8 @@
 ghost use Rattle.std.specs.Prelude.{◌≡◌, ◌++◌, ◌&&◌, ◌||◌, not, false, flat_map, IfOk, option_map, find, option_copied};
 ghost use Rattle.std.specs.List.{list_any};
 ghost use Rattle.cf_tree.specs.Lists.{is_among};
-ghost use Rattle.cf_stacks.specs.declared.held.Held.{Held};
-ghost use Rattle.cf_stacks.specs.Words.{current_at, resource_at};
+ghost use Rattle.cf_effect.specs.declared.held.Held.{Held};
+ghost use Rattle.cf_effect.specs.Words.{current_at, resource_at};
 ghost use Rattle.cf_plan.specs.Follow.{is_not_needed, is_untried, is_retained};
 ghost use Rattle.cf_plan.specs.Taking.{min_of, min_of_passing, min_by, is_token_before, is_held_before, is_home_of, home_of, id_in, ids_at, needs_in, ids_for_create, needed_ids, is_repeat_home, can_roll_back, may_roll_back, AreTerms};
 

@@ -4,9 +4,9 @@ ghost use Rattle.std.specs.Prelude.{◌≡◌, ◌==◌, ◌≤◌, ◌&&◌, fa
 ghost use Rattle.std.specs.List.{list_any};
 ghost use Rattle.std.specs.Option.{option_copied};
 ghost use Rattle.std.specs.Str.{bytes_eq};
-ghost use Rattle.cf_stacks.specs.Calls.{call_of, deletions_of, succeeded};
-ghost use Rattle.cf_stacks.specs.Operation.{after_last, before_first, doubts_in, is_doubt, is_phase, is_turn_or_opening, up_to_last};
-ghost use Rattle.cf_stacks.specs.Words.{deletes, is_update, updates};
+ghost use Rattle.cf_effect.specs.Calls.{call_under, deletions_of, succeeded};
+ghost use Rattle.cf_effect.specs.Operation.{after_last, before_first, doubts_in, is_doubt, is_phase, is_turn_or_opening, up_to_last};
+ghost use Rattle.cf_effect.specs.Words.{deletes, is_update, updates};
 ghost use Rattle.cf_plan.specs.Called.{last_place, reply_passes};
 ghost use Rattle.cf_plan.specs.Done.{is_good_update};
 ghost use Rattle.cf_plan.specs.Forward.{path_of_token, was_answered_at};
@@ -18,7 +18,7 @@ use cf_tree::{Code, Request, Txt};
 
 /// The call of a token.
 pub fn call_of(stack: &StackState, token: u64) -> Option<&Call>
-    ensures { option_copied result ≡ call_of token stack.now.stack }
+    ensures { option_copied result ≡ call_under token stack.now.stack }
 {
     call_with(stack.ledger().as_slice(), token)
 }

@@ -1,9 +1,9 @@
 //! The end of an operation: its status, and the paths that failed.
 ghost use Rattle.std.specs.Prelude.{◌≡◌, ◌==◌, ◌&&◌, false, IfOk, nat_lt, fold, Some};
 ghost use Rattle.std.specs.List.{list_any};
-ghost use Rattle.cf_stacks.specs.Calls.{is_refusal, refusals_of, was_refused};
-ghost use Rattle.cf_stacks.specs.Operation.{is_doubt};
-ghost use Rattle.cf_stacks.specs.Words.{deletes};
+ghost use Rattle.cf_effect.specs.Calls.{is_refusal, refusals_of, was_refused};
+ghost use Rattle.cf_effect.specs.Operation.{is_doubt};
+ghost use Rattle.cf_effect.specs.Words.{deletes};
 ghost use Rattle.cf_plan.specs.Follow.{is_cleared, is_bad_outcome, settled_by, AreFailed};
 ghost use Rattle.cf_entry.specs.declared.status.Status.TheVariants as status;
 ghost use Rattle.cf_change.specs.Changes.{is_empty};

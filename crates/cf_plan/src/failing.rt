@@ -1,9 +1,9 @@
 //! The outcome that fails the forward phase of an operation.
 ghost use Rattle.std.specs.Prelude.{◌≡◌, ◌==◌, [], find};
 ghost use Rattle.std.specs.Option.{option_copied};
-ghost use Rattle.cf_stacks.specs.Calls.{call_of};
-ghost use Rattle.cf_stacks.specs.Operation.{doubts_in};
-ghost use Rattle.cf_stacks.specs.Words.{has_physical};
+ghost use Rattle.cf_effect.specs.Calls.{call_under};
+ghost use Rattle.cf_effect.specs.Operation.{doubts_in};
+ghost use Rattle.cf_effect.specs.Words.{has_physical};
 ghost use Rattle.cf_plan.specs.Forward.{difference_to, doubting, first_failing, first_failing_behind, first_refusing, held_before, is_excused, is_refused_call, refusing};
 
 use crate::calls::{call_of, doubts_in, forward_of, now_of, up_to_last_turn};
@@ -54,7 +54,7 @@ fn is_excused(schemas: &Schemas, stack: &StackState, request: &Request, code: Co
 
 /// Whether a refusal of a token fails the phase. It goes over the calls.
 fn is_refused_call(schemas: &Schemas, stack: &StackState, token: u64, code: Code) -> bool
-    ensures { result ≡ is_refused_call schemas.now stack.now.stack (call_of token stack.now.stack) code }
+    ensures { result ≡ is_refused_call schemas.now stack.now.stack (call_under token stack.now.stack) code }
 {
     match call_of(stack, token) {
         Some(call) => !is_excused(schemas, stack, &call.request, code),

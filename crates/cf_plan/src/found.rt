@@ -5,7 +5,7 @@ ghost use Rattle.std.specs.Str.{bytes_eq};
 ghost use Rattle.cf_tree.specs.Datum.{members_of};
 ghost use Rattle.cf_tree.specs.Same.{same_members};
 ghost use Rattle.cf_desired.specs.Whole.{wanted_at};
-ghost use Rattle.cf_stacks.specs.Words.{current_at};
+ghost use Rattle.cf_effect.specs.Words.{current_at};
 ghost use Rattle.cf_plan.specs.Forward.{Known, finding};
 ghost use Rattle.cf_plan.specs.Done.{IsHeldRight, finding_by, finding_of};
 

@@ -1,8 +1,8 @@
 //! Open calls: which are out, and which may go out again.
 ghost use Rattle.std.specs.Prelude.{◌≡◌, ◌==◌, ◌&&◌, ◌||◌, not, false, nat_lt};
 ghost use Rattle.std.specs.List.{list_any};
-ghost use Rattle.cf_stacks.specs.Calls.{doubts_of};
-ghost use Rattle.cf_stacks.specs.Status.{Forward, Back};
+ghost use Rattle.cf_effect.specs.Calls.{doubts_of};
+ghost use Rattle.cf_effect.specs.Status.{Forward, Back};
 ghost use Rattle.cf_plan.specs.Follow.{is_in_flight, is_repeat_in_flight, is_repeated, may_repeat, none_in_flight, waits_for_repeats};
 
 use crate::calls::call_of;

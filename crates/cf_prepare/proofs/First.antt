@@ -8,8 +8,8 @@ use Rattle.cf_desired.specs.Plan.{plan_of}
 use Rattle.cf_desired.specs.Seeing.{Seen}
 use Rattle.cf_desired.specs.declared.wanted.Plan.{Plan}
 use Rattle.cf_entry.specs.declared.entry.Entry.TheVariants as entry
-use Rattle.cf_stacks.specs.Begin.{source_for}
-use Rattle.cf_stacks.specs.World.{StackState, World, known_stack, no_stack, stack_at}
+use Rattle.cf_effect.specs.Begin.{source_for}
+use Rattle.cf_effect.specs.World.{StackState, World, known_stack, no_stack, stack_at}
 use Rattle.cf_plan.specs.Accept.{exports_of_others, held_by, with_imports}
 use Rattle.cf_plan.specs.Follow.{set_number}
 use Rattle.cf_prepare.specs.First.{FirstDeployment, IsFirst}

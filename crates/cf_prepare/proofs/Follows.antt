@@ -20,11 +20,11 @@ use Rattle.cf_change.proofs.Shown.{held_shows_more}
 use Rattle.cf_entry.specs.declared.entry.Begun.TheVariants as begin
 use Rattle.cf_entry.specs.declared.status.Status.{Status}
 use Rattle.cf_entry.specs.declared.status.Status.TheVariants as status
-use Rattle.cf_stacks.specs.declared.held.KeptSet.{KeptSet}
-use Rattle.cf_stacks.specs.Begin.{source_for}
-use Rattle.cf_stacks.specs.Status.{is_in_progress}
-use Rattle.cf_stacks.specs.Words.{is_pinned}
-use Rattle.cf_stacks.specs.World.{StackState, World, known_stack}
+use Rattle.cf_effect.specs.declared.held.KeptSet.{KeptSet}
+use Rattle.cf_effect.specs.Begin.{source_for}
+use Rattle.cf_effect.specs.Status.{is_in_progress}
+use Rattle.cf_effect.specs.Words.{is_pinned}
+use Rattle.cf_effect.specs.World.{StackState, World, known_stack}
 use Rattle.cf_plan.specs.Accept.{Changing, ImportsWhatItUses, IsAccepted, IsReviewed, are_free, changes_on, creates_from, exports_by, held_by, is_exported_elsewhere, is_taken_away, seen_before, with_imports}
 use Rattle.cf_plan.specs.Follow.{MayBegin, are_among, continues_from, deletes_from, failed_of, is_pinned_export, may_retain, set_number, updates_from}
 use Rattle.cf_prepare.specs.Answer.{first_of}

@@ -10,8 +10,8 @@ use Rattle.std.proofs.lemmas.Slice.Eq.{bytes_eq-Decides}
 use Rattle.cf_tree.specs.Keys.{bytes_lt}
 use Rattle.cf_tree.specs.Lists.{is_among}
 use Rattle.cf_desired.specs.declared.wanted.Wanted.{Wanted}
-use Rattle.cf_stacks.specs.Status.{goes_forward}
-use Rattle.cf_stacks.specs.World.{StackState}
+use Rattle.cf_effect.specs.Status.{goes_forward}
+use Rattle.cf_effect.specs.World.{StackState}
 use Rattle.cf_plan.specs.Done.{AreDone}
 use Rattle.cf_plan.specs.Forward.{In, here, plan_before, there}
 use Rattle.cf_prepare.specs.Answer.{RefusesAs}

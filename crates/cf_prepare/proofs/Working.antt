@@ -17,9 +17,9 @@ use Rattle.cf_desired.specs.declared.flaw.Flaw.{Flaw}
 use Rattle.cf_desired.specs.declared.wanted.Plan.{Plan}
 use Rattle.cf_entry.specs.declared.entry.Entry.TheVariants as entry
 use Rattle.cf_entry.specs.declared.status.Status.{Status}
-use Rattle.cf_stacks.specs.declared.held.KeptSet.{KeptSet}
-use Rattle.cf_stacks.specs.Begin.{source_for}
-use Rattle.cf_stacks.specs.World.{StackState, World, known_stack}
+use Rattle.cf_effect.specs.declared.held.KeptSet.{KeptSet}
+use Rattle.cf_effect.specs.Begin.{source_for}
+use Rattle.cf_effect.specs.World.{StackState, World, known_stack}
 use Rattle.cf_plan.specs.Accept.{creates_from, exports_by, held_by, with_imports}
 use Rattle.cf_prepare.specs.Answer.{TestsAs, first_of}
 use Rattle.cf_prepare.specs.Orders.{IsDeployment, IsReview, kind_by}

@@ -5,8 +5,8 @@ use Rattle.cf_schema.specs.declared.described.Schema.{Schema}
 use Rattle.cf_desired.specs.Plan.{plan_of}
 use Rattle.cf_entry.specs.declared.entry.Begun.TheVariants as begin
 use Rattle.cf_entry.specs.declared.entry.Entry.TheVariants as entry
-use Rattle.cf_stacks.specs.Begin.{source_for}
-use Rattle.cf_stacks.specs.World.{World, stack_at}
+use Rattle.cf_effect.specs.Begin.{source_for}
+use Rattle.cf_effect.specs.World.{World, stack_at}
 use Rattle.cf_plan.specs.Accept.{exports_of_others, with_imports}
 use Rattle.cf_prepare.specs.Orders.{IsDeployment}
 use Rattle.cf_prepare.specs.Refusals.{deploy_refusal}

@@ -7,8 +7,8 @@ use Rattle.cf_entry.specs.Entry.{texts_ascend}
 use Rattle.cf_entry.specs.declared.entry.Begun.{Begun}
 use Rattle.cf_entry.specs.declared.entry.Begun.TheVariants as begin
 use Rattle.cf_entry.specs.declared.entry.Entry.TheVariants as entry
-use Rattle.cf_stacks.specs.World.{StackState, World, known_stack}
-use Rattle.cf_stacks.specs.Begin.{source_for}
+use Rattle.cf_effect.specs.World.{StackState, World, known_stack}
+use Rattle.cf_effect.specs.Begin.{source_for}
 use Rattle.cf_plan.specs.Accept.{creates_from, with_imports}
 use Rattle.cf_prepare.specs.Imports.{UsesJust}
 use Rattle.cf_prepare.specs.Refusals.{proposal, proposed_changes, seen_proposed}

@@ -5,9 +5,9 @@ use Rattle.cf_tree.specs.declared.template.Template.{Template}
 use Rattle.cf_schema.specs.declared.described.Schema.{Schema}
 use Rattle.cf_desired.specs.Templates.{templates_of}
 use Rattle.cf_entry.specs.declared.entry.Entry.{Entry}
-use Rattle.cf_stacks.specs.declared.held.KeptSet.{KeptSet}
-use Rattle.cf_stacks.specs.Status.{is_in_progress}
-use Rattle.cf_stacks.specs.World.{World, known_stack}
+use Rattle.cf_effect.specs.declared.held.KeptSet.{KeptSet}
+use Rattle.cf_effect.specs.Status.{is_in_progress}
+use Rattle.cf_effect.specs.World.{World, known_stack}
 use Rattle.cf_plan.specs.Follow.{MayFollow, is_opened_since}
 use Rattle.cf_prepare.specs.Answer.{TestsAs}
 use Rattle.cf_prepare.specs.Orders.{IsContinuation, IsDeletion, IsDeployment, IsReview}

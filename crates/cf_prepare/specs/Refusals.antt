@@ -12,10 +12,10 @@ use Rattle.cf_desired.specs.declared.wanted.Wanted.{Wanted}
 use Rattle.cf_change.specs.Changes.{Changes, is_empty, least_of}
 use Rattle.cf_entry.specs.declared.status.Status.{Status}
 use Rattle.cf_entry.specs.declared.status.Status.TheVariants as status
-use Rattle.cf_stacks.specs.declared.held.KeptSet.{KeptSet}
-use Rattle.cf_stacks.specs.World.{StackState, World, known_stack, stack_at}
-use Rattle.cf_stacks.specs.Begin.{source_for}
-use Rattle.cf_stacks.specs.Status.{is_in_progress}
+use Rattle.cf_effect.specs.declared.held.KeptSet.{KeptSet}
+use Rattle.cf_effect.specs.World.{StackState, World, known_stack, stack_at}
+use Rattle.cf_effect.specs.Begin.{source_for}
+use Rattle.cf_effect.specs.Status.{is_in_progress}
 use Rattle.cf_plan.specs.Accept.{changes_on, creates_from, exports_of_others, is_exported_elsewhere, is_taken_away, seen_before, with_imports}
 use Rattle.cf_plan.specs.Follow.{continues_from, deletes_from, failed_of, set_number, updates_from}
 use Rattle.cf_prepare.specs.Answer.{first_of}

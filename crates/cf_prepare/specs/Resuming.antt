@@ -3,8 +3,8 @@
 use Rattle.std.specs.Prelude.{◌≡◌, ⊤, ℕ, Bool, false, ◌&&◌, not, List, IsTrue, Option, None, Result, Ok, Err, filter, fold}
 use Rattle.cf_tree.specs.Keys.{bytes_lt}
 use Rattle.cf_desired.specs.declared.wanted.Wanted.{Wanted}
-use Rattle.cf_stacks.specs.Status.{goes_forward}
-use Rattle.cf_stacks.specs.World.{StackState}
+use Rattle.cf_effect.specs.Status.{goes_forward}
+use Rattle.cf_effect.specs.World.{StackState}
 use Rattle.cf_plan.specs.Forward.{In, IsDone, plan_before}
 use Rattle.cf_prepare.specs.Answer.{TestsAs}
 use Rattle.cf_tree.specs.Lists.{is_among}

@@ -8,7 +8,7 @@ use Rattle.cf_change.specs.declared.set.ChangeFault.{ChangeFault}
 use Rattle.cf_change.specs.declared.set.ChangeFault.TheVariants as change
 use Rattle.cf_change.specs.declared.set.ChangeSet.{ChangeSet}
 use Rattle.cf_desired.specs.Plan.{plan_of}
-use Rattle.cf_stacks.specs.World.{World}
+use Rattle.cf_effect.specs.World.{World}
 use Rattle.cf_prepare.specs.Answer.{first_of}
 use Rattle.cf_prepare.specs.Imports.{UsesJust}
 use Rattle.cf_prepare.specs.Refusals.{proposal, proposed_changes, refusals_by, seen_proposed}

@@ -2,7 +2,7 @@
 ghost use Rattle.std.specs.Prelude.{◌≡◌, ◌++◌, IfOk, OnOk, filter, map, not};
 ghost use Rattle.cf_change.specs.Changes.{HeldAt as Resource};
 ghost use Rattle.cf_plan.specs.Accept.{exports_by, held_as, held_by};
-ghost use Rattle.cf_stacks.specs.World.{known_stack};
+ghost use Rattle.cf_effect.specs.World.{known_stack};
 
 use crate::exported::exports_by;
 use cf_change::{HeldAt, HeldMap};

@@ -4,8 +4,8 @@ ghost use Rattle.cf_desired.specs.Shape.{put_name};
 ghost use Rattle.cf_plan.specs.Follow.{failed_in, failed_of};
 ghost use Rattle.cf_prepare.specs.Orders.{IsSorted};
 ghost use Rattle.cf_prepare.specs.Refusals.{may_keep};
-ghost use Rattle.cf_stacks.specs.Operation.{is_of};
-ghost use Rattle.cf_stacks.specs.World.{known_stack};
+ghost use Rattle.cf_effect.specs.Operation.{is_of};
+ghost use Rattle.cf_effect.specs.World.{known_stack};
 
 use cf_entry::{Entry, Status};
 use cf_stacks::{HeardEntry, StackState, World};

@@ -2,7 +2,7 @@
 ghost use Rattle.std.specs.Prelude.{◌≡◌, ◌+◌, ◌∷◌, [], ⊤, None, Some, IfOk};
 ghost use Rattle.std.specs.Option.{option_copied};
 ghost use Rattle.cf_plan.specs.Follow.{failed_of};
-ghost use Rattle.cf_stacks.specs.declared.held.KeptSet.{KeptSet as Kept};
+ghost use Rattle.cf_effect.specs.declared.held.KeptSet.{KeptSet as Kept};
 ghost use Rattle.cf_change.specs.Changes.{Changes as Changed};
 ghost use Rattle.cf_desired.specs.Templates.{templates_of};
 ghost use Rattle.cf_entry.specs.declared.entry.Entry.TheVariants as entry;
@@ -14,8 +14,8 @@ ghost use Rattle.cf_prepare.specs.Prepare.{ExecutesAs, ExecutesSet, HasTemplates
 ghost use Rattle.cf_prepare.specs.Refusals.{continue_refusal, delete_refusal, deploy_refusal, execute_refusal, if_in_use, if_not_failed, if_unchanged, may_keep, proposed_changes, review_refusal, set_of, set_refusal, unless_created};
 ghost use Rattle.cf_prepare.specs.Worked.{IsWorked, set_by};
 ghost use Rattle.cf_prepare.specs.declared.wish.Order.TheVariants as order;
-ghost use Rattle.cf_stacks.specs.Begin.{source_for};
-ghost use Rattle.cf_stacks.specs.World.{known_stack};
+ghost use Rattle.cf_effect.specs.Begin.{source_for};
+ghost use Rattle.cf_effect.specs.World.{known_stack};
 
 use crate::paths::{failed_of, may_keep, sorted};
 use crate::planned::{lane_kinds, schema_kinds};

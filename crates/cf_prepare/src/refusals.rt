@@ -6,8 +6,8 @@ ghost use Rattle.cf_prepare.specs.Answer.{RefusesAs, TestsAs};
 ghost use Rattle.cf_prepare.specs.Refusals.{deploys_from, if_barred, if_missing, if_not_failed};
 ghost use Rattle.cf_prepare.specs.declared.wish.StackFault.TheVariants as stack;
 ghost use Rattle.cf_prepare.specs.declared.wish.PrepareFault.TheVariants as fault;
-ghost use Rattle.cf_stacks.specs.Status.{is_in_progress};
-ghost use Rattle.cf_stacks.specs.World.{known_stack};
+ghost use Rattle.cf_effect.specs.Status.{is_in_progress};
+ghost use Rattle.cf_effect.specs.World.{known_stack};
 
 use crate::stack::{continues_from, deletes_from, deploys_from, status_of};
 use crate::wish::{PrepareFault, StackFault};

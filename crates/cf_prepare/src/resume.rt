@@ -5,8 +5,8 @@ ghost use Rattle.cf_plan.specs.Done.{AreDone};
 ghost use Rattle.cf_plan.specs.Forward.{plan_before};
 ghost use Rattle.cf_prepare.specs.Refusals.{lane_kinds, resume_refusal};
 ghost use Rattle.cf_prepare.specs.Resuming.{GoesOn, ResumesAs, first_stuck};
-ghost use Rattle.cf_stacks.specs.Status.{goes_forward};
-ghost use Rattle.cf_stacks.specs.World.{known_stack};
+ghost use Rattle.cf_effect.specs.Status.{goes_forward};
+ghost use Rattle.cf_effect.specs.World.{known_stack};
 
 use crate::planned::{lane_kinds, sooner, unknown};
 use crate::refusals::{test_in_progress, test_there};

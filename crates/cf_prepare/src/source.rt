@@ -2,7 +2,7 @@
 ghost use Rattle.std.specs.Prelude.{◌≡◌, IfOk};
 ghost use Rattle.cf_plan.specs.Accept.{with_imports};
 ghost use Rattle.cf_prepare.specs.Refusals.{proposal};
-ghost use Rattle.cf_stacks.specs.Begin.{source_for};
+ghost use Rattle.cf_effect.specs.Begin.{source_for};
 
 use crate::exported::exports_of_others;
 use crate::stack::creating_number;

@@ -5,12 +5,13 @@ use Rattle.cf_tree.specs.Keys.{ascends, value_at}
 use Rattle.cf_entry.specs.declared.entry.Entry.{Entry}
 use Rattle.cf_entry.specs.declared.entry.Entry.TheVariants as entry
 use Rattle.cf_stacks.specs.declared.standing.Fields.{Fields}
-use Rattle.cf_stacks.specs.Fold.{effect_at, is_opening, numbered, stack_for}
-use Rattle.cf_stacks.specs.Listed.{Same}
+use Rattle.cf_effect.specs.Fold.{effect_at, is_opening, numbered, stack_for}
+use Rattle.cf_effect.specs.Listed.{Same}
 use Rattle.cf_stacks.specs.Ready.{IsAnswer}
-use Rattle.cf_stacks.specs.Room.{IsShortOutcomeOf, StackStanding, has_call, is_awaited}
+use Rattle.cf_effect.specs.Bounds.{IsShortOutcomeOf}
+use Rattle.cf_stacks.specs.Room.{StackStanding, has_call, is_awaited}
 use Rattle.cf_stacks.specs.Standing.{Named, stack_in, stack_known, standing_in, world_in}
-use Rattle.cf_stacks.specs.World.{StackState, World, is_going, stack_of_operation}
+use Rattle.cf_effect.specs.World.{StackState, World, is_going, stack_of_operation}
 use Rattle.cf_stacks.proofs.Prepared.{awaited_so}
 use Rattle.cf_stacks.proofs.Worlds.{find_under, found_stands}
 

@@ -24,17 +24,17 @@ use Rattle.cf_entry.specs.declared.status.Status.TheVariants as status
 use Rattle.cf_entry.specs.declared.turn.Phase.{Phase}
 use Rattle.cf_entry.specs.declared.turn.Phase.TheVariants as phase
 use Rattle.cf_entry.specs.declared.turn.Why.{Why}
-use Rattle.cf_stacks.specs.declared.held.Held.{Held}
-use Rattle.cf_stacks.specs.declared.held.HeldStatus.TheVariants as held
-use Rattle.cf_stacks.specs.declared.held.Pending.{Pending}
-use Rattle.cf_stacks.specs.World.{StackState, World, is_going, known_stack, no_stack, stack_at, stack_of_operation}
-use Rattle.cf_stacks.specs.Words.{has_physical, has_token, is_create_at, pending_of, resources_of, where_physical}
-use Rattle.cf_stacks.specs.Calls.{is_restore, new_call}
-use Rattle.cf_stacks.specs.End.{ended_effect, turned_effect}
-use Rattle.cf_stacks.specs.Reply.{answered, changing, intending, keeping, keeping_known, keeping_unknown, replied, updating}
+use Rattle.cf_effect.specs.declared.held.Held.{Held}
+use Rattle.cf_effect.specs.declared.held.HeldStatus.TheVariants as held
+use Rattle.cf_effect.specs.declared.held.Pending.{Pending}
+use Rattle.cf_effect.specs.World.{StackState, World, is_going, known_stack, no_stack, stack_at, stack_of_operation}
+use Rattle.cf_effect.specs.Words.{has_physical, has_token, is_create_at, pending_of, resources_of, where_physical}
+use Rattle.cf_effect.specs.Calls.{is_restore, new_call}
+use Rattle.cf_effect.specs.End.{ended_effect, turned_effect}
+use Rattle.cf_effect.specs.Reply.{answered, changing, intending, keeping, keeping_known, keeping_unknown, replied, updating}
 use Rattle.cf_stacks.specs.Apart.{AreApart, IsNext, StayApart}
-use Rattle.cf_stacks.specs.Effect.{leaving}
-use Rattle.cf_stacks.specs.Fold.{effect_at, numbered, world_after}
+use Rattle.cf_effect.specs.Effect.{leaving}
+use Rattle.cf_effect.specs.Fold.{effect_at, numbered, world_after}
 use Rattle.cf_stacks.proofs.Worlds.{found_stands, value_under}
 
 at_put : (name a : List ℕ) (v t : StackState) (ps : List (List ℕ × StackState)) → value_at a (put name v ps) ≡ Some t → ((a ≡ name) × (t ≡ v)) ⊎ (value_at a ps ≡ Some t)

@@ -10,8 +10,9 @@ use Rattle.cf_entry.specs.declared.entry.Begun.TheVariants as begin
 use Rattle.cf_entry.specs.declared.entry.Entry.{Entry}
 use Rattle.cf_entry.specs.declared.entry.Entry.TheVariants as entry
 use Rattle.cf_entry.specs.declared.entry.Reply.{Reply}
-use Rattle.cf_stacks.specs.World.{StackState, World, stack_at, stack_of_operation}
-use Rattle.cf_stacks.specs.Room.{IsShortReply, Standing, has_call, is_awaited, stack_of_call, stepped, with_awaited, with_room, without_awaited}
+use Rattle.cf_effect.specs.World.{StackState, World, stack_at, stack_of_operation}
+use Rattle.cf_effect.specs.Bounds.{IsShortReply}
+use Rattle.cf_stacks.specs.Room.{Standing, has_call, is_awaited, stack_of_call, stepped, with_awaited, with_room, without_awaited}
 use Rattle.cf_stacks.specs.RoomStays.{Act, MakesRoom, Steps, AwaitedStays, RepeatIsAwaited, RoomStays, Spare, acted, all_acted, spares}
 
 same_number : (t : ℕ) → (t == t) ≡ true

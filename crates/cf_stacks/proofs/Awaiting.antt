@@ -7,8 +7,8 @@ use Rattle.cf_entry.specs.declared.entry.Entry.TheVariants as entry
 use Rattle.cf_stacks.specs.declared.standing.Fields.{Fields}
 use Rattle.cf_stacks.specs.Room.{Standing, StackStanding, awaited_with, stack_of_call, with_awaited}
 use Rattle.cf_stacks.specs.Standing.{Named, awaited_in, awaited_known, awaits_on, calls_in, calls_total, has_open, stack_in, standing_in, world_in}
-use Rattle.cf_stacks.specs.Words.{pending_of}
-use Rattle.cf_stacks.specs.World.{StackState, World}
+use Rattle.cf_effect.specs.Words.{pending_of}
+use Rattle.cf_effect.specs.World.{StackState, World}
 use Rattle.cf_tree.proofs.Order.{ascends_map}
 use Rattle.cf_stacks.proofs.Totals.{total_called, total_same}
 use Rattle.cf_stacks.proofs.Worlds.{find_under, found_stands, put_under, value_under}

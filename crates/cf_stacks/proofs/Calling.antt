@@ -5,17 +5,18 @@ use Rattle.cf_tree.specs.declared.request.Request.{Request}
 use Rattle.cf_entry.specs.declared.entry.Entry.{Entry}
 use Rattle.cf_entry.specs.declared.entry.Entry.TheVariants as entry
 use Rattle.cf_entry.specs.Entry.{spelling_of}
-use Rattle.cf_stacks.specs.declared.held.Pending.{Pending}
+use Rattle.cf_effect.specs.declared.held.Pending.{Pending}
 use Rattle.cf_stacks.specs.declared.room.CallRoom.{CallRoom}
-use Rattle.cf_stacks.specs.World.{StackState}
-use Rattle.cf_stacks.specs.Words.{has_token, is_created, pending_of}
-use Rattle.cf_stacks.specs.Calls.{new_call}
-use Rattle.cf_stacks.specs.Fold.{effect_at, is_opening}
-use Rattle.cf_stacks.specs.Reply.{intending}
-use Rattle.cf_stacks.specs.Room.{IsShortOutcomeOf, StackStanding, calls_after, has_call, without_awaited}
+use Rattle.cf_effect.specs.World.{StackState}
+use Rattle.cf_effect.specs.Words.{has_token, is_created, pending_of}
+use Rattle.cf_effect.specs.Calls.{new_call}
+use Rattle.cf_effect.specs.Fold.{effect_at, is_opening}
+use Rattle.cf_effect.specs.Reply.{intending}
+use Rattle.cf_effect.specs.Bounds.{IsShortOutcomeOf}
+use Rattle.cf_stacks.specs.Room.{StackStanding, calls_after, has_call, without_awaited}
 use Rattle.cf_stacks.specs.Spare.{HaveOwnTokens, IsNewRoom, IsRoomFor, KeepsCalls, is_room_of}
 use Rattle.cf_stacks.specs.Stacked.{token_of_room}
-use Rattle.cf_stacks.proofs.Closed.{any_found}
+use Rattle.cf_effect.proofs.Closed.{any_found}
 use Rattle.cf_stacks.proofs.Kindred.{all_left, all_with, apart_with, has_room, other_call}
 use Rattle.cf_stacks.proofs.Short.{outcome_short}
 

@@ -2,9 +2,9 @@
 use Rattle.std.proofs.Common.{◌≡◌, List, [], ◌∷◌, ◌++◌, refl, inr}
 use Rattle.cf_entry.specs.declared.entry.Entry.{Entry}
 use Rattle.cf_entry.specs.declared.entry.Entry.TheVariants as entry
-use Rattle.cf_stacks.specs.Fold.{fold_of, world_after}
+use Rattle.cf_effect.specs.Fold.{fold_of, world_after}
 use Rattle.cf_stacks.specs.Room.{HasRoom, Standing, with_room}
-use Rattle.cf_stacks.specs.World.{World}
+use Rattle.cf_effect.specs.World.{World}
 
 pub folded_more : (x : World) (es : List Entry) (e : Entry) → world_after (fold_of x es) e ≡ fold_of x (es ++ e ∷ [])
 folded_more x [] e = refl

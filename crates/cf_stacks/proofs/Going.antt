@@ -9,7 +9,7 @@ use Rattle.cf_stacks.specs.declared.standing.Fields.{Fields}
 use Rattle.cf_stacks.specs.Ready.{IsCall}
 use Rattle.cf_stacks.specs.Room.{StackStanding}
 use Rattle.cf_stacks.specs.Standing.{CallFits, IsPartsOf, Named, stack_in, stack_known, world_in}
-use Rattle.cf_stacks.specs.World.{StackState, is_going, stack_of_operation}
+use Rattle.cf_effect.specs.World.{StackState, is_going, stack_of_operation}
 use Rattle.cf_stacks.proofs.Worlds.{find_under, found_stands}
 
 module _ (x : Fields) (order : ascends x.stacks ≡ true) (number : ℕ) where

@@ -19,17 +19,17 @@ use Rattle.cf_entry.specs.declared.turn.Phase.{Phase}
 use Rattle.cf_entry.specs.declared.turn.Phase.TheVariants as phase
 use Rattle.cf_entry.specs.declared.turn.Cause.{Cause}
 use Rattle.cf_entry.specs.declared.turn.Why.{Why}
-use Rattle.cf_stacks.specs.declared.held.Held.{Held}
-use Rattle.cf_stacks.specs.declared.held.HeldStatus.TheVariants as held
-use Rattle.cf_stacks.specs.declared.held.Pending.{Pending}
-use Rattle.cf_stacks.specs.World.{StackState}
-use Rattle.cf_stacks.specs.Words.{has_physical, has_token, is_create_at, is_on, pending_of, resources_of, where_physical, without_token}
-use Rattle.cf_stacks.specs.Calls.{is_restore}
-use Rattle.cf_stacks.specs.Fold.{effect_at, is_opening}
-use Rattle.cf_stacks.specs.Reply.{answered, changing, keeping, keeping_known, keeping_unknown, replied, replying, still_open, updating}
-use Rattle.cf_stacks.specs.Room.{IsShortOutcomeOf}
+use Rattle.cf_effect.specs.declared.held.Held.{Held}
+use Rattle.cf_effect.specs.declared.held.HeldStatus.TheVariants as held
+use Rattle.cf_effect.specs.declared.held.Pending.{Pending}
+use Rattle.cf_effect.specs.World.{StackState}
+use Rattle.cf_effect.specs.Words.{has_physical, has_token, is_create_at, is_on, pending_of, resources_of, where_physical, without_token}
+use Rattle.cf_effect.specs.Calls.{is_restore}
+use Rattle.cf_effect.specs.Fold.{effect_at, is_opening}
+use Rattle.cf_effect.specs.Reply.{answered, changing, keeping, keeping_known, keeping_unknown, replied, replying, still_open, updating}
+use Rattle.cf_effect.specs.Bounds.{IsShortOutcomeOf}
 use Rattle.cf_stacks.specs.Spare.{HaveOwnTokens, KeepsCalls, LeavesCalls}
-use Rattle.cf_stacks.proofs.Answered.{calls_stay}
+use Rattle.cf_effect.proofs.Answered.{calls_stay}
 use Rattle.cf_stacks.proofs.Kindred.{apart_filter, kept_call}
 
 -- where tokens are apart they stay so, and each call rests on what it did

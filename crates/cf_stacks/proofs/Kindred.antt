@@ -1,11 +1,11 @@
 -- The rooms of calls, one by one: what stays of them.
 use Rattle.std.proofs.Common.{◌≡◌, ℕ, ◌==◌, Bool, true, false, ◌||◌, not, List, [], ◌∷◌, ◌++◌, Option, Some, None, filter, find, map, refl, ap, sym, ◌∙◌, cond, subst, arith}
 use Rattle.std.specs.List.{AllByRecursion, list_any}
-use Rattle.cf_stacks.specs.declared.held.Pending.{Pending}
+use Rattle.cf_effect.specs.declared.held.Pending.{Pending}
 use Rattle.cf_stacks.specs.declared.room.CallRoom.{CallRoom}
-use Rattle.cf_stacks.specs.World.{StackState}
-use Rattle.cf_stacks.specs.Words.{has_token, pending_of}
-use Rattle.cf_stacks.specs.Reply.{intending, terms_at}
+use Rattle.cf_effect.specs.World.{StackState}
+use Rattle.cf_effect.specs.Words.{has_token, pending_of}
+use Rattle.cf_effect.specs.Reply.{intending, terms_at}
 use Rattle.cf_stacks.specs.Room.{has_call, with_awaited, without_awaited}
 use Rattle.cf_stacks.specs.Spare.{HaveOwnTokens, IsRoomFor, KeepsCalls, is_other, is_room_of}
 use Rattle.cf_stacks.specs.Stacked.{token_of_room}

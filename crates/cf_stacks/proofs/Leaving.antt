@@ -5,19 +5,20 @@ use Rattle.cf_tree.specs.Keys.{value_at}
 use Rattle.cf_entry.specs.declared.entry.Begun.TheVariants as begin
 use Rattle.cf_entry.specs.declared.entry.Entry.{Entry}
 use Rattle.cf_entry.specs.declared.entry.Entry.TheVariants as entry
-use Rattle.cf_stacks.specs.declared.listed.Lists.{Lists}
+use Rattle.cf_effect.specs.declared.listed.Lists.{Lists}
 use Rattle.cf_stacks.specs.declared.standing.Fields.{Fields}
 use Rattle.cf_stacks.specs.declared.standing.Left.{Left}
-use Rattle.cf_stacks.specs.declared.state.State.{State}
-use Rattle.cf_stacks.specs.World.{StackState, no_stack}
-use Rattle.cf_stacks.specs.Effect.{Effect}
-use Rattle.cf_stacks.specs.Fold.{effect_at}
-use Rattle.cf_stacks.specs.Listed.{exports_after, pins_after}
-use Rattle.cf_stacks.specs.Room.{StackStanding, is_intent}
-use Rattle.cf_stacks.specs.Spare.{HaveOwnTokens, HasSpare, LeavesCalls}
+use Rattle.cf_effect.specs.declared.state.State.{State}
+use Rattle.cf_effect.specs.World.{StackState, no_stack}
+use Rattle.cf_effect.specs.Effect.{Effect}
+use Rattle.cf_effect.specs.Fold.{effect_at, is_intent}
+use Rattle.cf_effect.specs.Listed.{exports_after, pins_after}
+use Rattle.cf_stacks.specs.Room.{StackStanding}
+use Rattle.cf_stacks.specs.Spare.{HaveOwnTokens, LeavesCalls}
+use Rattle.cf_effect.specs.Reserve.{HasSpare}
 use Rattle.cf_stacks.specs.Stacked.{places_for}
 use Rattle.cf_stacks.specs.Standing.{IsLeft, LeftFits, awaited_known, stack_known}
-use Rattle.cf_stacks.specs.State.{effect_from, names_listed, state_of}
+use Rattle.cf_effect.specs.State.{effect_from, names_listed, state_of}
 use Rattle.cf_stacks.proofs.Keeps.{leaves_calls}
 
 -- an entry that is no intent leaves calls that tokens tell apart

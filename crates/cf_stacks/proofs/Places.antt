@@ -12,11 +12,11 @@ use Rattle.cf_tree.specs.Keys.{ascends, ascends_from, bytes_lt, place, put, valu
 use Rattle.cf_tree.proofs.Lookups.{entry_found, entry_missed}
 use Rattle.cf_tree.proofs.Placed.{entry_kept}
 use Rattle.cf_entry.specs.declared.entry.Entry.{Entry}
-use Rattle.cf_stacks.specs.declared.state.State.{State}
+use Rattle.cf_effect.specs.declared.state.State.{State}
 use Rattle.cf_stacks.specs.Room.{StackStanding, with_awaited}
 use Rattle.cf_stacks.specs.Standing.{LeftFits, Named, awaits_on, calls_in, has_open}
-use Rattle.cf_stacks.specs.World.{no_stack}
-use Rattle.cf_stacks.proofs.Closed.{first_closed, none_closed}
+use Rattle.cf_effect.specs.World.{no_stack}
+use Rattle.cf_effect.proofs.Closed.{first_closed, none_closed}
 use Rattle.cf_stacks.proofs.Worlds.{less_from, own, put_under, tail_ascends}
 
 module _ {A B : Type 0} (f : A → B) where

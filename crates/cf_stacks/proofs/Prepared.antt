@@ -8,11 +8,11 @@ use Rattle.cf_entry.specs.declared.entry.Begun.TheVariants as begin
 use Rattle.cf_entry.specs.declared.entry.Entry.{Entry}
 use Rattle.cf_entry.specs.declared.entry.Entry.TheVariants as entry
 use Rattle.cf_stacks.specs.declared.standing.Fields.{Fields}
-use Rattle.cf_stacks.specs.Fold.{stack_for}
+use Rattle.cf_effect.specs.Fold.{stack_for}
 use Rattle.cf_stacks.specs.Ready.{IsOfStack}
 use Rattle.cf_stacks.specs.Room.{StackStanding, has_call, is_awaited}
 use Rattle.cf_stacks.specs.Standing.{Named, awaited_in, calls_in, stack_in, stack_known, standing_in, world_in}
-use Rattle.cf_stacks.specs.World.{StackState, is_going, no_stack, stack_at, stack_of_operation}
+use Rattle.cf_effect.specs.World.{StackState, is_going, no_stack, stack_at, stack_of_operation}
 use Rattle.cf_stacks.proofs.Worlds.{find_under, found_stands, value_under}
 
 abbrev named : List ℕ → StackState → Option (List ℕ × StackState)

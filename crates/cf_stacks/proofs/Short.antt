@@ -7,7 +7,7 @@ use Rattle.cf_entry.specs.Bytes.{text_bytes, eight_bytes}
 use Rattle.cf_entry.specs.Value.{dict_bytes}
 use Rattle.cf_entry.specs.Entry.{spelling_of, reply_bytes}
 use Rattle.cf_entry.proofs.Sizes.{dict_is_long}
-use Rattle.cf_stacks.specs.Room.{IsShortReply}
+use Rattle.cf_effect.specs.Bounds.{IsShortReply}
 
 -- 1 + 4 + 1024 + 524288
 reply_short : (a : Reply) → IsShortReply a → length (reply_bytes a) ≤ 525317

@@ -7,19 +7,19 @@ use Rattle.cf_export.specs.declared.Export.{Export}
 use Rattle.cf_export.specs.declared.Pin.{Pin}
 use Rattle.cf_entry.specs.declared.entry.Entry.{Entry}
 use Rattle.cf_entry.specs.declared.entry.Entry.TheVariants as entry
-use Rattle.cf_stacks.specs.declared.held.Pending.{Pending}
+use Rattle.cf_effect.specs.declared.held.Pending.{Pending}
 use Rattle.cf_stacks.specs.declared.stack.CallParts.{CallParts}
 use Rattle.cf_stacks.specs.declared.standing.Fields.{Fields}
-use Rattle.cf_stacks.specs.Calls.{new_call}
-use Rattle.cf_stacks.specs.Effect.{leaving}
-use Rattle.cf_stacks.specs.Fold.{changed_by, effect_at, is_opening, numbered, opening_heard, stack_for, world_after}
-use Rattle.cf_stacks.specs.Event.{lines_of}
-use Rattle.cf_stacks.specs.Listed.{Listed, Same, exports_after, pins_after}
-use Rattle.cf_stacks.specs.Reply.{intending}
+use Rattle.cf_effect.specs.Calls.{new_call}
+use Rattle.cf_effect.specs.Effect.{leaving}
+use Rattle.cf_effect.specs.Fold.{changed_by, effect_at, is_opening, numbered, opening_heard, stack_for, world_after}
+use Rattle.cf_effect.specs.Event.{lines_of}
+use Rattle.cf_effect.specs.Listed.{NamesAfter, Same, exports_after, pins_after}
+use Rattle.cf_effect.specs.Reply.{intending}
 use Rattle.cf_stacks.specs.Room.{Standing, StackStanding, awaited_after, calls_after, with_awaited}
-use Rattle.cf_stacks.specs.Standing.{IsPartsOf, Named, Steps, awaited_in, awaited_known, called, calls_in, stack_in, stack_known, standing_in, world_in}
-use Rattle.cf_stacks.specs.Words.{has_token}
-use Rattle.cf_stacks.specs.World.{StackState, World}
+use Rattle.cf_stacks.specs.Standing.{IsPartsOf, Named, StepsOver, awaited_in, awaited_known, called, calls_in, stack_in, stack_known, standing_in, world_in}
+use Rattle.cf_effect.specs.Words.{has_token}
+use Rattle.cf_effect.specs.World.{StackState, World}
 use Rattle.cf_stacks.proofs.Worlds.{put_under, value_under}
 
 pub after : (x m y : World) (e : Entry) → m ≡ changed_by (x.place + 1) e x → y ≡ record (numbered e m) { place = x.place + 1 } → y ≡ world_after x e
@@ -153,7 +153,7 @@ module _ (x : Fields) (stacks : List Named) (y : Fields) (e : Entry) (name : Lis
   -- a stack that is left with what it lists
   pub stepped_on : is_opening e ≡ false → v.stack ≡ (effect_at (x.place + 1) e s.stack).stack → v.awaited ≡ calls_after e s.awaited
       → (effect_at (x.place + 1) e s.stack).exports ≡ None → (effect_at (x.place + 1) e s.stack).pins ≡ Same → (effect_at (x.place + 1) e s.stack).claims ≡ Same
-      → world_in y ≡ record (numbered e (world_in (record x { stacks = stacks }))) { place = x.place + 1 } → map calls_in y.stacks ≡ map calls_in stacks → Steps x e y
+      → world_in y ≡ record (numbered e (world_in (record x { stacks = stacks }))) { place = x.place + 1 } → map calls_in y.stacks ≡ map calls_in stacks → StepsOver x e y
   stepped_on n vs va he hp hc w a =
       let known : stack_known (value_at name x.stacks) ≡ s.stack = ap stack_known stands in
       let calls : awaited_known (value_at name x.stacks) ≡ s.awaited = ap awaited_known stands in
@@ -161,6 +161,6 @@ module _ (x : Fields) (stacks : List Named) (y : Fields) (e : Entry) (name : Lis
       record {
         world = after (world_in x) (world_in (record x { stacks = stacks })) (world_in y) e
             (changed_put x (record x { stacks = stacks }) e name s.stack v x.exports x.pins x.claims (of_it ∙ ap (λ (t : StackState). Some (name, t)) known) is_mid n vs
-            (ap (λ (o : Option (List (List ℕ × List ℕ))). exports_after name o x.exports) (sym he)) (ap (λ (l : Listed). pins_after name l x.pins) (sym hp)) (ap (λ (l : Listed). pins_after name l x.claims) (sym hc))) w;
+            (ap (λ (o : Option (List (List ℕ × List ℕ))). exports_after name o x.exports) (sym he)) (ap (λ (l : NamesAfter). pins_after name l x.pins) (sym hp)) (ap (λ (l : NamesAfter). pins_after name l x.claims) (sym hc))) w;
         awaited = a ∙ awaited_put x (record x { stacks = stacks }) e name s.stack v x.exports x.pins x.claims (of_it ∙ ap (λ (t : StackState). Some (name, t)) known) is_mid (va ∙ ap (calls_after e) (sym calls));
       }

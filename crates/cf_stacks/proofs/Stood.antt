@@ -4,11 +4,11 @@ use Rattle.cf_entry.specs.declared.entry.Entry.{Entry}
 use Rattle.cf_entry.specs.declared.entry.Entry.TheVariants as entry
 use Rattle.cf_stacks.specs.declared.ready.Ready.{Ready}
 use Rattle.cf_stacks.specs.declared.standing.Fields.{Fields}
-use Rattle.cf_stacks.specs.Fold.{world_after}
+use Rattle.cf_effect.specs.Fold.{world_after}
 use Rattle.cf_stacks.specs.Ready.{IsAnswer, IsPrepared}
 use Rattle.cf_stacks.specs.Room.{HasRoom, KeepsRooms, StackStanding, Standing, awaited_after, awaited_with, has_call, stepped, with_room, without_awaited}
-use Rattle.cf_stacks.specs.Standing.{KeepsStacks, Steps, awaited_in, awaited_known, awaits_on, calls_in, calls_total, stack_in, standing_in, world_in}
-use Rattle.cf_stacks.specs.World.{World}
+use Rattle.cf_stacks.specs.Standing.{KeepsStacks, StepsOver, awaited_in, awaited_known, awaits_on, calls_in, calls_total, stack_in, standing_in, world_in}
+use Rattle.cf_effect.specs.World.{World}
 use Rattle.cf_stacks.specs.Worlds.{IsPreparedIn, IsStanding, entry_ready, places_ready}
 use Rattle.cf_stacks.specs.declared.world.World.TheInside.{Inside}
 use Rattle.cf_stacks.proofs.Answering.{is_outcome, stands_there, waits}
@@ -24,7 +24,7 @@ pub stands_same : (w v : World) (r q : Option Entry) (a b : List (List ℕ × Li
 stands_same w v r q a b e f g = rw (e, f, g) refl
 
 -- after a step
-pub stepped_so : (x y : Fields) (e : Entry) (r : Option Entry) (was : Standing) → Steps x e y → stands (world_in x) r (awaited_in x) ≡ was → stands (world_in y) None (awaited_in y) ≡ stepped was e
+pub stepped_so : (x y : Fields) (e : Entry) (r : Option Entry) (was : Standing) → StepsOver x e y → stands (world_in x) r (awaited_in x) ≡ was → stands (world_in y) None (awaited_in y) ≡ stepped was e
 stepped_so x y e r was h is =
     stands_same (world_in y) (world_after (world_in x) e) None None (awaited_in y) (awaited_after e (stands (world_in x) r (awaited_in x))) h.world refl h.awaited
     ∙ ap (λ (s : Standing). stepped s e) is

@@ -5,7 +5,9 @@ use Rattle.cf_tree.specs.Keys.{ascends, put, value_at}
 use Rattle.cf_entry.specs.declared.entry.Begun.TheVariants as begin
 use Rattle.cf_entry.specs.declared.entry.Entry.{Entry}
 use Rattle.cf_entry.specs.declared.entry.Entry.TheVariants as entry
-use Rattle.cf_stacks.specs.Room.{IsShortOutcomeOf, StackStanding, calls_after, has_call, is_intent, with_awaited, without_awaited}
+use Rattle.cf_effect.specs.Bounds.{IsShortOutcomeOf}
+use Rattle.cf_stacks.specs.Room.{StackStanding, calls_after, has_call, with_awaited, without_awaited}
+use Rattle.cf_effect.specs.Fold.{is_intent}
 use Rattle.cf_stacks.specs.Standing.{Named, awaited_known, calls_in, calls_total, opened_as}
 use Rattle.cf_stacks.proofs.Worlds.{total_put}
 

@@ -14,7 +14,8 @@ use Rattle.cf_tree.proofs.Order.{ascends_map, ascends_put}
 use Rattle.cf_entry.specs.declared.entry.Begun.TheVariants as begin
 use Rattle.cf_entry.specs.declared.entry.Entry.{Entry}
 use Rattle.cf_entry.specs.declared.entry.Entry.TheVariants as entry
-use Rattle.cf_stacks.specs.Room.{StackStanding, calls_after, is_intent}
+use Rattle.cf_stacks.specs.Room.{StackStanding, calls_after}
+use Rattle.cf_effect.specs.Fold.{is_intent}
 use Rattle.cf_stacks.specs.Standing.{Named, calls_total, opened_as}
 
 turned_round : (o : Ordering) → o ≡ ordering_reverse o → o ≡ Equal

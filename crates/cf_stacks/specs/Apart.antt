@@ -4,8 +4,8 @@ use Rattle.std.specs.Prelude.{◌≡◌, ⊤, ℕ, ◌<◌, ◌≤◌, Some, IsT
 use Rattle.cf_tree.specs.Keys.{ascends}
 use Rattle.cf_entry.specs.declared.entry.Entry.{Entry}
 use Rattle.cf_entry.specs.declared.entry.Entry.TheVariants as entry
-use Rattle.cf_stacks.specs.World.{StackState, World, stack_at}
-use Rattle.cf_stacks.specs.Fold.{world_after}
+use Rattle.cf_effect.specs.World.{StackState, World, stack_at}
+use Rattle.cf_effect.specs.Fold.{world_after}
 
 -- names ascend, no operation is above the last one, and no two stacks have the same, but for those on which none ever began
 pub record AreApart (x : World) : Type 0 where

@@ -8,9 +8,10 @@ use Rattle.cf_stacks.specs.declared.ready.Work.{Work}
 use Rattle.cf_stacks.specs.declared.ready.Work.TheVariants as work
 use Rattle.cf_stacks.specs.declared.standing.Fields.{Fields}
 use Rattle.cf_stacks.specs.declared.stack.CallParts.{CallParts}
-use Rattle.cf_stacks.specs.declared.heard.HeardEntry.{HeardEntry}
-use Rattle.cf_stacks.specs.Fold.{is_opening, stack_for}
-use Rattle.cf_stacks.specs.Room.{IsShortReply, is_awaited, is_intent}
+use Rattle.cf_effect.specs.declared.heard.HeardEntry.{HeardEntry}
+use Rattle.cf_effect.specs.Fold.{is_intent, is_opening, stack_for}
+use Rattle.cf_effect.specs.Bounds.{IsShortReply}
+use Rattle.cf_stacks.specs.Room.{is_awaited}
 use Rattle.cf_stacks.specs.Standing.{CallFits, HasOne, IsLeft, IsPartsOf, stack_known, standing_in, world_in}
 
 -- the entry is of the stack of this name

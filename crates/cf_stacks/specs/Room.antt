@@ -4,15 +4,15 @@ use Rattle.std.specs.Prelude.{◌≡◌, ⊤, ℕ, ◌==◌, ◌≤◌, ◌⊎�
 use Rattle.std.specs.List.{list_any}
 use Rattle.std.specs.Option.{option_map_or, unwrap_or}
 use Rattle.cf_tree.specs.Keys.{put, value_at}
-use Rattle.cf_tree.specs.SizeOf.{size_of_dict}
 use Rattle.cf_entry.specs.declared.entry.Begun.TheVariants as begin
 use Rattle.cf_entry.specs.declared.entry.Entry.{Entry}
 use Rattle.cf_entry.specs.declared.entry.Entry.TheVariants as entry
 use Rattle.cf_entry.specs.declared.entry.Reply.{Reply}
 use Rattle.cf_entry.specs.declared.entry.Reply.TheVariants as reply
-use Rattle.cf_stacks.specs.World.{StackState, World, stack_of_operation}
-use Rattle.cf_stacks.specs.Words.{pending_of}
-use Rattle.cf_stacks.specs.Fold.{stack_for, world_after}
+use Rattle.cf_effect.specs.World.{StackState, World, stack_of_operation}
+use Rattle.cf_effect.specs.Words.{pending_of}
+use Rattle.cf_effect.specs.Fold.{stack_for, world_after}
+use Rattle.cf_effect.specs.Bounds.{IsShortReply}
 
 -- a world, the entry that it has room for, and of each stack, by its name, the open calls whose next outcome has room
 pub record Standing : Type 0 where
@@ -59,11 +59,6 @@ awaited_with e x = x.awaited
 abbrev pub with_room : Entry → Standing → Standing
 with_room e x = record { world = x.world; ready = Some e; awaited = awaited_with e x }
 
--- The longest answer: an id has at most 1,024 bytes, and attributes encode to at most 524,288.
-abbrev pub IsShortReply : Reply → Type 0
-IsShortReply (reply.Success physical attrs) = (length physical ≤ 1024) × (size_of_dict attrs ≤ 524288)
-IsShortReply _ = ⊤
-
 -- the outcome of the call of this token is awaited on the stack of the operation
 abbrev pub is_awaited : ℕ → ℕ → Standing → Bool
 is_awaited number token x = option_map_or (λ s. has_call token (awaited_at s.0 x)) (stack_of_operation number x.world) false
@@ -74,20 +69,10 @@ HasRoom x (entry.Outcome number token answer before after) =
     ((is_awaited number token x ≡ true) × IsShortReply answer) ⊎ (x.ready ≡ Some (entry.Outcome number token answer before after))
 HasRoom x e = x.ready ≡ Some e
 
--- the entry is an intent
-abbrev pub is_intent : Entry → Bool
-is_intent (entry.Intent number token lane path r) = true
-is_intent e = false
-
 -- the answer of an outcome
 abbrev pub answer_in : Entry → Option Reply
 answer_in (entry.Outcome number token answer before after) = Some answer
 answer_in e = None
-
--- the entry is a short outcome of this call
-abbrev pub IsShortOutcomeOf : ℕ → Entry → Type 0
-IsShortOutcomeOf token (entry.Outcome number other answer before after) = (other ≡ token) × IsShortReply answer
-IsShortOutcomeOf token e = ⊥
 
 -- An intent leaves its call awaited, an outcome takes its call's room. A create or update begins on its stack with no call awaited.
 abbrev pub calls_after : Entry → List ℕ → List ℕ

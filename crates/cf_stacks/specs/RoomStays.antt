@@ -8,8 +8,9 @@ use Rattle.cf_entry.specs.declared.entry.Begun.TheVariants as begin
 use Rattle.cf_entry.specs.declared.entry.Entry.{Entry}
 use Rattle.cf_entry.specs.declared.entry.Entry.TheVariants as entry
 use Rattle.cf_entry.specs.declared.entry.Reply.{Reply}
-use Rattle.cf_stacks.specs.World.{StackState, stack_of_operation}
-use Rattle.cf_stacks.specs.Room.{HasRoom, IsShortReply, Standing, awaited_at, has_call, stack_of_call, stepped, with_room}
+use Rattle.cf_effect.specs.World.{StackState, stack_of_operation}
+use Rattle.cf_stacks.specs.Room.{HasRoom, Standing, awaited_at, has_call, stack_of_call, stepped, with_room}
+use Rattle.cf_effect.specs.Bounds.{IsShortReply}
 
 -- what is done to a world: room is made for an entry, or an entry is stepped over
 pub data Act : Type 0 where

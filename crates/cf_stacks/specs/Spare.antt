@@ -1,29 +1,18 @@
--- How much memory is laid by: room in the lists of a stack, and what the outcome of a call takes (this project's own).
+-- How much memory is laid by for the outcome of a call (this project's own).
 use Rattle.std.specs.Prelude.{◌≡◌, ⊤, ℕ, ◌+◌, ◌≤◌, ◌==◌, Bool, true, false, List, [], ◌∷◌, Option, Some, find, length, string_bytes, string_capacity, vec_len, vec_capacity}
 use Rattle.std.specs.List.{AllByRecursion}
 use Rattle.cf_tree.specs.declared.request.Request.{Request}
 use Rattle.cf_entry.specs.declared.entry.Begun.TheVariants as begin
 use Rattle.cf_entry.specs.declared.entry.Entry.{Entry}
 use Rattle.cf_entry.specs.declared.entry.Entry.TheVariants as entry
-use Rattle.cf_stacks.specs.declared.held.Pending.{Pending}
-use Rattle.cf_stacks.specs.declared.terms.Terms.{Terms}
+use Rattle.cf_effect.specs.declared.held.Pending.{Pending}
+use Rattle.cf_effect.specs.declared.terms.Terms.{Terms}
 use Rattle.cf_stacks.specs.declared.room.CallRoom.{CallRoom}
-use Rattle.cf_stacks.specs.declared.state.State.{State}
-use Rattle.cf_stacks.specs.World.{StackState}
-use Rattle.cf_stacks.specs.Words.{has_token, is_create, is_created, pending_of}
-use Rattle.cf_stacks.specs.Reply.{terms_at}
-
--- so many may join each of the lists that an intent or an outcome adds to
-pub record HasSpare (n : ℕ) (s : State) : Type 0 where
-  pub made : vec_len s.made + n ≤ vec_capacity s.made
-  pub tokens : vec_len s.tokens + n ≤ vec_capacity s.tokens
-  pub events : vec_len s.events + n ≤ vec_capacity s.events
-  pub entries : vec_len s.entries + n ≤ vec_capacity s.entries
-  pub ledger : vec_len s.ledger + n ≤ vec_capacity s.ledger
-
--- these are the policies and needs of what the call of a token makes
-abbrev pub TermsFit : ℕ → Terms → StackState → Type 0
-TermsFit token t s = (p : Pending) → pending_of token s ≡ Some p → is_created p ≡ true → t ≡ terms_at p.path s
+use Rattle.cf_effect.specs.declared.state.State.{State}
+use Rattle.cf_effect.specs.Reserve.{TermsFit}
+use Rattle.cf_effect.specs.World.{StackState}
+use Rattle.cf_effect.specs.Words.{has_token, is_create, is_created, pending_of}
+use Rattle.cf_effect.specs.Reply.{terms_at}
 
 -- the line of its outcome fits
 abbrev pub LineFits : ℕ → ℕ → StackState → Type 0

@@ -4,8 +4,9 @@ use Rattle.std.specs.List.{AllByRecursion}
 use Rattle.cf_stacks.specs.declared.room.CallRoom.{CallRoom}
 use Rattle.cf_stacks.specs.declared.stack.StackState.TheInside.{Inside}
 use Rattle.cf_stacks.specs.Room.{StackStanding}
-use Rattle.cf_stacks.specs.Spare.{HaveOwnTokens, HasSpare, IsRoomFor}
-use Rattle.cf_stacks.specs.State.{state_of}
+use Rattle.cf_stacks.specs.Spare.{HaveOwnTokens, IsRoomFor}
+use Rattle.cf_effect.specs.Reserve.{HasSpare}
+use Rattle.cf_effect.specs.State.{state_of}
 
 abbrev pub token_of_room : CallRoom → ℕ
 token_of_room r = r.token

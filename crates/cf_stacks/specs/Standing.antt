@@ -9,19 +9,20 @@ use Rattle.cf_entry.specs.declared.entry.Entry.TheVariants as entry
 use Rattle.cf_stacks.specs.declared.standing.Fields.{Fields}
 use Rattle.cf_stacks.specs.declared.standing.Left.{Left}
 use Rattle.cf_stacks.specs.declared.stack.CallParts.{CallParts}
-use Rattle.cf_stacks.specs.declared.state.State.{State}
-use Rattle.cf_stacks.specs.Words.{pending_of}
-use Rattle.cf_stacks.specs.World.{StackState, World, no_stack}
-use Rattle.cf_stacks.specs.Calls.{new_call}
-use Rattle.cf_stacks.specs.Effect.{Effect}
-use Rattle.cf_stacks.specs.Event.{lines_of}
-use Rattle.cf_stacks.specs.Fold.{effect_at, world_after}
-use Rattle.cf_stacks.specs.Listed.{exports_after, pins_after}
-use Rattle.cf_stacks.specs.Reply.{intending}
+use Rattle.cf_effect.specs.declared.state.State.{State}
+use Rattle.cf_effect.specs.Words.{pending_of}
+use Rattle.cf_effect.specs.World.{StackState, World, no_stack}
+use Rattle.cf_effect.specs.Calls.{new_call}
+use Rattle.cf_effect.specs.Effect.{Effect}
+use Rattle.cf_effect.specs.Event.{lines_of}
+use Rattle.cf_effect.specs.Fold.{effect_at, world_after}
+use Rattle.cf_effect.specs.Listed.{exports_after, pins_after}
+use Rattle.cf_effect.specs.Reply.{intending}
 use Rattle.cf_stacks.specs.Room.{Standing, StackStanding, awaited_after, calls_after, with_awaited}
-use Rattle.cf_stacks.specs.Spare.{HaveOwnTokens, HasSpare, IsRoomFor, LeavesCalls}
+use Rattle.cf_stacks.specs.Spare.{HaveOwnTokens, IsRoomFor, LeavesCalls}
+use Rattle.cf_effect.specs.Reserve.{HasSpare}
 use Rattle.cf_stacks.specs.Stacked.{places_for}
-use Rattle.cf_stacks.specs.State.{state_of}
+use Rattle.cf_effect.specs.State.{state_of}
 
 abbrev pub Named : Type 0
 Named = List ℕ × StackStanding
@@ -113,7 +114,7 @@ IsPartsOf e parts place s = ⊥
 abbrev pub standing_in : Fields → Standing
 standing_in x = record { world = world_in x; ready = None; awaited = awaited_in x }
 
-pub record Steps (old : Fields) (e : Entry) (new : Fields) : Type 0 where
+pub record StepsOver (old : Fields) (e : Entry) (new : Fields) : Type 0 where
   pub world : world_in new ≡ world_after (world_in old) e
   pub awaited : awaited_in new ≡ awaited_after e (standing_in old)
 

@@ -5,27 +5,25 @@ ghost use Rattle.std.specs.Option.{option_map_or, unwrap_or};
 ghost use Rattle.cf_tree.specs.Keys.{ascends, value_at};
 ghost use Rattle.cf_entry.specs.declared.entry.Entry.{Entry as Written};
 ghost use Rattle.cf_entry.specs.declared.entry.Entry.TheVariants as entry;
-ghost use Rattle.cf_stacks.specs.Fold.{effect_at, is_opening, stack_for};
-ghost use Rattle.cf_stacks.specs.Listed.{exports_after, pins_after};
+ghost use Rattle.cf_effect.specs.Fold.{effect_at, is_intent, is_opening, stack_for};
+ghost use Rattle.cf_effect.specs.Listed.{exports_after, pins_after};
 ghost use Rattle.cf_stacks.specs.Ready.{IsAnswer, IsOfStack, IsPrepared};
-ghost use Rattle.cf_stacks.specs.Room.{HasRoom, IsShortReply, has_call, is_awaited, is_intent};
-ghost use Rattle.cf_stacks.specs.Spare.{HasSpare};
+ghost use Rattle.cf_stacks.specs.Room.{HasRoom, has_call, is_awaited};
+ghost use Rattle.cf_effect.specs.Bounds.{IsShortReply};
+ghost use Rattle.cf_effect.specs.Reserve.{HasSpare};
 ghost use Rattle.cf_stacks.specs.Stacked.{places_for};
-ghost use Rattle.cf_stacks.specs.Standing.{CallFits, HasOne, IsLeft, IsPartsOf, KeepsStacks, awaits_on, has_open, Steps, awaited_known, calls_in, calls_total, stack_in, stack_known, standing_in, world_in};
-ghost use Rattle.cf_stacks.specs.State.{effect_from, names_listed, state_of};
-ghost use Rattle.cf_stacks.specs.World.{StackState as Known, is_going, no_stack, stack_at, stack_of_operation};
+ghost use Rattle.cf_stacks.specs.Standing.{CallFits, HasOne, IsLeft, IsPartsOf, KeepsStacks, awaits_on, has_open, StepsOver, awaited_known, calls_in, calls_total, stack_in, stack_known, standing_in, world_in};
+ghost use Rattle.cf_effect.specs.State.{effect_from, names_listed, state_of};
+ghost use Rattle.cf_effect.specs.World.{StackState as Known, is_going, no_stack, stack_at, stack_of_operation};
 
-use crate::call::new_call;
-use crate::effect::effect_at;
-use crate::events::intent_line;
-use crate::heard::HeardEntry;
-use crate::held::open_call;
-use crate::listed::{Lists, listed_exports, listed_pins};
 use crate::stack::{CallParts, StackState, Stacks};
 use crate::standing::{
     Fields, Left, answer_going, call_on, going_at, going_in, in_order, open_all,
 };
-use crate::state::State;
+use cf_effect::{
+    HeardEntry, Lists, State, effect_at, intent_line, listed_exports, listed_pins, new_call,
+    open_call,
+};
 use cf_entry::{Begun, Entry, Reply};
 use cf_tree::{Request, TryClone, Txt};
 use std::alloc::{AllocError, Global};
@@ -59,7 +57,7 @@ impl Fields {
         requires place { self.old.place + 1 < 2 ^ 64 }
         requires opening { is_opening entry ≡ false }
         requires none { stack_for entry (world_in self.old) ≡ None }
-        ensures steps { Steps self.old entry self.new }
+        ensures steps { StepsOver self.old entry self.new }
         ensures total { calls_total self.new.stacks ≡ calls_total self.old.stacks }
     {
         self.count(entry);
@@ -72,7 +70,7 @@ impl Fields {
         requires spare { AllByRecursion HasOne self.old.stacks }
         requires copies { AllByRecursion (λ e. e ≡ entry) copies.items }
         requires enough { length self.old.stacks ≤ length copies.items }
-        ensures steps { Steps self.old entry self.new }
+        ensures steps { StepsOver self.old entry self.new }
         ensures total { calls_total self.new.stacks ≡ calls_total self.old.stacks }
     {
         open_all(&mut self.stacks, self.place + 1, copies, &entry);
@@ -87,7 +85,7 @@ impl Fields {
         requires stands { is_some (value_at name self.old.stacks) ≡ true }
         requires fits { IfSome (value_at name self.old.stacks) (CallFits parts) }
         requires parts { IsPartsOf entry parts (self.old.place + 1) (stack_known (value_at name self.old.stacks)) }
-        ensures steps { Steps self.old entry self.new }
+        ensures steps { StepsOver self.old entry self.new }
         ensures total { calls_total self.new.stacks ≤ calls_total self.old.stacks + 1 }
     {
         in_order(&self.stacks);
@@ -103,7 +101,7 @@ impl Fields {
         requires intent { is_intent entry ≡ false }
         requires of_it { IsOfStack name entry self.old }
         requires left { IsLeft entry name left self.old }
-        ensures steps { Steps self.old entry self.new }
+        ensures steps { StepsOver self.old entry self.new }
         ensures total { calls_total self.new.stacks ≤ calls_total self.old.stacks }
     {
         in_order(&self.stacks);
@@ -116,7 +114,7 @@ impl Fields {
         requires place { self.old.place + 1 < 2 ^ 64 }
         requires copy { ready.entry ≡ entry }
         requires work { IsPrepared entry self.old ready.work }
-        ensures steps { Steps self.old entry self.new }
+        ensures steps { StepsOver self.old entry self.new }
         ensures total { calls_total self.new.stacks ≤ calls_total self.old.stacks + 1 }
     {
         let Ready { entry: copy, work } = ready;
@@ -577,7 +575,7 @@ impl Fields {
     pub(crate) fn step_answer(&mut self, number: u64, token: u64, entry: Entry)
         requires place { self.old.place + 1 < 2 ^ 64 }
         requires answer { IsAnswer number token entry self.old }
-        ensures steps { Steps self.old entry self.new }
+        ensures steps { StepsOver self.old entry self.new }
         ensures total { calls_total self.new.stacks + 1 ≤ calls_total self.old.stacks }
     {
         in_order(&self.stacks);

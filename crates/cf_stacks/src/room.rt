@@ -1,17 +1,15 @@
 //! What the outcome of a call takes of memory.
 ghost use Rattle.std.specs.Prelude.{◌≡◌, ◌≤◌, ◌+◌, ◌∷◌, ◌++◌, [], List, ℕ, IfOk, IfSome, true, filter, find, not, position, string_bytes, string_capacity, vec_len, vec_capacity};
-ghost use Rattle.cf_stacks.specs.Fold.{effect_at};
-ghost use Rattle.cf_stacks.specs.Room.{IsShortOutcomeOf, answer_in};
+ghost use Rattle.cf_effect.specs.Fold.{effect_at};
+ghost use Rattle.cf_effect.specs.Bounds.{IsShortOutcomeOf};
+ghost use Rattle.cf_stacks.specs.Room.{answer_in};
 ghost use Rattle.std.specs.List.{list_any};
-ghost use Rattle.cf_stacks.specs.Reply.{intending};
-ghost use Rattle.cf_stacks.specs.Spare.{HasSpare, IsNewRoom, IsRoomFor, LineFits, is_room_of};
-ghost use Rattle.cf_stacks.specs.State.{state_of};
+ghost use Rattle.cf_effect.specs.Reply.{intending};
+ghost use Rattle.cf_effect.specs.Reserve.{HasSpare};
+ghost use Rattle.cf_stacks.specs.Spare.{IsNewRoom, IsRoomFor, LineFits, is_room_of};
+ghost use Rattle.cf_effect.specs.State.{state_of};
 
-use crate::heard::HeardEntry;
-use crate::lines::{growing_line, line_in_room};
-use crate::state::State;
-use crate::terms::Terms;
-use crate::tokens::{is_open, pending_with};
+use cf_effect::{HeardEntry, State, Terms, growing_line, is_open, line_in_room, pending_with};
 use cf_entry::{Entry, Reply};
 use cf_tree::{Request, Txt};
 use std::alloc::{AllocError, Global};
@@ -78,7 +76,7 @@ fn place_of_room(rooms: &[CallRoom], token: u64) -> Option<usize>
 }
 
 /// Takes the room of a call, where it is there.
-#[tactic(auto, using(crate::proofs::Closed::closed_first, crate::proofs::Closed::first_closed, crate::proofs::Closed::none_closed, crate::proofs::Closed::closed_none))]
+#[tactic(auto, using(cf_effect::proofs::Closed::closed_first, cf_effect::proofs::Closed::first_closed, cf_effect::proofs::Closed::none_closed, cf_effect::proofs::Closed::closed_none))]
 pub(crate) fn take_room(rooms: &mut Vec<CallRoom>, token: u64) -> Option<CallRoom>
     ensures room { result ≡ find (is_room_of token) rooms.old.items }
     ensures items { rooms.new.items ≡ filter (λ r. not (is_room_of token r)) rooms.old.items }
@@ -122,93 +120,91 @@ pub(crate) fn put_room(rooms: &mut Vec<CallRoom>, room: CallRoom)
     rooms.push_reserved(room);
 }
 
-impl State {
-    /// Room for the line of the next outcome of a call, where it is open.
-    fn line_of_call(&self, alloc: Global, token: u64) -> Result<String, AllocError>
-        ensures empty { IfOk result (λ line. string_bytes line ≡ []) }
-        ensures line { IfOk result (λ line. LineFits token (string_capacity line) (state_of self.now)) }
-    {
-        match pending_with(self.tokens.as_slice(), token) {
-            Some(pending) => growing_line(alloc, &pending.path),
-            None => Ok(String::new(alloc)),
+/// Room for the line of the next outcome of a call, where it is open.
+fn line_of_call(state: &State, alloc: Global, token: u64) -> Result<String, AllocError>
+    ensures empty { IfOk result (λ line. string_bytes line ≡ []) }
+    ensures line { IfOk result (λ line. LineFits token (string_capacity line) (state_of state.now)) }
+{
+    match pending_with(state.tokens.as_slice(), token) {
+        Some(pending) => growing_line(alloc, &pending.path),
+        None => Ok(String::new(alloc)),
+    }
+}
+
+/// Room for the next outcome of an open call.
+pub(crate) fn room_of_call(state: &State, alloc: Global, token: u64) -> Result<CallRoom, AllocError>
+    ensures token { IfOk result (λ r. r.token ≡ token) }
+    ensures room { IfOk result (λ r. IsRoomFor (state_of state.now) r) }
+{
+    let terms = state.terms_of_call(alloc, token)?;
+    let line = line_of_call(state, alloc, token)?;
+    CallRoom::new(alloc, token, terms, line)
+}
+
+/// Room for the next outcome of a call that goes out under a token that is not open.
+fn room_of_new(
+    state: &State,
+    alloc: Global,
+    token: u64,
+    path: &Txt,
+    request: &Request,
+) -> Result<CallRoom, AllocError>
+    ensures token { IfOk result (λ r. r.token ≡ token) }
+    ensures room { IfOk result (IsNewRoom path.now request.now (state_of state.now)) }
+{
+    let terms = state.terms_of_request(alloc, path, request)?;
+    let line = growing_line(alloc, path)?;
+    CallRoom::new(alloc, token, terms, line)
+}
+
+/// Room for the next outcome of a call that goes out, or of the one that is open under its token.
+#[tactic(auto, using(crate::proofs::Calling::room_of_new, crate::proofs::Calling::room_of_open))]
+pub(crate) fn room_for_call(
+    state: &State,
+    alloc: Global,
+    token: u64,
+    path: &Txt,
+    request: &Request,
+) -> Result<CallRoom, AllocError>
+    ensures token { IfOk result (λ r. r.token ≡ token) }
+    ensures room { IfOk result (λ r. (number : ℕ) (lane : List ℕ)
+        → IsRoomFor (intending number (record {
+          token = token;
+          path = path.now;
+          lane = lane;
+          request = request.now;
+        }) (state_of state.now)) r) }
+{
+    if is_open(state.tokens.as_slice(), token) {
+        room_of_call(state, alloc, token)
+    } else {
+        room_of_new(state, alloc, token, path, request)
+    }
+}
+
+/// Takes the outcome of a call, for which there is room, and hears of it; it takes no memory.
+#[tactic(auto, using(crate::proofs::Short::outcome_short))]
+pub(crate) fn take_outcome(state: &mut State, place: u64, entry: Entry, room: CallRoom)
+    requires outcome { IsShortOutcomeOf room.token entry }
+    requires room { IsRoomFor (state_of state.old) room }
+    requires spare { HasSpare 2 state.old }
+    ensures state { state_of state.new ≡ (effect_at place entry (state_of state.old)).stack }
+    ensures spare { (n : ℕ) → HasSpare (n + 2) state.old → HasSpare n state.new }
+{
+    let CallRoom {
+        token,
+        terms,
+        line,
+        spelled,
+    } = room;
+    let heard = HeardEntry::keep(token, &entry, spelled);
+    match reply_in(entry) {
+        Some(answer) => {
+            let pending = pending_with(state.tokens.as_slice(), token);
+            let line = line_in_room(line, place, &answer, pending);
+            state.take_answer(token, answer, terms);
+            state.hear(heard, line);
         }
-    }
-
-    /// Room for the next outcome of an open call.
-    pub(crate) fn room_of_call(&self, alloc: Global, token: u64) -> Result<CallRoom, AllocError>
-        ensures token { IfOk result (λ r. r.token ≡ token) }
-        ensures room { IfOk result (λ r. IsRoomFor (state_of self.now) r) }
-    {
-        let terms = self.terms_of_call(alloc, token)?;
-        let line = self.line_of_call(alloc, token)?;
-        CallRoom::new(alloc, token, terms, line)
-    }
-
-    /// Room for the next outcome of a call that goes out under a token that is not open.
-    fn room_of_new(
-        &self,
-        alloc: Global,
-        token: u64,
-        path: &Txt,
-        request: &Request,
-    ) -> Result<CallRoom, AllocError>
-        ensures token { IfOk result (λ r. r.token ≡ token) }
-        ensures room { IfOk result (IsNewRoom path.now request.now (state_of self.now)) }
-    {
-        let terms = self.terms_of_request(alloc, path, request)?;
-        let line = growing_line(alloc, path)?;
-        CallRoom::new(alloc, token, terms, line)
-    }
-
-    /// Room for the next outcome of a call that goes out, or of the one that is open under its token.
-    #[tactic(auto, using(crate::proofs::Calling::room_of_new, crate::proofs::Calling::room_of_open))]
-    pub(crate) fn room_for_call(
-        &self,
-        alloc: Global,
-        token: u64,
-        path: &Txt,
-        request: &Request,
-    ) -> Result<CallRoom, AllocError>
-        ensures token { IfOk result (λ r. r.token ≡ token) }
-        ensures room { IfOk result (λ r. (number : ℕ) (lane : List ℕ)
-            → IsRoomFor (intending number (record {
-              token = token;
-              path = path.now;
-              lane = lane;
-              request = request.now;
-            }) (state_of self.now)) r) }
-    {
-        if is_open(self.tokens.as_slice(), token) {
-            self.room_of_call(alloc, token)
-        } else {
-            self.room_of_new(alloc, token, path, request)
-        }
-    }
-
-    /// Takes the outcome of a call, for which there is room, and hears of it; it takes no memory.
-    #[tactic(auto, using(crate::proofs::Short::outcome_short))]
-    pub(crate) fn take_outcome(&mut self, place: u64, entry: Entry, room: CallRoom)
-        requires outcome { IsShortOutcomeOf room.token entry }
-        requires room { IsRoomFor (state_of self.old) room }
-        requires spare { HasSpare 2 self.old }
-        ensures state { state_of self.new ≡ (effect_at place entry (state_of self.old)).stack }
-        ensures spare { (n : ℕ) → HasSpare (n + 2) self.old → HasSpare n self.new }
-    {
-        let CallRoom {
-            token,
-            terms,
-            line,
-            spelled,
-        } = room;
-        let heard = HeardEntry::keep(token, &entry, spelled);
-        match reply_in(entry) {
-            Some(answer) => {
-                let pending = pending_with(self.tokens.as_slice(), token);
-                let line = line_in_room(line, place, &answer, pending);
-                self.take_answer(token, answer, terms);
-                self.hear(heard, line);
-            }
-            None => unreachable!(),
-        }
+        None => unreachable!(),
     }
 }

@@ -1,27 +1,28 @@
 //! A stack, as a journal's entries leave it.
 ghost use Rattle.std.specs.Prelude.{◌≡◌, ◌≤◌, ◌+◌, ◌-◌, ◌∷◌, ◌++◌, [], List, ℕ, IfOk, OnErr, OnOk, is_some, length, map, option_copied, true};
-ghost use Rattle.cf_stacks.specs.Calls.{new_call};
-ghost use Rattle.cf_stacks.specs.Effect.{on_stack};
-ghost use Rattle.cf_stacks.specs.Fold.{effect_at, is_opening};
-ghost use Rattle.cf_stacks.specs.End.{seen_now};
-ghost use Rattle.cf_stacks.specs.Reply.{intending, terms_at};
-ghost use Rattle.cf_stacks.specs.Room.{IsShortOutcomeOf, StackStanding, calls_after, has_call, with_awaited, without_awaited};
-ghost use Rattle.cf_stacks.specs.Spare.{HaveOwnTokens, HasSpare, IsRoomFor, KeepsCalls};
+ghost use Rattle.cf_effect.specs.Calls.{new_call};
+ghost use Rattle.cf_effect.specs.Effect.{on_stack};
+ghost use Rattle.cf_effect.specs.Fold.{effect_at, is_opening};
+ghost use Rattle.cf_effect.specs.End.{seen_now};
+ghost use Rattle.cf_effect.specs.Reply.{intending, terms_at};
+ghost use Rattle.cf_effect.specs.Bounds.{IsShortOutcomeOf};
+ghost use Rattle.cf_stacks.specs.Room.{StackStanding, calls_after, has_call, with_awaited, without_awaited};
+ghost use Rattle.cf_stacks.specs.Spare.{HaveOwnTokens, IsRoomFor, KeepsCalls};
+ghost use Rattle.cf_effect.specs.Reserve.{HasSpare};
 ghost use Rattle.cf_stacks.specs.Stacked.{places_for};
 ghost use Rattle.cf_stacks.specs.Standing.{CallFits, called};
-ghost use Rattle.cf_stacks.specs.State.{before_in, source_in, state_of};
-ghost use Rattle.cf_stacks.specs.Words.{pending_of};
-ghost use Rattle.cf_stacks.specs.World.{no_stack};
+ghost use Rattle.cf_effect.specs.State.{before_in, source_in, state_of};
+ghost use Rattle.cf_effect.specs.Words.{pending_of};
+ghost use Rattle.cf_effect.specs.World.{no_stack};
 
-use crate::call::{Call, Ledger};
-use crate::heard::{HeardEntries, HeardEntry};
-use crate::held::{Abandoned, Held, Helds, KeptSets, Leftovers, Pending, Pendings};
-use crate::outset::Outset;
-use crate::room::{CallRoom, forget, has_room, put_room, take_room};
-use crate::state::{Lines, State};
-use crate::terms::Terms;
-use crate::tokens::is_open;
+use crate::room::{
+    CallRoom, forget, has_room, put_room, room_for_call, room_of_call, take_outcome, take_room,
+};
 use cf_desired::Seen;
+use cf_effect::{
+    Abandoned, Call, HeardEntries, HeardEntry, Held, Helds, KeptSets, Ledger, Leftovers, Lines,
+    Outset, Pending, Pendings, State, Terms, is_open,
+};
 use cf_entry::{Entry, Status};
 use cf_export::Outputs;
 use cf_tree::{ByName, Request, Source, Txt};
@@ -120,7 +121,7 @@ impl StackState {
               request = request.now;
             }) self.now.stack) r) }
     {
-        self.state.room_for_call(alloc, token, path, request)
+        room_for_call(&self.state, alloc, token, path, request)
     }
 
     /// Lays memory by for so many intents or outcomes besides those that are awaited. After an error
@@ -193,7 +194,7 @@ impl StackState {
         ensures ok { OnOk result (self.new ≡ record self.old { awaited = with_awaited token self.old.awaited; spare = self.new.spare }) }
         ensures err { OnErr result (self.new ≡ record self.old { spare = self.new.spare }) }
     {
-        let room = self.state.room_of_call(alloc, token)?;
+        let room = room_of_call(&self.state, alloc, token)?;
         match self.reserve(1) {
             Ok(()) => {
                 put_room(&mut self.rooms, room);
@@ -254,7 +255,7 @@ impl StackState {
         } }
     {
         match take_room(&mut self.rooms, token) {
-            Some(room) => self.state.take_outcome(place, entry, room),
+            Some(room) => take_outcome(&mut self.state, place, entry, room),
             None => unreachable!(),
         }
     }

@@ -3,18 +3,18 @@ ghost use Rattle.std.specs.Prelude.{◌≡◌, ◌≤◌, ◌<◌, ◌+◌, ◌^
 ghost use Rattle.std.specs.List.{AllByRecursion};
 ghost use Rattle.std.specs.Option.{option_map_or, unwrap_or};
 ghost use Rattle.cf_tree.specs.Keys.{ascends, place, put, value_at};
-ghost use Rattle.cf_stacks.specs.Fold.{is_opening, numbered};
-ghost use Rattle.cf_stacks.specs.Room.{IsShortOutcomeOf, StackStanding, calls_after, has_call, is_intent};
-ghost use Rattle.cf_stacks.specs.Spare.{HaveOwnTokens, HasSpare, LeavesCalls};
+ghost use Rattle.cf_effect.specs.Fold.{is_intent, is_opening, numbered};
+ghost use Rattle.cf_effect.specs.Bounds.{IsShortOutcomeOf};
+ghost use Rattle.cf_stacks.specs.Room.{StackStanding, calls_after, has_call};
+ghost use Rattle.cf_stacks.specs.Spare.{HaveOwnTokens, LeavesCalls};
+ghost use Rattle.cf_effect.specs.Reserve.{HasSpare};
 ghost use Rattle.cf_stacks.specs.Stacked.{places_for};
 ghost use Rattle.cf_stacks.specs.Standing.{CallFits, HasOne, IsLeft, LeftFits, answered_at, called, left_as, opened_as, world_in};
-ghost use Rattle.cf_stacks.specs.State.{state_of};
-ghost use Rattle.cf_stacks.specs.World.{is_going};
+ghost use Rattle.cf_effect.specs.State.{state_of};
+ghost use Rattle.cf_effect.specs.World.{is_going};
 
-use crate::heard::HeardEntry;
 use crate::stack::{CallParts, StackState, Stacks};
-use crate::state::State;
-use crate::statuses::is_in_progress;
+use cf_effect::{HeardEntry, State, is_in_progress};
 use cf_entry::{Begun, Entry, LaneNames};
 use cf_export::{Exports, Pins};
 use cf_tree::Txt;

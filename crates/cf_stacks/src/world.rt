@@ -1,9 +1,9 @@
 //! The world of all stacks, as a journal's entries leave it.
 ghost use Rattle.std.specs.Prelude.{◌≡◌, ◌+◌, ◌<◌, ◌^◌, IfOk, None, OnErr, OnOk, Some, map, option_copied, option_map};
-ghost use Rattle.cf_stacks.specs.Fold.{fold_of, world_after};
+ghost use Rattle.cf_effect.specs.Fold.{fold_of, world_after};
 ghost use Rattle.cf_stacks.specs.Room.{HasRoom, KeepsRooms, awaited_with, bare, stepped, with_room};
 ghost use Rattle.cf_stacks.specs.Standing.{stack_in};
-ghost use Rattle.cf_stacks.specs.World.{empty_world, stack_at, stack_of_operation};
+ghost use Rattle.cf_effect.specs.World.{empty_world, stack_at, stack_of_operation};
 
 use crate::ready::Ready;
 use crate::stack::{StackState, Stacks};

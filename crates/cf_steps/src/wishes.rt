@@ -2,8 +2,8 @@
 ghost use Rattle.std.specs.Prelude.{◌≡◌, ◌==◌, find, IfSome, Some};
 ghost use Rattle.std.specs.Option.{option_copied};
 ghost use Rattle.cf_desired.specs.Templates.{templates_of};
-ghost use Rattle.cf_stacks.specs.declared.held.KeptSet.{KeptSet as Kept};
-ghost use Rattle.cf_stacks.specs.World.{known_stack};
+ghost use Rattle.cf_effect.specs.declared.held.KeptSet.{KeptSet as Kept};
+ghost use Rattle.cf_effect.specs.World.{known_stack};
 ghost use Rattle.cf_prepare.specs.Prepare.{HasTemplates};
 ghost use Rattle.cf_prepare.specs.Refusals.{set_of};
 

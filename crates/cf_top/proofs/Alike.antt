@@ -11,16 +11,16 @@ use Rattle.cf_tree.specs.declared.code.Code.{Code}
 use Rattle.cf_tree.specs.declared.code.Code.TheVariants as code
 use Rattle.cf_tree.specs.declared.request.Request.{Request}
 use Rattle.cf_tree.specs.declared.request.Request.TheVariants as request
-use Rattle.cf_stacks.specs.declared.call.Call.{Call}
-use Rattle.cf_stacks.specs.declared.held.Held.{Held}
-use Rattle.cf_stacks.specs.declared.held.HeldStatus.{HeldStatus}
-use Rattle.cf_stacks.specs.declared.held.HeldStatus.TheVariants as held
-use Rattle.cf_stacks.specs.declared.held.Pending.{Pending}
-use Rattle.cf_stacks.specs.World.{StackState}
-use Rattle.cf_stacks.specs.Words.{has_physical, has_token, is_create_at, resources_of, where_physical}
-use Rattle.cf_stacks.specs.Calls.{anew, answered_call, is_call, is_restore, new_call}
-use Rattle.cf_stacks.specs.Reply.{answered, changing, closing, deleting, intending, keeping, keeping_known, keeping_unknown, replied, updating, with_status}
-use Rattle.cf_stacks.specs.End.{turning}
+use Rattle.cf_effect.specs.declared.call.Call.{Call}
+use Rattle.cf_effect.specs.declared.held.Held.{Held}
+use Rattle.cf_effect.specs.declared.held.HeldStatus.{HeldStatus}
+use Rattle.cf_effect.specs.declared.held.HeldStatus.TheVariants as held
+use Rattle.cf_effect.specs.declared.held.Pending.{Pending}
+use Rattle.cf_effect.specs.World.{StackState}
+use Rattle.cf_effect.specs.Words.{has_physical, has_token, is_create_at, resources_of, where_physical}
+use Rattle.cf_effect.specs.Calls.{anew, answered_call, is_call, is_restore, new_call}
+use Rattle.cf_effect.specs.Reply.{answered, changing, closing, deleting, intending, keeping, keeping_known, keeping_unknown, replied, updating, with_status}
+use Rattle.cf_effect.specs.End.{turning}
 use Rattle.cf_plan.specs.Forward.{path_of_token}
 
 -- The path of a call is that of the first row of its token, whatever joins behind it.

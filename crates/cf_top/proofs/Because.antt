@@ -17,12 +17,12 @@ use Rattle.cf_entry.specs.declared.turn.Cause.{Cause}
 use Rattle.cf_entry.specs.declared.turn.Cause.TheVariants as cause
 use Rattle.cf_entry.specs.declared.turn.Reason.{Reason}
 use Rattle.cf_entry.specs.declared.turn.Reason.TheVariants as reason
-use Rattle.cf_stacks.specs.declared.call.Call.{Call}
-use Rattle.cf_stacks.specs.World.{StackState, World, stack_at}
+use Rattle.cf_effect.specs.declared.call.Call.{Call}
+use Rattle.cf_effect.specs.World.{StackState, World, stack_at}
 use Rattle.cf_stacks.specs.Apart.{AreApart}
-use Rattle.cf_stacks.specs.Operation.{Response, is_of, own_of, reply_in}
-use Rattle.cf_stacks.specs.Calls.{call_of, is_success}
-use Rattle.cf_stacks.specs.Fold.{fold_of, world_after}
+use Rattle.cf_effect.specs.Operation.{Response, is_of, own_of, reply_in}
+use Rattle.cf_effect.specs.Calls.{call_under, is_success}
+use Rattle.cf_effect.specs.Fold.{fold_of, world_after}
 use Rattle.cf_plan.specs.Follow.{settled_by}
 use Rattle.cf_plan.specs.Forward.{In}
 use Rattle.cf_plan.specs.Ends.{IsBlamed, IsBlamedFor}
@@ -85,7 +85,7 @@ module _ (schemas : List Schema) (names : List (List ℕ)) (x : World) (number :
     leaves = left schemas names behind number name kept no_outcome es told told' counts counts' first t (begun_on number name x source apart above) refl refl r own found
 
     -- an outcome of a call that failed, at a path
-    failed_call : (n token before after : ℕ) (answer : Reply) (why : Reason) (path : List ℕ) (call : Call) → In (entry.Outcome n token answer before after) es → reason_in answer ≡ Some why → call_of token t ≡ Some call → call.path ≡ path → HasFailedCall counts counts' number es t path why
+    failed_call : (n token before after : ℕ) (answer : Reply) (why : Reason) (path : List ℕ) (call : Call) → In (entry.Outcome n token answer before after) es → reason_in answer ≡ Some why → call_under token t ≡ Some call → call.path ≡ path → HasFailedCall counts counts' number es t path why
     failed_call n token before after answer why path call i told_so c at =
         let counted = all_counted schemas names es behind told told' counts counts' r (entry.Outcome n token answer before after) i in record {
           token = token;
@@ -104,7 +104,7 @@ module _ (schemas : List Schema) (names : List (List ℕ)) (x : World) (number :
     handlers : (c : Cause) → TurnedFor schemas names behind number name kept es t c → IsHandlers counts counts' number es t c
     handlers (cause.Handler path why) k =
         let f = k.handler in
-        let c = call_there (call_of f.token t) path f.at_path in
+        let c = call_there (call_under f.token t) path f.at_path in
         failed_call f.at_number f.token f.before f.after f.answer why path c.0 f.stands f.told c.1 c.2
     handlers (cause.Plan fault) k = tt
     handlers (cause.Export export) k = tt

@@ -6,9 +6,9 @@ use Rattle.cf_schema.specs.declared.described.Schema.{Schema}
 use Rattle.cf_entry.specs.Entry.{IsProper}
 use Rattle.cf_entry.specs.declared.entry.Entry.{Entry}
 use Rattle.cf_entry.specs.declared.entry.Entry.TheVariants as entry
-use Rattle.cf_stacks.specs.World.{World, empty_world}
+use Rattle.cf_effect.specs.World.{World, empty_world}
 use Rattle.cf_stacks.specs.Apart.{AreApart}
-use Rattle.cf_stacks.specs.Fold.{fold_of, world_after}
+use Rattle.cf_effect.specs.Fold.{fold_of, world_after}
 use Rattle.cf_plan.specs.Forward.{In}
 use Rattle.cf_plan.specs.Run.{IsOwn, Runs}
 use Rattle.cf_plan.specs.Going.{CreationEnds, CreationStarts, IsOver, IsUnderWay}

@@ -10,9 +10,9 @@ use Rattle.cf_entry.specs.declared.entry.Reply.{Reply}
 use Rattle.cf_entry.specs.declared.entry.Reply.TheVariants as reply
 use Rattle.cf_entry.specs.declared.turn.Reason.{Reason}
 use Rattle.cf_entry.specs.declared.turn.Reason.TheVariants as reason
-use Rattle.cf_stacks.specs.World.{StackState}
-use Rattle.cf_stacks.specs.Operation.{before_first, up_to_last, after_last, is_phase, is_turn_or_opening, forward_of, now_of, doubts_in}
-use Rattle.cf_stacks.specs.Calls.{call_of}
+use Rattle.cf_effect.specs.World.{StackState}
+use Rattle.cf_effect.specs.Operation.{before_first, up_to_last, after_last, is_phase, is_turn_or_opening, forward_of, now_of, doubts_in}
+use Rattle.cf_effect.specs.Calls.{call_under}
 use Rattle.cf_plan.specs.Forward.{In, here, there, is_refused_call, refusing, doubting, first_refusing, first_failing_behind, first_failing}
 use Rattle.cf_top.specs.Turning.{reason_in}
 
@@ -72,7 +72,7 @@ module _ (token : ℕ) (why : Reason) where
 
   refusing_says : (schemas : List Schema) (s : StackState) (e : Entry) → refusing schemas s e ≡ Some (token, why) → IsFailedOutcome token why e
   refusing_says schemas s (entry.Outcome number t (reply.Failed c) before after) h =
-      refused_so number t (reply.Failed c) (reason.Code c) before after (is_refused_call schemas s (call_of t s) c) refl h
+      refused_so number t (reply.Failed c) (reason.Code c) before after (is_refused_call schemas s (call_under t s) c) refl h
   refusing_says schemas s (entry.Outcome number t (reply.Success physical attrs) before after) h = absurd (none_some h)
   refusing_says schemas s (entry.Outcome number t reply.Doubt before after) h = absurd (none_some h)
   refusing_says schemas s (entry.Opened epoch lanes) h = absurd (none_some h)

@@ -5,8 +5,8 @@ use Rattle.cf_schema.specs.declared.described.Schema.{Schema}
 use Rattle.cf_entry.specs.declared.entry.Entry.{Entry}
 use Rattle.cf_entry.specs.declared.entry.Entry.TheVariants as entry
 use Rattle.cf_journal.specs.Record.{record_of}
-use Rattle.cf_stacks.specs.World.{StackState, World, empty_world}
-use Rattle.cf_stacks.specs.Fold.{fold_of, world_after}
+use Rattle.cf_effect.specs.World.{StackState, World, empty_world}
+use Rattle.cf_effect.specs.Fold.{fold_of, world_after}
 use Rattle.cf_plan.specs.Follow.{MayFollow}
 use Rattle.cf_plan.specs.Forward.{In, here, there}
 use Rattle.cf_plan.specs.Run.{IsDone, IsOwn, Runs, Told}

@@ -10,7 +10,7 @@ use Rattle.cf_entry.specs.declared.turn.Cause.{Cause}
 use Rattle.cf_entry.specs.declared.turn.Cause.TheVariants as cause
 use Rattle.cf_entry.specs.declared.turn.Reason.{Reason}
 use Rattle.cf_io.specs.Library.{Texts, text_at, StandsUnder}
-use Rattle.cf_stacks.specs.World.{StackState}
+use Rattle.cf_effect.specs.World.{StackState}
 use Rattle.cf_face.specs.declared.words.Choice.{Choice}
 use Rattle.cf_face.specs.declared.exit.Exit.{Exit}
 use Rattle.cf_face.specs.declared.exit.Exit.TheVariants as exit

@@ -10,7 +10,7 @@ use Rattle.cf_tree.proofs.Order.{ascends_map}
 use Rattle.cf_stacks.specs.Apart.{AreApart}
 use Rattle.cf_stacks.specs.Room.{StackStanding}
 use Rattle.cf_stacks.specs.Standing.{Named, stack_in}
-use Rattle.cf_stacks.specs.World.{StackState, World}
+use Rattle.cf_effect.specs.World.{StackState, World}
 use Rattle.cf_top.specs.Creating.{are_apart, stands_apart}
 
 abbrev Stacks : Type 0

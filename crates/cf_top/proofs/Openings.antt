@@ -2,7 +2,7 @@
 use Rattle.std.proofs.Common.{◌≡◌, ℕ, Bool, List, [], ◌∷◌, ◌++◌, Option, None, refl, sym, ap, subst, ◌∙◌, map}
 use Rattle.std.specs.Prelude.{fold, Ok, Err}
 use Rattle.cf_entry.specs.declared.entry.Entry.{Entry}
-use Rattle.cf_stacks.specs.World.{StackState, World}
+use Rattle.cf_effect.specs.World.{StackState, World}
 use Rattle.cf_face.specs.declared.exit.Exit.{Exit}
 use Rattle.cf_top.specs.declared.book.Halt.{Halt}
 use Rattle.cf_top.specs.declared.book.Halt.TheVariants as halt

@@ -12,7 +12,7 @@ use Rattle.cf_entry.specs.declared.entry.Entry.{Entry}
 use Rattle.cf_entry.specs.declared.entry.Entry.TheVariants as entry
 use Rattle.cf_entry.specs.declared.entry.Begun.{Begun}
 use Rattle.cf_entry.specs.declared.entry.Begun.TheVariants as begin
-use Rattle.cf_stacks.specs.World.{StackState, World, known_stack, no_stack, stack_at}
+use Rattle.cf_effect.specs.World.{StackState, World, known_stack, no_stack, stack_at}
 use Rattle.cf_plan.specs.Accept.{creates_from}
 use Rattle.cf_plan.specs.Follow.{MayFollow}
 use Rattle.cf_prepare.specs.Answer.{TestsAs as Tests}

@@ -1,6 +1,6 @@
 -- What the words came to, from what the deployment came to and what was printed.
 use Rattle.std.proofs.Common.{◌≡◌, inl, inr, ℕ, Bool, List, Some, Ok, Err, sym, subst}
-use Rattle.cf_stacks.specs.World.{StackState, World, stack_at}
+use Rattle.cf_effect.specs.World.{StackState, World, stack_at}
 use Rattle.cf_plan.specs.Going.{IsOver}
 use Rattle.cf_face.specs.declared.words.Choice.{Choice}
 use Rattle.cf_face.specs.declared.exit.Exit.{Exit}

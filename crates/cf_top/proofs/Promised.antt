@@ -8,10 +8,10 @@ use Rattle.cf_handler.specs.Name.{is_lane_name}
 use Rattle.cf_entry.specs.declared.entry.Entry.{Entry}
 use Rattle.cf_entry.specs.declared.status.Status.{Status}
 use Rattle.cf_entry.specs.declared.status.Status.TheVariants as status
-use Rattle.cf_stacks.specs.World.{StackState, stack_at, World, empty_world}
+use Rattle.cf_effect.specs.World.{StackState, stack_at, World, empty_world}
 use Rattle.cf_schema.specs.declared.described.Schema.{Schema}
-use Rattle.cf_stacks.specs.Fold.{fold_of, world_after}
-use Rattle.cf_stacks.specs.Begin.{source_for}
+use Rattle.cf_effect.specs.Fold.{fold_of, world_after}
+use Rattle.cf_effect.specs.Begin.{source_for}
 use Rattle.cf_plan.specs.Ends.{IsBlamed}
 use Rattle.cf_plan.specs.Follow.{failed_of}
 use Rattle.cf_plan.specs.Going.{IsOver, ends_creation}

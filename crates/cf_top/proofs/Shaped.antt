@@ -5,9 +5,9 @@ use Rattle.cf_schema.specs.declared.described.Schema.{Schema}
 use Rattle.cf_desired.specs.Plan.{plan_of}
 use Rattle.cf_desired.specs.Seeing.{Seen}
 use Rattle.cf_desired.specs.declared.wanted.Plan.{Plan}
-use Rattle.cf_stacks.specs.World.{StackState, World, known_stack}
-use Rattle.cf_stacks.specs.Begin.{source_for}
-use Rattle.cf_stacks.specs.declared.held.Held.{Held}
+use Rattle.cf_effect.specs.World.{StackState, World, known_stack}
+use Rattle.cf_effect.specs.Begin.{source_for}
+use Rattle.cf_effect.specs.declared.held.Held.{Held}
 use Rattle.cf_plan.specs.Accept.{seen_before}
 use Rattle.cf_plan.specs.Follow.{MayFollow}
 use Rattle.cf_prepare.proofs.BlankSeen.{IsBlank, new_found, plan_back}

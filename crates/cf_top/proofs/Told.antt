@@ -4,7 +4,7 @@ use Rattle.std.specs.List.{filter_map, flat_map, cons_option}
 use Rattle.cf_tree.specs.Lists.{first_in}
 use Rattle.cf_entry.specs.declared.entry.Entry.{Entry}
 use Rattle.cf_entry.specs.declared.turn.Cause.{Cause}
-use Rattle.cf_stacks.specs.Operation.{is_of}
+use Rattle.cf_effect.specs.Operation.{is_of}
 use Rattle.cf_plan.specs.Follow.{failed_in}
 use Rattle.cf_top.specs.Telling.{cause_in}
 

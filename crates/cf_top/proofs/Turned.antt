@@ -16,14 +16,14 @@ use Rattle.cf_entry.specs.declared.turn.Phase.{Phase}
 use Rattle.cf_entry.specs.declared.turn.Phase.TheVariants as phase
 use Rattle.cf_entry.specs.declared.turn.Reason.{Reason}
 use Rattle.cf_tree.specs.Lists.{first_in}
-use Rattle.cf_stacks.specs.declared.held.Pending.{Pending}
-use Rattle.cf_stacks.specs.World.{StackState, World, is_going, stack_at, stack_of_operation}
-use Rattle.cf_stacks.specs.Status.{Back, Forward, is_in_progress, stage_of, turned}
-use Rattle.cf_stacks.specs.Words.{pending_of}
-use Rattle.cf_stacks.specs.Operation.{is_of}
-use Rattle.cf_stacks.specs.Reply.{intending, keeping, replying}
-use Rattle.cf_stacks.specs.End.{ended_effect}
-use Rattle.cf_stacks.specs.Fold.{effect_at, fold_of, world_after}
+use Rattle.cf_effect.specs.declared.held.Pending.{Pending}
+use Rattle.cf_effect.specs.World.{StackState, World, is_going, stack_at, stack_of_operation}
+use Rattle.cf_effect.specs.Status.{Back, Forward, is_in_progress, stage_of, turned}
+use Rattle.cf_effect.specs.Words.{pending_of}
+use Rattle.cf_effect.specs.Operation.{is_of}
+use Rattle.cf_effect.specs.Reply.{intending, keeping, replying}
+use Rattle.cf_effect.specs.End.{ended_effect}
+use Rattle.cf_effect.specs.Fold.{effect_at, fold_of, world_after}
 use Rattle.cf_plan.specs.Forward.{In, here, there, IsCause, first_failing, path_of_token}
 use Rattle.cf_plan.specs.Follow.{EndsAs, MayFollowIn, MayFollowOn, MayTurn}
 use Rattle.cf_plan.specs.Run.{IsDone, IsOwn, Runs, Told}

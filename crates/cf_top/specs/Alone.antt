@@ -10,8 +10,8 @@ use Rattle.cf_entry.specs.declared.entry.Reply.{Reply}
 use Rattle.cf_entry.specs.declared.entry.Reply.TheVariants as reply
 use Rattle.cf_entry.specs.declared.turn.Cause.TheVariants as cause
 use Rattle.cf_io.specs.Library.{Texts, text_at}
-use Rattle.cf_stacks.specs.World.{StackState, World, stack_at, empty_world}
-use Rattle.cf_stacks.specs.Begin.{source_for}
+use Rattle.cf_effect.specs.World.{StackState, World, stack_at, empty_world}
+use Rattle.cf_effect.specs.Begin.{source_for}
 use Rattle.cf_plan.specs.Forward.{In}
 use Rattle.cf_plan.specs.Cleared.{IsJournal}
 use Rattle.cf_plan.specs.Going.{IsOver}

@@ -8,7 +8,7 @@ use Rattle.cf_io.specs.Library.{StandsUnder}
 use Rattle.cf_journal.specs.Record.{Keeps}
 use Rattle.cf_entry.specs.declared.entry.Entry.{Entry}
 use Rattle.cf_desired.specs.declared.flaw.Flaw.TheVariants.{TemplateMissing}
-use Rattle.cf_stacks.specs.World.{StackState, stack_at}
+use Rattle.cf_effect.specs.World.{StackState, stack_at}
 use Rattle.cf_face.specs.declared.words.Command.{Command}
 use Rattle.cf_face.specs.declared.words.Command.TheVariants.{Describe, Validate}
 use Rattle.cf_face.specs.declared.exit.Exit.{Exit}

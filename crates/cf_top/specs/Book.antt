@@ -5,8 +5,8 @@ use Rattle.cf_tree.specs.Counts.{HasRisen}
 use Rattle.cf_disk.specs.Disk.{Only}
 use Rattle.cf_entry.specs.Entry.{spelling_of}
 use Rattle.cf_entry.specs.declared.entry.Entry.{Entry}
-use Rattle.cf_stacks.specs.World.{World, empty_world}
-use Rattle.cf_stacks.specs.Fold.{fold_of}
+use Rattle.cf_effect.specs.World.{World, empty_world}
+use Rattle.cf_effect.specs.Fold.{fold_of}
 use Rattle.cf_journal.specs.Record.{Stands, record_of, length_of}
 use Rattle.cf_top.specs.declared.book.Book.{Book}
 use Rattle.cf_top.specs.declared.book.Halt.{Halt}

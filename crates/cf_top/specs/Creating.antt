@@ -6,7 +6,7 @@ use Rattle.cf_entry.specs.Entry.{IsFor}
 use Rattle.cf_entry.specs.declared.entry.Entry.{Entry}
 use Rattle.cf_entry.specs.declared.entry.Entry.TheVariants as entry
 use Rattle.cf_entry.specs.declared.entry.Begun.TheVariants as begin
-use Rattle.cf_stacks.specs.World.{StackState}
+use Rattle.cf_effect.specs.World.{StackState}
 use Rattle.cf_top.specs.declared.book.Halt.{Halt}
 use Rattle.cf_top.specs.Book.{HaltsAt, world_of}
 use Rattle.cf_top.specs.Scene.{Scene}

@@ -7,7 +7,7 @@ use Rattle.cf_schema.specs.declared.described.Schema.{Schema}
 use Rattle.cf_entry.specs.declared.entry.Entry.{Entry}
 use Rattle.cf_entry.specs.declared.status.Status.{Status}
 use Rattle.cf_io.specs.Library.{Texts, StandsUnder}
-use Rattle.cf_stacks.specs.World.{World, stack_at}
+use Rattle.cf_effect.specs.World.{World, stack_at}
 use Rattle.cf_stacks.specs.Apart.{AreApart}
 use Rattle.cf_plan.specs.Accept.{creates_from}
 use Rattle.cf_plan.specs.Follow.{MayFollow}

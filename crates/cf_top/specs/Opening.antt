@@ -10,9 +10,9 @@ use Rattle.cf_tree.specs.Counts.{HasRisen}
 use Rattle.cf_tree.specs.Lists.{is_among}
 use Rattle.cf_entry.specs.declared.entry.Entry.{Entry}
 use Rattle.cf_entry.specs.declared.entry.Entry.TheVariants as entry
-use Rattle.cf_stacks.specs.declared.held.Held.{Held}
-use Rattle.cf_stacks.specs.declared.held.Pending.{Pending}
-use Rattle.cf_stacks.specs.World.{StackState, World}
+use Rattle.cf_effect.specs.declared.held.Held.{Held}
+use Rattle.cf_effect.specs.declared.held.Pending.{Pending}
+use Rattle.cf_effect.specs.World.{StackState, World}
 use Rattle.cf_journal.specs.Record.{record_of}
 use Rattle.cf_face.specs.declared.exit.Exit.{Exit}
 use Rattle.cf_face.specs.declared.exit.Exit.TheVariants as exit

@@ -9,7 +9,7 @@ use Rattle.cf_template.specs.declared.refusal.TemplateFault.{TemplateFault}
 use Rattle.cf_template.specs.declared.refusal.TemplateFault.TheVariants as unread
 use Rattle.cf_desired.specs.declared.flaw.Flaw.TheVariants.{TemplateMissing}
 use Rattle.cf_schema.specs.declared.described.Schema.{Schema}
-use Rattle.cf_stacks.specs.World.{World}
+use Rattle.cf_effect.specs.World.{World}
 use Rattle.cf_prepare.specs.Refusals.{deploy_refusal}
 use Rattle.cf_prepare.specs.declared.wish.PrepareFault.{PrepareFault}
 use Rattle.cf_prepare.specs.declared.wish.PrepareFault.TheVariants as fault

@@ -9,8 +9,8 @@ use Rattle.cf_entry.specs.declared.status.Status.TheVariants as status
 use Rattle.cf_entry.specs.declared.turn.Cause.{Cause}
 use Rattle.cf_entry.specs.declared.turn.Cause.TheVariants as cause
 use Rattle.cf_entry.specs.declared.turn.Phase.TheVariants as phase
-use Rattle.cf_stacks.specs.World.{StackState}
-use Rattle.cf_stacks.specs.Operation.{own_of}
+use Rattle.cf_effect.specs.World.{StackState}
+use Rattle.cf_effect.specs.Operation.{own_of}
 use Rattle.cf_plan.specs.Follow.{failed_of}
 use Rattle.cf_face.specs.declared.exit.Exit.{Exit}
 use Rattle.cf_face.specs.declared.exit.Exit.TheVariants as exit

@@ -11,10 +11,10 @@ use Rattle.cf_entry.specs.declared.turn.Cause.TheVariants as cause
 use Rattle.cf_entry.specs.declared.turn.Phase.TheVariants as phase
 use Rattle.cf_entry.specs.declared.turn.Reason.{Reason}
 use Rattle.cf_entry.specs.declared.turn.Reason.TheVariants as reason
-use Rattle.cf_stacks.specs.World.{StackState, World, stack_at}
-use Rattle.cf_stacks.specs.declared.call.Call.{Call}
-use Rattle.cf_stacks.specs.Calls.{call_of}
-use Rattle.cf_stacks.specs.Fold.{fold_of}
+use Rattle.cf_effect.specs.World.{StackState, World, stack_at}
+use Rattle.cf_effect.specs.declared.call.Call.{Call}
+use Rattle.cf_effect.specs.Calls.{call_under}
+use Rattle.cf_effect.specs.Fold.{fold_of}
 use Rattle.cf_plan.specs.Forward.{In, IsCause}
 
 -- why a call failed: the code of its refusal, or that it broke off
@@ -32,7 +32,7 @@ pub record HasFailedCall (counts counts' : List ℕ) (number : ℕ) (es : List E
   pub stands : In (entry.Outcome number token answer before after) es
   pub told : reason_in answer ≡ Some why
   pub call : Call
-  pub of_call : call_of token s ≡ Some call
+  pub of_call : call_under token s ≡ Some call
   pub at_path : call.path ≡ path
   pub rose : HasRisen before after
   pub lane : (k : ℕ) × (slice_index_or counts k 0 ≤ before) × (before ≤ after) × (after ≤ slice_index_or counts' k 0)

@@ -3,8 +3,8 @@ ghost use Rattle.std.specs.Prelude.{◌≡◌, ◌≤◌, ◌++◌, [], if◌the
 ghost use Rattle.std.specs.List.{flat_map};
 ghost use Rattle.std.specs.Option.{option_copied};
 ghost use Rattle.cf_tree.specs.Lists.{first_in};
-ghost use Rattle.cf_stacks.specs.World.{StackState as Stack, stack_at};
-ghost use Rattle.cf_stacks.specs.Operation.{is_of};
+ghost use Rattle.cf_effect.specs.World.{StackState as Stack, stack_at};
+ghost use Rattle.cf_effect.specs.Operation.{is_of};
 ghost use Rattle.cf_plan.specs.Follow.{failed_in, failed_of};
 ghost use Rattle.cf_face.specs.Print.{PrintTells};
 ghost use Rattle.cf_face.specs.Report.{stack_report};

@@ -7,8 +7,9 @@ use Rattle.cf_tree.specs.declared.request.Request.{Request}
 use Rattle.cf_entry.specs.declared.entry.Entry.{Entry}
 use Rattle.cf_entry.specs.declared.entry.Entry.TheVariants as entry
 use Rattle.cf_entry.specs.declared.entry.Reply.{Reply}
-use Rattle.cf_stacks.specs.World.{StackState, stack_of_operation}
-use Rattle.cf_stacks.specs.Room.{HasRoom, IsShortReply, Standing, stepped, with_room}
+use Rattle.cf_effect.specs.World.{StackState, stack_of_operation}
+use Rattle.cf_stacks.specs.Room.{HasRoom, Standing, stepped, with_room}
+use Rattle.cf_effect.specs.Bounds.{IsShortReply}
 use Rattle.cf_stacks.specs.RoomStays.{Act, MakesRoom, Steps, RoomStays, Spare, acted, all_acted, spares}
 use Rattle.cf_trials.specs.Asked.{WasAsked, intent_of, is_on_s}
 

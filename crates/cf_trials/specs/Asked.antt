@@ -5,7 +5,7 @@ use Rattle.std.specs.Str.{bytes_eq}
 use Rattle.cf_tree.specs.declared.request.Request.{Request}
 use Rattle.cf_entry.specs.declared.entry.Entry.{Entry}
 use Rattle.cf_entry.specs.declared.entry.Entry.TheVariants as entry
-use Rattle.cf_stacks.specs.World.{World, stack_of_operation}
+use Rattle.cf_effect.specs.World.{World, stack_of_operation}
 use Rattle.cf_stacks.specs.Room.{Standing, stepped}
 use Rattle.cf_stacks.specs.RoomStays.{Act, Spare, all_acted}
 

@@ -1,7 +1,7 @@
 //! Outcomes that are stepped over with the room that the intents of their calls made, and with no other, with worlds worked
 //! out from the rules.
 ghost use Rattle.std.specs.Prelude.{◌≡◌, ◌==◌, ℕ, IfOk, IsTrue, codes, false, not, true};
-ghost use Rattle.cf_stacks.specs.Room.{IsShortReply};
+ghost use Rattle.cf_effect.specs.Bounds.{IsShortReply};
 ghost use Rattle.cf_stacks.specs.RoomStays.{spares};
 ghost use Rattle.cf_trials.specs.Asked.{WasAsked, is_on_s};
 

@@ -1,5 +1,5 @@
 use Rattle.std.proofs.Common.{◌∙◌, Option, refl, ap}
-use Rattle.cf_stacks.specs.declared.held.Pending.{Pending}
+use Rattle.cf_effect.specs.declared.held.Pending.{Pending}
 use Rattle.cf_plan.specs.Taking.{min_of_passing, is_token_before, is_repeat_home}
 use Rattle.cf_plan.proofs.Firsts.{first_more}
 use Rattle.cf_plan.proofs.back.first_repeat_of.Goals as goal

@@ -1,7 +1,7 @@
 use Rattle.std.proofs.Common.{◌≡◌, ◌==◌, ◌&&◌, ◌∙◌, sym, arith}
 use Rattle.std.specs.Prelude.{count_by}
 use Rattle.std.proofs.lemmas.Grind.{common_steps}
-use Rattle.cf_stacks.specs.Operation.{Response, is_doubt}
+use Rattle.cf_effect.specs.Operation.{Response, is_doubt}
 use Rattle.cf_plan.specs.Called.{reply_passes}
 use Rattle.cf_plan.proofs.Answered.{count_replied}
 use Rattle.cf_plan.proofs.calls.doubts_in.Goals as goal

@@ -1,6 +1,6 @@
 use Rattle.std.proofs.Common.{◌≡◌, ◌&&◌, ◌==◌, take}
 use Rattle.std.specs.Prelude.{count_by}
-use Rattle.cf_stacks.specs.Operation.{is_doubt}
+use Rattle.cf_effect.specs.Operation.{is_doubt}
 use Rattle.cf_plan.specs.Called.{reply_passes}
 use Rattle.cf_plan.proofs.calls.doubts_in.Given as goal
 

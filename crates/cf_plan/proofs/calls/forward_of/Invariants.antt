@@ -1,5 +1,5 @@
 use Rattle.std.proofs.Common.{◌≡◌}
-use Rattle.cf_stacks.specs.Operation.{is_phase, before_first}
+use Rattle.cf_effect.specs.Operation.{is_phase, before_first}
 use Rattle.cf_plan.proofs.Parting.{first_behind}
 use Rattle.cf_plan.proofs.calls.forward_of.Given as goal
 

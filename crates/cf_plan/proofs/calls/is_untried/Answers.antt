@@ -1,6 +1,6 @@
 use Rattle.std.proofs.Common.{◌∙◌, ◌==◌, sym, ap, not}
-use Rattle.cf_stacks.specs.declared.call.Call.{Call}
-use Rattle.cf_stacks.specs.Words.{deletes}
+use Rattle.cf_effect.specs.declared.call.Call.{Call}
+use Rattle.cf_effect.specs.Words.{deletes}
 use Rattle.cf_plan.proofs.Told.{none_of}
 use Rattle.cf_plan.proofs.Owned.{numbered_any}
 use Rattle.cf_plan.proofs.calls.is_untried.Goals as goal

@@ -1,5 +1,5 @@
 use Rattle.std.proofs.Common.{◌≡◌, ◌≤◌, take, length}
-use Rattle.cf_stacks.specs.Operation.{is_turn_or_opening}
+use Rattle.cf_effect.specs.Operation.{is_turn_or_opening}
 use Rattle.cf_plan.specs.Called.{last_place}
 use Rattle.cf_plan.proofs.calls.last_turn.Given as goal
 

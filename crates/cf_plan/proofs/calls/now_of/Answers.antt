@@ -1,5 +1,5 @@
 use Rattle.std.proofs.Common.{◌∙◌, ap, drop, sym}
-use Rattle.cf_stacks.specs.Operation.{is_turn_or_opening}
+use Rattle.cf_effect.specs.Operation.{is_turn_or_opening}
 use Rattle.cf_plan.proofs.Parting.{behind_last, rest_from}
 use Rattle.cf_plan.proofs.calls.now_of.Goals as goal
 

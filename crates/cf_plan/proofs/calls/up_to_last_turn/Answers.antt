@@ -1,5 +1,5 @@
 use Rattle.std.proofs.Common.{◌∙◌, ap, take, sym}
-use Rattle.cf_stacks.specs.Operation.{is_turn_or_opening}
+use Rattle.cf_effect.specs.Operation.{is_turn_or_opening}
 use Rattle.cf_plan.proofs.Parting.{up_last}
 use Rattle.cf_plan.proofs.calls.up_to_last_turn.Goals as goal
 

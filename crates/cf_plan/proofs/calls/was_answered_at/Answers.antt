@@ -1,8 +1,8 @@
 use Rattle.std.proofs.Common.{◌&&◌, ◌∙◌}
 use Rattle.std.specs.Prelude.{is_some}
 use Rattle.std.specs.Str.{bytes_eq}
-use Rattle.cf_stacks.specs.Words.{is_update}
-use Rattle.cf_stacks.specs.declared.call.Call.{Call}
+use Rattle.cf_effect.specs.Words.{is_update}
+use Rattle.cf_effect.specs.declared.call.Call.{Call}
 use Rattle.cf_plan.proofs.Owned.{own_any}
 use Rattle.cf_plan.proofs.calls.was_answered_at.Goals as goal
 

@@ -1,6 +1,6 @@
 use Rattle.std.proofs.Common.{◌&&◌, ◌∙◌}
-use Rattle.cf_stacks.specs.declared.call.Call.{Call}
-use Rattle.cf_stacks.specs.Words.{updates}
+use Rattle.cf_effect.specs.declared.call.Call.{Call}
+use Rattle.cf_effect.specs.Words.{updates}
 use Rattle.cf_plan.specs.Follow.{is_not_updatable}
 use Rattle.cf_plan.proofs.Owned.{own_any}
 use Rattle.cf_plan.proofs.calls.was_not_updatable.Goals as goal

@@ -1,5 +1,5 @@
 use Rattle.std.proofs.Common.{◌++◌, ◌∙◌, ℕ, List, ap, subst}
-use Rattle.cf_stacks.specs.declared.held.Held.{Held}
+use Rattle.cf_effect.specs.declared.held.Held.{Held}
 use Rattle.cf_plan.specs.Done.{IsNext, Joined, updated_paths}
 use Rattle.cf_plan.proofs.Doing.{are_done}
 use Rattle.cf_plan.proofs.done.done_by.Goals as goal

@@ -1,6 +1,6 @@
 use Rattle.std.proofs.Common.{◌∙◌, ◌++◌, List, map, ap}
 use Rattle.std.proofs.lemmas.Result.{IfOk-weaker}
-use Rattle.cf_stacks.specs.declared.call.Call.{Call}
+use Rattle.cf_effect.specs.declared.call.Call.{Call}
 use Rattle.cf_plan.specs.Done.{is_good_update}
 use Rattle.cf_plan.proofs.Owned.{own_filtered}
 use Rattle.cf_plan.proofs.done.push_updated.Goals as goal

@@ -1,6 +1,6 @@
 use Rattle.std.proofs.Common.{◌∙◌, sym, subst}
 use Rattle.std.proofs.lemmas.Result.{IfOk-weaker}
-use Rattle.cf_stacks.specs.Status.{Forward}
+use Rattle.cf_effect.specs.Status.{Forward}
 use Rattle.cf_plan.specs.Due.{AreDueIn}
 use Rattle.cf_plan.proofs.Members.{not_both}
 use Rattle.cf_plan.proofs.DueForward.{turn_due, none_due}

@@ -1,6 +1,6 @@
 use Rattle.std.proofs.Common.{◌∙◌, List, ap, sym, subst}
 use Rattle.std.proofs.lemmas.Result.{IfOk-weaker}
-use Rattle.cf_stacks.specs.Status.{Back}
+use Rattle.cf_effect.specs.Status.{Back}
 use Rattle.cf_plan.specs.declared.next.Next.{Next}
 use Rattle.cf_plan.specs.Due.{AreDueIn, with_due}
 use Rattle.cf_plan.proofs.DueBack.{ended_due, more_due}

@@ -1,5 +1,5 @@
 use Rattle.std.proofs.Common.{sym, subst}
-use Rattle.cf_stacks.specs.Status.{Forward}
+use Rattle.cf_effect.specs.Status.{Forward}
 use Rattle.cf_plan.specs.Due.{AreDueIn}
 use Rattle.cf_plan.proofs.DueForward.{none_due}
 use Rattle.cf_plan.proofs.dues.dues_untold.Goals as goal

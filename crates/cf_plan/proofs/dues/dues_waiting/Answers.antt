@@ -1,6 +1,6 @@
 use Rattle.std.proofs.Common.{sym, subst}
 use Rattle.std.proofs.lemmas.Result.{IfOk-weaker}
-use Rattle.cf_stacks.specs.Status.{Back}
+use Rattle.cf_effect.specs.Status.{Back}
 use Rattle.cf_plan.specs.Due.{AreDueIn}
 use Rattle.cf_plan.proofs.DueBack.{waiting_due}
 use Rattle.cf_plan.proofs.dues.dues_waiting.Goals as goal

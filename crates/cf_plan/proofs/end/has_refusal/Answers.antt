@@ -1,7 +1,7 @@
 use Rattle.std.proofs.Common.{◌∙◌, ◌==◌, ◌&&◌, sym}
-use Rattle.cf_stacks.specs.declared.call.Call.{Call}
-use Rattle.cf_stacks.specs.Words.{deletes}
-use Rattle.cf_stacks.specs.Calls.{was_refused}
+use Rattle.cf_effect.specs.declared.call.Call.{Call}
+use Rattle.cf_effect.specs.Words.{deletes}
+use Rattle.cf_effect.specs.Calls.{was_refused}
 use Rattle.cf_plan.proofs.Told.{some_counted}
 use Rattle.cf_plan.proofs.Owned.{numbered_any}
 use Rattle.cf_plan.proofs.end.has_refusal.Goals as goal

@@ -5,7 +5,7 @@ use Rattle.cf_entry.specs.declared.entry.Entry.TheVariants as entry
 use Rattle.cf_entry.specs.declared.entry.Reply.{Reply}
 use Rattle.cf_entry.specs.declared.entry.Reply.TheVariants as reply
 use Rattle.cf_entry.specs.declared.turn.Reason.TheVariants as reason
-use Rattle.cf_stacks.specs.Operation.{doubts_in}
+use Rattle.cf_effect.specs.Operation.{doubts_in}
 use Rattle.cf_plan.specs.Forward.{doubting}
 use Rattle.cf_plan.proofs.failing.doubting.Goals as goal
 

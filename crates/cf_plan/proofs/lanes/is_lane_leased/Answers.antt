@@ -1,7 +1,7 @@
 use Rattle.std.proofs.Common.{◌∙◌, ℕ, List, map, sym, ap}
 use Rattle.std.specs.List.{list_any}
 use Rattle.std.specs.Str.{bytes_eq}
-use Rattle.cf_stacks.specs.World.{StackState}
+use Rattle.cf_effect.specs.World.{StackState}
 use Rattle.cf_stacks.specs.Standing.{Named, stack_in}
 use Rattle.cf_plan.specs.Follow.{calls_in_flight}
 use Rattle.cf_plan.proofs.Told.{any_mapped}

@@ -1,7 +1,7 @@
 use Rattle.std.proofs.Common.{◌∙◌, ◌&&◌, List, sym, ap}
 use Rattle.std.specs.List.{list_any}
 use Rattle.std.specs.Str.{bytes_eq}
-use Rattle.cf_stacks.specs.declared.call.Call.{Call}
+use Rattle.cf_effect.specs.declared.call.Call.{Call}
 use Rattle.cf_plan.specs.Follow.{is_in_flight}
 use Rattle.cf_plan.proofs.Told.{any_filtered}
 use Rattle.cf_plan.proofs.lanes.is_out_on.Goals as goal

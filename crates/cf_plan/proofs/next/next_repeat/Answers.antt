@@ -1,7 +1,7 @@
 use Rattle.std.proofs.Common.{ap, sym, ◌∙◌, subst}
 use Rattle.std.specs.Option.{option_copied}
 use Rattle.std.proofs.lemmas.Result.{IfOk-weaker}
-use Rattle.cf_stacks.specs.Status.{Back}
+use Rattle.cf_effect.specs.Status.{Back}
 use Rattle.cf_plan.specs.declared.next.Next.{Next}
 use Rattle.cf_plan.specs.Chosen.{IsChosen}
 use Rattle.cf_plan.proofs.Chosen.{repeat_chosen, wait_chosen}

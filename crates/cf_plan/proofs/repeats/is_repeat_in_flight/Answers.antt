@@ -1,6 +1,6 @@
 use Rattle.std.proofs.Common.{◌∙◌, ◌&&◌, List, ap, sym}
 use Rattle.std.specs.List.{list_any}
-use Rattle.cf_stacks.specs.declared.call.Call.{Call}
+use Rattle.cf_effect.specs.declared.call.Call.{Call}
 use Rattle.cf_plan.specs.Follow.{is_in_flight, is_repeated}
 use Rattle.cf_plan.proofs.Told.{any_filtered}
 use Rattle.cf_plan.proofs.repeats.is_repeat_in_flight.Goals as goal

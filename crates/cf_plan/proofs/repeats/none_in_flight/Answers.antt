@@ -1,6 +1,6 @@
 use Rattle.std.proofs.Common.{◌∙◌, List, sym, ap, not}
 use Rattle.std.specs.List.{list_any}
-use Rattle.cf_stacks.specs.declared.call.Call.{Call}
+use Rattle.cf_effect.specs.declared.call.Call.{Call}
 use Rattle.cf_plan.specs.Follow.{is_in_flight}
 use Rattle.cf_plan.proofs.Told.{none_left}
 use Rattle.cf_plan.proofs.repeats.none_in_flight.Goals as goal

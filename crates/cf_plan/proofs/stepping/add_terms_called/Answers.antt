@@ -1,6 +1,6 @@
 use Rattle.std.proofs.Common.{◌∙◌, ℕ, List, ap}
-use Rattle.cf_stacks.specs.declared.held.Pending.{Pending}
-use Rattle.cf_stacks.specs.declared.terms.Terms.{Terms}
+use Rattle.cf_effect.specs.declared.held.Pending.{Pending}
+use Rattle.cf_effect.specs.declared.terms.Terms.{Terms}
 use Rattle.cf_plan.specs.Stepping.{with_terms}
 use Rattle.cf_plan.proofs.Listed.{folded_on}
 use Rattle.cf_plan.proofs.stepping.add_terms_called.Goals as goal

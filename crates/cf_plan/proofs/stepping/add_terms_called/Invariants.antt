@@ -1,6 +1,6 @@
 use Rattle.std.proofs.Common.{◌≡◌, take}
 use Rattle.std.specs.Prelude.{fold}
-use Rattle.cf_stacks.specs.declared.held.Pending.{Pending}
+use Rattle.cf_effect.specs.declared.held.Pending.{Pending}
 use Rattle.cf_plan.specs.Stepping.{with_terms}
 use Rattle.cf_plan.proofs.stepping.add_terms_called.Given as goal
 

@@ -1,7 +1,7 @@
 use Rattle.std.proofs.Common.{ℕ, List, sym, ◌∙◌, subst}
 use Rattle.std.proofs.lemmas.Result.{IfOk-weaker}
 use Rattle.cf_entry.specs.declared.status.Status.TheVariants as status
-use Rattle.cf_stacks.specs.Status.{Forward}
+use Rattle.cf_effect.specs.Status.{Forward}
 use Rattle.cf_plan.specs.declared.next.Next.TheVariants as next
 use Rattle.cf_plan.specs.Chosen.{IsChosen}
 use Rattle.cf_plan.proofs.StepChosen.{end_chosen, rest_chosen}

@@ -1,6 +1,6 @@
 use Rattle.std.proofs.Common.{ap}
 use Rattle.std.proofs.lemmas.Result.{IfOk-weaker}
-use Rattle.cf_stacks.specs.Status.{Forward, Back, stage_of}
+use Rattle.cf_effect.specs.Status.{Forward, Back, stage_of}
 use Rattle.cf_plan.proofs.Members.{not_both}
 use Rattle.cf_plan.proofs.StepChosen.{rolls_back}
 use Rattle.cf_plan.proofs.stepping.next_on.Goals as goal

@@ -1,6 +1,6 @@
 use Rattle.std.proofs.Common.{◌≡◌, ℕ, List, sym, subst}
 use Rattle.std.proofs.lemmas.Result.{IfOk-weaker}
-use Rattle.cf_stacks.specs.declared.terms.Terms.{Terms}
+use Rattle.cf_effect.specs.declared.terms.Terms.{Terms}
 use Rattle.cf_plan.specs.Taking.{AreTerms}
 use Rattle.cf_plan.specs.Stepping.{terms_asked}
 use Rattle.cf_plan.proofs.StepChosen.{terms_told}

@@ -2,8 +2,8 @@ use Rattle.std.proofs.Common.{◌≡◌, ◌+◌}
 use Rattle.std.specs.Prelude.{⊤}
 use Rattle.cf_entry.specs.declared.entry.Entry.TheVariants as entry
 use Rattle.cf_plan.specs.Accept.{with_imports}
-use Rattle.cf_stacks.specs.Begin.{source_for}
-use Rattle.cf_stacks.specs.World.{known_stack}
+use Rattle.cf_effect.specs.Begin.{source_for}
+use Rattle.cf_effect.specs.World.{known_stack}
 use Rattle.cf_prepare.specs.Orders.{kind_by}
 use Rattle.cf_prepare.specs.Refusals.{if_unchanged}
 use Rattle.cf_prepare.specs.declared.wish.Order.TheVariants as order

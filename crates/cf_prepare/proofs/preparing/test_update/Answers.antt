@@ -1,5 +1,5 @@
 use Rattle.cf_prepare.proofs.Working.{updates_so}
-use Rattle.cf_stacks.specs.World.{known_stack}
+use Rattle.cf_effect.specs.World.{known_stack}
 use Rattle.cf_prepare.proofs.preparing.test_update.Goals as goal
 
 pub returns-else-creates_from : goal.returns-else-creates_from

@@ -1,8 +1,8 @@
 use Rattle.std.proofs.Common.{◌≡◌, ℕ, ap, sym, subst, ◌∙◌}
 use Rattle.cf_entry.specs.declared.status.Status.{Status}
-use Rattle.cf_stacks.specs.declared.held.Pending.{Pending}
-use Rattle.cf_stacks.specs.Calls.{new_call}
-use Rattle.cf_stacks.specs.Reply.{intending}
+use Rattle.cf_effect.specs.declared.held.Pending.{Pending}
+use Rattle.cf_effect.specs.Calls.{new_call}
+use Rattle.cf_effect.specs.Reply.{intending}
 use Rattle.cf_stacks.specs.Spare.{IsRoomFor}
 use Rattle.cf_stacks.proofs.ready.call_parts.Goals as goal
 

@@ -1,8 +1,8 @@
 use Rattle.std.proofs.Common.{◌≡◌, ◌≤◌, true, find, IfSome, Option, sym, ap, subst, ◌∙◌}
 use Rattle.cf_stacks.specs.Room.{StackStanding}
 use Rattle.cf_stacks.specs.Standing.{Named, calls_in, stack_in}
-use Rattle.cf_stacks.specs.World.{is_going}
-use Rattle.cf_stacks.proofs.Closed.{none_closed}
+use Rattle.cf_effect.specs.World.{is_going}
+use Rattle.cf_effect.proofs.Closed.{none_closed}
 use Rattle.cf_stacks.proofs.Places.{found_set, on_ok, passes_at, same_at, within}
 use Rattle.cf_stacks.proofs.ready.reserve_going.Goals as goal
 

@@ -1,6 +1,6 @@
 use Rattle.std.proofs.Common.{ap, filter, not, ◌∙◌}
 use Rattle.cf_stacks.specs.Spare.{is_room_of}
-use Rattle.cf_stacks.proofs.Closed.{closed_first, closed_none}
+use Rattle.cf_effect.proofs.Closed.{closed_first, closed_none}
 use Rattle.cf_stacks.proofs.room.take_room.Goals as goal
 
 pub returns-in-Some-clause-items : goal.returns-in-Some-clause-items

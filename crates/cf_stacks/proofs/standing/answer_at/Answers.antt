@@ -1,8 +1,8 @@
 use Rattle.std.proofs.Common.{◌≡◌, arith, true, sym, ap, subst, IfSome, Option, ◌∙◌}
 use Rattle.cf_stacks.specs.Room.{has_call}
 use Rattle.cf_stacks.specs.Standing.{Named, answered_at}
-use Rattle.cf_stacks.specs.World.{is_going}
-use Rattle.cf_stacks.proofs.Closed.{first_closed}
+use Rattle.cf_effect.specs.World.{is_going}
+use Rattle.cf_effect.proofs.Closed.{first_closed}
 use Rattle.cf_stacks.proofs.Places.{answers_at, some_named, within}
 use Rattle.cf_stacks.proofs.standing.answer_at.Goals as goal
 

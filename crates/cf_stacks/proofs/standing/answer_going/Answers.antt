@@ -2,7 +2,7 @@ use Rattle.std.proofs.Common.{◌≡◌, List, Option, None, find, position, sym
 use Rattle.std.specs.Option.{option_map_or}
 use Rattle.cf_tree.specs.Keys.{put}
 use Rattle.cf_stacks.specs.Standing.{Named, answered_at}
-use Rattle.cf_stacks.specs.World.{is_going}
+use Rattle.cf_effect.specs.World.{is_going}
 use Rattle.cf_stacks.proofs.Places.{answers_none}
 use Rattle.cf_stacks.proofs.Worlds.{answered_ascend}
 use Rattle.cf_stacks.proofs.standing.answer_going.Goals.{in-Some-going_at, in-None-going_at}

@@ -3,7 +3,7 @@ use Rattle.cf_tree.specs.Keys.{place, put, value_at}
 use Rattle.cf_tree.proofs.Lookups.{entry_missed}
 use Rattle.cf_stacks.specs.Room.{StackStanding}
 use Rattle.cf_stacks.specs.Standing.{LeftFits, Named, left_as}
-use Rattle.cf_stacks.specs.State.{state_of}
+use Rattle.cf_effect.specs.State.{state_of}
 use Rattle.cf_stacks.proofs.Places.{fits_new, fits_there}
 use Rattle.cf_stacks.proofs.Worlds.{none_after}
 use Rattle.cf_stacks.proofs.standing.put_left.Goals as goal

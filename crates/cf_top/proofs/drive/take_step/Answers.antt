@@ -1,7 +1,7 @@
 use Rattle.std.proofs.Common.{◌≡◌, map, Some, refl, sym, subst}
 use Rattle.std.specs.Prelude.{IfSome, Ok, Err}
 use Rattle.cf_entry.specs.Entry.{IsProper}
-use Rattle.cf_stacks.specs.declared.held.Pending.{Pending}
+use Rattle.cf_effect.specs.declared.held.Pending.{Pending}
 use Rattle.cf_plan.specs.Chosen.{entry_of}
 use Rattle.cf_plan.specs.Run.{open_call}
 use Rattle.cf_plan.specs.Stepping.{schemas_of}

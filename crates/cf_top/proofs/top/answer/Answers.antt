@@ -2,7 +2,7 @@ use Rattle.std.proofs.Common.{◌≡◌, ◌∙◌, false, Some, refl, inl, inr,
 use Rattle.cf_face.specs.declared.words.Command.{Command}
 use Rattle.cf_face.specs.Words.{command_of}
 use Rattle.cf_face.specs.declared.exit.Exit.TheVariants as exit
-use Rattle.cf_stacks.specs.World.{stack_at}
+use Rattle.cf_effect.specs.World.{stack_at}
 use Rattle.cf_top.specs.Answer.{DescribesIn, is_asking}
 use Rattle.cf_top.proofs.top.answer.Goals as goal
 

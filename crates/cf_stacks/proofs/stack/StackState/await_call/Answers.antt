@@ -2,11 +2,11 @@ use Rattle.std.proofs.Common.{◌≡◌, ℕ, arith, refl, sym, ap, ◌∙◌, m
 use Rattle.cf_stacks.specs.Room.{StackStanding, with_awaited}
 use Rattle.cf_stacks.specs.Spare.{IsRoomFor}
 use Rattle.cf_stacks.specs.Stacked.{token_of_room}
-use Rattle.cf_stacks.specs.State.{state_of}
-use Rattle.cf_stacks.specs.World.{StackState}
+use Rattle.cf_effect.specs.State.{state_of}
+use Rattle.cf_effect.specs.World.{StackState}
 use Rattle.cf_stacks.proofs.Calling.{standing_same}
 use Rattle.cf_stacks.proofs.Kindred.{calls_with, put_rooms}
-use Rattle.cf_stacks.proofs.Spares.{spare_fewer}
+use Rattle.cf_effect.proofs.Spares.{spare_fewer}
 use Rattle.cf_stacks.proofs.stack.StackState.await_call.Goals as goal
 
 pub invariant_of-self : goal.invariant_of-self

@@ -1,13 +1,13 @@
 use Rattle.std.proofs.Common.{◌≡◌, ℕ, ◌-◌, List, [], ◌∷◌, ◌++◌, arith, ap, sym, ◌∙◌, map, refl, subst}
-use Rattle.cf_stacks.specs.Reply.{intending}
+use Rattle.cf_effect.specs.Reply.{intending}
 use Rattle.cf_stacks.specs.Room.{StackStanding, with_awaited}
 use Rattle.cf_stacks.specs.Spare.{HaveOwnTokens, IsRoomFor}
 use Rattle.cf_stacks.specs.Stacked.{token_of_room}
-use Rattle.cf_stacks.specs.State.{state_of}
-use Rattle.cf_stacks.specs.World.{StackState}
+use Rattle.cf_effect.specs.State.{state_of}
+use Rattle.cf_effect.specs.World.{StackState}
 use Rattle.cf_stacks.proofs.Calling.{calling_apart, calling_rooms, heard_so, keeps_like, standing_same}
 use Rattle.cf_stacks.proofs.Kindred.{calls_with, rooms_keep}
-use Rattle.cf_stacks.proofs.Spares.{spare_fewer}
+use Rattle.cf_effect.proofs.Spares.{spare_fewer}
 use Rattle.cf_stacks.proofs.stack.StackState.call.Goals as goal
 
 pub hear-requires : goal.hear-requires

@@ -1,10 +1,10 @@
 use Rattle.std.proofs.Common.{arith, ap, map, refl, ◌∙◌}
 use Rattle.cf_stacks.specs.Room.{StackStanding, without_awaited}
 use Rattle.cf_stacks.specs.Stacked.{token_of_room}
-use Rattle.cf_stacks.specs.State.{state_of}
+use Rattle.cf_effect.specs.State.{state_of}
 use Rattle.cf_stacks.proofs.Calling.{standing_same}
 use Rattle.cf_stacks.proofs.Kindred.{calls_left, rooms_left}
-use Rattle.cf_stacks.proofs.Spares.{spare_fewer}
+use Rattle.cf_effect.proofs.Spares.{spare_fewer}
 use Rattle.cf_stacks.proofs.stack.StackState.forget.Goals as goal
 
 pub invariant_of-self : goal.invariant_of-self

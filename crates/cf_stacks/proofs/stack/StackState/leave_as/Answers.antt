@@ -3,10 +3,10 @@ use Rattle.std.proofs.lemmas.List.{length-map}
 use Rattle.cf_stacks.specs.Room.{StackStanding}
 use Rattle.cf_stacks.specs.Spare.{HaveOwnTokens, KeepsCalls}
 use Rattle.cf_stacks.specs.Stacked.{token_of_room}
-use Rattle.cf_stacks.specs.State.{state_of}
-use Rattle.cf_stacks.specs.World.{StackState}
+use Rattle.cf_effect.specs.State.{state_of}
+use Rattle.cf_effect.specs.World.{StackState}
 use Rattle.cf_stacks.proofs.Kindred.{rooms_keep}
-use Rattle.cf_stacks.proofs.Spares.{spare_fewer}
+use Rattle.cf_effect.proofs.Spares.{spare_fewer}
 use Rattle.cf_stacks.proofs.stack.StackState.leave_as.Goals as goal
 
 pub invariant_of-self : goal.invariant_of-self

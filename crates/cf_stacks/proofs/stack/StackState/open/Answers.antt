@@ -1,12 +1,12 @@
 use Rattle.std.proofs.Common.{◌≡◌, arith, ap, sym, subst}
-use Rattle.cf_stacks.specs.Fold.{effect_at}
+use Rattle.cf_effect.specs.Fold.{effect_at}
 use Rattle.cf_stacks.specs.Room.{StackStanding}
 use Rattle.cf_stacks.specs.Spare.{HaveOwnTokens}
-use Rattle.cf_stacks.specs.State.{state_of}
-use Rattle.cf_stacks.specs.World.{StackState}
+use Rattle.cf_effect.specs.State.{state_of}
+use Rattle.cf_effect.specs.World.{StackState}
 use Rattle.cf_stacks.proofs.Keeps.{opening_keeps}
 use Rattle.cf_stacks.proofs.Kindred.{rooms_keep}
-use Rattle.cf_stacks.proofs.Spares.{spare_fewer}
+use Rattle.cf_effect.proofs.Spares.{spare_fewer}
 use Rattle.cf_stacks.proofs.stack.StackState.open.Goals as goal
 
 pub invariant_of-self : goal.invariant_of-self

@@ -1,7 +1,7 @@
 use Rattle.std.proofs.Common.{arith, sym, ap, subst}
 use Rattle.cf_stacks.specs.Spare.{HaveOwnTokens}
-use Rattle.cf_stacks.specs.World.{StackState}
-use Rattle.cf_stacks.proofs.Spares.{spare_so}
+use Rattle.cf_effect.specs.World.{StackState}
+use Rattle.cf_effect.proofs.Spares.{spare_so}
 use Rattle.cf_stacks.proofs.stack.StackState.reserve.Goals as goal
 
 pub invariant_of-self-in_err-reserve-2 : goal.invariant_of-self-in_err-reserve-2

@@ -1,8 +1,8 @@
 use Rattle.std.proofs.Common.{ℕ, List, IfOk, ap, subst}
-use Rattle.cf_stacks.specs.Reply.{intending}
+use Rattle.cf_effect.specs.Reply.{intending}
 use Rattle.cf_stacks.specs.Room.{StackStanding}
 use Rattle.cf_stacks.specs.Spare.{IsRoomFor}
-use Rattle.cf_stacks.specs.World.{StackState}
+use Rattle.cf_effect.specs.World.{StackState}
 use Rattle.cf_stacks.proofs.stack.StackState.room_for_call.Goals as goal
 
 pub returns-clause-room : goal.returns-clause-room

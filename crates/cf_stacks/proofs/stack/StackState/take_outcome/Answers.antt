@@ -1,14 +1,15 @@
 use Rattle.std.proofs.Common.{◌≡◌, ℕ, Bool, true, false, List, Some, None, arith, ap, sym, ◌∙◌, find, map, subst}
-use Rattle.cf_stacks.specs.Fold.{effect_at}
-use Rattle.cf_stacks.specs.Room.{IsShortOutcomeOf, StackStanding, has_call, without_awaited}
+use Rattle.cf_effect.specs.Fold.{effect_at}
+use Rattle.cf_effect.specs.Bounds.{IsShortOutcomeOf}
+use Rattle.cf_stacks.specs.Room.{StackStanding, has_call, without_awaited}
 use Rattle.cf_stacks.specs.Spare.{HaveOwnTokens, IsRoomFor, is_room_of}
 use Rattle.cf_stacks.specs.Stacked.{token_of_room}
-use Rattle.cf_stacks.specs.State.{state_of}
-use Rattle.cf_stacks.specs.World.{StackState}
+use Rattle.cf_effect.specs.State.{state_of}
+use Rattle.cf_effect.specs.World.{StackState}
 use Rattle.cf_stacks.proofs.Calling.{all_found, call_found, outcome_calls, standing_same}
 use Rattle.cf_stacks.proofs.Keeps.{outcome_keeps}
 use Rattle.cf_stacks.proofs.Kindred.{calls_left, rooms_keep, rooms_left, same_number}
-use Rattle.cf_stacks.proofs.Spares.{spare_fewer}
+use Rattle.cf_effect.proofs.Spares.{spare_fewer}
 use Rattle.cf_stacks.proofs.stack.StackState.take_outcome.Goals as goal
 
 pub take_outcome-requires-clause-outcome : goal.take_outcome-requires-clause-outcome

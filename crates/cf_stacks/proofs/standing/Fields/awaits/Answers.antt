@@ -2,7 +2,7 @@ use Rattle.std.proofs.Common.{false, find, sym, ap, ◌∙◌, List}
 use Rattle.std.specs.Option.{option_map_or}
 use Rattle.cf_stacks.specs.Room.{has_call}
 use Rattle.cf_stacks.specs.Standing.{Named}
-use Rattle.cf_stacks.specs.World.{is_going}
+use Rattle.cf_effect.specs.World.{is_going}
 use Rattle.cf_stacks.proofs.Prepared.{awaited_so}
 use Rattle.cf_stacks.proofs.standing.Fields.awaits.Goals as goal
 

@@ -1,7 +1,7 @@
 use Rattle.std.proofs.Common.{◌≡◌, ◌≤◌, true, IfSome, List, Option, Some, None, find, refl, sym, ap, subst, ◌∙◌}
 use Rattle.cf_tree.specs.Keys.{ascends}
 use Rattle.cf_stacks.specs.Standing.{Named}
-use Rattle.cf_stacks.specs.World.{is_going}
+use Rattle.cf_effect.specs.World.{is_going}
 use Rattle.cf_stacks.proofs.Going.{call_prepared, none_going}
 use Rattle.cf_stacks.proofs.standing.Fields.parts_for.Goals as goal
 

@@ -1,6 +1,6 @@
 use Rattle.std.proofs.Common.{◌≡◌, ◌≤◌, IfSome, List, find, refl, sym, ap, map, subst, ◌∙◌}
 use Rattle.cf_stacks.specs.Standing.{Named, calls_in, stack_in}
-use Rattle.cf_stacks.specs.World.{is_going}
+use Rattle.cf_effect.specs.World.{is_going}
 use Rattle.cf_stacks.proofs.Awaiting.{same_order_stacks}
 use Rattle.cf_stacks.proofs.Places.{on_ok}
 use Rattle.cf_stacks.proofs.standing.Fields.reserve_call.Goals as goal

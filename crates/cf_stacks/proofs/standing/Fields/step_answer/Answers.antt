@@ -5,7 +5,7 @@ use Rattle.cf_entry.specs.declared.entry.Entry.{Entry}
 use Rattle.cf_stacks.specs.declared.standing.Fields.{Fields}
 use Rattle.cf_stacks.specs.Room.{StackStanding, calls_after, has_call, without_awaited}
 use Rattle.cf_stacks.specs.Standing.{Named, answered_at, awaited_known, calls_in, world_in}
-use Rattle.cf_stacks.specs.World.{World}
+use Rattle.cf_effect.specs.World.{World}
 use Rattle.cf_stacks.proofs.Answering.{is_of_it, is_outcome, stands_there, waits, waits_there}
 use Rattle.cf_stacks.proofs.Calling.{outcome_calls}
 use Rattle.cf_stacks.proofs.Stepped.{stepped_on}

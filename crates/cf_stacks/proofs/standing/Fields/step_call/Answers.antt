@@ -5,7 +5,7 @@ use Rattle.cf_entry.specs.declared.entry.Entry.{Entry}
 use Rattle.cf_stacks.specs.declared.standing.Fields.{Fields}
 use Rattle.cf_stacks.specs.Room.{StackStanding, with_awaited}
 use Rattle.cf_stacks.specs.Standing.{IsPartsOf, Named, awaited_known, calls_in, called, stack_known}
-use Rattle.cf_stacks.specs.World.{StackState}
+use Rattle.cf_effect.specs.World.{StackState}
 use Rattle.cf_stacks.proofs.Stepped.{called_so, parts_lists, stepped_on, there}
 use Rattle.cf_stacks.proofs.Totals.{total_called}
 use Rattle.cf_stacks.proofs.standing.Fields.step_call.Goals as goal

@@ -1,7 +1,7 @@
 use Rattle.std.proofs.Common.{ap, find, option_map, sym, List, ◌∙◌}
 use Rattle.cf_stacks.specs.Room.{StackStanding, Standing}
 use Rattle.cf_stacks.specs.Standing.{Named, stack_in}
-use Rattle.cf_stacks.specs.World.{is_going, stack_of_operation}
+use Rattle.cf_effect.specs.World.{is_going, stack_of_operation}
 use Rattle.cf_stacks.proofs.Worlds.{find_under}
 use Rattle.cf_stacks.proofs.world.World.stack_of_operation.Goals as goal
 

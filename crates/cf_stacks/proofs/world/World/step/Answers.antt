@@ -3,7 +3,7 @@ use Rattle.cf_entry.specs.declared.entry.Entry.{Entry}
 use Rattle.cf_stacks.specs.declared.ready.Ready.{Ready}
 use Rattle.cf_stacks.specs.Room.{HasRoom, Standing}
 use Rattle.cf_stacks.specs.Standing.{awaited_in, world_in}
-use Rattle.cf_stacks.specs.World.{World}
+use Rattle.cf_effect.specs.World.{World}
 use Rattle.cf_stacks.specs.Worlds.{entry_ready}
 use Rattle.cf_stacks.proofs.Stood.{answer_counts, ready_for, stepped_so}
 use Rattle.cf_stacks.proofs.world.World.step.Goals as goal

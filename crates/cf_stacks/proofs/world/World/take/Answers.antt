@@ -1,5 +1,5 @@
 use Rattle.std.proofs.Common.{◌≡◌, ap, sym, subst, ◌∙◌}
-use Rattle.cf_stacks.specs.Fold.{world_after}
+use Rattle.cf_effect.specs.Fold.{world_after}
 use Rattle.cf_stacks.specs.Room.{HasRoom, Standing}
 use Rattle.cf_stacks.proofs.Folded.{room_made}
 use Rattle.cf_stacks.proofs.world.World.take.Goals as goal

@@ -1,5 +1,5 @@
 use Rattle.std.proofs.Common.{◌≡◌}
-use Rattle.cf_stacks.specs.Fold.{fold_of}
+use Rattle.cf_effect.specs.Fold.{fold_of}
 use Rattle.cf_stacks.proofs.world.World.take_all.Given as goal
 
 abbrev pub invariant-loop-entry : goal.invariant-loop-entry

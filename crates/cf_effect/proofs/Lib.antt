@@ -1,0 +1,7 @@
+pub mod Answered
+pub mod ChangedFirst
+pub mod Closed
+pub mod Kept
+pub mod Openings
+pub mod Spares
+pub mod Termed

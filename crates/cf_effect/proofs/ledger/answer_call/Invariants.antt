@@ -1,0 +1,10 @@
+use Rattle.std.proofs.Common.{◌≡◌, map, if◌then◌else◌}
+use Rattle.cf_tree.proofs.Changed.{half_changed}
+use Rattle.cf_effect.specs.declared.call.Call.{Call}
+use Rattle.cf_effect.specs.Calls.{answered_call, is_call}
+use Rattle.cf_effect.proofs.ledger.answer_call.Given as goal
+
+abbrev pub invariant-loop-call : goal.invariant-loop-call
+invariant-loop-call l =
+    let f : Call → Call = λ c. if is_call l.token c then answered_call l.answer c else c in
+    half_changed f l.call-index l.call-items ≡ map f l.fn.ledger.items

@@ -1,0 +1,17 @@
+pub mod Status
+pub mod World
+pub mod Words
+pub mod Calls
+pub mod Operation
+pub mod Event
+pub mod Listed
+pub mod Effect
+pub mod Begin
+pub mod Reply
+pub mod End
+pub mod Fold
+pub mod Heard
+pub mod Outset
+pub mod State
+pub mod Bounds
+pub mod Reserve

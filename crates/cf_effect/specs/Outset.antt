@@ -1,0 +1,36 @@
+-- What a create or an update set out with, and what is read of it once (this project's own).
+use Rattle.std.specs.Prelude.{◌≡◌, ℕ, List, Option, Some, None, is_some, if◌then◌else◌}
+use Rattle.cf_tree.specs.Keys.{put, value_at}
+use Rattle.cf_tree.specs.declared.source.Source.{Source}
+use Rattle.cf_desired.specs.declared.shape.Terms as desired
+use Rattle.cf_desired.specs.Plan.{plan_of}
+use Rattle.cf_desired.specs.Templates.{templates_of}
+use Rattle.cf_desired.specs.Whole.{wanted_at}
+use Rattle.cf_effect.specs.declared.held.Held.{Held}
+use Rattle.cf_effect.specs.declared.outset.Ground.{Ground}
+use Rattle.cf_effect.specs.declared.terms.Terms.{Terms}
+use Rattle.cf_effect.specs.Begin.{seen_in}
+use Rattle.cf_effect.specs.Reply.{terms_of}
+
+pub record Outset : Type 0 where
+  pub before : List Held
+  pub source : Source
+
+abbrev pub outset_of : Ground → Outset
+outset_of g = record { before = g.before.items; source = g.source }
+
+-- the policies and needs of a path, of which the first of one path count
+abbrev pub without_kind : desired.Terms → Terms
+without_kind t = record { needs = t.needs; deletion = t.deletion; replace = t.replace }
+
+abbrev pub put_terms : List (List ℕ × Terms) → List ℕ × desired.Terms → List (List ℕ × Terms)
+put_terms all p = if is_some (value_at p.0 all) then all else put p.0 (without_kind p.1) all
+
+abbrev pub given_terms : Option Terms → Terms
+given_terms None = terms_of None
+given_terms (Some t) = t
+
+-- the templates are those of the source, and the policies and needs are those that it gives over what was held
+pub record IsGround (g : Ground) : Type 0 where
+  pub templates : g.templates ≡ templates_of g.source
+  pub terms : (path : List ℕ) → given_terms (value_at path g.terms) ≡ terms_of (wanted_at path (plan_of g.source (seen_in g.before.items)))

@@ -1,0 +1,314 @@
+//! What a create or an update set out with.
+ghost use Rattle.std.specs.Prelude.{◌≡◌, [], IfOk, List, Some, fold, option_copied, ℕ};
+ghost use Rattle.cf_tree.specs.Keys.{value_at};
+ghost use Rattle.cf_desired.specs.Kept.{IsShape};
+ghost use Rattle.cf_desired.specs.Plan.{plan_of};
+ghost use Rattle.cf_desired.specs.Shape.{shape_of};
+ghost use Rattle.cf_desired.specs.Templates.{templates_of};
+ghost use Rattle.cf_desired.specs.Whole.{export_names_of, wanted_at};
+ghost use Rattle.cf_effect.specs.Begin.{seen_in};
+ghost use Rattle.cf_effect.specs.End.{empty_whole, whole_over};
+ghost use Rattle.cf_effect.specs.Outset.{IsGround, given_terms, outset_of, put_terms};
+ghost use Rattle.cf_effect.specs.Reply.{terms_of, wanted_in};
+ghost use Rattle.cf_effect.specs.State.{before_in, source_in};
+
+use crate::held::{Held, Helds};
+use crate::seen::seen_in;
+use crate::terms::Terms;
+use cf_desired::{
+    Plan, Seen, Shape, Terms as Termed, WholePlan, all_terms, export_names, plan, shape_of,
+    templates_of, whole,
+};
+use cf_export::Outputs;
+use cf_tree::{ByName, Listing, Names, Source, Templates, TryClone, Txt};
+use std::alloc::{AllocError, Global};
+use std::marker::Model;
+use std::sync::Arc;
+
+/// What a stack held as an operation began, and the source of the operation with what is read of it.
+#[derive(Drop)]
+struct Ground {
+    before: Helds,
+    source: Source,
+    templates: Templates,
+    /// The policies and needs that the source gives each path, over what was held.
+    terms: ByName<Terms>,
+}
+
+/// What a create or an update set out with: what its stack held as it began, and its source. What is
+/// read of these is read once, and shared by copies.
+#[derive(Drop)]
+pub struct Outset {
+    ground: Arc<Ground>,
+}
+
+impl Model for Outset {
+    ghost use Rattle.cf_effect.specs.Outset.{Outset as Kept};
+
+    ghost Value = { Kept };
+
+    ghost use Rattle.std.specs.Coded.{codes};
+    ghost use Rattle.cf_tree.specs.Datum.{data_code};
+
+    ghost coded = { Prim.hlevel (codes, data_code) };
+
+    ghost use Rattle.std.specs.Arc.{arc_value};
+    ghost use Rattle.cf_effect.specs.Outset.{IsGround, outset_of};
+
+    ghost view = { λ o. outset_of (arc_value o.ground) };
+
+    ghost invariant = { λ o. IsGround (arc_value o.ground) };
+}
+
+/// Adds the policies and needs of a path, unless it has some already. After an error nothing is said
+/// of the map.
+fn put_terms(terms: &mut ByName<Terms>, path: Txt, given: Termed) -> Result<(), AllocError>
+    ensures { IfOk result (λ _. terms.new ≡ put_terms terms.old (path, given)) }
+{
+    if terms.get(path.as_str()).is_some() {
+        drop(path);
+        drop(given);
+        return Ok(());
+    }
+    let Termed {
+        kind,
+        needs,
+        deletion,
+        replace,
+    } = given;
+    drop(kind);
+    terms.insert(
+        path,
+        Terms {
+            needs,
+            deletion,
+            replace,
+        },
+    )
+}
+
+/// The policies and needs of each path, of which the first of one path count.
+fn by_path(alloc: Global, all: Listing<(Txt, Termed)>) -> Result<ByName<Terms>, AllocError>
+    ensures { IfOk result (λ terms. terms ≡ fold put_terms [] all) }
+{
+    let mut terms = ByName::new(alloc);
+    for (path, given) in all.into_vec() {
+        put_terms(&mut terms, path, given)?;
+    }
+    Ok(terms)
+}
+
+/// The policies and needs that a source gives each path, over what was held.
+fn terms_given(
+    alloc: Global,
+    source: &Source,
+    templates: &Templates,
+    before: &[Held],
+) -> Result<ByName<Terms>, AllocError>
+    requires { templates.now ≡ templates_of source.now }
+    ensures { IfOk result (λ terms. (path : List ℕ)
+        → given_terms (value_at path terms) ≡ terms_of (wanted_at path (plan_of source.now (seen_in before.now)))) }
+{
+    let seen = seen_in(alloc, before)?;
+    let shape = shape_of(alloc, source, templates, &seen)?;
+    by_path(alloc, all_terms(alloc, &shape)?)
+}
+
+/// What is read of a source: its templates, and the policies and needs that it gives each path, over
+/// what was held.
+fn read(
+    alloc: Global,
+    source: &Source,
+    before: &[Held],
+) -> Result<(Templates, ByName<Terms>), AllocError>
+    ensures templates { IfOk result (λ r. r.0 ≡ templates_of source.now) }
+    ensures terms { IfOk result (λ r. (path : List ℕ)
+        → given_terms (value_at path r.1) ≡ terms_of (wanted_at path (plan_of source.now (seen_in before.now)))) }
+{
+    let templates = templates_of(alloc, source)?;
+    match terms_given(alloc, source, &templates, before) {
+        Ok(terms) => Ok((templates, terms)),
+        Err(failed) => {
+            drop(templates);
+            Err(failed)
+        }
+    }
+}
+
+impl Outset {
+    /// What an operation sets out with.
+    ///
+    /// # Errors
+    ///
+    /// Only for want of memory.
+    pub(crate) fn new(alloc: Global, before: Helds, source: Source) -> Result<Outset, AllocError>
+        ensures { IfOk result (λ o. o ≡ record { before = before.items; source = source }) }
+    {
+        match read(alloc, &source, before.as_slice()) {
+            Ok((templates, terms)) => Outset::of(
+                alloc,
+                Ground {
+                    before,
+                    source,
+                    templates,
+                    terms,
+                },
+            ),
+            Err(failed) => {
+                drop(before);
+                drop(source);
+                Err(failed)
+            }
+        }
+    }
+
+    /// What an operation sets out with, of which all is read.
+    fn of(alloc: Global, ground: Ground) -> Result<Outset, AllocError>
+        requires { IsGround ground }
+        ensures { IfOk result (λ o. o ≡ outset_of ground) }
+    {
+        let ground = Arc::new(alloc, ground)?;
+        Ok(Outset { ground })
+    }
+
+    /// What the stack held as the operation began.
+    pub fn before(&self) -> &Helds
+        ensures { result.now.items ≡ self.now.before }
+    {
+        &self.ground.before
+    }
+
+    /// The source of the operation.
+    pub fn source(&self) -> &Source
+        ensures { result.now ≡ self.now.source }
+    {
+        &self.ground.source
+    }
+
+    /// What the source wants, over what is seen.
+    ///
+    /// # Errors
+    ///
+    /// Only for want of memory.
+    pub fn plan(&self, alloc: Global, seen: &Seen) -> Result<Plan, AllocError>
+        ensures { IfOk result (λ plan. plan ≡ plan_of self.now.source seen.now) }
+    {
+        plan(alloc, &self.ground.source, &self.ground.templates, seen)
+    }
+
+    /// The shape of the source, over what is seen.
+    ///
+    /// # Errors
+    ///
+    /// Only for want of memory.
+    pub fn shape<'a>(&'a self, alloc: Global, seen: &'a Seen) -> Result<Shape<'a>, AllocError>
+        ensures { IfOk result (λ shape. IsShape shape (shape_of self.now.source seen.now)) }
+    {
+        shape_of(alloc, &self.ground.source, &self.ground.templates, seen)
+    }
+
+    /// The policies and needs that the source gives a path, over what was held.
+    ///
+    /// # Errors
+    ///
+    /// Only for want of memory.
+    pub fn terms(&self, alloc: Global, path: &Txt) -> Result<Terms, AllocError>
+        ensures { IfOk result (λ terms. terms ≡ terms_of (wanted_at path.now (plan_of self.now.source (seen_in self.now.before)))) }
+    {
+        match self.ground.terms.get(path.as_str()) {
+            Some(terms) => terms.try_clone(alloc),
+            None => Ok(Terms::usual(alloc)),
+        }
+    }
+
+    /// All that the source wants over what is seen; nothing where not all of that is known.
+    pub(crate) fn whole(&self, alloc: Global, seen: &Seen) -> Result<WholePlan, AllocError>
+        ensures { IfOk result (λ whole. whole ≡ whole_over (Some self.now.source) seen.now) }
+    {
+        let plan = self.plan(alloc, seen)?;
+        let found = whole(alloc, &plan);
+        drop(plan);
+        match found {
+            Ok(Some(whole)) => Ok(whole),
+            Ok(None) => Ok(nothing(alloc)),
+            Err(failed) => Err(failed),
+        }
+    }
+
+    /// The names that the source exports, over what was held.
+    pub(crate) fn export_names(&self, alloc: Global) -> Result<Names, AllocError>
+        ensures { IfOk result (λ names. names ≡ export_names_of self.now.source (seen_in self.now.before)) }
+    {
+        let seen = seen_in(alloc, self.before().as_slice())?;
+        let plan = self.plan(alloc, &seen)?;
+        let names = export_names(alloc, &plan);
+        drop(plan);
+        names
+    }
+}
+
+/// The source of an operation that set out with this, if one did.
+pub(crate) fn source_in(outset: &Option<Outset>) -> Option<&Source>
+    ensures { option_copied result ≡ source_in outset.now }
+{
+    match outset {
+        Some(outset) => Some(outset.source()),
+        None => None,
+    }
+}
+
+/// What was held as it began.
+pub(crate) fn before_in(outset: &Option<Outset>) -> &[Held]
+    ensures { result.now ≡ before_in outset.now }
+{
+    match outset {
+        Some(outset) => outset.before().as_slice(),
+        None => &[],
+    }
+}
+
+/// The policies and needs that its source gives a path, over what was held.
+pub(crate) fn terms_in(
+    alloc: Global,
+    outset: &Option<Outset>,
+    path: &Txt,
+) -> Result<Terms, AllocError>
+    ensures { IfOk result (λ terms. terms ≡ terms_of (wanted_in (source_in outset.now) (seen_in (before_in outset.now)) path.now)) }
+{
+    match outset {
+        Some(outset) => outset.terms(alloc, path),
+        None => Ok(Terms::usual(alloc)),
+    }
+}
+
+/// All that its source wants over what is seen; nothing where not all of that is known.
+pub(crate) fn whole_in(
+    alloc: Global,
+    outset: &Option<Outset>,
+    seen: &Seen,
+) -> Result<WholePlan, AllocError>
+    ensures { IfOk result (λ whole. whole ≡ whole_over (source_in outset.now) seen.now) }
+{
+    match outset {
+        Some(outset) => outset.whole(alloc, seen),
+        None => Ok(nothing(alloc)),
+    }
+}
+
+impl TryClone for Outset {
+    fn try_clone(&self, _alloc: Global) -> Result<Outset, AllocError> {
+        let ground = self.ground.clone()?;
+        Ok(Outset { ground })
+    }
+}
+
+/// What is wanted where nothing is known; it takes no memory.
+fn nothing(alloc: Global) -> WholePlan
+    ensures { result ≡ empty_whole }
+{
+    WholePlan {
+        wanted: Listing::new(alloc),
+        outputs: Outputs::new(alloc),
+        exports: Listing::new(alloc),
+    }
+}

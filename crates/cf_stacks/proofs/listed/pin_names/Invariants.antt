@@ -1,6 +1,0 @@
-use Rattle.std.proofs.Common.{◌≡◌, take}
-use Rattle.cf_stacks.specs.Listed.{pinned_also}
-use Rattle.cf_stacks.proofs.listed.pin_names.Given as goal
-
-abbrev pub invariant-loop-name : goal.invariant-loop-name
-invariant-loop-name l = l.pins ≡ pinned_also l.stack (take l.name-index l.names) l.fn.pins

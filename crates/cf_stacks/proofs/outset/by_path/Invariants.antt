@@ -1,6 +1,0 @@
-use Rattle.std.proofs.Common.{◌≡◌, [], fold}
-use Rattle.cf_stacks.specs.Outset.{put_terms}
-use Rattle.cf_stacks.proofs.outset.by_path.Given as goal
-
-abbrev pub invariant-loop-path : goal.invariant-loop-path
-invariant-loop-path l = l.terms ≡ fold put_terms [] l.yielded

@@ -1,7 +1,0 @@
-use Rattle.std.proofs.Common.{◌≡◌, ◌++◌, take, map, filter}
-use Rattle.cf_stacks.specs.Words.{is_create_at}
-use Rattle.cf_stacks.specs.Begin.{given_up}
-use Rattle.cf_stacks.proofs.tokens.abandon.Given as goal
-
-abbrev pub invariant-loop-pending : goal.invariant-loop-pending
-invariant-loop-pending l = l.abandoned.items ≡ l.fn.abandoned.items ++ map given_up (filter (is_create_at l.path) (take l.pending-index l.tokens))
