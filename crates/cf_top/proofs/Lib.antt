@@ -4,6 +4,7 @@ pub mod Numbers
 pub mod Alike
 pub mod Lanes
 pub mod Openings
+pub mod Opened
 pub mod Told
 pub mod Differing
 pub mod Failing

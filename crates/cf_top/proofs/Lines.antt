@@ -29,12 +29,12 @@ use Rattle.cf_top.specs.Meeting.{EndsEarly, Meeting, open_over, opened}
 use Rattle.cf_top.specs.Telling.{exit_at, exit_for, exit_of, text_of}
 use Rattle.cf_plan.specs.Forward.{here}
 use Rattle.cf_top.specs.Turning.{AreBlamed, HasFailedCall}
-use Rattle.cf_top.specs.Alone.{AloneTells, BeginsSoundly, BlamesNone, CameTo, Comes, ComesBefore, EndsFor, EndsUnfailed, HasStack, IsAnswered, IsCutShort, IsDeployed, IsOneOf, IsRefusal, NoCountRose, Printing, Says, begun_in, begun_world, deploy_words, number_in}
+use Rattle.cf_top.specs.Alone.{AloneTells, BeginsSoundly, BlamesNone, CameTo, Comes, ComesBefore, EndsFor, EndsUnfailed, HasStack, IsAnswered, IsCutShort, IsDeployed, IsOneOf, IsRefusal, Journals, NoCountRose, Printing, Says, begun_in, begun_world, deploy_words, number_in}
 use Rattle.cf_top.specs.Deployment.{barring}
 use Rattle.cf_top.proofs.Books.{faulted_since}
 use Rattle.cf_top.proofs.Promised.{Laws, because, promised}
 use Rattle.cf_top.proofs.Steady.{all_succeed, call_rose}
-use Rattle.cf_top.proofs.Journaled.{journals}
+use Rattle.cf_top.proofs.Journaled.{AreAsMany, journals, stay_sound}
 
 some≢none : {A : Type 0} (x : A) → Some x ≡ None → ⊥
 some≢none x e = cc
@@ -48,10 +48,6 @@ cut_whole m p words stack outcome c a = record {
   comes = c;
   printed = subst (Appends p.held p.held') (sym (take-length (text_of stack outcome))) a;
 }
-
--- each lane has one name, one schema and one state
-abbrev pub AreAsMany : Meeting → Type 0
-AreAsMany m = (length m.schemas ≡ length m.names) × (length m.told ≡ length m.names)
 
 deployed_says : Laws → (m : Meeting) (p : Printing) (words : List (List ℕ)) (name : List ℕ) (choice : Choice) (st : StackState) → AreAsMany m → deploy_words words ≡ Some (name, choice) → HasStack m name choice st → Appends p.held p.held' (text_of name (Ok st)) → IsDeployed m p words (exit_for st)
 deployed_says laws m p words name choice st n s h a =
@@ -228,7 +224,7 @@ first_blamed m p number es s [] c b = b.0 refl
 first_blamed m p number es s (path ∷ blamed) c b = let f = b.1 path here in never_failed m p number es s path f.0 c f.1
 
 -- an end blames no call where no count rose
-blames_none : (m : Meeting) (p : Printing) (old : List Entry) (name : List ℕ) (source : Source) (es : List Entry) (s : StackState) (e : Exit) → NoCountRose m p → EndsFor m old name source es s e → BlamesNone (BeginsSoundly m (open_over m old)) e
+blames_none : (m : Meeting) (p : Printing) (old : List Entry) (name : List ℕ) (source : Source) (es : List Entry) (s : StackState) (e : Exit) → NoCountRose m p → EndsFor m old name source es s e → BlamesNone (BeginsSoundly m old) e
 blames_none m p old name source es s exit.Done c b = tt
 blames_none m p old name source es s (exit.RolledBack (cause.Handler path why)) c b = never_failed m p (number_in m old) es s path why c b.1
 blames_none m p old name source es s (exit.RolledBack (cause.Plan fault)) c b = tt
@@ -325,10 +321,12 @@ refuses m p words (exit.LaneMissing lane) name choice texts fault s w t r = inr 
 pub answers_of : Laws → (m : Meeting) (p : Printing) (words : List (List ℕ)) (result : Exit) → AreAsMany m → AloneTells m p words result → IsAnswered m p words result
 answers_of laws m p words result k t =
     let s : Says m p words result = printed_says laws m p words result t.0 t.1 k t.2 t.3 in
+    let j : Journals m words = journals laws m k words t.0 t.1 t.2 in
     record {
       says = s;
       no_deploy = no_deploy m p words result s;
       otherwise = λ said w c. otherwise m p words result said s w c;
       refuses = λ name choice texts fault. refuses m p words result name choice texts fault s;
-      journal = journals m words t.0 t.1 t.2;
+      journal = j;
+      sound = stay_sound m words k j;
     }

@@ -14,11 +14,12 @@ use Rattle.cf_effect.specs.Fold.{fold_of, world_after}
 use Rattle.cf_effect.specs.Begin.{source_for}
 use Rattle.cf_plan.specs.Ends.{IsBlamed}
 use Rattle.cf_plan.specs.Follow.{failed_of}
+use Rattle.cf_plan.specs.Forward.{In}
 use Rattle.cf_plan.specs.Going.{IsOver, ends_creation}
 use Rattle.cf_plan.specs.Promise.{Promised}
 use Rattle.cf_plan.specs.Cleared.{CreationFindsNothing}
 use Rattle.cf_plan.specs.Created.{FlawlessHasOneShape}
-use Rattle.cf_plan.specs.Run.{CreationKeepsPromise, KeepsPromise, Runs, lanes_told}
+use Rattle.cf_plan.specs.Run.{CreationKeepsPromise, HasBegun, IsOwn, KeepsPromise, Runs, Told, lanes_told}
 use Rattle.cf_plan.specs.RunBegins.{CreationBegins}
 use Rattle.cf_face.specs.declared.words.Choice.{Choice}
 use Rattle.cf_top.specs.Book.{world_of}
@@ -28,11 +29,12 @@ use Rattle.cf_top.specs.Deployment.{IsApart, IsFound}
 use Rattle.cf_top.specs.Meeting.{MayOpen, Meeting, open_over, opened}
 use Rattle.cf_top.specs.Telling.{cause_of, exit_at, exit_for}
 use Rattle.cf_top.specs.Turning.{TurnsBack}
-use Rattle.cf_top.specs.Alone.{BeginsSoundly, EndsFor, begun_in, begun_world, number_in, run_in}
+use Rattle.cf_top.specs.Alone.{BeginsSoundly, EndsFor, IsSound, begun_in, begun_world, number_in, run_in}
 use Rattle.cf_top.proofs.Because.{blames, turned_back}
 use Rattle.cf_top.proofs.Books.{fold_append}
 use Rattle.cf_top.proofs.Differing.{apart}
 use Rattle.cf_top.proofs.Failing.{some_same}
+use Rattle.cf_top.proofs.Opened.{opened_fresh, opened_legal}
 use Rattle.cf_top.proofs.Ordered.{creates_where_free}
 use Rattle.cf_top.proofs.Shaped.{begins_flawless}
 
@@ -42,6 +44,35 @@ pub record Laws : Type 0 where
   pub finds_nothing : CreationFindsNothing
   pub begins : CreationBegins
   pub keeps_promise : CreationKeepsPromise
+
+-- what a creation that began soundly, and of which these entries are written, keeps
+module _ (laws : Laws) (m : Meeting) (name : List ℕ) (choice : Choice) (source : Source) (old now : List Entry) (faults : ℕ)
+    (f : IsFound m.shelf (opened m old faults now) name choice source) (may : MayOpen m old) (named : IsTrue (list_all is_lane_name m.names))
+    (as_many : (length m.schemas ≡ length m.names) × (length m.told ≡ length m.names)) where
+  abbrev opened_world : World
+  opened_world = world_of (open_over m old)
+
+  abbrev behind_it : World
+  behind_it = world_after opened_world (begun_in m old name source)
+
+  began : IsSound old m.told → (s : StackState) × HasBegun m.names (kinds_of m.schemas) behind_it m.told (number_in m old) name (source_for name (number_in m old) source) s
+  began sound =
+      let nothing = laws.finds_nothing (open_over m old) (opened_legal m old as_many.0 may sound.legal) in
+      let clear = nothing.1 name (creates_where_free name opened_world f.free) in
+      laws.begins m.names (kinds_of m.schemas) opened_world m.told (number_in m old) name source
+      (laws.one_shape (source_for name (number_in m old) source)
+      (begins_flawless (one_of_each m.schemas) opened_world (number_in m old) name source clear.none_held f.begun.follows))
+      refl nothing.0 clear.none_held clear.settled.none_open named (apart m.names may.0) (length-map m.schemas (λ (g : Schema). g.kind) ∙ as_many.0)
+      as_many.1 sound.tell (opened_fresh m old m.told sound.fresh)
+
+  pub kept_by :
+      (es : List Entry) (told : Told) (counts : List ℕ)
+      → Runs (one_of_each m.schemas) m.names behind_it m.told m.counts es told counts → ((e : Entry) → In e es → IsOwn (number_in m old) e) → IsSound old m.told
+      → KeepsPromise m.names (kinds_of m.schemas) (fold_of behind_it es) m.told told (number_in m old) name (source_for name (number_in m old) source)
+  kept_by es told counts runs own sound =
+      let b = began sound in
+      laws.keeps_promise (one_of_each m.schemas) m.names (kinds_of m.schemas) behind_it m.told told m.counts counts (number_in m old) name
+      (source_for name (number_in m old) source) b.0 es b.1 runs own
 
 module _ (laws : Laws) (m : Meeting) (name : List ℕ) (choice : Choice) (source : Source) (old now es : List Entry) (faults : ℕ) (t : StackState)
     (f : IsFound m.shelf (opened m old faults now) name choice source) (may : MayOpen m old) (lone : IsApart (opened m old faults now))
@@ -78,17 +109,13 @@ module _ (laws : Laws) (m : Meeting) (name : List ℕ) (choice : Choice) (source
   found_there = ap (stack_at name) after ∙ here_now
 
   -- the stack of a creation that began soundly keeps what its status promises
-  pub promised : BeginsSoundly m (open_over m old) → KeepsPromise m.names (kinds_of m.schemas) (world_of now) m.told m.told' number name (source_for name number source)
+  pub promised : BeginsSoundly m old → KeepsPromise m.names (kinds_of m.schemas) (world_of now) m.told m.told' number name (source_for name number source)
   promised sound =
-      let nothing = laws.finds_nothing (open_over m old) sound.legal in
-      let clear = nothing.1 name (creates_where_free name x f.free) in
-      let begun_soundly =
-      laws.begins m.names (kinds_of m.schemas) x m.told number name source (laws.one_shape (source_for name number source) (begins_flawless (one_of_each m.schemas) x number name source clear.none_held f.begun.follows)) refl nothing.0 clear.none_held clear.settled.none_open named (apart m.names may.0) (length-map m.schemas (λ (g : Schema). g.kind) ∙ as_many.0) as_many.1 sound.tell sound.fresh in
       subst (λ (y : World). KeepsPromise m.names (kinds_of m.schemas) y m.told m.told' number name (source_for name number source)) after
-      (laws.keeps_promise (one_of_each m.schemas) m.names (kinds_of m.schemas) behind m.told m.told' m.counts m.counts' number name (source_for name number source) begun_soundly.0 es begun_soundly.1 runs wrote.1)
+      (kept_by laws m name choice source old now faults f may named as_many es m.told' m.counts' runs wrote.1 sound)
 
   -- what a rollback that failed keeps
-  blamed : t.status ≡ status.RollbackFailed → BeginsSoundly m (open_over m old) → IsBlamed t (failed_of t)
+  blamed : t.status ≡ status.RollbackFailed → BeginsSoundly m old → IsBlamed t (failed_of t)
   blamed q sound =
       let k = promised sound in
       let same : k.stack ≡ t = some_same (sym k.here ∙ here_now) in

@@ -9,6 +9,7 @@ use Rattle.cf_entry.specs.declared.entry.Entry.TheVariants as entry
 use Rattle.cf_entry.specs.declared.entry.Reply.{Reply}
 use Rattle.cf_entry.specs.declared.entry.Reply.TheVariants as reply
 use Rattle.cf_entry.specs.declared.turn.Cause.TheVariants as cause
+use Rattle.cf_journal.specs.Record.{record_of}
 use Rattle.cf_io.specs.Library.{Texts, text_at}
 use Rattle.cf_effect.specs.World.{StackState, World, stack_at, empty_world}
 use Rattle.cf_effect.specs.Begin.{source_for}
@@ -90,11 +91,21 @@ AloneTells m p words result =
     (stack : List ℕ) × (outcome : Result StackState Exit) × Comes m words stack outcome
     × PrintTells p.held p.held' p.faults p.faults' (text_of stack outcome) (exit_of outcome) result
 
--- The creation begins soundly behind these entries: each of them could follow those before it; each lane tells its state, and no token to come is settled.
-pub record BeginsSoundly (m : Meeting) (es : List Entry) : Type 0 where
+-- A journal with these entries is sound over lanes that tell so: each entry could follow those before it; each lane tells its state, and no token to come is settled. So is a new journal over lanes on which nothing was settled.
+pub record IsSound (es : List Entry) (told : Told) : Type 0 where
   pub legal : IsJournal empty_world es
-  pub tell : IsTrue (list_all is_some m.told)
-  pub fresh : AreFresh (world_of es).token m.told
+  pub tell : IsTrue (list_all is_some told)
+  pub fresh : AreFresh (world_of es).token told
+
+-- a creation begins soundly over a journal that has these entries
+abbrev pub BeginsSoundly : Meeting → List Entry → Type 0
+BeginsSoundly m old = IsSound old m.told
+
+-- The journal and the lanes stay sound: where those that were handed in are so, on a disk that tells its bytes, those that are given back are.
+abbrev pub StaySound : Meeting → Type 0
+StaySound m =
+    IsTrue m.tells → (old : List Entry) → record_of m.bytes ≡ Ok old → IsSound old m.told
+    → (now : List Entry) × (record_of m.bytes' ≡ Ok now) × IsSound now m.told'
 
 -- a creation behind the opening of a journal that had these entries
 abbrev pub number_in : Meeting → List Entry → ℕ
@@ -117,7 +128,7 @@ EndsFor m old name source es s (exit.RolledBack cause) =
     TurnsBack (one_of_each m.schemas) (begun_world m old name source) (number_in m old) name es cause
     × IsHandlers m.counts m.counts' (number_in m old) es s cause
 EndsFor m old name source es s (exit.Failed blamed) =
-    BeginsSoundly m (open_over m old) → AreBlamed m.counts m.counts' (number_in m old) es s blamed
+    BeginsSoundly m old → AreBlamed m.counts m.counts' (number_in m old) es s blamed
 EndsFor m old name source es s _ = ⊥
 
 -- The operation was driven to its end: the journal has its old entries, the opening, the beginning with the template that stands in the library, which may follow, and what was written then, which ends the operation. What was printed is the stack that they leave, which says the exit. Where it began soundly, the stack keeps what its status promises: complete, its template is live, and rolled back, nothing newer is; nothing is live but what was so before and what is of the stack.
@@ -144,7 +155,7 @@ pub record IsDeployed (m : Meeting) (p : Printing) (words : List (List ℕ)) (e 
   pub because : EndsFor m old name source es stack e
   pub printed : Appends p.held p.held' (stack_report name stack e)
   pub promise :
-      BeginsSoundly m (open_over m old)
+      BeginsSoundly m old
       → KeepsPromise m.names (kinds_of m.schemas) (world_of now) m.told m.told' (number_in m old) name
       (source_for name (number_in m old) source)
 
@@ -222,7 +233,7 @@ BlamesNone bare _ = ⊥
 -- an operation ended, all of whose calls succeeded, and blames none
 abbrev pub EndsUnfailed : Meeting → Printing → List (List ℕ) → Exit → Type 0
 EndsUnfailed m p words e =
-    (d : IsDeployed m p words e) × ((x : Entry) → In x d.es → IsNoFailure x) × BlamesNone (BeginsSoundly m (open_over m d.old)) e
+    (d : IsDeployed m p words e) × ((x : Entry) → In x d.es → IsNoFailure x) × BlamesNone (BeginsSoundly m d.old) e
 
 -- The journal has its old entries, or the opening over the lanes behind them; no lane was called.
 pub record HasOpened (m : Meeting) : Type 0 where
@@ -245,6 +256,7 @@ pub record HasRun (m : Meeting) (name : List ℕ) (choice : Choice) : Type 0 whe
   pub counts : List ℕ
   pub wrote : Wrote (run_in m old faults now name source) (number_in m old) es told counts
   pub stays : Holds m.tells m.bytes' ((open_over m old ++ begun_in m old name source ∷ []) ++ es)
+  pub sound : IsSound old m.told → IsSound ((open_over m old ++ begun_in m old name source ∷ []) ++ es) m.told'
 
 -- What the journal has then, whatever the answer: a disk that tells its bytes keeps its record; or it has the old entries and an opening, or also what the operation wrote.
 abbrev pub Journals : Meeting → List (List ℕ) → Type 0
@@ -283,3 +295,5 @@ pub record IsAnswered (m : Meeting) (p : Printing) (words : List (List ℕ)) (re
       → (result ≡ exit.TemplateRefused fault) ⊎ ComesBefore result
   -- what the journal has then, whatever the answer
   pub journal : Journals m words
+  -- sound it stays, with the lanes
+  pub sound : StaySound m

@@ -42,43 +42,34 @@ has_lane _ _ name kind = false
 abbrev pub lane_of : List ℕ → List ℕ
 lane_of physical = option_map_or (λ c. c.0) (cut_at (codes ":") physical) physical
 
--- a lane that is needed: its name, and the type where it has to be of one
-abbrev pub Need : Type 0
-Need = List ℕ × Option (List ℕ)
+-- a resource is served where a lane of its type is handed in that its physical id names
+abbrev pub serves_held : List (List ℕ) → List (List ℕ) → Held → Bool
+serves_held names kinds h = option_map_or (λ c. has_lane names kinds c.0 h.kind) (cut_at (codes ":") h.physical) false
 
-abbrev pub need_of_held : Held → Need
-need_of_held h = (lane_of h.physical, Some h.kind)
-
-abbrev pub kind_made : Request → Option (List ℕ)
-kind_made (request.Create kind props) = Some kind
-kind_made _ = None
-
-abbrev pub need_of_call : Pending → Need
-need_of_call p = (p.lane, kind_made p.request)
-
--- a stack needs the lanes of its resources and of its open calls
-abbrev pub needs_of : StackState → List Need
-needs_of s = (map need_of_held s.held ++ map need_of_held s.made) ++ map need_of_call s.tokens
-
--- the lane is handed in
-abbrev pub is_met : List (List ℕ) → List (List ℕ) → Need → Bool
-is_met names kinds (name, None) = is_among name names
-is_met names kinds (name, Some kind) = has_lane names kinds name kind
+-- an open call is served where its lane is handed in, of the type that it makes a resource of
+abbrev pub serves_call : List (List ℕ) → List (List ℕ) → List ℕ → Request → Bool
+serves_call names kinds lane (request.Create kind props) = has_lane names kinds lane kind
+serves_call names kinds lane _ = is_among lane names
 
 -- the lower of a name and the best one so far, in the order of their bytes
 abbrev pub lower : Option (List ℕ) → List ℕ → Option (List ℕ)
 lower None name = Some name
 lower (Some best) name = if bytes_lt name best then Some name else Some best
 
-abbrev pub or_missing : List (List ℕ) → List (List ℕ) → Option (List ℕ) → Need → Option (List ℕ)
-or_missing names kinds best need = if is_met names kinds need then best else lower best need.0
+abbrev pub or_missing_held : List (List ℕ) → List (List ℕ) → Option (List ℕ) → Held → Option (List ℕ)
+or_missing_held names kinds best h = if serves_held names kinds h then best else lower best (lane_of h.physical)
 
-abbrev pub missing_in : List (List ℕ) → List (List ℕ) → Option (List ℕ) → List Need → Option (List ℕ)
-missing_in names kinds best needs = fold (or_missing names kinds) best needs
+abbrev pub or_missing_call : List (List ℕ) → List (List ℕ) → Option (List ℕ) → Pending → Option (List ℕ)
+or_missing_call names kinds best p = if serves_call names kinds p.lane p.request then best else lower best p.lane
+
+-- a stack needs the lanes of its resources and of its open calls
+abbrev pub missing_in : List (List ℕ) → List (List ℕ) → Option (List ℕ) → StackState → Option (List ℕ)
+missing_in names kinds best s =
+    fold (or_missing_call names kinds) (fold (or_missing_held names kinds) (fold (or_missing_held names kinds) best s.held) s.made) s.tokens
 
 -- the first name in the order of bytes of a lane that a stack needs and that is not handed in
 abbrev pub missing : List (List ℕ) → List (List ℕ) → World → Option (List ℕ)
-missing names kinds x = fold (λ best s. missing_in names kinds best (needs_of s.1)) None x.stacks
+missing names kinds x = fold (λ best s. missing_in names kinds best s.1) None x.stacks
 
 -- the opening of a world over these lanes
 abbrev pub opening : List (List ℕ) → List (List ℕ) → World → Entry

@@ -1,12 +1,12 @@
 //! The opening of a journal over lanes.
-ghost use Rattle.std.specs.Prelude.{◌≡◌, ◌≤◌, ◌^◌, ◌++◌, [], map, option_copied, option_map, IfOk, IfErr, OnOk, IsTrue, None};
+ghost use Rattle.std.specs.Prelude.{◌≡◌, ◌≤◌, ◌^◌, ◌++◌, [], fold, map, IfOk, IfErr, OnOk, IsTrue, None};
 ghost use Rattle.std.specs.List.{list_all};
 ghost use Rattle.cf_tree.specs.Lists.{is_among};
 ghost use Rattle.cf_handler.specs.Name.{is_lane_name};
 ghost use Rattle.cf_journal.specs.Record.{Keeps};
 ghost use Rattle.cf_top.specs.Book.{IsOpen, Holds, world_of};
 ghost use Rattle.cf_top.specs.Lanes.{kinds_of, lane_pairs};
-ghost use Rattle.cf_top.specs.Opening.{EnterTells, HasOpenCause, exit_of, has_lane, is_met, kind_made, lane_of, lower, missing, missing_in, need_of_call, need_of_held, needs_of, number_named, opening, or_missing, twice};
+ghost use Rattle.cf_top.specs.Opening.{EnterTells, HasOpenCause, exit_of, has_lane, lane_of, lower, missing, missing_in, number_named, opening, or_missing_call, or_missing_held, serves_call, serves_held, twice};
 
 use crate::book::{Book, Halt, append};
 use cf_disk::Disk;
@@ -147,13 +147,27 @@ fn lane_of(physical: &Txt) -> &str
     }
 }
 
-/// Whether the lane is handed in: one of this name, and of this type where there is one.
-fn is_met<H: Handler>(lanes: &[H], name: &str, kind: Option<&Txt>) -> bool
-    ensures { result ≡ is_met (map H.label lanes.now) (kinds_of (map H.schema_of lanes.now)) (name.now, option_copied kind.entry) }
+/// Whether a resource is served: a lane of its type is handed in that its physical id names.
+fn serves_held<H: Handler>(lanes: &[H], held: &Held) -> bool
+    ensures { result ≡ serves_held (map H.label lanes.now) (kinds_of (map H.schema_of lanes.now)) held.now }
 {
-    match kind {
-        Some(kind) => has_lane(lanes, name, kind.as_str()),
-        None => is_named(lanes, name),
+    match cut(held.physical.as_str(), ":") {
+        Some((lane, _)) => has_lane(lanes, lane, held.kind.as_str()),
+        None => false,
+    }
+}
+
+/// Whether an open call is served: its lane is handed in, of the type that it makes a resource of.
+fn serves_call<H: Handler>(lanes: &[H], lane: &str, request: &Request) -> bool
+    ensures { result ≡ serves_call (map H.label lanes.now) (kinds_of (map H.schema_of lanes.now)) lane.now request.now }
+{
+    match request {
+        Request::Create { kind, props: _ } => has_lane(lanes, lane, kind.as_str()),
+        Request::Update {
+            physical: _,
+            props: _,
+        } => is_named(lanes, lane),
+        Request::Delete { physical: _ } => is_named(lanes, lane),
     }
 }
 
@@ -173,94 +187,78 @@ fn lower(alloc: Global, best: Option<Txt>, name: &str) -> Result<Option<Txt>, Al
     }
 }
 
-/// The lower of a lane that is needed, where it is missing, and the best one so far.
-fn or_missing<H: Handler>(
+/// The lower of the lane of a resource, where none serves it, and the best one so far.
+fn or_missing_held<H: Handler>(
     alloc: Global,
     lanes: &[H],
     best: Option<Txt>,
-    name: &str,
-    kind: Option<&Txt>,
+    held: &Held,
 ) -> Result<Option<Txt>, AllocError>
-    ensures { IfOk result (λ b. b ≡ or_missing (map H.label lanes.now) (kinds_of (map H.schema_of lanes.now)) best
-        (name.now, option_copied kind.entry)) }
+    ensures { IfOk result (λ b. b ≡ or_missing_held (map H.label lanes.now) (kinds_of (map H.schema_of lanes.now)) best held.now) }
 {
-    if is_met(lanes, name, kind) {
+    if serves_held(lanes, held) {
         Ok(best)
     } else {
-        lower(alloc, best, name)
+        lower(alloc, best, lane_of(&held.physical))
     }
 }
 
-/// The same for the lanes of resources.
+/// The lower of the lane of an open call, where it is not there, and the best one so far.
+fn or_missing_call<H: Handler>(
+    alloc: Global,
+    lanes: &[H],
+    best: Option<Txt>,
+    call: &Pending,
+) -> Result<Option<Txt>, AllocError>
+    ensures { IfOk result (λ b. b ≡ or_missing_call (map H.label lanes.now) (kinds_of (map H.schema_of lanes.now)) best call.now) }
+{
+    if serves_call(lanes, call.lane.as_str(), &call.request) {
+        Ok(best)
+    } else {
+        lower(alloc, best, call.lane.as_str())
+    }
+}
+
+/// The lowest of the best name so far and of the lanes of these resources that no lane serves.
 fn missing_of_helds<H: Handler>(
     alloc: Global,
     lanes: &[H],
     first: Option<Txt>,
     helds: &[Held],
 ) -> Result<Option<Txt>, AllocError>
-    ensures { IfOk result (λ b. b ≡ missing_in (map H.label lanes.now) (kinds_of (map H.schema_of lanes.now)) first
-        (map need_of_held helds.now)) }
+    ensures { IfOk result (λ b. b ≡ fold (or_missing_held (map H.label lanes.now) (kinds_of (map H.schema_of lanes.now))) first helds.now) }
 {
     let mut best = first;
     for held in helds.iter() {
-        best = or_missing(
-            alloc,
-            lanes,
-            best,
-            lane_of(&held.physical),
-            Some(&held.kind),
-        )?;
+        best = or_missing_held(alloc, lanes, best, held)?;
     }
     Ok(best)
 }
 
-/// The type that a request makes a resource of.
-fn kind_made(request: &Request) -> Option<&Txt>
-    ensures { option_copied result ≡ kind_made request.now }
-{
-    match request {
-        Request::Create { kind, props: _ } => Some(kind),
-        Request::Update {
-            physical: _,
-            props: _,
-        } => None,
-        Request::Delete { physical: _ } => None,
-    }
-}
-
-/// The same for the lanes of open calls.
+/// The lowest of the best name so far and of the lanes of these calls that are not there.
 fn missing_of_calls<H: Handler>(
     alloc: Global,
     lanes: &[H],
     first: Option<Txt>,
     calls: &[Pending],
 ) -> Result<Option<Txt>, AllocError>
-    ensures { IfOk result (λ b. b ≡ missing_in (map H.label lanes.now) (kinds_of (map H.schema_of lanes.now)) first
-        (map need_of_call calls.now)) }
+    ensures { IfOk result (λ b. b ≡ fold (or_missing_call (map H.label lanes.now) (kinds_of (map H.schema_of lanes.now))) first calls.now) }
 {
     let mut best = first;
     for call in calls.iter() {
-        best = or_missing(
-            alloc,
-            lanes,
-            best,
-            call.lane.as_str(),
-            kind_made(&call.request),
-        )?;
+        best = or_missing_call(alloc, lanes, best, call)?;
     }
     Ok(best)
 }
 
-/// The same for the lanes of a stack.
-#[tactic(auto, using(crate::proofs::Openings::missing_three))]
+/// The lowest of the best name so far and of the lanes that a stack needs and that are not there.
 fn missing_of_stack<H: Handler>(
     alloc: Global,
     lanes: &[H],
     best: Option<Txt>,
     stack: &StackState,
 ) -> Result<Option<Txt>, AllocError>
-    ensures { IfOk result (λ b. b ≡ missing_in (map H.label lanes.now) (kinds_of (map H.schema_of lanes.now)) best
-        (needs_of stack.now.stack)) }
+    ensures { IfOk result (λ b. b ≡ missing_in (map H.label lanes.now) (kinds_of (map H.schema_of lanes.now)) best stack.now.stack) }
 {
     let best = missing_of_helds(alloc, lanes, best, stack.held().as_slice())?;
     let best = missing_of_helds(alloc, lanes, best, stack.made().as_slice())?;

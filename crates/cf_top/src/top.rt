@@ -119,11 +119,12 @@ fn run_words<L: Library, K: Sink, D: Disk, H: Handler>(
 /// comes where the stack is CREATE_COMPLETE, `RolledBack` where it is ROLLBACK_COMPLETE, with the cause for which it
 /// turned back, and `Failed` where it is ROLLBACK_FAILED, with the paths whose calls failed. A handler is such a cause
 /// only where a call at its path was refused or broke off and the count of the lane rose. So it is with each of the
-/// paths, and there is one at least, where each entry of the journal with its opening could follow those before it, every
-/// lane tells its state, and no token to come is settled. `SinkFault` comes where the report could not be printed,
-/// whatever was done. After `Full`, `DiskFault`, `NoMemory` and `SinkFault` the operation may be in progress. After each
-/// answer the disk has the entries that it had and then, as far as the run came, the opening and those of the operation,
-/// of which each may follow where it stands, the beginning too. The lanes keep their names and types, the library its
+/// paths, and there is one at least, where journal and lanes are sound: each entry could follow those before it, every
+/// lane tells its state, and no token to come is settled. A new journal over lanes on which nothing is settled is so,
+/// and after each answer what is given back is, where what was handed in was. `SinkFault` comes where the report could
+/// not be printed, whatever was done. After `Full`, `DiskFault`, `NoMemory` and `SinkFault` the operation may be in
+/// progress. After each answer the disk has the entries that it had and then, as far as the run came, the opening and
+/// those of the operation, of which each may follow where it stands. The lanes keep their names and types, the library its
 /// texts and the disk its room.
 ///
 /// After `Done`, `RolledBack` and `Failed` a crash leaves the journal as it is. The room of the disk is from 16 to
