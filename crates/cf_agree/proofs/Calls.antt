@@ -1,24 +1,19 @@
 -- A call, a late effect and a raised fence keep agreement, whatever they come to.
 use Rattle.cf_agree.proofs.Effects.{Does, does, makes, sets, takes, keeps, with_props, gone_names, gone_request, set_names, set_request, made_success}
-use Rattle.cf_agree.proofs.Words.{bytes_or, in_either, entry_now, entry_others, live_more, used_still, unused, number_or, one_lane, used_born, unsettled, in_got, in_removed}
-use Rattle.cf_agree.specs.Account.{Open, Account, Thing, Role, called}
-use Rattle.cf_agree.specs.Account.Role.{Stranger, Resource, Leftover}
+use Rattle.cf_agree.proofs.Words.{bytes_or, in_either, entry_now, entry_others, live_more, used_still, unused, number_or, one_lane, used_born, unsettled, in_got, in_removed, some_or}
+use Rattle.cf_agree.specs.{Account.Account, Account.Called, Account.Open, Account.Role, Account.Thing, Account.called, Moves.IsOut}
+use Rattle.cf_agree.specs.Account.Role.{Stranger, Resource}
 use Rattle.cf_agree.specs.Base.{In, entry_at, lane_of, Dict, Made, Set, named_by, gone_by, effect_of}
 use Rattle.cf_agree.specs.Lanes.{Lanes, live_in, used_in, entry_in, Replaced, IsThere}
-use Rattle.cf_agree.specs.Moves.{IsOut}
 use Rattle.cf_agree.specs.Ties.{Fits, IsAccounted, IsSettled, Ties, Books, IsMade, IsGone, IsChanged, IsBorn, IsLost}
 use Rattle.cf_handler.specs.Fence.{FencedLane, Flying, live_at, CallMove, IsStale, LateMove, settled_late, FenceMove, FenceAnswer, Raised, Ahead, Broken, with_flying, raised_to}
 use Rattle.cf_handler.specs.Lane.{LaneState, live_of, is_used, changed_by, Live, has_id, settlement_of}
-use Rattle.cf_handler.specs.Move.{MaySettle, with_settled, IsOfLane, LaneMove, SettlesBy}
-use Rattle.cf_handler.specs.Name.{is_lane_name}
-use Rattle.cf_handler.specs.declared.settled.Settled.{Settled}
-use Rattle.cf_handler.specs.declared.settled.Settlement.{Settlement}
+use Rattle.cf_handler.specs.{Move.IsOfLane, Move.LaneMove, Move.MaySettle, Move.SettlesBy, Move.with_settled, Name.is_lane_name}
+use Rattle.cf_handler.specs.declared.{settled.Settled.Settled, settled.Settlement.Settlement}
 use Rattle.cf_handler.specs.declared.settled.Settlement.TheVariants.{Success, Failed}
 use Rattle.cf_tree.specs.Named.{all_differ}
-use Rattle.cf_tree.specs.declared.request.Answer.{Answer}
-use Rattle.cf_tree.specs.declared.request.Request.{Request}
-use Rattle.cf_tree.specs.declared.request.Request.TheVariants.{Create, Update, Delete}
-use Rattle.std.proofs.Common.{◌≡◌, ◌≢◌, ◌⊎◌, inl, inr, ℕ, List, true, Some, None, find, refl, sym, ap, subst, ◌∙◌, ◌<◌, ◌≤◌, [], ◌∷◌, ◌++◌, true≢false, map, arith, false, Option}
+use Rattle.cf_tree.specs.declared.{request.Answer.Answer, request.Request.Request, request.Request.TheVariants.Create}
+use Rattle.std.proofs.Common.{◌≡◌, ◌≢◌, ◌⊎◌, inl, inr, ℕ, List, true, Some, None, find, refl, sym, ap, subst, ◌∙◌, ◌<◌, ◌≤◌, [], ◌∷◌, ◌++◌, true≢false, map, arith, false, Option, ◌↔◌}
 use Rattle.std.specs.Str.{bytes_eq}
 use Rattle.cf_tree.specs.declared.request.Answer.TheVariants as answer
 
@@ -43,38 +38,35 @@ pub record MoreSettled (s : Settled) (l l' : FencedLane) : Type 0 where
   pub flies : (f : Flying) → In f l'.flying → In f l.flying
   pub fence : l'.fence ≡ l.fence
 
+-- what is so of a lane before and after where it is replaced, and of each other one twice, is so of all
+pub each_lane :
+    (n : List ℕ) (l : FencedLane) (w w' : Lanes) → Replaced n l w w' → (P : List ℕ → FencedLane → FencedLane → Type 0) → P n (w.lane n) l
+    → ((m : List ℕ) (k : FencedLane) → P m k k) → (m : List ℕ) → P m (w.lane m) (w'.lane m)
+each_lane n l w w' rep P replaced others m = elim (bytes_or m n) [
+  | inl e ↦ subst (λ k. P k (w.lane k) (w'.lane k)) (sym e) (subst (P n (w.lane n)) (sym rep.at) replaced)
+  | inr e ↦ subst (P m (w.lane m)) (sym (rep.others m e)) (others m (w.lane m))
+]
+
 pub settling :
     (n : List ℕ) (s : Settled) (l' : FencedLane) (w w' : Lanes) → Replaced n l' w w' → MoreSettled s (w.lane n) l' → entry_in w n s.token ≡ None
     → MaySettle n (w.lane n).state s.request s.settlement → Settling n s w w'
 settling n s l' w w' rep more new fits = record {
   kinds = rep.kinds;
   at = ap (λ (l : LaneState). entry_at s.token l.settled) state ∙ entry_now s.token (w.lane n).state.settled s refl new;
-  at_others = at_others;
-  members = λ m r i. elim (bytes_or m n) [
-    | inl e ↦ elim (in_either r (w.lane n).state.settled s (subst (λ (l : LaneState). In r l.settled) state (subst (λ k. In r (w'.lane k).state.settled) e i))) [
-      | inl j ↦ inl (subst (λ k. In r (w.lane k).state.settled) (sym e) j)
-      | inr j ↦ inr (e, j)
-    ]
-    | inr e ↦ inl (subst (λ (l : FencedLane). In r l.state.settled) (rep.others m e) i)
-  ];
-  bases = λ m. elim (bytes_or m n) [
-    | inl e ↦ ap (λ k. (w'.lane k).state.base) e ∙ ap (λ (l : LaneState). l.base) state ∙ ap (λ k. (w.lane k).state.base) (sym e)
-    | inr e ↦ ap (λ (l : FencedLane). l.state.base) (rep.others m e)
-  ];
-  flies = λ m f i. elim (bytes_or m n) [
-    | inl e ↦ subst (λ k. In f (w.lane k).flying) (sym e) (more.flies f (subst (λ (l : FencedLane). In f l.flying) rep.at (subst (λ k. In f (w'.lane k).flying) e i)))
-    | inr e ↦ subst (λ (l : FencedLane). In f l.flying) (rep.others m e) i
-  ];
-  fences = λ m. elim (bytes_or m n) [
-    | inl e ↦ ap (λ k. (w'.lane k).fence) e ∙ ap (λ (l : FencedLane). l.fence) rep.at ∙ more.fence ∙ ap (λ k. (w.lane k).fence) (sym e)
-    | inr e ↦ ap (λ (l : FencedLane). l.fence) (rep.others m e)
-  ];
-  does = λ i. subst (λ o. Does s.request s.settlement i (live_in w n i) o) (sym (lives i)) (does n (w.lane n).state s.request s.settlement i fits (unused i (w.lane n).state));
+  at_others = each_lane n l' w w' rep (λ m l k. (t : ℕ) → ((m ≢ n) ⊎ (t ≢ s.token)) → entry_at t k.state.settled ≡ entry_at t l.state.settled) (λ t h. elim h [
+    | inl k ↦ absurd (k refl)
+    | inr k ↦ ap (λ (l : LaneState). entry_at t l.settled) more.state ∙ entry_others t (w.lane n).state.settled s k
+  ]) (λ m l t h. refl);
+  members = each_lane n l' w w' rep (λ m l k. (r : Settled) → In r k.state.settled → In r l.state.settled ⊎ ((m ≡ n) × (r ≡ s)))
+      (λ r i. elim (in_either r (w.lane n).state.settled s (subst (λ (l : LaneState). In r l.settled) more.state i)) [ inl j ↦ inl j | inr j ↦ inr (refl, j) ])
+      (λ m l r i. inl i);
+  bases = each_lane n l' w w' rep (λ m l k. k.state.base ≡ l.state.base) (ap (λ (l : LaneState). l.base) more.state) (λ m l. refl);
+  flies = each_lane n l' w w' rep (λ m l k. (f : Flying) → In f k.flying → In f l.flying) more.flies (λ m l f i. i);
+  fences = each_lane n l' w w' rep (λ m l k. k.fence ≡ l.fence) more.fence (λ m l. refl);
+  does = λ i. subst (Does s.request s.settlement i (live_in w n i)) (sym (lives i)) (does n (w.lane n).state s.request s.settlement i fits (unused i (w.lane n).state));
   lives_others = λ m i e. ap (λ l. live_at i l) (rep.others m e);
-  knows = λ m i u. elim (bytes_or m n) [
-    | inl e ↦ ap (λ k. used_in w' k i) e ∙ ap (λ l. is_used i l) state ∙ used_still i (w.lane n).state s (ap (λ k. used_in w k i) (sym e) ∙ u)
-    | inr e ↦ ap (λ (l : FencedLane). is_used i l.state) (rep.others m e) ∙ u
-  ];
+  knows = each_lane n l' w w' rep (λ m l k. (i : List ℕ) → is_used i l.state ≡ true → is_used i k.state ≡ true)
+      (λ i u. ap (is_used i) more.state ∙ used_still i (w.lane n).state s u) (λ m l i u. u);
 }
   where
     state : (w'.lane n).state ≡ with_settled (w.lane n).state s
@@ -82,15 +74,6 @@ settling n s l' w w' rep more new fits = record {
 
     lives : (i : List ℕ) → live_in w' n i ≡ find (λ r. bytes_eq i r.id) (changed_by s.request s.settlement (live_of (w.lane n).state))
     lives i = ap (λ (l : LaneState). find (λ r. bytes_eq i r.id) (live_of l)) state ∙ ap (λ l. find (λ r. bytes_eq i r.id) l) (live_more (w.lane n).state.base (w.lane n).state.settled s)
-
-    at_others : (m : List ℕ) (t : ℕ) → ((m ≢ n) ⊎ (t ≢ s.token)) → entry_in w' m t ≡ entry_in w m t
-    at_others m t h = elim (bytes_or m n) [
-      | inr e ↦ ap (λ (l : FencedLane). entry_at t l.state.settled) (rep.others m e)
-      | inl e ↦ elim h [
-        | inl k ↦ absurd (k e)
-        | inr k ↦ ap (λ j. entry_in w' j t) e ∙ ap (λ (l : LaneState). entry_at t l.settled) state ∙ entry_others t (w.lane n).state.settled s k ∙ ap (λ j. entry_in w j t) (sym e)
-      ]
-    ]
 
 -- A lane that is called and left as it was, a call that flies on, and a raised fence keep agreement.
 
@@ -107,7 +90,8 @@ pub record Flies (a : Account) (w w' : Lanes) : Type 0 where
   pub epochs : (m : List ℕ) (f : Flying) → In f (w'.lane m).flying → f.epoch ≤ a.epoch
   pub at_rest : (m : List ℕ) (f : Flying) (o : Open) → In f (w'.lane m).flying → entry_in w m f.token ≡ None → a.open_ f.token ≡ Some o → a.resting o.stack ≡ true → f.epoch < a.epoch
 
-module _ (a : Account) (w w' : Lanes) (h : Ties a w) (al : Alike w w') (fl : Flies a w w') where
+-- An account that tells the same of ids, over lanes that agree on all but what flies and the fences.
+module _ (a x : Account) (w w' : Lanes) (h : Ties a w) (al : Alike w w') where
   entries : (m : List ℕ) (t : ℕ) → entry_in w' m t ≡ entry_in w m t
   entries m t = ap (λ (l : LaneState). entry_at t l.settled) (al.states m)
 
@@ -117,59 +101,67 @@ module _ (a : Account) (w w' : Lanes) (h : Ties a w) (al : Alike w w') (fl : Fli
   there_was : (m : List ℕ) → IsThere w' m → IsThere w m
   there_was m (k, e) = (k, sym (al.kinds m) ∙ e)
 
-  back : (t : ℕ) (o : Open) (s : Settled) → IsSettled a w' t o s → IsSettled a w t o s
-  back t o s (x, y) = (x, sym (entries o.lane t) ∙ y)
+  -- the other account, with the roles and the lost creates of this one
+  abbrev pub telling : Account
+  telling = record x { role = a.role; lost = a.lost }
 
-  forth : (t : ℕ) (o : Open) (s : Settled) → IsSettled a w t o s → IsSettled a w' t o s
-  forth t o s (x, y) = (x, entries o.lane t ∙ y)
-
-  pub ties_alike : Ties a w'
-  ties_alike = record {
-    handed = λ m k e. al.kinds m ∙ h.handed m k e;
+  pub ties_alike :
+      ((n : List ℕ) (t : ℕ) (r : Request) → Fits a n t r → Fits telling n t r)
+      → ((t : ℕ) (o : Open) (s : Settled) → entry_in w o.lane t ≡ Some s → (x.open_ t ≡ Some o) ↔ (a.open_ t ≡ Some o))
+      → ((n k : List ℕ) → x.named n ≡ Some k → w.kind n ≡ Some k)
+      → ((t : ℕ) (y : Settlement) (c : Called) → x.told t ≡ Some y → x.call t ≡ Some c → (a.told t ≡ Some y) × (a.call t ≡ Some c))
+      → Flies telling w w' → Ties telling w'
+  ties_alike fits opens named told fl = record {
+    handed = λ m k e. al.kinds m ∙ named m k e;
     lane_names = λ m e. h.lane_names m (there_was m e);
     settled_once = λ m r i. entries m r.token ∙ h.settled_once m r (subst (λ (l : LaneState). In r l.settled) (al.states m) i);
     base_once = λ m. subst (λ (l : LaneState). all_differ bytes_eq (map (λ (v : Live). v.id) l.base) ≡ true) (sym (al.states m)) (h.base_once m);
     base_named = λ m i e. h.base_named m i (subst (λ (l : LaneState). has_id i l.base ≡ true) (al.states m) e);
     created_named = λ m i t r e d. h.created_named m i t r (sym (entries m t) ∙ e) d;
     created_once = λ m i t u r q e e'. h.created_once m i t u r q (sym (entries m t) ∙ e) (sym (entries m u) ∙ e');
-    settled_calls = λ m t r e. h.settled_calls m t r (sym (entries m t) ∙ e);
+    settled_calls = λ m t r e. fits m t r.request (h.settled_calls m t r (sym (entries m t) ∙ e));
     flying_calls = fl.calls;
-    answers = λ t x c e k z. let (r, y, q) = h.answers t x c e k (there_was c.lane z) in (r, entries c.lane t ∙ y, q);
+    answers = λ t y c e k z.
+        let (e', k') = told t y c e k in
+        let (r, v, q) = h.answers t y c e' k' (there_was c.lane z) in (r, entries c.lane t ∙ v, q);
     flying_open = λ m g i e. fl.opens m g i (sym (entries m g.token) ∙ e);
     flying_epochs = fl.epochs;
     flying_at_rest = λ m g o i e. fl.at_rest m g o i (sym (entries m g.token) ∙ e);
     fences = fl.fences;
     known = λ i e z. ap (λ (l : LaneState). is_used i l) (al.states (lane_of i)) ∙ h.known i e (there_was (lane_of i) z);
     gone = λ i r e (t, o, s, d, k). lives (lane_of i) i ∙ h.gone i r e (t, o, s, back t o s d, k);
-    alive = λ i r e z g. let (v, x, y) = h.alive i r e (there_was (lane_of i) z) (λ (t, o, s, d, m). g (t, o, s, forth t o s d, m)) in (v, lives (lane_of i) i ∙ x, y);
+    alive = λ i r e z g.
+        let (v, y, q) = h.alive i r e (there_was (lane_of i) z) (λ (t, o, s, d, m). g (t, o, s, forth t o s d, m)) in (v, lives (lane_of i) i ∙ y, q);
     same = λ i r v e u g l. h.same i r v e u (λ (t, o, s, p, q, d, m). g (t, o, s, p, q, forth t o s d, m)) (sym (lives (lane_of i) i) ∙ l);
-    changed = λ t o s i p q d k. let (v, x, y, z) = h.changed t o s i p q (back t o s d) k in (v, lives o.lane i ∙ x, y, z);
+    changed = λ t o s i p q d k. let (v, y, z, r) = h.changed t o s i p q (back t o s d) k in (v, lives o.lane i ∙ y, z, r);
     born = λ t o s i k p q d e. let z = h.born t o s i k p q (back t o s d) e in (lives o.lane i ∙ z.0, z.1);
     live_named = λ m i v l. h.live_named m i v (sym (lives m i) ∙ l);
     listed = λ m i v l. elim (h.listed m i v (sym (lives m i) ∙ l)) [
-      | inl x ↦ inl x
-      | inr x ↦ elim x [ inl (t, o, s, d, e) ↦ inr (inl (t, o, s, forth t o s d, e)) | inr (t, n, s, y, z, e) ↦ inr (inr (t, n, s, y, entries n t ∙ z, e)) ]
+      | inl y ↦ inl y
+      | inr (inl (t, o, s, d, e)) ↦ inr (inl (t, o, s, forth t o s d, e))
+      | inr (inr (t, n, s, y, z, e)) ↦ inr (inr (t, n, s, y, entries n t ∙ z, e))
     ];
   }
+    where
+      back : (t : ℕ) (o : Open) (s : Settled) → IsSettled telling w' t o s → IsSettled a w t o s
+      back t o s (y, z) = let e = sym (entries o.lane t) ∙ z in ((opens t o s e).0 y, e)
+
+      forth : (t : ℕ) (o : Open) (s : Settled) → IsSettled a w t o s → IsSettled telling w' t o s
+      forth t o s (y, z) = ((opens t o s z).1 y, entries o.lane t ∙ z)
+
+-- the same account
+pub ties_flying : (a : Account) (w w' : Lanes) → Ties a w → Alike w w' → Flies a w w' → Ties a w'
+ties_flying a w w' h al fl = ties_alike a a w w' h al (λ n t r f. f) (λ t o s e. (λ x. x, λ x. x)) h.handed (λ t x c e k. (e, k)) fl
 
 -- one lane is replaced by one with the same state
 module _ (a : Account) (n : List ℕ) (l : FencedLane) (w w' : Lanes) (h : Ties a w) (rep : Replaced n l w w') (state : l.state ≡ (w.lane n).state) where
   alike : Alike w w'
-  alike = record {
-    kinds = rep.kinds;
-    states = λ m. elim (bytes_or m n) [
-      | inl e ↦ ap (λ k. (w'.lane k).state) e ∙ ap (λ (x : FencedLane). x.state) rep.at ∙ state ∙ ap (λ k. (w.lane k).state) (sym e)
-      | inr e ↦ ap (λ (x : FencedLane). x.state) (rep.others m e)
-    ];
-  }
+  alike = record { kinds = rep.kinds; states = each_lane n l w w' rep (λ m k x. x.state ≡ k.state) state (λ m k. refl) }
 
   -- nothing more flies, and the fence is no lower
   pub ties_raised : ((f : Flying) → In f l.flying → In f (w.lane n).flying) → (w.lane n).fence ≤ l.fence → l.fence ≤ a.epoch → Ties a w'
-  ties_raised flies lower low = ties_alike a w w' h alike (record {
-    fences = λ m. elim (bytes_or m n) [
-      | inl e ↦ subst (λ k. (w'.lane k).fence ≤ a.epoch) (sym e) (subst (λ (x : FencedLane). x.fence ≤ a.epoch) (sym rep.at) low)
-      | inr e ↦ subst (λ (x : FencedLane). x.fence ≤ a.epoch) (sym (rep.others m e)) (h.fences m)
-    ];
+  ties_raised flies lower low = ties_flying a w w' h alike (record {
+    fences = λ m. each_lane n l w w' rep (λ m k x. k.fence ≤ a.epoch → x.fence ≤ a.epoch) (λ z. low) (λ m k z. z) m (h.fences m);
     calls = λ m f i. h.flying_calls m f (was m f i);
     opens = λ m f i e k. h.flying_open m f (was m f i) e (lower_at m f.epoch k);
     epochs = λ m f i. h.flying_epochs m f (was m f i);
@@ -177,21 +169,14 @@ module _ (a : Account) (n : List ℕ) (l : FencedLane) (w w' : Lanes) (h : Ties 
   })
     where
       was : (m : List ℕ) (f : Flying) → In f (w'.lane m).flying → In f (w.lane m).flying
-      was m f i = elim (bytes_or m n) [
-        | inl e ↦ subst (λ k. In f (w.lane k).flying) (sym e) (flies f (subst (λ (x : FencedLane). In f x.flying) rep.at (subst (λ k. In f (w'.lane k).flying) e i)))
-        | inr e ↦ subst (λ (x : FencedLane). In f x.flying) (rep.others m e) i
-      ]
+      was = each_lane n l w w' rep (λ m k x. (f : Flying) → In f x.flying → In f k.flying) flies (λ m k f i. i)
 
       lower_at : (m : List ℕ) (c : ℕ) → (w'.lane m).fence ≤ c → (w.lane m).fence ≤ c
-      lower_at m c k = elim (bytes_or m n) [
-        | inl e ↦ (let z : l.fence ≤ c = subst (λ (x : FencedLane). x.fence ≤ c) rep.at (subst (λ j. (w'.lane j).fence ≤ c) e k) in
-            subst (λ j. (w.lane j).fence ≤ c) (sym e) (omega arith))
-        | inr e ↦ subst (λ (x : FencedLane). x.fence ≤ c) (rep.others m e) k
-      ]
+      lower_at m c k = grind arith
 
   -- one call more flies, of a token that is out
   pub ties_flown : (f : Flying) → l.flying ≡ (w.lane n).flying ++ f ∷ [] → l.fence ≡ (w.lane n).fence → IsOut a n f.token f.request → f.epoch ≤ a.epoch → Ties a w'
-  ties_flown f flies same out low = ties_alike a w w' h alike (record {
+  ties_flown f flies same out low = ties_flying a w w' h alike (record {
     fences = λ m. subst (λ c. c ≤ a.epoch) (sym (fence m)) (h.fences m);
     calls = λ m g i. elim (flown_or m g i) [
       | inl j ↦ h.flying_calls m g j
@@ -209,35 +194,30 @@ module _ (a : Account) (n : List ℕ) (l : FencedLane) (w w' : Lanes) (h : Ties 
   })
     where
       fence : (m : List ℕ) → (w'.lane m).fence ≡ (w.lane m).fence
-      fence m = elim (bytes_or m n) [
-        | inl e ↦ ap (λ k. (w'.lane k).fence) e ∙ ap (λ (x : FencedLane). x.fence) rep.at ∙ same ∙ ap (λ k. (w.lane k).fence) (sym e)
-        | inr e ↦ ap (λ (x : FencedLane). x.fence) (rep.others m e)
-      ]
+      fence m = grind arith
 
       flown_or : (m : List ℕ) (g : Flying) → In g (w'.lane m).flying → In g (w.lane m).flying ⊎ ((m ≡ n) × (g ≡ f))
-      flown_or m g i = elim (bytes_or m n) [
-        | inl e ↦ elim (in_either g (w.lane n).flying f (subst (λ fs. In g fs) flies (subst (λ (x : FencedLane). In g x.flying) rep.at (subst (λ k. In g (w'.lane k).flying) e i)))) [
-          | inl j ↦ inl (subst (λ k. In g (w.lane k).flying) (sym e) j)
-          | inr j ↦ inr (e, j)
-        ]
-        | inr e ↦ inl (subst (λ (x : FencedLane). In g x.flying) (rep.others m e) i)
-      ]
+      flown_or = each_lane n l w w' rep (λ m k x. (g : Flying) → In g x.flying → In g k.flying ⊎ ((m ≡ n) × (g ≡ f)))
+          (λ g i. elim (in_either g (w.lane n).flying f (subst (In g) flies i)) [ inl j ↦ inl j | inr j ↦ inr (refl, j) ]) (λ m k g i. inl i)
 
 -- One more settled call of a token that is accounted for keeps agreement.
-
-pub entry_or : (o : Option Settled) → (o ≡ None) ⊎ ((s : Settled) × (o ≡ Some s))
-entry_or None = inl refl
-entry_or (Some s) = inr (s, refl)
 
 -- what may settle as made is new, and of its lane
 pub may_make :
     (n : List ℕ) (l : LaneState) (r : Request) (x : Settlement) (i k : List ℕ) (p t : Dict) → MaySettle n l r x → effect_of r x ≡ Made i k p t
     → IsOfLane n i × (is_used i l ≡ false)
 may_make n l (Create k' p') (Success j t') i k p t m e = let z : j ≡ i = cc in (subst (λ q. IsOfLane n q) z m.0, subst (λ q. is_used q l ≡ false) z m.2)
-may_make n l (Create k' p') (Failed c) i k p t m e = absurd (cc)
-may_make n l (Update j p') (Success k' u) i k p t m e = absurd (cc)
-may_make n l (Update j p') (Failed c) i k p t m e = absurd (cc)
-may_make n l (Delete j) x i k p t m e = absurd (cc)
+may_make n l r x i k p t m e = let (a, b) = made_success r x i k p t e in absurd (grind arith)
+
+-- two open calls of one id are one
+pub one_call :
+    (a : Account) → Books a → (t u : ℕ) (o v : Open) (i : List ℕ) → a.open_ t ≡ Some o → a.open_ u ≡ Some v → named_by o.request ≡ Some i
+    → named_by v.request ≡ Some i → t ≡ u
+one_call a b t u o v i e k x y = grind arith
+
+-- an open call that is settled was settled with its own request
+pub request_of : (a : Account) (w : Lanes) → Books a → Ties a w → (t : ℕ) (o : Open) (s : Settled) → IsSettled a w t o s → o.request ≡ s.request
+request_of a w b h t o s (y, z) = ((h.settled_calls o.lane t s z).written (called o) (b.calls t o y)).1
 
 module _
     (a : Account) (n : List ℕ) (s : Settled) (w w' : Lanes) (b : Books a) (h : Ties a w) (f : Settling n s w w')
@@ -253,15 +233,10 @@ module _
         let fa = f.at in inr (x, y, cc)
 
   kept : (m : List ℕ) (t : ℕ) (r : Settled) → entry_in w m t ≡ Some r → entry_in w' m t ≡ Some r
-  kept m t r e = go (bytes_or m n) (number_or t s.token) where
-    go : (m ≡ n) ⊎ (m ≢ n) → (t ≡ s.token) ⊎ (t ≢ s.token) → entry_in w' m t ≡ Some r
-    go (inr x) y = f.at_others m t (inl x) ∙ e
-    go (inl x) (inr y) = f.at_others m t (inr y) ∙ e
-    go (inl x) (inl y) =
-        let z : entry_in w n s.token ≡ Some r = subst (λ j. entry_in w j s.token ≡ Some r) x (subst (λ j. entry_in w m j ≡ Some r) y e) in absurd (cc)
+  kept m t r e = grind arith
 
   unsettled' : (m : List ℕ) (t : ℕ) → entry_in w' m t ≡ None → entry_in w m t ≡ None
-  unsettled' m t e = elim (entry_or (entry_in w m t)) [ inl k ↦ k | inr k ↦ (let g = kept m t k.0 k.1 in absurd (cc)) ]
+  unsettled' m t e = elim (some_or (entry_in w m t)) [ inl k ↦ k | inr k ↦ (let g = kept m t k.0 k.1 in absurd (cc)) ]
 
   gone_kept : (i : List ℕ) → IsGone a w i → IsGone a w' i
   gone_kept i (t, o, r, (p, q), d) = (t, o, r, (p, kept o.lane t r q), d)
@@ -275,12 +250,25 @@ module _
   lost_kept : (i : List ℕ) → IsLost a w i → IsLost a w' i
   lost_kept i (t, m, r, p, q, d) = (t, m, r, p, kept m t r q, d)
 
-  -- what is live at an id's own lane
-  at_home : (m i : List ℕ) → ((m ≡ n) × Does s.request s.settlement i (live_in w m i) (live_in w' m i)) ⊎ ((m ≢ n) × (live_in w' m i ≡ live_in w m i))
-  at_home m i = elim (bytes_or m n) [
-    | inl e ↦ inl (e, subst (λ k. Does s.request s.settlement i (live_in w k i) (live_in w' k i)) (sym e) (f.does i))
-    | inr e ↦ inr (e, f.lives_others m i e)
+  -- what the call left of what is live under an id of a lane
+  data Leaving (m i : List ℕ) : Type 0 where
+    born_there : m ≡ n → IsMade s i → Leaving m i
+    set_there : (p t : Dict) (v : Live) → effect_of s.request s.settlement ≡ Set i p t → live_in w m i ≡ Some v
+        → live_in w' m i ≡ Some (with_props v p t) → Leaving m i
+    gone_there : gone_by s.request s.settlement ≡ Some i → live_in w' m i ≡ None → Leaving m i
+    left_there : (m ≡ n → gone_by s.request s.settlement ≢ Some i) → live_in w' m i ≡ live_in w m i → Leaving m i
+
+  leaving : (m i : List ℕ) → Leaving m i
+  leaving m i = elim (bytes_or m n) [
+    | inl e ↦ at_home e (subst (λ k. Does s.request s.settlement i (live_in w k i) (live_in w' k i)) (sym e) (f.does i))
+    | inr e ↦ left_there (λ k. absurd (e k)) (f.lives_others m i e)
   ]
+    where
+      at_home : m ≡ n → Does s.request s.settlement i (live_in w m i) (live_in w' m i) → Leaving m i
+      at_home e (makes k p t c l) = born_there e (k, p, t, c)
+      at_home e (sets p t v c l l') = set_there p t v c l l'
+      at_home e (takes c l) = gone_there c l
+      at_home e (keeps c c' c'' l) = left_there (λ k. c'') l
 
   name_is : is_lane_name n ≡ true
   name_is = h.lane_names n there
@@ -306,11 +294,7 @@ module _
 
   -- a settled request that names a resource is that of an open call
   named_open : (i : List ℕ) (r : Thing) → a.role i ≡ Resource r → named_by s.request ≡ Some i → (o : Open) × (a.open_ s.token ≡ Some o) × (lane_of i ≡ n)
-  named_open i r e d = go mine where
-    go : IsAccounted a s.token s.request → (o : Open) × (a.open_ s.token ≡ Some o) × (lane_of i ≡ n)
-    go (inl (o, x)) = let y = fit_open o x in (o, x, b.home s.token o i x (ap named_by y.1 ∙ d) ∙ y.0)
-    go (inr (inl (j, x, y))) = let same : j ≡ i = cc in let k : a.role i ≡ Leftover = subst (λ u. a.role u ≡ Leftover) same y in absurd (cc)
-    go (inr (inr x)) = let y = x.0 in absurd (cc)
+  named_open i r e d = grind arith
 
   settled_now : (o : Open) → a.open_ s.token ≡ Some o → IsSettled a w' s.token o s
   settled_now o x = (x, subst (λ m. entry_in w' m s.token ≡ Some s) (sym (fit_open o x).0) f.at)
@@ -322,82 +306,47 @@ module _
   is_changed i r p t e d = let o = named_open i r e (set_names s.request s.settlement i p t d) in (s.token, o.0, s, p, t, settled_now o.0 o.1, d)
 
   gone : (i : List ℕ) (r : Thing) → a.role i ≡ Resource r → IsGone a w' i → live_in w' (lane_of i) i ≡ None
-  gone i r e (t, o, q, (y, z), d) = go (at_home (lane_of i) i) (old_or_new o.lane t q z) where
-    on_gone : gone_by s.request s.settlement ≡ Some i → Does s.request s.settlement i (live_in w (lane_of i) i) (live_in w' (lane_of i) i) → live_in w' (lane_of i) i ≡ None
-    on_gone g (makes k p t' c l) = absurd (not_made i (resource_used i r e) (k, p, t', c))
-    on_gone g (sets p t' v c l l') = let x = (gone_request s.request s.settlement i g) in let y = set_request s.request s.settlement i p t' c in absurd (cc)
-    on_gone g (takes c l) = l
-    on_gone g (keeps c c' c'' l) = absurd (c'' g)
-
-    was_gone : live_in w (lane_of i) i ≡ None → Does s.request s.settlement i (live_in w (lane_of i) i) (live_in w' (lane_of i) i) → live_in w' (lane_of i) i ≡ None
-    was_gone g (makes k p t' c l) = absurd (not_made i (resource_used i r e) (k, p, t', c))
-    was_gone g (sets p t' v c l l') = absurd (cc)
-    was_gone g (takes c l) = l
-    was_gone g (keeps c c' c'' l) = l ∙ g
-
-    go :
-        ((lane_of i ≡ n) × Does s.request s.settlement i (live_in w (lane_of i) i) (live_in w' (lane_of i) i)) ⊎ ((lane_of i ≢ n) × (live_in w' (lane_of i) i ≡ live_in w (lane_of i) i))
-        → (entry_in w o.lane t ≡ Some q) ⊎ ((o.lane ≡ n) × (t ≡ s.token) × (q ≡ s)) → live_in w' (lane_of i) i ≡ None
-    go (inr x) (inl k) = x.1 ∙ h.gone i r e (t, o, q, (y, k), d)
-    go (inl x) (inl k) = was_gone (h.gone i r e (t, o, q, (y, k), d)) x.1
-    go (inl x) (inr k) = on_gone (subst (λ (v : Settled). gone_by v.request v.settlement ≡ Some i) k.2 d) x.1
-    go (inr x) (inr k) = absurd (x.0 (named_open i r e (gone_names s.request s.settlement i (subst (λ (v : Settled). gone_by v.request v.settlement ≡ Some i) k.2 d))).2)
+  gone i r e (t, o, q, (y, z), d) = go (leaving (lane_of i) i) (old_or_new o.lane t q z) where
+    go : Leaving (lane_of i) i → (entry_in w o.lane t ≡ Some q) ⊎ ((o.lane ≡ n) × (t ≡ s.token) × (q ≡ s)) → live_in w' (lane_of i) i ≡ None
+    go (born_there at m) x = absurd (not_made i (resource_used i r e) m)
+    go (set_there p t' v c l l') (inl k) = let g = h.gone i r e (t, o, q, (y, k), d) in absurd (cc)
+    go (set_there p t' v c l l') (inr k) =
+        let g = gone_request s.request s.settlement i (subst (λ (v : Settled). gone_by v.request v.settlement ≡ Some i) k.2 d) in
+        let c' = set_request s.request s.settlement i p t' c in absurd (cc)
+    go (gone_there c l) x = l
+    go (left_there c l) (inl k) = l ∙ h.gone i r e (t, o, q, (y, k), d)
+    go (left_there c l) (inr k) =
+        let g = subst (λ (v : Settled). gone_by v.request v.settlement ≡ Some i) k.2 d in
+        absurd (c (named_open i r e (gone_names s.request s.settlement i g)).2 g)
 
   alive : (i : List ℕ) (r : Thing) → a.role i ≡ Resource r → (IsGone a w' i → ⊥) → (v : Live) × (live_in w' (lane_of i) i ≡ Some v) × (v.kind ≡ r.kind)
-  alive i r e g = go (at_home (lane_of i) i) where
-    was : (v : Live) × (live_in w (lane_of i) i ≡ Some v) × (v.kind ≡ r.kind)
-    was = h.alive i r e (resource_there i r e) (λ k. g (gone_kept i k))
-
-    by_does : Does s.request s.settlement i (live_in w (lane_of i) i) (live_in w' (lane_of i) i) → (v : Live) × (live_in w' (lane_of i) i ≡ Some v) × (v.kind ≡ r.kind)
-    by_does (makes k p t c l) = absurd (not_made i (resource_used i r e) (k, p, t, c))
-    by_does (sets p t v c l l') = let y = was.1 in let same : v ≡ was.0 = cc in (with_props v p t, l', ap (λ (x : Live). x.kind) same ∙ was.2)
-    by_does (takes c l) = absurd (g (is_gone i r e c))
-    by_does (keeps c c' c'' l) = (was.0, l ∙ was.1, was.2)
-
-    go :
-        ((lane_of i ≡ n) × Does s.request s.settlement i (live_in w (lane_of i) i) (live_in w' (lane_of i) i)) ⊎ ((lane_of i ≢ n) × (live_in w' (lane_of i) i ≡ live_in w (lane_of i) i))
-        → (v : Live) × (live_in w' (lane_of i) i ≡ Some v) × (v.kind ≡ r.kind)
-    go (inl x) = by_does x.1
-    go (inr x) = (was.0, x.1 ∙ was.1, was.2)
+  alive i r e g = go (leaving (lane_of i) i) (h.alive i r e (resource_there i r e) (λ k. g (gone_kept i k))) where
+    go : Leaving (lane_of i) i → (v : Live) × (live_in w (lane_of i) i ≡ Some v) × (v.kind ≡ r.kind) → (v : Live) × (live_in w' (lane_of i) i ≡ Some v) × (v.kind ≡ r.kind)
+    go (born_there at m) was = absurd (not_made i (resource_used i r e) m)
+    go (set_there p t v c l l') (v', x, y) = let same : v ≡ v' = cc in (with_props v p t, l', ap (λ (z : Live). z.kind) same ∙ y)
+    go (gone_there c l) was = absurd (g (is_gone i r e c))
+    go (left_there c l) (v, x, y) = (v, l ∙ x, y)
 
   same : (i : List ℕ) (r : Thing) (v : Live) → a.role i ≡ Resource r → r.sure ≡ true → (IsChanged a w' i → ⊥) → live_in w' (lane_of i) i ≡ Some v → (v.props ≡ r.props) × (v.attrs ≡ r.attrs)
-  same i r v e su g l = h.same i r v e su (λ k. g (changed_kept i k)) (go (at_home (lane_of i) i)) where
-    by_does : Does s.request s.settlement i (live_in w (lane_of i) i) (live_in w' (lane_of i) i) → live_in w (lane_of i) i ≡ Some v
-    by_does (makes k p t c l') = absurd (not_made i (resource_used i r e) (k, p, t, c))
-    by_does (sets p t v' c l' l'') = absurd (g (is_changed i r p t e c))
-    by_does (takes c l') = absurd (cc)
-    by_does (keeps c c' c'' l') = sym l' ∙ l
-
-    go :
-        ((lane_of i ≡ n) × Does s.request s.settlement i (live_in w (lane_of i) i) (live_in w' (lane_of i) i)) ⊎ ((lane_of i ≢ n) × (live_in w' (lane_of i) i ≡ live_in w (lane_of i) i))
-        → live_in w (lane_of i) i ≡ Some v
-    go (inl x) = by_does x.1
-    go (inr x) = sym x.1 ∙ l
+  same i r v e su g l = h.same i r v e su (λ k. g (changed_kept i k)) (elim (leaving (lane_of i) i) [
+    | born_there at m ↦ absurd (not_made i (resource_used i r e) m)
+    | set_there p t v' c l' l'' ↦ absurd (g (is_changed i r p t e c))
+    | gone_there c l' ↦ absurd (cc)
+    | left_there c l' ↦ sym l' ∙ l
+  ])
 
   -- an id that was used, and that the call doesn't name, isn't touched
   untouched : (i : List ℕ) → used_in w (lane_of i) i ≡ true → named_by s.request ≢ Some i → live_in w' (lane_of i) i ≡ live_in w (lane_of i) i
-  untouched i u ns = go (at_home (lane_of i) i) where
-    by_does : Does s.request s.settlement i (live_in w (lane_of i) i) (live_in w' (lane_of i) i) → live_in w' (lane_of i) i ≡ live_in w (lane_of i) i
-    by_does (makes k p t c l') = absurd (not_made i u (k, p, t, c))
-    by_does (sets p t v' c l' l'') = absurd (ns (set_names s.request s.settlement i p t c))
-    by_does (takes c l') = absurd (ns (gone_names s.request s.settlement i c))
-    by_does (keeps c c' c'' l') = l'
-
-    go :
-        ((lane_of i ≡ n) × Does s.request s.settlement i (live_in w (lane_of i) i) (live_in w' (lane_of i) i)) ⊎ ((lane_of i ≢ n) × (live_in w' (lane_of i) i ≡ live_in w (lane_of i) i))
-        → live_in w' (lane_of i) i ≡ live_in w (lane_of i) i
-    go (inl x) = by_does x.1
-    go (inr x) = x.1
+  untouched i u ns = elim (leaving (lane_of i) i) [
+    | born_there at m ↦ absurd (not_made i u m)
+    | set_there p t v' c l' l'' ↦ absurd (ns (set_names s.request s.settlement i p t c))
+    | gone_there c l' ↦ absurd (ns (gone_names s.request s.settlement i c))
+    | left_there c l' ↦ l'
+  ]
 
   -- what was settled before isn't the new call's token
   apart : (t : ℕ) (o : Open) (r : Settled) → IsSettled a w t o r → t ≢ s.token
-  apart t o r (y, z) e =
-      let ln = (fit_open o (subst (λ u. a.open_ u ≡ Some o) e y)).0 in
-      let zz : entry_in w n s.token ≡ Some r = subst (λ m. entry_in w m s.token ≡ Some r) ln (subst (λ u. entry_in w o.lane u ≡ Some r) e z) in
-      absurd (cc)
-
-  request_of : (t : ℕ) (o : Open) (r : Settled) → IsSettled a w t o r → o.request ≡ r.request
-  request_of t o r (y, z) = ((h.settled_calls o.lane t r z).written (called o) (b.calls t o y)).1
+  apart t o r (y, z) e = grind arith
 
   changed : (t : ℕ) (o : Open) (q : Settled) (i : List ℕ) (p u : Dict) → IsSettled a w' t o q → effect_of q.request q.settlement ≡ Set i p u → (v : Live) × (live_in w' o.lane i ≡ Some v) × (v.props ≡ p) × (v.attrs ≡ u)
   changed t o q i p u (y, z) d = go (old_or_new o.lane t q z) where
@@ -409,18 +358,13 @@ module _
 
     on_old : entry_in w o.lane t ≡ Some q → (v : Live) × (live_in w' o.lane i ≡ Some v) × (v.props ≡ p) × (v.attrs ≡ u)
     on_old k =
-        let nm : named_by o.request ≡ Some i = ap named_by (request_of t o q (y, k)) ∙ set_names q.request q.settlement i p u d in
-        let hm = b.home t o i y nm in
-        let r = b.named t o i y nm in
-        let ns : named_by s.request ≢ Some i = λ e.
-        let x = named_open i r.0 r.1 e in
-        let nx : named_by (x.0).request ≡ Some i = ap named_by (fit_open x.0 x.1).1 ∙ e in
-        let rx = b.named s.token x.0 i x.1 nx in
-        let rr : Resource r.0 ≡ Resource rx.0 = sym r.1 ∙ rx.1 in
-        let one : r.0 ≡ rx.0 = cc in
-        apart t o q (y, k) (b.once t s.token o x.0 y x.1 (sym r.2 ∙ ap (λ (g : Thing). g.stack) one ∙ rx.2) (sym r.3 ∙ ap (λ (g : Thing). g.path) one ∙ rx.3)) in
+        let nm : named_by o.request ≡ Some i = ap named_by (request_of a w b h t o q (y, k)) ∙ set_names q.request q.settlement i p u d in
+        let (r, e, x, z) = b.named t o i y nm in
+        let ns : named_by s.request ≢ Some i = λ c.
+        let (v, g, l) = named_open i r e c in
+        apart t o q (y, k) (one_call a b t s.token o v i y g nm (ap named_by (fit_open v g).1 ∙ c)) in
         let was = h.changed t o q i p u (y, k) d in
-        (was.0, subst (λ m. live_in w' m i ≡ live_in w m i) hm (untouched i (resource_used i r.0 r.1) ns) ∙ was.1, was.2, was.3)
+        (was.0, subst (λ m. live_in w' m i ≡ live_in w m i) (b.home t o i y nm) (untouched i (resource_used i r e) ns) ∙ was.1, was.2, was.3)
 
     go : (entry_in w o.lane t ≡ Some q) ⊎ ((o.lane ≡ n) × (t ≡ s.token) × (q ≡ s)) → (v : Live) × (live_in w' o.lane i ≡ Some v) × (v.props ≡ p) × (v.attrs ≡ u)
     go (inl k) = on_old k
@@ -430,8 +374,7 @@ module _
 
   role_or : (r : Role) → (r ≡ Stranger) ⊎ (r ≢ Stranger)
   role_or Stranger = inl refl
-  role_or (Resource p) = inr (λ e. absurd (cc))
-  role_or Leftover = inr (λ e. absurd (cc))
+  role_or _ = inr (λ e. absurd (cc))
 
   stranger_if_made : (i : List ℕ) → IsMade s i → a.role i ≡ Stranger
   stranger_if_made i m = elim (role_or (a.role i)) [
@@ -440,11 +383,7 @@ module _
   ]
 
   not_named : (i : List ℕ) → a.role i ≡ Stranger → named_by s.request ≡ Some i → ⊥
-  not_named i x e = go mine where
-    go : IsAccounted a s.token s.request → ⊥
-    go (inl (o, y)) = let r = b.named s.token o i y (ap named_by (fit_open o y).1 ∙ e) in let k = r.1 in cc
-    go (inr (inl (j, y, z))) = let one : j ≡ i = cc in let k : a.role i ≡ Leftover = subst (λ u. a.role u ≡ Leftover) one z in cc
-    go (inr (inr y)) = let k = y.0 in cc
+  not_named i x e = grind arith
 
   entry_used : (m : List ℕ) (t : ℕ) (q : Settled) (i : List ℕ) → entry_in w m t ≡ Some q → IsMade q i → used_in w (lane_of i) i ≡ true
   entry_used m t q i e (k, p, u, d) =
@@ -479,38 +418,26 @@ module _
     go (inr k) (inl k') = absurd (not_made i (entry_used m u q i k' d') (subst (λ (x : Settled). IsMade x i) k.2 d))
 
   made_by : (i : List ℕ) → IsMade s i → IsBorn a w' i ⊎ IsLost a w' i
-  made_by i d = go mine where
-    go : IsAccounted a s.token s.request → IsBorn a w' i ⊎ IsLost a w' i
-    go (inl (o, y)) = inl (s.token, o, s, settled_now o y, d)
-    go (inr (inl (j, y, z))) = let (k, p, u, e) = d in let x = (made_success s.request s.settlement i k p u e).1 in let x' = ap named_by x in absurd (cc)
-    go (inr (inr y)) = inr (s.token, n, s, y.1, f.at, d)
+  made_by i d = grind arith
 
   listed : (m i : List ℕ) (v : Live) → live_in w' m i ≡ Some v → (a.role i ≢ Stranger) ⊎ IsBorn a w' i ⊎ IsLost a w' i
-  listed m i v l = go (at_home m i) where
-    was : (u : Live) → live_in w m i ≡ Some u → (a.role i ≢ Stranger) ⊎ IsBorn a w' i ⊎ IsLost a w' i
-    was u e = elim (h.listed m i u e) [ inl x ↦ inl x | inr x ↦ elim x [ inl y ↦ inr (inl (born_kept i y)) | inr y ↦ inr (inr (lost_kept i y)) ] ]
-
-    by_does : Does s.request s.settlement i (live_in w m i) (live_in w' m i) → (a.role i ≢ Stranger) ⊎ IsBorn a w' i ⊎ IsLost a w' i
-    by_does (makes k p t c l') = inr (made_by i (k, p, t, c))
-    by_does (sets p t v' c l' l'') = was v' l'
-    by_does (takes c l') = absurd (cc)
-    by_does (keeps c c' c'' l') = was v (sym l' ∙ l)
-
-    go : ((m ≡ n) × Does s.request s.settlement i (live_in w m i) (live_in w' m i)) ⊎ ((m ≢ n) × (live_in w' m i ≡ live_in w m i)) → (a.role i ≢ Stranger) ⊎ IsBorn a w' i ⊎ IsLost a w' i
-    go (inl x) = by_does x.1
-    go (inr x) = was v (sym x.1 ∙ l)
+  listed m i v l = elim (leaving m i) [
+    | born_there at k ↦ inr (made_by i k)
+    | set_there p t v' c l' l'' ↦ was v' l'
+    | gone_there c l' ↦ absurd (cc)
+    | left_there c l' ↦ was v (sym l' ∙ l)
+  ]
+    where
+      was : (u : Live) → live_in w m i ≡ Some u → (a.role i ≢ Stranger) ⊎ IsBorn a w' i ⊎ IsLost a w' i
+      was u e = elim (h.listed m i u e) [ inl x ↦ inl x | inr (inl y) ↦ inr (inl (born_kept i y)) | inr (inr y) ↦ inr (inr (lost_kept i y)) ]
 
   live_named : (m i : List ℕ) (v : Live) → live_in w' m i ≡ Some v → lane_of i ≡ m
-  live_named m i v l = go (at_home m i) where
-    by_does : m ≡ n → Does s.request s.settlement i (live_in w m i) (live_in w' m i) → lane_of i ≡ m
-    by_does e (makes k p t c l') = (made_new i (k, p, t, c)).0 ∙ sym e
-    by_does e (sets p t v' c l' l'') = h.live_named m i v' l'
-    by_does e (takes c l') = absurd (cc)
-    by_does e (keeps c c' c'' l') = h.live_named m i v (sym l' ∙ l)
-
-    go : ((m ≡ n) × Does s.request s.settlement i (live_in w m i) (live_in w' m i)) ⊎ ((m ≢ n) × (live_in w' m i ≡ live_in w m i)) → lane_of i ≡ m
-    go (inl x) = by_does x.0 x.1
-    go (inr x) = h.live_named m i v (sym x.1 ∙ l)
+  live_named m i v l = elim (leaving m i) [
+    | born_there at k ↦ (made_new i k).0 ∙ sym at
+    | set_there p t v' c l' l'' ↦ h.live_named m i v' l'
+    | gone_there c l' ↦ absurd (cc)
+    | left_there c l' ↦ h.live_named m i v (sym l' ∙ l)
+  ]
 
   there_before : (m : List ℕ) → IsThere w' m → IsThere w m
   there_before m (k, e) = (k, sym (f.kinds m) ∙ e)
@@ -569,10 +496,9 @@ module _ (n : List ℕ) (l l' : FencedLane) (e t : ℕ) (r : Request) where
   by_moving answer.NoMemory st m k = alone (k ∙ ap (λ s. record l { state = s }) m)
 
   pub leaves : (x : Answer) → CallMove n l l' e t r x → Leaves n l l' e t r
-  leaves (answer.Success i p) m = let (st, z, k) = m.1 in by_moving (answer.Success i p) st z k
-  leaves (answer.Failed c) m = let (st, z, k) = m.1 in by_moving (answer.Failed c) st z k
   leaves answer.Fault m = elim m.1 [ inl z ↦ by_moving answer.Fault z.0 z.1 z.2 | inr z ↦ flown (unsettled t l.state.settled z.0) z.1 ]
   leaves answer.NoMemory m = alone m
+  leaves x m = let (st, z, k) = m.1 in by_moving x st z k
 
 module _ (a : Account) (n : List ℕ) (w w' : Lanes) (b : Books a) (h : Ties a w) (there' : IsThere w n) (l' : FencedLane) (rep : Replaced n l' w w') where
   -- an untouched lane

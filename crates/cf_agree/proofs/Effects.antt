@@ -1,7 +1,6 @@
 -- What one more settled call changes of what is live under an id.
-use Rattle.std.proofs.Common.{◌≡◌, ◌≢◌, inl, inr, ℕ, List, [], ◌∷◌, ◌++◌, Bool, true, false, not, Option, Some, None, refl, sym, ap, subst, ◌∙◌, map, filter, find}
-use Rattle.std.specs.Prelude.{cond}
-use Rattle.std.specs.Str.{bytes_eq}
+use Rattle.std.proofs.Common.{arith, ◌≡◌, ◌≢◌, inl, inr, ℕ, List, [], ◌∷◌, ◌++◌, true, false, not, Option, Some, None, refl, sym, ap, subst, ◌∙◌, map, filter, find}
+use Rattle.std.specs.{Prelude.cond, Str.bytes_eq}
 use Rattle.cf_tree.specs.declared.request.Request.{Request}
 use Rattle.cf_tree.specs.declared.request.Request.TheVariants.{Create, Update, Delete}
 use Rattle.cf_tree.specs.declared.code.Code.TheVariants as code
@@ -28,46 +27,20 @@ under i live = find (λ r. bytes_eq i r.id) live
 
 found_last : (i : List ℕ) (live : List Live) (v : Live) → under i live ≡ None → i ≡ v.id → under i (live ++ v ∷ []) ≡ Some v
 found_last i [] v h e = if_same i v.id (Some v) None e
-found_last i (r ∷ live) v h e = either (bytes_eq i r.id) h (λ k. found_last i live v k e) where
-  either : (b : Bool) → cond b (Some r) (under i live) ≡ None → (under i live ≡ None → under i (live ++ v ∷ []) ≡ Some v) → cond b (Some r) (under i (live ++ v ∷ [])) ≡ Some v
-  either true g ih = absurd (cc)
-  either false g ih = ih g
+found_last i (r ∷ live) v h e = grind (arith, found_last i live v)
 
 not_last : (i : List ℕ) (live : List Live) (v : Live) → i ≢ v.id → under i (live ++ v ∷ []) ≡ under i live
 not_last i [] v n = if_other i v.id (Some v) None n
 not_last i (r ∷ live) v n = ap (λ o. cond (bytes_eq i r.id) (Some r) o) (not_last i live v n)
 
 -- an update changes what is found under its id alone
-updated_same : (j : List ℕ) (p t : Dict) (r : Live) → j ≡ r.id → updated j p t r ≡ with_props r p t
-updated_same j p t r e = if_same j r.id (with_props r p t) r e
-
-updated_other : (j : List ℕ) (p t : Dict) (r : Live) → j ≢ r.id → updated j p t r ≡ r
-updated_other j p t r e = if_other j r.id (with_props r p t) r e
-
 found_updated : (i : List ℕ) (p t : Dict) (live : List Live) (v : Live) → under i live ≡ Some v → under i (map (updated i p t) live) ≡ Some (with_props v p t)
 found_updated i p t [] v h = absurd (cc)
-found_updated i p t (r ∷ live) v h = elim (bytes_or i r.id) [
-  | inl e ↦ (let z = if_same i r.id (Some r) (under i live) e in
-      let same : r ≡ v = cc in
-      ap (λ (q : Live). under i (q ∷ map (updated i p t) live)) (updated_same i p t r e)
-      ∙ if_same i r.id (Some (with_props r p t)) (under i (map (updated i p t) live)) e ∙ ap (λ q. Some (with_props q p t)) same)
-  | inr e ↦
-      ap (λ (q : Live). under i (q ∷ map (updated i p t) live)) (updated_other i p t r e)
-      ∙ if_other i r.id (Some r) (under i (map (updated i p t) live)) e
-      ∙ found_updated i p t live v (sym (if_other i r.id (Some r) (under i live) e) ∙ h)
-]
+found_updated i p t (r ∷ live) v h = grind (arith, found_updated i p t live v)
 
 other_updated : (i j : List ℕ) (p t : Dict) (live : List Live) → i ≢ j → under i (map (updated j p t) live) ≡ under i live
 other_updated i j p t [] n = refl
-other_updated i j p t (r ∷ live) n = elim (bytes_or j r.id) [
-  | inl e ↦ (let no : i ≢ r.id = λ k. n (k ∙ sym e) in
-      ap (λ (q : Live). under i (q ∷ map (updated j p t) live)) (updated_same j p t r e)
-      ∙ if_other i r.id (Some (with_props r p t)) (under i (map (updated j p t) live)) no
-      ∙ other_updated i j p t live n ∙ sym (if_other i r.id (Some r) (under i live) no))
-  | inr e ↦
-      ap (λ (q : Live). under i (q ∷ map (updated j p t) live)) (updated_other j p t r e)
-      ∙ ap (λ o. cond (bytes_eq i r.id) (Some r) o) (other_updated i j p t live n)
-]
+other_updated i j p t (r ∷ live) n = grind (arith, other_updated i j p t live n, bytes_same i r.id, bytes_same j r.id)
 
 -- a deletion takes away what is found under its id alone
 abbrev left : List ℕ → List Live → List Live
@@ -75,17 +48,11 @@ left j live = filter (λ r. not (bytes_eq j r.id)) live
 
 none_left : (i : List ℕ) (live : List Live) → under i (left i live) ≡ None
 none_left i [] = refl
-none_left i (r ∷ live) = either (bytes_eq i r.id) refl (none_left i live) where
-  either : (b : Bool) → bytes_eq i r.id ≡ b → under i (left i live) ≡ None → under i (cond (not b) (r ∷ left i live) (left i live)) ≡ None
-  either true e ih = ih
-  either false e ih = ap (λ c. cond c (Some r) (under i (left i live))) e ∙ ih
+none_left i (r ∷ live) = grind (arith, none_left i live)
 
 other_left : (i j : List ℕ) (live : List Live) → i ≢ j → under i (left j live) ≡ under i live
 other_left i j [] n = refl
-other_left i j (r ∷ live) n = either (bytes_eq j r.id) refl (other_left i j live n) where
-  either : (b : Bool) → bytes_eq j r.id ≡ b → under i (left j live) ≡ under i live → under i (cond (not b) (r ∷ left j live) (left j live)) ≡ under i (r ∷ live)
-  either true e ih = ih ∙ sym (if_other i r.id (Some r) (under i live) (λ k. n (k ∙ sym (bytes_same j r.id e))))
-  either false e ih = ap (λ o. cond (bytes_eq i r.id) (Some r) o) ih
+other_left i j (r ∷ live) n = grind (arith, other_left i j live n, bytes_same i r.id, bytes_same j r.id)
 
 -- what may settle, on what is live there
 pub does : (n : List ℕ) (l : LaneState) (r : Request) (x : Settlement) (i : List ℕ) → MaySettle n l r x → (is_used i l ≡ false → under i (live_of l) ≡ None) → Does r x i (under i (live_of l)) (under i (changed_by r x (live_of l)))
@@ -106,34 +73,20 @@ does n l (Delete j) (Failed code.NotFound) i m u = elim (bytes_or i j) [
   | inl e ↦ takes (ap Some (sym e)) (has_none i (live_of l) (subst (λ q. has_id q (live_of l) ≡ false) (sym e) m))
   | inr e ↦ keeps (λ k' p' t' c. absurd (cc)) (λ p' t' c. absurd (cc)) (λ c. let z : j ≡ i = cc in e (sym z)) refl
 ]
-does n l (Create k p) (Failed c) i m u = keeps (λ k' p' t' c. absurd (cc)) (λ p' t' c. absurd (cc)) (λ c. absurd (cc)) refl
-does n l (Update j p) (Failed c) i m u = keeps (λ k' p' t' c. absurd (cc)) (λ p' t' c. absurd (cc)) (λ c. absurd (cc)) refl
-does n l (Delete j) (Failed c) i m u = keeps (λ k' p' t' c. absurd (cc)) (λ p' t' c. absurd (cc)) (λ c. absurd (cc)) refl
+does n l r x i m u = keeps (λ k' p' t' c. absurd (cc)) (λ p' t' c. absurd (cc)) (λ c. absurd (cc)) refl
 
 -- what each of these says of the request and the answer
 pub gone_request : (r : Request) (x : Settlement) (i : List ℕ) → gone_by r x ≡ Some i → r ≡ Delete i
-gone_request (Delete j) (Success k t) i e = cc
-gone_request (Delete j) (Failed code.NotFound) i e = cc
-gone_request (Delete j) (Failed c) i e = absurd (cc)
-gone_request (Create k p) x i e = absurd (cc)
-gone_request (Update j p) x i e = absurd (cc)
+gone_request r x i e = grind arith
 
 pub gone_names : (r : Request) (x : Settlement) (i : List ℕ) → gone_by r x ≡ Some i → named_by r ≡ Some i
 gone_names r x i e = ap named_by (gone_request r x i e)
 
 pub set_request : (r : Request) (x : Settlement) (i : List ℕ) (p t : Dict) → effect_of r x ≡ Set i p t → r ≡ Update i p
-set_request (Update j q) (Success k u) i p t e = let z : j ≡ i = cc in let y : q ≡ p = cc in cc
-set_request (Update j q) (Failed c) i p t e = absurd (cc)
-set_request (Create k q) (Success j u) i p t e = absurd (cc)
-set_request (Create k q) (Failed c) i p t e = absurd (cc)
-set_request (Delete j) x i p t e = absurd (cc)
+set_request r x i p t e = grind arith
 
 pub set_names : (r : Request) (x : Settlement) (i : List ℕ) (p t : Dict) → effect_of r x ≡ Set i p t → named_by r ≡ Some i
 set_names r x i p t e = ap named_by (set_request r x i p t e)
 
 pub made_success : (r : Request) (x : Settlement) (i k : List ℕ) (p t : Dict) → effect_of r x ≡ Made i k p t → (x ≡ Success i t) × (r ≡ Create k p)
-made_success (Create k' q) (Success j u) i k p t e = let z : j ≡ i = cc in let y : q ≡ p = cc in let x : u ≡ t = cc in let v : k' ≡ k = cc in (cc, cc)
-made_success (Create k' q) (Failed c) i k p t e = absurd (cc)
-made_success (Update j q) (Success k' u) i k p t e = absurd (cc)
-made_success (Update j q) (Failed c) i k p t e = absurd (cc)
-made_success (Delete j) x i k p t e = absurd (cc)
+made_success r x i k p t e = grind arith

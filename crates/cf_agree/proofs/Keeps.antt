@@ -1,23 +1,20 @@
 -- The laws.
-use Rattle.cf_agree.proofs.Calls.{Leaves, alone, flown, leaves as call_leaves, settled, ties_called, ties_fenced, ties_late, ties_stale}
-use Rattle.cf_agree.proofs.Effects.{gone_names, gone_request, set_names, set_request, made_success}
+use Rattle.cf_agree.proofs.Calls.{each_lane, Leaves, alone, flown, leaves as call_leaves, settled, ties_alike, ties_called, ties_fenced, Alike, one_call, request_of, ties_late, ties_stale}
+use Rattle.cf_agree.proofs.Effects.{gone_names, gone_request, set_names, made_success}
 use Rattle.cf_agree.proofs.Leases.{Stays, leased_still, leased_replied, leased_by, leased_returned, leased_granted}
-use Rattle.cf_agree.proofs.Words.{bytes_or, if_same, if_other, number_or, at_same, at_other, used_born, settled_as, entry_now, entry_still, unsettled}
-use Rattle.cf_agree.specs.Account.{Thing, Role, Open, Account, made_thing, set_thing, role_after, creates, Called, called, opened, rested, intended, answered, dropped, is_create}
+use Rattle.cf_agree.proofs.Words.{bytes_or, if_same, if_other, number_or, at_same, at_other, used_born, settled_as, entry_now, entry_still, unsettled, some_or}
+use Rattle.cf_agree.specs.Account.{Thing, Role, Open, Account, made_thing, set_thing, role_after, creates, Called, called, intended, answered, dropped, is_create}
 use Rattle.cf_agree.specs.Account.Role.{Stranger, Resource, Leftover}
 use Rattle.cf_agree.specs.Base.{Dict, Made, Set, named_by, gone_by, effect_of, lane_of, In, entry_at}
 use Rattle.cf_agree.specs.Lanes.{Lanes, entry_in, IsThere, live_in, used_in, Replaced}
 use Rattle.cf_agree.specs.Laws.{Agree, settlement_in, CallKeeps, StaleKeeps, LateKeeps, FenceKeeps, OpeningKeeps, RestKeeps, IntentKeeps, AnswerKeeps, ReturnKeeps, DropKeeps}
-use Rattle.cf_agree.specs.Moves.{MayIntend, MayOpen, RoleMove, stays, leaves, doubted, GivenUp, of_create, of_leftover, of_doubted, MayDrop, IsOut, Lease, returned}
+use Rattle.cf_agree.specs.Moves.{MayIntend, stays, leaves, doubted, GivenUp, of_create, of_leftover, of_doubted, MayDrop, IsOut, Lease, returned}
 use Rattle.cf_agree.specs.Ties.{Books, Ties, Fits, IsSettled, IsKindFor, IsAccounted, IsMade, IsGone, IsChanged, IsBorn, IsLost, AreTied}
 use Rattle.cf_handler.specs.Fence.{Flying, FencedLane, CallMove, FenceMove, FenceAnswer, Raised, Ahead, Broken, settled_late}
-use Rattle.cf_handler.specs.Lane.{Live, LaneState, settlement_of}
-use Rattle.cf_handler.specs.Move.{IsOfLane, SettlesBy, with_settled}
-use Rattle.cf_handler.specs.declared.settled.Settled.{Settled}
-use Rattle.cf_handler.specs.declared.settled.Settlement.{Settlement}
+use Rattle.cf_handler.specs.{Lane.LaneState, Lane.Live, Lane.settlement_of, Move.IsOfLane, Move.SettlesBy, Move.with_settled}
+use Rattle.cf_handler.specs.declared.{settled.Settled.Settled, settled.Settlement.Settlement}
 use Rattle.cf_handler.specs.declared.settled.Settlement.TheVariants.{Success, Failed}
-use Rattle.cf_tree.specs.declared.request.Answer.{Answer}
-use Rattle.cf_tree.specs.declared.request.Request.{Request}
+use Rattle.cf_tree.specs.declared.{request.Answer.Answer, request.Request.Request}
 use Rattle.cf_tree.specs.declared.request.Request.TheVariants.{Create, Update, Delete}
 use Rattle.std.proofs.Common.{◌≡◌, ◌≢◌, inl, inr, ℕ, List, true, Some, None, refl, sym, ap, ◌∙◌, ◌⊎◌, ◌+◌, ◌≤◌, Bool, Option, subst, arith, ◌||◌, ◌&&◌, false, true≢false}
 use Rattle.std.specs.Prelude.{cond}
@@ -50,110 +47,22 @@ turns o (Delete j) (Failed code.NotFound) role i = elim (bytes_or i j) [
   | inl e ↦ takes (ap Some (sym e)) (if_same i j Stranger (role i) e)
   | inr e ↦ keeps (λ k' p' t' c. absurd (cc)) (λ p' t' c. absurd (cc)) (λ c. let z : j ≡ i = cc in e (sym z)) (if_other i j Stranger (role i) e)
 ]
-turns o (Create k p) (Failed c) role i = keeps (λ k' p' t' c. absurd (cc)) (λ p' t' c. absurd (cc)) (λ c. absurd (cc)) refl
-turns o (Update j p) (Failed c) role i = keeps (λ k' p' t' c. absurd (cc)) (λ p' t' c. absurd (cc)) (λ c. absurd (cc)) refl
-turns o (Delete j) (Failed c) role i = keeps (λ k' p' t' c. absurd (cc)) (λ p' t' c. absurd (cc)) (λ c. absurd (cc)) refl
-
--- two open calls of one id are one
-pub one_call :
-    (a : Account) → Books a → (t u : ℕ) (o v : Open) (i : List ℕ) → a.open_ t ≡ Some o → a.open_ u ≡ Some v → named_by o.request ≡ Some i
-    → named_by v.request ≡ Some i → t ≡ u
-one_call a b t u o v i e k x y =
-    let r = b.named t o i e x in
-    let q = b.named u v i k y in
-    let both : Resource r.0 ≡ Resource q.0 = sym r.1 ∙ q.1 in
-    let one : r.0 ≡ q.0 = cc in
-    b.once t u o v e k (sym r.2 ∙ ap (λ (g : Thing). g.stack) one ∙ q.2) (sym r.3 ∙ ap (λ (g : Thing). g.path) one ∙ q.3)
+turns o r x role i = keeps (λ k' p' t' c. absurd (cc)) (λ p' t' c. absurd (cc)) (λ c. absurd (cc)) refl
 
 pub set_role : (p t : Dict) (role : Role) (r : Thing) → role ≡ Resource r → set_thing p t role ≡ Resource (record r { props = p; attrs = t; sure = true })
 set_role p t role r e = ap (set_thing p t) e
 
 pub names_none : (r : Request) → named_by r ≡ None → creates r ≡ true
-names_none (Create k p) e = refl
-names_none (Update i p) e = absurd (cc)
-names_none (Delete i) e = absurd (cc)
+names_none r e = grind arith
 
 -- An opening, a stack that begins or ends its work, and a call that is written down keep agreement.
 
-pub books_opened : (a : Account) (w : Lanes) (named : List ℕ → Option (List ℕ)) (resting : List ℕ → Bool) → Books a → MayOpen a w named → Books (opened named resting a)
-books_opened a w named resting b may = record {
-  calls = b.calls;
-  numbers = b.numbers;
-  untold = b.untold;
-  told_calls = b.told_calls;
-  lost_calls = b.lost_calls;
-  named = b.named;
-  home = b.home;
-  once = b.once;
-  homes = λ i r e. ((b.homes i r e).0, may.homes i r e);
-  open_homes = may.open_homes;
-}
+-- a call fits where the last token and the calls that were written down are the same
+pub fits_as : (a : Account) (x : Account) (n : List ℕ) (t : ℕ) (r : Request) → Fits a n t r → Fits (record x { last = a.last; call = a.call }) n t r
+fits_as a x n t r f = record { number = f.number; written = f.written }
 
-pub ties_opened : (a : Account) (w : Lanes) (named : List ℕ → Option (List ℕ)) (resting : List ℕ → Bool) → Ties a w → MayOpen a w named → Ties (opened named resting a) w
-ties_opened a w named resting h may = record {
-  handed = may.handed;
-  lane_names = h.lane_names;
-  settled_once = h.settled_once;
-  base_once = h.base_once;
-  base_named = h.base_named;
-  created_named = h.created_named;
-  created_once = h.created_once;
-  settled_calls = λ n t s e. let x = h.settled_calls n t s e in record { number = x.number; written = x.written };
-  flying_calls = λ n f i. let x = h.flying_calls n f i in record { number = x.number; written = x.written };
-  answers = h.answers;
-  flying_open = h.flying_open;
-  flying_epochs = λ n f i. let l = h.flying_epochs n f i in omega arith;
-  flying_at_rest = λ n f o i e k z. let l = h.flying_epochs n f i in omega arith;
-  fences = λ n. let l = h.fences n in omega arith;
-  known = h.known;
-  gone = h.gone;
-  alive = h.alive;
-  same = h.same;
-  changed = h.changed;
-  born = h.born;
-  live_named = h.live_named;
-  listed = h.listed;
-}
-
-pub books_rested : (a : Account) (resting : List ℕ → Bool) → Books a → Books (rested resting a)
-books_rested a resting b = record {
-  calls = b.calls;
-  numbers = b.numbers;
-  untold = b.untold;
-  told_calls = b.told_calls;
-  lost_calls = b.lost_calls;
-  named = b.named;
-  home = b.home;
-  once = b.once;
-  homes = b.homes;
-  open_homes = b.open_homes;
-}
-
-pub ties_rested : (a : Account) (w : Lanes) (resting : List ℕ → Bool) → Ties a w → ((s : List ℕ) → resting s ≡ true → a.resting s ≡ true) → Ties (rested resting a) w
-ties_rested a w resting h less = record {
-  handed = h.handed;
-  lane_names = h.lane_names;
-  settled_once = h.settled_once;
-  base_once = h.base_once;
-  base_named = h.base_named;
-  created_named = h.created_named;
-  created_once = h.created_once;
-  settled_calls = λ n t s e. let x = h.settled_calls n t s e in record { number = x.number; written = x.written };
-  flying_calls = λ n f i. let x = h.flying_calls n f i in record { number = x.number; written = x.written };
-  answers = h.answers;
-  flying_open = h.flying_open;
-  flying_epochs = h.flying_epochs;
-  flying_at_rest = λ n f o i e k z. h.flying_at_rest n f o i e k (less o.stack z);
-  fences = h.fences;
-  known = h.known;
-  gone = h.gone;
-  alive = h.alive;
-  same = h.same;
-  changed = h.changed;
-  born = h.born;
-  live_named = h.live_named;
-  listed = h.listed;
-}
+alone_alike : (w : Lanes) → Alike w w
+alone_alike w = record { kinds = λ m. refl; states = λ m. refl }
 
 module _ (a : Account) (w : Lanes) (b : Books a) (h : Ties a w) (o : Open) where
   low : (t : ℕ) (v : Open) → a.open_ t ≡ Some v → t ≤ a.last
@@ -163,16 +72,7 @@ module _ (a : Account) (w : Lanes) (b : Books a) (h : Ties a w) (o : Open) where
   old t v l e = sym (at_other t (a.last + 1) (Some o) (a.open_ t) (λ z. omega arith)) ∙ e
 
   old_or_new : (t : ℕ) (v : Open) → (intended o a).open_ t ≡ Some v → (a.open_ t ≡ Some v) ⊎ ((t ≡ a.last + 1) × (v ≡ o))
-  old_or_new t v e = elim (number_or t (a.last + 1)) [
-    | inl k ↦ (let z : (intended o a).open_ t ≡ Some o = at_same t (a.last + 1) (Some o) (a.open_ t) k in let one : v ≡ o = cc in inr (k, one))
-    | inr k ↦ inl (sym (at_other t (a.last + 1) (Some o) (a.open_ t) k) ∙ e)
-  ]
-
-  call_or : (t : ℕ) (c : Called) → (intended o a).call t ≡ Some c → (a.call t ≡ Some c) ⊎ ((t ≡ a.last + 1) × (c ≡ called o))
-  call_or t c e = elim (number_or t (a.last + 1)) [
-    | inl k ↦ (let z : (intended o a).call t ≡ Some (called o) = at_same t (a.last + 1) (Some (called o)) (a.call t) k in let one : c ≡ called o = cc in inr (k, one))
-    | inr k ↦ inl (sym (at_other t (a.last + 1) (Some (called o)) (a.call t) k) ∙ e)
-  ]
+  old_or_new t v e = grind arith
 
   pub more : (t : ℕ) (v : Open) → a.open_ t ≡ Some v → (intended o a).open_ t ≡ Some v
   more t v e = let l = low t v e in at_other t (a.last + 1) (Some o) (a.open_ t) (λ z. omega arith) ∙ e
@@ -181,93 +81,21 @@ module _ (a : Account) (w : Lanes) (b : Books a) (h : Ties a w) (o : Open) where
   call_more t c e = let l = b.numbers t c e in at_other t (a.last + 1) (Some (called o)) (a.call t) (λ z. omega arith) ∙ e
 
   pub fits_more : (n : List ℕ) (t : ℕ) (r : Request) → Fits a n t r → Fits (intended o a) n t r
-  fits_more n t r f = record {
-    number = let l = f.number in omega arith;
-    written = λ c e. elim (call_or t c e) [ inl k ↦ f.written c k | inr k ↦ (let l = f.number in let z = k.0 in absurd (omega arith)) ];
-  }
-
-  entry_low : (n : List ℕ) (t : ℕ) (s : Settled) → entry_in w n t ≡ Some s → t ≤ a.last
-  entry_low n t s e = (h.settled_calls n t s e).number
-
-  back : (t : ℕ) (v : Open) (s : Settled) → IsSettled (intended o a) w t v s → IsSettled a w t v s
-  back t v s (x, y) = (old t v (entry_low v.lane t s y) x, y)
-
-  forth : (t : ℕ) (v : Open) (s : Settled) → IsSettled a w t v s → IsSettled (intended o a) w t v s
-  forth t v s (x, y) = (more t v x, y)
+  fits_more n t r f = grind arith
 
   pub ties_intended : Ties (intended o a) w
-  ties_intended = record {
-    handed = h.handed;
-    lane_names = h.lane_names;
-    settled_once = h.settled_once;
-    base_once = h.base_once;
-    base_named = h.base_named;
-    created_named = h.created_named;
-    created_once = h.created_once;
-    settled_calls = λ n t s e. fits_more n t s.request (h.settled_calls n t s e);
-    flying_calls = λ n f i. fits_more n f.token f.request (h.flying_calls n f i);
-    answers = λ t x c e k z. let (c', y) = b.told_calls t x e in let u = call_more t c' y in let one : c' ≡ c = cc in h.answers t x c e (subst (λ q. a.call t ≡ Some q) one y) z;
-    flying_open = λ n f i e k. elim (h.flying_open n f i e k) [ inl x ↦ inl (x.0, more f.token x.0 x.1) | inr x ↦ inr x ];
-    flying_epochs = h.flying_epochs;
-    flying_at_rest = λ n f v i e k z. h.flying_at_rest n f v i e (old f.token v (h.flying_calls n f i).number k) z;
-    fences = h.fences;
-    known = h.known;
-    gone = λ i r e (t, v, s, d, k). h.gone i r e (t, v, s, back t v s d, k);
-    alive = λ i r e z g. h.alive i r e z (λ (t, v, s, d, k). g (t, v, s, forth t v s d, k));
-    same = λ i r v e u g. h.same i r v e u (λ (t, x, s, p, q, d, k). g (t, x, s, p, q, forth t x s d, k));
-    changed = λ t v s i p q d. h.changed t v s i p q (back t v s d);
-    live_named = h.live_named;
-    born = λ t v s i k p q d. h.born t v s i k p q (back t v s d);
-    listed = λ n i v l. elim (h.listed n i v l) [ inl x ↦ inl x | inr x ↦ elim x [ inl (t, y, s, d, k) ↦ inr (inl (t, y, s, forth t y s d, k)) | inr y ↦ inr (inr y) ] ];
-  }
+  ties_intended =
+      ties_alike a (intended o a) w w h (alone_alike w) fits_more (λ t v s e. (old t v (h.settled_calls v.lane t s e).number, more t v)) h.handed
+      (λ t x c e k. let (d, y) = b.told_calls t x e in let u = call_more t d y in (e, y ∙ cc)) (record {
+        fences = h.fences;
+        calls = λ n f i. fits_more n f.token f.request (h.flying_calls n f i);
+        opens = λ n f i e k. elim (h.flying_open n f i e k) [ inl x ↦ inl (x.0, more f.token x.0 x.1) | inr x ↦ inr x ];
+        epochs = h.flying_epochs;
+        at_rest = λ n f v i e k z. h.flying_at_rest n f v i e (old f.token v (h.flying_calls n f i).number k) z;
+      })
 
   pub books_intended : MayIntend a o → Books (intended o a)
-  books_intended may = record {
-    calls = λ t v e. elim (old_or_new t v e) [
-      | inl k ↦ call_more t (called v) (b.calls t v k)
-      | inr k ↦ at_same t (a.last + 1) (Some (called o)) (a.call t) k.0 ∙ ap (λ x. Some (called x)) (sym k.1)
-    ];
-    numbers = λ t c e. elim (call_or t c e) [ inl k ↦ (let l = b.numbers t c k in omega arith) | inr k ↦ (let l = k.0 in omega arith) ];
-    untold = λ t v e. elim (old_or_new t v e) [
-      | inl k ↦ b.untold t v k
-      | inr k ↦ elim (told_or (a.told t)) [
-        | inl z ↦ z
-        | inr z ↦ (let (c, y) = b.told_calls t z.0 z.1 in let l = b.numbers t c y in let m = k.0 in absurd (omega arith))
-      ]
-    ];
-    told_calls = λ t x e. let (c, y) = b.told_calls t x e in (c, call_more t c y);
-    lost_calls = λ t e. let (x, c, y) = b.lost_calls t e in let l = b.numbers t c y in
-        (at_other t (a.last + 1) (Some o) (a.open_ t) (λ z. omega arith) ∙ x, c, call_more t c y);
-    named = λ t v i e k. elim (old_or_new t v e) [
-      | inl x ↦ b.named t v i x k
-      | inr x ↦ (let one = x.1 in
-          let (r, y, z, q) = may.named i (subst (λ (u : Open). named_by u.request ≡ Some i) one k) in
-          (r, y, z ∙ ap (λ (u : Open). u.stack) (sym one), q ∙ ap (λ (u : Open). u.path) (sym one)))
-    ];
-    home = λ t v i e k. elim (old_or_new t v e) [
-      | inl x ↦ b.home t v i x k
-      | inr x ↦ subst (λ (u : Open). lane_of i ≡ u.lane) (sym x.1) (may.home i (subst (λ (u : Open). named_by u.request ≡ Some i) x.1 k))
-    ];
-    once = λ t u v x e k y z. elim (old_or_new t v e) [
-      | inl g ↦ elim (old_or_new u x k) [
-        | inl c ↦ b.once t u v x g c y z
-        | inr c ↦ absurd (may.free t v g (y ∙ ap (λ (q : Open). q.stack) c.1) (z ∙ ap (λ (q : Open). q.path) c.1))
-      ]
-      | inr g ↦ elim (old_or_new u x k) [
-        | inl c ↦ absurd (may.free u x c (sym y ∙ ap (λ (q : Open). q.stack) g.1) (sym z ∙ ap (λ (q : Open). q.path) g.1))
-        | inr c ↦ g.0 ∙ sym c.0
-      ]
-    ];
-    homes = b.homes;
-    open_homes = λ t v e. elim (old_or_new t v e) [
-      | inl k ↦ b.open_homes t v k
-      | inr k ↦ subst (λ (u : Open). (l : List ℕ) × (a.named u.lane ≡ Some l) × IsKindFor u.request l) (sym k.1) may.at_home
-    ];
-  }
-    where
-      told_or : {A : Type 0} (x : Option A) → (x ≡ None) ⊎ ((y : A) × (x ≡ Some y))
-      told_or None = inl refl
-      told_or (Some y) = inr (y, refl)
+  books_intended may = grind arith
 
 -- An open call that is answered for good keeps agreement.
 
@@ -276,35 +104,20 @@ module _ (a : Account) (w : Lanes) (b : Books a) (h : Ties a w) (t : ℕ) (o : O
   after = answered t o s.settlement a
 
   pub open_old : (u : ℕ) (v : Open) → after.open_ u ≡ Some v → (u ≢ t) × (a.open_ u ≡ Some v)
-  open_old u v e = elim (number_or u t) [
-    | inl k ↦ (let z : after.open_ u ≡ None = at_same u t None (a.open_ u) k in absurd (cc))
-    | inr k ↦ (k, sym (at_other u t None (a.open_ u) k) ∙ e)
-  ]
+  open_old u v e = grind arith
 
   pub open_kept : (u : ℕ) (v : Open) → u ≢ t → a.open_ u ≡ Some v → after.open_ u ≡ Some v
   open_kept u v k e = at_other u t None (a.open_ u) k ∙ e
 
-  request_of : (u : ℕ) (v : Open) (r : Settled) → IsSettled a w u v r → v.request ≡ r.request
-  request_of u v r (y, z) = ((h.settled_calls v.lane u r z).written (called v) (b.calls u v y)).1
-
   request_is : o.request ≡ s.request
-  request_is = request_of t o s is
+  request_is = request_of a w b h t o s is
 
   was : (u : ℕ) (v : Open) (r : Settled) → IsSettled after w u v r → IsSettled a w u v r
   was u v r (x, y) = ((open_old u v x).1, y)
 
   -- what was settled and open is it still, or is this call
   still : (u : ℕ) (v : Open) (r : Settled) → IsSettled a w u v r → IsSettled after w u v r ⊎ (r ≡ s)
-  still u v r (x, y) = elim (number_or u t) [
-    | inl k ↦
-        (let p = is.0 in
-        let q = is.1 in
-        let x' : a.open_ t ≡ Some v = subst (λ c. a.open_ c ≡ Some v) k x in
-        let vo : v ≡ o = cc in
-        let y' : entry_in w o.lane t ≡ Some r = subst (λ (c : Open). entry_in w c.lane t ≡ Some r) vo (subst (λ c. entry_in w v.lane c ≡ Some r) k y) in
-        inr (cc))
-    | inr k ↦ inl (open_kept u v k x, y)
-  ]
+  still u v r (x, y) = grind arith
 
   turn : (i : List ℕ) → Turns o s.request s.settlement a.role i
   turn i = turns o s.request s.settlement a.role i
@@ -387,7 +200,7 @@ module _ (a : Account) (w : Lanes) (b : Books a) (h : Ties a w) (t : ℕ) (o : O
   gone : (i : List ℕ) (r : Thing) → after.role i ≡ Resource r → IsGone after w i → live_in w (lane_of i) i ≡ None
   gone i r e (u, v, q, x, d) =
       let y = was u v q x in
-      let z = b.named u v i y.0 (ap named_by (request_of u v q y) ∙ gone_names q.request q.settlement i d) in
+      let z = b.named u v i y.0 (ap named_by (request_of a w b h u v q y) ∙ gone_names q.request q.settlement i d) in
       h.gone i z.0 z.1 (u, v, q, y, d)
 
   alive : (i : List ℕ) (r : Thing) → after.role i ≡ Resource r → IsThere w (lane_of i) → (IsGone after w i → ⊥) → (v : Live) × (live_in w (lane_of i) i ≡ Some v) × (v.kind ≡ r.kind)
@@ -398,16 +211,7 @@ module _ (a : Account) (w : Lanes) (b : Books a) (h : Ties a w) (t : ℕ) (o : O
         let y : made_thing o k p c ≡ r = cc in
         let z = (h.created_named o.lane i t s is.1 (k, p, c, d)).0 in
         (record { id = i; kind = k; props = p; attrs = c }, ap (λ n. live_in w n i) z ∙ (h.born t o s i k p c is d).0, ap (λ (v : Thing). v.kind) y)
-    go (sets p c d q) =
-        let (r', x, y, z) = set_was i p c d in
-        let f : Resource (record r' { props = p; attrs = c; sure = true }) ≡ Resource r = sym (set_now i p c r' x q) ∙ e in
-        let f' : record r' { props = p; attrs = c; sure = true } ≡ r = cc in
-        let (v, l, m) = h.alive i r' x th (λ (u, v, q', x', d'). elim (still u v q' x') [
-          | inl n ↦ g (u, v, q', n, d')
-          | inr n ↦ (let d'' = subst (λ (m : Settled). gone_by m.request m.settlement ≡ Some i) n d' in
-              let l = gone_request s.request s.settlement i d'' in let l' = set_request s.request s.settlement i p c d in let no : ⊥ = absurd (cc) in no)
-        ]) in
-        (v, l, m ∙ ap (λ (u : Thing). u.kind) f')
+    go (sets p c d q) = grind arith
     go (takes d q) = let x = role_is i in absurd (cc)
     go (keeps c c' c'' q) =
         h.alive i r (sym q ∙ sym (role_is i) ∙ e) th (λ (u, v, q', x', d'). elim (still u v q' x') [
@@ -516,43 +320,14 @@ module _ (a : Account) (w : Lanes) (b : Books a) (h : Ties a w) (t : ℕ) (o : O
           absurd (cc)
 
   answers : (u : ℕ) (x : Settlement) (c : Called) → after.told u ≡ Some x → a.call u ≡ Some c → IsThere w c.lane → (r : Settled) × (entry_in w c.lane u ≡ Some r) × (r.settlement ≡ x)
-  answers u x c e k th = elim (number_or u t) [
-    | inl z ↦
-        (let y : after.told u ≡ Some s.settlement = at_same u t (Some s.settlement) (a.told u) z in
-        let sx : s.settlement ≡ x = cc in
-        let g : a.call t ≡ Some c = subst (λ q. a.call q ≡ Some c) z k in
-        let f = b.calls t o is.0 in
-        let co : called o ≡ c = cc in
-        let l : o.lane ≡ c.lane = ap (λ (q : Called). q.lane) co in
-        (s, subst (λ q. entry_in w c.lane q ≡ Some s) (sym z) (subst (λ q. entry_in w q t ≡ Some s) l is.1), sx))
-    | inr z ↦ h.answers u x c (sym (at_other u t (Some s.settlement) (a.told u) z) ∙ e) k th
-  ]
+  answers u x c e k th = grind arith
 
   pub ties_answered : Ties after w
-  ties_answered = record {
-    handed = h.handed;
-    lane_names = h.lane_names;
-    settled_once = h.settled_once;
-    base_once = h.base_once;
-    base_named = h.base_named;
-    created_named = h.created_named;
-    created_once = h.created_once;
-    settled_calls = λ n u r e. let x = h.settled_calls n u r e in record { number = x.number; written = x.written };
-    flying_calls = λ n f i. let x = h.flying_calls n f i in record { number = x.number; written = x.written };
-    answers = answers;
-    flying_open = flying_open;
-    flying_epochs = h.flying_epochs;
-    flying_at_rest = λ n f v i e k. h.flying_at_rest n f v i e (open_old f.token v k).1;
-    fences = h.fences;
-    known = known;
-    gone = gone;
-    alive = alive;
-    same = same;
-    changed = λ u v q i p c x. h.changed u v q i p c (was u v q x);
-    born = born;
-    live_named = h.live_named;
-    listed = listed;
-  }
+  ties_answered =
+      let fits : (n : List ℕ) (u : ℕ) (r : Request) → Fits a n u r → Fits after n u r = fits_as a after in
+      let rests : (u : ℕ) (v : Open) → after.open_ u ≡ Some v → a.open_ u ≡ Some v = λ u v e. (open_old u v e).1 in
+      let changed = λ (u : ℕ) (v : Open) (q : Settled) (i : List ℕ) (p c : Dict) (x : IsSettled after w u v q). h.changed u v q i p c (was u v q x) in
+      search (answers, flying_open, known, gone, alive, same, born, listed, changed, h.settled_calls, h.flying_calls, h.flying_at_rest, rests, fits)
 
 -- Open calls that are given up, with what becomes of their resources, keep agreement: a resource that is kept, an abandoned create, a skipped update.
 
@@ -565,10 +340,7 @@ module _ (a : Account) (w : Lanes) (b : Books a) (h : Ties a w) (drop : ℕ → 
   bool_or false = inr refl
 
   pub open_old_dropped : (u : ℕ) (v : Open) → after_dropped.open_ u ≡ Some v → (a.open_ u ≡ Some v) × (drop u ≡ false)
-  open_old_dropped u v e = elim (bool_or (drop u)) [
-    | inl k ↦ (let z : after_dropped.open_ u ≡ None = ap (λ c. cond c None (a.open_ u)) k in absurd (cc))
-    | inr k ↦ (sym (ap (λ c. cond c None (a.open_ u)) k) ∙ e, k)
-  ]
+  open_old_dropped u v e = grind arith
 
   pub open_kept_dropped : (u : ℕ) (v : Open) → drop u ≡ false → a.open_ u ≡ Some v → after_dropped.open_ u ≡ Some v
   open_kept_dropped u v k e = ap (λ c. cond c None (a.open_ u)) k ∙ e
@@ -577,119 +349,36 @@ module _ (a : Account) (w : Lanes) (b : Books a) (h : Ties a w) (drop : ℕ → 
   lost_more u e = ap (λ c. c || (drop u && is_create (a.open_ u))) e
 
   pub lost_now : (u : ℕ) (v : Open) → a.open_ u ≡ Some v → drop u ≡ true → named_by v.request ≡ None → after_dropped.lost u ≡ true
-  lost_now u v e k c = or_right (a.lost u) (drop u && is_create (a.open_ u)) (ap (λ d. d && is_create (a.open_ u)) k ∙ ap is_create e ∙ names_none v.request c) where
-    or_right : (x y : Bool) → y ≡ true → (x || y) ≡ true
-    or_right true y e = refl
-    or_right false y e = e
-
-  lost_or : (u : ℕ) → after_dropped.lost u ≡ true → (a.lost u ≡ true) ⊎ ((drop u ≡ true) × (v : Open) × (a.open_ u ≡ Some v))
-  lost_or u e = go (a.lost u) refl (drop u) refl (a.open_ u) refl e where
-    go : (x : Bool) → a.lost u ≡ x → (y : Bool) → drop u ≡ y → (z : Option Open) → a.open_ u ≡ z → (x || (y && is_create z)) ≡ true → (a.lost u ≡ true) ⊎ ((drop u ≡ true) × (v : Open) × (a.open_ u ≡ Some v))
-    go true x y f z g k = inl x
-    go false x true f (Some v) g k = inr (f, v, g)
-    go false x true f None g k = absurd (true≢false (sym k))
-    go false x false f z g k = absurd (true≢false (sym k))
+  lost_now u v e k c = let n = names_none v.request c in grind arith
 
   was_dropped : (u : ℕ) (v : Open) (r : Settled) → IsSettled after_dropped w u v r → IsSettled a w u v r
   was_dropped u v r (x, y) = ((open_old_dropped u v x).0, y)
 
-  request_of_dropped : (u : ℕ) (v : Open) (r : Settled) → IsSettled a w u v r → v.request ≡ r.request
-  request_of_dropped u v r (y, z) = ((h.settled_calls v.lane u r z).written (called v) (b.calls u v y)).1
-
   stranger_back : (i : List ℕ) → role i ≡ Stranger → a.role i ≡ Stranger
-  stranger_back i e = go (may.roles i) where
-    go : RoleMove (a.role i) (role i) → a.role i ≡ Stranger
-    go (stays k) = sym k ∙ e
-    go (leaves r k l) = absurd (cc)
-    go (doubted r s k l x y z m) = absurd (cc)
+  stranger_back i e = elim (may.roles i) [ stays k ↦ sym k ∙ e | leaves r k l ↦ absurd (cc) | doubted r s k l x y z m ↦ absurd (cc) ]
 
   stranger_on : (i : List ℕ) → a.role i ≡ Stranger → role i ≡ Stranger
-  stranger_on i e = go (may.roles i) where
-    go : RoleMove (a.role i) (role i) → role i ≡ Stranger
-    go (stays k) = k ∙ e
-    go (leaves r k l) = absurd (cc)
-    go (doubted r s k l x y z m) = absurd (cc)
+  stranger_on i e = elim (may.roles i) [ stays k ↦ k ∙ e | leaves r k l ↦ absurd (cc) | doubted r s k l x y z m ↦ absurd (cc) ]
 
   pub leftover_on : (i : List ℕ) → a.role i ≡ Leftover → role i ≡ Leftover
-  leftover_on i e = go (may.roles i) where
-    go : RoleMove (a.role i) (role i) → role i ≡ Leftover
-    go (stays k) = k ∙ e
-    go (leaves r k l) = absurd (cc)
-    go (doubted r s k l x y z m) = absurd (cc)
+  leftover_on i e = elim (may.roles i) [ stays k ↦ k ∙ e | leaves r k l ↦ absurd (cc) | doubted r s k l x y z m ↦ absurd (cc) ]
 
   -- a resource was_dropped one, of the same_dropped stack, path and type, and is what it was_dropped where it is sure
   resource_back : (i : List ℕ) (r : Thing) → role i ≡ Resource r → (q : Thing) × (a.role i ≡ Resource q) × (q.kind ≡ r.kind) × (r.sure ≡ true → q ≡ r)
-  resource_back i r e = go (may.roles i) where
-    go : RoleMove (a.role i) (role i) → (q : Thing) × (a.role i ≡ Resource q) × (q.kind ≡ r.kind) × (r.sure ≡ true → q ≡ r)
-    go (stays k) = (r, sym k ∙ e, refl, λ x. refl)
-    go (leaves q k l) = absurd (cc)
-    go (doubted q s k l x y z m) =
-        let both : Resource s ≡ Resource r = sym l ∙ e in
-        let one : s ≡ r = cc in
-        (q, k, sym z ∙ ap (λ (v : Thing). v.kind) one, λ su. absurd (true≢false (sym su ∙ ap (λ (v : Thing). v.sure) (sym one) ∙ m)))
-
-  named_dropped : (u : ℕ) (v : Open) (i : List ℕ) → after_dropped.open_ u ≡ Some v → named_by v.request ≡ Some i → (r : Thing) × (role i ≡ Resource r) × (r.stack ≡ v.stack) × (r.path ≡ v.path)
-  named_dropped u v i e k = go (may.roles i) where
-    old : (a.open_ u ≡ Some v) × (drop u ≡ false)
-    old = open_old_dropped u v e
-
-    before : (r : Thing) × (a.role i ≡ Resource r) × (r.stack ≡ v.stack) × (r.path ≡ v.path)
-    before = b.named u v i old.0 k
-
-    go : RoleMove (a.role i) (role i) → (r : Thing) × (role i ≡ Resource r) × (r.stack ≡ v.stack) × (r.path ≡ v.path)
-    go (stays x) = (before.0, x ∙ before.1, before.2, before.3)
-    go (leaves q x l) = let y = (may.left u v i old.0 old.1 k).1 in absurd (cc)
-    go (doubted q s x l m n z c) =
-        let both : Resource q ≡ Resource before.0 = sym x ∙ before.1 in
-        let one : q ≡ before.0 = cc in
-        (s, l, m ∙ ap (λ (t : Thing). t.stack) one ∙ before.2, n ∙ ap (λ (t : Thing). t.path) one ∙ before.3)
+  resource_back i r e = grind arith
 
   pub books_dropped : Books after_dropped
-  books_dropped = record {
-    calls = λ u v e. b.calls u v (open_old_dropped u v e).0;
-    numbers = b.numbers;
-    untold = λ u v e. b.untold u v (open_old_dropped u v e).0;
-    told_calls = b.told_calls;
-    lost_calls = λ u e. elim (lost_or u e) [
-      | inl k ↦ (let (x, c, y) = b.lost_calls u k in (elim (bool_or (drop u)) [ inl z ↦ ap (λ c. cond c None (a.open_ u)) z | inr z ↦ ap (λ c. cond c None (a.open_ u)) z ∙ x ], c, y))
-      | inr k ↦ (ap (λ c. cond c None (a.open_ u)) k.0, called k.1, b.calls u k.1 k.2)
-    ];
-    named = named_dropped;
-    home = λ u v i e. b.home u v i (open_old_dropped u v e).0;
-    once = λ u c v x e k. b.once u c v x (open_old_dropped u v e).0 (open_old_dropped c x k).0;
-    homes = λ i r e. let (q, x, y, z) = resource_back i r e in let l = b.homes i q x in (l.0, l.1 ∙ ap Some y);
-    open_homes = λ u v e. b.open_homes u v (open_old_dropped u v e).0;
-  }
+  books_dropped = grind arith
 
   -- a settled call of a resource that is still_dropped one is open still_dropped, or was_dropped an update of what isn't known any more
   still_dropped : (u : ℕ) (v : Open) (q : Settled) (i : List ℕ) (r : Thing) → IsSettled a w u v q → named_by v.request ≡ Some i → role i ≡ Resource r
       → IsSettled after_dropped w u v q ⊎ ((r.sure ≡ false) × (gone_by q.request q.settlement ≢ Some i))
-  still_dropped u v q i r (x, y) n e = elim (bool_or (drop u)) [
-    | inr k ↦ inl (open_kept_dropped u v k x, y)
-    | inl k ↦ inr (go (may.calls u v x k))
-  ]
-    where
-      go : GivenUp a w role v → (r.sure ≡ false) × (gone_by q.request q.settlement ≢ Some i)
-      go (of_create c) = absurd (cc)
-      go (of_leftover j c d) = let one : j ≡ i = cc in let z : role i ≡ Leftover = subst (λ k. role k ≡ Leftover) one d in absurd (cc)
-      go (of_doubted j p s c d su rest raised) =
-          let both' : Some j ≡ Some i = sym (ap named_by c) ∙ n in
-          let one : j ≡ i = cc in
-          let z : role i ≡ Resource s = subst (λ k. role k ≡ Resource s) one d in
-          let both : Resource s ≡ Resource r = sym z ∙ e in
-          let same_dropped : s ≡ r = cc in (
-            ap (λ (t : Thing). t.sure) (sym same_dropped) ∙ su,
-            λ k.
-                let l = gone_request q.request q.settlement i k in
-                let m = request_of_dropped u v q (x, y) in
-                let no : Update j p ≡ Delete i = sym c ∙ m ∙ l in
-                absurd (cc),
-          )
+  still_dropped u v q i r (x, y) n e = grind arith
 
   alive_dropped : (i : List ℕ) (r : Thing) → role i ≡ Resource r → IsThere w (lane_of i) → (IsGone after_dropped w i → ⊥) → (v : Live) × (live_in w (lane_of i) i ≡ Some v) × (v.kind ≡ r.kind)
   alive_dropped i r e th g =
       let (q, x, y, z) = resource_back i r e in
-      let (v, l, m) = h.alive i q x th (λ (u, o, s, is, d). elim (still_dropped u o s i r is (ap named_by (request_of_dropped u o s is) ∙ gone_names s.request s.settlement i d) e) [
+      let (v, l, m) = h.alive i q x th (λ (u, o, s, is, d). elim (still_dropped u o s i r is (ap named_by (request_of a w b h u o s is) ∙ gone_names s.request s.settlement i d) e) [
         | inl k ↦ g (u, o, s, k, d)
         | inr k ↦ k.1 d
       ]) in
@@ -698,7 +387,7 @@ module _ (a : Account) (w : Lanes) (b : Books a) (h : Ties a w) (drop : ℕ → 
   same_dropped : (i : List ℕ) (r : Thing) (v : Live) → role i ≡ Resource r → r.sure ≡ true → (IsChanged after_dropped w i → ⊥) → live_in w (lane_of i) i ≡ Some v → (v.props ≡ r.props) × (v.attrs ≡ r.attrs)
   same_dropped i r v e su g l =
       let (q, x, y, z) = resource_back i r e in
-      h.same i r v (subst (λ k. a.role i ≡ Resource k) (z su) x) su (λ (u, o, s, p, t, is, d). elim (still_dropped u o s i r is (ap named_by (request_of_dropped u o s is) ∙ set_names s.request s.settlement i p t d) e) [
+      h.same i r v (subst (λ k. a.role i ≡ Resource k) (z su) x) su (λ (u, o, s, p, t, is, d). elim (still_dropped u o s i r is (ap named_by (request_of a w b h u o s is) ∙ set_names s.request s.settlement i p t d) e) [
         | inl k ↦ g (u, o, s, p, t, k, d)
         | inr k ↦ true≢false (sym su ∙ k.0)
       ]) l
@@ -714,66 +403,52 @@ module _ (a : Account) (w : Lanes) (b : Books a) (h : Ties a w) (drop : ℕ → 
     where
       by_given : (u : ℕ) (o : Open) (s : Settled) → IsSettled a w u o s → IsMade s i → drop u ≡ true → GivenUp a w role o → (role i ≢ Stranger) ⊎ IsBorn after_dropped w i ⊎ IsLost after_dropped w i
       by_given u o s z m k (of_create c) = inr (inr (u, o.lane, s, lost_now u o z.0 k c, z.1, m))
-      by_given u o s z (k', p, t, d) k (of_leftover j c e) = let x = request_of_dropped u o s z in let y = (made_success s.request s.settlement i k' p t d).1 in let n : named_by o.request ≡ None = ap named_by (x ∙ y) in absurd (cc)
-      by_given u o s z (k', p, t, d) k (of_doubted j p' r c e su g f) = let x = request_of_dropped u o s z in let y = (made_success s.request s.settlement i k' p t d).1 in let no : Update j p' ≡ Create k' p = sym c ∙ x ∙ y in absurd (cc)
+      by_given u o s z (k', p, t, d) k (of_leftover j c e) = let x = request_of a w b h u o s z in let y = (made_success s.request s.settlement i k' p t d).1 in let n : named_by o.request ≡ None = ap named_by (x ∙ y) in absurd (cc)
+      by_given u o s z (k', p, t, d) k (of_doubted j p' r c e su g f) = let x = request_of a w b h u o s z in let y = (made_success s.request s.settlement i k' p t d).1 in let no : Update j p' ≡ Create k' p = sym c ∙ x ∙ y in absurd (cc)
 
       by_dropped : (u : ℕ) (o : Open) (s : Settled) → IsSettled a w u o s → IsMade s i → (drop u ≡ true) ⊎ (drop u ≡ false) → (role i ≢ Stranger) ⊎ IsBorn after_dropped w i ⊎ IsLost after_dropped w i
       by_dropped u o s z m (inl k) = by_given u o s z m k (may.calls u o z.0 k)
       by_dropped u o s z m (inr k) = inr (inl (u, o, s, (open_kept_dropped u o k z.0, z.1), m))
 
-  flying_open_dropped : (n : List ℕ) (f : Flying) → In f (w.lane n).flying → entry_in w n f.token ≡ None → (w.lane n).fence ≤ f.epoch → IsAccounted after_dropped f.token f.request
-  flying_open_dropped n f m e k = elim (h.flying_open n f m e k) [
-    | inl (v, x) ↦ by_dropped v x (bool_or (drop f.token))
-    | inr z ↦ elim z [ inl (i, x, y) ↦ inr (inl (i, x, leftover_on i y)) | inr (x, y) ↦ inr (inr (x, lost_more f.token y)) ]
+  -- what a call can still change is known after it, where one in doubt can't act any more
+  pub accounted_dropped :
+      (n : List ℕ) (t : ℕ) (r : Request) → Fits a n t r → ((v : Open) → a.open_ t ≡ Some v → a.resting v.stack ≡ true → (w.lane n).fence ≡ a.epoch → ⊥)
+      → IsAccounted a t r → IsAccounted after_dropped t r
+  accounted_dropped n t r fits never (inr (inl (i, x, y))) = inr (inl (i, x, leftover_on i y))
+  accounted_dropped n t r fits never (inr (inr (x, y))) = inr (inr (x, lost_more t y))
+  accounted_dropped n t r fits never (inl (v, x)) = elim (bool_or (drop t)) [
+    | inl d ↦ by_given d (fits.written (called v) (b.calls t v x)) (may.calls t v x d)
+    | inr d ↦ inl (v, open_kept_dropped t v d x)
   ]
     where
-      by_given : (v : Open) → a.open_ f.token ≡ Some v → drop f.token ≡ true → (v.lane ≡ n) × (v.request ≡ f.request) → GivenUp a w role v → IsAccounted after_dropped f.token f.request
-      by_given v x d own (of_create c) = inr (inr (ap named_by (sym own.1) ∙ c, lost_now f.token v x d c))
-      by_given v x d own (of_leftover j c l) = inr (inl (j, ap named_by (sym own.1) ∙ c, l))
-      by_given v x d own (of_doubted j p r c l su rest raised) =
-          let q = h.flying_at_rest n f v m e x rest in
-          let q' : (w.lane n).fence ≡ a.epoch = subst (λ c. (w.lane c).fence ≡ a.epoch) own.0 raised in
-          absurd (omega arith)
+      by_given : drop t ≡ true → (v.lane ≡ n) × (v.request ≡ r) → GivenUp a w role v → IsAccounted after_dropped t r
+      by_given d own (of_create c) = inr (inr (ap named_by (sym own.1) ∙ c, lost_now t v x d c))
+      by_given d own (of_leftover j c l) = inr (inl (j, ap named_by (sym own.1) ∙ c, l))
+      by_given d own (of_doubted j p s c l su rest raised) = absurd (never v x rest (subst (λ c. (w.lane c).fence ≡ a.epoch) own.0 raised))
 
-      by_dropped : (v : Open) → a.open_ f.token ≡ Some v → (drop f.token ≡ true) ⊎ (drop f.token ≡ false) → IsAccounted after_dropped f.token f.request
-      by_dropped v x (inr d) = inl (v, open_kept_dropped f.token v d x)
-      by_dropped v x (inl d) = by_given v x d ((h.flying_calls n f m).written (called v) (b.calls f.token v x)) (may.calls f.token v x d)
+  flying_open_dropped : (n : List ℕ) (f : Flying) → In f (w.lane n).flying → entry_in w n f.token ≡ None → (w.lane n).fence ≤ f.epoch → IsAccounted after_dropped f.token f.request
+  flying_open_dropped n f m e k =
+      accounted_dropped n f.token f.request (h.flying_calls n f m) (λ v x rest raised. let q = h.flying_at_rest n f v m e x rest in absurd (omega arith)) (h.flying_open n f m e k)
 
   pub ties_dropped : Ties after_dropped w
-  ties_dropped = record {
-    handed = h.handed;
-    lane_names = h.lane_names;
-    settled_once = h.settled_once;
-    base_once = h.base_once;
-    base_named = h.base_named;
-    created_named = h.created_named;
-    created_once = h.created_once;
-    settled_calls = λ n u r e. let x = h.settled_calls n u r e in record { number = x.number; written = x.written };
-    flying_calls = λ n f i. let x = h.flying_calls n f i in record { number = x.number; written = x.written };
-    answers = h.answers;
-    flying_open = flying_open_dropped;
-    flying_epochs = h.flying_epochs;
-    flying_at_rest = λ n f v i e k. h.flying_at_rest n f v i e (open_old_dropped f.token v k).0;
-    fences = h.fences;
-    known = λ i e th. h.known i (λ k. e (stranger_on i k)) th;
-    gone = λ i r e (u, v, q, x, d). let (q', y, z, m) = resource_back i r e in h.gone i q' y (u, v, q, was_dropped u v q x, d);
-    alive = alive_dropped;
-    same = same_dropped;
-    changed = λ u v q i p c x. h.changed u v q i p c (was_dropped u v q x);
-    born = λ u v q i k p c x d. let z = h.born u v q i k p c (was_dropped u v q x) d in (z.0, stranger_on i z.1);
-    live_named = h.live_named;
-    listed = listed_dropped;
-  }
+  ties_dropped =
+      let fits : (n : List ℕ) (u : ℕ) (r : Request) → Fits a n u r → Fits after_dropped n u r = fits_as a after_dropped in
+      let rests : (u : ℕ) (v : Open) → after_dropped.open_ u ≡ Some v → a.open_ u ≡ Some v = λ u v e. (open_old_dropped u v e).0 in
+      let changed = λ (u : ℕ) (v : Open) (q : Settled) (i : List ℕ) (p c : Dict) (x : IsSettled after_dropped w u v q). h.changed u v q i p c (was_dropped u v q x) in
+      let known = λ (i : List ℕ) (e : role i ≢ Stranger). h.known i (λ k. e (stranger_on i k)) in
+      let gone : (i : List ℕ) (r : Thing) → role i ≡ Resource r → IsGone after_dropped w i → live_in w (lane_of i) i ≡ None
+      = λ i r e (u, v, q, x, d). let (q', y, z, m) = resource_back i r e in h.gone i q' y (u, v, q, was_dropped u v q x, d) in
+      search (flying_open_dropped, alive_dropped, same_dropped, born_dropped, listed_dropped, known, gone, changed, h.settled_calls, h.flying_calls, h.flying_at_rest, rests, fits)
+    where
+      born_dropped :
+          (u : ℕ) (v : Open) (q : Settled) (i k : List ℕ) (p c : Dict) → IsSettled after_dropped w u v q → effect_of q.request q.settlement ≡ Made i k p c
+          → (live_in w v.lane i ≡ Some (record { id = i; kind = k; props = p; attrs = c })) × (role i ≡ Stranger)
+      born_dropped u v q i k p c x d = let z = h.born u v q i k p c (was_dropped u v q x) d in (z.0, stranger_on i z.1)
 
 -- settled entries stay where a lane is replaced by one that keeps them
 module _ (n : List ℕ) (l : FencedLane) (w w' : Lanes) (rep : Replaced n l w w') where
   stays_with : ((t : ℕ) (s : Settled) → entry_in w n t ≡ Some s → entry_at t l.state.settled ≡ Some s) → Stays w w'
-  stays_with keep = record {
-    entries = λ m t s e. elim (bytes_or m n) [
-      | inl k ↦ ap (λ j. entry_in w' j t) k ∙ ap (λ (x : FencedLane). entry_at t x.state.settled) rep.at ∙ keep t s (ap (λ j. entry_in w j t) (sym k) ∙ e)
-      | inr k ↦ ap (λ (x : FencedLane). entry_at t x.state.settled) (rep.others m k) ∙ e
-    ];
-  }
+  stays_with keep = record { entries = each_lane n l w w' rep (λ m k x. (t : ℕ) (s : Settled) → entry_at t k.state.settled ≡ Some s → entry_at t x.state.settled ≡ Some s) keep (λ m k t s e. e) }
 
   as_before : l.state ≡ (w.lane n).state → Stays w w'
   as_before e = stays_with (λ t s k. ap (λ (x : LaneState). entry_at t x.settled) e ∙ k)
@@ -810,8 +485,7 @@ module _ (n : List ℕ) (l l' : FencedLane) (e t : ℕ) (r : Request) where
       let (st, z, q) = m.1 in
       let one : Failed c ≡ y = cc in
       let (s, u, v) = by_settling (Failed c) _ st refl z q in (s, u, v ∙ one)
-  answer_settled answer.Fault y m k = absurd (cc)
-  answer_settled answer.NoMemory y m k = absurd (cc)
+  answer_settled _ y m k = absurd (cc)
 
 pub call_keeps : CallKeeps
 call_keeps a w w' ls l after x h mine there rep m = record {
@@ -824,10 +498,7 @@ call_keeps a w w' ls l after x h mine there rep m = record {
     b = (h.tied).books
 
 pub stale_keeps : StaleKeeps
-stale_keeps a w w' ls l after fence h mine there rep m = record {
-  tied = record { books = (h.tied).books; ties = ties_stale a l.lane w w' (h.tied).books (h.tied).ties there after rep fence m };
-  leased = leased_replied a w w' ls h.leased (as_before l.lane after w w' rep (ap (λ (x : FencedLane). x.state) m.2)) l None mine (λ y e. absurd (cc));
-}
+stale_keeps a w w' ls l after fence h mine there rep m = grind arith
 
 pub late_keeps : LateKeeps
 late_keeps a w w' ls n after place x h there rep m = record {
@@ -849,24 +520,10 @@ fence_keeps a w w' ls n after x before counted h there rep m = record {
     state Broken k = elim k.2 [ inl e ↦ ap (λ (y : FencedLane). y.state) e | inr e ↦ ap (λ (y : FencedLane). y.state) e ]
 
 pub opening_keeps : OpeningKeeps
-opening_keeps a w named resting h may = record {
-  tied = record { books = books_opened a w named resting h.books may; ties = ties_opened a w named resting h.ties may };
-  leased = record { once = λ l m i. elim i [ ]; out = λ l i. elim i [ ]; replies = λ l x i. elim i [ ] };
-}
+opening_keeps a w named resting h may = grind arith
 
 pub rest_keeps : RestKeeps
-rest_keeps a w ls resting h less = record {
-  tied = record { books = books_rested a resting (h.tied).books; ties = ties_rested a w resting (h.tied).ties less };
-  leased = leased_by a (rested resting a) w ls h.leased (λ l i o. record {
-    own = record { number = (o.own).number; written = (o.own).written };
-    accounted = o.accounted;
-    going = λ v e. none (resting v.stack) (a.resting v.stack) (less v.stack) (o.going v e);
-  });
-}
-  where
-    none : (x y : Bool) → (x ≡ true → y ≡ true) → y ≡ false → x ≡ false
-    none true y f e = absurd (true≢false (sym (f refl) ∙ e))
-    none false y f e = refl
+rest_keeps a w ls resting h less = grind arith
 
 pub intent_keeps : IntentKeeps
 intent_keeps a w ls o h may = (
@@ -878,11 +535,7 @@ intent_keeps a w ls o h may = (
     tied = record { books = books_intended a w (h.tied).books (h.tied).ties o may; ties = ties_intended a w (h.tied).books (h.tied).ties o }
 
     keep : (l : Lease) → IsOut a l.lane l.token l.request → IsOut (intended o a) l.lane l.token l.request
-    keep l x = record {
-      own = fits_more a w (h.tied).books (h.tied).ties o l.lane l.token l.request x.own;
-      accounted = elim x.accounted [ inl y ↦ inl (y.0, more a w (h.tied).books (h.tied).ties o l.token y.0 y.1) | inr y ↦ inr y ];
-      going = λ v e. x.going v (old a w (h.tied).books (h.tied).ties o l.token v (x.own).number e);
-    }
+    keep l x = grind arith
 
     -- the new call is the one that is open under the new token
     open_now : (intended o a).open_ (a.last + 1) ≡ Some o
@@ -927,26 +580,14 @@ pub return_keeps : ReturnKeeps
 return_keeps a w ls t h = record { tied = h.tied; leased = leased_returned a a w ls h.leased t (λ l i n o. o) }
 
 pub drop_keeps : DropKeeps
-drop_keeps a w ls drop role h may = record {
-  tied = record { books = books_dropped a w b (h.tied).ties drop role may; ties = ties_dropped a w b (h.tied).ties drop role may };
-  leased = leased_by a (dropped drop role a) w ls h.leased (λ l i out. record {
-    own = record { number = (out.own).number; written = (out.own).written };
-    accounted = elim out.accounted [
-      | inl z ↦ by_dropped l out z.0 z.1 (bool_or a w b (h.tied).ties drop role may (drop l.token))
-      | inr z ↦ elim z [ inl (j, p, q) ↦ inr (inl (j, p, leftover_on a w b (h.tied).ties drop role may j q)) | inr (p, q) ↦ inr (inr (p, lost_more a w b (h.tied).ties drop role may l.token q)) ]
-    ];
-    going = λ v k. out.going v (open_old_dropped a w b (h.tied).ties drop role may l.token v k).0;
-  });
-}
-  where
-    b : Books a
-    b = (h.tied).books
-
-    by_given : (l : Lease) → IsOut a l.lane l.token l.request → (v : Open) → a.open_ l.token ≡ Some v → drop l.token ≡ true → (v.lane ≡ l.lane) × (v.request ≡ l.request) → GivenUp a w role v → IsAccounted (dropped drop role a) l.token l.request
-    by_given l out v e k own (of_create c) = inr (inr (ap named_by (sym own.1) ∙ c, lost_now a w b (h.tied).ties drop role may l.token v e k c))
-    by_given l out v e k own (of_leftover j c z) = inr (inl (j, ap named_by (sym own.1) ∙ c, z))
-    by_given l out v e k own (of_doubted j p r c z su rest raised) = absurd (true≢false (sym rest ∙ out.going v e))
-
-    by_dropped : (l : Lease) → IsOut a l.lane l.token l.request → (v : Open) → a.open_ l.token ≡ Some v → (drop l.token ≡ true) ⊎ (drop l.token ≡ false) → IsAccounted (dropped drop role a) l.token l.request
-    by_dropped l out v e (inr k) = inl (v, open_kept_dropped a w b (h.tied).ties drop role may l.token v k e)
-    by_dropped l out v e (inl k) = by_given l out v e k ((out.own).written (called v) (b.calls l.token v e)) (may.calls l.token v e k)
+drop_keeps a w ls drop role h may =
+    let b = (h.tied).books in
+    let t = (h.tied).ties in
+    record {
+      tied = record { books = books_dropped a w b t drop role may; ties = ties_dropped a w b t drop role may };
+      leased = leased_by a (dropped drop role a) w ls h.leased (λ l i out. record {
+        own = fits_as a (dropped drop role a) l.lane l.token l.request out.own;
+        accounted = accounted_dropped a w b t drop role may l.lane l.token l.request out.own (λ v e rest raised. true≢false (sym rest ∙ out.going v e)) out.accounted;
+        going = λ v k. out.going v (open_old_dropped a w b t drop role may l.token v k).0;
+      });
+    }

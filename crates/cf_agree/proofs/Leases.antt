@@ -1,12 +1,9 @@
 -- What is out stays so: each move of a lane and of the account keeps the leases.
-use Rattle.std.proofs.Common.{◌≡◌, ◌≢◌, ◌⊎◌, inl, inr, ℕ, ◌==◌, List, [], ◌∷◌, Bool, true, false, not, Option, Some, filter, refl, sym, ap, subst, ◌∙◌, true≢false}
+use Rattle.std.proofs.Common.{arith, ◌≡◌, ◌≢◌, ◌⊎◌, inl, inr, ℕ, ◌==◌, List, [], ◌∷◌, Bool, true, false, not, Option, Some, filter, refl, sym, ap, subst, ◌∙◌, true≢false}
 use Rattle.std.specs.Prelude.{cond}
 use Rattle.cf_tree.specs.declared.request.Request.{Request}
-use Rattle.cf_handler.specs.declared.settled.Settlement.{Settlement}
-use Rattle.cf_handler.specs.declared.settled.Settled.{Settled}
-use Rattle.cf_agree.specs.Base.{In, here, there}
-use Rattle.cf_agree.specs.Lanes.{Lanes, entry_in}
-use Rattle.cf_agree.specs.Account.{Account}
+use Rattle.cf_handler.specs.declared.{settled.Settled.Settled, settled.Settlement.Settlement}
+use Rattle.cf_agree.specs.{Account.Account, Base.In, Base.here, Base.there, Lanes.Lanes, Lanes.entry_in}
 use Rattle.cf_agree.specs.Moves.{IsOut, Lease, AreLeased, replying, replied, returned, granted}
 use Rattle.cf_agree.proofs.Words.{in_cons, in_either, number_or, at_same, at_other}
 
@@ -26,10 +23,7 @@ in_kept test x (y ∷ xs) i = either (test y) refl i (in_kept test x xs) where
 
 -- the lease keeps its call
 same_call : (t : ℕ) (x : Option Settlement) (m : Lease) → ((replying t x m).token ≡ m.token) × ((replying t x m).lane ≡ m.lane) × ((replying t x m).request ≡ m.request)
-same_call t x m = either (t == m.token) where
-  either : (b : Bool) → ((cond b (record m { reply = x }) m).token ≡ m.token) × ((cond b (record m { reply = x }) m).lane ≡ m.lane) × ((cond b (record m { reply = x }) m).request ≡ m.request)
-  either true = (refl, refl, refl)
-  either false = (refl, refl, refl)
+same_call t x m = grind arith
 
 -- settled entries stay
 pub record Stays (w w' : Lanes) : Type 0 where

@@ -1,21 +1,14 @@
 -- Lists, ids and lanes.
-use Rattle.std.proofs.Common.{◌≡◌, ◌≢◌, ◌⊎◌, inl, inr, ℕ, zero, suc, take, drop, slice_get, ◌==◌, List, [], ◌∷◌, ◌++◌, Bool, true, false, not, ◌||◌, Some, None, refl, sym, ap, subst, ◌∙◌, true≢false, map, filter, find, length, nat_le, arith}
-use Rattle.std.specs.Prelude.{cond}
-use Rattle.std.specs.List.{list_any, list_all, remove}
-use Rattle.std.specs.Cmp.{first_so, second_so}
-use Rattle.std.specs.Str.{bytes_eq}
-use Rattle.std.proofs.lemmas.Slice.Eq.{bytes_eq-Decides}
-use Rattle.std.proofs.lemmas.List.Folds.{list_any-append}
-use Rattle.std.proofs.lemmas.Bool.{eq-eqb, ne_eqb, or_from, or_left}
+use Rattle.std.proofs.Common.{◌≡◌, ◌≢◌, ◌⊎◌, inl, inr, ℕ, zero, suc, slice_get, ◌==◌, List, [], ◌∷◌, ◌++◌, Bool, true, false, not, ◌||◌, Option, Some, None, refl, sym, ap, subst, ◌∙◌, true≢false, map, filter, find, length, nat_le, arith}
+use Rattle.std.specs.{Cmp.first_so, Cmp.second_so, List.list_all, List.list_any, List.remove, Prelude.cond, Str.bytes_eq}
+use Rattle.std.proofs.lemmas.{Bool.eq-eqb, Bool.ne_eqb, Bool.or_from, Bool.or_left, Bool.or_right, List.Folds.list_any-append, Slice.Eq.bytes_eq-Decides}
 use Rattle.cf_tree.specs.Datum.{Data}
 use Rattle.cf_tree.specs.declared.request.Request.{Request}
 use Rattle.cf_tree.specs.declared.request.Request.TheVariants.{Create, Update, Delete}
-use Rattle.cf_handler.specs.declared.settled.Settlement.{Settlement}
+use Rattle.cf_handler.specs.declared.{settled.Settled.Settled, settled.Settlement.Settlement}
 use Rattle.cf_handler.specs.declared.settled.Settlement.TheVariants.{Success, Failed}
-use Rattle.cf_handler.specs.declared.settled.Settled.{Settled}
 use Rattle.cf_handler.specs.Lane.{LaneState, Live, live_of, live_after, changed_by, updated, has_id, is_used, succeeded_with, settlement_of}
-use Rattle.cf_handler.specs.Move.{with_settled, IsOfLane}
-use Rattle.cf_handler.specs.Name.{is_lane_name, is_name_byte}
+use Rattle.cf_handler.specs.{Move.IsOfLane, Move.with_settled, Name.is_lane_name, Name.is_name_byte}
 use Rattle.cf_agree.specs.Base.{In, here, there, lane_of, entry_at}
 
 pub same_bytes : (a b : List ℕ) → a ≡ b → bytes_eq a b ≡ true
@@ -25,10 +18,7 @@ pub bytes_same : (a b : List ℕ) → bytes_eq a b ≡ true → a ≡ b
 bytes_same a b e = (bytes_eq-Decides a b).0 e
 
 pub other_bytes : (a b : List ℕ) → a ≢ b → bytes_eq a b ≡ false
-other_bytes a b n = none (bytes_eq a b) (bytes_same a b) where
-  none : (c : Bool) → (c ≡ true → a ≡ b) → c ≡ false
-  none true h = absurd (n (h refl))
-  none false h = refl
+other_bytes a b n = grind (arith, bytes_same)
 
 pub bytes_or : (a b : List ℕ) → (a ≡ b) ⊎ (a ≢ b)
 bytes_or a b = by_test (bytes_eq a b) refl where
@@ -37,12 +27,14 @@ bytes_or a b = by_test (bytes_eq a b) refl where
   by_test false h = inr (λ e. true≢false (sym (same_bytes a b e) ∙ h))
 
 first_not : (a b : Bool) → (a || b) ≡ false → a ≡ false
-first_not true b h = h
-first_not false b h = refl
+first_not a b h = grind arith
 
 second_not : (a b : Bool) → (a || b) ≡ false → b ≡ false
-second_not true b h = absurd (true≢false h)
-second_not false b h = h
+second_not a b h = grind arith
+
+pub some_or : {A : Type 0} (o : Option A) → (o ≡ None) ⊎ ((x : A) × (o ≡ Some x))
+some_or None = inl refl
+some_or (Some x) = inr (x, refl)
 
 pub number_or : (m n : ℕ) → (m ≡ n) ⊎ (m ≢ n)
 number_or m n = grind arith
@@ -73,17 +65,11 @@ in_either x (z ∷ xs) y i = elim (in_cons x z (xs ++ y ∷ []) i) [
 -- the settled entry of a token: it stays, and one more is that of its own token alone
 pub entry_still : (t : ℕ) (ss : List Settled) (s r : Settled) → entry_at t ss ≡ Some r → entry_at t (ss ++ s ∷ []) ≡ Some r
 entry_still t [] s r h = absurd (cc)
-entry_still t (q ∷ ss) s r h = either (t == q.token) h (entry_still t ss s r) where
-  either : (b : Bool) → cond b (Some q) (entry_at t ss) ≡ Some r → (entry_at t ss ≡ Some r → entry_at t (ss ++ s ∷ []) ≡ Some r) → cond b (Some q) (entry_at t (ss ++ s ∷ [])) ≡ Some r
-  either true g ih = g
-  either false g ih = ih g
+entry_still t (q ∷ ss) s r h = grind (arith, entry_still t ss s r)
 
 pub entry_now : (t : ℕ) (ss : List Settled) (s : Settled) → t ≡ s.token → entry_at t ss ≡ None → entry_at t (ss ++ s ∷ []) ≡ Some s
 entry_now t [] s e h = at_same t s.token (Some s) None e
-entry_now t (q ∷ ss) s e h = either (t == q.token) h (entry_now t ss s e) where
-  either : (b : Bool) → cond b (Some q) (entry_at t ss) ≡ None → (entry_at t ss ≡ None → entry_at t (ss ++ s ∷ []) ≡ Some s) → cond b (Some q) (entry_at t (ss ++ s ∷ [])) ≡ Some s
-  either true g ih = absurd (cc)
-  either false g ih = ih g
+entry_now t (q ∷ ss) s e h = grind (arith, entry_now t ss s e)
 
 pub entry_others : (t : ℕ) (ss : List Settled) (s : Settled) → t ≢ s.token → entry_at t (ss ++ s ∷ []) ≡ entry_at t ss
 entry_others t [] s n = at_other t s.token (Some s) None n
@@ -91,25 +77,16 @@ entry_others t (q ∷ ss) s n = ap (λ o. cond (t == q.token) (Some q) o) (entry
 
 pub entry_token : (t : ℕ) (ss : List Settled) (s : Settled) → entry_at t ss ≡ Some s → s.token ≡ t
 entry_token t [] s h = absurd (cc)
-entry_token t (q ∷ ss) s h = elim (number_or t q.token) [
-  | inl e ↦ (let z = at_same t q.token (Some q) (entry_at t ss) e in let same : q ≡ s = cc in ap (λ (x : Settled). x.token) (sym same) ∙ sym e)
-  | inr e ↦ entry_token t ss s (sym (at_other t q.token (Some q) (entry_at t ss) e) ∙ h)
-]
+entry_token t (q ∷ ss) s h = grind (arith, entry_token t ss s)
 
 -- no settlement, no entry
 pub unsettled : (t : ℕ) (ss : List Settled) → settlement_of t ss ≡ None → entry_at t ss ≡ None
 unsettled t [] h = refl
-unsettled t (q ∷ ss) h = either (t == q.token) h (unsettled t ss) where
-  either : (b : Bool) → cond b (Some q.settlement) (settlement_of t ss) ≡ None → (settlement_of t ss ≡ None → entry_at t ss ≡ None) → cond b (Some q) (entry_at t ss) ≡ None
-  either true g ih = absurd (cc)
-  either false g ih = ih g
+unsettled t (q ∷ ss) h = grind (arith, unsettled t ss)
 
 pub settled_as : (t : ℕ) (ss : List Settled) (x : Settlement) → settlement_of t ss ≡ Some x → (s : Settled) × (entry_at t ss ≡ Some s) × (s.settlement ≡ x)
 settled_as t [] x h = absurd (cc)
-settled_as t (q ∷ ss) x h = either (t == q.token) h (settled_as t ss x) where
-  either : (b : Bool) → cond b (Some q.settlement) (settlement_of t ss) ≡ Some x → (settlement_of t ss ≡ Some x → (s : Settled) × (entry_at t ss ≡ Some s) × (s.settlement ≡ x)) → (s : Settled) × (cond b (Some q) (entry_at t ss) ≡ Some s) × (s.settlement ≡ x)
-  either true g ih = (q, refl, cc)
-  either false g ih = ih g
+settled_as t (q ∷ ss) x h = grind (arith, settled_as t ss x)
 
 -- what is live after one more call
 pub live_more : (live : List Live) (ss : List Settled) (s : Settled) → live_after live (ss ++ s ∷ []) ≡ changed_by s.request s.settlement (live_after live ss)
@@ -126,12 +103,8 @@ used_still id lane s h =
       more false true c g = refl
       more false false c g = absurd (true≢false (sym g))
 
-behind : (a b : Bool) → b ≡ true → (a || b) ≡ true
-behind true b h = refl
-behind false b h = h
-
 pub used_born : (token : ℕ) (id : List ℕ) (attrs : List (List ℕ × Data)) (lane : LaneState) (s : Settled) → entry_at token lane.settled ≡ Some s → s.settlement ≡ Success id attrs → is_used id lane ≡ true
-used_born token id attrs lane s h e = behind (has_id id lane.base) _ (among lane.settled h) where
+used_born token id attrs lane s h e = or_right (has_id id lane.base) _ (among lane.settled h) where
   among : (ss : List Settled) → entry_at token ss ≡ Some s → list_any (λ t. succeeded_with id t.settlement) ss ≡ true
   among [] k = absurd (cc)
   among (q ∷ ss) k = elim (number_or token q.token) [
@@ -139,16 +112,13 @@ used_born token id attrs lane s h e = behind (has_id id lane.base) _ (among lane
         (let y = at_same token q.token (Some q) (entry_at token ss) z in
         let same : q ≡ s = cc in
         or_left (succeeded_with id q.settlement) _ (ap (λ (x : Settled). succeeded_with id x.settlement) same ∙ ap (succeeded_with id) e ∙ same_bytes id id refl))
-    | inr z ↦ behind (succeeded_with id q.settlement) _ (among ss (sym (at_other token q.token (Some q) (entry_at token ss) z) ∙ k))
+    | inr z ↦ or_right (succeeded_with id q.settlement) _ (among ss (sym (at_other token q.token (Some q) (entry_at token ss) z) ∙ k))
   ]
 
 -- the resource that is found under an id has it
 pub found_id : (i : List ℕ) (live : List Live) (v : Live) → find (λ r. bytes_eq i r.id) live ≡ Some v → i ≡ v.id
 found_id i [] v h = absurd (cc)
-found_id i (r ∷ live) v h = elim (bytes_or i r.id) [
-  | inl e ↦ (let z = if_same i r.id (Some r) (find (λ r. bytes_eq i r.id) live) e in let same : r ≡ v = cc in e ∙ ap (λ (x : Live). x.id) same)
-  | inr e ↦ found_id i live v (sym (if_other i r.id (Some r) (find (λ r. bytes_eq i r.id) live) e) ∙ h)
-]
+found_id i (r ∷ live) v h = grind (arith, found_id i live v, bytes_same)
 
 pub has_found : (i : List ℕ) (live : List Live) → has_id i live ≡ true → (v : Live) × (find (λ r. bytes_eq i r.id) live ≡ Some v)
 has_found i [] h = absurd (true≢false (sym h))
@@ -159,10 +129,7 @@ has_found i (r ∷ live) h = either (bytes_eq i r.id) h (has_found i live) where
 
 pub has_none : (i : List ℕ) (live : List Live) → has_id i live ≡ false → find (λ r. bytes_eq i r.id) live ≡ None
 has_none i [] h = refl
-has_none i (r ∷ live) h = either (bytes_eq i r.id) h (has_none i live) where
-  either : (b : Bool) → (b || has_id i live) ≡ false → (has_id i live ≡ false → find (λ r. bytes_eq i r.id) live ≡ None) → cond b (Some r) (find (λ r. bytes_eq i r.id) live) ≡ None
-  either true g ih = absurd (true≢false g)
-  either false g ih = ih g
+has_none i (r ∷ live) h = grind (arith, has_none i live)
 
 -- a lane's name has no colon, so an id names one lane
 colon : (y : ℕ) → y ≡ 58 → is_name_byte y ≡ true → ⊥
@@ -170,9 +137,7 @@ colon y e h = true≢false (sym h ∙ ap is_name_byte e)
 
 before_colon : (n rest : List ℕ) → list_all is_name_byte n ≡ true → lane_of (n ++ 58 ∷ rest) ≡ n
 before_colon [] rest h = refl
-before_colon (b ∷ n) rest h =
-    at_other b 58 [] (b ∷ lane_of (n ++ 58 ∷ rest)) (λ e. colon b e (first_so (is_name_byte b) (list_all is_name_byte n) h))
-    ∙ ap (λ m. b ∷ m) (before_colon n rest (second_so (is_name_byte b) (list_all is_name_byte n) h))
+before_colon (b ∷ n) rest h = grind (arith, before_colon n rest (second_so (is_name_byte b) (list_all is_name_byte n) h))
 
 bytes_named : (name : List ℕ) → is_lane_name name ≡ true → list_all is_name_byte name ≡ true
 bytes_named name t = second_so (nat_le (length name) 64) (list_all is_name_byte name) (second_so (nat_le 1 (length name)) _ t)
@@ -183,10 +148,7 @@ one_lane n i h o = ap lane_of o.1 ∙ before_colon n o.0 (bytes_named n h)
 -- an id that was never used isn't live
 none_left : (id : List ℕ) (test : Live → Bool) (live : List Live) → has_id id live ≡ false → has_id id (filter test live) ≡ false
 none_left id test [] h = refl
-none_left id test (r ∷ live) h = either (test r) (first_not (bytes_eq id r.id) (has_id id live) h) (none_left id test live (second_not (bytes_eq id r.id) (has_id id live) h)) where
-  either : (b : Bool) → bytes_eq id r.id ≡ false → has_id id (filter test live) ≡ false → has_id id (cond b (r ∷ filter test live) (filter test live)) ≡ false
-  either true e ih = or_from (bytes_eq id r.id) (has_id id (filter test live)) e ih
-  either false e ih = ih
+none_left id test (r ∷ live) h = grind (arith, none_left id test live)
 
 none_updated : (id other : List ℕ) (p t : List (List ℕ × Data)) (live : List Live) → has_id id live ≡ false → has_id id (map (updated other p t) live) ≡ false
 none_updated id other p t [] h = refl
@@ -225,22 +187,8 @@ in_got x [] i h = absurd (cc)
 in_got x (y ∷ xs) zero h = let z : y ≡ x = cc in subst (λ q. In q (y ∷ xs)) z here
 in_got x (y ∷ xs) (suc i) h = there (in_got x xs i h)
 
-in_both : {A : Type 0} (x : A) (xs ys : List A) → In x (xs ++ ys) → In x xs ⊎ In x ys
-in_both x [] ys i = inr i
-in_both x (y ∷ xs) ys i = elim (in_cons x y (xs ++ ys) i) [
-  | inl e ↦ inl (subst (λ q. In q (y ∷ xs)) (sym e) here)
-  | inr e ↦ elim (in_both x xs ys e) [ inl k ↦ inl (there k) | inr k ↦ inr k ]
-]
-
-in_take : {A : Type 0} (x : A) (i : ℕ) (xs : List A) → In x (take i xs) → In x xs
-in_take x zero xs h = elim h [ ]
-in_take x (suc i) [] h = elim h [ ]
-in_take x (suc i) (y ∷ xs) h = elim (in_cons x y (take i xs) h) [ inl e ↦ subst (λ q. In q (y ∷ xs)) (sym e) here | inr e ↦ there (in_take x i xs e) ]
-
-in_drop : {A : Type 0} (x : A) (i : ℕ) (xs : List A) → In x (drop i xs) → In x xs
-in_drop x zero xs h = h
-in_drop x (suc i) [] h = elim h [ ]
-in_drop x (suc i) (y ∷ xs) h = there (in_drop x i xs h)
-
 pub in_removed : {A : Type 0} (x : A) (xs : List A) (i : ℕ) → In x (remove xs i) → In x xs
-in_removed x xs i h = elim (in_both x (take i xs) (drop (suc i) xs) h) [ inl k ↦ in_take x i xs k | inr k ↦ in_drop x (suc i) xs k ]
+in_removed x [] zero h = elim h [ ]
+in_removed x [] (suc i) h = elim h [ ]
+in_removed x (y ∷ xs) zero h = there h
+in_removed x (y ∷ xs) (suc i) h = elim (in_cons x y (remove xs i) h) [ inl e ↦ subst (λ q. In q (y ∷ xs)) (sym e) here | inr k ↦ there (in_removed x xs i k) ]

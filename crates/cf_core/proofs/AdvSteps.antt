@@ -1,85 +1,28 @@
 -- The forward phase begins, and goes on behind each entry that is written.
-use Rattle.std.proofs.Common.{◌≡◌, ℕ, List, [], ◌++◌, Option, Some, None, refl, sym, ap, subst, ◌∙◌, map, option_map, ◌==◌, Bool, true, false, ◌&&◌, not, true≢false, find, ◌∷◌, inl, inr, ◌+◌, ◌||◌, IsTrue, is_some, filter}
-use Rattle.std.specs.Option.{option_map_or, option_or, option_and_then}
-use Rattle.std.specs.Str.{bytes_eq}
-use Rattle.std.proofs.lemmas.List.Folds.{find-append}
-use Rattle.std.proofs.lemmas.Slice.Eq.{bytes_eq-Decides}
+use Rattle.std.proofs.Common.{◌≡◌, ℕ, List, ◌++◌, Option, Some, None, refl, sym, ap, subst, ◌∙◌, map, option_map, ◌==◌, Bool, true, false, ◌&&◌, not, true≢false, find, ◌∷◌, inl, inr, ◌+◌, ◌||◌, IsTrue, is_some, filter, [], ◌⊎◌}
+use Rattle.cf_core.proofs.Words.{AdvancingBegins, AdvancingGoesOn, AgreeAt, AreAhead, AreSameThings, AreSingle, BeginsBy, Begun, Call, CourseIsFree, Data, EndsAs, Entry, Fits, Forward, GoesOn, Gone, HasBegun, Held, HeldLeft, In, IntendsForward, IsAccepted, IsAdvancing, IsAsSaid, IsAsked, IsCleared, IsDone, IsFreeToBegin, IsFurther, IsHidden, IsMoved, IsOnCourse, IsOpenAhead, IsOwn, IsReady, IsRowOf, IsSameThing, IsStill, IsTo, IsWritten, KeepsRest, Known, Later, LeftAt, MayFollowIn, MayIntend, MayKeep, Member, Pending, Phase, Reply, Request, RestIsSeen, Row, Schema, Seen, Source, StackState, Stage, Status, Wanted, Why, World, anew, answered, answered_call, begins_from, by_create, by_update, bytes_eq, change_first, changes_begun, closed, closing, creates_from, current_at, effect_at, evaluated_at, finding, first_so, goes_back, goes_forward, has_physical, has_token, heard, hides_attrs, hides_id, is_call, is_current_at, is_in_progress, is_made, is_open_call, is_restore, is_right, is_success, is_update, is_updated, list_any, made_of, member_at, moved, needs_at, new_call, on_stack, option_map_or, option_or, pending_of, plan_by, plan_in, props_at, replied, resources_of, reviewed, seen_in, seen_now, settled_by, shape_of, source_for, stage_of, status_made, still_open, succeeded, terms_at, terms_of, turned, unmoved, updates, updates_from, updating, value_at, wanted_at, wanted_from, wanted_in, wanted_paths, was_updated, was_updated_at, where_call, where_physical, without_token}
+use Rattle.cf_core.proofs.Lemmas.{any_filtered, any_mapped, any_of, by_paths, bytes_eq-Decides, bytes_same, cases_Bool, eqb-true, false_from, find-append, found_in_more, found_one, found_still, in_any, in_filter, in_front, in_more, kept_self, needs_suffice, none_kept, not_so, or_right, same_bytes, same_in, shown, shown_at, some_is, some_of, terms_by, wanted_terms}
+use Rattle.std.specs.Option.{option_and_then}
 use Rattle.std.specs.Prelude.{cond}
-use Rattle.std.specs.List.{list_any}
-use Rattle.std.proofs.lemmas.Bool.{eqb-true, or_right}
-use Rattle.cf_tree.specs.Keys.{value_at}
-use Rattle.cf_tree.specs.declared.source.Source.{Source}
-use Rattle.cf_tree.specs.declared.request.Request.{Request}
-use Rattle.cf_tree.specs.declared.row.Row.{Row}
-use Rattle.cf_tree.specs.Datum.{Data}
-use Rattle.cf_tree.specs.declared.request.Request.TheVariants as request
-use Rattle.cf_desired.specs.Plan.{member_at, plan_by, props_at}
-use Rattle.cf_desired.specs.Seeing.{Seen}
-use Rattle.cf_desired.specs.Shape.{shape_of}
-use Rattle.cf_desired.specs.Stays.{AgreeAt}
-use Rattle.cf_desired.specs.Whole.{wanted_at}
-use Rattle.cf_desired.specs.Work.{Member}
 use Rattle.cf_desired.specs.declared.shape.Terms.{Terms}
-use Rattle.cf_desired.specs.declared.wanted.Wanted.{Wanted}
-use Rattle.cf_desired.proofs.NeedsMatter.{needs_suffice}
-use Rattle.cf_desired.proofs.Termed.{terms_by, wanted_terms}
-use Rattle.cf_desired.specs.ShapeStays.{KeepsRest}
-use Rattle.cf_desired.proofs.Puts.{kept_self}
+use Rattle.cf_core.proofs.AdvLists.{and_no, each_map, found_changed, found_else, found_no_more, in_changed, no_and, any_no_more, either_way, none_if}
+use Rattle.cf_core.proofs.FitKept.{one_number, one_id}
+use Rattle.cf_core.proofs.Statuses.{ended_status, turned_status}
+use Rattle.cf_core.proofs.Written.{written_is_to}
+use Rattle.cf_core.proofs.BackLists.{is_of, same_things}
+use Rattle.cf_core.specs.Moving.{IsMove}
+use Rattle.cf_core.proofs.Moving.{written_moves}
+use Rattle.cf_tree.specs.declared.request.Request.TheVariants as request
 use Rattle.cf_desired.specs.Turns as turn
-use Rattle.cf_rests.specs.Views.{wanted_from}
-use Rattle.cf_rests.proofs.Viewed.{by_paths}
-use Rattle.cf_effect.specs.World.{StackState, World}
-use Rattle.cf_effect.specs.Words.{is_current_at, has_token, is_update, updates, without_token, change_first, current_at, has_physical, resources_of, where_physical, pending_of}
-use Rattle.cf_effect.specs.Begin.{seen_in, source_for}
-use Rattle.cf_effect.specs.End.{seen_now}
-use Rattle.cf_effect.specs.Reply.{terms_of, wanted_in, still_open, updating, answered, closing, made_of, replied, status_made, terms_at}
-use Rattle.cf_effect.specs.declared.call.Call.{Call}
-use Rattle.cf_effect.specs.declared.held.Held.{Held}
-use Rattle.cf_effect.specs.declared.held.Pending.{Pending}
-use Rattle.cf_effect.specs.Calls.{answered_call, is_call, is_restore, is_success, succeeded, was_updated, where_call, anew, new_call, is_open_call}
-use Rattle.cf_effect.specs.Status.{goes_back, goes_forward, Forward, Gone, Stage, stage_of, turned, is_in_progress, reviewed}
-use Rattle.cf_effect.specs.Effect.{heard, on_stack}
-use Rattle.cf_effect.specs.Fold.{effect_at}
-use Rattle.cf_plan.specs.Between.{needs_at}
-use Rattle.cf_plan.specs.Forward.{In, IsDone, IsReady, Later, evaluated_at, finding, is_made, is_right, is_updated, plan_in, wanted_paths, was_updated_at, Known}
-use Rattle.cf_plan.proofs.CreatedSeen.{shown, shown_at}
-use Rattle.cf_plan.proofs.Members.{in_any, false_from, same_in}
-use Rattle.cf_plan.specs.Follow.{settled_by, EndsAs, IntendsForward, MayFollowIn, MayIntend, MayKeep, begins_from, updates_from, BeginsBy}
-use Rattle.cf_plan.proofs.CreatedRight.{in_filter, not_so, none_kept}
-use Rattle.cf_plan.proofs.CreatedStays.{found_one, found_in_more, found_still, in_more}
-use Rattle.cf_plan.proofs.Told.{any_filtered, any_mapped}
-use Rattle.cf_plan.proofs.RunLists.{any_of, some_of, in_front}
-use Rattle.cf_plan.specs.Accept.{creates_from, IsAccepted}
-use Rattle.cf_plan.specs.Run.{IsOwn}
-use Rattle.cf_plan.specs.Ends.{IsCleared}
-use Rattle.cf_entry.specs.declared.entry.Entry.{Entry}
-use Rattle.cf_entry.specs.declared.entry.Reply.{Reply}
-use Rattle.cf_entry.specs.declared.status.Status.{Status}
-use Rattle.cf_entry.specs.declared.entry.Begun.{Begun}
-use Rattle.cf_entry.specs.declared.turn.Phase.{Phase}
-use Rattle.cf_entry.specs.declared.turn.Why.{Why}
-use Rattle.cf_entry.proofs.Codec.{some_is}
 use Rattle.cf_entry.specs.declared.entry.Reply.TheVariants as reply
 use Rattle.cf_entry.specs.declared.status.Status.TheVariants as status
 use Rattle.cf_entry.specs.declared.entry.Entry.TheVariants as entry
 use Rattle.cf_entry.specs.declared.entry.Begun.TheVariants as begin
 use Rattle.cf_entry.specs.declared.turn.Phase.TheVariants as phase
 use Rattle.cf_entry.specs.declared.turn.Why.TheVariants as why
-use Rattle.cf_schema.specs.declared.described.Schema.{Schema}
-use Rattle.cf_change.specs.Hidden.{hides_attrs, hides_id}
-use Rattle.cf_core.specs.Still.{IsFurther, IsStill, IsMoved, IsOpenAhead, moved, AreAhead}
-use Rattle.cf_core.specs.Advancing.{IsAdvancing, IsAsSaid, IsAsked, IsHidden, changes_begun, AreSameThings, IsAsBefore, IsSameThing, AreSingle}
-use Rattle.cf_core.specs.Fits.{Fits, IsRowOf}
-use Rattle.cf_core.proofs.AdvLists.{and_no, each_map, found_changed, found_else, found_no_more, in_changed, no_and, any_no_more}
-use Rattle.cf_core.proofs.FitKept.{one_number, one_id}
-use Rattle.cf_core.specs.Ahead.{AdvancingGoesOn, GoesOn, AdvancingBegins, CourseIsFree, HasBegun, IsFreeToBegin}
-use Rattle.cf_core.specs.Written.{IsTo}
-use Rattle.cf_core.proofs.Statuses.{ended_status, turned_status}
-use Rattle.cf_core.proofs.Written.{written_is_to}
-use Rattle.cf_core.proofs.BackLists.{is_of, same_things}
-use Rattle.cf_core.specs.Course.{IsOnCourse}
 use Rattle.cf_core.specs.Advancing as things
 use Rattle.cf_core.specs.Written as to
+use Rattle.cf_core.specs.Moving as move
 
 -- What the template says of a path that is ready stays so, as long as what is done is left as it was: it rests on what is seen of the
 -- paths that it needs.
@@ -107,7 +50,7 @@ says_same source before a b path agree =
     by (Some m) e = ap (wanted_from (Some m)) (needs_suffice source before a b path m e (agree m e))
 
 -- what is seen of a path is told by what is made and held at it
-seen_still : (s t : StackState) (path : List ℕ) → IsStill s t path → value_at path (seen_now t) ≡ value_at path (seen_now s)
+pub seen_still : (s t : StackState) (path : List ℕ) → IsStill s t path → value_at path (seen_now t) ≡ value_at path (seen_now s)
 seen_still s t path h =
     shown_at path (t.made ++ t.held) ∙ ap (option_map shown) (find-append (is_current_at path) t.made t.held)
     ∙ (λ i. option_map shown (option_or (h.made i) (h.held i)))
@@ -187,56 +130,70 @@ hidden_stays rows s t path (request.Delete physical) still h = h
 pub open_of : (schemas : List Schema) (s : StackState) (source : Source) → IsAdvancing schemas s source → (p : Pending) → In p s.tokens → IsOpenAhead schemas s source p
 open_of schemas s source h p i = record { ready = h.ready p i; not_done = h.not_done p i; asked = h.asked p i; hidden = h.hidden p i }
 
-module _ (schemas : List Schema) (s : StackState) (source : Source) (h : IsAdvancing schemas s source)
-    (hs ms : List Held) (ts : List Pending) (cs : List Call) (es : List Entry) (lines : List (List ℕ)) where
-  module _ (m : IsMoved schemas s (moved s hs ms ts cs es lines) source) where
-    further : IsFurther s (moved s hs ms ts cs es lines) source
-    further = record { going = h.going; goes = h.going; before = refl; done = m.done }
+module _ (schemas : List Schema) (s : StackState) (source : Source) (h : IsAdvancing schemas s source) where
+  -- what the change set did not hide is still seen
+  abbrev pub Rest : List Held → Type 0
+  Rest rs = KeepsRest (hides_id (changes_begun schemas s source).rows) (hides_attrs (changes_begun schemas s source).rows) (seen_in s.before) (seen_in rs)
 
-    said_stays : (r : Held) → IsAsSaid s r → IsAsSaid (moved s hs ms ts cs es lines) r
-    said_stays r a = record {
-      sure = a.sure;
-      said = ready_said s (moved s hs ms ts cs es lines) source further r.path a.ready ∙ a.said;
-      ready = ready_stays s (moved s hs ms ts cs es lines) source further r.path a.ready;
-    }
+  pub further_of : (t : StackState) → t.going ≡ s.going → t.before ≡ s.before → ((q : List ℕ) → LeftAt s t q) → IsFurther s t source
+  further_of t going before left = record { going = h.going; goes = going ∙ h.going; before = before; done = λ q d. by q d (left q) } where
+    by : (q : List ℕ) → IsDone s q → LeftAt s t q → IsStill s t q
+    by q d (unmoved k) = k
+    by q d (closed p i e none k) = absurd (h.not_done p i (subst (IsDone s) (sym e) d))
 
-    pub goes_on :
-        KeepsRest (hides_id (changes_begun schemas s source).rows) (hides_attrs (changes_begun schemas s source).rows) (seen_in s.before) (seen_in (ms ++ hs))
-        → IsAdvancing schemas (moved s hs ms ts cs es lines) source
-    goes_on rest = record {
-      going = h.going;
-      no_flaw = h.no_flaw;
-      no_clash = h.no_clash;
-      rest = rest;
-      single_before = h.single_before;
-      held = m.held;
-      unchanged = m.unchanged;
-      single_made = m.single_made;
-      made = λ r i. said_stays r (m.made r i);
-      updated = λ path u. let (g, e, a) = m.updated path u in (g, e, said_stays g a);
-      ready = λ p i. ready_stays s (moved s hs ms ts cs es lines) source further p.path (m.open_ p i).ready;
-      not_done = λ p i d.
-          (m.open_ p i).not_done (not_done_stays s (moved s hs ms ts cs es lines) source further p.path (m.open_ p i).ready (m.open_still p i) d);
-      asked = λ p i.
-          asked_stays s (moved s hs ms ts cs es lines) source further p.path p.request (m.open_ p i).ready (m.open_still p i) (m.open_ p i).asked;
-      hidden = λ p i.
-          hidden_stays (changes_begun schemas s source).rows s (moved s hs ms ts cs es lines) p.path p.request (m.open_still p i) (m.open_ p i).hidden;
-      calls = m.calls.calls;
-      at_path = m.calls.at_path;
-    }
+  module _ (hs ms : List Held) (ts : List Pending) (cs : List Call) (es : List Entry) (lines : List (List ℕ)) where
+    abbrev t : StackState
+    t = moved s hs ms ts cs es lines
+
+    abbrev pub Moves : Type 0
+    Moves = ((q : List ℕ) → LeftAt s t q) × (Rest (ms ++ hs) → IsAdvancing schemas t source)
+
+    pub goes_on : IsMoved schemas s t source → Moves
+    goes_on m = (
+      m.left,
+      λ rest. record {
+        going = h.going;
+        no_flaw = h.no_flaw;
+        no_clash = h.no_clash;
+        rest = rest;
+        single_before = h.single_before;
+        held = m.held;
+        unchanged = m.unchanged;
+        single_made = m.single_made;
+        made = λ r i. said_stays r (m.made r i);
+        updated = λ path u. let (g, e, a) = m.updated path u in (g, e, said_stays g a);
+        ready = λ p i. ready_stays s t source further p.path (m.open_ p i).ready;
+        not_done = λ p i d. (m.open_ p i).not_done (not_done_stays s t source further p.path (m.open_ p i).ready (open_still p i (m.left p.path)) d);
+        asked = λ p i. asked_stays s t source further p.path p.request (m.open_ p i).ready (open_still p i (m.left p.path)) (m.open_ p i).asked;
+        hidden = λ p i. hidden_stays (changes_begun schemas s source).rows s t p.path p.request (open_still p i (m.left p.path)) (m.open_ p i).hidden;
+        calls = m.calls.calls;
+        at_path = m.calls.at_path;
+      },
+    ) where
+      further : IsFurther s t source
+      further = further_of t refl refl m.left
+
+      said_stays : (r : Held) → IsAsSaid s r → IsAsSaid t r
+      said_stays r a =
+          record { sure = a.sure; said = ready_said s t source further r.path a.ready ∙ a.said; ready = ready_stays s t source further r.path a.ready }
+
+      open_still : (p : Pending) → In p ts → LeftAt s t p.path → IsStill s t p.path
+      open_still p i (unmoved k) = k
+      open_still p i (closed q j e none k) = absurd (none p i refl)
 
 -- What the ledger tells of updates as an open call is answered.
 
 -- a row is what it was but for its answer and doubts
-record Stays (c d : Call) : Type 0 where
-  number : d.number ≡ c.number
-  path : d.path ≡ c.path
-  request : d.request ≡ c.request
-  status : d.status ≡ c.status
+pub record Stays (c d : Call) : Type 0 where
+  pub token : d.token ≡ c.token
+  pub number : d.number ≡ c.number
+  pub path : d.path ≡ c.path
+  pub request : d.request ≡ c.request
+  pub status : d.status ≡ c.status
 
-answered_stays : (a : Reply) (c : Call) → Stays c (answered_call a c)
-answered_stays (reply.Success physical attrs) c = record { number = refl; path = refl; request = refl; status = refl }
-answered_stays a c = record { number = refl; path = refl; request = refl; status = refl }
+pub answered_stays : (a : Reply) (c : Call) → Stays c (answered_call a c)
+answered_stays (reply.Success physical attrs) c = record { token = refl; number = refl; path = refl; request = refl; status = refl }
+answered_stays a c = record { token = refl; number = refl; path = refl; request = refl; status = refl }
 
 success_by : (a : Reply) (c : Call) → c.answer ≡ None → succeeded (answered_call a c) ≡ is_success (settled_by a)
 success_by (reply.Success physical attrs) c e = refl
@@ -275,7 +232,7 @@ module _ (x : World) (s : StackState) (fits : Fits x s) (token : ℕ) (p : Pendi
   row_in = found_one (is_call p.token) s.ledger (fits.rows p i).0 (fits.rows p i).1
 
   -- no other row is of the token
-  row_only : (c : Call) → In c s.ledger → is_call token c ≡ true → c ≡ (fits.rows p i).0
+  pub row_only : (c : Call) → In c s.ledger → is_call token c ≡ true → c ≡ (fits.rows p i).0
   row_only c j e =
       one_number (λ c. c.token) s.ledger fits.row_tokens c (fits.rows p i).0 j row_in.0
       (sym (eqb-true token c.token e) ∙ token_is ∙ eqb-true p.token (fits.rows p i).0.token row_in.1)
@@ -292,6 +249,10 @@ module _ (x : World) (s : StackState) (fits : Fits x s) (token : ℕ) (p : Pendi
       let k = in_filter (λ y. not (has_token token y)) s.tokens q j in
       (k.0, λ e. true≢false (sym (ap (has_token token) (fits.paths q p k.0 i e) ∙ named) ∙ not_so _ k.1))
 
+  pub was_open : (a : Reply) (q : Pending) → In q (still_open token a s.tokens) → In q s.tokens × ((q.path ≡ p.path → ⊥) ⊎ (a ≡ reply.Doubt))
+  was_open reply.Doubt q j = (j, inr refl)
+  was_open a q j = let k = elsewhere q j in (k.0, inl k.1)
+
   -- a call that went out as its stack went forward gives nothing back
   pub no_restore : AreAhead s s.ledger → is_restore token s ≡ false
   no_restore h =
@@ -301,10 +262,7 @@ module _ (x : World) (s : StackState) (fits : Fits x s) (token : ℕ) (p : Pendi
 
   module _ (a : Reply) where
     stays_so : (c : Call) → Stays c (with_answer token a c)
-    stays_so c = by (is_call token c) where
-      by : (b : Bool) → Stays c (cond b (answered_call a c) c)
-      by true = answered_stays a c
-      by false = record { number = refl; path = refl; request = refl; status = refl }
+    stays_so c = either_way (Stays c) (is_call token c) (answered_call a c) c (answered_stays a c) (record { token = refl; number = refl; path = refl; request = refl; status = refl })
 
     pub rows_ahead : AreAhead s s.ledger → AreAhead s (where_call token (answered_call a) s.ledger)
     rows_ahead h = record {
@@ -316,23 +274,23 @@ module _ (x : World) (s : StackState) (fits : Fits x s) (token : ℕ) (p : Pendi
           (λ c l v. (stays_so c).path ∙ h.at_path c b l k (sym (ap (updates b.physical) (stays_so c).request) ∙ v)) d j u;
     }
 
+    -- what is so of a row as it is so of the row that is answered
+    pub rows_same : (test : Call → Bool) → ((c : Call) → In c s.ledger → is_call token c ≡ true → IsRowOf p c → test (answered_call a c) ≡ test c)
+        → list_any test (where_call token (answered_call a) s.ledger) ≡ list_any test s.ledger
+    rows_same test same =
+        any_mapped (with_answer token a) test s.ledger ∙ same_in (λ c. test (with_answer token a c)) test s.ledger (λ c j. by c j (is_call token c) refl) where
+          by : (c : Call) → In c s.ledger → (b : Bool) → is_call token c ≡ b → test (cond b (answered_call a c) c) ≡ test c
+          by c j false e = refl
+          by c j true e = same c j e (open_row c j e)
+
     -- a path is updated as before, but for that of the call where an update succeeds
-    pub updated_same :
-        (q : List ℕ) → (bytes_eq q p.path && (is_update p.request && is_success (settled_by a))) ≡ false
+    updated_same : (q : List ℕ) → (bytes_eq q p.path && (is_update p.request && is_success (settled_by a))) ≡ false
         → list_any (is_updated_at s.operation q) (where_call token (answered_call a) s.ledger) ≡ list_any (is_updated_at s.operation q) s.ledger
-    updated_same q none =
-        any_mapped (with_answer token a) (is_updated_at s.operation q) s.ledger
-        ∙ same_in (λ c. is_updated_at s.operation q (with_answer token a c)) (is_updated_at s.operation q) s.ledger (λ c j. by c j (is_call token c) refl)
-      where
-        by : (c : Call) → In c s.ledger → (b : Bool) → is_call token c ≡ b
-            → is_updated_at s.operation q (cond b (answered_call a c) c) ≡ is_updated_at s.operation q c
-        by c j false e = refl
-        by c j true e =
-            let r = open_row c j e in
-            let k = answered_stays a c in
-            and_no ((answered_call a c).number == s.operation) _
-            ((λ n. bytes_eq q ((k.path ∙ r.path) n) && (is_update ((k.request ∙ r.request) n) && success_by a c r.unanswered n)) ∙ none)
-            ∙ sym (and_no (c.number == s.operation) _ (and_no (bytes_eq q c.path) _ (and_no (is_update c.request) _ (fails_yet c j e))))
+    updated_same q none = rows_same (is_updated_at s.operation q) (λ c j e r.
+        let k = answered_stays a c in
+        and_no ((answered_call a c).number == s.operation) _
+        ((λ n. bytes_eq q ((k.path ∙ r.path) n) && (is_update ((k.request ∙ r.request) n) && success_by a c r.unanswered n)) ∙ none)
+        ∙ sym (and_no (c.number == s.operation) _ (and_no (bytes_eq q c.path) _ (and_no (is_update c.request) _ (fails_yet c j e)))))
 
     -- what was updated stays so
     pub updated_more : (id : List ℕ) → list_any (is_good_update id) (where_call token (answered_call a) s.ledger) ≡ false → was_updated id s ≡ false
@@ -366,18 +324,12 @@ one_held x s fits g h i j e =
     one_id (λ r. r.physical) (resources_of s) fits.ids g h (in_front g s.held s.made i) (in_front h s.held s.made j) e
 
 -- what is found at a path is at it
-pub found_at : (path : List ℕ) (hs : List Held) (h : Held) → current_at path hs ≡ Some h → h.path ≡ path
-found_at path hs h e = by (bytes_eq path h.path) refl (found_one (is_current_at path) hs h e).1 where
-  by : (b : Bool) → bytes_eq path h.path ≡ b → (b && not h.superseded) ≡ true → h.path ≡ path
-  by true q t = sym ((bytes_eq-Decides path h.path).0 q)
-  by false q t = absurd (true≢false (sym t))
+found_at : (path : List ℕ) (hs : List Held) (h : Held) → current_at path hs ≡ Some h → h.path ≡ path
+found_at path hs h e = sym (bytes_same path h.path (first_so (bytes_eq path h.path) _ (found_one (is_current_at path) hs h e).1))
 
 -- at a path that is not done nothing is made
 not_made : (path : List ℕ) (s : StackState) → (IsDone s path → ⊥) → current_at path s.made ≡ None
-not_made path s n = by (current_at path s.made) refl where
-  by : (o : Option Held) → current_at path s.made ≡ o → o ≡ None
-  by None e = refl
-  by (Some r) e = absurd (n (is_made r e))
+not_made path s n = none_if (current_at path s.made) (λ r e. n (is_made r e))
 
 -- two paths are told apart
 pub apart : (q path : List ℕ) → (q ≡ path → ⊥) → bytes_eq q path ≡ false
@@ -392,41 +344,32 @@ same_changed test change keeps _ _ (things.more {b} {h} {bs} {hs} one rest) = by
   by false ih = things.more one ih
 
 module _ (schemas : List Schema) (x : World) (s : StackState) (source : Source) (h : IsAdvancing schemas s source) (fits : Fits x s) where
-  -- what is hidden by the change set, and what is still seen
-  abbrev pub Shows : List Held → Type 0
-  Shows rs = KeepsRest (hides_id (changes_begun schemas s source).rows) (hides_attrs (changes_begun schemas s source).rows) (seen_in s.before) (seen_in rs)
+  abbrev ahead : AreAhead s s.ledger
+  ahead = record { calls = h.calls; at_path = h.at_path }
 
   -- other open calls and other rows, where no path is updated that was not
   module _ (ts : List Pending) (cs : List Call) (es : List Entry) (lines : List (List ℕ)) where
-    pub still_goes :
+    still_goes :
         ((p : Pending) → In p ts → IsOpenAhead schemas s source p) → ((q : List ℕ) → was_updated_at q (moved s s.held s.made ts cs es lines) ≡ was_updated_at q s)
         → ((id : List ℕ) → was_updated id (moved s s.held s.made ts cs es lines) ≡ false → was_updated id s ≡ false) → AreAhead s cs
-        → Shows (s.made ++ s.held) → IsAdvancing schemas (moved s s.held s.made ts cs es lines) source
-    still_goes open_ same more rows shows = goes_on schemas s source h s.held s.made ts cs es lines (record {
-      done = λ q d. record { made = refl; held = refl; updated = same q };
+        → Moves schemas s source h s.held s.made ts cs es lines
+    still_goes open_ same more rows = goes_on schemas s source h s.held s.made ts cs es lines (record {
+      left = λ q. unmoved (record { made = refl; held = refl; updated = same q });
       open_ = open_;
-      open_still = λ p i. record { made = refl; held = refl; updated = same p.path };
       held = h.held;
       unchanged = λ b g i j e n. h.unchanged b g i j e (more b.physical n);
       single_made = h.single_made;
       made = h.made;
       updated = λ q u. h.updated q (sym (same q) ∙ u);
       calls = rows;
-    }) shows
+    })
 
   module _ (token : ℕ) (p : Pending) (i : In p s.tokens) (named : has_token token p ≡ true) (es : List Entry) (lines : List (List ℕ)) where
     abbrev rows : Reply → List Call
     rows a = where_call token (answered_call a) s.ledger
 
-    pub ahead : AreAhead s s.ledger
-    ahead = record { calls = h.calls; at_path = h.at_path }
-
     abbrev others : List Pending
     others = without_token token s.tokens
-
-    still_open_of : (a : Reply) (q : Pending) → In q (still_open token a s.tokens) → In q s.tokens
-    still_open_of reply.Doubt q j = j
-    still_open_of a q j = (elsewhere x s fits token p i named q j).0
 
     -- a path is updated as before, but for that of the call where an update succeeds
     same : (a : Reply) (hs ms : List Held) (ts : List Pending) (q : List ℕ) → (bytes_eq q p.path && (is_update p.request && is_success (settled_by a))) ≡ false
@@ -434,41 +377,44 @@ module _ (schemas : List Schema) (x : World) (s : StackState) (source : Source) 
     same a hs ms ts q none =
         updated_all q (moved s hs ms ts (rows a) es lines) ∙ updated_same x s fits token p i named a q none ∙ sym (updated_all q s)
 
+    -- each path is as it was, but for that of the call
+    left_but : (t : StackState) → t.tokens ≡ others → HeldLeft s t p p.path → ((q : List ℕ) → bytes_eq q p.path ≡ false → IsStill s t q) → (q : List ℕ) → LeftAt s t q
+    left_but t tokens held as_it_was q = elim (cases_Bool (bytes_eq q p.path)) [
+      | inl e ↦
+          let at = bytes_same q p.path e in
+          closed p i (sym at) (λ k j f. (elsewhere x s fits token p i named k (subst (In k) tokens j)).1 (f ∙ at)) (subst (HeldLeft s t p) (sym at) held)
+      | inr e ↦ unmoved (as_it_was q e)
+    ]
+
     -- an answer that neither makes nor updates
-    pub quiet : (a : Reply) → (is_update p.request && is_success (settled_by a)) ≡ false → Shows (s.made ++ s.held)
-        → IsAdvancing schemas (moved s s.held s.made (still_open token a s.tokens) (rows a) es lines) source
+    quiet : (a : Reply) → (is_update p.request && is_success (settled_by a)) ≡ false
+        → Moves schemas s source h s.held s.made (still_open token a s.tokens) (rows a) es lines
     quiet a none =
-        still_goes (still_open token a s.tokens) (rows a) es lines (λ q j. open_of schemas s source h q (still_open_of a q j))
+        still_goes (still_open token a s.tokens) (rows a) es lines (λ q j. open_of schemas s source h q (was_open x s fits token p i named a q j).0)
         (λ q. same a s.held s.made (still_open token a s.tokens) q (and_no (bytes_eq q p.path) _ none)) (updated_more x s fits token p i named a)
         (rows_ahead x s fits token p i named a ahead)
 
     -- a create succeeds
-    pub makes : (physical : List ℕ) (attrs : List (List ℕ × Data)) (m : Held) → m.path ≡ p.path → m.superseded ≡ false
-        → IsAsSaid s m → is_update p.request ≡ false → Shows ((s.made ++ m ∷ []) ++ s.held)
-        → IsAdvancing schemas (moved s s.held (s.made ++ m ∷ []) others (rows (reply.Success physical attrs)) es lines) source
+    makes : (physical : List ℕ) (attrs : List (List ℕ × Data)) (m : Held) → m.path ≡ p.path → m.superseded ≡ false
+        → IsAsSaid s m → is_update p.request ≡ false → Moves schemas s source h s.held (s.made ++ m ∷ []) others (rows (reply.Success physical attrs)) es lines
     makes physical attrs m at current said none =
         let a : Reply = reply.Success physical attrs in
+        let ms : List Held = s.made ++ m ∷ [] in
         let passes : (q : List ℕ) → is_current_at q m ≡ bytes_eq q p.path = λ q. (λ n. bytes_eq q (at n) && not (current n)) ∙ with_true (bytes_eq q p.path) in
-        let as_before : (q : List ℕ) → (q ≡ p.path → ⊥) → IsStill s (moved s s.held (s.made ++ m ∷ []) others (rows a) es lines) q =
-        λ q n. record {
-          made = found_no_more (is_current_at q) s.made m (passes q ∙ apart q p.path n);
-          held = refl;
-          updated = same a s.held (s.made ++ m ∷ []) others q (and_no (bytes_eq q p.path) _ (no_and (is_update p.request) _ none));
-        } in
-        goes_on schemas s source h s.held (s.made ++ m ∷ []) others (rows a) es lines (record {
-          done = λ q d. as_before q (λ e. h.not_done p i (subst (IsDone s) e d));
+        let updated : (q : List ℕ) → was_updated_at q (moved s s.held ms others (rows a) es lines) ≡ was_updated_at q s =
+        λ q. same a s.held ms others q (and_no (bytes_eq q p.path) _ (no_and (is_update p.request) _ none)) in
+        goes_on schemas s source h s.held ms others (rows a) es lines (record {
+          left = left_but (moved s s.held ms others (rows a) es lines) refl (by_create none refl)
+              (λ q n. record { made = found_no_more (is_current_at q) s.made m (passes q ∙ n); held = refl; updated = updated q });
           open_ = λ q j. open_of schemas s source h q (elsewhere x s fits token p i named q j).0;
-          open_still = λ q j. as_before q.path (elsewhere x s fits token p i named q j).1;
           held = h.held;
           unchanged = λ b g j l e n. h.unchanged b g j l e (updated_more x s fits token p i named a b.physical n);
           single_made =
-              in_more (λ r. current_at r.path (s.made ++ m ∷ []) ≡ Some r) m s.made
-              (λ r j. found_still (is_current_at r.path) s.made (m ∷ []) r (h.single_made r j))
+              in_more (λ r. current_at r.path ms ≡ Some r) m s.made (λ r j. found_still (is_current_at r.path) s.made (m ∷ []) r (h.single_made r j))
               (found_in_more (is_current_at m.path) s.made m (passes m.path ∙ (bytes_eq-Decides m.path p.path).1 at)
               (not_made m.path s (λ d. h.not_done p i (subst (IsDone s) at d))));
           made = in_more (IsAsSaid s) m s.made h.made said;
-          updated = λ q u.
-              h.updated q (sym (same a s.held (s.made ++ m ∷ []) others q (and_no (bytes_eq q p.path) _ (no_and (is_update p.request) _ none))) ∙ u);
+          updated = λ q u. h.updated q (sym (updated q) ∙ u);
           calls = rows_ahead x s fits token p i named a ahead;
         })
       where
@@ -485,25 +431,25 @@ module _ (schemas : List Schema) (x : World) (s : StackState) (source : Source) 
       abbrev updated_to : StackState
       updated_to = moved s changed s.made others (rows (reply.Success physical attrs)) es lines
 
-      pub is_held : has_physical id g ≡ true
+      is_held : has_physical id g ≡ true
       is_held = (bytes_eq-Decides id g.physical).1 (sym named_so)
 
-      pub in_held : In g s.held
+      in_held : In g s.held
       in_held = (found_one (is_current_at p.path) s.held g at).0
 
       only : (r : Held) → In r s.held → has_physical id r ≡ true → r ≡ g
-      only r j e = one_held x s fits r g j in_held (sym ((bytes_eq-Decides id r.physical).0 e) ∙ sym named_so)
+      only r j e = one_held x s fits r g j in_held (sym (bytes_same id r.physical e) ∙ sym named_so)
 
       now : current_at p.path changed ≡ Some (updating props attrs g)
       now = found_changed (has_physical id) (updating props attrs) (is_current_at p.path) (λ a. refl) g s.held is_held only at
 
-      as_it_was : (q : List ℕ) → (q ≡ p.path → ⊥) → IsStill s updated_to q
+      as_it_was : (q : List ℕ) → bytes_eq q p.path ≡ false → IsStill s updated_to q
       as_it_was q n = record {
         made = refl;
         held =
             found_else (has_physical id) (updating props attrs) (is_current_at q) (λ a. refl) s.held
-            (λ r j e. no_and (bytes_eq q r.path) _ (apart q r.path (λ f. n (f ∙ ap (λ o. o.path) (only r j e) ∙ found_at p.path s.held g at))));
-        updated = same (reply.Success physical attrs) changed s.made others q (no_and (bytes_eq q p.path) _ (apart q p.path n));
+            (λ r j e. no_and (bytes_eq q r.path) _ (ap (bytes_eq q) (ap (λ o. o.path) (only r j e) ∙ found_at p.path s.held g at) ∙ n));
+        updated = same (reply.Success physical attrs) changed s.made others q (no_and (bytes_eq q p.path) _ n);
       }
 
       is_said : IsAsSaid s (updating props attrs g)
@@ -513,26 +459,23 @@ module _ (schemas : List Schema) (x : World) (s : StackState) (source : Source) 
         ready = subst (IsReady s) (sym (found_at p.path s.held g at)) (h.ready p i);
       }
 
-      to_updated : (q : List ℕ) → IsTrue (was_updated_at q updated_to) → (b : Bool) → bytes_eq q p.path ≡ b
-          → (r : Held) × (current_at q changed ≡ Some r) × IsAsSaid s r
-      to_updated q u true e = (updating props attrs g, ap (λ o. current_at o changed) ((bytes_eq-Decides q p.path).0 e) ∙ now, is_said)
-      to_updated q u false e =
-          let k = as_it_was q (λ f. true≢false (sym ((bytes_eq-Decides q p.path).1 f) ∙ e)) in
-          let (r, f, a) = h.updated q (sym k.updated ∙ u) in (r, k.held ∙ f, a)
+      to_updated : (q : List ℕ) → IsTrue (was_updated_at q updated_to) → (r : Held) × (current_at q changed ≡ Some r) × IsAsSaid s r
+      to_updated q u = elim (cases_Bool (bytes_eq q p.path)) [
+        | inl e ↦ (updating props attrs g, ap (λ o. current_at o changed) (bytes_same q p.path e) ∙ now, is_said)
+        | inr e ↦ let k = as_it_was q e in let (r, f, a) = h.updated q (sym k.updated ∙ u) in (r, k.held ∙ f, a)
+      ]
 
       -- the resource counts as updated
       counts : (b r : Held) → r.physical ≡ b.physical → ((o : Held) × (has_physical id o ≡ true) × (r ≡ updating props attrs o)) → was_updated b.physical updated_to ≡ false → ⊥
       counts b r e (o, t, q) n =
-          let is_id : b.physical ≡ id = sym e ∙ ap (λ v. v.physical) q ∙ sym ((bytes_eq-Decides id o.physical).0 t) in
-          let self : bytes_eq id id ≡ true = (bytes_eq-Decides id id).1 refl in
-          true≢false (sym (updated_now x s fits token p i named id physical attrs ahead (ap (updates id) of_call ∙ self))
+          let is_id : b.physical ≡ id = sym e ∙ ap (λ v. v.physical) q ∙ sym (bytes_same id o.physical t) in
+          true≢false (sym (updated_now x s fits token p i named id physical attrs ahead (ap (updates id) of_call ∙ same_bytes id))
           ∙ ap (λ v. was_updated v updated_to) (sym is_id) ∙ n)
 
-      pub updates_so : Shows (s.made ++ changed) → IsAdvancing schemas updated_to source
+      updates_so : Moves schemas s source h changed s.made others (rows (reply.Success physical attrs)) es lines
       updates_so = goes_on schemas s source h changed s.made others (rows (reply.Success physical attrs)) es lines (record {
-        done = λ q d. as_it_was q (λ e. h.not_done p i (subst (IsDone s) e d));
+        left = left_but updated_to refl (by_update g (updating props attrs g) (ap is_update of_call) refl at now refl) as_it_was;
         open_ = λ q j. open_of schemas s source h q (elsewhere x s fits token p i named q j).0;
-        open_still = λ q j. as_it_was q.path (elsewhere x s fits token p i named q j).1;
         held =
             same_changed (has_physical id) (updating props attrs)
             (λ b r k. record { path = k.path; physical = k.physical; kind = k.kind; needs = k.needs; deletion = k.deletion; replace = k.replace; superseded = k.superseded })
@@ -543,23 +486,27 @@ module _ (schemas : List Schema) (x : World) (s : StackState) (source : Source) 
         ];
         single_made = h.single_made;
         made = h.made;
-        updated = λ q u. to_updated q u (bytes_eq q p.path) refl;
+        updated = to_updated;
         calls = rows_ahead x s fits token p i named (reply.Success physical attrs) ahead;
       })
 
 -- The forward phase goes on behind each entry that is written: an answer, a call that goes out, an opening, and what is of another stack.
 
-module _ (schemas : List Schema) (x : World) (s : StackState) (source : Source) (h : IsAdvancing schemas s source) (fits : Fits x s) (place : ℕ) where
-  -- what the change set did not hide is still seen in a stack
-  abbrev Rest : StackState → Type 0
-  Rest t = KeepsRest (hides_id (changes_begun schemas t source).rows) (hides_attrs (changes_begun schemas t source).rows) (seen_in t.before) (seen_now t)
+-- The entry leaves the operation, and each path that is done; and its phase goes on where calls are hidden and the rest is seen.
+pub record Goes (schemas : List Schema) (x : World) (out name : List ℕ) (s : StackState) (source : Source) (t : StackState) : Type 0 where
+  pub going : t.going ≡ s.going
+  pub before : t.before ≡ s.before
+  pub left : (q : List ℕ) → LeftAt s t q
+  pub goes : ((token : ℕ) (lane path : List ℕ) (r : Request) → MayIntend schemas name x out s Forward token lane path r
+      → IsHidden (changes_begun schemas s source).rows s path r) → RestIsSeen schemas t source → GoesOn schemas s t source
 
-  -- the phase goes on where what is seen is
-  abbrev Goes : StackState → Type 0
-  Goes t = Rest t → GoesOn schemas s t source
+module _ (schemas : List Schema) (x : World) (out name : List ℕ) (s : StackState) (source : Source) (h : IsAdvancing schemas s source) (fits : Fits x s) (place : ℕ) where
+  abbrev On : StackState → Type 0
+  On t = Goes schemas x out name s source t
 
-  on : {t : StackState} → t.status ≡ s.status → t.before ≡ s.before → (Rest t → IsAdvancing schemas t source) → Goes t
-  on same before goes rest = record { status = same; before = before; advancing = goes rest }
+  abbrev on : {t : StackState} → t.status ≡ s.status → t.before ≡ s.before → t.going ≡ s.going → ((q : List ℕ) → LeftAt s t q)
+      → (RestIsSeen schemas t source → IsAdvancing schemas t source) → On t
+  on same before going left goes = record { going = going; before = before; left = left; goes = λ hidden rest. record { status = same; before = before; advancing = goes rest } }
 
   -- an answer to an open call
   module _ (number token before after : ℕ) (p : Pending) (i : In p s.tokens) (named : has_token token p ≡ true) where
@@ -568,21 +515,22 @@ module _ (schemas : List Schema) (x : World) (s : StackState) (source : Source) 
 
     by_held : (id : List ℕ) (props : List (List ℕ × Data)) (physical : List ℕ) (attrs : List (List ℕ × Data)) → p.request ≡ request.Update id props
         → IsAsked s p.path (request.Update id props) → (b : Bool) → list_any (has_physical id) s.held ≡ b
-        → Goes (heard_by (reply.Success physical attrs) (cond b (record s { held = where_physical id (updating props attrs) s.held })
+        → On (heard_by (reply.Success physical attrs) (cond b (record s { held = where_physical id (updating props attrs) s.held })
         (record s { made = where_physical id (updating props attrs) s.made })))
     by_held id props physical attrs of_call (g, at, named_so, said) true e =
-        on refl refl (updates_so schemas x s source h fits token p i named _ _ id props physical attrs of_call g at named_so said)
+        let m = updates_so schemas x s source h fits token p i named _ _ id props physical attrs of_call g at named_so said in on refl refl refl m.0 m.1
     by_held id props physical attrs of_call (g, at, named_so, said) false e =
         absurd (true≢false (sym (any_of (has_physical id) s.held g (found_one (is_current_at p.path) s.held g at).0 ((bytes_eq-Decides id g.physical).1 (sym named_so))) ∙ e))
 
-    changes_nothing : (a : Reply) → (is_update p.request && is_success (settled_by a)) ≡ false → Goes (heard_by a s)
-    changes_nothing a none = on refl refl (quiet schemas x s source h fits token p i named _ _ a none)
+    changes_nothing : (a : Reply) → (is_update p.request && is_success (settled_by a)) ≡ false → On (heard_by a s)
+    changes_nothing a none = let m = quiet schemas x s source h fits token p i named _ _ a none in on refl refl refl m.0 m.1
 
-    by_request : (r : Request) (restores : Bool) (a : Reply) → p.request ≡ r → restores ≡ false → IsAsked s p.path r → Goes (heard_by a (answered restores p.path r a s))
+    by_request : (r : Request) (restores : Bool) (a : Reply) → p.request ≡ r → restores ≡ false → IsAsked s p.path r → On (heard_by a (answered restores p.path r a s))
     by_request (request.Create k props) restores (reply.Success physical attrs) e none asked =
-        on refl refl (makes schemas x s source h fits token p i named _ _ physical attrs
+        let m = makes schemas x s source h fits token p i named _ _ physical attrs
         (made_of (terms_at p.path s) (status_made (current_at p.path s.held)) p.path k props physical attrs) refl refl
-        (record { sure = refl; said = asked; ready = h.ready p i }) (ap is_update e))
+        (record { sure = refl; said = asked; ready = h.ready p i }) (ap is_update e) in
+        on refl refl refl m.0 m.1
     by_request (request.Update id props) restores (reply.Success physical attrs) e none asked = by_held id props physical attrs e asked (list_any (has_physical id) s.held) refl
     by_request (request.Update id props) true (reply.Failed c) e none asked = absurd (true≢false none)
     by_request (request.Delete id) restores a e none asked = absurd asked
@@ -590,27 +538,25 @@ module _ (schemas : List Schema) (x : World) (s : StackState) (source : Source) 
 
   -- an answer, be its call open or not
   by_pending : (number token before after : ℕ) (a : Reply) (o : Option Pending) → pending_of token s ≡ o
-      → Goes (heard place (entry.Outcome number token a before after) s (on_stack (replied token a o s))).stack
+      → On (heard place (entry.Outcome number token a before after) s (on_stack (replied token a o s))).stack
   by_pending number token before after a None e =
-      on refl refl (still_goes schemas x s source h fits s.tokens s.ledger _ _ (λ q j. open_of schemas s source h q j) (λ q. refl) (λ id n. n)
-      (record { calls = h.calls; at_path = h.at_path }))
+      let m = still_goes schemas x s source h fits s.tokens s.ledger _ _ (λ q j. open_of schemas s source h q j) (λ q. refl) (λ id n. n) (ahead schemas x s source h fits) in
+      on refl refl refl m.0 m.1
   by_pending number token before after a (Some p) e =
       let found = found_one (has_token token) s.tokens p e in
       by_request number token before after p found.0 found.1 p.request (is_restore token s) a refl
-      (no_restore x s fits token p found.0 found.1 (record { calls = h.calls; at_path = h.at_path })) (h.asked p found.0)
-
-  pub outcome_goes : (number token before after : ℕ) (a : Reply) → Goes (effect_at place (entry.Outcome number token a before after) s).stack
-  outcome_goes number token before after a = by_pending number token before after a (pending_of token s) refl
+      (no_restore x s fits token p found.0 found.1 (ahead schemas x s source h fits)) (h.asked p found.0)
 
   -- an opening
-  pub opening_goes : (epoch : ℕ) (lanes : List (List ℕ × List ℕ)) → Goes (effect_at place (entry.Opened epoch lanes) s).stack
+  opening_goes : (epoch : ℕ) (lanes : List (List ℕ × List ℕ)) → On (effect_at place (entry.Opened epoch lanes) s).stack
   opening_goes epoch lanes =
-      on refl refl (still_goes schemas x s source h fits s.tokens (map anew s.ledger) _ _ (λ q j. open_of schemas s source h q j)
+      let m = still_goes schemas x s source h fits s.tokens (map anew s.ledger) _ _ (λ q j. open_of schemas s source h q j)
       (λ q. any_filtered _ _ (map anew s.ledger) ∙ any_mapped anew _ s.ledger ∙ sym (any_filtered _ _ s.ledger)) (λ id n. sym (any_mapped anew _ s.ledger) ∙ n)
       (record {
         calls = each_map (λ d. (d.number ≡ s.operation) × IsTrue (goes_forward d.status)) anew s.ledger h.calls;
         at_path = λ d b j k u. each_map (λ c. IsTrue (updates b.physical c.request) → c.path ≡ b.path) anew s.ledger (λ c l v. h.at_path c b l k v) d j u;
-      }))
+      }) in
+      on refl refl refl m.0 m.1
 
   -- a call that goes out
   asked_by : (path : List ℕ) (r : Request) → IntendsForward schemas s path r → IsAsked s path r
@@ -622,42 +568,53 @@ module _ (schemas : List Schema) (x : World) (s : StackState) (source : Source) 
   at_its_path path (request.Create k props) f b i u = absurd (true≢false (sym u))
   at_its_path path (request.Update id props) (g, at, same, said, wants, first) b i u =
       let (k, j, thing) = is_of h.held i in
-      let is_it : k ≡ g = one_held x s fits k g j (found_one (is_current_at path) s.held g at).0 (thing.physical ∙ (bytes_eq-Decides b.physical id).0 u ∙ same) in
+      let is_it : k ≡ g = one_held x s fits k g j (found_one (is_current_at path) s.held g at).0 (thing.physical ∙ bytes_same b.physical id u ∙ same) in
       sym (found_at path s.held g at) ∙ sym (ap (λ r. r.path) is_it) ∙ thing.path
   at_its_path path (request.Delete id) f b i u = absurd f
 
-  module _ (name : List ℕ) (out : List ℕ) (number token : ℕ) (lane path : List ℕ) (r : Request) (own : number ≡ s.operation) (forward : goes_forward s.status ≡ true)
-      (may : MayIntend schemas name x out s Forward token lane path r) (hidden : IsHidden (changes_begun schemas s source).rows s path r) where
+  module _ (number token : ℕ) (lane path : List ℕ) (r : Request) (own : number ≡ s.operation) (forward : goes_forward s.status ≡ true)
+      (may : MayIntend schemas name x out s Forward token lane path r) where
     abbrev call_out : Pending
     call_out = record { token = token; path = path; lane = lane; request = r }
 
     abbrev row_out : Call
     row_out = new_call number s.status (record { token = token; path = path; lane = lane; request = r })
 
-    by_open : (b : Bool)
-        → Goes (heard place (entry.Intent number token lane path r) s (on_stack (cond b s (record s { tokens = s.tokens ++ call_out ∷ []; ledger = s.ledger ++ row_out ∷ [] })))).stack
-    by_open true =
-        on refl refl (still_goes schemas x s source h fits s.tokens s.ledger _ _ (λ q j. open_of schemas s source h q j) (λ q. refl) (λ id n. n)
-        (record { calls = h.calls; at_path = h.at_path }))
-    by_open false =
-        on refl refl (still_goes schemas x s source h fits (s.tokens ++ call_out ∷ []) (s.ledger ++ row_out ∷ []) _ _
-        (in_more (IsOpenAhead schemas s source) call_out s.tokens (open_of schemas s source h)
-        (record { ready = may.chosen.1; not_done = may.chosen.2; asked = asked_by path r may.chosen.3; hidden = hidden }))
-        (λ q. any_filtered _ _ (s.ledger ++ row_out ∷ [])
-        ∙ any_no_more _ s.ledger row_out (and_no (number == s.operation) _ (and_no (bytes_eq q path) _ (and_no (is_update r) _ refl))) ∙ sym (any_filtered _ _ s.ledger))
-        (λ id n. sym (any_no_more _ s.ledger row_out (and_no (goes_forward s.status) _ (and_no (updates id r) _ refl))) ∙ n)
-        (record {
-          calls = in_more (λ c. (c.number ≡ s.operation) × IsTrue (goes_forward c.status)) row_out s.ledger h.calls (own, forward);
-          at_path = λ c b i j u.
-              in_more (λ d. IsTrue (updates b.physical d.request) → d.path ≡ b.path) row_out s.ledger (λ d k v. h.at_path d b k j v)
-              (at_its_path path r may.chosen.3 b j) c i u;
-        }))
+    -- no path is updated by it
+    not_updated : (q : List ℕ) → list_any (λ c. bytes_eq q c.path && (is_update c.request && succeeded c)) (filter (λ c. c.number == s.operation) (s.ledger ++ row_out ∷ []))
+        ≡ was_updated_at q s
+    not_updated q =
+        any_filtered _ _ (s.ledger ++ row_out ∷ [])
+        ∙ any_no_more _ s.ledger row_out (and_no (number == s.operation) _ (and_no (bytes_eq q path) _ (and_no (is_update r) _ refl))) ∙ sym (any_filtered _ _ s.ledger)
 
-    pub intent_goes : Goes (effect_at place (entry.Intent number token lane path r) s).stack
-    intent_goes = by_open (list_any (has_token token) s.tokens)
+    by_open : (b : Bool)
+        → On (heard place (entry.Intent number token lane path r) s (on_stack (cond b s (record s { tokens = s.tokens ++ call_out ∷ []; ledger = s.ledger ++ row_out ∷ [] })))).stack
+    by_open true =
+        let m = still_goes schemas x s source h fits s.tokens s.ledger _ _ (λ q j. open_of schemas s source h q j) (λ q. refl) (λ id n. n) (ahead schemas x s source h fits) in
+        on refl refl refl m.0 m.1
+    by_open false = record {
+      going = refl;
+      before = refl;
+      left = λ q. unmoved (record { made = refl; held = refl; updated = not_updated q });
+      goes = λ hidden rest. record {
+        status = refl;
+        before = refl;
+        advancing = (still_goes schemas x s source h fits (s.tokens ++ call_out ∷ []) (s.ledger ++ row_out ∷ []) _ _
+            (in_more (IsOpenAhead schemas s source) call_out s.tokens (open_of schemas s source h)
+            (record { ready = may.chosen.1; not_done = may.chosen.2; asked = asked_by path r may.chosen.3; hidden = hidden token lane path r may }))
+            not_updated
+            (λ id n. sym (any_no_more _ s.ledger row_out (and_no (goes_forward s.status) _ (and_no (updates id r) _ refl))) ∙ n)
+            (record {
+              calls = in_more (λ c. (c.number ≡ s.operation) × IsTrue (goes_forward c.status)) row_out s.ledger h.calls (own, forward);
+              at_path = λ c b i j u.
+                  in_more (λ d. IsTrue (updates b.physical d.request) → d.path ≡ b.path) row_out s.ledger (λ d k v. h.at_path d b k j v)
+                  (at_its_path path r may.chosen.3 b j) c i u;
+            })).1 rest;
+      };
+    }
 
 -- nothing is kept in the forward phase
-keeps_nothing : (out : List ℕ) (s : StackState) (path physical : List ℕ) (w : Why) → MayKeep Forward out s path physical w → ⊥
+pub keeps_nothing : (out : List ℕ) (s : StackState) (path physical : List ℕ) (w : Why) → MayKeep Forward out s path physical w → ⊥
 keeps_nothing out s path physical why.Retained m = elim m [ inl k ↦ k.1 | inr k ↦ let e : Forward ≡ Gone = k.0 in cc ]
 keeps_nothing out s path physical why.Failed m = elim m.0.1 [ ]
 keeps_nothing out s path physical why.Doubt m = elim m.0.1 [ ]
@@ -666,17 +623,22 @@ pub none_begins : (k : Begun) (z : Status) → goes_forward z ≡ true → begin
 none_begins (begin.Create source) = only_forward _ (λ e. true≢false (sym e)) (λ e. true≢false (sym e))
 none_begins k = only_forward _ (λ e. true≢false (sym e)) (λ e. true≢false (sym e))
 
--- a later phase leaves another status, and so does an end
-none_turns : (p : Phase) (z : Status) → goes_forward z ≡ true → goes_forward (turned z p) ≡ true → ⊥
-none_turns phase.Clean = only_forward _ (λ e. true≢false (sym e)) (λ e. true≢false (sym e))
-none_turns p = only_forward _ (λ e. true≢false (sym e)) (λ e. true≢false (sym e))
+-- a later phase, and an end, leave another status, whatever the operation was in
+turned_back : (z : Status) (p : Phase) → goes_forward (turned z p) ≡ false
+turned_back z phase.Clean = refl
+turned_back status.CreateInProgress p = refl
+turned_back z p = refl
 
-none_ends : (schemas : List Schema) (name : List ℕ) (x : World) (s : StackState) (z state : Status) → goes_forward z ≡ true → EndsAs schemas name x s z state
-    → goes_forward state ≡ true → ⊥
-none_ends schemas name x s z state f ends g =
-    only_forward (λ v. EndsAs schemas name x s z v → ⊥)
-    (only_forward (λ w. EndsAs schemas name x s w status.CreateInProgress → ⊥) (λ e. e) (λ e. e) z f)
-    (only_forward (λ w. EndsAs schemas name x s w status.UpdateInProgress → ⊥) (λ e. e) (λ e. e) z f) state g ends
+ends_rest : (schemas : List Schema) (name : List ℕ) (x : World) (s : StackState) (z state : Status) → EndsAs schemas name x s z state → goes_forward state ≡ false
+ends_rest schemas name x s status.CreateInProgress status.CreateComplete e = refl
+ends_rest schemas name x s status.RollbackInProgress status.RollbackComplete e = refl
+ends_rest schemas name x s status.RollbackInProgress status.RollbackFailed e = refl
+ends_rest schemas name x s status.DeleteInProgress status.DeleteComplete e = refl
+ends_rest schemas name x s status.DeleteInProgress status.DeleteFailed e = refl
+ends_rest schemas name x s status.UpdateCompleteCleanupInProgress status.UpdateComplete e = refl
+ends_rest schemas name x s status.UpdateRollbackCompleteCleanupInProgress status.UpdateRollbackComplete e = refl
+ends_rest schemas name x s status.UpdateRollbackInProgress status.UpdateRollbackFailed e = refl
+ends_rest schemas name x s z state e = absurd e
 
 -- what is written as the phase goes on: a call that may go out, an answer, an opening, or what is of another stack
 pub data IsAhead (schemas : List Schema) (x : World) (out name : List ℕ) (s : StackState) : Entry → StackState → Type 0 where
@@ -684,7 +646,7 @@ pub data IsAhead (schemas : List Schema) (x : World) (out name : List ℕ) (s : 
       (number token : ℕ) (lane path : List ℕ) (r : Request) → number ≡ s.operation → MayIntend schemas name x out s Forward token lane path r
       → IsAhead schemas x out name s (entry.Intent number token lane path r) (effect_at (x.place + 1) (entry.Intent number token lane path r) s).stack
   hears :
-      (number token before after : ℕ) (a : Reply)
+      (number token before after : ℕ) (a : Reply) → is_some (pending_of token s) ≡ true
       → IsAhead schemas x out name s (entry.Outcome number token a before after) (effect_at (x.place + 1) (entry.Outcome number token a before after) s).stack
   opens : (epoch : ℕ) (lanes : List (List ℕ × List ℕ)) → IsAhead schemas x out name s (entry.Opened epoch lanes) (effect_at (x.place + 1) (entry.Opened epoch lanes) s).stack
   is_other : {e : Entry} → IsAhead schemas x out name s e s
@@ -694,11 +656,11 @@ module _ (schemas : List Schema) (x : World) (out name : List ℕ) (s : StackSta
       → IsAhead schemas x out name s e (effect_at (x.place + 1) e s).stack
   stepped (entry.Kept number path physical w) own may on = absurd (keeps_nothing out s path physical w may)
   stepped (entry.Intent number token lane path r) own may on = asks number token lane path r own may
-  stepped (entry.Outcome number token a before after) own may on = hears number token before after a
+  stepped (entry.Outcome number token a before after) own may on = hears number token before after a may.1
   stepped (entry.Phase number p c) own may on =
-      absurd (none_turns p s.status forward (sym (ap goes_forward (turned_status (x.place + 1) number p s c)) ∙ on))
+      absurd (true≢false (sym on ∙ ap goes_forward (turned_status (x.place + 1) number p s c) ∙ turned_back s.status p))
   stepped (entry.Done number state failed) own may on =
-      absurd (none_ends schemas name x s s.status state forward may.2 (sym (ap goes_forward (ended_status (x.place + 1) number state failed s)) ∙ on))
+      absurd (true≢false (sym on ∙ ap goes_forward (ended_status (x.place + 1) number state failed s) ∙ ends_rest schemas name x s s.status state may.2))
   stepped e own may on = absurd own
 
   pub is_ahead : {e : Entry} {t : StackState} → IsTo schemas x out name s e t → goes_forward t.status ≡ true → IsAhead schemas x out name s e t
@@ -712,19 +674,45 @@ module _ (schemas : List Schema) (x : World) (out name : List ℕ) (s : StackSta
   is_ahead to.other on = is_other
 
 module _ (schemas : List Schema) (x : World) (out name : List ℕ) (s : StackState) (source : Source) (h : IsAdvancing schemas s source) (fits : Fits x s)
-    (forward : goes_forward s.status ≡ true)
-    (hidden : (token : ℕ) (lane path : List ℕ) (r : Request) → MayIntend schemas name x out s Forward token lane path r
-    → IsHidden (changes_begun schemas s source).rows s path r) where
-  goes_by : {e : Entry} {t : StackState} → IsAhead schemas x out name s e t → Goes schemas x s source h fits (x.place + 1) t
+    (forward : goes_forward s.status ≡ true) where
+  pub goes_by : {e : Entry} {t : StackState} → IsAhead schemas x out name s e t → Goes schemas x out name s source t
   goes_by (asks number token lane path r own may) =
-      intent_goes schemas x s source h fits (x.place + 1) name out number token lane path r own forward may (hidden token lane path r may)
-  goes_by (hears number token before after a) = outcome_goes schemas x s source h fits (x.place + 1) number token before after a
-  goes_by (opens epoch lanes) = opening_goes schemas x s source h fits (x.place + 1) epoch lanes
-  goes_by is_other = on schemas x s source h fits (x.place + 1) refl refl (λ rest. h)
+      by_open schemas x out name s source h fits (x.place + 1) number token lane path r own forward may (list_any (has_token token) s.tokens)
+  goes_by (hears number token before after a open_) = by_pending schemas x out name s source h fits (x.place + 1) number token before after a (pending_of token s) refl
+  goes_by (opens epoch lanes) = opening_goes schemas x out name s source h fits (x.place + 1) epoch lanes
+  goes_by is_other =
+      on schemas x out name s source h fits (x.place + 1) refl refl refl (λ q. unmoved (record { made = refl; held = refl; updated = refl })) (λ rest. h)
 
 pub advancing_goes_on : AdvancingGoesOn
 advancing_goes_on schemas x out e name s t source w forward on h hid =
-    goes_by schemas x out name s source h w.fits forward hid.calls (is_ahead schemas x out name s forward (written_is_to schemas x out e name s t w) on) hid.rest
+    (goes_by schemas x out name s source h w.fits forward (is_ahead schemas x out name s forward (written_is_to schemas x out e name s t w) on)).goes hid.calls hid.rest
+
+-- What makes a stack go forward is what begins a creation or an update of it.
+was_forward : (z : Status) → goes_forward (reviewed z) ≡ true → goes_forward z ≡ true
+was_forward status.DeleteComplete e = absurd (true≢false (sym e))
+was_forward z e = e
+
+abbrev pub begun_from : World → List ℕ → StackState → Begun → StackState
+begun_from x name s k = (effect_at (x.place + 1) (entry.Begin (x.operation + 1) name k) s).stack
+
+abbrev pub HasBegunBy : List Schema → World → List ℕ → StackState → StackState → Type 0
+HasBegunBy schemas x name s t = (k : Begun) × IsTrue (begins_from k s.status) × BeginsBy schemas name x (x.operation + 1) s k × (begun_from x name s k ≡ t)
+
+pub begins_ahead : {schemas : List Schema} {x : World} {out : List ℕ} {e : Entry} {name : List ℕ} {s t : StackState} → IsWritten schemas x out e name s t
+    → goes_forward s.status ≡ false → goes_forward t.status ≡ true → HasBegunBy schemas x name s t
+begins_ahead {schemas} {x} {out} {e} {name} {s} {t} w waits = by (written_moves w) where
+  by : {d : Entry} {u : StackState} → IsMove schemas x out name s d u → goes_forward u.status ≡ true → HasBegunBy schemas x name s u
+  by (move.stays same) on = absurd (true≢false (sym on ∙ ap goes_forward same ∙ waits))
+  by (move.turns number p why q may) on = absurd (true≢false (sym on ∙ ap goes_forward (turned_status (x.place + 1) number p s why) ∙ turned_back s.status p))
+  by (move.ends number state failed stage q at may) on =
+      absurd (true≢false (sym on ∙ ap goes_forward (ended_status (x.place + 1) number state failed s) ∙ ends_rest schemas name x s s.status state may.2))
+  by (move.begins k from b) on = (k, from, b, refl)
+  by (move.reviewed number from rows outputs may) on = absurd (true≢false (sym (was_forward s.status on) ∙ waits))
+  by move.other on = absurd (true≢false (sym on ∙ waits))
+
+-- where no call is open, no row is left as an operation begins
+pub none_kept_of : (s : StackState) → s.tokens ≡ [] → map anew (filter (is_open_call s.tokens) s.ledger) ≡ []
+none_kept_of s none = ap (λ ts. map anew (filter (is_open_call ts) s.ledger)) none ∙ ap (map anew) (none_kept s.ledger)
 
 -- The forward phase of a creation or an update begins where no call is open and each resource is the one of its path.
 
@@ -744,11 +732,8 @@ module _ (schemas : List Schema) (x : World) (s : StackState) (fits : Fits x s) 
     ledger = map anew (filter (is_open_call s.tokens) s.ledger);
   }
 
-  none : map anew (filter (is_open_call s.tokens) s.ledger) ≡ []
-  none = ap (λ ts. map anew (filter (is_open_call ts) s.ledger)) none_open ∙ ap (map anew) (none_kept s.ledger)
-
   no_call : {A : Type 0} (c : Call) → In c (map anew (filter (is_open_call s.tokens) s.ledger)) → A
-  no_call c i = elim (subst (In c) none i) [ ]
+  no_call c i = elim (subst (In c) (none_kept_of s none_open) i) [ ]
 
   no_open : {A : Type 0} (p : Pending) → In p s.tokens → A
   no_open p i = elim (subst (In p) none_open i) [ ]
@@ -768,7 +753,7 @@ module _ (schemas : List Schema) (x : World) (s : StackState) (fits : Fits x s) 
     single_made = λ r i. elim i [ ];
     made = λ r i. elim i [ ];
     updated = λ path u.
-        absurd (true≢false (sym u ∙ ap (λ cs. list_any (λ c. bytes_eq path c.path && (is_update c.request && succeeded c)) (filter (λ c. c.number == operation) cs)) none));
+        absurd (true≢false (sym u ∙ ap (λ cs. list_any (λ c. bytes_eq path c.path && (is_update c.request && succeeded c)) (filter (λ c. c.number == operation) cs)) (none_kept_of s none_open)));
     ready = λ p i. no_open p i;
     not_done = λ p i. no_open p i;
     asked = λ p i. no_open p i;
@@ -795,24 +780,15 @@ by_begun schemas x place number name (begin.Update source) s fits from by on fre
     (source_for name s.number source, record { creates = λ e. absurd (differ e); updates = λ e. from; before = refl; advancing = goes })
 by_begun schemas x place number name k s fits from by on free = absurd (true≢false (sym on))
 
--- no operation goes forward on a stack on which none is in progress, and a change set begins none
-none_forward : (z : Status) → is_in_progress z ≡ false → goes_forward z ≡ true → ⊥
-none_forward z n f = only_forward (λ v. is_in_progress v ≡ false → ⊥) true≢false true≢false z f n
-
-was_forward : (z : Status) → goes_forward (reviewed z) ≡ true → goes_forward z ≡ true
-was_forward status.DeleteComplete e = absurd (true≢false (sym e))
-was_forward z e = e
-
-begun_by_kind : (schemas : List Schema) (x : World) (out name : List ℕ) (s : StackState) → Fits x s → is_in_progress s.status ≡ false → IsFreeToBegin s
-    → (e : Entry) (t : StackState) → IsTo schemas x out name s e t → goes_forward t.status ≡ true → (source : Source) × HasBegun schemas s t source
-begun_by_kind schemas x out name s fits rests free e _ (to.step stage at own may) on = absurd (true≢false (sym (ap is_some at) ∙ rests))
-begun_by_kind schemas x out name s fits rests free _ _ (to.begins k from by) on = by_begun schemas x (x.place + 1) (x.operation + 1) name k s fits from by on free
-begun_by_kind schemas x out name s fits rests free _ _ (to.reviewed number from rows outputs may) on = absurd (none_forward s.status rests (was_forward s.status on))
-begun_by_kind schemas x out name s fits rests free _ _ (to.opened epoch lanes) on = absurd (none_forward s.status rests on)
-begun_by_kind schemas x out name s fits rests free e _ to.other on = absurd (none_forward s.status rests on)
-
 pub advancing_begins : AdvancingBegins
-advancing_begins schemas x out e name s t w rests on free = begun_by_kind schemas x out name s w.fits rests free e t (written_is_to schemas x out e name s t w) on
+advancing_begins schemas x out e name s t w rests on free = by (begins_ahead w (false_from (goes_forward s.status) (none_forward s.status rests)) on) where
+  none_forward : (z : Status) → is_in_progress z ≡ false → goes_forward z ≡ true → ⊥
+  none_forward z n f = only_forward (λ v. is_in_progress v ≡ false → ⊥) true≢false true≢false z f n
+
+  by : HasBegunBy schemas x name s t → (source : Source) × HasBegun schemas s t source
+  by (k, from, b, q) =
+      subst (λ u. goes_forward u.status ≡ true → (source : Source) × HasBegun schemas s u source) q
+      (λ g. by_begun schemas x (x.place + 1) (x.operation + 1) name k s w.fits from b g free) on
 
 -- a stack at rest, and one of which nothing is left, are free to begin
 cleared : (s : StackState) → IsCleared s → (s.tokens ≡ []) × AreSingle s.held

@@ -1,17 +1,10 @@
 -- Whatever happens in the life of an engine, each stack stays on its course, and keeps what its status promises.
-use Rattle.std.proofs.Common.{◌≡◌, ◌∙◌, ℕ, ◌+◌, List, [], true, false, Option, Some, None, refl, sym, ap, subst, true≢false, ◌∷◌, ◌++◌, map, ◌||◌, ◌≢◌, Bool, filter}
-use Rattle.std.specs.Prelude.{is_some, IsTrue}
-use Rattle.std.specs.Option.{option_map_or, option_map, unwrap_or}
-use Rattle.std.specs.Str.{bytes_eq}
+use Rattle.std.proofs.Common.{◌⊎◌, inl, inr, arith, ◌≡◌, ◌∙◌, ℕ, ◌+◌, List, [], true, false, Option, Some, None, refl, sym, ap, subst, true≢false, ◌∷◌, ◌++◌, map, ◌||◌, ◌≢◌, Bool, filter}
+use Rattle.std.specs.{Option.option_map, Option.unwrap_or, Prelude.IsTrue, Prelude.is_some, Str.bytes_eq}
 use Rattle.std.specs.Cmp.{first_so, second_so}
 use Rattle.std.proofs.lemmas.Bool.{or_left, or_right}
-use Rattle.cf_entry.specs.declared.entry.Entry.{Entry}
-use Rattle.cf_entry.specs.declared.entry.Begun.{Begun}
-use Rattle.cf_entry.specs.declared.status.Status.{Status}
-use Rattle.cf_entry.specs.declared.turn.Phase.{Phase}
-use Rattle.cf_entry.specs.declared.turn.Cause.{Cause}
-use Rattle.cf_entry.specs.declared.entry.Reply.{Reply}
-use Rattle.cf_entry.specs.declared.turn.Why.{Why}
+use Rattle.cf_entry.specs.declared.{entry.Begun.Begun, entry.Entry.Entry, entry.Reply.Reply, status.Status.Status, turn.Phase.Phase}
+use Rattle.cf_entry.specs.declared.{turn.Cause.Cause, turn.Why.Why}
 use Rattle.cf_entry.specs.declared.entry.Entry.TheVariants as entry
 use Rattle.cf_entry.specs.declared.entry.Begun.TheVariants as begin
 use Rattle.cf_entry.specs.declared.status.Status.TheVariants as status
@@ -19,113 +12,55 @@ use Rattle.cf_entry.specs.declared.turn.Phase.TheVariants as phase
 use Rattle.cf_schema.specs.declared.described.Schema.{Schema}
 use Rattle.cf_schema.specs.Kinds.{found}
 use Rattle.cf_effect.specs.World.{StackState, World, empty_world, known_stack, no_stack, stack_at, is_going, stack_of_operation}
-use Rattle.cf_effect.specs.Effect.{leaving}
-use Rattle.cf_effect.specs.Fold.{effect_at, fold_of, is_opening, stack_for, world_after}
-use Rattle.cf_stacks.proofs.Folded.{folded_more}
+use Rattle.cf_effect.specs.{Reply.intending, Reply.keeping, Reply.replying}
+use Rattle.cf_effect.specs.{End.marked, Fold.effect_at, Fold.fold_of, Fold.is_opening, Fold.stack_for, Fold.world_after}
+use Rattle.cf_stacks.proofs.{Folded.folded_more, Worlds.found_stands}
 use Rattle.cf_effect.specs.Status.{Forward, begun, reviewed as review, stage_of, turned, is_in_progress, Clean, BackClean, goes_forward}
-use Rattle.cf_effect.specs.declared.held.Held.{Held}
-use Rattle.cf_effect.specs.declared.held.Pending.{Pending}
-use Rattle.cf_effect.specs.Words.{pending_of, resources_of, without}
-use Rattle.cf_effect.specs.Calls.{is_restore}
-use Rattle.cf_effect.specs.End.{marked}
-use Rattle.cf_effect.specs.Reply.{answered, intending, keeping, replied, replying}
+use Rattle.cf_effect.specs.{Words.resources_of, Words.without, declared.held.Held.Held, declared.held.Pending.Pending}
 use Rattle.cf_handler.specs.Fence.{Left}
-use Rattle.cf_plan.specs.Forward.{In}
-use Rattle.cf_plan.specs.Lanes.{AreSchemas, Lane}
-use Rattle.cf_plan.specs.Life.{Act, Begin, BrokenWithout, ChangeSet, End, Grant, IsBegin, IsChangeSet, IsGranted, IsOutcomeOf, MayHappen, Event, Lease, CallEnd, Answered, Life, Opened, Raise, Repeat, Settle, Whole, acted, appended, granted, lease_at, life_after, repeated, first_again, tokens_out, world_of, IsLife}
-use Rattle.cf_plan.proofs.CreatedStays.{found_one}
-use Rattle.cf_plan.proofs.InOrder.{all_in}
+use Rattle.cf_plan.specs.{Accept.creates_from, Ends.IsBlamed, Ends.IsCleared, Forward.In, Lanes.AreSchemas, Lanes.Lane, Promise.AreKept}
+use Rattle.cf_plan.specs.Life.{Raise, Act, Begin, BrokenWithout, ChangeSet, End, Grant, IsBegin, IsChangeSet, IsGranted, MayHappen, Event, Lease, Life, Opened, Repeat, Settle, Whole, acted, appended, granted, lease_at, life_after, repeated, first_again, tokens_out, world_of, IsLife}
+use Rattle.cf_plan.proofs.{BlameMade.IsLeft, CreatedStays.found_one, RunLists.in_kept, RunLists.none_false}
+use Rattle.cf_plan.proofs.{CreatedRight.in_filter, Members.all_in, Members.in_none}
 use Rattle.cf_plan.specs.Follow.{EndsAs, MayTurn, begins_from, is_cleared, updates_from, MayBegin, cleaned_in, deletes_from, continues_from, failed_of, is_failed_status}
 use Rattle.cf_plan.specs.Run.{IsOwn}
-use Rattle.cf_plan.specs.Ends.{IsCleared, IsBlamed}
-use Rattle.cf_plan.proofs.BlameMade.{IsLeft, answered_left}
-use Rattle.cf_plan.specs.Accept.{creates_from}
-use Rattle.cf_plan.proofs.CreatedRight.{in_filter}
-use Rattle.cf_plan.proofs.RunLists.{in_kept, none_false}
-use Rattle.cf_plan.proofs.Members.{in_none}
-use Rattle.cf_plan.specs.Promise.{AreKept}
 use Rattle.cf_change.specs.Changes.{is_empty}
-use Rattle.cf_tree.specs.declared.request.Request.{Request}
-use Rattle.cf_tree.specs.declared.source.Source.{Source}
+use Rattle.cf_tree.specs.declared.{request.Request.Request, source.Source.Source}
 use Rattle.cf_tree.specs.declared.request.Answer.TheVariants as answer
 use Rattle.cf_tree.specs.declared.request.Request.TheVariants as request
-use Rattle.cf_core.specs.Hiding.{AreDescribed, DescribedIsKept, StartIsDescribed}
-use Rattle.cf_core.specs.SoundLife.{Appends}
+use Rattle.cf_core.specs.{Ahead.GoesOn, Ahead.HasBegun, Hiding.AreDescribed, Hiding.DescribedIsKept, Hiding.StartIsDescribed}
+use Rattle.cf_core.specs.{Back.IsGoingBack, More.LeavesApart, OneStack.IsOnce, SoundLife.Appends, Whole.HoldsWhole}
 use Rattle.cf_core.specs.Moving.{IsMove, stays as goes_on, turns, ends, begins, reviewed as is_reviewed, other}
 use Rattle.cf_core.specs.StatusMoves.{StatusMoves, WrittenMovesStatus, stays, reviewed, creates, updates, deletes, continues, creation_back, created, unmade, unmaking_failed, cleans, updated, update_back, back_cleans, rolled_back, back_failed, deleted, deletion_failed}
-use Rattle.cf_core.proofs.Moving.{written_moves}
+use Rattle.cf_core.proofs.{HidSeen.shape_stays, Moving.written_moves}
 use Rattle.cf_core.proofs.Statuses.{begun_status, ended_status, turned_status, begun_goes, intended_way, kept_way, turned_goes}
-use Rattle.cf_core.specs.Course.{IsUnmaking, IsOnCourse, IsCleaning}
+use Rattle.cf_core.specs.{Course.IsCleaning, Course.IsOnCourse, Course.IsUnmaking, Fitting.AreSteady, Fitting.IsGivenUpIn, Fitting.IsSteady}
 use Rattle.cf_core.specs.Advancing.{AreSameThings, none as none_same, more as more_same, IsAdvancing}
 use Rattle.cf_core.specs.Unmade.{ClearedStays, EndsCleared, UnmakingBegins, UnmakingStays, leaves_nothing}
-use Rattle.cf_core.specs.Written.{IsTo}
-use Rattle.cf_core.proofs.Written.{written_is_to}
-use Rattle.cf_core.specs.Back.{IsGoingBack}
-use Rattle.cf_core.specs.Fitting.{IsGivenUpIn, IsSteady, AreSteady}
+use Rattle.cf_core.specs.{Returning.IsAfterBack, Returning.IsAfterBackClean, Returning.IsAfterFailed, Returning.IsAfterReturn, Written.IsTo}
+use Rattle.cf_core.proofs.{Settling.fold_more, Settling.held_is_live, TidyEnds.tidying_ends, TidyLaws.tidying_stays, Written.written_is_to}
 use Rattle.cf_core.proofs.BackLaws.{back_holds, cleanup_stays, failed_stay, rest_stays, updates_back, updates_turn}
-use Rattle.cf_core.specs.Completing.{IsNoBegin}
+use Rattle.cf_core.specs.{Blaming.HoldsIfWhole, Completing.IsNoBegin, OnCourse.IsOnWay, OnCourse.IsSupported, OnCourse.WayIsKept}
 use Rattle.cf_core.specs.Fits.{BecomesBy, IsWritten, own as is_own, at_opening, other as another, Fits}
-use Rattle.cf_core.specs.Blaming.{HoldsIfWhole}
-use Rattle.cf_core.specs.OnCourse.{IsOnWay, IsSupported, WayIsKept}
-use Rattle.cf_core.specs.Returning.{IsAfterBack, IsAfterBackClean, IsAfterFailed, IsAfterReturn}
-use Rattle.cf_core.specs.Ahead.{GoesOn, HasBegun}
-use Rattle.cf_core.specs.Tidying.{deletes_nothing, IsTidying, of_update, of_rollback}
-use Rattle.cf_core.specs.Whole.{HoldsWhole}
-use Rattle.cf_core.proofs.AdvSteps.{advancing_begins, course_is_free}
-use Rattle.cf_core.proofs.HidCalls.{advancing_stays, none_is_ordered, order_stays}
-use Rattle.cf_core.proofs.BackSkips.{updates_skip}
-use Rattle.cf_core.proofs.BlameFailed.{failed_blamed}
-use Rattle.cf_core.proofs.BlameStays.{none_booked, stays_booked}
-use Rattle.cf_core.proofs.HidSeen.{shape_stays}
-use Rattle.cf_core.proofs.TidyBegins.{back_tidying_begins, nothing_deleted, tidying_begins}
-use Rattle.cf_core.proofs.TidyEnds.{tidying_ends}
-use Rattle.cf_core.proofs.TidyLaws.{tidying_stays}
+use Rattle.cf_core.specs.{GoesOn.HasNext, GoesOn.IsTold, Tidying.IsTidying, Tidying.deletes_nothing, Tidying.of_rollback, Tidying.of_update}
+use Rattle.cf_core.proofs.{AdvSteps.advancing_begins, AdvSteps.course_is_free, Entries.is_working, Entries.once_here, Entries.stands_on}
+use Rattle.cf_core.proofs.{BackSkips.updates_skip, HidCalls.advancing_stays, HidCalls.none_is_ordered, HidCalls.order_stays}
+use Rattle.cf_core.proofs.{BlameFailed.failed_blamed, TidyBegins.back_tidying_begins, TidyBegins.nothing_deleted, TidyBegins.tidying_begins}
+use Rattle.cf_core.proofs.{BlameStays.none_booked, BlameStays.stays_booked, FitKept.after_lanes, FitKept.at_known, FitKept.number_of, GoingTold.told_begins, GoingTold.told_stays}
 use Rattle.cf_core.proofs.WholeKept.{creation_is_whole, update_is_whole, cleanup_keeps_whole, rest_keeps_whole, update_ends_at_rest, course_keeps_promise, held_is_found}
 use Rattle.cf_core.specs.Theorem.{EventHolds, HoldsAlways, HoldsKeepsPromises, LivesKeepPromises, OperationsGoOn, StartHolds}
-use Rattle.cf_core.proofs.Settling.{fold_more, held_is_live}
-use Rattle.cf_core.proofs.KeepSound.{event_keeps, event_writes, start_is_sound_life}
-use Rattle.cf_core.specs.More.{LeavesApart}
-use Rattle.cf_core.proofs.MoreApart.{leaves_apart_stays}
-use Rattle.cf_core.proofs.MoreLives.{leases_once_stays, settles_once_stays, start_is_once}
+use Rattle.cf_core.proofs.{GoingOn.operation_goes_on, KeepSound.event_keeps, KeepSound.event_writes, KeepSound.outcome_new, KeepSound.reviews_idle, KeepSound.start_is_sound_life}
+use Rattle.cf_core.proofs.{MoreApart.leaves_apart_stays, MoreLives.leases_once_stays, MoreLives.settles_once_stays, MoreLives.start_is_once}
 use Rattle.cf_core.proofs.MoreStacks.{completes_begun_stays, leaves_once_stays, lists_given_up_stays}
-use Rattle.cf_core.proofs.Entries.{is_working, once_here, stands_on}
-use Rattle.cf_core.specs.OneStack.{IsOnce}
 use Rattle.cf_core.specs.SoundLife as sound
 use Rattle.cf_core.specs.Written as to
-use Rattle.cf_core.specs.GoesOn.{IsTold, HasNext}
-use Rattle.cf_core.proofs.GoingTold.{told_stays, told_begins}
-use Rattle.cf_stacks.proofs.Worlds.{found_stands}
-use Rattle.cf_core.proofs.FitKept.{number_of}
-use Rattle.cf_core.proofs.GoingOn.{operation_goes_on}
 
 -- Each type of the lanes that were handed in has a schema, in every life.
 
--- an entry that is no opening leaves the lanes of the last one
-left_lanes : (place : ℕ) (e : Entry) (x : World) (o : Option (List ℕ × StackState)) → (option_map_or (λ s. leaving s.0 (effect_at place e s.1) x) o x).lanes ≡ x.lanes
-left_lanes place e x None = refl
-left_lanes place e x (Some s) = refl
-
-same_lanes : (x : World) (e : Entry) → is_opening e ≡ false → (world_after x e).lanes ≡ x.lanes
-same_lanes x (entry.Opened epoch lanes) h = absurd (true≢false h)
-same_lanes x e h = left_lanes (x.place + 1) e x (stack_for e x)
-
-no_opening_set : (e : Entry) → IsChangeSet e → is_opening e ≡ false
-no_opening_set (entry.Opened epoch lanes) h = absurd h
-no_opening_set e h = refl
-
-no_opening_begun : (e : Entry) → IsBegin e → is_opening e ≡ false
-no_opening_begun (entry.Opened epoch lanes) h = absurd h
-no_opening_begun e h = refl
-
-no_opening_granted : (e : Entry) → IsGranted e → is_opening e ≡ false
-no_opening_granted (entry.Opened epoch lanes) h = absurd h
-no_opening_granted e h = refl
-
-no_opening_settled : (lease : Lease) (reply : CallEnd) (e : Entry) → IsOutcomeOf lease reply e → is_opening e ≡ false
-no_opening_settled lease (Answered (answer.Success physical attrs) before after) e h = ap is_opening h
-no_opening_settled lease (Answered (answer.Failed code) before after) e h = ap is_opening h
-no_opening_settled lease (Answered answer.Fault before after) e h = ap is_opening h
-no_opening_settled lease reply e h = absurd h
+-- a change set, a beginning and what an operation writes are no openings
+no_opening : (e : Entry) → IsChangeSet e ⊎ IsBegin e ⊎ IsGranted e → is_opening e ≡ false
+no_opening (entry.Opened epoch lanes) h = elim h [ inl k ↦ absurd k | inr (inl k) ↦ absurd k | inr (inr k) ↦ absurd k ]
+no_opening e h = refl
 
 granted_entries : (end : End) (e : Entry) (life : Life) → (granted end e life).entries ≡ life.entries
 granted_entries Whole (entry.Intent number token lane path r) life = refl
@@ -159,7 +94,7 @@ module _ (l : Life) (P : List Entry → Type 0) (same : P l.entries) where
 
 module _ (schemas : List Schema) (life : Life) (d : AreDescribed schemas (world_of life)) where
   described_by : (e : Entry) → is_opening e ≡ false → AreDescribed schemas (world_after (world_of life) e)
-  described_by e h l i = d l (subst (In l) (same_lanes (world_of life) e h) i)
+  described_by e h l i = d l (subst (In l) (after_lanes (world_of life) e h) i)
 
   described_more : AreSchemas schemas life.lanes → {ev : Event} {e : Entry} {out : List ℕ} → Appends life ev e out → MayHappen schemas life ev
       → AreDescribed schemas (world_after (world_of life) e)
@@ -167,10 +102,10 @@ module _ (schemas : List Schema) (life : Life) (d : AreDescribed schemas (world_
       let of_life = may.2.there_are l i in
       let there = (found_one (λ (m : Lane). bytes_eq l.0 m.name) life.lanes of_life.0 of_life.1).0 in
       ap (λ (n : List ℕ × List ℕ). is_some (found n.1 schemas)) of_life.2 ∙ all_in (λ (m : Lane). is_some (found m.kind schemas)) life.lanes s.described of_life.0 there
-  described_more s (sound.set {e}) may = described_by e (no_opening_set e may.1)
-  described_more s (sound.begun {e}) may = described_by e (no_opening_begun e may.2)
-  described_more s (sound.granted {e}) may = described_by e (no_opening_granted e may.1)
-  described_more s (sound.settled {e = e}) may = described_by e (no_opening_settled may.1 may.2 e may.5)
+  described_more s (sound.set {e}) may = described_by e (no_opening e (inl may.1))
+  described_more s (sound.begun {e}) may = described_by e (no_opening e (inr (inl may.2)))
+  described_more s (sound.granted {e}) may = described_by e (no_opening e (inr (inr may.1)))
+  described_more s (sound.settled {e = e}) may = described_by e (outcome_new may.1 may.2 e may.5)
 
 pub described_kept : DescribedIsKept
 described_kept schemas life ev may s d = entries_after life (λ es. AreDescribed schemas (fold_of empty_world es)) d ev (λ e out a.
@@ -250,13 +185,7 @@ pub intended_none : (number : ℕ) (p : Pending) (s : StackState) → IsUnmaking
 intended_none number p s u = intended_way IsUnmaking s u number p (record { none_before = u.none_before; none_held = u.none_held })
 
 pub replied_none : (token : ℕ) (answer : Reply) (s : StackState) → IsUnmaking s → IsUnmaking (replying token answer s)
-replied_none token answer s u = by_call (pending_of token s)
-  where
-    by_call : (o : Option Pending) → IsUnmaking (replied token answer o s)
-    by_call None = u
-    by_call (Some p) =
-        let v = left_none s (answered (is_restore token s) p.path p.request answer s) (answered_left (is_restore token s) p.path p.request answer s) u in
-        record { none_before = v.none_before; none_held = v.none_held }
+replied_none token answer s u = grind arith
 
 pub kept_none : (path physical : List ℕ) (w : Why) (s : StackState) → IsUnmaking s → IsUnmaking (keeping path physical w s)
 kept_none path physical w s u =
@@ -306,8 +235,7 @@ module _ (schemas : List Schema) (x : World) (out : List ℕ) (name : List ℕ) 
   after e = (effect_at (x.place + 1) e s).stack
 
   begun_otherwise : (k : Begun) → begun k ≡ status.RollbackInProgress → ⊥
-  begun_otherwise (begin.Create source) e = let no : ⊥ = cc in no
-  begun_otherwise k e = let no : ⊥ = cc in no
+  begun_otherwise k e = grind arith
 
   stepped_none : (e : Entry) → (after e).status ≡ status.RollbackInProgress → IsOwn s.operation e → IsUnmaking (after e)
   stepped_none (entry.Intent number token lane path r) still own =
@@ -316,18 +244,14 @@ module _ (schemas : List Schema) (x : World) (out : List ℕ) (name : List ℕ) 
   stepped_none (entry.Kept number path physical w) still own = unmaking_as {s = keeping path physical w s} refl refl (kept_none path physical w s u)
   stepped_none (entry.Phase number phase.Clean cause) still own = let no : ⊥ = cc in absurd no
   stepped_none (entry.Phase number p cause) still own = unmaking_as {s = s} refl refl u
-  stepped_none (entry.Done number state failed) still own = ended_none state (sym (ended_status (x.place + 1) number state failed s) ∙ still)
-    where
-      ended_none : (now : Status) → now ≡ status.RollbackInProgress → IsUnmaking (after (entry.Done number now failed))
-      ended_none now e = subst (λ (v : Status). IsUnmaking (after (entry.Done number v failed))) (sym e) (record { none_before = u.none_before; none_held = ap (map (marked s.tokens)) u.none_held })
+  stepped_none (entry.Done number state failed) still own = grind arith
   stepped_none e still own = absurd own
 
   to_none : {e : Entry} {t : StackState} → t.status ≡ status.RollbackInProgress → IsTo schemas x out name s e t → IsUnmaking t
   to_none still (to.step {e = e} stage in_stage own may) = stepped_none e still own
   to_none still (to.begins k from by) = absurd (begun_otherwise k (sym (begun_status (x.place + 1) name (x.operation + 1) k s) ∙ still))
-  to_none still (to.reviewed number source rows outputs from) = unmaking_as {s = s} refl refl u
-  to_none still (to.opened epoch lanes) = unmaking_as {s = s} refl refl u
   to_none still to.other = u
+  to_none still _ = unmaking_as {s = s} refl refl u
 
 pub unmaking_stays : UnmakingStays
 unmaking_stays schemas x out e name s t w still u = to_none schemas x out name s u still (written_is_to schemas x out e name s t w)
@@ -348,9 +272,8 @@ module _ (schemas : List Schema) (x : World) (out : List ℕ) (name : List ℕ) 
   to_clear : {e : Entry} {t : StackState} → is_in_progress t.status ≡ false → IsTo schemas x out name s e t → IsCleared t × (t.before ≡ s.before)
   to_clear still (to.step stage in_stage own may) = absurd (true≢false (sym (ap is_some in_stage) ∙ rests))
   to_clear still (to.begins k from by) = absurd (true≢false (sym (ap is_in_progress (begun_status (x.place + 1) name (x.operation + 1) k s) ∙ begun_goes k) ∙ still))
-  to_clear still (to.reviewed number source rows outputs from) = (still_clear refl refl refl, refl)
-  to_clear still (to.opened epoch lanes) = (still_clear refl refl refl, refl)
   to_clear still to.other = (c, refl)
+  to_clear still _ = (still_clear refl refl refl, refl)
 
 pub cleared_stays : ClearedStays
 cleared_stays schemas x out e name s t w rests still c = to_clear schemas x out name s rests c still (written_is_to schemas x out e name s t w)
@@ -387,17 +310,9 @@ module _ (schemas : List Schema) (name : List ℕ) (x : World) (s : StackState) 
 none_left : {A : Type 0} (test : A → Bool) (xs : List A) → filter test xs ≡ [] → (x : A) → In x xs → test x ≡ false
 none_left test xs e x i = none_false (test x) (λ t. in_none (subst (In x) e (in_kept test xs x i t)))
 
--- a creation, and an update, begin where no operation is in progress, and so no change set is kept while one is
-free_rests : (a : Status) → IsTrue (creates_from a || updates_from a) → is_in_progress a ≡ false
-free_rests status.DeleteComplete b = refl
-free_rests status.ReviewInProgress b = refl
-free_rests status.CreateComplete b = refl
-free_rests status.UpdateComplete b = refl
-free_rests status.UpdateRollbackComplete b = refl
-free_rests a b = absurd (true≢false (sym b))
-
+-- a change set is kept where no operation is in progress
 unreviewed : (st : Status) → IsTrue (creates_from st || updates_from st) → is_in_progress st ≡ true → ⊥
-unreviewed st b g = true≢false (sym g ∙ free_rests st b)
+unreviewed st b g = true≢false (sym g ∙ reviews_idle st b)
 
 -- what is so of statuses alone
 cleans_by : (number : ℕ) (p : Phase) (why : Option Cause) → turned status.UpdateInProgress p ≡ status.UpdateCompleteCleanupInProgress
@@ -406,8 +321,7 @@ cleans_by number phase.Clean why e = (number, why, refl)
 cleans_by number p why e = let no : ⊥ = cc in absurd no
 
 begun_other : (k : Begun) → begun k ≡ status.UpdateCompleteCleanupInProgress → ⊥
-begun_other (begin.Create source) e = let no : ⊥ = cc in no
-begun_other k e = let no : ⊥ = cc in no
+begun_other k e = grind arith
 
 module _ (schemas : List Schema) (x : World) (out : List ℕ) (name : List ℕ) (s : StackState) where
   -- where no operation is in progress after an entry, none begins by it on the stack
@@ -545,8 +459,8 @@ module _ (schemas : List Schema) (x : World) (out : List ℕ) (e : Entry) (name 
   moved a b was now stays c = still a was now c
   moved a b was now reviewed c = (cleared_stays schemas x out e name s t w (ap is_in_progress was) (ap is_in_progress now) c).0
   moved a b was now (creates from) c =
-      let k = begun_source a status.CreateInProgress was now (free_rests a (or_left (creates_from a) (updates_from a) from)) refl c in (k.0, k.1.advancing, k.1.before ∙ creating_none schemas name x s a from c)
-  moved a b was now (updates from) c = let k = begun_source a status.UpdateInProgress was now (free_rests a (or_right (creates_from a) (updates_from a) from)) refl c in (k.0, k.1.advancing)
+      let k = begun_source a status.CreateInProgress was now (reviews_idle a (or_left (creates_from a) (updates_from a) from)) refl c in (k.0, k.1.advancing, k.1.before ∙ creating_none schemas name x s a from c)
+  moved a b was now (updates from) c = let k = begun_source a status.UpdateInProgress was now (reviews_idle a (or_right (creates_from a) (updates_from a) from)) refl c in (k.0, k.1.advancing)
   moved a b was now (deletes from) c = tt
   moved a b was now continues c = subst (IsAfterFailed t) now (failed_stay schemas x out e name s t w was c.0)
   moved a b was now creation_back c = unmaking_stays schemas x out e name s t w now (unmaking_begins schemas s c.0 c.1 c.2)
@@ -640,11 +554,7 @@ AreOnWay schemas x = (name : List ℕ) (s : StackState) → stack_at name x ≡ 
 
 -- the stack of a name, or one of which nothing is known, is
 known_on_way : (schemas : List Schema) (x : World) → AreOnWay schemas x → (name : List ℕ) → IsOnWay schemas name x (known_stack name x)
-known_on_way schemas x ways name = by (stack_at name x) refl
-  where
-    by : (o : Option StackState) → stack_at name x ≡ o → IsOnWay schemas name x (unwrap_or o no_stack)
-    by None e = none_on_way schemas name x
-    by (Some s) e = ways name s e
+known_on_way schemas x ways name = at_known (IsOnWay schemas name x) x name (none_on_way schemas name x) (ways name)
 
 module _ (schemas : List Schema) (l : Life) (h : HoldsAlways schemas l) where
   are_steady : AreSteady (world_of l)
@@ -652,11 +562,9 @@ module _ (schemas : List Schema) (l : Life) (h : HoldsAlways schemas l) where
 
   -- no two resources of it have one id, and none is left over
   known_once : (name : List ℕ) → IsOnce (known_stack name (world_of l))
-  known_once name = by (stack_at name (world_of l)) refl
-    where
-      by : (o : Option StackState) → stack_at name (world_of l) ≡ o → IsOnce (unwrap_or o no_stack)
-      by None e = record { ids = refl; left = λ i r k. let no : ⊥ = cc in absurd no; tokens = refl }
-      by (Some s) e = once_here (world_of l).stacks (world_of l).stacks name s s (stands_on (world_of l) name s h.sound.orderly.own e).one h.sound.orderly.own
+  known_once name =
+      at_known IsOnce (world_of l) name (record { ids = refl; left = λ i r k. let no : ⊥ = cc in absurd no; tokens = refl })
+      (λ s e. once_here (world_of l).stacks (world_of l).stacks name s s (stands_on (world_of l) name s h.sound.orderly.own e).one h.sound.orderly.own)
 
   -- one more entry
   ways_more : (ev : Event) (e : Entry) (out : List ℕ) → Appends l ev e out → MayHappen schemas l ev → AreOnWay schemas (fold_of empty_world (l.entries ++ e ∷ []))
@@ -688,11 +596,9 @@ module _ (schemas : List Schema) (l : Life) (h : HoldsAlways schemas l) where
   -- each promise
   promises : AreKept l
   promises name s there =
+      let fits : Fits (world_of l) s = h.sound.fitted name s there in
       course_keeps_promise schemas name (world_of l) s l.lanes fits (h.way name s there).course.stage
       (λ none r i. held_is_live l name s r (record { agrees = h.sound.agrees; orderly = h.sound.orderly }) there none (held_is_found (world_of l) s r fits i))
-    where
-      fits : Fits (world_of l) s
-      fits = h.sound.fitted name s there
 
 pub starts_hold : StartHolds
 starts_hold schemas l s = record {
@@ -722,18 +628,11 @@ holds_keeps_promises = promises
 
 -- and each operation goes on until its end
 pub operations_go_on : OperationsGoOn
-operations_go_on schemas l number name s h going kinds = subst (HasNext schemas x) same next
-  where
-    x : World
-    x = world_of l
-
-    same : s.operation ≡ number
-    same = number_of schemas x [] h.sound.orderly.apart number name s going
-
-    here : stack_at name x ≡ Some s
-    here = found_stands (λ (p : List ℕ × StackState). is_going number p.1) x.stacks (name, s) h.sound.orderly.apart.names going
-
-    next : HasNext schemas x s.operation
-    next =
-        operation_goes_on schemas name x s (ap (λ (n : ℕ). stack_of_operation n x) same ∙ going) (is_working number x name s going)
-        (h.sound.fitted name s here) (h.way name s here).course.stage (λ g. (kinds g, (h.way name s here).supported.told g))
+operations_go_on schemas l number name s h going kinds =
+    let x : World = world_of l in
+    let same : s.operation ≡ number = number_of schemas x [] h.sound.orderly.apart number name s going in
+    let here : stack_at name x ≡ Some s = found_stands (λ (p : List ℕ × StackState). is_going number p.1) x.stacks (name, s) h.sound.orderly.apart.names going in
+    let next : HasNext schemas x s.operation =
+    operation_goes_on schemas name x s (ap (λ (n : ℕ). stack_of_operation n x) same ∙ going) (is_working number x name s going)
+    (h.sound.fitted name s here) (h.way name s here).course.stage (λ g. (kinds g, (h.way name s here).supported.told g)) in
+    subst (HasNext schemas x) same next

@@ -1,168 +1,406 @@
--- What begins, and a change set, keep agreement, and take nothing of another stack.
-use Rattle.cf_stacks.specs.Apart.{IsNext}
-use Rattle.cf_agree.proofs.Keeps.{drop_keeps, rest_keeps}
-use Rattle.cf_agree.specs.Account.{creates, dropped, rested, Account, Open, Role, Thing}
-use Rattle.cf_agree.specs.Account.Role.{Stranger, Resource}
-use Rattle.cf_agree.specs.Base.{named_by, lane_of}
-use Rattle.cf_agree.specs.Lanes.{Lanes}
-use Rattle.cf_agree.specs.Laws.{Agree}
-use Rattle.cf_agree.specs.Moves.{GivenUp, MayDrop, RoleMove, doubted, leaves, of_create, of_doubted, stays}
-use Rattle.cf_agree.specs.Ties.{Books}
-use Rattle.cf_core.proofs.Entries.{IsOnOne, call_same, gone_without, is_working, lost_same, not_resting, on_one, once_here, open_now, open_own, open_same, open_was, resting_same, role_alike, role_here, role_now, role_same, same_account, told_same, one_is_put}
-use Rattle.cf_core.proofs.FitKept.{IsLess, Key, after_stacks, differ_keyed, find_mapped, from_mapped, in_keyed, into_mapped, keeps_skipped, key_of, known_steady, one_id, one_number, own_less, put_by, stack_known, with_key, after_lanes, IsPlain}
-use Rattle.cf_core.proofs.Outcomes.{find_unless, keeps_known, kept_may, kept_moves, kept_stack, unless}
-use Rattle.cf_core.proofs.Settling.{found_name, map_some, orderly_on, there_is, named_found}
-use Rattle.cf_core.specs.AccountOf.{Named, account_of, is_at_rest, lost_in, lost_on, named_in, open_as, open_in, open_on, resting_in, role_in, has_leftover, held_in, role_found, role_on, role_or, thing_of, lanes_of}
-use Rattle.cf_core.specs.Bridges.{account_with, kept_role}
-use Rattle.cf_core.specs.Fitting.{IsGivenUpIn, AreSteady}
-use Rattle.cf_core.specs.LifeAgrees.{IsOrderly, lease_of}
-use Rattle.cf_core.specs.OneStack.{OneStack, IsLocal, IsOnce}
-use Rattle.cf_core.specs.SoundLife.{AreSound}
-use Rattle.cf_entry.specs.declared.entry.Begun.{Begun}
+-- Each row is the call that the journal has, and each resource was made by a create that was answered: each entry keeps that.
+use Rattle.cf_agree.specs.Account.{Called, Open, called, dropped, rested, Account, Role, Thing}
+use Rattle.cf_agree.specs.Base.{named_by, effect_of, Dict, lane_of}
+use Rattle.cf_agree.specs.Lanes.{entry_in, Lanes}
+use Rattle.cf_agree.specs.Ties.{Books, IsMade, Ties}
+use Rattle.cf_core.proofs.Entries.{call_more, on_one, open_own, told_more, IsOnOne, gone_without, is_working, not_resting, once_here, resting_same, role_here, role_now, role_same, told_same, one_is_put, keeps_known, kept_may, kept_moves, kept_stack, found_none, quiet_moves, alike_quiet, dropped_moves, passes, gives, left_more, on_bool, on_option, intended_way}
+use Rattle.cf_core.proofs.FitKept.{IsLeftBy, IsLess, IsSameBut, IsSameCall, Key, Stands, fitting_lane, gone as is_gone, has_other, in_keyed, intends_named, into_mapped, key_of, keys_of, known_steady, left_by, less_self, made as is_made, opening_less, own_less, rows_answered, same as is_same, same_call, stack_known, stands_by, with_key, at_known, after_stacks, differ_keyed, find_mapped, from_mapped, keeps_skipped, one_id, one_number, put_by, after_lanes, IsPlain}
+use Rattle.cf_core.specs.AccountOf.{called_as, account_of, call_in, for_good, lanes_of, named_in, open_as, open_in, told_in, Named, is_at_rest, lost_on, resting_in, role_in, has_leftover, held_in, role_found, role_on, thing_of}
+use Rattle.cf_core.specs.Fits.{BecomesBy, own as is_own, at_opening, other as is_other, IsNew}
+use Rattle.cf_core.specs.Fitting.{AreSteady, IsSteady, IsOfItsLane, IsGivenUpIn}
+use Rattle.cf_core.specs.LifeAgrees.{good_reply, lease_of, IsOrderly}
+use Rattle.cf_core.specs.OneStack.{AreOwn, OneStack, IsLocal, IsOnce}
+use Rattle.cf_core.specs.SoundLife.{called_by, AreWritten, HaveOrigins, IsMadeBy, AreSound}
 use Rattle.cf_entry.specs.declared.entry.Entry.{Entry}
+use Rattle.cf_entry.specs.declared.entry.Reply.{Reply}
+use Rattle.cf_handler.specs.declared.settled.Settled.{Settled}
+use Rattle.cf_handler.specs.declared.settled.Settlement.{Settlement}
+use Rattle.cf_plan.proofs.CreatedRight.{in_filter}
+use Rattle.cf_plan.proofs.CreatedStays.{in_more, found_one}
+use Rattle.cf_plan.proofs.RunLists.{is_found_in, any_of, in_either, in_front, in_back, in_kept, some_of}
+use Rattle.cf_plan.specs.Agrees.{written_in, call_at}
+use Rattle.cf_plan.specs.Follow.{MayFollow, MayKeep, cleaned_in, begins_from, continues_from, is_opened_since, updates_from}
+use Rattle.cf_plan.specs.Forward.{In, here, there}
+use Rattle.cf_plan.specs.Lanes.{Lane, lane_at}
+use Rattle.cf_plan.specs.Life.{CallEnd, Answered, Stale, IsOutcomeOf, Lease, named_lane}
+use Rattle.cf_schema.specs.declared.described.Schema.{Schema}
+use Rattle.cf_stacks.specs.Apart.{AreApart, IsNext}
+use Rattle.cf_effect.specs.Calls.{answered_call, is_restore, where_call}
+use Rattle.cf_effect.specs.Effect.{heard, on_stack}
+use Rattle.cf_effect.specs.Fold.{effect_at, is_opening, stack_for, changed_by, world_after}
+use Rattle.cf_effect.specs.Operation.{Response, reply_in}
+use Rattle.cf_effect.specs.Reply.{answered, closing, replied, keeping_unknown}
+use Rattle.cf_effect.specs.Words.{has_token, pending_of, resources_of, id_named, has_physical, is_create, is_create_at, is_created, unknown_id}
+use Rattle.cf_effect.specs.World.{StackState, World, known_stack, stack_of_operation, no_stack, stack_at}
+use Rattle.cf_effect.specs.declared.call.Call.{Call}
+use Rattle.cf_effect.specs.declared.held.Held.{Held}
+use Rattle.cf_effect.specs.declared.held.Pending.{Pending}
+use Rattle.cf_tree.specs.Datum.{Data}
+use Rattle.cf_tree.specs.declared.request.Request.{Request}
+use Rattle.std.proofs.Common.{◌≡◌, ◌⊎◌, inl, inr, ℕ, ◌+◌, List, [], ◌∷◌, ◌++◌, Bool, true, false, Option, Some, None, refl, sym, ap, subst, ◌∙◌, true≢false, find, unwrap_or, arith, map, ◌==◌, not, ◌&&◌, ◌||◌, filter}
+use Rattle.std.proofs.lemmas.Bool.{eq-eqb, eqb-true, or_left, or_right}
+use Rattle.std.proofs.lemmas.Slice.Eq.{bytes_eq-Decides}
+use Rattle.std.specs.List.{list_any, cons_option}
+use Rattle.std.specs.Option.{option_or, option_map, option_map_or}
+use Rattle.std.specs.Prelude.{cond}
+use Rattle.std.specs.Str.{bytes_eq}
+use Rattle.cf_agree.proofs.Keeps.{drop_keeps, rest_keeps}
+use Rattle.cf_agree.specs.Account.Role.{Stranger, Resource}
+use Rattle.cf_agree.specs.Laws.{Agree}
+use Rattle.cf_agree.specs.Moves.{GivenUp, MayDrop, RoleMove, doubted, of_create, of_doubted, stays}
+use Rattle.cf_core.proofs.Settling.{found_name, map_some, orderly_on, there_is, named_found}
+use Rattle.cf_core.specs.Bridges.{account_with, kept_role}
+use Rattle.cf_entry.specs.declared.entry.Begun.{Begun}
 use Rattle.cf_entry.specs.declared.status.Status.{Status}
 use Rattle.cf_entry.specs.declared.turn.Why.{Why}
 use Rattle.cf_handler.specs.Fence.{FencedLane}
 use Rattle.cf_handler.specs.Move.{IsOfLane}
-use Rattle.cf_plan.proofs.CreatedRight.{in_filter}
-use Rattle.cf_plan.proofs.CreatedStays.{found_one}
-use Rattle.cf_plan.proofs.RunLists.{is_found_in, any_of, in_either, in_front, in_back, in_kept, some_of}
 use Rattle.cf_plan.specs.Accept.{creates_from}
-use Rattle.cf_plan.specs.Agrees.{written_in}
-use Rattle.cf_plan.specs.Follow.{MayDelete, MayFollow, MayKeep, cleaned_in, begins_from, continues_from, is_opened_since, updates_from}
-use Rattle.cf_plan.specs.Forward.{In, here, there}
-use Rattle.cf_plan.specs.Lanes.{Lane, lane_at}
-use Rattle.cf_plan.specs.Life.{Lease, named_lane}
-use Rattle.cf_schema.specs.declared.described.Schema.{Schema}
 use Rattle.cf_effect.specs.Begin.{as_before, creates_at, given_up, skipped_creates, skipped_in, lost_create}
-use Rattle.cf_effect.specs.Words.{has_physical, has_token, is_create, is_create_at, is_created, resources_of, unknown_id}
-use Rattle.cf_effect.specs.Effect.{heard, on_stack}
-use Rattle.cf_effect.specs.Fold.{changed_by, effect_at, world_after, stack_for, is_opening}
-use Rattle.cf_effect.specs.Operation.{reply_in}
-use Rattle.cf_effect.specs.Reply.{keeping_unknown}
 use Rattle.cf_effect.specs.Status.{Stage, Forward, Clean, Back, BackClean, Gone, is_in_progress, reviewed}
-use Rattle.cf_effect.specs.World.{StackState, World, stack_of_operation, known_stack, no_stack, stack_at}
 use Rattle.cf_effect.specs.declared.held.GivenUp.{GivenUp as LostCall}
-use Rattle.cf_effect.specs.declared.held.Held.{Held}
 use Rattle.cf_effect.specs.declared.held.Leftover.{Leftover as Left}
-use Rattle.cf_effect.specs.declared.held.Pending.{Pending}
 use Rattle.cf_tree.proofs.Lookups.{put_here, put_else}
 use Rattle.cf_tree.specs.Keys.{put}
 use Rattle.cf_tree.specs.Lists.{is_among}
 use Rattle.cf_tree.specs.Named.{all_differ}
-use Rattle.cf_tree.specs.declared.request.Request.{Request}
 use Rattle.cf_tree.specs.declared.row.Row.{Row}
 use Rattle.cf_tree.specs.declared.source.Source.{Source}
-use Rattle.std.proofs.Common.{◌≡◌, ℕ, ◌==◌, List, [], ◌∷◌, ◌++◌, Bool, true, false, not, ◌&&◌, ◌||◌, Option, Some, None, filter, find, map, refl, sym, ap, ◌∙◌, true≢false, inl, inr, ◌+◌, ◌⊎◌, subst, unwrap_or, arith}
-use Rattle.std.proofs.lemmas.Bool.{eqb-true, or_left, or_right}
 use Rattle.std.proofs.lemmas.List.Folds.{list_any-append, find-append}
-use Rattle.std.proofs.lemmas.Slice.Eq.{bytes_eq-Decides}
 use Rattle.std.specs.Bool.{IsTrue}
-use Rattle.std.specs.List.{list_any}
-use Rattle.std.specs.Option.{option_or, option_map, option_map_or}
-use Rattle.std.specs.Prelude.{cond}
-use Rattle.std.specs.Str.{bytes_eq}
-use Rattle.cf_agree.specs.Account as account
+use Rattle.cf_agree.proofs.Words.{same_bytes, bytes_same, bytes_or, other_bytes}
+use Rattle.cf_core.proofs.BlameStays.{deleted_listed}
+use Rattle.cf_agree.specs.Base as base
+use Rattle.cf_entry.specs.declared.entry.Entry.TheVariants as entry
+use Rattle.cf_entry.specs.declared.entry.Reply.TheVariants as reply
+use Rattle.cf_handler.specs.declared.settled.Settlement.TheVariants as settlement
+use Rattle.cf_tree.specs.declared.request.Answer.TheVariants as answer
+use Rattle.cf_tree.specs.declared.request.Request.TheVariants as request
 use Rattle.cf_core.specs.Fitting as fitting
 use Rattle.cf_entry.specs.declared.entry.Begun.TheVariants as begin
-use Rattle.cf_entry.specs.declared.entry.Entry.TheVariants as entry
 use Rattle.cf_entry.specs.declared.status.Status.TheVariants as status
 use Rattle.cf_entry.specs.declared.turn.Why.TheVariants as why
-use Rattle.cf_tree.specs.declared.request.Request.TheVariants as request
+
+-- Where the rows and the resources of a stack come from: from before the entry, or from the call that it writes down or answers.
+
+-- the row is that of the call that the entry writes down
+abbrev pub IsNewRow : Entry → Call → Type 0
+IsNewRow e d = (p : Pending) × (written_in e ≡ Some p) × (d.token ≡ p.token) × (called_by d ≡ called_as p)
+
+-- the entry answers an open create, and the answer names the resource
+pub record IsNewResource (x : World) (e : Entry) (name : List ℕ) (s : StackState) (r : Held) : Type 0 where
+  pub mine : stack_for e x ≡ Some (name, s)
+  pub answer : Response
+  pub attrs : List (List ℕ × Data)
+  pub pending : Pending
+  pub told : reply_in e ≡ Some answer
+  pub success : answer.answer ≡ reply.Success r.physical attrs
+  pub open_ : pending_of answer.token s ≡ Some pending
+  pub create : named_by pending.request ≡ None
+
+pub record ComesFrom (x : World) (e : Entry) (name : List ℕ) (s t : StackState) : Type 0 where
+  pub rows : (d : Call) → In d t.ledger → ((c : Call) × In c s.ledger × IsSameCall c d) ⊎ IsNewRow e d
+  pub resources : (r : Held) → In r (resources_of t) → ((q : Held) × In q (resources_of s) × (q.physical ≡ r.physical)) ⊎ IsNewResource x e name s r
+
+by_keys : (s t : StackState) → ((k : Key) → In k (keys_of t) → In k (keys_of s)) → (r : Held) → In r (resources_of t) → (q : Held) × In q (resources_of s) × (q.physical ≡ r.physical)
+by_keys s t h r i = let (q, j, e) = with_key s (key_of r) (h (key_of r) (into_mapped key_of (resources_of t) r i)) in (q, j, ap (λ (k : Key). k.physical) e)
+
+from_less : (x : World) (e : Entry) (name : List ℕ) (s t : StackState) → IsLess s t → ComesFrom x e name s t
+from_less x e name s t d = record { rows = λ c i. inl ((d.rows).from c i); resources = λ r i. inl (by_keys s t (in_keyed d.keyed) r i) }
+
+from_intent : (x : World) (name : List ℕ) (s : StackState) (number token : ℕ) (lane path : List ℕ) (r : Request)
+    → ComesFrom x (entry.Intent number token lane path r) name s (effect_at (x.place + 1) (entry.Intent number token lane path r) s).stack
+from_intent x name s number token lane path r =
+    let e : Entry = entry.Intent number token lane path r in
+    let p : Pending = record { token = token; path = path; lane = lane; request = r } in
+    intended_way (λ t. ComesFrom x e name s (heard (x.place + 1) e s (on_stack t)).stack) s
+    (record { rows = λ d i. inl (d, i, same_call d); resources = λ q i. inl (q, i, refl) }) number p
+    (record {
+      rows = in_more (λ d. ((c : Call) × In c s.ledger × IsSameCall c d) ⊎ IsNewRow e d) _ s.ledger (λ d i. inl (d, i, same_call d)) (inr (p, refl, refl, refl));
+      resources = λ q i. inl (q, i, refl);
+    })
+
+from_outcome :
+    (x : World) (name : List ℕ) (s : StackState) (number token : ℕ) (a : Reply) (before after : ℕ) → stack_for (entry.Outcome number token a before after) x ≡ Some (name, s)
+    → ComesFrom x (entry.Outcome number token a before after) name s (effect_at (x.place + 1) (entry.Outcome number token a before after) s).stack
+from_outcome x name s number token a before after mine = by (pending_of token s) refl where
+  e : Entry
+  e = entry.Outcome number token a before after
+
+  rows : (u : StackState) (ps : List Pending) → IsSameBut s u → (d : Call) → In d (where_call token (answered_call a) u.ledger) → (c : Call) × In c s.ledger × IsSameCall c d
+  rows u ps b d i = (rows_answered token a ps s.ledger).from d (subst (λ cs. In d (where_call token (answered_call a) cs)) b.ledger i)
+
+  answered_from : (p : Pending) → pending_of token s ≡ Some p → (r : Request) (b : Reply) (u : StackState) → p.request ≡ r → a ≡ b → IsLeftBy s p.path r b u
+      → ComesFrom x (entry.Outcome number token a before after) name s (heard (x.place + 1) (entry.Outcome number token a before after) s (on_stack (closing token a u))).stack
+  answered_from p k r b u f g (is_same but keys) =
+      record { rows = λ d i. inl (rows u [] but d i); resources = λ q i. inl (by_keys s u (λ z j. subst (In z) keys j) q i) }
+  answered_from p k r b u f g (is_gone id but named closes keys) =
+      record { rows = λ d i. inl (rows u [] but d i); resources = λ q i. inl (by_keys s u (λ z j. (in_filter (has_other id) (keys_of s) z (subst (In z) keys j)).0) q i) }
+  answered_from p k _ _ u f g (is_made kind id props attrs h but is id_is kind_is) = record {
+    rows = λ d i. inl (rows u [] but d i);
+    resources = λ q i.
+        in_more (λ z. ((y : Held) × In y (resources_of s) × (y.physical ≡ z.physical)) ⊎ IsNewResource x (entry.Outcome number token a before after) name s z) h (resources_of s) (λ z j. inl (z, j, refl))
+        (inr (record {
+          mine = mine;
+          answer = record { token = token; answer = a; before = before; after = after };
+          attrs = attrs;
+          pending = p;
+          told = refl;
+          success = g ∙ ap (λ n. reply.Success n attrs) (sym id_is);
+          open_ = k;
+          create = ap named_by f;
+        }))
+        q (subst (In q) is i);
+  }
+
+  by : (o : Option Pending) → pending_of token s ≡ o → ComesFrom x (entry.Outcome number token a before after) name s (effect_at (x.place + 1) (entry.Outcome number token a before after) s).stack
+  by None k =
+      subst (λ o. ComesFrom x (entry.Outcome number token a before after) name s (heard (x.place + 1) (entry.Outcome number token a before after) s (on_stack (replied token a o s))).stack) (sym k)
+      (record { rows = λ d i. inl (d, i, same_call d); resources = λ q i. inl (q, i, refl) })
+  by (Some p) k =
+      subst (λ o. ComesFrom x (entry.Outcome number token a before after) name s (heard (x.place + 1) (entry.Outcome number token a before after) s (on_stack (replied token a o s))).stack) (sym k)
+      (answered_from p k p.request a (answered (is_restore token s) p.path p.request a s) refl refl (left_by (is_restore token s) p.path p.request a s))
+
+module _ (schemas : List Schema) (x : World) (out : List ℕ) (apart : AreApart x) where
+  own_from : (e : Entry) (name : List ℕ) (s : StackState) → stack_for e x ≡ Some (name, s) → MayFollow schemas x out e → IsSteady s → ComesFrom x e name s (effect_at (x.place + 1) e s).stack
+  own_from (entry.Intent number token lane path r) name s mine may steady = from_intent x name s number token lane path r
+  own_from (entry.Outcome number token a before after) name s mine may steady = from_outcome x name s number token a before after mine
+  own_from (entry.Opened epoch lanes) name s mine may steady = let none : ⊥ = cc in absurd none
+  own_from e name s mine may steady = from_less x e name s _ (own_less schemas x out apart e name s mine may steady tt)
+
+  opening_from : (e : Entry) (name : List ℕ) (s : StackState) → is_opening e ≡ true → ComesFrom x e name s (effect_at (x.place + 1) e s).stack
+  opening_from (entry.Opened epoch lanes) name s n = from_less x (entry.Opened epoch lanes) name s _ (opening_less x epoch lanes s)
+  opening_from e name s n = absurd (true≢false (sym n))
+
+  -- so it is with every stack that is there after an entry
+  pub comes_from : (e : Entry) (name : List ℕ) (t : StackState) → MayFollow schemas x out e → AreSteady x → (f : Stands x e name t) → ComesFrom x e name f.stack t
+  comes_from e name t may steady f = by t f.becomes where
+    by : (u : StackState) → BecomesBy x e name f.stack u → ComesFrom x e name f.stack u
+    by _ (is_own mine) = own_from e name f.stack mine may (subst IsSteady f.known (known_steady x steady name))
+    by _ (at_opening n) = opening_from e name f.stack n
+    by _ (is_other n no_one) = from_less x e name f.stack f.stack (less_self f.stack)
+
+pub names_same : (r : Request) → id_named r ≡ named_by r
+names_same r = grind arith
+
+first_stays : {A B : Type 0} (f : A → B) (o q : Option A) (b : B) → option_map f o ≡ Some b → option_map f (option_or o q) ≡ Some b
+first_stays f o q b e = grind arith
+
+-- what the journal has it keeps
+pub call_kept : (es : List Entry) (e : Entry) (t : ℕ) (c : Called) → call_in es t ≡ Some c → call_in (es ++ e ∷ []) t ≡ Some c
+call_kept es e t c h = ap (option_map called_as) (call_more es e t) ∙ first_stays called_as (call_at t es) (call_at t (e ∷ [])) c h
+
+told_kept : (es : List Entry) (e : Entry) (t : ℕ) (y : Settlement) → told_in es t ≡ Some y → told_in (es ++ e ∷ []) t ≡ Some y
+told_kept es e t y h = told_more es e t ∙ ap (λ o. option_or o (told_in (e ∷ []) t)) h
+
+pub made_kept : (es : List Entry) (e : Entry) (id : List ℕ) → IsMadeBy es id → IsMadeBy (es ++ e ∷ []) id
+made_kept es e id (u, c, attrs, told, call, create) = (u, c, attrs, told_kept es e u (settlement.Success id attrs) told, call_kept es e u c call, create)
+
+-- a call that the journal has now it had before, or the entry writes it down
+call_back : (es : List Entry) (e : Entry) (t : ℕ) (c : Called) → call_in (es ++ e ∷ []) t ≡ Some c → (call_in es t ≡ Some c) ⊎ ((p : Pending) × (written_in e ≡ Some p) × (called_as p ≡ c))
+call_back es e t c h = by (call_at t es) refl (sym (ap (option_map called_as) (call_more es e t)) ∙ h) where
+  new : (w : Option Pending) → written_in e ≡ w → option_map called_as (find (has_token t) (cons_option w [])) ≡ Some c → (p : Pending) × (written_in e ≡ Some p) × (called_as p ≡ c)
+  new None f k = absurd (cc)
+  new (Some p) f k = (p, f, by_token (has_token t p) k) where
+    by_token : (b : Bool) → option_map called_as (cond b (Some p) None) ≡ Some c → called_as p ≡ c
+    by_token b z = grind arith
+
+  by : (o : Option Pending) → call_at t es ≡ o → option_map called_as (option_or o (call_at t (e ∷ []))) ≡ Some c → (call_in es t ≡ Some c) ⊎ ((p : Pending) × (written_in e ≡ Some p) × (called_as p ≡ c))
+  by None f k = inr (new (written_in e) refl k)
+  by (Some p) f k = inl (ap (option_map called_as) f ∙ k)
+
+-- the call that an entry writes down under a token that has none
+call_new : (es : List Entry) (e : Entry) (p : Pending) → written_in e ≡ Some p → call_in es p.token ≡ None → call_in (es ++ e ∷ []) p.token ≡ Some (called_as p)
+call_new es e p w none =
+    ap (option_map called_as) (call_more es e p.token) ∙ by (call_at p.token es) none
+    ∙ cc (eq-eqb p.token p.token refl) where
+      by : (o : Option Pending) → option_map called_as o ≡ None → option_map called_as (option_or o (call_at p.token (e ∷ []))) ≡ call_in (e ∷ []) p.token
+      by None k = refl
+      by (Some q) k = absurd (cc)
+
+-- an answer for good that an entry writes down for a call that has none
+told_new : (es : List Entry) (e : Entry) (r : Response) (y : Settlement) → reply_in e ≡ Some r → for_good r.answer ≡ Some y → told_in es r.token ≡ None → told_in (es ++ e ∷ []) r.token ≡ Some y
+told_new es e r y w good none = cc (told_more es e r.token, eq-eqb r.token r.token refl)
+
+module _ (es : List Entry) (x : World) where
+  pub known_written : AreWritten es x → (name : List ℕ) (s : StackState) → known_stack name x ≡ s → (c : Call) → In c s.ledger → call_in es c.token ≡ Some (called_by c)
+  known_written h name s e c i =
+      at_known (λ (t : StackState). In c t.ledger → call_in es c.token ≡ Some (called_by c)) x name (λ j. elim j [ ]) (λ t f. h name t c f) (subst (λ (t : StackState). In c t.ledger) (sym e) i)
+
+  pub known_made : (lanes : List Lane) → HaveOrigins es x lanes → (name : List ℕ) (s : StackState) → known_stack name x ≡ s → (r : Held) → In r (resources_of s) → IsMadeBy es r.physical
+  known_made lanes h name s e r i =
+      at_known (λ (t : StackState). In r (resources_of t) → IsMadeBy es r.physical) x name (λ j. elim j [ ]) (λ t f. h.made name t r f) (subst (λ (t : StackState). In r (resources_of t)) (sym e) i)
+
+  -- an open call of a stack is open
+  pub open_there : AreOwn x.stacks → (e : Entry) → is_opening e ≡ false → (name : List ℕ) (s : StackState) → stack_for e x ≡ Some (name, s) → (t : ℕ) (p : Pending) → pending_of t s ≡ Some p → open_in x.stacks t ≡ Some (open_as name p)
+  open_there separate e n name s mine t p k =
+      let at = on_one e x name s separate n mine in
+      open_own x.stacks (changed_by (x.place + 1) e x).stacks name s (effect_at (x.place + 1) e s).stack at.one t (open_as name p) ((at.unshared).tokens t p k).0 (ap (option_map (open_as name)) k)
+
+-- the types of the lanes of the last opening
+pub named_there : (lanes : List (List ℕ × List ℕ)) (l : List ℕ × List ℕ) → In l lanes → (k : List ℕ) × (named_in lanes l.0 ≡ Some k)
+named_there lanes l i =
+    let (m, f) = is_found_in (λ (q : List ℕ × List ℕ). bytes_eq l.0 q.0) lanes l i ((bytes_eq-Decides l.0 l.0).1 refl) in
+    (m.1, ap (option_map (λ (q : List ℕ × List ℕ). q.1)) f)
+
+no_opening : (e : Entry) (r : Response) → reply_in e ≡ Some r → is_opening e ≡ false
+no_opening e r h = grind arith
+
+module _ (schemas : List Schema) (es : List Entry) (x : World) (lanes : List Lane) (out : List ℕ) (e : Entry) (may : MayFollow schemas x out e) (apart : AreApart x) (own : AreOwn x.stacks) (steady : AreSteady x)
+    (books : Books (account_of es x)) (origins : HaveOrigins es x lanes) where
+  -- what the call that an entry writes down names was made, and its lane is there
+  record IsKnownCall (p : Pending) : Type 0 where
+    pub next : p.token ≡ x.token + 1
+    pub named : (id : List ℕ) → named_by p.request ≡ Some id → IsMadeBy es id
+    pub lane : (k : List ℕ) × (named_in x.lanes p.lane ≡ Some k)
+
+  intent_known : (number token : ℕ) (lane path : List ℕ) (r : Request) → MayFollow schemas x out (entry.Intent number token lane path r) → IsKnownCall (record { token = token; path = path; lane = lane; request = r })
+  intent_known number token lane path r (name, s, stage, at, is, m) =
+      let p : Pending = record { token = token; path = path; lane = lane; request = r } in
+      let known = stack_known x apart (entry.Intent number token lane path r) name s at in
+      record {
+        next = m.next;
+        named = λ id n.
+            let (q, i, f, g) = intends_named stage schemas name x s path r id (subst IsSteady known (known_steady x steady name)) m.chosen (names_same r ∙ n) in
+            subst (IsMadeBy es) f (known_made es x lanes origins name s known q i);
+        lane =
+            let (l, i, (f, g)) = fitting_lane x p r refl m.fits in
+            let (k, h) = named_there x.lanes l i in (k, ap (named_in x.lanes) (sym f) ∙ h);
+      }
+
+  known_call : (d : Entry) → MayFollow schemas x out d → (p : Pending) → written_in d ≡ Some p → IsKnownCall p
+  known_call (entry.Intent number token lane path r) m p w =
+      let one : record { token = token; path = path; lane = lane; request = r } ≡ p = ap (λ (o : Option Pending). unwrap_or o p) w in
+      subst IsKnownCall one (intent_known number token lane path r m)
+  known_call d m p w = absurd (cc)
+
+  none_called : (t : ℕ) → t ≡ x.token + 1 → call_in es t ≡ None
+  none_called t next = on_option (call_in es t) (λ f. f) (λ c f. let low = books.numbers t c f in absurd (omega arith))
+
+  pub written_kept : AreWritten es x → AreWritten (es ++ e ∷ []) (world_after x e)
+  written_kept h name t c g i =
+      let f : Stands x e name t = stands_by x apart e name t g in
+      elim ((comes_from schemas x out apart e name t may steady f).rows c i) [
+        | inl (b, j, s) ↦ (
+            let called : called_by b ≡ called_by c = λ k. record { path = sym s.path k; lane = sym s.lane k; request = sym s.request k } in
+            ap (call_in (es ++ e ∷ [])) s.token ∙ call_kept es e b.token (called_by b) (known_written es x h name f.stack f.known b j) ∙ ap Some called
+            )
+        | inr (p, w, k, s) ↦ ap (call_in (es ++ e ∷ [])) k ∙ call_new es e p w (none_called p.token (known_call e may p w).next) ∙ ap Some (sym s)
+      ]
+
+  pub origins_kept : (ties : Ties (account_of es x) (lanes_of lanes)) → HaveOrigins (es ++ e ∷ []) (world_after x e) lanes
+  origins_kept ties = record {
+    made = λ name t r g i. let f : Stands x e name t = stands_by x apart e name t g in elim ((comes_from schemas x out apart e name t may steady f).resources r i) [
+      | inl (q, j, s) ↦ subst (IsMadeBy (es ++ e ∷ [])) s (made_kept es e q.physical (known_made es x lanes origins name f.stack f.known q j))
+      | inr n ↦ (
+          let token = (n.answer).token in
+          let open_ = open_there es x own e (no_opening e n.answer n.told) name f.stack n.mine token n.pending n.open_ in
+          let call = books.calls token (open_as name n.pending) open_ in (
+            token,
+            called (open_as name n.pending),
+            n.attrs,
+            told_new es e n.answer (settlement.Success r.physical n.attrs) n.told (ap for_good n.success) (books.untold token (open_as name n.pending) open_),
+            call_kept es e token (called (open_as name n.pending)) call,
+            n.create,
+          )
+          )
+    ];
+    named = λ t c id h n. elim (call_back es e t c h) [
+      | inl k ↦ made_kept es e id (origins.named t c id k n)
+      | inr k ↦ made_kept es e id ((known_call e may k.0 k.1).named id (ap (λ (z : Called). named_by z.request) k.2 ∙ n))
+    ];
+    there = λ t c h. elim (call_back es e t c h) [
+      | inl k ↦ origins.there t c k
+      | inr k ↦ (let (kind, m) = (known_call e may k.0 k.1).lane in (kind, ap (lanes_of lanes).kind (ap (λ (z : Called). z.lane) (sym k.2)) ∙ ties.handed (k.0).lane kind m))
+    ];
+  }
+
+-- what a create that succeeds makes
+made_create : (r : Request) (attrs : Dict) (id : List ℕ) → named_by r ≡ None → (q : Settled) → q.request ≡ r → q.settlement ≡ settlement.Success id attrs → IsMade q id
+made_create (request.Create kind props) attrs id n q a b = (kind, props, attrs, cc)
+made_create (request.Update i props) attrs id n q a b = absurd (cc)
+made_create (request.Delete i) attrs id n q a b = absurd (cc)
+
+-- What an open create made is new to its stack, and has an id of its lane.
+module _ (es : List Entry) (x : World) (lanes : List Lane) (books : Books (account_of es x)) (ties : Ties (account_of es x) (lanes_of lanes)) (origins : HaveOrigins es x lanes) where
+  module _ (t : ℕ) (o : Open) (y : Settled) (id : List ℕ) (open_ : open_in x.stacks t ≡ Some o) (settled : entry_in (lanes_of lanes) o.lane t ≡ Some y) (made : IsMade y id) where
+    pub never_made : IsMadeBy es id → ⊥
+    never_made (u, c, attrs, told, call, create) =
+        let (s, at, is) = ties.answers u (settlement.Success id attrs) c told call (origins.there u c call) in
+        let request = ((ties.settled_calls c.lane u s at).written c call).1 in
+        let also = made_create c.request attrs id create s (sym request) is in
+        let lane : c.lane ≡ o.lane = sym (ties.created_named c.lane id u s at also).0 ∙ (ties.created_named o.lane id t y settled made).0 in
+        let same : u ≡ t = ties.created_once o.lane id u t s y (subst (λ n. entry_in (lanes_of lanes) n u ≡ Some s) lane at) settled also made in
+        let none = books.untold t o open_ in
+        let some : told_in es t ≡ Some (settlement.Success id attrs) = ap (told_in es) (sym same) ∙ told in
+        cc
+
+-- What a create that is answered made is new to its stack, and has an id of its lane.
+
+-- a member of a list is one of what it is mapped to, as agreement has its lists
+pub agreed_in : {A B : Type 0} (f : A → B) (xs : List A) (x : A) → In x xs → base.In (f x) (map f xs)
+agreed_in f [] x i = elim i [ ]
+agreed_in f (y ∷ xs) _ here = base.here
+agreed_in f (y ∷ xs) x (there i) = base.there (agreed_in f xs x i)
+
+module _ (schemas : List Schema) (es : List Entry) (x : World) (lanes : List Lane) (leases : List Lease) (h : AreSound schemas es x lanes leases) (lease : Lease) (out : In lease leases) where
+  module _ (id : List ℕ) (attrs : List (List ℕ × Data)) (before after : ℕ) (replied : good_reply lease.reply ≡ Some (settlement.Success id attrs)) where
+    abbrev outcome : Entry
+    outcome = entry.Outcome lease.number lease.token (reply.Success id attrs) before after
+
+    record IsAnswer (name : List ℕ) (s : StackState) (p : Pending) : Type 0 where
+      pub open_ : open_in x.stacks lease.token ≡ Some (open_as name p)
+      pub settled : Settled
+      pub at : entry_in (lanes_of lanes) p.lane lease.token ≡ Some settled
+      pub made : IsMade settled id
+
+    is_answer : (name : List ℕ) (s : StackState) (p : Pending) → stack_of_operation lease.number x ≡ Some (name, s) → pending_of lease.token s ≡ Some p → id_named p.request ≡ None → IsAnswer name s p
+    is_answer name s p going pending create =
+        let leased = (h.agrees).leased in
+        let books = ((h.agrees).tied).books in
+        let ties = ((h.agrees).tied).ties in
+        let member = agreed_in lease_of leases lease out in
+        let (y, at, is) = leased.replies (lease_of lease) (settlement.Success id attrs) member replied in
+        let open_ = open_there es x (h.orderly).own outcome refl name s going lease.token p pending in
+        let call = books.calls lease.token (open_as name p) open_ in
+        let (lane, request) = ((leased.out (lease_of lease) member).own).written (called (open_as name p)) call in
+        let settled_here = subst (λ n. entry_in (lanes_of lanes) n lease.token ≡ Some y) (sym lane) at in
+        let asked = ((ties.settled_calls p.lane lease.token y settled_here).written (called (open_as name p)) call).1 in
+        record { open_ = open_; settled = y; at = settled_here; made = made_create p.request attrs id (sym (names_same p.request) ∙ create) y (sym asked) is }
+
+    is_new : IsNew x outcome
+    is_new name s p going pending create =
+        let a = is_answer name s p going pending create in
+        let known = stack_known x (h.orderly).apart outcome name s going in
+        let never = never_made es x lanes ((h.agrees).tied).books ((h.agrees).tied).ties h.origins lease.token (open_as name p) a.settled id a.open_ a.at a.made in
+        record {
+          resources = λ r i e. never (subst (IsMadeBy es) e (known_made es x lanes h.origins name s known r i));
+          calls = λ c i e. never ((h.origins).named c.token (called_by c) id (known_written es x h.written name s known c i) (sym (names_same c.request) ∙ e));
+        }
+
+    is_of_lane : IsOfItsLane x outcome
+    is_of_lane name s p going pending create =
+        let a = is_answer name s p going pending create in
+        ((((h.agrees).tied).ties).created_named p.lane id lease.token a.settled a.at a.made).1
+
+  pub settled_new : (e : Entry) (r : CallEnd) → lease.reply ≡ Some r → IsOutcomeOf lease r e → IsNew x e × IsOfItsLane x e
+  settled_new e (Answered (answer.Success id attrs) before after) k is =
+      subst (λ d. IsNew x d × IsOfItsLane x d) (sym is) (is_new id attrs before after (ap good_reply k), is_of_lane id attrs before after (ap good_reply k))
+  settled_new e (Answered (answer.Failed c) before after) k is = subst (λ d. IsNew x d × IsOfItsLane x d) (sym is) (tt, tt)
+  settled_new e (Answered answer.Fault before after) k is = subst (λ d. IsNew x d × IsOfItsLane x d) (sym is) (tt, tt)
+  settled_new e (Answered answer.NoMemory before after) k is = absurd is
+  settled_new e (Stale fence) k is = absurd is
+
+-- What begins, and a change set, keep agreement, and take nothing of another stack.
 
 -- How what begins, a change set, and calls that are given up move the account.
 
--- of the open call of a token: it passes; it is a create that passes
-abbrev pub passes : (Pending → Bool) → Option Pending → Bool
-passes test None = false
-passes test (Some p) = test p
-
-abbrev pub gives : (Pending → Bool) → Option Pending → Bool
-gives test None = false
-gives test (Some p) = test p && is_created p
-
-pub creates_same : (r : Request) → creates r ≡ is_create r
-creates_same (request.Create kind props) = refl
-creates_same (request.Update id props) = refl
-creates_same (request.Delete id) = refl
-
 -- no stack rests that did not, where the one that changes doesn't
 pub rests_less : (ss : Named) (name : List ℕ) (t : StackState) → is_at_rest t ≡ false → (n : List ℕ) → resting_in (put name t ss) n ≡ true → resting_in ss n ≡ true
-rests_less ss name t off n h = by (bytes_eq n name) refl where
-  by : (b : Bool) → bytes_eq n name ≡ b → resting_in ss n ≡ true
-  by true e = absurd (true≢false (sym h ∙ ap (λ m. resting_in (put name t ss) m) ((bytes_eq-Decides n name).0 e) ∙ ap (λ o. option_map_or is_at_rest o false) (put_here name t ss) ∙ off))
-  by false e = ap (λ o. option_map_or is_at_rest o false) (sym (put_else n name t ss e)) ∙ h
-
-round : (a b c d : Bool) → (a || ((b || c) || d)) ≡ ((a || (b || d)) || c)
-round true b c d = refl
-round false true c d = refl
-round false false true true = refl
-round false false true false = refl
-round false false false true = refl
-round false false false false = refl
-
-module _ (es : List Entry) (x y : World) (e : Entry) (name : List ℕ) (s s' : StackState) (at : IsOnOne x y name s s') (no_call : written_in e ≡ None) (no_answer : reply_in e ≡ None) where
-  -- what is told of the stack stays
-  pub alike_moves : s'.held ≡ s.held → s'.made ≡ s.made → s'.leftovers ≡ s.leftovers → s'.tokens ≡ s.tokens → s'.abandoned ≡ s.abandoned
-      → account_of (es ++ e ∷ []) y ≡ rested (resting_in y.stacks) (account_of es x)
-  alike_moves held made leftovers tokens abandoned =
-      same_account _ _ (λ i. role_same x.stacks y.stacks name s s' at.one i (role_alike name i s s' held made leftovers))
-      (λ t. open_same x.stacks y.stacks name s s' at.one t (ap (λ ps. option_map (open_as name) (find (has_token t) ps)) tokens))
-      (λ t. lost_same x.stacks y.stacks name s s' at.one t (ap (λ gs. list_any (λ (g : LostCall). t == g.token) gs) abandoned))
-      (λ t. call_same es e t no_call) (λ t. told_same es e t no_answer) (λ n. refl) (λ n. ap (λ ls. named_in ls n) at.lanes) at.token at.epoch
-
-  -- some of its calls are given up
-  module _
-      (test : Pending → Bool) (once : all_differ ◌==◌ (map (λ (p : Pending). p.token) s.tokens) ≡ true) (tokens : s'.tokens ≡ filter (λ p. not (test p)) s.tokens)
-      (lost_too : (t : ℕ) → lost_on s' t ≡ (lost_on s t || gives test (find (has_token t) s.tokens))) where
-    abbrev pub drops : ℕ → Bool
-    drops t = passes test (find (has_token t) s.tokens)
-
-    abbrev f : OneStack x.stacks y.stacks name s s'
-    f = at.one
-
-    of_stack : (t : ℕ) → open_on name s' t ≡ option_map (open_as name) (unless test (find (has_token t) s.tokens))
-    of_stack t = ap (λ ps. option_map (open_as name) (find (has_token t) ps)) tokens ∙ ap (option_map (open_as name)) (find_unless t test s.tokens once)
-
-    pub open_is : (t : ℕ) (p : Pending) → find (has_token t) s.tokens ≡ Some p → open_in x.stacks t ≡ Some (open_as name p)
-    open_is t p k =
-        let (a, b) = (at.unshared).tokens t p k in
-        open_was x.stacks y.stacks name s s' f t ∙ ap (λ r. option_or r (option_or (open_on name s t) (open_in (f.back) t))) a ∙ ap (option_or (open_on name s t)) b ∙ ap (λ r. option_or (option_map (open_as name) r) None) k
-
-    opens : (t : ℕ) → open_in y.stacks t ≡ cond (drops t) None (open_in x.stacks t)
-    opens t = by (find (has_token t) s.tokens) refl where
-      by : (q : Option Pending) → find (has_token t) s.tokens ≡ q → open_in y.stacks t ≡ cond (passes test q) None (open_in x.stacks t)
-      by None k = open_same x.stacks y.stacks name s s' f t (of_stack t ∙ ap (λ q. option_map (open_as name) (unless test q)) k ∙ sym (ap (option_map (open_as name)) k))
-      by (Some p) k =
-          let (a, b) = (at.unshared).tokens t p k in
-          open_now x.stacks y.stacks name s s' f t ∙ ap (λ r. option_or r (option_or (open_on name s' t) (open_in f.back t))) a ∙ ap (option_or (open_on name s' t)) b
-          ∙ ap (λ r. option_or r None) (of_stack t ∙ ap (λ q. option_map (open_as name) (unless test q)) k) ∙ by_test (test p) ∙ ap (cond (test p) None) (sym (open_is t p k))
-        where
-          by_test : (c : Bool) → option_or (option_map (open_as name) (cond c None (Some p))) None ≡ cond c None (Some (open_as name p))
-          by_test true = refl
-          by_test false = refl
-
-    -- the stacks with this one in its place
-    itself : OneStack x.stacks (f.front ++ (name, s) ∷ f.back) name s s
-    itself = record { front = f.front; back = f.back; was = f.was; now = refl; before = f.before; behind = f.behind }
-
-    lost_more : (t : ℕ) (c : Bool) → lost_on s' t ≡ (lost_on s t || c) → lost_in y.stacks t ≡ (lost_in x.stacks t || c)
-    lost_more t c k =
-        ap (λ ss. lost_in ss t) f.now ∙ list_any-append (λ (q : List ℕ × StackState). lost_on q.1 t) f.front ((name, s') ∷ f.back) ∙ ap (λ b. lost_in f.front t || (b || lost_in f.back t)) k
-        ∙ round (lost_in f.front t) (lost_on s t) c (lost_in f.back t)
-        ∙ ap (λ b. b || c) (sym (list_any-append (λ (q : List ℕ × StackState). lost_on q.1 t) f.front ((name, s) ∷ f.back)) ∙ lost_same x.stacks (f.front ++ (name, s) ∷ f.back) name s s itself t refl)
-
-    given : (t : ℕ) → gives test (find (has_token t) s.tokens) ≡ (drops t && account.is_create (open_in x.stacks t))
-    given t = by (find (has_token t) s.tokens) refl where
-      by : (q : Option Pending) → find (has_token t) s.tokens ≡ q → gives test q ≡ (passes test q && account.is_create (open_in x.stacks t))
-      by None k = refl
-      by (Some p) k = ap (λ b. test p && b) (sym (creates_same p.request) ∙ ap account.is_create (sym (open_is t p k)))
-
-    pub dropped_moves : account_of (es ++ e ∷ []) y ≡ rested (resting_in y.stacks) (dropped drops (role_in y.stacks) (account_of es x))
-    dropped_moves =
-        same_account _ _ (λ i. refl) opens
-        (λ t. lost_more t (gives test (find (has_token t) s.tokens)) (lost_too t) ∙ ap (λ b. lost_in x.stacks t || b) (given t))
-        (λ t. call_same es e t no_call) (λ t. told_same es e t no_answer) (λ n. refl) (λ n. ap (λ ls. named_in ls n) at.lanes) at.token at.epoch
+rests_less ss name t off n h = elim (bytes_or n name) [
+  | inl e ↦ absurd (true≢false (sym h ∙ ap (resting_in (put name t ss)) e ∙ ap (λ o. option_map_or is_at_rest o false) (put_here name t ss) ∙ off))
+  | inr e ↦ ap (λ o. option_map_or is_at_rest o false) (sym (put_else n name t ss (other_bytes n name e))) ∙ h
+]
 
 -- A change of a stack that takes nothing of another, where no call and no resource is new.
 
@@ -188,11 +426,6 @@ pub data IsLeftAlike (s s' : StackState) (i : List ℕ) : Type 0 where
   alike : has_leftover i s'.leftovers ≡ has_leftover i s.leftovers → IsLeftAlike s s' i
   taken : (h : Held) → held_in i s ≡ Some h → held_in i s' ≡ None → IsLeftAlike s s' i
 
-found_blank : (name : List ℕ) (o : Option Held) (b : Bool) → role_found name o b ≡ Stranger → (o ≡ None) × (b ≡ false)
-found_blank name None true e = absurd (cc)
-found_blank name None false e = (refl, refl)
-found_blank name (Some h) b e = absurd (cc)
-
 module _ (ss : Named) (name : List ℕ) (s s' : StackState) (once : IsOnce s) (d : IsLess s s') (left : (i : List ℕ) → IsLeftAlike s s' i) where
   was_held : (i : List ℕ) (h : Held) → held_in i s' ≡ Some h → (g : Held) × (held_in i s ≡ Some g)
   was_held i h e =
@@ -204,7 +437,7 @@ module _ (ss : Named) (name : List ℕ) (s s' : StackState) (once : IsOnce s) (d
   less_local = record {
     once = record { ids = differ_keyed (resources_of s) (resources_of s') d.keyed once.ids; left = λ i h e. not_left i h e (left i); tokens = d.tokens once.tokens };
     held = λ i h e. inl (was_held i h e);
-    role = λ i e. inl (let (a, b) = found_blank name (held_in i s) (has_leftover i s.leftovers) e in blank i a b (held_in i s') refl (left i));
+    role = λ i e. inl (let (a, b) = found_none name (held_in i s) (has_leftover i s.leftovers) e in blank i a b (held_in i s') refl (left i));
     tokens = λ t v e. inl (let (i, f) = found_one (has_token t) s'.tokens v e in is_found_in (has_token t) s.tokens v (d.open_ v i) f);
   } where
     not_left : (i : List ℕ) (h : Held) → held_in i s' ≡ Some h → IsLeftAlike s s' i → has_leftover i s'.leftovers ≡ false
@@ -230,31 +463,18 @@ plain_orderly schemas x out o steady e name s n mine may plain next left =
 
 -- what is listed without an id is no leftover of any
 pub unknown_more : (i : List ℕ) (ls ms : List Left) → ((l : Left) → In l ms → l.physical ≡ unknown_id) → has_leftover i (ls ++ ms) ≡ has_leftover i ls
-unknown_more i ls ms h = ap (λ b. not (bytes_eq i unknown_id) && b) (list_any-append (λ (l : Left). bytes_eq i l.physical) ls ms) ∙ by (bytes_eq i unknown_id) refl where
-  none : (ks : List Left) → ((l : Left) → In l ks → l.physical ≡ unknown_id) → bytes_eq i unknown_id ≡ false → list_any (λ (l : Left). bytes_eq i l.physical) ks ≡ false
-  none [] h e = refl
-  none (k ∷ ks) h e = ap (λ b. b || list_any (λ (l : Left). bytes_eq i l.physical) ks) (ap (bytes_eq i) (h k here) ∙ e) ∙ none ks (λ l j. h l (there j)) e
-
-  or_false : (a b : Bool) → b ≡ false → (a || b) ≡ a
-  or_false true b e = refl
-  or_false false b e = e
-
-  by : (b : Bool) → bytes_eq i unknown_id ≡ b
-      → (not b && (list_any (λ (l : Left). bytes_eq i l.physical) ls || list_any (λ (l : Left). bytes_eq i l.physical) ms)) ≡ (not b && list_any (λ (l : Left). bytes_eq i l.physical) ls)
-  by true e = refl
-  by false e = or_false (list_any (λ (l : Left). bytes_eq i l.physical) ls) _ (none ms h e)
+unknown_more i [] [] h = refl
+unknown_more i [] (m ∷ ms) h = let ih = unknown_more i [] ms (λ l j. h l (there j)) in let k = ap (bytes_eq i) (h m here) in grind arith
+unknown_more i (l ∷ ls) ms h = let ih = unknown_more i ls ms h in grind arith
 
 -- A continued rollback, and a create that is kept without an id, give up calls and nothing else that agreement rests on.
 
 -- two tests that follow from each other are the same
 same_test : (a b : Bool) → (a ≡ true → b ≡ true) → (b ≡ true → a ≡ true) → a ≡ b
-same_test true b f g = sym (f refl)
-same_test false true f g = g refl
-same_test false false f g = refl
+same_test a b f g = grind arith
 
 -- the creates among the calls that are given_one up
-pub lost_among :
-    (test : Pending → Bool) (ps cs : List Pending) → all_differ ◌==◌ (map (λ (p : Pending). p.token) ps) ≡ true
+pub lost_among : (test : Pending → Bool) (ps cs : List Pending) → all_differ ◌==◌ (map (λ (p : Pending). p.token) ps) ≡ true
     → ((p : Pending) → In p cs → In p ps × ((test p && is_created p) ≡ true)) → ((p : Pending) → In p ps → (test p && is_created p) ≡ true → In p cs)
     → (s s' : StackState) → s'.abandoned ≡ s.abandoned ++ map given_up cs → (t : ℕ) → lost_on s' t ≡ (lost_on s t || gives test (find (has_token t) ps))
 lost_among test ps cs once from to s s' is t =
@@ -278,45 +498,42 @@ lost_among test ps cs once from to s s' is t =
 
 -- those at one path, and at some paths
 both : (a b : Bool) → (a && b) ≡ true → (a ≡ true) × (b ≡ true)
-both true true h = (refl, refl)
-both true false h = absurd (true≢false (sym h))
-both false b h = absurd (true≢false (sym h))
+both a b h = grind arith
 
 each : (a b : Bool) → a ≡ true → b ≡ true → (a && b) ≡ true
-each true b h k = k
-each false b h k = absurd (true≢false (sym h))
+each a b h k = grind arith
 
-pub at_path : (path : List ℕ) (ps : List Pending) (p : Pending) → In p (filter (is_create_at path) ps) → In p ps × ((is_create_at path p && is_created p) ≡ true)
+wider : (a b c : Bool) → (b && c) ≡ true → ((a || b) && c) ≡ true
+wider a b c h = grind arith
+
+at_path : (path : List ℕ) (ps : List Pending) (p : Pending) → In p (filter (is_create_at path) ps) → In p ps × ((is_create_at path p && is_created p) ≡ true)
 at_path path ps p i =
     let (j, t) = in_filter (is_create_at path) ps p i in
     (j, each (is_create_at path p) (is_created p) t (both (is_created p) (bytes_eq path p.path) t).0)
 
-pub to_path : (path : List ℕ) (ps : List Pending) (p : Pending) → In p ps → (is_create_at path p && is_created p) ≡ true → In p (filter (is_create_at path) ps)
+to_path : (path : List ℕ) (ps : List Pending) (p : Pending) → In p ps → (is_create_at path p && is_created p) ≡ true → In p (filter (is_create_at path) ps)
 to_path path ps p i t = in_kept (is_create_at path) ps p i (both (is_create_at path p) (is_created p) t).0
 
-pub at_paths : (paths : List (List ℕ)) (ps : List Pending) (p : Pending) → In p (skipped_creates paths ps) → In p ps × ((is_among p.path paths && is_created p) ≡ true)
+at_paths : (paths : List (List ℕ)) (ps : List Pending) (p : Pending) → In p (skipped_creates paths ps) → In p ps × ((is_among p.path paths && is_created p) ≡ true)
 at_paths [] ps p i = elim i [ ]
 at_paths (path ∷ paths) ps p i = elim (in_either p (creates_at ps path) (skipped_creates paths ps) i) [
   | inl j ↦ (let (k, t) = in_filter (λ (q : Pending). is_created q && bytes_eq path q.path) ps p j in
       let (c, e) = both (is_created p) (bytes_eq path p.path) t in
-      (k, each (is_among p.path (path ∷ paths)) (is_created p) (or_left (bytes_eq p.path path) (is_among p.path paths) ((bytes_eq-Decides p.path path).1 (sym ((bytes_eq-Decides path p.path).0 e)))) c))
-  | inr j ↦ (let (k, t) = at_paths paths ps p j in
-      let (a, c) = both (is_among p.path paths) (is_created p) t in
-      (k, each (is_among p.path (path ∷ paths)) (is_created p) (or_right (bytes_eq p.path path) (is_among p.path paths) a) c))
+      let same = same_bytes p.path path (sym (bytes_same path p.path e)) in
+      (k, each (is_among p.path (path ∷ paths)) (is_created p) (or_left (bytes_eq p.path path) (is_among p.path paths) same) c))
+  | inr j ↦ (let (k, t) = at_paths paths ps p j in (k, wider (bytes_eq p.path path) (is_among p.path paths) (is_created p) t))
 ]
 
-pub to_paths : (paths : List (List ℕ)) (ps : List Pending) (p : Pending) → In p ps → (is_among p.path paths && is_created p) ≡ true → In p (skipped_creates paths ps)
+to_paths : (paths : List (List ℕ)) (ps : List Pending) (p : Pending) → In p ps → (is_among p.path paths && is_created p) ≡ true → In p (skipped_creates paths ps)
 to_paths [] ps p i t = absurd (true≢false (sym t))
-to_paths (path ∷ paths) ps p i t = by (bytes_eq p.path path) refl (both (is_among p.path (path ∷ paths)) (is_created p) t) (to_paths paths ps p i) where
-  by : (b : Bool) → bytes_eq p.path path ≡ b → ((b || is_among p.path paths) ≡ true) × (is_created p ≡ true) → ((is_among p.path paths && is_created p) ≡ true → In p (skipped_creates paths ps)) → In p (skipped_creates (path ∷ paths) ps)
-  by true e (a, c) ih =
-      in_front p (creates_at ps path) (skipped_creates paths ps)
-      (in_kept (λ (q : Pending). is_created q && bytes_eq path q.path) ps p i (each (is_created p) (bytes_eq path p.path) c ((bytes_eq-Decides path p.path).1 (sym ((bytes_eq-Decides p.path path).0 e)))))
-  by false e (a, c) ih = in_back p (creates_at ps path) (skipped_creates paths ps) (ih (each (is_among p.path paths) (is_created p) a c))
+to_paths (path ∷ paths) ps p i t = elim (bytes_or p.path path) [
+  | inl e ↦ in_front p (creates_at ps path) (skipped_creates paths ps)
+      (in_kept (λ (q : Pending). is_created q && bytes_eq path q.path) ps p i (each (is_created p) (bytes_eq path p.path) (both (is_among p.path (path ∷ paths)) (is_created p) t).1 (same_bytes path p.path (sym e))))
+  | inr e ↦ in_back p (creates_at ps path) (skipped_creates paths ps) (to_paths paths ps p i (ap (λ b. (b || is_among p.path paths) && is_created p) (sym (other_bytes p.path path e)) ∙ t))
+]
 
 -- Where only creates are given_one up, and no role changes.
-pub may_drop_creates :
-    (a : Account) (w : Lanes) (drop : ℕ → Bool) (role : List ℕ → Role) → Books a → ((i : List ℕ) → role i ≡ a.role i)
+pub may_drop_creates : (a : Account) (w : Lanes) (drop : ℕ → Bool) (role : List ℕ → Role) → Books a → ((i : List ℕ) → role i ≡ a.role i)
     → ((t : ℕ) (o : Open) → a.open_ t ≡ Some o → drop t ≡ true → named_by o.request ≡ None) → MayDrop a w drop role
 may_drop_creates a w drop role b same none = record {
   roles = λ i. stays (same i);
@@ -325,97 +542,61 @@ may_drop_creates a w drop role b same none = record {
 }
 
 create_names : (r : Request) → is_create r ≡ true → named_by r ≡ None
-create_names (request.Create kind props) t = refl
-create_names (request.Update id props) t = absurd (true≢false (sym t))
-create_names (request.Delete id) t = absurd (true≢false (sym t))
+create_names r t = grind arith
 
 module _ (x y : World) (name : List ℕ) (s s' : StackState) (at : IsOnOne x y name s s') where
   -- an open call of the stack, by its token
   open_by : (t : ℕ) (p : Pending) (o : Open) → find (has_token t) s.tokens ≡ Some p → open_in x.stacks t ≡ Some o → open_as name p ≡ o
   open_by t p o k e =
-      let (a, b) = (at.unshared).tokens t p k in
-      let is : open_in x.stacks t ≡ Some (open_as name p) = open_own x.stacks y.stacks name s s' at.one t (open_as name p) a (ap (option_map (open_as name)) k) in
-      let both : Some (open_as name p) ≡ Some o = sym is ∙ e in
-      cc
+      let is = open_own x.stacks y.stacks name s s' at.one t (open_as name p) ((at.unshared).tokens t p k).0 (ap (option_map (open_as name)) k) in cc
 
   -- those that are given_one up at a path are creates
-  pub dropped_creates : (path : List ℕ) (t : ℕ) (o : Open) → open_in x.stacks t ≡ Some o → passes (is_create_at path) (find (has_token t) s.tokens) ≡ true → named_by o.request ≡ None
+  dropped_creates : (path : List ℕ) (t : ℕ) (o : Open) → open_in x.stacks t ≡ Some o → passes (is_create_at path) (find (has_token t) s.tokens) ≡ true → named_by o.request ≡ None
   dropped_creates path t o e d = by (find (has_token t) s.tokens) refl d where
     by : (q : Option Pending) → find (has_token t) s.tokens ≡ q → passes (is_create_at path) q ≡ true → named_by o.request ≡ None
     by None k h = absurd (true≢false (sym h))
-    by (Some p) k h =
-        ap (λ (v : Open). named_by v.request) (sym (open_by t p o k e)) ∙ create_names p.request (both (is_created p) (bytes_eq path p.path) h).0
-
-  -- a resource of the stack afterwards is one to all
-  role_then : (i : List ℕ) (h : Held) (r : Thing) → held_in i s ≡ Some h → role_on name s' i ≡ Resource r → role_in y.stacks i ≡ Resource r
-  role_then i h r held on =
-      role_now x.stacks y.stacks name s s' at.one i ∙ ap (λ q. role_or q (role_or (role_on name s' i) (role_in (at.one).back i))) ((at.unshared).roles i h held).0
-      ∙ ap (λ q. role_or q (role_in (at.one).back i)) on
-
-  role_was : (i : List ℕ) (h : Held) → held_in i s ≡ Some h → role_in x.stacks i ≡ Resource (thing_of name h)
-  role_was i h held = role_here x.stacks y.stacks name s s' at.one i (thing_of name h) ((at.unshared).roles i h held).0 (ap (λ o. role_found name o (has_leftover i s.leftovers)) held)
+    by (Some p) k h = ap (λ (v : Open). named_by v.request) (sym (open_by t p o k e)) ∙ create_names p.request (both (is_created p) (bytes_eq path p.path) h).0
 
   -- What is held at skipped paths is in doubt.
   module _ (paths : List (List ℕ)) (held : s'.held ≡ map (skipped_in paths s.before) s.held) (made : s'.made ≡ s.made) (left : (i : List ℕ) → has_leftover i s'.leftovers ≡ has_leftover i s.leftovers) where
-    held_then : (i : List ℕ) (o : Option Held) → find (has_physical i) s.held ≡ o → held_in i s' ≡ option_or (option_map (skipped_in paths s.before) o) (find (has_physical i) s.made)
-    held_then i o e =
-        ap (λ hs. option_or (find (has_physical i) hs) (find (has_physical i) s'.made)) held
-        ∙ ap (λ q. option_or q (find (has_physical i) s'.made)) (find_mapped (has_physical i) (skipped_in paths s.before) s.held (λ h. ap (λ (k : Key). bytes_eq i k.physical) (keeps_skipped paths s.before h)) ∙ ap (option_map (skipped_in paths s.before)) e)
-        ∙ ap (λ hs. option_or (option_map (skipped_in paths s.before) o) (find (has_physical i) hs)) made
+    held_then : (i : List ℕ) → held_in i s' ≡ option_or (option_map (skipped_in paths s.before) (find (has_physical i) s.held)) (find (has_physical i) s.made)
+    held_then i = cc (find_mapped (has_physical i) (skipped_in paths s.before) s.held (λ h. ap (λ (k : Key). bytes_eq i k.physical) (keeps_skipped paths s.before h)))
 
-    held_before : (i : List ℕ) (h : Held) → find (has_physical i) s.held ≡ Some h → held_in i s ≡ Some h
-    held_before i h e = ap (λ q. option_or q (find (has_physical i) s.made)) e
+    role_was : (i : List ℕ) (h : Held) → find (has_physical i) s.held ≡ Some h → role_in x.stacks i ≡ Resource (thing_of name h)
+    role_was i h e = role_here x.stacks y.stacks name s s' at.one i (thing_of name h) ((at.unshared).roles i h (cc)).0 (cc)
+
+    role_then : (i : List ℕ) (h : Held) → find (has_physical i) s.held ≡ Some h → role_in y.stacks i ≡ Resource (thing_of name (skipped_in paths s.before h))
+    role_then i h e =
+        let none = ((at.unshared).roles i h (cc)).0 in let on : role_on name s' i ≡ Resource (thing_of name (skipped_in paths s.before h)) = cc (held_then i) in
+        cc (role_now x.stacks y.stacks name s s' at.one i)
 
     -- what a resource is after that
-    in_doubt : (o : Option Held) (h : Held) → (as_before o h).unsure ≡ true
-    in_doubt None h = refl
-    in_doubt (Some b) h = refl
-
-    as_it_was : (o : Option Held) (h : Held) → ((as_before o h).path ≡ h.path) × ((as_before o h).kind ≡ h.kind)
-    as_it_was None h = (refl, refl)
-    as_it_was (Some b) h = (refl, refl)
-
-    on_then : (i : List ℕ) (h g : Held) → find (has_physical i) s.held ≡ Some h → skipped_in paths s.before h ≡ g → role_on name s' i ≡ Resource (thing_of name g)
-    on_then i h g e k =
-        ap (λ o. role_found name o (has_leftover i s'.leftovers)) (held_then i (Some h) e ∙ ap Some k)
-
-    skipped_is : (h : Held) → is_among h.path paths ≡ true → skipped_in paths s.before h ≡ as_before (find (has_physical h.physical) s.before) h
-    skipped_is h t = ap (λ b. cond b (as_before (find (has_physical h.physical) s.before) h) h) t
+    in_doubt : (o : Option Held) (h : Held) → ((as_before o h).unsure ≡ true) × ((as_before o h).path ≡ h.path) × ((as_before o h).kind ≡ h.kind)
+    in_doubt o h = grind arith
 
     doubted_role : (i : List ℕ) (h : Held) → find (has_physical i) s.held ≡ Some h → is_among h.path paths ≡ true
         → role_in y.stacks i ≡ Resource (thing_of name (as_before (find (has_physical h.physical) s.before) h))
-    doubted_role i h e t = role_then i h _ (held_before i h e) (on_then i h _ e (skipped_is h t))
+    doubted_role i h e t = role_then i h e ∙ ap (λ b. Resource (thing_of name (cond b (as_before (find (has_physical h.physical) s.before) h) h))) t
+
+    -- an id is to all what it was, or is that of a resource that is skipped
+    abbrev IsSkipped : List ℕ → Type 0
+    IsSkipped i = (h : Held) × (find (has_physical i) s.held ≡ Some h) × (is_among h.path paths ≡ true)
+
+    same_or : (i : List ℕ) → (role_in y.stacks i ≡ role_in x.stacks i) ⊎ IsSkipped i
+    same_or i = on_option (find (has_physical i) s.held) (λ e. inl (role_same x.stacks y.stacks name s s' at.one i (cc (held_then i, left i))))
+        (λ h e. on_bool (is_among h.path paths) (λ t. inr (h, e, t))
+        (λ t. inl (role_then i h e ∙ ap (λ b. Resource (thing_of name (cond b (as_before (find (has_physical h.physical) s.before) h) h))) t ∙ sym (role_was i h e))))
 
     move_role : (i : List ℕ) → RoleMove (role_in x.stacks i) (role_in y.stacks i)
-    move_role i = by (find (has_physical i) s.held) refl where
-      by : (o : Option Held) → find (has_physical i) s.held ≡ o → RoleMove (role_in x.stacks i) (role_in y.stacks i)
-      by None e =
-          stays (role_same x.stacks y.stacks name s s' at.one i
-          (ap (λ b. role_found name (held_in i s') b) (left i) ∙ ap (λ o. role_found name o (has_leftover i s.leftovers)) (held_then i None e ∙ sym (ap (λ q. option_or q (find (has_physical i) s.made)) e))))
-      by (Some h) e = by_path (is_among h.path paths) refl where
-        by_path : (b : Bool) → is_among h.path paths ≡ b → RoleMove (role_in x.stacks i) (role_in y.stacks i)
-        by_path true t =
-            let was = find (has_physical h.physical) s.before in
-            doubted (thing_of name h) (thing_of name (as_before was h)) (role_was i h (held_before i h e)) (doubted_role i h e t) refl (as_it_was was h).0 (as_it_was was h).1
-            (ap not (in_doubt was h))
-        by_path false t =
-            stays (role_then i h (thing_of name h) (held_before i h e) (on_then i h h e (ap (λ b. cond b (as_before (find (has_physical h.physical) s.before) h) h) t)) ∙ sym (role_was i h (held_before i h e)))
+    move_role i = elim (same_or i) [
+      | inl e ↦ stays e
+      | inr (h, e, t) ↦ (let was = find (has_physical h.physical) s.before in let d = in_doubt was h in
+          doubted (thing_of name h) (thing_of name (as_before was h)) (role_was i h e) (doubted_role i h e t) refl d.1 d.2 (ap not d.0))
+    ]
 
     -- what is not left over stays a resource
     still : (i : List ℕ) (r : Thing) → role_in x.stacks i ≡ Resource r → (q : Thing) × (role_in y.stacks i ≡ Resource q)
-    still i r e = by (find (has_physical i) s.held) refl (move_role i) where
-      by : (o : Option Held) → find (has_physical i) s.held ≡ o → RoleMove (role_in x.stacks i) (role_in y.stacks i) → (q : Thing) × (role_in y.stacks i ≡ Resource q)
-      by o k (stays same) = (r, same ∙ e)
-      by o k (doubted a b c now d f g h) = (b, now)
-      by (Some h) k (leaves a b now) = by_path (is_among h.path paths) refl where
-        by_path : (b : Bool) → is_among h.path paths ≡ b → (q : Thing) × (role_in y.stacks i ≡ Resource q)
-        by_path true t = (_, doubted_role i h k t)
-        by_path false t = (_, role_then i h (thing_of name h) (held_before i h k) (on_then i h h k (ap (λ b. cond b (as_before (find (has_physical h.physical) s.before) h) h) t)))
-      by None k (leaves a b now) = (
-        r,
-        role_same x.stacks y.stacks name s s' at.one i
-            (ap (λ b. role_found name (held_in i s') b) (left i) ∙ ap (λ o. role_found name o (has_leftover i s.leftovers)) (held_then i None k ∙ sym (ap (λ q. option_or q (find (has_physical i) s.made)) k))) ∙ e,
-      )
+    still i r e = elim (same_or i) [ inl k ↦ (r, k ∙ e) | inr (h, k, t) ↦ (_, doubted_role i h k t) ]
 
     module _
         (es : List Entry) (w : Lanes) (b : Books (account_of es x)) (ids : all_differ bytes_eq (map (λ (h : Held). h.physical) (resources_of s)) ≡ true)
@@ -427,12 +608,12 @@ module _ (x y : World) (name : List ℕ) (s s' : StackState) (at : IsOnOne x y n
       given_one : (t : ℕ) (o : Open) → (account_of es x).open_ t ≡ Some o → (p : Pending) → find (has_token t) s.tokens ≡ Some p → is_skipped p ≡ true → (r : Request) → p.request ≡ r → IsGivenUpIn s p r → GivenUp (account_of es x) w (role_in y.stacks) o
       given_one t o e p k d (request.Create kind props) f g = of_create (ap (λ (v : Open). named_by v.request) (sym (open_by t p o k e)) ∙ ap named_by f)
       given_one t o e p k d (request.Update i props) f (h, h_in, h_id, h_path) =
-          let (g, found) = is_found_in (has_physical i) s.held h h_in ((bytes_eq-Decides i h.physical).1 (sym h_id)) in
+          let (g, found) = is_found_in (has_physical i) s.held h h_in (same_bytes i h.physical (sym h_id)) in
           let (g_in, g_id) = found_one (has_physical i) s.held g found in
-          let same : g ≡ h = one_id (λ (z : Held). z.physical) (resources_of s) ids g h (in_front g s.held s.made g_in) (in_front h s.held s.made h_in) (sym ((bytes_eq-Decides i g.physical).0 g_id) ∙ sym h_id) in
+          let same : g ≡ h = one_id (λ (z : Held). z.physical) (resources_of s) ids g h (in_front g s.held s.made g_in) (in_front h s.held s.made h_in) (sym (bytes_same i g.physical g_id) ∙ sym h_id) in
           let path : is_among h.path paths ≡ true = ap (λ q. is_among q paths) h_path ∙ d in
           let was = find (has_physical h.physical) s.before in
-          of_doubted i props (thing_of name (as_before was h)) (ap (λ (v : Open). v.request) (sym (open_by t p o k e)) ∙ f) (doubted_role i h (found ∙ ap Some same) path) (ap not (in_doubt was h))
+          of_doubted i props (thing_of name (as_before was h)) (ap (λ (v : Open). v.request) (sym (open_by t p o k e)) ∙ f) (doubted_role i h (found ∙ ap Some same) path) (ap not (in_doubt was h).0)
           (ap (account_of es x).resting (ap (λ (v : Open). v.stack) (sym (open_by t p o k e))) ∙ rests) (raised t o e)
       given_one t o e p k d (request.Delete i) f g = absurd g
 
@@ -449,13 +630,6 @@ module _ (x y : World) (name : List ℕ) (s s' : StackState) (at : IsOnOne x y n
 -- A resource that is kept, and a create that is kept without an id, keep agreement, and take nothing of another stack.
 
 -- what may be kept is a resource of the stack, or an open create without an id
-deleted_in : (stage : Stage) (s : StackState) (r : Held) → MayDelete stage s r → In r (resources_of s)
-deleted_in Forward s r m = absurd m
-deleted_in Clean s r m = in_front r s.held s.made m.0
-deleted_in Back s r m = in_back r s.held s.made m.1
-deleted_in BackClean s r m = in_back r s.held s.made m.0
-deleted_in Gone s r m = m.0
-
 cleaned_from : (stage : Stage) (s : StackState) (r : Held) → In r (cleaned_in stage s) → In r (resources_of s)
 cleaned_from Forward s r i = elim i [ ]
 cleaned_from Clean s r i = in_front r s.held s.made (in_filter (λ (z : Held). z.superseded) s.held r i).0
@@ -467,7 +641,7 @@ abbrev IsKeptIn : StackState → List ℕ → List ℕ → Type 0
 IsKeptIn s path physical = ((r : Held) × In r (resources_of s) × (r.physical ≡ physical)) ⊎ ((physical ≡ []) × IsTrue (list_any (is_create_at path) s.tokens))
 
 kept_which : (stage : Stage) (out : List ℕ) (s : StackState) (path physical : List ℕ) (w : Why) → MayKeep stage out s path physical w → IsKeptIn s path physical
-kept_which stage out s path physical why.Retained (inl (r, may, waits, keeps, at, of, rest)) = inl (r, deleted_in stage s r may, sym of)
+kept_which stage out s path physical why.Retained (inl (r, may, waits, keeps, at, of, rest)) = inl (r, deleted_listed stage s r may, sym of)
 kept_which stage out s path physical why.Retained (inr (gone, none, among, create)) = inr (none, create)
 kept_which stage out s path physical why.Failed m = let (r, i, at, of) = m.0 in inl (r, cleaned_from stage s r i, sym of)
 kept_which stage out s path physical why.Doubt m = let (r, i, at, of) = m.0 in inl (r, cleaned_from stage s r i, sym of)
@@ -507,20 +681,12 @@ module _ (schemas : List Schema) (es : List Entry) (x : World) (lanes : List Lan
     of_lane : IsOfLane (lane_of physical) physical
     of_lane = ((((h.agrees).tied).books).homes physical (thing_of name r) role).0
 
-    gone : held_in physical (kept_stack (x.place + 1) number path physical w s) ≡ None
-    gone = ap (λ o. option_or o (find (has_physical physical) (kept_stack (x.place + 1) number path physical w s).made)) (gone_without physical physical s.held refl) ∙ gone_without physical physical s.made refl
-
-    or_same : (b c : Bool) → c ≡ false → (b || (c || false)) ≡ b
-    or_same true c e = refl
-    or_same false c e = ap (λ d. d || false) e
+    or_false : (b : Bool) → (b || false) ≡ b
+    or_false b = grind arith
 
     left : (i : List ℕ) (b : Bool) → bytes_eq i physical ≡ b → IsLeftAlike s (kept_stack (x.place + 1) number path physical w s) i
-    left i true e =
-        let same : i ≡ physical = (bytes_eq-Decides i physical).0 e in
-        taken r (ap (λ j. held_in j s) same ∙ held) (ap (λ j. held_in j (kept_stack (x.place + 1) number path physical w s)) same ∙ gone)
-    left i false e =
-        alike (ap (λ b. not (bytes_eq i unknown_id) && b)
-        (list_any-append (λ (l : Left). bytes_eq i l.physical) s.leftovers (record { path = path; physical = physical; why = w } ∷ []) ∙ or_same (list_any (λ (l : Left). bytes_eq i l.physical) s.leftovers) (bytes_eq i physical) e))
+    left i true e = let same = bytes_same i physical e in taken r (ap (λ j. held_in j s) same ∙ held) (cc (gone_without i physical s.held same, gone_without i physical s.made same))
+    left i false e = alike (cc (left_more i s.leftovers (record { path = path; physical = physical; why = w }), or_false (list_any (λ (l : Left). bytes_eq i l.physical) s.leftovers)))
 
 -- a create without an id
 module _ (schemas : List Schema) (es : List Entry) (x : World) (lanes : List Lane) (leases : List Lease) (h : AreSound schemas es x lanes leases) (steady : AreSteady x) (out : List ℕ)
@@ -561,7 +727,7 @@ module _ (schemas : List Schema) (es : List Entry) (x : World) (lanes : List Lan
     lost = lost_among (is_create_at path) s.tokens (filter (is_create_at path) s.tokens) once1.tokens (at_path path s.tokens) (to_path path s.tokens) s t refl
 
     moved : account_with (entry.Kept number path [] w) es x ≡ rested (resting_in y1.stacks) (dropped (λ u. passes (is_create_at path) (find (has_token u) s.tokens)) (role_in y1.stacks) (account_of es x))
-    moved = dropped_moves es x y1 (entry.Kept number path [] w) name s t on refl refl (is_create_at path) once1.tokens refl lost
+    moved = dropped_moves es x y1 (entry.Kept number path [] w) name s t on refl (λ u. told_same es (entry.Kept number path [] w) u refl) (is_create_at path) once1.tokens refl lost
 
 pub kept_holds : (schemas : List Schema) (es : List Entry) (x : World) (lanes : List Lane) (leases : List Lease) → AreSound schemas es x lanes leases → AreSteady x → (out : List ℕ) (number : ℕ) (path physical : List ℕ) (w : Why)
     → MayFollow schemas x out (entry.Kept number path physical w) → Agree (account_with (entry.Kept number path physical w) es x) (lanes_of lanes) (map lease_of leases) × IsOrderly (world_after x (entry.Kept number path physical w))
@@ -588,8 +754,7 @@ begin_stack x number n (begin.Delete paths) t = stands_known x n (λ e. true≢f
 begin_stack x number n (begin.Continue paths) t = stands_known x n (λ e. true≢false (sym t ∙ ap (begins_from (begin.Continue paths)) e))
 
 continues_in : (s : Status) → continues_from s ≡ true → s ≡ status.UpdateRollbackFailed
-continues_in status.UpdateRollbackFailed h = refl
-continues_in s h = absurd (true≢false (sym h))
+continues_in s h = grind arith
 
 -- a stack from which a rollback goes on is there, and rests
 rests_now : (x : World) (n : List ℕ) → continues_from (known_stack n x).status ≡ true → is_opened_since (known_stack n x) ≡ true → resting_in x.stacks n ≡ true
@@ -648,7 +813,7 @@ module _ (schemas : List Schema) (es : List Entry) (x : World) (lanes : List Lan
 
     begun_agrees : is_at_rest begun_stack ≡ false → begun_stack.held ≡ s.held → begun_stack.made ≡ s.made → begun_stack.leftovers ≡ s.leftovers → begun_stack.tokens ≡ s.tokens → begun_stack.abandoned ≡ s.abandoned → Holds (entry.Begin number n k)
     begun_agrees off held made leftovers tokens abandoned = (
-      subst (λ a. Agree a (lanes_of lanes) (map lease_of leases)) (sym (alike_moves es x begun_world (entry.Begin number n k) n s begun_stack begun_at refl refl held made leftovers tokens abandoned))
+      subst (λ a. Agree a (lanes_of lanes) (map lease_of leases)) (sym (quiet_moves es x begun_world (entry.Begin number n k) n s begun_stack begun_at refl (λ u. told_same es (entry.Begin number n k) u refl) (alike_quiet s begun_stack held made leftovers tokens abandoned)))
           (rest_keeps (account_of es x) (lanes_of lanes) (map lease_of leases) (resting_in begun_world.stacks) h.agrees (rests off)),
       begun_orderly (λ i. alike (ap (has_leftover i) leftovers)),
     )
@@ -657,27 +822,23 @@ module _ (schemas : List Schema) (es : List Entry) (x : World) (lanes : List Lan
       → ((l : Lane) → In l lanes → In (named_lane l) x.lanes → l.state.fence ≡ x.epoch) → Holds (entry.Begin number n (begin.Continue paths))
   continue_holds number n paths may all =
       let s : StackState = known_stack n x in
+      let e : Entry = entry.Begin number n (begin.Continue paths) in
       let begun_stack : StackState = (effect_at (x.place + 1) (entry.Begin number n (begin.Continue paths)) (known_stack n x)).stack in
       let begun_world : World = changed_by (x.place + 1) (entry.Begin number n (begin.Continue paths)) x in
-      let on : IsOnOne x (changed_by (x.place + 1) (entry.Begin number n (begin.Continue paths)) x) n (known_stack n x) (effect_at (x.place + 1) (entry.Begin number n (begin.Continue paths)) (known_stack n x)).stack =
-      begun_at number n (begin.Continue paths) may in
-      let once_ : IsOnce (known_stack n x) = begun_once number n (begin.Continue paths) may in
-      let lost_unknown : (cs : List Pending) (l : Left) → In l (map lost_create cs) → l.physical ≡ unknown_id =
-      λ cs l i. let (p, j, e) = from_mapped lost_create cs l i in ap (λ (z : Left). z.physical) (sym e) in
+      let on = begun_at number n (begin.Continue paths) may in
+      let once_ = begun_once number n (begin.Continue paths) may in
+      let skipped : Pending → Bool = λ p. is_among p.path paths in
       let left : (i : List ℕ) → has_leftover i begun_stack.leftovers ≡ has_leftover i s.leftovers =
-      λ i. unknown_more i s.leftovers (map lost_create (skipped_creates paths s.tokens)) (lost_unknown (skipped_creates paths s.tokens)) in
-      let state : s.status ≡ status.UpdateRollbackFailed = continues_in s.status may.1 in
-      let lost : (t : ℕ) → lost_on begun_stack t ≡ (lost_on s t || gives (λ p. is_among p.path paths) (find (has_token t) s.tokens)) =
-      lost_among (λ p. is_among p.path paths) s.tokens (skipped_creates paths s.tokens) once_.tokens (at_paths paths s.tokens) (to_paths paths s.tokens) s begun_stack refl in
-      let moved : account_with (entry.Begin number n (begin.Continue paths)) es x ≡ rested (resting_in begun_world.stacks) (dropped (λ t. passes (λ p. is_among p.path paths) (find (has_token t) s.tokens)) (role_in begun_world.stacks) (account_of es x)) =
-      dropped_moves es x begun_world (entry.Begin number n (begin.Continue paths)) n s begun_stack on refl refl (λ p. is_among p.path paths) once_.tokens refl lost in
-      let skips : Agree (dropped (λ t. passes (λ p. is_among p.path paths) (find (has_token t) s.tokens)) (role_in begun_world.stacks) (account_of es x)) (lanes_of lanes) (map lease_of leases) =
-      drop_keeps (account_of es x) (lanes_of lanes) (map lease_of leases) _ (role_in begun_world.stacks) h.agrees
-      (may_skip x begun_world n s begun_stack on paths refl refl left es (lanes_of lanes) ((h.agrees).tied).books once_.ids ((known_steady x steady n).gives_up state) (rests_now x n may.1 may.2.2) (raised all)) in
-      let agreed : Agree (account_with (entry.Begin number n (begin.Continue paths)) es x) (lanes_of lanes) (map lease_of leases) =
-      subst (λ a. Agree a (lanes_of lanes) (map lease_of leases)) (sym moved)
-      (rest_keeps _ (lanes_of lanes) (map lease_of leases) (resting_in begun_world.stacks) skips (rests number n (begin.Continue paths) may refl)) in
-      (agreed, begun_orderly number n (begin.Continue paths) may (λ i. alike (left i)))
+      λ i. unknown_more i s.leftovers (map lost_create (skipped_creates paths s.tokens))
+      (λ l i. let (p, j, e) = from_mapped lost_create (skipped_creates paths s.tokens) l i in ap (λ (z : Left). z.physical) (sym e)) in
+      let lost = lost_among skipped s.tokens (skipped_creates paths s.tokens) once_.tokens (at_paths paths s.tokens) (to_paths paths s.tokens) s begun_stack refl in
+      let moved = dropped_moves es x begun_world e n s begun_stack on refl (λ u. told_same es e u refl) skipped once_.tokens refl lost in
+      let skips = drop_keeps (account_of es x) (lanes_of lanes) (map lease_of leases) _ (role_in begun_world.stacks) h.agrees
+      (may_skip x begun_world n s begun_stack on paths refl refl left es (lanes_of lanes) ((h.agrees).tied).books once_.ids ((known_steady x steady n).gives_up (continues_in s.status may.1)) (rests_now x n may.1 may.2.2) (raised all)) in (
+        subst (λ a. Agree a (lanes_of lanes) (map lease_of leases)) (sym moved)
+            (rest_keeps _ (lanes_of lanes) (map lease_of leases) (resting_in begun_world.stacks) skips (rests number n (begin.Continue paths) may refl)),
+        begun_orderly number n (begin.Continue paths) may (λ i. alike (left i)),
+      )
 
   pub begun_holds : (number : ℕ) (n : List ℕ) (k : Begun) → MayFollow schemas x out (entry.Begin number n k) → ((l : Lane) → In l lanes → In (named_lane l) x.lanes → l.state.fence ≡ x.epoch)
       → Agree (account_with (entry.Begin number n k) es x) (lanes_of lanes) (map lease_of leases) × IsOrderly (world_after x (entry.Begin number n k))
@@ -690,21 +851,18 @@ module _ (schemas : List Schema) (es : List Entry) (x : World) (lanes : List Lan
 
   -- a change set
   reviewed_idle : (st : Status) → is_in_progress (reviewed st) ≡ is_in_progress st
-  reviewed_idle status.DeleteComplete = refl
-  reviewed_idle st = refl
+  reviewed_idle st = grind arith
 
   pub set_holds : (number : ℕ) (n : List ℕ) (source : Source) (rows : List Row) (outputs : Bool) → MayFollow schemas x out (entry.ChangeSet number n source rows outputs)
       → Agree (account_with (entry.ChangeSet number n source rows outputs) es x) (lanes_of lanes) (map lease_of leases) × IsOrderly (world_after x (entry.ChangeSet number n source rows outputs))
   set_holds number n source rows outputs may =
       let s : StackState = known_stack n x in
+      let e : Entry = entry.ChangeSet number n source rows outputs in
       let begun_stack : StackState = (effect_at (x.place + 1) (entry.ChangeSet number n source rows outputs) (known_stack n x)).stack in
       let begun_world : World = changed_by (x.place + 1) (entry.ChangeSet number n source rows outputs) x in
-      let on : IsOnOne x (changed_by (x.place + 1) (entry.ChangeSet number n source rows outputs) x) n (known_stack n x) (effect_at (x.place + 1) (entry.ChangeSet number n source rows outputs) (known_stack n x)).stack =
-      on_one (entry.ChangeSet number n source rows outputs) x n (known_stack n x) (h.orderly).own refl refl in
-      let rest : is_at_rest begun_stack ≡ is_at_rest s = ap (λ b. not b && is_opened_since s) (reviewed_idle s.status) in
-      let agreed : Agree (account_with (entry.ChangeSet number n source rows outputs) es x) (lanes_of lanes) (map lease_of leases) =
-      subst (λ a. Agree a (lanes_of lanes) (map lease_of leases)) (sym (alike_moves es x begun_world (entry.ChangeSet number n source rows outputs) n s begun_stack on refl refl refl refl refl refl refl))
-      (rest_keeps (account_of es x) (lanes_of lanes) (map lease_of leases) (resting_in begun_world.stacks) h.agrees (λ m r. sym (resting_same x.stacks begun_world.stacks n s begun_stack on.one m rest) ∙ r)) in
-      let orderly : IsOrderly (world_after x (entry.ChangeSet number n source rows outputs)) =
-      plain_orderly schemas x out h.orderly steady (entry.ChangeSet number n source rows outputs) n s refl refl may tt tt (λ i. alike refl) in
-      (agreed, orderly)
+      let on = on_one (entry.ChangeSet number n source rows outputs) x n (known_stack n x) (h.orderly).own refl refl in
+      let rest : is_at_rest begun_stack ≡ is_at_rest s = ap (λ b. not b && is_opened_since s) (reviewed_idle s.status) in (
+        subst (λ a. Agree a (lanes_of lanes) (map lease_of leases)) (sym (quiet_moves es x begun_world e n s begun_stack on refl (λ u. told_same es e u refl) (alike_quiet s begun_stack refl refl refl refl refl)))
+            (rest_keeps (account_of es x) (lanes_of lanes) (map lease_of leases) (resting_in begun_world.stacks) h.agrees (λ m r. sym (resting_same x.stacks begun_world.stacks n s begun_stack on.one m rest) ∙ r)),
+        plain_orderly schemas x out h.orderly steady (entry.ChangeSet number n source rows outputs) n s refl refl may tt tt (λ i. alike refl),
+      )

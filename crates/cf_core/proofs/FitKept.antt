@@ -1,58 +1,38 @@
 -- Each entry that may be written keeps the fit of every stack.
-use Rattle.std.proofs.lemmas.List.Folds.{find-append}
+use Rattle.std.proofs.lemmas.{List.Folds.find-append, List.append-nil, List.append_assoc, List.map-append, Slice.Eq.bytes_eq-Decides}
 use Rattle.cf_core.specs.AccountOf.{thing_of, held_in}
 use Rattle.cf_agree.specs.Account.{Thing}
-use Rattle.cf_core.proofs.Entries.{known_for}
+use Rattle.cf_core.proofs.{AdvLists.either_way, Entries.known_for, Statuses.kept_way}
 use Rattle.cf_core.proofs.Outcomes.{differ_end, differ_less, differ_once, LeavesThing, settled_leaves, marked_leaves, none_passes}
 use Rattle.cf_core.specs.Fits.{Fits, IsRowOf, BecomesBy, own, at_opening, other, IsNew}
 use Rattle.cf_core.specs.Fitting.{AllFit, AreSteady, EachIsWritten, FitsKept, IsOfItsLane, IsSteady}
-use Rattle.cf_entry.specs.declared.entry.Begun.{Begun}
-use Rattle.cf_entry.specs.declared.entry.Entry.{Entry}
-use Rattle.cf_entry.specs.declared.entry.Reply.{Reply}
-use Rattle.cf_entry.specs.declared.status.Status.{Status}
-use Rattle.cf_entry.specs.declared.turn.Phase.{Phase}
+use Rattle.cf_entry.specs.declared.{entry.Begun.Begun, entry.Entry.Entry, entry.Reply.Reply, status.Status.Status, turn.Phase.Phase}
 use Rattle.cf_entry.specs.declared.turn.Why.{Why}
 use Rattle.cf_handler.specs.Move.{IsOfLane}
-use Rattle.cf_plan.proofs.CreatedRight.{in_filter}
+use Rattle.cf_plan.proofs.{CreatedRight.in_filter, Frame.token_after}
 use Rattle.cf_plan.proofs.CreatedStays.{found_one, found_in_more, found_still, in_more}
-use Rattle.cf_plan.proofs.Frame.{token_after}
 use Rattle.cf_plan.proofs.RunLists.{in_kept, any_of, in_front, none_false, in_back, none_any, some_of}
-use Rattle.cf_plan.specs.Accept.{creates_from}
+use Rattle.cf_plan.specs.{Accept.creates_from, Forward.In, Forward.here, Forward.there}
 use Rattle.cf_plan.specs.Follow.{HasLanes, IsLaneFor, IsNamedLane, IsKindFor, FitsLane, begins_from, IntendsDeletion, IntendsIn, MayDelete, MayFollow, MayFollowIn, MayFollowOn, MayIntend, is_lane_of, updates_from}
-use Rattle.cf_plan.specs.Forward.{In, here, there}
 use Rattle.cf_schema.specs.declared.described.Schema.{Schema}
 use Rattle.cf_stacks.proofs.Worlds.{value_under}
 use Rattle.cf_stacks.specs.Apart.{AreApart}
-use Rattle.cf_effect.specs.Begin.{as_before, beginning, skipped_in}
+use Rattle.cf_effect.specs.{Begin.as_before, Begin.beginning, Begin.skipped_in, Effect.heard, Effect.leaving, Effect.on_stack}
 use Rattle.cf_effect.specs.Calls.{anew, answered_call, is_call, is_open_call, where_call, new_call, is_restore}
-use Rattle.cf_effect.specs.Effect.{leaving, heard, on_stack}
 use Rattle.cf_effect.specs.End.{ended_effect, marked, settled_in, stopping, turned_effect, turning, whole_now}
 use Rattle.cf_effect.specs.Fold.{effect_at, is_opening, stack_for, world_after}
 use Rattle.cf_effect.specs.Reply.{changing, deleting, still_open, keeping, keeping_known, keeping_unknown, answered, closing, made_of, status_made, terms_at, updating, with_status, replied}
 use Rattle.cf_effect.specs.Status.{Stage, Forward, Clean, Back, BackClean, Gone, is_in_progress, stage_of}
 use Rattle.cf_effect.specs.Words.{change_first, has_physical, resources_of, where_physical, without, has_token, without_token, id_named, is_create_at, is_on, current_at, pending_of, is_at}
 use Rattle.cf_effect.specs.World.{StackState, World, known_stack, no_stack, stack_at, is_going, stack_of_operation}
-use Rattle.cf_effect.specs.declared.call.Call.{Call}
-use Rattle.cf_effect.specs.declared.held.Held.{Held}
-use Rattle.cf_effect.specs.declared.held.Pending.{Pending}
+use Rattle.cf_effect.specs.declared.{call.Call.Call, held.Held.Held, held.Pending.Pending}
 use Rattle.cf_tree.proofs.Lookups.{put_here, put_else}
-use Rattle.cf_tree.specs.Datum.{Data}
-use Rattle.cf_tree.specs.Keys.{put, value_at}
-use Rattle.cf_tree.specs.Lists.{is_among}
-use Rattle.cf_tree.specs.Named.{all_differ}
-use Rattle.cf_tree.specs.declared.code.Code.{Code}
-use Rattle.cf_tree.specs.declared.request.Request.{Request}
+use Rattle.cf_tree.specs.{Datum.Data, Keys.put, Keys.value_at, Lists.is_among, Named.all_differ}
+use Rattle.cf_tree.specs.declared.{code.Code.Code, request.Request.Request}
 use Rattle.std.proofs.Common.{◌≡◌, ℕ, ◌==◌, List, [], ◌∷◌, Bool, true, false, Some, map, filter, find, refl, sym, ap, ◌∙◌, true≢false, option_map, ◌++◌, not, subst, None, ◌+◌, ◌≤◌, Option, arith, ◌⊎◌, inl, inr, unwrap_or}
-use Rattle.std.proofs.lemmas.Bool.{eq-eqb, eqb-true, not-true, or_left, or_right}
-use Rattle.std.proofs.lemmas.List.{map-append, append-nil, append_assoc}
-use Rattle.std.proofs.lemmas.List.Elements.{filter-append}
-use Rattle.std.proofs.lemmas.Slice.Eq.{bytes_eq-Decides}
+use Rattle.std.proofs.lemmas.{Bool.eq-eqb, Bool.eqb-true, Bool.not-true, Bool.or_left, Bool.or_right, List.Elements.filter-append}
 use Rattle.std.specs.Bool.{IsTrue}
-use Rattle.std.specs.Cmp.{first_so, second_so}
-use Rattle.std.specs.List.{list_any}
-use Rattle.std.specs.Option.{option_map_or}
-use Rattle.std.specs.Prelude.{cond, is_some}
-use Rattle.std.specs.Str.{bytes_eq}
+use Rattle.std.specs.{Cmp.first_so, Cmp.second_so, List.list_any, Option.option_map_or, Prelude.cond, Prelude.is_some, Str.bytes_eq}
 use Rattle.cf_entry.specs.declared.entry.Begun.TheVariants as begin
 use Rattle.cf_entry.specs.declared.entry.Entry.TheVariants as entry
 use Rattle.cf_entry.specs.declared.entry.Reply.TheVariants as reply
@@ -89,22 +69,12 @@ keys_mapped f key key' (x ∷ xs) h = ap (λ k. k ∷ map key (map f xs)) (h x) 
 -- what is searched among mapped ones
 pub find_mapped : {A : Type 0} (test : A → Bool) (f : A → A) (xs : List A) → ((x : A) → test (f x) ≡ test x) → find test (map f xs) ≡ option_map f (find test xs)
 find_mapped test f [] h = refl
-find_mapped test f (x ∷ xs) h = ap (λ b. cond b (Some (f x)) (find test (map f xs))) (h x) ∙ by_test (test x) (find_mapped test f xs h) where
-  by_test : (b : Bool) → find test (map f xs) ≡ option_map f (find test xs) → cond b (Some (f x)) (find test (map f xs)) ≡ option_map f (cond b (Some x) (find test xs))
-  by_test true e = refl
-  by_test false e = e
+find_mapped test f (x ∷ xs) h = grind (arith, h x, find_mapped test f xs h)
 
 -- what is found stays found among those that a test leaves, where it passes
 pub find_left : {A : Type 0} (test left : A → Bool) (xs : List A) (x : A) → find test xs ≡ Some x → left x ≡ true → find test (filter left xs) ≡ Some x
 find_left test left [] x e l = e
-find_left {A} test left (y ∷ xs) x e l = by_test (test y) refl (left y) refl e (find_left test left xs x) where
-  by_test :
-      (b : Bool) → test y ≡ b → (c : Bool) → left y ≡ c → cond b (Some y) (find test xs) ≡ Some x → (find test xs ≡ Some x → left x ≡ true → find test (filter left xs) ≡ Some x)
-      → find test (cond c (y ∷ filter left xs) (filter left xs)) ≡ Some x
-  by_test true t true k f ih = ap (λ b. cond b (Some y) (find test (filter left xs))) t ∙ f
-  by_test true t false k f ih = let same : y ≡ x = cc in absurd (true≢false (sym l ∙ ap left (sym same) ∙ k))
-  by_test false t true k f ih = ap (λ b. cond b (Some y) (find test (filter left xs))) t ∙ ih f l
-  by_test false t false k f ih = ih f l
+find_left test left (y ∷ xs) x e l = grind (arith, find_left test left xs x)
 
 -- What names the resources of a stack, their paths, ids and types, and what is left of them.
 
@@ -160,10 +130,7 @@ keys_changed f k hs = keys_mapped f key_of key_of hs k
 
 keys_first : (test : Held → Bool) (f : Held → Held) → KeepsKey f → (hs : List Held) → keys_in (change_first test f hs) ≡ keys_in hs
 keys_first test f k [] = refl
-keys_first test f k (h ∷ hs) = by (test h) (keys_first test f k hs) where
-  by : (b : Bool) → keys_in (change_first test f hs) ≡ keys_in hs → keys_in (cond b (f h ∷ hs) (h ∷ change_first test f hs)) ≡ keys_in (h ∷ hs)
-  by true e = ap (λ x. x ∷ keys_in hs) (k h)
-  by false e = ap (λ xs. key_of h ∷ xs) e
+keys_first test f k (h ∷ hs) = let e = keys_first test f k hs in let m = k h in grind arith
 
 keys_two : (hs gs hs' gs' : List Held) → keys_in hs' ≡ keys_in hs → keys_in gs' ≡ keys_in gs → keys_in (hs' ++ gs') ≡ keys_in (hs ++ gs)
 keys_two hs gs hs' gs' e f = map-append key_of hs' gs' ∙ ap (λ ks. ks ++ keys_in gs') e ∙ ap (λ ks. keys_in hs ++ ks) f ∙ sym (map-append key_of hs gs)
@@ -179,19 +146,15 @@ keys_joined f k hs = ap keys_in (append-nil (map f hs)) ∙ keys_changed f k hs
 
 -- one resource is changed
 pub keys_changing : (id : List ℕ) (f : Held → Held) → KeepsKey f → (s : StackState) → keys_of (changing id f s) ≡ keys_of s
-keys_changing id f k s = by (list_any (has_physical id) s.held) where
-  by : (b : Bool) → keys_of (cond b (record s { held = where_physical id f s.held }) (record s { made = where_physical id f s.made })) ≡ keys_of s
-  by true = keys_two s.held s.made (where_physical id f s.held) s.made (keys_first (has_physical id) f k s.held) refl
-  by false = keys_two s.held s.made s.held (where_physical id f s.made) refl (keys_first (has_physical id) f k s.made)
+keys_changing id f k s =
+    either_way (λ u. keys_of u ≡ keys_of s) (list_any (has_physical id) s.held) (record s { held = where_physical id f s.held }) (record s { made = where_physical id f s.made })
+    (keys_two s.held s.made (where_physical id f s.held) s.made (keys_first (has_physical id) f k s.held) refl)
+    (keys_two s.held s.made s.held (where_physical id f s.made) refl (keys_first (has_physical id) f k s.made))
 
 -- one is taken off
 keys_without : (id : List ℕ) (hs : List Held) → keys_in (without id hs) ≡ filter (has_other id) (keys_in hs)
 keys_without id [] = refl
-keys_without id (h ∷ hs) = by (bytes_eq id h.physical) (keys_without id hs) where
-  by : (b : Bool) → keys_in (without id hs) ≡ filter (has_other id) (keys_in hs)
-      → keys_in (cond (not b) (h ∷ without id hs) (without id hs)) ≡ cond (not b) (key_of h ∷ filter (has_other id) (keys_in hs)) (filter (has_other id) (keys_in hs))
-  by true e = e
-  by false e = ap (λ ks. key_of h ∷ ks) e
+keys_without id (h ∷ hs) = let e = keys_without id hs in grind arith
 
 pub keys_deleted : (id : List ℕ) (s : StackState) → keys_of (deleting id s) ≡ filter (has_other id) (keys_of s)
 keys_deleted id s = ap keys_in (sym (filter-append (λ h. not (has_physical id h)) s.held s.made)) ∙ keys_without id (resources_of s)
@@ -210,13 +173,7 @@ pub same_call : (c : Call) → IsSameCall c c
 same_call c = record { number = refl; token = refl; lane = refl; path = refl; request = refl }
 
 same_then : (c d e : Call) → IsSameCall c d → IsSameCall d e → IsSameCall c e
-same_then c d e h k = record {
-  number = k.number ∙ h.number;
-  token = k.token ∙ h.token;
-  lane = k.lane ∙ h.lane;
-  path = k.path ∙ h.path;
-  request = k.request ∙ h.request;
-}
+same_then c d e h k = search
 
 -- of these rows those are left, where these calls are open
 pub record AreRowsLeft (ps : List Pending) (cs ds : List Call) : Type 0 where
@@ -274,14 +231,12 @@ rows_open ps cs = record {
 
 -- A call that is answered: its row has the answer, and it is not open any more, but where it is in doubt.
 pub still_in : (token : ℕ) (a : Reply) (ps : List Pending) (p : Pending) → In p (still_open token a ps) → In p ps
-still_in token (reply.Success physical attrs) ps p i = (in_filter (λ q. not (has_token token q)) ps p i).0
-still_in token (reply.Failed c) ps p i = (in_filter (λ q. not (has_token token q)) ps p i).0
 still_in token reply.Doubt ps p i = i
+still_in token a ps p i = (in_filter (λ q. not (has_token token q)) ps p i).0
 
 pub still_differ : (token : ℕ) (a : Reply) (ps : List Pending) → all_differ ◌==◌ (map (λ p. p.token) ps) ≡ true → all_differ ◌==◌ (map (λ p. p.token) (still_open token a ps)) ≡ true
-still_differ token (reply.Success physical attrs) ps d = differ_less ◌==◌ (λ p. p.token) (λ q. not (has_token token q)) ps d
-still_differ token (reply.Failed c) ps d = differ_less ◌==◌ (λ p. p.token) (λ q. not (has_token token q)) ps d
 still_differ token reply.Doubt ps d = d
+still_differ token a ps d = differ_less ◌==◌ (λ p. p.token) (λ q. not (has_token token q)) ps d
 
 closed_other : (token : ℕ) (ps : List Pending) (p : Pending) → In p (without_token token ps) → token ≡ p.token → ⊥
 closed_other token ps p i e =
@@ -290,19 +245,16 @@ closed_other token ps p i e =
 
 pub same_answered : (a : Reply) (c : Call) → IsSameCall c (answered_call a c)
 same_answered (reply.Success physical attrs) c = record { number = refl; token = refl; lane = refl; path = refl; request = refl }
-same_answered (reply.Failed k) c = record { number = refl; token = refl; lane = refl; path = refl; request = refl }
-same_answered reply.Doubt c = record { number = refl; token = refl; lane = refl; path = refl; request = refl }
+same_answered a c = record { number = refl; token = refl; lane = refl; path = refl; request = refl }
+
+pub same_where : (token : ℕ) (a : Reply) (c : Call) → IsSameCall c (cond (is_call token c) (answered_call a c) c)
+same_where token a c = either_way (IsSameCall c) (is_call token c) (answered_call a c) c (same_answered a c) (same_call c)
 
 pub rows_answered : (token : ℕ) (a : Reply) (ps : List Pending) (cs : List Call) → AreRowsLeft (still_open token a ps) cs (where_call token (answered_call a) cs)
-rows_answered token a ps cs = rows_mapped (still_open token a ps) (λ c. cond (is_call token c) (answered_call a c) c) (λ c. same c (is_call token c)) (λ p c i e n. open_ p c (is_call token c) refl i e n) cs where
-  same : (c : Call) (b : Bool) → IsSameCall c (cond b (answered_call a c) c)
-  same c true = same_answered a c
-  same c false = same_call c
-
+rows_answered token a ps cs = rows_mapped (still_open token a ps) (λ c. cond (is_call token c) (answered_call a c) c) (same_where token a) (λ p c i e n. open_ p c (is_call token c) refl i e n) cs where
   by : (b : Reply) (p : Pending) (c : Call) → token ≡ c.token → In p (still_open token b ps) → p.token ≡ c.token → c.answer ≡ None → (answered_call b c).answer ≡ None
-  by (reply.Success physical attrs) p c t i e n = absurd (closed_other token ps p i (t ∙ sym e))
-  by (reply.Failed k) p c t i e n = absurd (closed_other token ps p i (t ∙ sym e))
   by reply.Doubt p c t i e n = n
+  by b p c t i e n = absurd (closed_other token ps p i (t ∙ sym e))
 
   open_ : (p : Pending) (c : Call) (b : Bool) → is_call token c ≡ b → In p (still_open token a ps) → p.token ≡ c.token → c.answer ≡ None → (cond b (answered_call a c) c).answer ≡ None
   open_ p c true t i e n = by a p c (eqb-true token c.token t) i e n
@@ -476,23 +428,22 @@ module _ (s t : StackState) where
     operation = op;
   }
 
+pub less_self : (s : StackState) → IsLess s s
+less_self s = less_stay s s refl refl (rows_same s.tokens s.ledger) (same_number s.operation)
+
 -- a change of what is held at skipped paths
 keeps_before : (o : Option Held) (h : Held) → key_of (as_before o h) ≡ key_of h
 keeps_before None h = refl
 keeps_before (Some b) h = refl
 
 pub keeps_skipped : (paths : List (List ℕ)) (before : List Held) → KeepsKey (skipped_in paths before)
-keeps_skipped paths before h = by (is_among h.path paths) where
-  by : (b : Bool) → key_of (cond b (as_before (find (has_physical h.physical) before) h) h) ≡ key_of h
-  by true = keeps_before (find (has_physical h.physical) before) h
-  by false = refl
+keeps_skipped paths before h = grind arith
 
 -- an operation begins: a creation or an update where nothing is made
 abbrev pub HasNoneMade : Begun → StackState → Type 0
-HasNoneMade (begin.Create source) s = s.made ≡ []
-HasNoneMade (begin.Update source) s = s.made ≡ []
 HasNoneMade (begin.Delete paths) s = Unit {0}
 HasNoneMade (begin.Continue paths) s = Unit {0}
+HasNoneMade _ s = s.made ≡ []
 
 rows_begun : (s : StackState) → AreRowsLeft s.tokens s.ledger (map anew (filter (is_open_call s.tokens) s.ledger))
 rows_begun s = rows_then s.tokens s.ledger (filter (is_open_call s.tokens) s.ledger) (map anew (filter (is_open_call s.tokens) s.ledger)) (rows_open s.tokens s.ledger) (rows_anew s.tokens (filter (is_open_call s.tokens) s.ledger))
@@ -513,26 +464,12 @@ is_on_other : (id : List ℕ) (p : Pending) (i : List ℕ) → not (is_on id p) 
 is_on_other id p i t e = sym (ap (λ o. option_map_or (bytes_eq id) o false) e) ∙ not-true (is_on id p) t
 
 pub less_kept : (path id : List ℕ) (w : Why) (s : StackState) → IsLess s (keeping path id w s)
-less_kept path id w s = by (bytes_eq id []) (list_any (is_create_at path) s.tokens) (list_any (has_physical id) (resources_of s)) where
-  same : IsLess s s
-  same = less_stay s s refl refl (rows_same s.tokens s.ledger) (same_number s.operation)
-
-  open_rows : (ps : List Pending) → AreRowsLeft ps s.ledger s.ledger
-  open_rows ps = rows_same ps s.ledger
-
-  known : IsLess s (keeping_known path id w s)
-  known = less_open s (keeping_known path id w s) (λ p. not (is_on id p)) (one_less id (keys_deleted id s)) (λ p i t e. is_on_other id p i t e) refl
-      (open_rows (filter (λ (p : Pending). not (is_on id p)) s.tokens)) (same_number s.operation)
-
-  unknown : IsLess s (keeping_unknown path w s)
-  unknown = less_open s (keeping_unknown path w s) (λ p. not (is_create_at path p)) (stay refl) (λ p i t e. tt) refl
-      (open_rows (filter (λ (p : Pending). not (is_create_at path p)) s.tokens)) (same_number s.operation)
-
-  by : (a b c : Bool) → IsLess s (cond a (cond b (keeping_unknown path w s) s) (cond c (keeping_known path id w s) s))
-  by true true c = unknown
-  by true false c = same
-  by false b true = known
-  by false b false = same
+less_kept path id w s =
+    kept_way (IsLess s) s (less_self s) path id w
+    (less_open s (keeping_unknown path w s) (λ p. not (is_create_at path p)) (stay refl) (λ p i t e. tt) refl
+    (rows_same (filter (λ (p : Pending). not (is_create_at path p)) s.tokens) s.ledger) (same_number s.operation))
+    (less_open s (keeping_known path id w s) (λ p. not (is_on id p)) (one_less id (keys_deleted id s)) (λ p i t e. is_on_other id p i t e) refl
+    (rows_same (filter (λ (p : Pending). not (is_on id p)) s.tokens) s.ledger) (same_number s.operation))
 
 -- a later phase
 -- what leaves a resource's id and what is told of it keeps its key
@@ -575,10 +512,7 @@ same_self : (s : StackState) → IsSameBut s s
 same_self s = record { tokens = refl; ledger = refl; operation = refl }
 
 same_changing : (id : List ℕ) (f : Held → Held) (s : StackState) → IsSameBut s (changing id f s)
-same_changing id f s = by (list_any (has_physical id) s.held) where
-  by : (b : Bool) → IsSameBut s (cond b (record s { held = where_physical id f s.held }) (record s { made = where_physical id f s.made }))
-  by true = record { tokens = refl; ledger = refl; operation = refl }
-  by false = record { tokens = refl; ledger = refl; operation = refl }
+same_changing id f s = grind arith
 
 -- What an answer leaves of the resources: they stay, or that which was to be deleted is gone, or one more is made.
 pub data IsLeftBy (s : StackState) (path : List ℕ) : Request → Reply → StackState → Type 0 where
@@ -602,18 +536,16 @@ left_by restores path (request.Create k props) (reply.Success id attrs) s =
     made k id props attrs (made_of (terms_at path s) (status_made (current_at path s.held)) path k props id attrs) (record { tokens = refl; ledger = refl; operation = refl })
     (sym (append_assoc s.held s.made (made_of (terms_at path s) (status_made (current_at path s.held)) path k props id attrs ∷ []))) refl refl
 left_by restores path (request.Update id props) (reply.Success physical attrs) s = by_change s path (request.Update id props) (reply.Success physical attrs) id (updating props attrs) (λ h. refl)
-left_by restores path (request.Update id props) (reply.Failed c) s = by restores where
-  by : (b : Bool) → IsLeftBy s path (request.Update id props) (reply.Failed c) (cond b (with_status id held.UpdateFailed s) s)
-  by true = by_change s path (request.Update id props) (reply.Failed c) id (λ h. record h { status = held.UpdateFailed }) (λ h. refl)
-  by false = same (same_self s) refl
+left_by restores path (request.Update id props) (reply.Failed c) s =
+    either_way (IsLeftBy s path (request.Update id props) (reply.Failed c)) restores (with_status id held.UpdateFailed s) s
+    (by_change s path (request.Update id props) (reply.Failed c) id (λ h. record h { status = held.UpdateFailed }) (λ h. refl)) (same (same_self s) refl)
 left_by restores path (request.Delete id) (reply.Success physical attrs) s = by_deletion s path (reply.Success physical attrs) id (λ e. let no : ⊥ = cc in no)
 left_by restores path (request.Delete id) (reply.Failed c) s = by_refusal restores s path id c
 left_by restores path r a s = same (same_self s) refl
 
 still_other : (token : ℕ) (a : Reply) (ps : List Pending) (p : Pending) → (a ≡ reply.Doubt → ⊥) → In p (still_open token a ps) → token ≡ p.token → ⊥
-still_other token (reply.Success physical attrs) ps p n i e = true≢false (sym (eq-eqb token p.token e) ∙ not-true (token == p.token) (in_filter (λ q. not (has_token token q)) ps p i).1)
-still_other token (reply.Failed c) ps p n i e = true≢false (sym (eq-eqb token p.token e) ∙ not-true (token == p.token) (in_filter (λ q. not (has_token token q)) ps p i).1)
 still_other token reply.Doubt ps p n i e = n refl
+still_other token a ps p n i e = closed_other token ps p i e
 
 module _ (x y : World) (s : StackState) (h : Fits x s) (token : ℕ) (q : Pending) (found : pending_of token s ≡ Some q) (lanes : y.lanes ≡ x.lanes) (last : y.token ≡ x.token) where
   -- no other open call names the id that this one names
@@ -679,37 +611,22 @@ abbrev pub world_left : World → Entry → Found → World
 world_left x e o = option_map_or (λ (s : List ℕ × StackState). leaving s.0 (effect_at (x.place + 1) e s.1) x) o x
 
 -- what an entry of one stack leaves
-pub record LeavesBy (x : World) (e : Entry) (o : Found) (y : World) : Type 0 where
-  pub stacks : y.stacks ≡ put_by x e o
-  pub lanes : y.lanes ≡ x.lanes
-  pub epoch : y.epoch ≡ x.epoch
-
-is_left : (x : World) (e : Entry) (o : Found) → LeavesBy x e o (world_left x e o)
-is_left x e None = record { stacks = refl; lanes = refl; epoch = refl }
-is_left x e (Some s) = record { stacks = refl; lanes = refl; epoch = refl }
-
--- the last numbers are told besides
-also_left : (x : World) (e : Entry) (o : Found) (y : World) → y.stacks ≡ (world_left x e o).stacks → y.lanes ≡ (world_left x e o).lanes → y.epoch ≡ (world_left x e o).epoch → LeavesBy x e o y
-also_left x e o y a b c = let l = is_left x e o in record { stacks = a ∙ l.stacks; lanes = b ∙ l.lanes; epoch = c ∙ l.epoch }
-
-pub after_left : (x : World) (e : Entry) → is_opening e ≡ false → LeavesBy x e (stack_for e x) (world_after x e)
-after_left x (entry.Opened epoch lanes) n = absurd (true≢false n)
-after_left x e n = also_left x e (stack_for e x) (world_after x e) refl refl refl
+left_as : (x : World) (e : Entry) (o : Found) → ((world_left x e o).stacks ≡ put_by x e o) × ((world_left x e o).lanes ≡ x.lanes) × ((world_left x e o).token ≡ x.token)
+left_as x e None = (refl, refl, refl)
+left_as x e (Some s) = (refl, refl, refl)
 
 pub after_stacks : (x : World) (e : Entry) → is_opening e ≡ false → (world_after x e).stacks ≡ put_by x e (stack_for e x)
-after_stacks x e n = (after_left x e n).stacks
+after_stacks x (entry.Opened epoch lanes) n = absurd (true≢false n)
+after_stacks x e n = (left_as x e (stack_for e x)).0
 
 pub after_lanes : (x : World) (e : Entry) → is_opening e ≡ false → (world_after x e).lanes ≡ x.lanes
-after_lanes x e n = (after_left x e n).lanes
-
-same_token : (x : World) (e : Entry) (o : Found) → (world_left x e o).token ≡ x.token
-same_token x e None = refl
-same_token x e (Some s) = refl
+after_lanes x (entry.Opened epoch lanes) n = absurd (true≢false n)
+after_lanes x e n = (left_as x e (stack_for e x)).1
 
 pub after_token : (x : World) (e : Entry) → (world_after x e).token ≡ token_after e x.token
 after_token x (entry.Opened epoch lanes) = refl
 after_token x (entry.Intent number token lane path r) = refl
-after_token x e = same_token x e (stack_for e x)
+after_token x e = (left_as x e (stack_for e x)).2
 
 -- the stack that an entry is of is the one that is known by its name
 known_by : (x : World) (name : List ℕ) (s : StackState) → stack_at name x ≡ Some s → known_stack name x ≡ s
@@ -728,9 +645,7 @@ there_known x n name s (Some t) f e = known_same x n name s (ap (λ (z : StackSt
 
 pub begun_known : (x : World) (number : ℕ) (n : List ℕ) (k : Begun) (name : List ℕ) (s : StackState) → stack_for (entry.Begin number n k) x ≡ Some (name, s) → (n ≡ name) × (known_stack n x ≡ s)
 begun_known x number n (begin.Create source) name s e = known_same x n name s e
-begun_known x number n (begin.Update source) name s e = there_known x n name s (stack_at n x) refl e
-begun_known x number n (begin.Delete paths) name s e = there_known x n name s (stack_at n x) refl e
-begun_known x number n (begin.Continue paths) name s e = there_known x n name s (stack_at n x) refl e
+begun_known x number n _ name s e = there_known x n name s (stack_at n x) refl e
 
 pub stack_known : (x : World) → AreApart x → (e : Entry) (name : List ℕ) (s : StackState) → stack_for e x ≡ Some (name, s) → known_stack name x ≡ s
 stack_known x h e name s f = known_for x h.names name s e f
@@ -769,9 +684,6 @@ stands_by x h (entry.Opened epoch lanes) name t g = by (stack_at name x) refl (s
       let is : (effect_at (x.place + 1) (entry.Opened epoch lanes) s).stack ≡ t = cc in
       record { stack = s; known = known_by x name s f; becomes = subst (BecomesBy x (entry.Opened epoch lanes) name s) is (at_opening refl); there = inr f }
 stands_by x h e name t g = by_found x h e name t refl (stack_for e x) refl (sym (ap (value_at name) (after_stacks x e refl)) ∙ g)
-
-pub less_self : (s : StackState) → IsLess s s
-less_self s = less_stay s s refl refl (rows_same s.tokens s.ledger) (same_number s.operation)
 
 -- what is found at a path is held there
 held_at : (path : List ℕ) (hs : List Held) (h : Held) → current_at path hs ≡ Some h → In h hs × (h.path ≡ path)
@@ -822,21 +734,14 @@ fitting_lane x p (request.Create k props) e t =
     let lane : l.0 ≡ p.lane = sym ((bytes_eq-Decides p.lane l.0).0 (first_so (bytes_eq p.lane l.0) (bytes_eq k l.1) f.passes)) in
     let kind : l.1 ≡ k = sym ((bytes_eq-Decides k l.1).0 (second_so (bytes_eq p.lane l.0) (bytes_eq k l.1) f.passes)) in
     (l, f.of_list, (lane, subst (λ q. IsKindFor q l.1) (sym e) kind))
-fitting_lane x p (request.Update physical props) e t =
-    let f = some_of (λ (l : List ℕ × List ℕ). bytes_eq p.lane l.0) x.lanes t.1 in
-    let l = f.one in
-    (l, f.of_list, (sym ((bytes_eq-Decides p.lane l.0).0 f.passes), subst (λ q. IsKindFor q l.1) (sym e) tt))
-fitting_lane x p (request.Delete physical) e t =
+fitting_lane x p _ e t =
     let f = some_of (λ (l : List ℕ × List ℕ). bytes_eq p.lane l.0) x.lanes t.1 in
     let l = f.one in
     (l, f.of_list, (sym ((bytes_eq-Decides p.lane l.0).0 f.passes), subst (λ q. IsKindFor q l.1) (sym e) tt))
 
 -- what holds of each stack that is there, and of one of which nothing is known, holds of the known one of a name
 pub at_known : (P : StackState → Type 0) (x : World) (name : List ℕ) → P no_stack → ((s : StackState) → stack_at name x ≡ Some s → P s) → P (known_stack name x)
-at_known P x name none each = by (stack_at name x) refl where
-  by : (o : Option StackState) → stack_at name x ≡ o → P (unwrap_or o no_stack)
-  by None e = none
-  by (Some s) e = each s e
+at_known P x name none each = grind arith
 
 -- no operation is above the last one
 last_known : (x : World) → AreApart x → (n : List ℕ) → (known_stack n x).operation ≤ x.operation
@@ -845,8 +750,7 @@ last_known x h n = at_known (λ (s : StackState). s.operation ≤ x.operation) x
 none_made : (k : Begun) (s : StackState) → IsSteady s → IsTrue (begins_from k s.status) → HasNoneMade k s
 none_made (begin.Create source) s steady t = (steady.rests (or_left (creates_from s.status) (updates_from s.status) t)).1
 none_made (begin.Update source) s steady t = (steady.rests (or_right (creates_from s.status) (updates_from s.status) t)).1
-none_made (begin.Delete paths) s steady t = tt
-none_made (begin.Continue paths) s steady t = tt
+none_made _ s steady t = tt
 
 module _ (schemas : List Schema) (x : World) (out : List ℕ) (apart : AreApart x) where
   -- an entry of an operation is of the stack on which it is in progress
@@ -872,6 +776,7 @@ module _ (schemas : List Schema) (x : World) (out : List ℕ) (apart : AreApart 
     intent_fits : (name : List ℕ) (number token : ℕ) (lane path : List ℕ) (r : Request) → number ≡ s.operation → (stage : Stage) → MayIntend schemas name x out s stage token lane path r
         → Fits (world_after x (entry.Intent number token lane path r)) (effect_at (x.place + 1) (entry.Intent number token lane path r) s).stack
     intent_fits name number token lane path r of stage m =
+        let p : Pending = record { token = token; path = path; lane = lane; request = r } in
         let called : Bool → StackState =
         λ b. cond b s (record s { tokens = s.tokens ++ p ∷ []; ledger = s.ledger ++ new_call number s.status p ∷ [] }) in
         let none : list_any (has_token token) s.tokens ≡ false =
@@ -882,9 +787,6 @@ module _ (schemas : List Schema) (x : World) (out : List ℕ) (apart : AreApart 
         fits_called x (world_after x (entry.Intent number token lane path r)) s (effect_at (x.place + 1) (entry.Intent number token lane path r) s).stack h number s.status p m.next
         (ap (λ b. (called b).tokens) none) (ap (λ b. (called b).ledger) none) (ap (λ b. resources_of (called b)) none) (ap (λ b. (called b).operation) none)
         (omega (arith, of)) (after_lanes x (entry.Intent number token lane path r) refl) refl free (λ id e. intends_named stage schemas name x s path r id steady m.chosen e) l l_in l_for
-      where
-        p : Pending
-        p = record { token = token; path = path; lane = lane; request = r }
 
     outcome_fits : (name : List ℕ) (number token : ℕ) (a : Reply) (before after : ℕ) → stack_of_operation number x ≡ Some (name, s) → IsTrue (is_some (pending_of token s))
         → IsNew x (entry.Outcome number token a before after) → IsOfItsLane x (entry.Outcome number token a before after)
@@ -949,17 +851,7 @@ module _ (schemas : List Schema) (x : World) (out : List ℕ) (apart : AreApart 
 
 -- a stack of which nothing is known fits, and is steady
 pub fits_none : (x : World) → Fits x no_stack
-fits_none x = record {
-  ids = refl;
-  tokens = refl;
-  paths = λ p q i. elim i [ ];
-  named = λ p id i. elim i [ ];
-  rows = λ p i. elim i [ ];
-  row_tokens = refl;
-  last = λ c i. elim i [ ];
-  numbers = λ c i. elim i [ ];
-  lanes = (λ r i. elim i [ ], λ p i. elim i [ ]);
-}
+fits_none x = grind arith
 
 pub steady_none : IsSteady no_stack
 steady_none = record { rests = λ t. (refl, refl); restores = λ e b i. elim i [ ]; gives_up = λ e p i. elim i [ ] }

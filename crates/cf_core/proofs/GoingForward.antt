@@ -1,92 +1,41 @@
 -- A forward phase has a next step, or it ends.
-use Rattle.std.proofs.Common.{◌∷◌, ◌≡◌, ◌⊎◌, inl, inr, ℕ, ◌+◌, ◌==◌, Bool, true, false, not, ◌&&◌, nat_lt, List, [], Option, Some, None, refl, sym, ap, subst, ◌∙◌, true≢false, map, arith}
+use Rattle.std.proofs.Common.{◌≡◌, ◌⊎◌, inl, inr, ℕ, ◌+◌, ◌≤◌, ◌==◌, Bool, true, false, not, ◌&&◌, nat_lt, List, Option, Some, None, refl, sym, ap, subst, ◌∙◌, true≢false, map, arith, []}
+use Rattle.cf_core.proofs.Words.{AllDone, AreDone, Bad, Call, Cause, Code, Data, Difference, EndsAs, Finding, Fits, Forward, ForwardGoesOn, HasFailed, HasKinds, HasNext, Held, In, IsAdvancing, IsAtEnd, IsDone, IsReady, IsRefusedAhead, IsTold, Known, Later, MayTurn, Pending, Phase, Reason, Request, Schema, Source, StackState, Status, StepsIn, WantsNew, WantsUpdate, World, any_differs, bytes_eq, call_under as call_of, current_at, difference_of, difference_to, doubts_of, evaluated_at, first_so, found, has_physical, held_before, is_among, is_call, is_conditional, is_current_at, is_excused, is_free, is_lane_of, is_not_updatable, is_refused_call, is_right, is_success, is_update, is_updated, is_wanted_at, list_any, option_map_or, own_calls, plan_now, refusing, resources_of, second_so, stack_of_operation, stage_of, succeeded, updates, wanted_at, was_answered_at, was_not_updatable, was_updated}
+use Rattle.cf_core.proofs.Lemmas.{Passes, and_from, any_of, bytes_eq-Decides, cases_Bool, eq-eqb, eqb-true, found_one, in_changed, in_filter, in_front, is_found, is_found_in, ltb-false, some_of}
 use Rattle.std.specs.Prelude.{cond, is_some}
-use Rattle.std.specs.List.{list_any}
-use Rattle.std.specs.Option.{option_map_or}
-use Rattle.std.specs.Str.{bytes_eq}
-use Rattle.std.specs.Cmp.{first_so, second_so}
-use Rattle.std.proofs.lemmas.Bool.{and_from, eq-eqb, eqb-true, ltb-false}
-use Rattle.std.proofs.lemmas.Slice.Eq.{bytes_eq-Decides}
-use Rattle.cf_tree.specs.Datum.{Data, members_of}
-use Rattle.cf_tree.specs.Lists.{is_among}
-use Rattle.cf_tree.specs.Same.{same_members}
-use Rattle.cf_tree.specs.declared.code.Code.{Code}
-use Rattle.cf_tree.specs.declared.code.Code.TheVariants as code
-use Rattle.cf_tree.specs.declared.request.Request.{Request}
-use Rattle.cf_tree.specs.declared.request.Request.TheVariants as request
-use Rattle.cf_tree.specs.declared.source.Source.{Source}
-use Rattle.cf_entry.specs.declared.entry.Entry.TheVariants as entry
-use Rattle.cf_entry.specs.declared.entry.Reply.TheVariants as reply
-use Rattle.cf_entry.specs.declared.status.Status.{Status}
-use Rattle.cf_entry.specs.declared.status.Status.TheVariants as status
-use Rattle.cf_entry.specs.declared.turn.Cause.{Cause}
-use Rattle.cf_entry.specs.declared.turn.Phase.{Phase}
-use Rattle.cf_entry.specs.declared.turn.Phase.TheVariants as phase
-use Rattle.cf_entry.specs.declared.turn.Reason.{Reason}
-use Rattle.cf_entry.specs.declared.turn.Reason.TheVariants as reason
-use Rattle.cf_entry.specs.declared.turn.Why.{Why}
-use Rattle.cf_entry.specs.declared.turn.Why.TheVariants as why
-use Rattle.cf_schema.specs.declared.described.Schema.{Schema}
-use Rattle.cf_schema.specs.declared.changed.Difference.{Difference}
-use Rattle.cf_schema.specs.declared.changed.Difference.TheVariants as difference
-use Rattle.cf_schema.specs.Change.{any_differs, difference_of}
-use Rattle.cf_schema.specs.Kinds.{found}
-use Rattle.cf_desired.specs.Whole.{is_wanted_at, wanted_at}
-use Rattle.cf_effect.specs.declared.call.Call.{Call}
 use Rattle.cf_effect.specs.declared.call.Settled.{Settled}
-use Rattle.cf_effect.specs.declared.call.Settled.TheVariants as settled
-use Rattle.cf_effect.specs.declared.held.Held.{Held}
-use Rattle.cf_effect.specs.declared.held.Pending.{Pending}
-use Rattle.cf_effect.specs.World.{StackState, World, stack_of_operation}
-use Rattle.cf_effect.specs.Words.{current_at, has_physical, is_current_at, is_update, resources_of, updates}
-use Rattle.cf_effect.specs.Calls.{call_under as call_of, doubts_of, is_call, is_success, own_calls, succeeded, was_updated}
-use Rattle.cf_effect.specs.Status.{Forward, stage_of}
-use Rattle.cf_plan.specs.Follow.{IsAtEnd, MayKeep, MayTurn, WantsNew, WantsUpdate, EndsAs, is_free, is_lane_of, is_not_updatable, was_not_updatable}
-use Rattle.cf_plan.specs.Forward.{AllDone, Bad, Finding, HasFailed, In, IsCause, IsDone, IsReady, Known, Later, difference_to, evaluated_at, held_before, is_conditional, is_excused, is_refused_call, is_right, is_updated, plan_now, refusing, was_answered_at}
-use Rattle.cf_plan.specs.Done.{AreDone}
-use Rattle.cf_plan.proofs.CreatedRight.{in_filter}
-use Rattle.cf_plan.proofs.CreatedStays.{found_one, is_found}
-use Rattle.cf_plan.proofs.CreatedEnd.{in_changed}
-use Rattle.cf_plan.proofs.RunLists.{Passes, any_of, in_front, is_found_in, some_of}
-use Rattle.cf_core.specs.Advancing.{AreSameThings, IsSameThing, IsAdvancing}
-use Rattle.cf_core.specs.Fits.{Fits}
-use Rattle.cf_core.specs.GoesOn.{ForwardGoesOn, HasNext, HasKinds, IsRefusedAhead, IsTold, StepsIn}
-use Rattle.cf_core.proofs.GoingDone.{all_found, first_or_all, props_same}
-use Rattle.cf_core.proofs.GoingFails.{excused, failed_or, none_failing, not_thrice}
+use Rattle.cf_plan.proofs.DoneFound.{all_found, first_or_all}
+use Rattle.cf_plan.proofs.FailedFound.{excused, failed_or, none_failing, not_thrice}
 use Rattle.cf_core.proofs.GoingKnown.{ready_known}
 use Rattle.cf_core.proofs.HidCalls.{it, not_updated, one_kind, was}
 use Rattle.cf_core.proofs.TidyEnds.{at_end_by, at_home, follows, lane_of, none_flying, steps}
 use Rattle.cf_core.proofs.TidyLists.{one_of_bytes, one_of_number}
 use Rattle.cf_core.proofs.TidyOwn.{some_same}
-use Rattle.cf_core.specs.Advancing as things
-use Rattle.cf_plan.specs.Forward.{here as at_head, there as further}
-
--- what was held before is held
-still_held : (bs hs : List Held) → AreSameThings bs hs → (b : Held) → In b bs → (r : Held) × In r hs × IsSameThing b r
-still_held _ _ things.none b i = elim i [ ]
-still_held _ _ (things.more {b = c} {h = g} {bs = bs} {hs = hs} one rest) b i = by c i refl (still_held bs hs rest b) where
-  by : (d : Held) → In b (d ∷ bs) → d ≡ c → (In b bs → (r : Held) × In r hs × IsSameThing b r) → (r : Held) × In r (g ∷ hs) × IsSameThing b r
-  by d at_head e ih = (g, at_head, subst (λ w. IsSameThing w g) (sym e) one)
-  by d (further j) e ih = let (r, k, t) = ih j in (r, further k, t)
+use Rattle.cf_schema.proofs.Equal.{same_equal}
+use Rattle.cf_core.proofs.BackLists.{is_of}
+use Rattle.cf_core.proofs.AdvSteps.{keeps_nothing}
+use Rattle.cf_tree.specs.declared.code.Code.TheVariants as code
+use Rattle.cf_tree.specs.declared.request.Request.TheVariants as request
+use Rattle.cf_entry.specs.declared.entry.Entry.TheVariants as entry
+use Rattle.cf_entry.specs.declared.entry.Reply.TheVariants as reply
+use Rattle.cf_entry.specs.declared.status.Status.TheVariants as status
+use Rattle.cf_entry.specs.declared.turn.Phase.TheVariants as phase
+use Rattle.cf_entry.specs.declared.turn.Reason.TheVariants as reason
+use Rattle.cf_schema.specs.declared.changed.Difference.TheVariants as difference
+use Rattle.cf_effect.specs.declared.call.Settled.TheVariants as settled
 
 -- a resource whose properties don't differ has them
+none_differs : (b c d : Bool) → cond b difference.Same (cond c difference.Replace (cond d difference.MayReplace difference.Update)) ≡ difference.Same → b ≡ true
+none_differs true c d e = refl
+none_differs false true d e = let no : ⊥ = cc in absurd no
+none_differs false false true e = let no : ⊥ = cc in absurd no
+none_differs false false false e = let no : ⊥ = cc in absurd no
+
 same_props : (schemas : List Schema) (h : Held) (props : List (List ℕ × Data)) → difference_to schemas h props ≡ difference.Same → h.props ≡ props
 same_props schemas h props = by (found h.kind schemas) where
-  by_create : (b c : Bool) → cond b difference.Replace (cond c difference.MayReplace difference.Update) ≡ difference.Same → ⊥
-  by_create true c e = cc
-  by_create false true e = cc
-  by_create false false e = cc
-
-  by_same : (schema : Schema) (b : Bool) → same_members (members_of h.props) (members_of props) ≡ b
-      → cond b difference.Same (cond (any_differs schema.create_only h.props props) difference.Replace
-      (cond (any_differs schema.conditional h.props props) difference.MayReplace difference.Update)) ≡ difference.Same
-      → h.props ≡ props
-  by_same schema true f e = props_same h.props props f
-  by_same schema false f e = absurd (by_create (any_differs schema.create_only h.props props) (any_differs schema.conditional h.props props) e)
-
   by : (o : Option Schema) → option_map_or (λ schema. difference_of schema h.props props) o difference.Update ≡ difference.Same → h.props ≡ props
   by None e = let no : ⊥ = cc in absurd no
-  by (Some schema) e = by_same schema (same_members (members_of h.props) (members_of props)) refl e
+  by (Some schema) e = same_equal h.props props (none_differs _ (any_differs schema.create_only h.props props) (any_differs schema.conditional h.props props) e)
 
 forward_or : (st : Status) → stage_of st ≡ Some Forward → (st ≡ status.CreateInProgress) ⊎ (st ≡ status.UpdateInProgress)
 forward_or status.CreateInProgress e = inl refl
@@ -96,13 +45,6 @@ forward_or st e = let no : ⊥ = cc in absurd no
 conditional : (d : Difference) → is_conditional d ≡ true → d ≡ difference.MayReplace
 conditional difference.MayReplace e = refl
 conditional d e = absurd (true≢false (sym e))
-
--- going forward nothing is kept
-pub no_kept : (s : StackState) (out : List ℕ) (path id : List ℕ) (w : Why) → MayKeep Forward out s path id w → ⊥
-no_kept s out path id why.Retained (inl k) = k.1
-no_kept s out path id why.Retained (inr k) = let g = k.0 in cc
-no_kept s out path id why.Failed k = elim k.0.1 [ ]
-no_kept s out path id why.Doubt k = elim k.0.1 [ ]
 
 same_known : (k j : List ℕ) (ps qs : List (List ℕ × Data)) → Known k ps ≡ Known j qs → (k ≡ j) × (ps ≡ qs)
 same_known k j ps qs e = (cc, cc)
@@ -114,11 +56,14 @@ module _ (schemas : List Schema) (name : List ℕ) (x : World) (s : StackState) 
 
   -- an open call is made again
   open_goes : (p : Pending) → In p s.tokens → Steps
-  open_goes p i = by (nat_lt (doubts_of p.token s) 3) refl where
-    by : (b : Bool) → nat_lt (doubts_of p.token s) 3 ≡ b → Steps
-    by true e = inr (p, (good, i, e))
-    by false e = absurd (not_thrice schemas s (none_failing schemas name x s good) p.token
-        (let many = ltb-false (doubts_of p.token s) 3 e in let told_of = told.doubted p i in omega (arith, many, told_of)))
+  open_goes p i = elim (cases_Bool (nat_lt (doubts_of p.token s) 3)) [
+    | inl e ↦ inr (p, (good, i, e))
+    | inr e ↦ (let many = ltb-false (doubts_of p.token s) 3 e in absurd (not_thrice schemas s (none_failing schemas name x s good) p.token
+        (has_row (call_of p.token s) many) (let told_of = told.doubted p i in omega (arith, many, told_of))))
+  ] where
+    has_row : (o : Option Call) → 3 ≤ option_map_or (λ c. c.doubts) o 0 → is_some o ≡ true
+    has_row None l = absurd (omega (arith, l))
+    has_row (Some c) l = refl
 
   -- A path that is ready and not done, of which no call is open.
   module _ (p : List ℕ) (ready : IsReady s p) (undone : IsDone s p → ⊥) (free : is_free p s ≡ true) (k : List ℕ) (props : List (List ℕ × Data))
@@ -181,18 +126,17 @@ module _ (schemas : List Schema) (name : List ℕ) (x : World) (s : StackState) 
         t = told.refused c id asked r of_ledger asks answer
 
         excuse : is_excused schemas s (request.Update id asked) r ≡ true
-        excuse = by (is_excused schemas s (request.Update id asked) r) refl where
-          refuses : refusing schemas s (entry.Outcome t.told.0 c.token (reply.Failed r) t.told.1 t.told.2) ≡ None
-          refuses = excused schemas s (none_failing schemas name x s good) told.no_phase (entry.Outcome t.told.0 c.token (reply.Failed r) t.told.1 t.told.2) t.told.3
-
-          by : (b : Bool) → is_excused schemas s (request.Update id asked) r ≡ b → b ≡ true
-          by true e = refl
-          by false e =
+        excuse = elim (cases_Bool (is_excused schemas s (request.Update id asked) r)) [
+          | inl e ↦ e
+          | inr e ↦
               let refused : is_refused_call schemas s (call_of c.token s) r ≡ true =
               ap (λ o. is_refused_call schemas s o r) call_is ∙ ap (λ q. not (is_excused schemas s q r)) asks ∙ ap not e in
               let some : ◌≡◌ {A = Option (ℕ × Reason)} (Some (c.token, reason.Code r)) None = sym (ap (λ b. cond b (Some (c.token, reason.Code r)) None) refused)
               ∙ refuses in
               let no : ⊥ = cc in absurd no
+        ] where
+          refuses : refusing schemas s (entry.Outcome t.told.0 c.token (reply.Failed r) t.told.1 t.told.2) ≡ None
+          refuses = excused schemas s (none_failing schemas name x s good) told.no_phase (entry.Outcome t.told.0 c.token (reply.Failed r) t.told.1 t.told.2) t.told.3
 
         same_held : t.asks.0 ≡ h
         same_held = some_same t.asks.0 h (sym t.asks.1 ∙ ap (λ q. current_at q s.held) (sym path) ∙ at)
@@ -207,7 +151,7 @@ module _ (schemas : List Schema) (name : List ℕ) (x : World) (s : StackState) 
         by_before n b e d =
             let f = found_one (has_physical id) s.before b e in
             let same : b.physical ≡ h.physical = sym ((bytes_eq-Decides id b.physical).0 f.1) ∙ sym of_id in
-            let g = still_held s.before s.held a.held b f.0 in
+            let g = is_of a.held f.0 in
             let now = was schemas s source a p k props said undone h at in
             let is_h : g.0 ≡ h = one_of_bytes (λ (y : Held). y.physical) (resources_of s) g.0 h fits.ids (in_front g.0 s.held s.made g.1)
             (in_front h s.held s.made now.in_held) (g.2.physical ∙ same) in
@@ -257,20 +201,17 @@ module _ (schemas : List Schema) (name : List ℕ) (x : World) (s : StackState) 
         by_request (request.Delete id) q t = absurd (true≢false (sym t))
 
       by_answer : WantsUpdate schemas s h props → (IsReplaced → Steps) → Steps
-      by_answer wants more = by (was_answered_at p s) refl where
-        by : (b : Bool) → was_answered_at p s ≡ b → Steps
-        by true e = more (answered_so e)
-        by false e = updates_it wants e
+      by_answer wants more = elim (cases_Bool (was_answered_at p s)) [ inl e ↦ more (answered_so e) | inr e ↦ updates_it wants e ]
 
       held_goes : (d : Difference) → difference_to schemas h props ≡ d → Steps
       held_goes difference.Replace e = creates_new (inl e)
       held_goes difference.MayReplace e = by_answer ((λ n. let k = sym e ∙ n in cc), inr (λ n. let k = sym e ∙ n in cc)) (λ w. creates_new (inr (e, w.1)))
       held_goes difference.Update e = by_answer ((λ n. let k = sym e ∙ n in cc), inr (λ n. let k = sym e ∙ n in cc))
           (λ w. let k = sym e ∙ w.0 in let no : ⊥ = cc in absurd no)
-      held_goes difference.Same e = by h.unsure refl where
-        by : (b : Bool) → h.unsure ≡ b → Steps
-        by true u = by_answer ((λ n. let k = sym e ∙ n in cc), inl u) (λ w. let k = sym e ∙ w.0 in let no : ⊥ = cc in absurd no)
-        by false u = absurd (undone (is_right h ready.0 ready.1 at u (said ∙ ap (λ n. Known n props) kind_is ∙ ap (Known h.kind) (sym (same_props schemas h props e)))))
+      held_goes difference.Same e = elim (cases_Bool h.unsure) [
+        | inl u ↦ by_answer ((λ n. let k = sym e ∙ n in cc), inl u) (λ w. let k = sym e ∙ w.0 in let no : ⊥ = cc in absurd no)
+        | inr u ↦ absurd (undone (is_right h ready.0 ready.1 at u (said ∙ ap (λ n. Known n props) kind_is ∙ ap (Known h.kind) (sym (same_props schemas h props e)))))
+      ]
 
     path_goes : Steps
     path_goes = by (current_at p s.held) refl where
@@ -280,15 +221,14 @@ module _ (schemas : List Schema) (name : List ℕ) (x : World) (s : StackState) 
 
   -- a path that is ready and not done goes on
   ready_goes : (done : List (List ℕ)) → AreDone s done → (p : List ℕ) → IsReady s p → (IsDone s p → ⊥) → Steps
-  ready_goes done are p ready undone = by (list_any (λ q. bytes_eq p q.path) s.tokens) refl where
+  ready_goes done are p ready undone = elim (cases_Bool (list_any (λ q. bytes_eq p q.path) s.tokens)) [
+    | inl e ↦ let q = some_of (λ (q : Pending). bytes_eq p q.path) s.tokens e in open_goes q.one q.of_list
+    | inr e ↦ by_said (ap not e) (evaluated_at p s) refl
+  ] where
     by_said : is_free p s ≡ true → (f : Finding) → evaluated_at p s ≡ f → Steps
     by_said free (Bad fault) e = absurd (good (inr (inl (p, fault, inl (ready, e)))))
     by_said free Later e = absurd (ready_known schemas name x s source a done are good p ready e)
     by_said free (Known k props) e = path_goes p ready undone free k props e
-
-    by : (b : Bool) → list_any (λ q. bytes_eq p q.path) s.tokens ≡ b → Steps
-    by true e = let q = some_of (λ (q : Pending). bytes_eq p q.path) s.tokens e in open_goes q.one q.of_list
-    by false e = by_said (ap not e) (evaluated_at p s) refl
 
   -- where all is done the next phase begins, or the creation ends
   all_goes : AllDone s → stack_of_operation s.operation x ≡ Some (name, s) → HasNext schemas x s.operation
@@ -297,14 +237,12 @@ module _ (schemas : List Schema) (name : List ℕ) (x : World) (s : StackState) 
     none_open p i = a.not_done p i (all p.path (a.ready p i).0)
 
     module_end : s.status ≡ status.CreateInProgress → IsAtEnd schemas name x s Forward
-    module_end e = at_end_by schemas name x s Forward (λ token lane path r w. w.chosen.2 (all path w.chosen.1.0)) (no_kept s []) no_turn (λ p w. none_open p w.1) where
+    module_end e = at_end_by schemas name x s Forward (λ token lane path r w. w.chosen.2 (all path w.chosen.1.0)) (keeps_nothing [] s) no_turn (λ p w. none_open p w.1) where
       no_turn : (p : Phase) (c : Option Cause) → MayTurn schemas name x s p c → ⊥
       no_turn phase.Clean None w = let g = sym e ∙ w.0 in cc
-      no_turn phase.Clean (Some c) w = w
       no_turn phase.Back (Some c) w = good w.1
-      no_turn phase.Back None w = w
-      no_turn phase.BackClean (Some c) w = w
       no_turn phase.BackClean None w = let g = sym e ∙ w.0 in cc
+      no_turn p c w = w
 
     by : (s.status ≡ status.CreateInProgress) ⊎ (s.status ≡ status.UpdateInProgress) → HasNext schemas x s.operation
     by (inr e) = steps schemas name x s Forward going in_forward (inl (entry.Phase s.operation phase.Clean None, (e, good, all)))
@@ -313,18 +251,13 @@ module _ (schemas : List Schema) (name : List ℕ) (x : World) (s : StackState) 
         (none_flying s, module_end e, subst (λ k. EndsAs schemas name x s k status.CreateComplete) (sym e) (good, all), refl)
 
 pub forward_goes_on : ForwardGoesOn
-forward_goes_on schemas name x s source going in_forward fits a kinds told = by_done (all_found s source a.going) where
-  by_path : (done : List (List ℕ)) → AreDone s done → (HasFailed schemas name x s → ⊥) → ((p : List ℕ) × IsReady s p × (is_among p done ≡ false)) ⊎ AllDone s
-      → HasNext schemas x s.operation
-  by_path done are good (inl (p, ready, e)) =
-      steps schemas name x s Forward going in_forward
-      (ready_goes schemas name x s source in_forward fits a kinds told good done are p ready (λ d. true≢false (sym ((are p).0 d) ∙ e)))
-  by_path done are good (inr all) = all_goes schemas name x s source in_forward fits a kinds told good all going
-
-  by_failed : (done : List (List ℕ)) → AreDone s done → (HasFailed schemas name x s × ((c : Cause) × IsCause schemas name x s c)) ⊎ (HasFailed schemas name x s → ⊥)
-      → HasNext schemas x s.operation
-  by_failed done are (inl (failed, c)) = steps schemas name x s Forward going in_forward (inl (entry.Phase s.operation phase.Back (Some c.0), (in_forward, failed, c.1)))
-  by_failed done are (inr good) = by_path done are good (first_or_all s source a.going done are)
-
-  by_done : ((done : List (List ℕ)) × AreDone s done) → HasNext schemas x s.operation
-  by_done (done, are) = by_failed done are (failed_or schemas name x s source a.going done are told)
+forward_goes_on schemas name x s source going in_forward fits a kinds told =
+    let d = all_found s source a.going in
+    elim (failed_or schemas name x s source a.going d.0 d.1 told.no_phase told.called) [
+      | inl f ↦ steps schemas name x s Forward going in_forward (inl (entry.Phase s.operation phase.Back (Some f.1.0), (in_forward, f.0, f.1.1)))
+      | inr good ↦ elim (first_or_all s source a.going d.0 d.1) [
+        | inl p ↦ steps schemas name x s Forward going in_forward
+            (ready_goes schemas name x s source in_forward fits a kinds told good d.0 d.1 p.0 p.1 (λ e. true≢false (sym ((d.1 p.0).0 e) ∙ p.2)))
+        | inr all ↦ all_goes schemas name x s source in_forward fits a kinds told good all going
+      ]
+    ]

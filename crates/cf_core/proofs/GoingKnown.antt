@@ -1,110 +1,17 @@
 -- While a forward phase has not failed, the properties of a path that is ready are known: they rest on what is done alone, and all
 -- of that is seen.
-use Rattle.std.proofs.Common.{◌≡◌, ◌⊎◌, inl, inr, ℕ, Bool, true, false, not, ◌&&◌, ◌||◌, List, [], ◌∷◌, ◌++◌, Option, Some, None, refl, sym, ap, subst, ◌∙◌, true≢false, map, filter, find, option_map}
+use Rattle.std.proofs.Common.{◌≡◌, ◌⊎◌, inl, inr, ℕ, Bool, true, false, not, ◌&&◌, ◌||◌, List, ◌++◌, Option, Some, None, refl, sym, ap, subst, ◌∙◌, true≢false, map, filter, option_map}
+use Rattle.cf_core.proofs.Words.{AgreeAt, AreDone, Evaluated, Flaw, HasFailed, Held, In, IsAdvancing, IsDone, IsReady, Later, Member, Nesting, Plan, Schema, Seen, SeenAt, Shape, Source, StackState, Wanted, World, all_differ, bind_flaw_in, bytes_eq, current_at, evaluated_at, fault_at, finding, found_of, given_root, held_before_as, inner_at, inner_from, is_among, is_current_at, is_made, is_of_evaluation, is_right, is_settled, is_shown, is_updated, list_all, member_at, needs_at, nesting_at, nestings_in, option_map_or, option_or, plan_by, plan_in, plan_now, props_at, resources_in, seen_in, seen_now, shape_of, terms_of, value_at, wanted_at, wanted_from, wanted_of}
+use Rattle.cf_core.proofs.Lemmas.{by_paths, bytes_eq-Decides, find-append, found_one, in_changed, is_found_in, needs_suffice, paths_apart, root_bound, shape_is_held, shown, shown_at, some_of}
 use Rattle.std.specs.Prelude.{cond, is_some}
-use Rattle.std.specs.List.{list_all, list_any}
-use Rattle.std.specs.Option.{option_and_then, option_map_or, option_or}
-use Rattle.std.specs.Str.{bytes_eq}
-use Rattle.std.specs.Cmp.{first_so, second_so}
-use Rattle.std.proofs.lemmas.List.Folds.{find-append}
-use Rattle.std.proofs.lemmas.Slice.Eq.{bytes_eq-Decides}
-use Rattle.cf_tree.specs.Datum.{Data}
-use Rattle.cf_tree.specs.Keys.{value_at}
-use Rattle.cf_tree.specs.Lists.{is_among}
-use Rattle.cf_tree.specs.Named.{all_differ}
-use Rattle.cf_tree.specs.declared.source.Source.{Source}
-use Rattle.cf_schema.specs.declared.described.Schema.{Schema}
-use Rattle.cf_change.specs.Changes.{found_of}
-use Rattle.cf_change.proofs.Shown.{shape_is_held}
-use Rattle.cf_desired.specs.declared.flaw.Flaw.{Flaw}
-use Rattle.cf_desired.specs.declared.seen.SeenAt.{SeenAt}
-use Rattle.cf_desired.specs.declared.wanted.Evaluated.{Evaluated}
-use Rattle.cf_desired.specs.declared.wanted.Evaluated.TheVariants.{Flawed as flawed, Known as evaluated}
+use Rattle.std.specs.Option.{option_and_then}
 use Rattle.cf_desired.specs.declared.wanted.Inner.{Inner}
-use Rattle.cf_desired.specs.declared.wanted.Plan.{Plan}
-use Rattle.cf_desired.specs.declared.wanted.Wanted.{Wanted}
-use Rattle.cf_desired.specs.Met.{bind_flaw_in}
 use Rattle.cf_desired.specs.NeededIsKnown.{is_bound}
-use Rattle.cf_desired.specs.Plan.{fault_at, member_at, nesting_at, plan_by, props_at, wanted_of}
-use Rattle.cf_desired.specs.Seeing.{Seen}
-use Rattle.cf_desired.specs.Shape.{given_root, shape_of}
-use Rattle.cf_desired.specs.Stays.{AgreeAt, is_of_evaluation, is_settled, is_shown}
-use Rattle.cf_desired.specs.Valued.{nestings_in, resources_in}
-use Rattle.cf_desired.specs.Whole.{known_props_from, wanted_at}
-use Rattle.cf_desired.specs.Work.{Member, Nesting, Shape}
-use Rattle.cf_desired.proofs.Apart.{paths_apart}
 use Rattle.cf_desired.proofs.NeededKnown.{needed_known}
-use Rattle.cf_desired.proofs.NeedsMatter.{needs_suffice}
 use Rattle.cf_desired.proofs.StackNeeds.{stack_needs_suffice}
-use Rattle.cf_rests.specs.Views.{inner_at, inner_from, wanted_from}
-use Rattle.cf_rests.proofs.Viewed.{by_paths}
-use Rattle.cf_effect.specs.declared.held.Held.{Held}
-use Rattle.cf_effect.specs.World.{StackState, World}
-use Rattle.cf_effect.specs.Words.{current_at, is_current_at}
-use Rattle.cf_effect.specs.Begin.{seen_in}
-use Rattle.cf_effect.specs.End.{seen_now}
-use Rattle.cf_effect.specs.Reply.{terms_of}
-use Rattle.cf_plan.specs.Between.{needs_at}
-use Rattle.cf_plan.specs.Done.{AreDone}
-use Rattle.cf_plan.specs.Forward.{HasFailed, In, IsDone, IsReady, Later, evaluated_at, finding, here, is_made, is_right, is_updated, known_or_later, plan_in, plan_now, there}
-use Rattle.cf_plan.proofs.CreatedEnd.{in_changed}
-use Rattle.cf_plan.proofs.CreatedSeen.{shown, shown_at}
-use Rattle.cf_plan.proofs.CreatedStays.{found_one}
-use Rattle.cf_plan.proofs.OneShape.{root_bound}
-use Rattle.cf_plan.proofs.RunLists.{is_found_in, some_of}
-use Rattle.cf_core.specs.Advancing.{IsAdvancing, held_before_as}
-use Rattle.cf_core.proofs.GoingDone.{needs_are, paths_are}
+use Rattle.cf_plan.proofs.DoneFound.{all_pass, differ_behind, each_passes, first_of, needs_are, never_later, paths_are, seen_of, value_left}
 use Rattle.cf_core.proofs.HidSeen.{shape_before}
-use Rattle.cf_core.proofs.TidyLists.{one_of_bytes}
 use Rattle.cf_core.proofs.TidyOwn.{some_same}
-
--- what is seen of some paths alone
-abbrev seen_of : List (List ℕ) → Seen → Seen
-seen_of done seen = filter (λ v. is_among v.0 done) seen
-
-value_left : (done : List (List ℕ)) (q : List ℕ) (seen : Seen) → value_at q (seen_of done seen) ≡ cond (is_among q done) (value_at q seen) None
-value_left done q [] = by (is_among q done) where
-  by : (b : Bool) → value_at {X = SeenAt} q [] ≡ cond b (value_at {X = SeenAt} q []) None
-  by true = refl
-  by false = refl
-value_left done q (v ∷ vs) = by (is_among v.0 done) refl (bytes_eq q v.0) refl (value_left done q vs) where
-  by : (b : Bool) → is_among v.0 done ≡ b → (c : Bool) → bytes_eq q v.0 ≡ c → value_at q (seen_of done vs) ≡ cond (is_among q done) (value_at q vs) None
-      → value_at q (cond b (v ∷ seen_of done vs) (seen_of done vs)) ≡ cond (is_among q done) (cond c (Some v.1) (value_at q vs)) None
-  by true e true f ih = ap (λ c. cond c (Some v.1) (value_at q (seen_of done vs))) f
-      ∙ sym (ap (λ b. cond b (Some v.1) None) (ap (λ p. is_among p done) ((bytes_eq-Decides q v.0).0 f) ∙ e))
-  by true e false f ih = ap (λ c. cond c (Some v.1) (value_at q (seen_of done vs))) f ∙ ih
-  by false e true f ih =
-      let none = ap (λ p. is_among p done) ((bytes_eq-Decides q v.0).0 f) ∙ e in
-      ih ∙ ap (λ b. cond b (value_at q vs) None) none ∙ sym (ap (λ b. cond b (Some v.1) None) none)
-  by false e false f ih = ih
-
--- of a list whose members differ in their paths each is the first of its path
-first_of : (xs : List Inner) (i : Inner) → all_differ bytes_eq (map (λ n. n.path) xs) ≡ true → In i xs → find (λ n. bytes_eq i.path n.path) xs ≡ Some i
-first_of xs i d j =
-    let f = is_found_in (λ n. bytes_eq i.path n.path) xs i j ((bytes_eq-Decides i.path i.path).1 refl) in
-    let one = found_one (λ n. bytes_eq i.path n.path) xs f.0 f.1 in
-    f.1 ∙ ap (λ k. Some k) (one_of_bytes (λ n. n.path) xs f.0 i d one.0 j (sym ((bytes_eq-Decides i.path f.0.path).0 one.1)))
-
-differ_behind : (xs ys : List (List ℕ)) → all_differ bytes_eq (xs ++ ys) ≡ true → all_differ bytes_eq ys ≡ true
-differ_behind [] ys d = d
-differ_behind (x ∷ xs) ys d = differ_behind xs ys (second_so (not (list_any (bytes_eq x) (xs ++ ys))) (all_differ bytes_eq (xs ++ ys)) d)
-
-all_pass : {A : Type 0} (test : A → Bool) (xs : List A) → ((x : A) → In x xs → test x ≡ true) → list_all test xs ≡ true
-all_pass test [] h = refl
-all_pass test (x ∷ xs) h = ap (λ b. b && list_all test xs) (h x here) ∙ all_pass test xs (λ y i. h y (there i))
-
-each_passes : {A : Type 0} (test : A → Bool) (xs : List A) (x : A) → list_all test xs ≡ true → In x xs → test x ≡ true
-each_passes test (y ∷ xs) x h here = first_so (test y) (list_all test xs) h
-each_passes test (y ∷ xs) x h (there i) = each_passes test xs x (second_so (test y) (list_all test xs) h) i
-each_passes test [] x h i = elim i [ ]
-
--- properties that are known or at fault are not Later
-never_later : (k : List ℕ) (v : Evaluated) → is_settled v ≡ true → finding k v ≡ Later → ⊥
-never_later k (flawed f) h e = cc
-never_later k (evaluated ps) h e = by (known_props_from ps) h e where
-  by : (o : Option (List (List ℕ × Data))) → is_some o ≡ true → known_or_later k o ≡ Later → ⊥
-  by None g d = true≢false (sym g)
-  by (Some qs) g d = cc
 
 module _ (schemas : List Schema) (name : List ℕ) (x : World) (s : StackState) (source : Source) (a : IsAdvancing schemas s source)
     (done : List (List ℕ)) (are : AreDone s done) where

@@ -1,19 +1,11 @@
 -- Every operation on its course goes on until its end.
 use Rattle.std.proofs.Common.{◌≡◌, ℕ, inl, inr, true, List, Some, refl, sym, ap, true≢false}
-use Rattle.cf_entry.specs.declared.status.Status.{Status}
-use Rattle.cf_entry.specs.declared.status.Status.TheVariants as status
-use Rattle.cf_schema.specs.declared.described.Schema.{Schema}
-use Rattle.cf_effect.specs.World.{StackState, World, stack_of_operation}
-use Rattle.cf_effect.specs.Status.{BackClean, Clean, goes_forward, is_in_progress, stage_of}
-use Rattle.cf_core.specs.Course.{IsOnCourse}
-use Rattle.cf_core.specs.Fits.{Fits}
-use Rattle.cf_core.specs.GoesOn.{HasKinds, HasNext, IsTold, OperationGoesOn}
-use Rattle.cf_core.specs.Tidying.{of_rollback, of_update}
-use Rattle.cf_core.proofs.GoingBack.{rollback_goes_on}
+use Rattle.cf_core.proofs.Words.{BackClean, Clean, Fits, HasKinds, HasNext, IsOnCourse, IsTold, OperationGoesOn, Schema, StackState, Status, World, goes_forward, is_in_progress, of_rollback, of_update, stack_of_operation, stage_of}
+use Rattle.cf_core.proofs.GoingBack.{deletion_goes_on, rollback_goes_on}
 use Rattle.cf_core.proofs.GoingForward.{forward_goes_on}
-use Rattle.cf_core.proofs.GoingGone.{deletion_goes_on}
 use Rattle.cf_core.proofs.TidyEnds.{cleanup_goes_on}
 use Rattle.cf_core.proofs.TidyParts.{of_cleaning, of_cleaning_back}
+use Rattle.cf_entry.specs.declared.status.Status.TheVariants as status
 
 module _ (schemas : List Schema) (name : List ℕ) (x : World) (s : StackState) (going : stack_of_operation s.operation x ≡ Some (name, s)) (fits : Fits x s) where
   by_status : (st : Status) → s.status ≡ st → is_in_progress st ≡ true → IsOnCourse schemas name x s st → (goes_forward st ≡ true → HasKinds x s × IsTold s)

@@ -1,239 +1,27 @@
 -- Each call that the forward phase intends is hidden by the change set of the operation; what it did not hide stays seen, and properties stay in order.
-use Rattle.std.proofs.Common.{◌≡◌, ◌∙◌, ℕ, List, [], ◌∷◌, ◌++◌, Bool, true, false, not, ◌||◌, Option, Some, None, fold, map, refl, sym, ap, subst, true≢false, append_assoc, ◌⊎◌, inl, inr, ◌+◌, ◌&&◌, filter, find}
-use Rattle.std.specs.Prelude.{cond, option_and_then, option_map, ◌==◌, is_some}
-use Rattle.std.specs.Cmp.{first_so, second_so}
-use Rattle.std.specs.List.{list_any}
-use Rattle.std.specs.Option.{option_map_or, option_or}
-use Rattle.std.specs.Str.{bytes_eq}
-use Rattle.std.proofs.lemmas.List.Folds.{list_any-append, find-append}
-use Rattle.std.proofs.lemmas.Slice.Eq.{bytes_eq-Decides}
-use Rattle.std.proofs.lemmas.Bool.{and_from, eq-eqb}
-use Rattle.cf_tree.specs.Keys.{value_at, put, ascends}
-use Rattle.cf_tree.specs.Lists.{insert_by, is_among}
-use Rattle.cf_tree.specs.Named.{all_differ}
-use Rattle.cf_tree.specs.declared.row.Row.{Row}
-use Rattle.cf_tree.specs.declared.source.Source.{Source}
-use Rattle.cf_tree.specs.Datum.{Data}
-use Rattle.cf_tree.specs.declared.request.Request.{Request}
-use Rattle.cf_tree.specs.declared.row.Detail.{Detail}
+use Rattle.std.proofs.Common.{◌≡◌, ◌∙◌, ℕ, List, ◌∷◌, ◌++◌, Bool, true, false, not, Option, Some, None, map, refl, sym, ap, subst, true≢false, ◌⊎◌, inl, inr, ◌+◌, ◌&&◌, filter, find, []}
+use Rattle.cf_core.proofs.Words.{AdvancingStays, AgreeAt, AreDescribed, AreSameThings, Back, BeginsSeen, Begun, Call, Data, Detail, Difference, Entry, Fits, Forward, Found, Held, HeldAt, HeldLeft, HeldStatus, In, InOrder, IntendedIsHidden, IntendsForward, IntendsIn, IsAdvancing, IsAsBefore, IsDone, IsHidden, IsOrdered, IsOwn, IsSameThing, IsTo, Keeps, KeepsRest, Known, LeftAt, MayFollowIn, MayReplace, Member, NoneIsOrdered, OrderStays, Pending, Phase, Replace, Reply, Request, RestBeginsSeen, RestStaysSeen, Right, Row, Same, Schema, Seen, SeenAt, SeesMore, Shape, Source, StackState, Stage, Status, Update, Wanted, WantsNew, WantsUpdate, Why, World, answered, as_before, as_wanted, ascends, at_path, beginning, begins_from, by_create, by_update, bytes_eq, changes_begun, changes_of, changing, closed, closing, completing, current_at, deleting, difference_of, difference_to, effect_at, ending, evaluated_at, first_so, flaws_of, found, found_of, given_root, goes_forward, has_physical, has_token, held_as, held_before_as, held_seen, hides_attrs, hides_id, intending, is_among, is_current_at, is_never, is_on, is_other_kind, is_physical_of, is_property, is_restore, is_right_at, is_update, is_updated, is_wanted_at, keeping, known_of, known_props_from, known_stack, left_in_doubt, left_seen, list_any, made_of, marked, member_at, more as more_same, none as none_same, option_and_then, option_map_or, option_or, own_calls, pending_of, plan_by, plan_in, policy_details, property_details, props_asked, props_at, replied, resource_at, resource_held, resources_in, resources_of, row_for, row_hides_attrs, row_hides_id, row_list, second_so, seen_in, seen_now, settled_in, shape_of, skipped_in, source_for, status_made, stopping, succeeded, terms_at, turned_effect, turning, unmoved, updates, updating, value_at, valued_in, wanted_at, wanted_of, was_updated, where_physical, whole_now, with_status}
+use Rattle.cf_core.proofs.Lemmas.{Valued, and_from, any_of, bytes_eq-Decides, changes_hide, eq-eqb, false_from, find-append, found_in, found_one, in_either, in_filter, in_front, in_kept, in_more, is_found, member_of, members_in, needs_suffice, none_false, shape_is_held, shown, shown_at, some_of}
+use Rattle.std.specs.Prelude.{cond, option_map, ◌==◌, is_some}
+use Rattle.cf_desired.specs.Whole.{Whole}
+use Rattle.cf_desired.specs.declared.wanted.Evaluated.TheVariants.{Known as evaluated}
+use Rattle.cf_core.proofs.HidSeen.{rest_itself, compared_rest, same_found, shape_before}
+use Rattle.cf_core.proofs.Written.{written_is_to}
+use Rattle.cf_core.proofs.AdvSteps.{is_ahead, goes_by, none_begins, advancing_goes_on, HasBegunBy, begins_ahead, seen_still}
+use Rattle.cf_core.proofs.Statuses.{intended_way, kept_way}
+use Rattle.cf_core.proofs.HidProps.{said_in_order}
+use Rattle.cf_plan.proofs.PropsStay.{Becomes, Props, PropsBecome, find_on, flawless, had_before, known_is, unmapped, no_change, no_detail, no_replacement, valued_become}
+use Rattle.cf_core.proofs.AdvLists.{either_way, each_map}
+use Rattle.cf_core.proofs.TidyLists.{from_changed}
+use Rattle.cf_plan.proofs.RowsFound.{attrs_kept, found_there, hidden_less, id_kept, no_flaw_known, none_first, none_found, not_not, true_from, updates_one}
 use Rattle.cf_tree.specs.declared.request.Request.TheVariants as request
 use Rattle.cf_tree.specs.declared.code.Code.TheVariants as code
-use Rattle.cf_tree.specs.declared.row.Action.TheVariants as action
-use Rattle.cf_tree.specs.declared.row.Replacement.TheVariants as replacement
-use Rattle.cf_schema.specs.declared.described.Schema.{Schema}
-use Rattle.cf_schema.specs.declared.changed.Difference.{Difference}
-use Rattle.cf_schema.specs.declared.changed.Difference.TheVariants.{Same, Update, MayReplace, Replace}
-use Rattle.cf_schema.specs.Change.{difference_of}
-use Rattle.cf_schema.specs.Kinds.{found}
-use Rattle.cf_change.specs.Changes.{Found, HeldAt, found_next, found_of, found_with, held_seen, is_other_kind, is_row_before, removed_rows, resource_held, row_for, row_list, seen_after, changes_of, is_empty, is_never, is_property, keeps_id, is_always_static, modify_row, policy_details, property_details, replacement_of}
-use Rattle.cf_change.specs.Hidden.{hides_attrs, hides_id, left_seen, row_hides_attrs, row_hides_id}
-use Rattle.cf_change.proofs.Leaving.{changes_hide}
-use Rattle.cf_change.proofs.Shown.{shape_is_held}
-use Rattle.cf_desired.specs.declared.seen.SeenAt.{SeenAt}
-use Rattle.cf_desired.specs.declared.wanted.Evaluated.{Evaluated}
-use Rattle.cf_desired.specs.declared.wanted.Wanted.{Wanted}
-use Rattle.cf_desired.specs.ComeFirst.{ComeFirst}
-use Rattle.cf_desired.specs.Plan.{props_at, wanted_of, at_path, member_at, plan_by}
-use Rattle.cf_desired.specs.Seeing.{Seen}
-use Rattle.cf_desired.specs.Shape.{shape_of, given_root}
-use Rattle.cf_desired.specs.Valued.{resources_in, valued_in}
-use Rattle.cf_desired.specs.Work.{Member, Shape}
-use Rattle.cf_desired.proofs.Apart.{members_apart}
-use Rattle.cf_desired.proofs.ComeFirst.{needs_first}
-use Rattle.cf_desired.proofs.Puts.{among_pass, value_put}
-use Rattle.cf_desired.specs.ShapeStays.{KeepsRest, hidden_of}
-use Rattle.cf_desired.specs.Whole.{Right, Whole, is_wanted_at, known_of, known_props_from, wanted_at}
-use Rattle.cf_desired.specs.declared.wanted.Evaluated.TheVariants.{Flawed as flawed, Known as evaluated}
-use Rattle.cf_desired.specs.Met.{flaws_of}
-use Rattle.cf_desired.specs.Stays.{AgreeAt, SeesMore, attrs_seen, id_seen}
-use Rattle.cf_desired.proofs.NeedsMatter.{needs_suffice}
-use Rattle.cf_desired.proofs.Termed.{Valued, member_of, members_in}
-use Rattle.cf_plan.specs.Forward.{In, here, there, IsDone, Known, difference_to, evaluated_at, is_updated, plan_in}
-use Rattle.cf_plan.proofs.CreatedRight.{first_not, second_not, in_filter, not_so}
-use Rattle.cf_plan.specs.Accept.{held_as}
-use Rattle.cf_plan.specs.Follow.{BeginsBy, begins_from, IntendsIn, MayFollowIn, IntendsForward, WantsNew, WantsUpdate}
-use Rattle.cf_plan.specs.Run.{IsOwn}
-use Rattle.cf_plan.proofs.CreatedSeen.{shown, shown_at}
-use Rattle.cf_plan.proofs.CreatedStays.{found_one, in_more, found_in, is_found}
-use Rattle.cf_plan.proofs.RunLists.{any_of, in_front, in_either, in_kept, none_false, some_of, none_any}
-use Rattle.cf_plan.proofs.CreatedEnd.{in_changed}
-use Rattle.cf_entry.specs.declared.entry.Entry.{Entry}
-use Rattle.cf_entry.specs.declared.entry.Begun.{Begun}
-use Rattle.cf_entry.specs.declared.entry.Reply.{Reply}
-use Rattle.cf_entry.specs.declared.status.Status.{Status}
-use Rattle.cf_entry.specs.declared.turn.Phase.{Phase}
-use Rattle.cf_entry.specs.declared.turn.Why.{Why}
 use Rattle.cf_entry.specs.declared.entry.Entry.TheVariants as entry
 use Rattle.cf_entry.specs.declared.entry.Begun.TheVariants as begin
 use Rattle.cf_entry.specs.declared.entry.Reply.TheVariants as reply
 use Rattle.cf_entry.specs.declared.status.Status.TheVariants as status
 use Rattle.cf_entry.specs.declared.turn.Phase.TheVariants as phase
-use Rattle.cf_eval.specs.Knows.{Keeps}
-use Rattle.cf_effect.specs.declared.call.Call.{Call}
-use Rattle.cf_effect.specs.declared.held.Held.{Held}
-use Rattle.cf_effect.specs.declared.held.Pending.{Pending}
-use Rattle.cf_effect.specs.World.{StackState, World, known_stack}
-use Rattle.cf_effect.specs.Words.{current_at, has_physical, has_token, is_current_at, pending_of, resources_of, where_physical, is_on, resource_at, is_update, updates}
-use Rattle.cf_effect.specs.Begin.{seen_in, source_for, as_before, beginning, skipped_in}
-use Rattle.cf_effect.specs.Calls.{call_under as call_of, is_restore, own_calls, succeeded, was_updated}
-use Rattle.cf_effect.specs.Fold.{effect_at, effect_of}
-use Rattle.cf_effect.specs.Reply.{answered, intending, made_of, replied, status_made, terms_at, updating, with_status, changing, closing, deleting, keeping, still_open}
-use Rattle.cf_effect.specs.Status.{begun, goes_forward, goes_back, Stage, Forward, Back}
-use Rattle.cf_effect.specs.declared.held.HeldStatus.{HeldStatus}
-use Rattle.cf_effect.specs.End.{as_wanted, completing, ending, left_in_doubt, marked, settled_in, stopping, turned_effect, turning, whole_now, is_physical_of, is_right_at, seen_now}
-use Rattle.cf_effect.specs.declared.held.HeldStatus.TheVariants as held_status
-use Rattle.cf_core.specs.Advancing.{AreSameThings, IsAdvancing, IsAsked, IsHidden, IsSameThing, changes_begun, none as none_same, more as more_same, IsAsBefore, held_before_as}
-use Rattle.cf_core.specs.Fits.{Fits}
-use Rattle.cf_core.specs.Hiding.{BeginsSeen, RestBeginsSeen, RestIsSeen, RestStaysSeen, InOrder, IsOrdered, NoneIsOrdered, OrderStays, props_asked, AreDescribed, IntendedIsHidden}
-use Rattle.cf_core.specs.Written.{IsTo}
-use Rattle.cf_core.proofs.HidSeen.{rest_itself, compared_rest, same_found, shape_before}
-use Rattle.cf_core.proofs.Written.{written_is_to}
-use Rattle.cf_core.proofs.AdvSteps.{IsAhead, asks, hears, opens, is_other, is_ahead, none_begins, advancing_goes_on, only_forward, found_at}
-use Rattle.cf_core.proofs.Statuses.{begun_status, intended_way, kept_way}
-use Rattle.cf_core.proofs.FitKept.{one_id}
-use Rattle.cf_core.proofs.HidProps.{said_in_order, Becomes, Props, PropsBecome, find_on, flawless, had_before, known_is, unmapped, no_change, no_detail, no_replacement}
-use Rattle.cf_core.proofs.AdvLists.{either_way, found_changed, found_else, found_no_more, no_and, all_inserted}
-use Rattle.cf_core.proofs.TidyLists.{from_changed}
-use Rattle.cf_core.specs.Ahead.{AdvancingStays}
 use Rattle.cf_core.specs.Written as to
-
--- The row of a path is in the change set, found over what is seen of all that the path needs.
-
-none_first : {A : Type 0} (test : A → Bool) (xs ys : List A) → list_any test (xs ++ ys) ≡ false → list_any test xs ≡ false
-none_first test xs ys h = first_not (list_any test xs) (list_any test ys) (sym (list_any-append test xs ys) ∙ h)
-
-none_second : (test : Row → Bool) (xs ys : List Row) → list_any test (xs ++ ys) ≡ false → list_any test ys ≡ false
-none_second test xs ys h = second_not (list_any test xs) (list_any test ys) (sym (list_any-append test xs ys) ∙ h)
-
--- of paths that differ, those among the first are not among the others
-apart_behind : (xs ys : List (List ℕ)) (q : List ℕ) → all_differ bytes_eq (xs ++ ys) ≡ true → is_among q xs ≡ true → is_among q ys ≡ false
-apart_behind [] ys q d i = absurd (true≢false (sym i))
-apart_behind (x ∷ xs) ys q d i = either (bytes_eq q x) refl i (apart_behind xs ys q (second_so (not (list_any (bytes_eq x) (xs ++ ys))) (all_differ bytes_eq (xs ++ ys)) d)) where
-  either : (b : Bool) → bytes_eq q x ≡ b → (b || is_among q xs) ≡ true → (is_among q xs ≡ true → is_among q ys ≡ false) → is_among q ys ≡ false
-  either true e j ih =
-      subst (λ p. is_among p ys ≡ false) (sym ((bytes_eq-Decides q x).0 e))
-      (second_not (list_any (bytes_eq x) xs) (list_any (bytes_eq x) ys)
-      (sym (list_any-append (bytes_eq x) xs ys) ∙ not_so (list_any (bytes_eq x) (xs ++ ys)) (first_so (not (list_any (bytes_eq x) (xs ++ ys))) (all_differ bytes_eq (xs ++ ys)) d)))
-  either false e j ih = ih j
-
-among_front : (xs ys : List (List ℕ)) (q : List ℕ) → is_among q xs ≡ true → is_among q (xs ++ ys) ≡ true
-among_front xs ys q i = list_any-append (bytes_eq q) xs ys ∙ ap (λ b. b || list_any (bytes_eq q) ys) i
-
-abbrev paths : List Member → List (List ℕ)
-paths ms = map (λ m. m.path) ms
-
-module _ (schemas : List Schema) (held : List HeldAt) (source : Source) (shape : Shape) where
-  abbrev found_step : Found → Member → Found
-  found_step f m = found_next schemas held source shape f m
-
-  -- the row of a member with these properties
-  abbrev pub row : Member → Evaluated → Option Row
-  row m v = row_for schemas (resource_held m.path held) (wanted_of (m, v))
-
-  -- a step is of one path, and many are of theirs; rows and clashes are added
-  record IsStep (among : List ℕ → Bool) (f g : Found) : Type 0 where
-    seen : (q : List ℕ) → among q ≡ false → value_at q g.seen ≡ value_at q f.seen
-    rows : (test : Row → Bool) → list_any test g.rows ≡ false → list_any test f.rows ≡ false
-    clash : g.clash ≡ [] → f.clash ≡ []
-
-  put_past : (q path : List ℕ) (v : SeenAt) (seen : Seen) → bytes_eq q path ≡ false → value_at q (put path v seen) ≡ value_at q seen
-  put_past q path v seen e = value_put q path v seen ∙ ap (λ b. cond b (Some v) (value_at q seen)) e
-
-  none_left : (ps : List (List ℕ)) (p : List ℕ) → ps ++ p ∷ [] ≡ [] → ⊥
-  none_left [] p h = let no : ⊥ = cc in no
-  none_left (q ∷ ps) p h = let no : ⊥ = cc in no
-
-  abbrev with_kind : Found → Wanted → Found
-  with_kind f w = record f {
-    rows = f.rows ++ row_list (row_for schemas (resource_held w.path held) w);
-    seen = put w.path (seen_after (resource_held w.path held) (row_for schemas (resource_held w.path held) w)) f.seen;
-  }
-
-  abbrev with_clash : Found → Wanted → Found
-  with_clash f w = record f { clash = f.clash ++ w.path ∷ []; seen = put w.path (seen_after (resource_held w.path held) None) f.seen }
-
-  step_with : (f : Found) (w : Wanted) → IsStep (λ q. bytes_eq q w.path) f (found_with schemas held f w)
-  step_with f w =
-      either_way (IsStep (λ q. bytes_eq q w.path) f) (is_other_kind (resource_held w.path held) w) (with_clash f w) (with_kind f w)
-      (record { seen = λ q e. put_past q w.path _ f.seen e; rows = λ test h. h; clash = λ h. absurd (none_left f.clash w.path h) })
-      (record { seen = λ q e. put_past q w.path _ f.seen e; rows = λ test h. none_first test f.rows _ h; clash = λ h. h })
-
-  one_step : (f : Found) (m : Member) → IsStep (λ q. bytes_eq q m.path) f (found_step f m)
-  one_step f m = either (props_at source shape f.seen m.path) where
-    either : (o : Option Evaluated) → IsStep (λ q. bytes_eq q m.path) f (option_map_or (λ v. found_with schemas held f (wanted_of (m, v))) o f)
-    either None = record { seen = λ q e. refl; rows = λ test h. h; clash = λ h. h }
-    either (Some v) = step_with f (wanted_of (m, v))
-
-  -- many steps
-  steps : (ms : List Member) (f : Found) → IsStep (λ q. is_among q (paths ms)) f (fold found_step f ms)
-  steps [] f = record { seen = λ q e. refl; rows = λ test h. h; clash = λ h. h }
-  steps (m ∷ ms) f =
-      let one = one_step f m in
-      let rest = steps ms (found_step f m) in
-      record {
-        seen = λ q e. rest.seen q (second_not (bytes_eq q m.path) (is_among q (paths ms)) e) ∙ one.seen q (first_not (bytes_eq q m.path) (is_among q (paths ms)) e);
-        rows = λ test h. one.rows test (rest.rows test h);
-        clash = λ h. one.clash (rest.clash h);
-      }
-
-  -- the row of a path with the properties over what was seen earlier, which is what is seen in the end of all that it needs
-  pub record IsFoundAt (all : List (List ℕ)) (m : Member) (f : Found) : Type 0 where
-    pub earlier : Found
-    pub needs : (q : List ℕ) → is_among q m.needs ≡ true → (is_among q all ≡ true) × (value_at q f.seen ≡ value_at q earlier.seen)
-    pub kind : (v : Evaluated) → props_at source shape earlier.seen m.path ≡ Some v → is_other_kind (resource_held m.path held) (wanted_of (m, v)) ≡ false
-    pub rows : (v : Evaluated) → props_at source shape earlier.seen m.path ≡ Some v → (test : Row → Bool) → list_any test f.rows ≡ false
-        → list_any test (row_list (row m v)) ≡ false
-
-  same_kind : (f : Found) (w : Wanted) → (found_with schemas held f w).clash ≡ [] → is_other_kind (resource_held w.path held) w ≡ false
-  same_kind f w = either (is_other_kind (resource_held w.path held) w) where
-    either : (b : Bool) → (cond b (with_clash f w) (with_kind f w)).clash ≡ [] → b ≡ false
-    either true h = absurd (none_left f.clash w.path h)
-    either false h = refl
-
-  has_row : (f : Found) (w : Wanted) → is_other_kind (resource_held w.path held) w ≡ false → (test : Row → Bool) → list_any test (found_with schemas held f w).rows ≡ false
-      → list_any test (row_list (row_for schemas (resource_held w.path held) w)) ≡ false
-  has_row f w k test h =
-      none_second test f.rows (row_list (row_for schemas (resource_held w.path held) w)) (subst (λ b. list_any test (cond b (with_clash f w) (with_kind f w)).rows ≡ false) k h)
-
-  walk :
-      (all done : List (List ℕ)) (f : Found) (ms : List Member) → all ≡ done ++ paths ms → all_differ bytes_eq all ≡ true → ComeFirst done ms
-      → (fold found_step f ms).clash ≡ [] → (m : Member) → In m ms → IsFoundAt all m (fold found_step f ms)
-  walk all done f [] same d first none m i = elim i [ ]
-  walk all done f (x ∷ ms) same d first none m (there i) =
-      walk all (done ++ x.path ∷ []) (found_step f x) ms (same ∙ sym (append_assoc done (x.path ∷ []) (paths ms))) d first.1 none m i
-  walk all done f (x ∷ ms) same d first none m here =
-      let rest = steps ms (found_step f m) in
-      let is_step : (v : Evaluated) → props_at source shape f.seen m.path ≡ Some v → found_step f m ≡ found_with schemas held f (wanted_of (m, v)) =
-      λ v e. ap (λ o. option_map_or (λ u. found_with schemas held f (wanted_of (m, u))) o f) e in
-      let kind : (v : Evaluated) → props_at source shape f.seen m.path ≡ Some v → is_other_kind (resource_held m.path held) (wanted_of (m, v)) ≡ false =
-      λ v e. same_kind f (wanted_of (m, v)) (subst (λ (g : Found). g.clash ≡ []) (is_step v e) (rest.clash none)) in
-      record {
-        earlier = f;
-        needs = λ q i.
-            let among = among_pass (λ n. is_among n done) m.needs q first.0 i in (
-              subst (λ ps. is_among q ps ≡ true) (sym same) (among_front done (paths (m ∷ ms)) q among),
-              (steps (m ∷ ms) f).seen q (apart_behind done (paths (m ∷ ms)) q (subst (λ ps. all_differ bytes_eq ps ≡ true) same d) among),
-            );
-        kind = kind;
-        rows = λ v e test h. has_row f (wanted_of (m, v)) (kind v e) test (subst (λ (g : Found). list_any test g.rows ≡ false) (is_step v e) (rest.rows test h));
-      }
-
--- along the shape of what is held
-pub found_there : (schemas : List Schema) (held : List HeldAt) (source : Source) → (found_of schemas held source).clash ≡ [] → (m : Member)
-    → In m (resources_in (shape_of source (held_seen held)))
-    → IsFoundAt schemas held source (shape_of source (held_seen held)) (map (λ x. x.path) (resources_in (shape_of source (held_seen held)))) m (found_of schemas held source)
-found_there schemas held source none m i =
-    let shape = shape_of source (held_seen held) in
-    walk schemas held source shape (map (λ x. x.path) (resources_in shape)) [] (record { rows = []; seen = []; clash = [] }) (resources_in shape) refl
-    (members_apart source (held_seen held)) (needs_first source (held_seen held)) none m i
-
--- what the set's rows don't do, in the order of paths, none that was found does
-pub none_found : (test : Row → Bool) (rows : List Row) (held : List HeldAt) (seen : Seen) → list_any test (fold (insert_by is_row_before) [] (rows ++ removed_rows held seen)) ≡ false
-    → list_any test rows ≡ false
-none_found test rows held seen h =
-    let all = rows ++ removed_rows held seen in
-    none_first test rows (removed_rows held seen) (none_any test all (λ r i t.
-    true≢false (sym (any_of test (fold (insert_by is_row_before) [] all) r ((all_inserted is_row_before r all []).1 (inr i)) t) ∙ h)))
 
 -- What the change set of an operation did not hide stays seen, whatever entry is written as it goes forward.
 
@@ -266,409 +54,211 @@ RestOver schemas source before made held =
 abbrev KeptAt : Bool → Bool → Option SeenAt → Option SeenAt → Type 0
 KeptAt i a o p = (i ≡ false → Keeps (option_and_then (λ x. x.physical) o) (option_and_then (λ x. x.physical) p)) × (a ≡ false → Keeps (option_and_then (λ x. x.attrs) o) (option_and_then (λ x. x.attrs) p))
 
-module _ (schemas : List Schema) (s : StackState) (source : Source) (a : IsAdvancing schemas s source) where
+module _ (schemas : List Schema) (s : StackState) (source : Source) (a : IsAdvancing schemas s source) (t : StackState) (path : List ℕ) where
   abbrev rows_of : List Row
   rows_of = (changes_begun schemas s source).rows
 
-  -- what was seen of a path before, and what is seen of it among these
-  abbrev KeptIn : List ℕ → List Held → Type 0
-  KeptIn path hs = KeptAt (hides_id rows_of path) (hides_attrs rows_of path) (value_at path (seen_in s.before)) (value_at path (seen_in hs))
+  -- what was seen of the path before, and what is seen of it now
+  abbrev Kept : Option SeenAt → Option SeenAt → Type 0
+  Kept = KeptAt (hides_id rows_of path) (hides_attrs rows_of path)
 
-  seen_by : (path : List ℕ) (made held : List Held) → value_at path (seen_in (made ++ held)) ≡ option_map shown (option_or (current_at path made) (current_at path held))
-  seen_by path made held = shown_at path (made ++ held) ∙ ap (option_map shown) (find-append (is_current_at path) made held)
+  seen_by : (made held : List Held) → value_at path (seen_in (made ++ held)) ≡ option_map shown (option_or (current_at path made) (current_at path held))
+  seen_by made held = shown_at path (made ++ held) ∙ ap (option_map shown) (find-append (is_current_at path) made held)
 
-  rest_still : (path : List ℕ) (made held : List Held) → current_at path made ≡ current_at path s.made → current_at path held ≡ current_at path s.held → KeptIn path (made ++ held)
-  rest_still path made held m h =
-      subst (KeptAt (hides_id rows_of path) (hides_attrs rows_of path) (value_at path (seen_in s.before)))
-      (sym (seen_by path made held ∙ (λ i. option_map shown (option_or (m i) (h i))) ∙ sym (seen_by path s.made s.held))) (a.rest path)
+  -- the path of a create, where what was held is hidden, or of an update, whose attributes are hidden
+  rest_closed : (p : Pending) (r : Request) → p.request ≡ r → IsHidden rows_of s path r → HeldLeft s t p path → Kept (value_at path (seen_in s.before)) (value_at path (seen_now t))
+  rest_closed p (request.Create kind props) e hid l =
+      subst (λ o. Kept o (value_at path (seen_now t))) (sym (shown_at path s.before)) (by (current_at path s.before) (current_at path s.held) (same_at path s.before s.held a.held) refl) where
+        by : (b h : Option Held) → SameAt b h → current_at path s.held ≡ h → Kept (option_map shown b) (value_at path (seen_now t))
+        by None h w q = (λ n. tt, λ n. tt)
+        by (Some b) None w q = absurd w
+        by (Some b) (Some h) w q = (λ n. absurd (true≢false (sym (hid h q).0 ∙ n)), λ n. absurd (true≢false (sym (hid h q).1 ∙ n)))
+  rest_closed p (request.Update id props) e hid (by_create n same) = absurd (true≢false (sym (ap is_update e) ∙ n))
+  rest_closed p (request.Update id props) e hid (by_update g h u made was now same) = (
+    λ n. subst (Keeps (physical_of (value_at path (seen_in s.before))))
+        (ap physical_of (seen_by s.made s.held ∙ ap (λ o. option_map shown (option_or (current_at path s.made) o)) was) ∙ one_id_seen (current_at path s.made)
+        ∙ sym (ap physical_of (seen_by t.made t.held ∙ (λ i. option_map shown (option_or (made i) (now i)))))) ((a.rest path).0 n),
+    λ n. absurd (true≢false (sym hid ∙ n)),
+  ) where
+    physical_of : Option SeenAt → Option (List ℕ)
+    physical_of o = option_and_then (λ x. x.physical) o
 
-  module _ (p : Pending) (i : In p s.tokens) where
-    -- a create, where nothing is made at its path yet or where it is hidden
-    made_more : (kind : List ℕ) (props : List (List ℕ × Data)) → p.request ≡ request.Create kind props → (m : Held) → m.path ≡ p.path
-        → RestOver schemas source s.before (s.made ++ m ∷ []) s.held
-    made_more kind props e m ep path = by (bytes_eq path p.path) refl where
-      hid : IsHidden rows_of s p.path (request.Create kind props)
-      hid = subst (λ r. IsHidden rows_of s p.path r) e (a.hidden p i)
+    one_id_seen : (m : Option Held) → physical_of (option_map shown (option_or m (Some g))) ≡ physical_of (option_map shown (option_or m (Some h)))
+    one_id_seen None = ap (λ i. Some i) (sym same)
+    one_id_seen (Some m) = refl
+  rest_closed p (request.Delete id) e hid l = absurd hid
 
-      taken : path ≡ p.path → (b h : Option Held) → SameAt b h → current_at p.path s.held ≡ h → (now : Option SeenAt)
-          → KeptAt (hides_id rows_of path) (hides_attrs rows_of path) (option_map shown b) now
-      taken same None h w e now = (λ n. tt, λ n. tt)
-      taken same (Some b) None w e now = absurd w
-      taken same (Some b) (Some h) w e now =
-          let both = hid h e in
-          (λ n. absurd (true≢false (sym both.0 ∙ ap (hides_id rows_of) (sym same) ∙ n)), λ n. absurd (true≢false (sym both.1 ∙ ap (hides_attrs rows_of) (sym same) ∙ n)))
-
-      by : (t : Bool) → bytes_eq path p.path ≡ t → KeptIn path ((s.made ++ m ∷ []) ++ s.held)
-      by true t =
-          let same : path ≡ p.path = (bytes_eq-Decides path p.path).0 t in
-          subst (λ o. KeptAt (hides_id rows_of path) (hides_attrs rows_of path) o (value_at path (seen_in ((s.made ++ m ∷ []) ++ s.held)))) (sym (shown_at path s.before))
-          (taken same (current_at path s.before) (current_at path s.held) (same_at path s.before s.held a.held) (ap (λ q. current_at q s.held) (sym same))
-          (value_at path (seen_in ((s.made ++ m ∷ []) ++ s.held))))
-      by false t =
-          rest_still path (s.made ++ m ∷ []) s.held
-          (found_no_more (is_current_at path) s.made m (ap (λ q. bytes_eq path q && not m.superseded) ep ∙ ap (λ b. b && not m.superseded) t)) refl
-
-    -- an update, whose attributes are hidden
-    module _ (ids_differ : all_differ bytes_eq (map (λ r. r.physical) (resources_of s)) ≡ true) (id : List ℕ) (props : List (List ℕ × Data)) (e : p.request ≡ request.Update id props) where
-      asked : IsAsked s p.path (request.Update id props)
-      asked = subst (λ r. IsAsked s p.path r) e (a.asked p i)
-
-      hid : hides_attrs rows_of p.path ≡ true
-      hid = subst (λ r. IsHidden rows_of s p.path r) e (a.hidden p i)
-
-      of_held : In asked.0 s.held
-      of_held = (found_one (is_current_at p.path) s.held asked.0 asked.1).0
-
-      has_id : has_physical id asked.0 ≡ true
-      has_id = (bytes_eq-Decides id asked.0.physical).1 (sym asked.2)
-
-      -- the one of the id is the one of the call's path
-      only : (r : Held) → In r s.held → has_physical id r ≡ true → r ≡ asked.0
-      only r j t =
-          one_id (λ r. r.physical) (resources_of s) ids_differ r asked.0 (in_front r s.held s.made j) (in_front asked.0 s.held s.made of_held)
-          (sym ((bytes_eq-Decides id r.physical).0 t) ∙ sym asked.2)
-
-      updated : (given : List (List ℕ × Data)) → RestOver schemas source s.before s.made (where_physical id (updating props given) s.held)
-      updated given path = by (bytes_eq path p.path) refl where
-        changed : List Held
-        changed = where_physical id (updating props given) s.held
-
-        -- the id that is seen of a path whose resource is this one
-        id_by : Option Held → Option (List ℕ)
-        id_by o = option_and_then (λ x. x.physical) (option_map shown (option_or (current_at path s.made) o))
-
-        id_at : (hs : List Held) (h : Held) → path ≡ p.path → current_at p.path hs ≡ Some h → option_and_then (λ x. x.physical) (value_at path (seen_in (s.made ++ hs))) ≡ id_by (Some h)
-        id_at hs h same at = ap (option_and_then (λ x. x.physical)) (seen_by path s.made hs) ∙ ap id_by (ap (λ q. current_at q hs) same ∙ at)
-
-        one_id_seen : (m : Option Held) → option_and_then (λ x. x.physical) (option_map shown (option_or m (Some asked.0)))
-            ≡ option_and_then (λ x. x.physical) (option_map shown (option_or m (Some (updating props given asked.0))))
-        one_id_seen None = refl
-        one_id_seen (Some m) = refl
-
-        by : (t : Bool) → bytes_eq path p.path ≡ t → KeptIn path (s.made ++ changed)
-        by true t =
-            let same : path ≡ p.path = (bytes_eq-Decides path p.path).0 t in
-            let now = found_changed (has_physical id) (updating props given) (is_current_at p.path) (λ r. refl) asked.0 s.held has_id only asked.1 in (
-              λ n. subst (Keeps (option_and_then (λ x. x.physical) (value_at path (seen_in s.before))))
-                  (id_at s.held asked.0 same asked.1 ∙ one_id_seen (current_at path s.made) ∙ sym (id_at changed (updating props given asked.0) same now)) ((a.rest path).0 n),
-              λ n. absurd (true≢false (sym hid ∙ ap (hides_attrs rows_of) (sym same) ∙ n)),
-            )
-        by false t =
-            rest_still path s.made changed refl (found_else (has_physical id) (updating props given) (is_current_at path) (λ r. refl) s.held
-            (λ r j k. no_and (bytes_eq path r.path) _ (ap (bytes_eq path) (ap (λ o. o.path) (only r j k) ∙ found_at p.path s.held asked.0 asked.1) ∙ t)))
-
-    -- whatever the answer
-    answered_rest : all_differ bytes_eq (map (λ r. r.physical) (resources_of s)) ≡ true → (restores : Bool) → restores ≡ false → (r : Request) → p.request ≡ r → (answer : Reply)
-        → RestIsSeen schemas (answered restores p.path r answer s) source
-    answered_rest d restores n (request.Create kind props) e (reply.Success physical attrs) =
-        made_more kind props e (made_of (terms_at p.path s) (status_made (current_at p.path s.held)) p.path kind props physical attrs) refl
-    answered_rest d restores n (request.Update id props) e (reply.Success physical attrs) =
-        subst (λ b. RestIsSeen schemas (cond b (record s { held = where_physical id (updating props attrs) s.held }) (record s { made = where_physical id (updating props attrs) s.made })) source)
-        (sym (any_of (has_physical id) s.held (asked d id props e).0 (of_held d id props e) (has_id d id props e))) (updated d id props e attrs)
-    answered_rest d restores n (request.Update id props) e (reply.Failed c) =
-        subst (λ b. RestIsSeen schemas (cond b (with_status id held_status.UpdateFailed s) s) source) (sym n) a.rest
-    answered_rest d restores n (request.Delete id) e answer = absurd (subst (λ r. IsAsked s p.path r) e (a.asked p i))
-    answered_rest d restores n r e answer = a.rest
-
-  -- no call went out in a rollback
-  no_restore : (token : ℕ) → is_restore token s ≡ false
-  no_restore token = by_call (call_of token s) refl where
-    by_call : (o : Option Call) → call_of token s ≡ o → option_map_or (λ c. goes_back c.status) o false ≡ false
-    by_call None e = refl
-    by_call (Some c) e = only_forward (λ z. goes_back z ≡ false) refl refl c.status (a.calls c (found_one (λ d. token == d.token) s.ledger c e).0).1
-
-  replied_rest : all_differ bytes_eq (map (λ r. r.physical) (resources_of s)) ≡ true → (token : ℕ) (answer : Reply) (o : Option Pending) → pending_of token s ≡ o → RestIsSeen schemas (replied token answer o s) source
-  replied_rest d token answer None e = a.rest
-  replied_rest d token answer (Some p) e = answered_rest p (found_one (has_token token) s.tokens p e).0 d (is_restore token s) (no_restore token) p.request refl answer
-
-  intended_rest : (number : ℕ) (p : Pending) → RestIsSeen schemas (intending number p s) source
-  intended_rest number p = intended_way (λ t. RestIsSeen schemas t source) s a.rest number p a.rest
-
-module _ (schemas : List Schema) (x : World) (out : List ℕ) (name : List ℕ) (s : StackState) (source : Source) (fits : Fits x s) (a : IsAdvancing schemas s source) where
-  by_ahead : {e : Entry} {t : StackState} → IsAhead schemas x out name s e t → RestIsSeen schemas t source
-  by_ahead (asks number token lane path r own may) = intended_rest schemas s source a number (record { token = token; path = path; lane = lane; request = r })
-  by_ahead (hears number token before after answer) = replied_rest schemas s source a fits.ids token answer (pending_of token s) refl
-  by_ahead (opens epoch lanes) = a.rest
-  by_ahead is_other = a.rest
+  rest_at : LeftAt s t path → Kept (value_at path (seen_in s.before)) (value_at path (seen_now t))
+  rest_at (unmoved k) = subst (Kept (value_at path (seen_in s.before))) (sym (seen_still s t path k)) (a.rest path)
+  rest_at (closed p i e none l) = rest_closed p p.request refl (subst (λ q. IsHidden rows_of s q p.request) e (a.hidden p i)) l
 
 pub rest_stays : RestStaysSeen
-rest_stays schemas x out e name s t source w goes f a = by_ahead schemas x out name s source w.fits a (is_ahead schemas x out name s goes (written_is_to schemas x out e name s t w) f)
+rest_stays schemas x out e name s t source w goes f a =
+    let g = goes_by schemas x out name s source a w.fits goes (is_ahead schemas x out name s goes (written_is_to schemas x out e name s t w) f) in
+    subst (λ bs. RestOver schemas source bs t.made t.held) (sym g.before) (λ path. rest_at schemas s source a t path (g.left path))
 
 -- as an operation begins nothing is made, and what is held is what was held before
-module _ (schemas : List Schema) (x : World) (out : List ℕ) (name : List ℕ) (s : StackState) where
-  by_begun : (k : Begun) → BeginsBy schemas name x (x.operation + 1) s k → goes_forward (begun k) ≡ true
-      → (source : Source) × BeginsSeen schemas (effect_at (x.place + 1) (entry.Begin (x.operation + 1) name k) s).stack source
-  by_begun (begin.Create source) by f =
-      (source_for name (x.operation + 1) source, record { going = refl; no_flaw = by.no_flaw; no_clash = by.same_types; rest = rest_itself _ _ s (seen_in s.held) })
-  by_begun (begin.Update source) by f =
-      (source_for name s.number source, record { going = refl; no_flaw = by.no_flaw; no_clash = by.same_types; rest = rest_itself _ _ s (seen_in s.held) })
-  by_begun k by f = absurd (true≢false (sym f))
-
-  by_beginning : (e : Entry) (t : StackState) → IsTo schemas x out name s e t → (number : ℕ) (k : Begun) → e ≡ entry.Begin number name k → begins_from k s.status ≡ true
-      → goes_forward t.status ≡ true → (source : Source) × BeginsSeen schemas t source
-  by_beginning e t (to.step stage is own may) number k same from f = absurd (subst (IsOwn s.operation) same own)
-  by_beginning e t (to.begins l goes by) number k same from f = by_begun l by (ap goes_forward (sym (begun_status (x.place + 1) name (x.operation + 1) l s)) ∙ f)
-  by_beginning e t (to.reviewed m src rows_of outputs goes) number k same from f = let no : ⊥ = cc in absurd no
-  by_beginning e t (to.opened epoch lanes) number k same from f = let no : ⊥ = cc in absurd no
-  by_beginning e t to.other number k same from f = absurd (none_begins k s.status f from)
-
 pub rest_begins : RestBeginsSeen
-rest_begins schemas x out number stack k name s t w same f =
-    by_beginning schemas x out name s (entry.Begin number stack k) t (written_is_to schemas x out (entry.Begin number stack k) name s t w) number k
-    (ap (λ n. entry.Begin number n k) same)
-    (subst (λ (u : StackState). begins_from k u.status ≡ true) w.was (subst (λ n. begins_from k (known_stack n x).status ≡ true) same w.may.1)) f
+rest_begins schemas x out number stack k name s t w same f = by (begins_ahead w (false_from (goes_forward s.status) (λ g. none_begins k s.status g from)) f) where
+  from : begins_from k s.status ≡ true
+  from = subst (λ (u : StackState). begins_from k u.status ≡ true) w.was (subst (λ n. begins_from k (known_stack n x).status ≡ true) same w.may.1)
+
+  by : HasBegunBy schemas x name s t → (c : Source) × BeginsSeen schemas t c
+  by (begin.Create c, from, b, q) =
+      subst (λ u. (d : Source) × BeginsSeen schemas u d) q
+      (source_for name (x.operation + 1) c, record { going = refl; no_flaw = b.no_flaw; no_clash = b.same_types; rest = rest_itself _ _ s (seen_in s.held) })
+  by (begin.Update c, from, b, q) =
+      subst (λ u. (d : Source) × BeginsSeen schemas u d) q
+      (source_for name s.number c, record { going = refl; no_flaw = b.no_flaw; no_clash = b.same_types; rest = rest_itself _ _ s (seen_in s.held) })
+  by (begin.Delete paths, from, b, q) = absurd (true≢false (sym f ∙ ap (λ (u : StackState). goes_forward u.status) (sym q)))
+  by (begin.Continue paths, from, b, q) = absurd (true≢false (sym f ∙ ap (λ (u : StackState). goes_forward u.status) (sym q)))
 
 -- Properties stay in the order of their names, whatever entry is written.
 
 abbrev All : List Held → Type 0
 All hs = (r : Held) → In r hs → InOrder r
 
-abbrev AllAsked : List Pending → Type 0
-AllAsked ps = (p : Pending) → In p ps → ascends (props_asked p.request) ≡ true
+-- of what is held, what was held before, what is made, and what is asked for
+abbrev Ordered : StackState → Type 0
+Ordered s = All s.held × All s.before × All s.made × ((p : Pending) → In p s.tokens → ascends (props_asked p.request) ≡ true)
 
 no_held : All []
 no_held r i = elim i [ ]
 
-all_filter : (test : Held → Bool) (hs : List Held) → All hs → All (filter test hs)
-all_filter test hs h r i = h r (in_filter test hs r i).0
-
-asked_filter : (test : Pending → Bool) (ps : List Pending) → AllAsked ps → AllAsked (filter test ps)
-asked_filter test ps h p i = h p (in_filter test ps p i).0
-
-all_map : (f : Held → Held) → ((h : Held) → InOrder h → InOrder (f h)) → (hs : List Held) → All hs → All (map f hs)
-all_map f k hs h r i = let m = in_changed f hs r i in subst InOrder m.same (k m.one (h m.one m.of_list))
+of_filter : {A : Type 0} {P : A → Type 0} (test : A → Bool) (xs : List A) → ((a : A) → In a xs → P a) → (a : A) → In a (filter test xs) → P a
+of_filter test xs h a i = h a (in_filter test xs a i).0
 
 all_both : (xs ys : List Held) → All xs → All ys → All (xs ++ ys)
 all_both xs ys h g r i = elim (in_either r xs ys i) [ inl j ↦ h r j | inr j ↦ g r j ]
 
-all_changed : (id : List ℕ) (f : Held → Held) → ((h : Held) → InOrder h → InOrder (f h)) → (hs : List Held) → All hs → All (where_physical id f hs)
-all_changed id f k hs h r i =
-    let c = from_changed (has_physical id) f hs r i in elim c.2 [ inl e ↦ subst InOrder (sym e) (h c.0 c.1) | inr e ↦ subst InOrder (sym e) (k c.0 (h c.0 c.1)) ]
+module _ (f : Held → Held) (keeps : (h : Held) → InOrder h → InOrder (f h)) where
+  all_map : (hs : List Held) → All hs → All (map f hs)
+  all_map hs h = each_map InOrder f hs (λ r i. keeps r (h r i))
 
-module _ (s : StackState) (o : IsOrdered s) where
-  changing_ordered : (id : List ℕ) (f : Held → Held) → ((h : Held) → InOrder h → InOrder (f h)) → IsOrdered (changing id f s)
-  changing_ordered id f k =
-      either_way IsOrdered (list_any (has_physical id) s.held) (record s { held = where_physical id f s.held }) (record s { made = where_physical id f s.made })
-      (record { held = all_changed id f k s.held o.held; before = o.before; made = o.made; asked = o.asked })
-      (record { held = o.held; before = o.before; made = all_changed id f k s.made o.made; asked = o.asked })
+  all_changed : (id : List ℕ) (hs : List Held) → All hs → All (where_physical id f hs)
+  all_changed id hs h r i =
+      let c = from_changed (has_physical id) f hs r i in
+      elim c.2 [ inl e ↦ subst InOrder (sym e) (h c.0 c.1) | inr e ↦ subst InOrder (sym e) (keeps c.0 (h c.0 c.1)) ]
 
-  deleting_ordered : (id : List ℕ) → IsOrdered (deleting id s)
-  deleting_ordered id = record { held = all_filter _ s.held o.held; before = o.before; made = all_filter _ s.made o.made; asked = o.asked }
+  changing_ordered : (id : List ℕ) (s : StackState) → Ordered s → Ordered (changing id f s)
+  changing_ordered id s o =
+      either_way Ordered (list_any (has_physical id) s.held) (record s { held = where_physical id f s.held }) (record s { made = where_physical id f s.made })
+      (all_changed id s.held o.0, o.1, o.2, o.3) (o.0, o.1, all_changed id s.made o.2, o.3)
 
-  keeping_ordered : (path physical : List ℕ) (w : Why) → IsOrdered (keeping path physical w s)
+module _ (s : StackState) (o : Ordered s) where
+  deleting_ordered : (id : List ℕ) → Ordered (deleting id s)
+  deleting_ordered id = (of_filter _ s.held o.0, o.1, of_filter _ s.made o.2, o.3)
+
+  keeping_ordered : (path physical : List ℕ) (w : Why) → Ordered (keeping path physical w s)
   keeping_ordered path physical w =
-      let d = deleting_ordered physical in
-      kept_way IsOrdered s o path physical w (record { held = o.held; before = o.before; made = o.made; asked = asked_filter _ s.tokens o.asked })
-      (record { held = d.held; before = d.before; made = d.made; asked = asked_filter _ s.tokens o.asked })
+      kept_way Ordered s o path physical w (o.0, o.1, o.2, of_filter _ s.tokens o.3) (of_filter _ s.held o.0, o.1, of_filter _ s.made o.2, of_filter _ s.tokens o.3)
 
-  intending_ordered : (number : ℕ) (p : Pending) → ascends (props_asked p.request) ≡ true → IsOrdered (intending number p s)
+  intending_ordered : (number : ℕ) (p : Pending) → ascends (props_asked p.request) ≡ true → Ordered (intending number p s)
   intending_ordered number p k =
-      intended_way IsOrdered s o number p
-      (record { held = o.held; before = o.before; made = o.made; asked = in_more (λ (q : Pending). ascends (props_asked q.request) ≡ true) p s.tokens o.asked k })
+      intended_way Ordered s o number p (o.0, o.1, o.2, in_more (λ (q : Pending). ascends (props_asked q.request) ≡ true) p s.tokens o.3 k)
 
-  with_status_ordered : (b : Bool) (id : List ℕ) (state : HeldStatus) → IsOrdered (cond b (with_status id state s) s)
-  with_status_ordered true id state = changing_ordered id (λ h. record h { status = state }) (λ h k. k)
-  with_status_ordered false id state = o
+  with_status_ordered : (b : Bool) (id : List ℕ) (state : HeldStatus) → Ordered (cond b (with_status id state s) s)
+  with_status_ordered b id state = either_way Ordered b (with_status id state s) s (changing_ordered (λ h. record h { status = state }) (λ h k. k) id s o) o
 
-  answered_ordered : (restores : Bool) (path : List ℕ) (r : Request) → ascends (props_asked r) ≡ true → (a : Reply) → IsOrdered (answered restores path r a s)
+  answered_ordered : (restores : Bool) (path : List ℕ) (r : Request) → ascends (props_asked r) ≡ true → (a : Reply) → Ordered (answered restores path r a s)
   answered_ordered b path (request.Create k props) h (reply.Success physical attrs) =
-      record { held = o.held; before = o.before; made = in_more InOrder (made_of (terms_at path s) (status_made (current_at path s.held)) path k props physical attrs) s.made o.made h; asked = o.asked }
-  answered_ordered b path (request.Update id props) h (reply.Success physical attrs) = changing_ordered id (updating props attrs) (λ r k. h)
+      (o.0, o.1, in_more InOrder (made_of (terms_at path s) (status_made (current_at path s.held)) path k props physical attrs) s.made o.2 h, o.3)
+  answered_ordered b path (request.Update id props) h (reply.Success physical attrs) = changing_ordered (updating props attrs) (λ r k. h) id s o
   answered_ordered b path (request.Update id props) h (reply.Failed c) = with_status_ordered b id _
   answered_ordered b path (request.Delete id) h (reply.Success physical attrs) = deleting_ordered id
   answered_ordered b path (request.Delete id) h (reply.Failed code.NotFound) = deleting_ordered id
   answered_ordered b path (request.Delete id) h (reply.Failed c) = with_status_ordered true id _
   answered_ordered b path r h a = o
 
-closing_ordered : (token : ℕ) (a : Reply) (s : StackState) → IsOrdered s → IsOrdered (closing token a s)
-closing_ordered token a s o = record { held = o.held; before = o.before; made = o.made; asked = by_answer a } where
-  by_answer : (b : Reply) → AllAsked (still_open token b s.tokens)
-  by_answer reply.Doubt = o.asked
-  by_answer b = asked_filter _ s.tokens o.asked
+closing_ordered : (token : ℕ) (a : Reply) (s : StackState) → Ordered s → Ordered (closing token a s)
+closing_ordered token reply.Doubt s o = o
+closing_ordered token a s o = (o.0, o.1, o.2, of_filter _ s.tokens o.3)
 
-replied_ordered : (token : ℕ) (a : Reply) (p : Option Pending) (s : StackState) → pending_of token s ≡ p → IsOrdered s → IsOrdered (replied token a p s)
+replied_ordered : (token : ℕ) (a : Reply) (p : Option Pending) (s : StackState) → pending_of token s ≡ p → Ordered s → Ordered (replied token a p s)
 replied_ordered token a None s e o = o
 replied_ordered token a (Some p) s e o =
     closing_ordered token a (answered (is_restore token s) p.path p.request a s)
-    (answered_ordered s o (is_restore token s) p.path p.request (o.asked p (found_one (has_token token) s.tokens p e).0) a)
+    (answered_ordered s o (is_restore token s) p.path p.request (o.3 p (found_one (has_token token) s.tokens p e).0) a)
 
 -- the end of the forward phase, and of an operation
 settled_ordered : (whole : Whole) (s : StackState) (h : Held) → InOrder h → InOrder (settled_in whole s h)
-settled_ordered whole s h k = either (is_physical_of h.physical (resource_at h.path s) && not h.superseded) (find (is_right_at h.path) whole.wanted) where
-  either : (b : Bool) (o : Option Right) → InOrder (cond b (as_wanted o h) (record h { superseded = true }))
-  either true None = k
-  either true (Some w) = k
-  either false o = k
+settled_ordered whole s h k =
+    either_way InOrder (is_physical_of h.physical (resource_at h.path s) && not h.superseded) _ (record h { superseded = true }) (by (find (is_right_at h.path) whole.wanted)) k where
+      by : (o : Option Right) → InOrder (as_wanted o h)
+      by None = k
+      by (Some w) = k
 
-completing_ordered : (whole : Whole) (s : StackState) → IsOrdered s → IsOrdered (completing whole s)
-completing_ordered whole s o = record {
-  held = all_map (settled_in whole s) (settled_ordered whole s) (resources_of s) (all_both s.held s.made o.held o.made);
-  before = o.before;
-  made = no_held;
-  asked = o.asked;
-}
+completing_ordered : (whole : Whole) (s : StackState) → Ordered s → Ordered (completing whole s)
+completing_ordered whole s o = (all_map (settled_in whole s) (settled_ordered whole s) (resources_of s) (all_both s.held s.made o.0 o.2), o.1, no_held, o.3)
 
-turned_ordered : (p : Phase) (s : StackState) → IsOrdered s → IsOrdered (turned_effect p s).stack
-turned_ordered phase.Clean s o = completing_ordered (whole_now s) (turning phase.Clean s) (record { held = o.held; before = o.before; made = o.made; asked = o.asked })
-turned_ordered p s o = record { held = o.held; before = o.before; made = o.made; asked = o.asked }
+turned_ordered : (p : Phase) (s : StackState) → Ordered s → Ordered (turned_effect p s).stack
+turned_ordered phase.Clean s o = completing_ordered (whole_now s) (turning phase.Clean s) o
+turned_ordered p s o = o
 
 marked_ordered : (ps : List Pending) (h : Held) → InOrder h → InOrder (marked ps h)
-marked_ordered ps h k = either (find (is_on h.physical) ps) where
-  either : (o : Option Pending) → InOrder (left_in_doubt o h)
-  either None = k
-  either (Some p) = k
+marked_ordered ps h k = by (find (is_on h.physical) ps) where
+  by : (o : Option Pending) → InOrder (left_in_doubt o h)
+  by None = k
+  by (Some p) = k
 
-stopping_ordered : (state : Status) (s : StackState) → IsOrdered s → IsOrdered (stopping state s)
-stopping_ordered state s o = record {
-  held = all_map (marked s.tokens) (marked_ordered s.tokens) s.held o.held;
-  before = o.before;
-  made = all_map (marked s.tokens) (marked_ordered s.tokens) s.made o.made;
-  asked = o.asked;
-}
+stopping_ordered : (state : Status) (s : StackState) → Ordered s → Ordered (stopping state s)
+stopping_ordered state s o =
+    (all_map (marked s.tokens) (marked_ordered s.tokens) s.held o.0, o.1, all_map (marked s.tokens) (marked_ordered s.tokens) s.made o.2, o.3)
 
-ending_ordered : (state : Status) (s : StackState) → IsOrdered s → IsOrdered (ending state s).stack
+ending_ordered : (state : Status) (s : StackState) → Ordered s → Ordered (ending state s).stack
 ending_ordered status.CreateComplete s o = completing_ordered (whole_now s) s o
-ending_ordered status.RollbackFailed s o = record { held = all_both s.held s.made o.held o.made; before = o.before; made = no_held; asked = o.asked }
+ending_ordered status.RollbackFailed s o = (all_both s.held s.made o.0 o.2, o.1, no_held, o.3)
 ending_ordered state s o = o
 
 -- a beginning
 skipped_ordered : (paths : List (List ℕ)) (before : List Held) → All before → (h : Held) → InOrder h → InOrder (skipped_in paths before h)
-skipped_ordered paths before o h k = either (is_among h.path paths) (find (has_physical h.physical) before) refl where
-  either : (b : Bool) (q : Option Held) → find (has_physical h.physical) before ≡ q → InOrder (cond b (as_before q h) h)
-  either true None e = k
-  either true (Some r) e = o r (found_one (has_physical h.physical) before r e).0
-  either false q e = k
+skipped_ordered paths before o h k = either_way InOrder (is_among h.path paths) _ h (by (find (has_physical h.physical) before) refl) k where
+  by : (q : Option Held) → find (has_physical h.physical) before ≡ q → InOrder (as_before q h)
+  by None e = k
+  by (Some r) e = o r (found_one (has_physical h.physical) before r e).0
 
-begun_ordered : (name : List ℕ) (number : ℕ) (k : Begun) (s : StackState) → IsOrdered s → IsOrdered (beginning name number k s)
-begun_ordered name number (begin.Create source) s o = record { held = o.held; before = o.held; made = no_held; asked = o.asked }
-begun_ordered name number (begin.Update source) s o = record { held = o.held; before = o.held; made = no_held; asked = o.asked }
-begun_ordered name number (begin.Delete paths) s o = record { held = o.held; before = o.before; made = o.made; asked = o.asked }
-begun_ordered name number (begin.Continue paths) s o = record {
-  held = all_map (skipped_in paths s.before) (skipped_ordered paths s.before o.before) s.held o.held;
-  before = o.before;
-  made = o.made;
-  asked = asked_filter _ s.tokens o.asked;
-}
+begun_ordered : (name : List ℕ) (number : ℕ) (k : Begun) (s : StackState) → Ordered s → Ordered (beginning name number k s)
+begun_ordered name number (begin.Create source) s o = (o.0, o.0, no_held, o.3)
+begun_ordered name number (begin.Update source) s o = (o.0, o.0, no_held, o.3)
+begun_ordered name number (begin.Delete paths) s o = o
+begun_ordered name number (begin.Continue paths) s o =
+    (all_map (skipped_in paths s.before) (skipped_ordered paths s.before o.1) s.held o.0, o.1, o.2, of_filter _ s.tokens o.3)
 
--- what a call asks for
-module _ (schemas : List Schema) (name : List ℕ) (x : World) (s : StackState) (o : IsOrdered s) (path : List ℕ) where
-  intends_ordered : (stage : Stage) (r : Request) → IntendsIn stage schemas name x s path r → ascends (props_asked r) ≡ true
-  intends_ordered stage (request.Delete physical) i = refl
-  intends_ordered Forward (request.Create kind props) i = said_in_order s path kind props i.3.0
-  intends_ordered Forward (request.Update physical props) i = said_in_order s path i.3.0.kind props i.3.3
-  intends_ordered Back (request.Create kind props) i = elim i [ inl d ↦ absurd d | inr d ↦ absurd d ]
-  intends_ordered Back (request.Update physical props) i = elim i [
-    | inl d ↦ absurd d
-    | inr d ↦ ap ascends d.5 ∙ o.before d.1 d.2.0
-  ]
-  intends_ordered stage r i = absurd i
+module _ (schemas : List Schema) (x : World) (out : List ℕ) (name : List ℕ) (s : StackState) (o : Ordered s) where
+  -- what a call asks for
+  intends_ordered : (path : List ℕ) (stage : Stage) (r : Request) → IntendsIn stage schemas name x s path r → ascends (props_asked r) ≡ true
+  intends_ordered path stage (request.Delete physical) i = refl
+  intends_ordered path Forward (request.Create kind props) i = said_in_order s path kind props i.3.0
+  intends_ordered path Forward (request.Update physical props) i = said_in_order s path i.3.0.kind props i.3.3
+  intends_ordered path Back (request.Create kind props) i = elim i [ inl d ↦ absurd d | inr d ↦ absurd d ]
+  intends_ordered path Back (request.Update physical props) i = elim i [ inl d ↦ absurd d | inr d ↦ ap ascends d.5 ∙ o.1 d.1 d.2.0 ]
+  intends_ordered path stage r i = absurd i
 
-module _ (schemas : List Schema) (x : World) (out : List ℕ) (name : List ℕ) (s : StackState) (o : IsOrdered s) where
-  heard_ordered : (e : Entry) → IsOrdered (effect_of e s).stack → IsOrdered (effect_at (x.place + 1) e s).stack
-  heard_ordered e k = record { held = k.held; before = k.before; made = k.made; asked = k.asked }
-
-  step_ordered : (stage : Stage) (e : Entry) → IsOwn s.operation e → MayFollowIn schemas name x out s stage e → IsOrdered (effect_of e s).stack
+  step_ordered : (stage : Stage) (e : Entry) → IsOwn s.operation e → MayFollowIn schemas name x out s stage e → Ordered (effect_at (x.place + 1) e s).stack
   step_ordered stage (entry.Kept number path physical w) own may = keeping_ordered s o path physical w
   step_ordered stage (entry.Intent number token lane path r) own may =
-      intending_ordered s o number (record { token = token; path = path; lane = lane; request = r }) (intends_ordered schemas name x s o path stage r may.chosen)
+      intending_ordered s o number (record { token = token; path = path; lane = lane; request = r }) (intends_ordered path stage r may.chosen)
   step_ordered stage (entry.Outcome number token a before after) own may = replied_ordered token a (pending_of token s) s refl o
   step_ordered stage (entry.Phase number p c) own may = turned_ordered p s o
   step_ordered stage (entry.Done number state failed) own may = ending_ordered state (stopping state s) (stopping_ordered state s o)
   step_ordered stage e own may = absurd own
 
-  entry_ordered : (e : Entry) (t : StackState) → IsTo schemas x out name s e t → IsOrdered t
-  entry_ordered e t (to.step stage is own may) = heard_ordered e (step_ordered stage e own may)
-  entry_ordered e t (to.begins k from by) = heard_ordered (entry.Begin (x.operation + 1) name k) (begun_ordered name (x.operation + 1) k s o)
-  entry_ordered e t (to.reviewed number source rows outputs from) = record { held = o.held; before = o.before; made = o.made; asked = o.asked }
-  entry_ordered e t (to.opened epoch lanes) = record { held = o.held; before = o.before; made = o.made; asked = o.asked }
+  entry_ordered : (e : Entry) (t : StackState) → IsTo schemas x out name s e t → Ordered t
+  entry_ordered e t (to.step stage is own may) = step_ordered stage e own may
+  entry_ordered e t (to.begins k from by) = begun_ordered name (x.operation + 1) k s o
+  entry_ordered e t (to.reviewed number source rows outputs from) = o
+  entry_ordered e t (to.opened epoch lanes) = o
   entry_ordered e t to.other = o
 
 pub order_stays : OrderStays
-order_stays schemas x out e name s t w o = entry_ordered schemas x out name s o e t (written_is_to schemas x out e name s t w)
+order_stays schemas x out e name s t w o =
+    let h = entry_ordered schemas x out name s (o.held, o.before, o.made, o.asked) e t (written_is_to schemas x out e name s t w) in
+    record { held = h.0; before = h.1; made = h.2; asked = h.3 }
 
 pub none_is_ordered : NoneIsOrdered
 none_is_ordered = record { held = no_held; before = no_held; made = no_held; asked = λ p i. elim i [ ] }
 
 -- Each call that the forward phase intends is hidden by the change set of the operation.
-
--- what is seen, but for what is hidden, is seen in all that keeps the rest
-module _ (ids attrs : List ℕ → Bool) where
-  abbrev hide_at : List ℕ → SeenAt → SeenAt
-  hide_at path v = record { physical = cond (ids path) None v.physical; attrs = cond (attrs path) None v.attrs }
-
-  hidden_at : (path : List ℕ) (seen : Seen) → value_at path (hidden_of ids attrs seen) ≡ option_map (hide_at path) (value_at path seen)
-  hidden_at path [] = refl
-  hidden_at path (s ∷ seen) = either (bytes_eq path s.0) refl (hidden_at path seen) where
-    either : (b : Bool) → bytes_eq path s.0 ≡ b → value_at path (hidden_of ids attrs seen) ≡ option_map (hide_at path) (value_at path seen)
-        → cond b (Some (hide_at s.0 s.1)) (value_at path (hidden_of ids attrs seen)) ≡ option_map (hide_at path) (cond b (Some s.1) (value_at path seen))
-    either true e ih = ap (λ p. Some (hide_at p s.1)) (sym ((bytes_eq-Decides path s.0).0 e))
-    either false e ih = ih
-
-  kept_unless : {A : Type 0} (b : Bool) (o p : Option A) → (b ≡ false → Keeps o p) → Keeps (cond b None o) p
-  kept_unless true o p h = tt
-  kept_unless false o p h = h refl
-
-  hidden_less : (seen now : Seen) → KeepsRest ids attrs seen now → SeesMore (hidden_of ids attrs seen) now
-  hidden_less seen now rest path =
-      subst (λ (o : Option SeenAt). Keeps (option_and_then (λ x. x.physical) o) (id_seen path now) × Keeps (option_and_then (λ x. x.attrs) o) (attrs_seen path now))
-      (sym (hidden_at path seen)) (by_value (value_at path seen) (rest path))
-    where
-      by_value : (o : Option SeenAt) → (ids path ≡ false → Keeps (option_and_then (λ x. x.physical) o) (id_seen path now)) × (attrs path ≡ false → Keeps (option_and_then (λ x. x.attrs) o) (attrs_seen path now))
-          → Keeps (option_and_then (λ x. x.physical) (option_map (hide_at path) o)) (id_seen path now) × Keeps (option_and_then (λ x. x.attrs) (option_map (hide_at path) o)) (attrs_seen path now)
-      by_value None h = (tt, tt)
-      by_value (Some v) h = (kept_unless (ids path) v.physical (id_seen path now) h.0, kept_unless (attrs path) v.attrs (attrs_seen path now) h.1)
-
-no_flaw_known : (v : Evaluated) → flaws_of v ≡ [] → (xs : Props) × (v ≡ evaluated xs)
-no_flaw_known (evaluated xs) h = (xs, refl)
-no_flaw_known (flawed f) h = let no : ⊥ = cc in absurd no
-
--- what the row of a resource does not hide
-module _ (h : HeldAt) (w : Wanted) (ds : List Detail) where
-  abbrev modified : Row
-  modified = record { action = action.Modify; path = w.path; kind = w.kind; replacement = Some (replacement_of ds); unsure = h.unsure; details = ds }
-
-  own_path : bytes_eq w.path w.path ≡ true
-  own_path = (bytes_eq-Decides w.path w.path).1 refl
-
-  one_row : (test : Row → Bool) (b : Bool) → list_any (λ r. bytes_eq w.path r.path && test r) (row_list (cond b None (Some modified))) ≡ false → (b ≡ true) ⊎ (test modified ≡ false)
-  one_row test true e = inl refl
-  one_row test false e = inr (first_not (test modified) false (sym (ap (λ t. t && test modified || false) own_path) ∙ e))
-
-  no_details : is_empty ds && not h.unsure ≡ true → (ds ≡ []) × (h.unsure ≡ false)
-  no_details e = both ds h.unsure e where
-    both : (es : List Detail) (b : Bool) → is_empty es && not b ≡ true → (es ≡ []) × (b ≡ false)
-    both [] false g = (refl, refl)
-    both [] true g = absurd (true≢false (sym g))
-    both (d ∷ es) b g = absurd (true≢false (sym g))
-
-  kept_id : (a b : Bool) → not (keeps_id (Some (cond a replacement.True (cond b replacement.Conditional replacement.False)))) ≡ false → b ≡ false
-  kept_id true b e = absurd (true≢false e)
-  kept_id false true e = absurd (true≢false e)
-  kept_id false false e = refl
-
-  id_kept : list_any (λ r. bytes_eq w.path r.path && row_hides_id r) (row_list (modify_row h w ds)) ≡ false → list_any (λ d. not (is_never d.recreation)) ds ≡ false
-  id_kept e = elim (one_row row_hides_id (is_empty ds && not h.unsure) e) [
-    | inl g ↦ ap (list_any (λ d. not (is_never d.recreation))) (no_details g).0
-    | inr g ↦ kept_id (list_any (λ d. is_always_static d.recreation d.evaluation) ds) (list_any (λ d. not (is_never d.recreation)) ds) g
-  ]
-
-  attrs_kept : list_any (λ r. bytes_eq w.path r.path && row_hides_attrs r) (row_list (modify_row h w ds)) ≡ false → (list_any is_property ds ≡ false) × (h.unsure ≡ false)
-  attrs_kept e = elim (one_row row_hides_attrs (is_empty ds && not h.unsure) e) [
-    | inl g ↦ let none = no_details g in (ap (list_any is_property) none.0, none.1)
-    | inr g ↦ (first_not (list_any is_property ds) h.unsure g, second_not (list_any is_property ds) h.unsure g)
-  ]
-
-not_not : (b : Bool) → not b ≡ false → b ≡ true
-not_not true e = refl
-not_not false e = absurd (true≢false e)
-
-true_from : (b : Bool) → (b ≡ false → ⊥) → b ≡ true
-true_from true h = refl
-true_from false h = absurd (h refl)
-
-updates_one : (physical : List ℕ) (r : Request) → updates physical r ≡ true → is_update r ≡ true
-updates_one physical (request.Update id props) h = refl
-updates_one physical r h = absurd (true≢false (sym h))
 
 module _ (schemas : List Schema) (s : StackState) (source : Source) (a : IsAdvancing schemas s source) where
   abbrev held : List HeldAt
@@ -724,13 +314,13 @@ module _ (schemas : List Schema) (s : StackState) (source : Source) (a : IsAdvan
         ap (option_and_then (λ x. x.physical)) (sym (same q i)) ∙ sym (hide.same q (row.needs q i).0).0,
         ap (option_and_then (λ x. x.attrs)) (sym (same q i)) ∙ sym (hide.same q (row.needs q i).0).1,
       ) in
-      let over_left : props_at source shape left path ≡ Some before.props = ap (option_map (λ (r : Valued). r.1)) before.there in
-      let over_all : props_at source shape f.seen path ≡ Some before.props = needs_suffice source (held_seen held) left f.seen path m member (agree f.seen (λ q i. refl)) ∙ over_left in
-      let over_earlier : props_at source shape row.earlier.seen path ≡ Some before.props =
+      let over_left : props_at source shape left path ≡ Some before.one.1 = ap (option_map (λ (r : Valued). r.1)) before.there in
+      let over_all : props_at source shape f.seen path ≡ Some before.one.1 = needs_suffice source (held_seen held) left f.seen path m member (agree f.seen (λ q i. refl)) ∙ over_left in
+      let over_earlier : props_at source shape row.earlier.seen path ≡ Some before.one.1 =
       needs_suffice source (held_seen held) left row.earlier.seen path m member (agree row.earlier.seen (λ q i. (row.needs q i).1)) ∙ over_left in
       let clean : (plan_by source shape f.seen).flaws ≡ [] = subst (λ h. (plan_by source h f.seen).flaws ≡ []) (shape_is_held schemas held source a.no_flaw) a.no_flaw in
-      let one = unmapped (λ (r : Valued). r.1) (at_path path (valued_in source f.seen (given_root source) shape)) before.props over_all in
-      let xs = no_flaw_known before.props (ap flaws_of (sym one.2) ∙ flawless source shape f.seen clean path one.0 one.1) in
+      let one = unmapped (λ (r : Valued). r.1) (at_path path (valued_in source f.seen (given_root source) shape)) before.one.1 over_all in
+      let xs = no_flaw_known before.one.1 (ap flaws_of (sym one.2) ∙ flawless source shape f.seen clean path one.0 one.1) in
       let ys = known_is y.0.1 props (ap (λ (v : Wanted). known_of v.props) y.2 ∙ w.props) in
       let found_row : props_at source shape row.earlier.seen m.path ≡ Some (evaluated xs.0) = ap (props_at source shape row.earlier.seen) (sym at) ∙ over_earlier ∙ ap (λ v. Some v) xs.1 in
       record {
@@ -739,7 +329,7 @@ module _ (schemas : List Schema) (s : StackState) (source : Source) (a : IsAdvan
         at = at;
         was = xs.0;
         now = ys.0;
-        becomes = subst (λ v. PropsBecome v (evaluated ys.0)) xs.1 (subst (PropsBecome before.props) ys.1 before.become);
+        becomes = subst (λ v. PropsBecome v (evaluated ys.0)) xs.1 (subst (PropsBecome before.one.1) ys.1 (valued_become before.one y.0 before.valued));
         known = ys.2;
         same_kind = row.kind (evaluated xs.0) found_row;
         row = row.rows (evaluated xs.0) found_row;

@@ -1,30 +1,8 @@
 -- What a change set compares is what was held before, and so the shape stays as the operation goes forward.
-use Rattle.std.proofs.Common.{◌≡◌, ◌∙◌, ℕ, List, [], ◌∷◌, Bool, true, false, not, ◌&&◌, Option, Some, None, filter, map, option_map, refl, sym, ap, subst}
-use Rattle.std.specs.Prelude.{cond, option_and_then}
-use Rattle.std.specs.Str.{bytes_eq}
-use Rattle.cf_tree.specs.Keys.{value_at}
-use Rattle.cf_tree.specs.declared.source.Source.{Source}
-use Rattle.cf_eval.specs.Knows.{Keeps}
-use Rattle.cf_schema.specs.declared.described.Schema.{Schema}
-use Rattle.cf_change.specs.Changes.{HeldAt, held_seen, resource_held, seen_held}
-use Rattle.cf_change.specs.Hidden.{hides_attrs, hides_id}
-use Rattle.cf_change.proofs.Shown.{held_there}
-use Rattle.cf_change.proofs.Leaving.{stays_forward}
-use Rattle.cf_desired.specs.declared.seen.SeenAt.{SeenAt}
-use Rattle.cf_desired.specs.Seeing.{Seen}
-use Rattle.cf_desired.specs.Shape.{shape_of}
-use Rattle.cf_desired.specs.ShapeStays.{KeepsRest}
-use Rattle.cf_desired.specs.Stays.{attrs_seen, id_seen}
-use Rattle.cf_desired.proofs.Puts.{kept_self}
-use Rattle.cf_effect.specs.declared.held.Held.{Held}
-use Rattle.cf_effect.specs.World.{StackState}
-use Rattle.cf_effect.specs.Words.{current_at}
-use Rattle.cf_effect.specs.Begin.{seen_in}
-use Rattle.cf_effect.specs.End.{seen_now}
-use Rattle.cf_plan.specs.Accept.{held_as}
-use Rattle.cf_plan.proofs.CreatedSeen.{shown, shown_at}
-use Rattle.cf_core.specs.Advancing.{IsAdvancing, changes_begun, held_before_as}
-use Rattle.cf_core.specs.Hiding.{ShapeStaysAdvancing}
+use Rattle.std.proofs.Common.{◌≡◌, ◌∙◌, ℕ, List, ◌∷◌, Bool, true, false, not, ◌&&◌, Option, Some, None, filter, map, option_map, refl, sym, ap, subst, []}
+use Rattle.cf_core.proofs.Words.{Held, HeldAt, IsAdvancing, Keeps, KeepsRest, Schema, Seen, SeenAt, ShapeStaysAdvancing, Source, StackState, attrs_seen, bytes_eq, changes_begun, current_at, held_as, held_before_as, held_seen, hides_attrs, hides_id, id_seen, option_and_then, resource_held, seen_held, seen_in, seen_now, shape_of, value_at}
+use Rattle.cf_core.proofs.Lemmas.{held_there, kept_self, shown, shown_at, stays_forward}
+use Rattle.std.specs.Prelude.{cond}
 
 -- the first at a path, as it is compared, is the resource of the path
 found_with : (a b : Bool) (h : Held) (rest : List HeldAt) (path : List ℕ) (o : Option Held) → bytes_eq path h.path ≡ a → resource_held path rest ≡ option_map held_as o

@@ -3,62 +3,41 @@ use Rattle.cf_agree.specs.Laws.{Agree}
 use Rattle.cf_change.specs.Changes.{is_empty}
 use Rattle.cf_core.proofs.BeginEvents.{begun_holds, held_one, kept_holds, set_holds, plain_orderly, alike}
 use Rattle.cf_core.proofs.Entries.{Sends, is_working, sends}
-use Rattle.cf_core.proofs.FitKept.{Found, IsLeftBy, IsSameBut, IsSameCall, after_stacks, begun_known, each_is_written, find_mapped, fits_kept, from_mapped, gone, intends_named, into_mapped, keys_mapped, known_fits, known_steady, left_by, made, may_on, none_open, number_of, one_number, put_by, same, same_answered, same_call, stack_known}
+use Rattle.cf_core.proofs.FitKept.{Found, IsLeftBy, IsSameBut, IsSameCall, after_stacks, begun_known, each_is_written, find_mapped, fits_kept, from_mapped, gone, intends_named, into_mapped, keys_mapped, known_fits, known_steady, left_by, made, may_on, none_open, number_of, one_number, put_by, same, same_where, stack_known}
 use Rattle.cf_core.proofs.Outcomes.{done_moves, done_quiet, phase_moves, phase_quiet}
 use Rattle.cf_core.proofs.RowsWritten.{names_same, origins_kept, settled_new, written_kept}
 use Rattle.cf_core.proofs.Settling.{NamesOwn, intent_keeps_in, lanes_keep, may_again, opened_keeps, repeat_keeps, settle_keeps, start_agrees, fold_more, kept_name, kept_kind}
-use Rattle.cf_core.proofs.Statuses.{kept_status, replied_status, turned_status}
+use Rattle.cf_core.proofs.Statuses.{intended_way, kept_way, replied_status, turned_goes, turned_status}
 use Rattle.cf_core.specs.AccountOf.{lanes_of, account_of, has_leftover}
-use Rattle.cf_core.specs.Bridges.{account_with}
-use Rattle.cf_core.specs.Fits.{BecomesBy, IsRowOf, own, at_opening, other, Fits, IsNew}
+use Rattle.cf_core.specs.{Bridges.account_with, Fits.BecomesBy, Fits.Fits, Fits.IsNew, Fits.IsRowOf, Fits.at_opening, Fits.other, Fits.own}
 use Rattle.cf_core.specs.Fitting.{AllFit, AreSteady, IsOfItsLane, IsSteady}
 use Rattle.cf_core.specs.LifeAgrees.{AgreesIn, IsOrderly, IsSound, lease_of}
 use Rattle.cf_core.specs.SoundLife.{Appends, AreSound, AreWritten, EventKeeps, EventWrites, HaveOrigins, IsSoundLife, StartIsSoundLife, opened, set, begun, granted, settled}
-use Rattle.cf_entry.specs.declared.entry.Begun.{Begun}
-use Rattle.cf_entry.specs.declared.entry.Entry.{Entry}
-use Rattle.cf_entry.specs.declared.entry.Reply.{Reply}
-use Rattle.cf_entry.specs.declared.status.Status.{Status}
-use Rattle.cf_entry.specs.declared.turn.Cause.{Cause}
-use Rattle.cf_entry.specs.declared.turn.Phase.{Phase}
-use Rattle.cf_entry.specs.declared.turn.Why.{Why}
-use Rattle.cf_handler.specs.Fence.{FencedLane, Left, late_by, left_by as lane_left, raised_to}
-use Rattle.cf_handler.specs.Name.{is_lane_name}
-use Rattle.cf_plan.proofs.CreatedRight.{in_filter}
+use Rattle.cf_entry.specs.declared.{entry.Begun.Begun, entry.Entry.Entry, entry.Reply.Reply, status.Status.Status, turn.Cause.Cause}
+use Rattle.cf_entry.specs.declared.{turn.Phase.Phase, turn.Why.Why}
+use Rattle.cf_handler.specs.{Fence.FencedLane, Fence.Left, Fence.late_by, Fence.left_by as lane_left, Fence.raised_to, Name.is_lane_name}
+use Rattle.cf_plan.proofs.{CreatedRight.in_filter, Listed.in_none, RunLists.any_of, RunLists.in_end, RunLists.in_kept, RunLists.is_found_in}
 use Rattle.cf_plan.proofs.CreatedStays.{found_one, found_still, in_more}
-use Rattle.cf_plan.proofs.Listed.{in_none}
-use Rattle.cf_plan.proofs.RunLists.{in_kept, in_end, any_of, is_found_in}
 use Rattle.cf_plan.specs.Accept.{creates_from}
-use Rattle.cf_plan.specs.Follow.{IsLegal, MayFollow, begins_from, calls_in_flight, continues_from, deletes_from, is_in_flight, updates_from}
-use Rattle.cf_plan.specs.Forward.{In, here, there}
-use Rattle.cf_plan.specs.Lanes.{Lane, AreLanes, AreSchemas, lane_at}
-use Rattle.cf_plan.specs.Life.{changed, IsGoing, Lease, first_again, lease_for, CallEnd, Life, Event, Opened, ChangeSet, Begin, Grant, Repeat, Settle, Park, Raise, Act, Late, Close, Crash, End, Whole, BrokenWith, BrokenWithout, Answered, Stale, IsBegin, IsChangeSet, IsGranted, IsOutcomeOf, appended, granted as granted_by, MayHappen, acted, lease_at, life_after, repeated, replied_to, replying, tokens_out, world_of}
+use Rattle.cf_plan.specs.Follow.{IsLegal, MayFollow, begins_from, calls_in_flight, is_in_flight, updates_from}
+use Rattle.cf_plan.specs.{Forward.In, Forward.here, Forward.there, Lanes.AreLanes, Lanes.AreSchemas, Lanes.Lane, Lanes.lane_at}
+use Rattle.cf_plan.specs.Life.{changed, IsGoing, Lease, first_again, lease_for, CallEnd, Life, Event, Opened, ChangeSet, Begin, Grant, Repeat, Settle, Park, Raise, Act, Late, Crash, End, Whole, BrokenWith, BrokenWithout, Answered, IsBegin, IsChangeSet, IsGranted, IsOutcomeOf, appended, granted as granted_by, MayHappen, acted, lease_at, life_after, repeated, replied_to, replying, tokens_out, world_of}
 use Rattle.cf_schema.specs.Kinds.{found}
 use Rattle.cf_schema.specs.declared.described.Schema.{Schema}
 use Rattle.cf_stacks.proofs.Worlds.{found_stands}
 use Rattle.cf_stacks.specs.Apart.{AreApart}
 use Rattle.cf_effect.specs.Calls.{anew, answered_call, call_under as call_of, is_call, is_restore, new_call, where_call}
-use Rattle.cf_effect.specs.Effect.{heard, on_stack}
-use Rattle.cf_effect.specs.End.{turned_effect}
-use Rattle.cf_effect.specs.Fold.{fold_of, world_after, effect_at, is_opening, stack_for}
-use Rattle.cf_effect.specs.Reply.{answered, closing, keeping_known, keeping_unknown, replied}
-use Rattle.cf_effect.specs.Status.{is_in_progress, turned}
-use Rattle.cf_effect.specs.Words.{has_physical, has_token, is_create_at, pending_of, resources_of}
-use Rattle.cf_effect.specs.World.{World, StackState, is_going, known_stack, no_stack, stack_at, stack_of_operation, empty_world}
-use Rattle.cf_effect.specs.declared.call.Call.{Call}
-use Rattle.cf_effect.specs.declared.held.Pending.{Pending}
+use Rattle.cf_effect.specs.{Effect.heard, Effect.on_stack, Fold.effect_at, Fold.fold_of, Fold.is_opening, Fold.stack_for, Fold.world_after}
+use Rattle.cf_effect.specs.{End.turned_effect, Reply.answered, Reply.intending, Reply.keeping, Reply.closing, Reply.keeping_known, Reply.keeping_unknown, Reply.replied}
+use Rattle.cf_effect.specs.Status.{is_in_progress}
+use Rattle.cf_effect.specs.{Words.has_token, Words.pending_of, declared.call.Call.Call, declared.held.Pending.Pending}
+use Rattle.cf_effect.specs.World.{World, StackState, is_going, known_stack, no_stack, stack_at, empty_world}
 use Rattle.cf_tree.proofs.Lookups.{put_here, put_else}
-use Rattle.cf_tree.specs.Keys.{value_at}
-use Rattle.cf_tree.specs.Named.{all_differ}
+use Rattle.cf_tree.specs.{Keys.value_at, Named.all_differ}
 use Rattle.cf_tree.specs.declared.request.Request.{Request}
-use Rattle.std.proofs.Common.{◌≡◌, ℕ, List, [], ◌∷◌, ◌++◌, Bool, true, false, ◌&&◌, Option, Some, None, map, option_map, is_some, refl, ap, ◌∙◌, ◌≢◌, ◌+◌, ◌==◌, ◌||◌, find, sym, subst, true≢false, unwrap_or, ◌⊎◌, inl, inr, not, filter}
-use Rattle.std.proofs.lemmas.Bool.{eqb-true, eq-eqb}
-use Rattle.std.proofs.lemmas.Slice.Eq.{bytes_eq-Decides}
-use Rattle.std.specs.Bool.{IsTrue}
-use Rattle.std.specs.List.{list_all, list_any}
-use Rattle.std.specs.Option.{option_or}
-use Rattle.std.specs.Prelude.{cond}
-use Rattle.std.specs.Str.{bytes_eq}
-use Rattle.cf_entry.specs.declared.entry.Begun.TheVariants as begin
+use Rattle.std.proofs.Common.{arith, ◌≡◌, ℕ, List, [], ◌∷◌, ◌++◌, Bool, true, false, ◌&&◌, Option, Some, None, map, option_map, is_some, refl, ap, ◌∙◌, ◌≢◌, ◌+◌, ◌==◌, ◌||◌, find, sym, subst, true≢false, unwrap_or, ◌⊎◌, inl, inr, not, filter}
+use Rattle.std.proofs.lemmas.{Bool.eq-eqb, Bool.eqb-true, Slice.Eq.bytes_eq-Decides}
+use Rattle.std.specs.{Bool.IsTrue, List.list_all, Option.option_or, Prelude.cond, Str.bytes_eq}
 use Rattle.cf_entry.specs.declared.entry.Entry.TheVariants as entry
 use Rattle.cf_entry.specs.declared.status.Status.TheVariants as status
 use Rattle.cf_entry.specs.declared.turn.Phase.TheVariants as phase
@@ -97,33 +76,11 @@ module _ (n : List ℕ) (f : FencedLane → FencedLane) where
 -- A call that is out has its row in the ledger of a stack whose operation is in progress: each entry keeps that.
 
 -- a status from which an operation begins is none in which one is in progress
-creates_idle : (s : Status) → creates_from s ≡ true → is_in_progress s ≡ false
-creates_idle status.DeleteComplete h = cc
-creates_idle s h = cc
-
-updates_idle : (s : Status) → updates_from s ≡ true → is_in_progress s ≡ false
-updates_idle status.CreateComplete h = cc
-updates_idle s h = cc
-
-deletes_idle : (s : Status) → deletes_from s ≡ true → is_in_progress s ≡ false
-deletes_idle status.ReviewInProgress h = cc
-deletes_idle s h = cc
-
-continues_idle : (s : Status) → continues_from s ≡ true → is_in_progress s ≡ false
-continues_idle status.UpdateRollbackFailed h = cc
-continues_idle s h = cc
-
 pub begins_idle : (k : Begun) (s : Status) → begins_from k s ≡ true → is_in_progress s ≡ false
-begins_idle (begin.Create source) s h = creates_idle s h
-begins_idle (begin.Update source) s h = updates_idle s h
-begins_idle (begin.Delete paths) s h = deletes_idle s h
-begins_idle (begin.Continue paths) s h = continues_idle s h
+begins_idle k s h = grind arith
 
 pub reviews_idle : (s : Status) → (creates_from s || updates_from s) ≡ true → is_in_progress s ≡ false
-reviews_idle s h = by (creates_from s) refl h where
-  by : (b : Bool) → creates_from s ≡ b → (b || updates_from s) ≡ true → is_in_progress s ≡ false
-  by true e k = creates_idle s e
-  by false e k = updates_idle s k
+reviews_idle s h = grind arith
 
 -- a call keeps its row, and its stack its operation in progress
 pub record KeepsCall (t : ℕ) (c : Call) (s s' : StackState) : Type 0 where
@@ -146,32 +103,19 @@ module _ (t : ℕ) (c : Call) (s : StackState) (working : is_in_progress s.statu
     lane = (is c).lane;
   }
 
+  heard_row : (u : StackState) (es : List Entry) (lines : List (List ℕ)) → KeepsCall t c s u → KeepsCall t c s (record u { entries = es; events = lines })
+  heard_row u es lines k = record { working = k.working; operation = k.operation; call = k.call; found = k.found; lane = k.lane }
+
   kept_row : (place number : ℕ) (path id : List ℕ) (w : Why) → KeepsCall t c s (effect_at place (entry.Kept number path id w) s).stack
   kept_row place number path id w =
-      same_row (effect_at place (entry.Kept number path id w) s).stack (kept_status path id w s)
-      (op (bytes_eq id []) (list_any (is_create_at path) s.tokens) (list_any (has_physical id) (resources_of s)))
-      (rows (bytes_eq id []) (list_any (is_create_at path) s.tokens) (list_any (has_physical id) (resources_of s)))
-    where
-      op : (b d f : Bool) → (cond b (cond d (keeping_unknown path w s) s) (cond f (keeping_known path id w s) s)).operation ≡ s.operation
-      op true true f = refl
-      op true false f = refl
-      op false d true = refl
-      op false d false = refl
-
-      rows : (b d f : Bool) → (cond b (cond d (keeping_unknown path w s) s) (cond f (keeping_known path id w s) s)).ledger ≡ s.ledger
-      rows true true f = refl
-      rows true false f = refl
-      rows false d true = refl
-      rows false d false = refl
+      heard_row (keeping path id w s) _ _ (kept_way (KeepsCall t c s) s (same_row s refl refl refl) path id w
+      (same_row (keeping_unknown path w s) refl refl refl) (same_row (keeping_known path id w s) refl refl refl))
 
   intended_row : (place number token : ℕ) (lane path : List ℕ) (r : Request) → KeepsCall t c s (effect_at place (entry.Intent number token lane path r) s).stack
-  intended_row place number token lane path r = by (list_any (has_token token) s.tokens) where
-    by : (b : Bool) → KeepsCall t c s (heard place (entry.Intent number token lane path r) s (on_stack (cond b s (record s {
-      tokens = s.tokens ++ record { token = token; path = path; lane = lane; request = r } ∷ [];
-      ledger = s.ledger ++ new_call number s.status (record { token = token; path = path; lane = lane; request = r }) ∷ [];
-    })))).stack
-    by true = record { working = working; operation = refl; call = c; found = row; lane = refl }
-    by false = record { working = working; operation = refl; call = c; found = found_still (is_call t) s.ledger _ c row; lane = refl }
+  intended_row place number token lane path r =
+      let p : Pending = record { token = token; path = path; lane = lane; request = r } in
+      heard_row (intending number p s) _ _ (intended_way (KeepsCall t c s) s (same_row s refl refl refl) number p
+      (record { working = working; operation = refl; call = c; found = found_still (is_call t) s.ledger (new_call number s.status p ∷ []) c row; lane = refl }))
 
   same_but : (path : List ℕ) (r : Request) (a : Reply) (u : StackState) → IsLeftBy s path r a u → IsSameBut s u
   same_but path r a u (same b k) = b
@@ -180,47 +124,28 @@ module _ (t : ℕ) (c : Call) (s : StackState) (working : is_in_progress s.statu
 
   answered_row : (place number token : ℕ) (a : Reply) (before after : ℕ) → KeepsCall t c s (effect_at place (entry.Outcome number token a before after) s).stack
   answered_row place number token a before after = by (pending_of token s) refl where
-    e : Entry
-    e = entry.Outcome number token a before after
-
-    state : is_in_progress (effect_at place (entry.Outcome number token a before after) s).stack.status ≡ true
-    state = ap is_in_progress (replied_status token a s) ∙ working
-
     by : (o : Option Pending) → pending_of token s ≡ o → KeepsCall t c s (effect_at place (entry.Outcome number token a before after) s).stack
-    by None k =
-        subst (λ o. KeepsCall t c s (heard place (entry.Outcome number token a before after) s (on_stack (replied token a o s))).stack) (sym k)
-        (record { working = working; operation = refl; call = c; found = row; lane = refl })
+    by None k = subst (λ o. KeepsCall t c s (heard place (entry.Outcome number token a before after) s (on_stack (replied token a o s))).stack) (sym k) (same_row _ refl refl refl)
     by (Some p) k =
         let u = answered (is_restore token s) p.path p.request a s in
         let b = same_but p.path p.request a u (left_by (is_restore token s) p.path p.request a s) in
         let at : replied token a (pending_of token s) s ≡ closing token a u = ap (λ o. replied token a o s) k in
-        changed_row (effect_at place (entry.Outcome number token a before after) s).stack (λ d. cond (is_call token d) (answered_call a d) d) (λ d. each d (is_call token d)) state
+        changed_row (effect_at place (entry.Outcome number token a before after) s).stack (λ d. cond (is_call token d) (answered_call a d) d) (same_where token a)
+        (ap is_in_progress (replied_status token a s) ∙ working)
         (ap (λ (z : StackState). z.operation) at ∙ b.operation) (ap (λ (z : StackState). z.ledger) at ∙ ap (where_call token (answered_call a)) b.ledger)
-      where
-        each : (d : Call) (b : Bool) → IsSameCall d (cond b (answered_call a d) d)
-        each d true = same_answered a d
-        each d false = same_call d
 
   turned_row : (place number : ℕ) (p : Phase) (cause : Option Cause) → KeepsCall t c s (effect_at place (entry.Phase number p cause) s).stack
   turned_row place number p cause =
       changed_row (effect_at place (entry.Phase number p cause) s).stack anew (λ d. record { number = refl; token = refl; lane = refl; path = refl; request = refl })
-      (ap is_in_progress (turned_status place number p s cause) ∙ going s.status p) (op p) (rows p)
+      (ap is_in_progress (turned_status place number p s cause) ∙ turned_goes s.status p) (op p) (rows p)
     where
-      going : (st : Status) (p : Phase) → is_in_progress (turned st p) ≡ true
-      going status.CreateInProgress phase.Back = refl
-      going st phase.Back = refl
-      going st phase.Clean = refl
-      going st phase.BackClean = refl
-
       op : (p : Phase) → (turned_effect p s).stack.operation ≡ s.operation
       op phase.Clean = refl
-      op phase.Back = refl
-      op phase.BackClean = refl
+      op _ = refl
 
       rows : (p : Phase) → (turned_effect p s).stack.ledger ≡ map anew s.ledger
       rows phase.Clean = refl
-      rows phase.Back = refl
-      rows phase.BackClean = refl
+      rows _ = refl
 
 module _ (schemas : List Schema) (x : World) (out : List ℕ) (apart : AreApart x) where
   -- a call that is out keeps its row
@@ -293,20 +218,16 @@ stands_in name s (q ∷ ss) e = by (bytes_eq name q.0) refl e (stands_in name s 
   by false k g ih = there (ih g)
 
 -- a call that is made again
-again_found : (token : ℕ) (name : List ℕ) (s : StackState) (p : Pending) (ss : List (List ℕ × StackState)) → value_at name ss ≡ Some s → find (has_token token) s.tokens ≡ Some p
+pub repeats_as : (token : ℕ) (name : List ℕ) (s : StackState) (p : Pending) (ss : List (List ℕ × StackState)) → value_at name ss ≡ Some s → find (has_token token) s.tokens ≡ Some p
     → ((q : List ℕ × StackState) → In q ss → q.0 ≢ name → find (has_token token) (q.1).tokens ≡ None) → first_again token ss ≡ Some (lease_for s.operation p)
-again_found token name s p [] e f others = absurd (cc)
-again_found token name s p (q ∷ ss) e f others = by (bytes_eq name q.0) refl e (λ k. again_found token name s p ss k f (λ r i. others r (there i))) where
+repeats_as token name s p [] e f others = absurd (cc)
+repeats_as token name s p (q ∷ ss) e f others = by (bytes_eq name q.0) refl e (λ k. repeats_as token name s p ss k f (λ r i. others r (there i))) where
   by : (b : Bool) → bytes_eq name q.0 ≡ b → cond b (Some q.1) (value_at name ss) ≡ Some s → (value_at name ss ≡ Some s → first_again token ss ≡ Some (lease_for s.operation p)) → first_again token (q ∷ ss) ≡ Some (lease_for s.operation p)
   by true k g ih = let same_stack : q.1 ≡ s = cc in
       ap (λ (z : StackState). option_or (option_map (lease_for z.operation) (find (has_token token) z.tokens)) (first_again token ss)) same_stack ∙ ap (λ o. option_or (option_map (lease_for s.operation) o) (first_again token ss)) f
   by false k g ih =
       let other_name : q.0 ≢ name = λ z. true≢false (sym ((bytes_eq-Decides name q.0).1 (sym z)) ∙ k) in
       ap (λ o. option_or (option_map (lease_for (q.1).operation) o) (first_again token ss)) (others q here other_name) ∙ ih g
-
-pub repeats_as : (x : World) (token : ℕ) (name : List ℕ) (s : StackState) (p : Pending) → stack_at name x ≡ Some s → find (has_token token) s.tokens ≡ Some p
-    → ((q : List ℕ × StackState) → In q x.stacks → q.0 ≢ name → find (has_token token) (q.1).tokens ≡ None) → first_again token x.stacks ≡ Some (lease_for s.operation p)
-repeats_as x token name s p stands found others = again_found token name s p x.stacks stands found others
 
 pub repeat_going : (x : World) → AllFit x → (name : List ℕ) (s : StackState) (p : Pending) → stack_at name x ≡ Some s → is_in_progress s.status ≡ true → In p s.tokens → IsGoing x (lease_for s.operation p)
 repeat_going x fit name s p stands working i =
@@ -316,58 +237,32 @@ repeat_going x fit name s p stands working i =
 -- a call that goes out as it is written down
 pub intent_going : (schemas : List Schema) (x : World) (out : List ℕ) → AreApart x → (number token : ℕ) (lane path : List ℕ) (r : Request) → MayFollow schemas x out (entry.Intent number token lane path r) → AllFit x
     → AllFit (world_after x (entry.Intent number token lane path r)) → IsGoing (world_after x (entry.Intent number token lane path r)) (record { number = number; token = token; lane = lane; request = r; reply = None })
-intent_going schemas x out apart number token lane path r may fit fits = done where
-  name : List ℕ
-  name = may.0
+intent_going schemas x out apart number token lane path r (name, s, stage, at, is, may) fit fits =
+    let p : Pending = record { token = token; path = path; lane = lane; request = r } in
+    let s' : StackState = (effect_at (x.place + 1) (entry.Intent number token lane path r) s).stack in
+    let sent : Sends p s s' = sends (x.place + 1) number p s (none (find (has_token token) s.tokens) refl) in
+    let there_after : stack_at name (world_after x (entry.Intent number token lane path r)) ≡ Some s' =
+    ap (value_at name) (after_stacks x (entry.Intent number token lane path r) refl) ∙ ap (λ o. value_at name (put_by x (entry.Intent number token lane path r) o)) at
+    ∙ put_here name (effect_at (x.place + 1) (entry.Intent number token lane path r) s).stack x.stacks in
+    let row : (c : Call) × (call_of token s' ≡ Some c) × IsRowOf p c = (fits name s' there_after).rows p (subst (In p) (sym sent.tokens) (in_end p s.tokens)) in
+    let done : IsGoing (world_after x (entry.Intent number token lane path r)) (record { number = number; token = token; lane = lane; request = r; reply = None }) = record {
+      name = name;
+      stack = s';
+      call = row.0;
+      stands = there_after;
+      in_progress = ap is_in_progress sent.status ∙ is_working number x name s at;
+      number = intended_way (λ (u : StackState). u.operation ≡ s.operation) s refl number p refl ∙ number_of schemas x out apart number name s at;
+      written = row.1;
+      lane = (row.2).lane;
+    } in
+    done
+  where
+    stands : stack_at name x ≡ Some s
+    stands = found_stands (λ (q : List ℕ × StackState). is_going number q.1) x.stacks (name, s) apart.names at
 
-  s : StackState
-  s = may.1
-
-  at : stack_of_operation number x ≡ Some (may.0, may.1)
-  at = may.3
-
-  e : Entry
-  e = entry.Intent number token lane path r
-
-  p : Pending
-  p = record { token = token; path = path; lane = lane; request = r }
-
-  s' : StackState
-  s' = (effect_at (x.place + 1) (entry.Intent number token lane path r) s).stack
-
-  stands : stack_at name x ≡ Some s
-  stands = found_stands (λ (q : List ℕ × StackState). is_going number q.1) x.stacks (name, s) apart.names at
-
-  none : (o : Option Pending) → find (has_token token) s.tokens ≡ o → o ≡ None
-  none None k = refl
-  none (Some q) k = let (i, m) = found_one (has_token token) s.tokens q k in absurd (none_open x x s s (fit name s stands) token (may.5).next q i (eqb-true token q.token m))
-
-  sent : Sends p s s'
-  sent = sends (x.place + 1) number p s (none (find (has_token token) s.tokens) refl)
-
-  there_after : stack_at name (world_after x (entry.Intent number token lane path r)) ≡ Some s'
-  there_after =
-      ap (value_at name) (after_stacks x (entry.Intent number token lane path r) refl) ∙ ap (λ o. value_at name (put_by x (entry.Intent number token lane path r) o)) at
-      ∙ put_here name (effect_at (x.place + 1) (entry.Intent number token lane path r) s).stack x.stacks
-
-  operation : (b : Bool) → (cond b s (record s { tokens = s.tokens ++ p ∷ []; ledger = s.ledger ++ new_call number s.status p ∷ [] })).operation ≡ s.operation
-  operation true = refl
-  operation false = refl
-
-  row : (c : Call) × (call_of token s' ≡ Some c) × IsRowOf p c
-  row = (fits name s' there_after).rows p (subst (In p) (sym sent.tokens) (in_end p s.tokens))
-
-  done : IsGoing (world_after x (entry.Intent number token lane path r)) (record { number = number; token = token; lane = lane; request = r; reply = None })
-  done = record {
-    name = name;
-    stack = s';
-    call = row.0;
-    stands = there_after;
-    in_progress = ap is_in_progress sent.status ∙ is_working number x name s at;
-    number = operation (list_any (has_token token) s.tokens) ∙ number_of schemas x out apart number name s at;
-    written = row.1;
-    lane = (row.2).lane;
-  }
+    none : (o : Option Pending) → find (has_token token) s.tokens ≡ o → o ≡ None
+    none None k = refl
+    none (Some q) k = let (i, m) = found_one (has_token token) s.tokens q k in absurd (none_open x x s s (fit name s stands) token may.next q i (eqb-true token q.token m))
 
 -- an entry that is no answer makes nothing new
 plain_new : (x : World) (e : Entry) → IsBegin e ⊎ IsChangeSet e ⊎ IsGranted e → IsNew x e × IsOfItsLane x e
@@ -432,17 +327,10 @@ module _ (schemas : List Schema) (es : List Entry) (lanes : List Lane) (leases :
     -- lanes change, or leases
     lanes_sound : (lanes' : List Lane) (leases' : List Lease) → Agree (account_of es x) (lanes_of lanes') (map lease_of leases') → ((m : List ℕ) → (lanes_of lanes').kind m ≡ (lanes_of lanes).kind m)
         → AreLanes lanes' → AreSchemas schemas lanes' → ((l : Lease) → In l leases' → IsGoing x l) → AreSound schemas es x lanes' leases'
-    lanes_sound lanes' leases' agrees kinds named described going = record {
-      agrees = agrees;
-      orderly = h.orderly;
-      fitted = h.fitted;
-      written = h.written;
-      origins = record { made = (h.origins).made; named = (h.origins).named; there = λ t c e. let (k, f) = (h.origins).there t c e in (k, kinds c.lane ∙ f) };
-      going = going;
-      legal = h.legal;
-      named = named;
-      described = described;
-    }
+    lanes_sound lanes' leases' agrees kinds named described going =
+        let origins : HaveOrigins es x lanes'
+        = record { made = h.origins.made; named = h.origins.named; there = λ t c e. let (k, f) = h.origins.there t c e in (k, kinds c.lane ∙ f) } in
+        assumption (agrees, origins, going, named, described, h)
 
     fewer_sound : (leases' : List Lease) → Agree (account_of es x) (lanes_of lanes) (map lease_of leases') → ((l : Lease) → In l leases' → IsGoing x l) → AreSound schemas es x lanes leases'
     fewer_sound leases' agrees going = lanes_sound lanes leases' agrees (λ m. refl) h.named h.described going
@@ -458,10 +346,14 @@ module _ (schemas : List Schema) (es : List Entry) (lanes : List Lane) (leases :
 
 -- a lease with its answer is of the same call
 replied_going : (x : World) (token : ℕ) (r : CallEnd) (l : Lease) → IsGoing x l → IsGoing x (replying token r l)
-replied_going x token r l g = by (token == l.token) where
-  by : (b : Bool) → IsGoing x (cond b (record l { reply = Some r }) l)
-  by true = record { name = g.name; stack = g.stack; call = g.call; stands = g.stands; in_progress = g.in_progress; number = g.number; written = g.written; lane = g.lane }
-  by false = g
+replied_going x token r l g = grind arith
+
+-- an answer is no opening
+pub outcome_new : (lease : Lease) (r : CallEnd) (e : Entry) → IsOutcomeOf lease r e → is_opening e ≡ false
+outcome_new lease (Answered (answer.Success id attrs) before after) e is = ap is_opening is
+outcome_new lease (Answered (answer.Failed c) before after) e is = ap is_opening is
+outcome_new lease (Answered answer.Fault before after) e is = ap is_opening is
+outcome_new lease r e is = absurd is
 
 module _ (schemas : List Schema) (life : Life) (steady : AreSteady (world_of life)) (h : IsSoundLife schemas life) where
   sound : IsSound life
@@ -471,32 +363,22 @@ module _ (schemas : List Schema) (life : Life) (steady : AreSteady (world_of lif
   none_going y l i = elim i [ ]
 
   opened_sound : (epoch : ℕ) (lanes : List (List ℕ × List ℕ)) (end : End) → MayHappen schemas life (Opened epoch lanes end) → IsSoundLife schemas (life_after life (Opened epoch lanes end))
-  opened_sound epoch lanes Whole may =
-      let g = opened_keeps schemas life epoch lanes Whole may sound in
-      entry_sound schemas life.entries life.lanes life.leases h steady [] (entry.Opened epoch lanes) may.1 (tt, tt) [] g.agrees g.orderly (none_going (world_after (world_of life) (entry.Opened epoch lanes)))
-  opened_sound epoch lanes BrokenWith may =
-      let g = opened_keeps schemas life epoch lanes BrokenWith may sound in
-      entry_sound schemas life.entries life.lanes life.leases h steady [] (entry.Opened epoch lanes) may.1 (tt, tt) [] g.agrees g.orderly (none_going (world_after (world_of life) (entry.Opened epoch lanes)))
   opened_sound epoch lanes BrokenWithout may =
       let g = opened_keeps schemas life epoch lanes BrokenWithout may sound in
       fewer_sound schemas life.entries life.lanes life.leases h [] g.agrees (none_going (world_of life))
+  opened_sound epoch lanes end may =
+      let g = opened_keeps schemas life epoch lanes end may sound in
+      entry_sound schemas life.entries life.lanes life.leases h steady [] (entry.Opened epoch lanes) may.1 (tt, tt) [] g.agrees g.orderly (none_going (world_after (world_of life) (entry.Opened epoch lanes)))
 
   -- an entry that hands out nothing, whole or broken
   by_end : (e : Entry) → AreSound schemas (life.entries ++ e ∷ []) (fold_of empty_world (life.entries ++ e ∷ [])) life.lanes life.leases → (end : End) → IsSoundLife schemas (appended end e life)
-  by_end e g Whole = g
-  by_end e g BrokenWith = g
   by_end e g BrokenWithout = h
+  by_end e g end = g
 
   set_sound : (e : Entry) (end : End) → MayHappen schemas life (ChangeSet e end) → IsSoundLife schemas (life_after life (ChangeSet e end))
   set_sound (entry.ChangeSet number n source rows outputs) end (closed, is, may) =
-      let g = plain_sound schemas life.entries life.lanes life.leases h steady (entry.ChangeSet number n source rows outputs) refl may (tt, tt) (set_holds schemas life.entries (world_of life) life.lanes life.leases h steady [] number n source rows outputs may) in
-      ended g end
-    where
-      ended : AreSound schemas (life.entries ++ entry.ChangeSet number n source rows outputs ∷ []) (fold_of empty_world (life.entries ++ entry.ChangeSet number n source rows outputs ∷ [])) life.lanes life.leases
-          → (end : End) → IsSoundLife schemas (life_after life (ChangeSet (entry.ChangeSet number n source rows outputs) end))
-      ended g Whole = g
-      ended g BrokenWith = g
-      ended g BrokenWithout = h
+      by_end (entry.ChangeSet number n source rows outputs) (plain_sound schemas life.entries life.lanes life.leases h steady (entry.ChangeSet number n source rows outputs) refl may (tt, tt)
+      (set_holds schemas life.entries (world_of life) life.lanes life.leases h steady [] number n source rows outputs may)) end
   set_sound e end may = absurd may.1
 
   begin_sound : (e : Entry) (end : End) → MayHappen schemas life (Begin e end) → IsSoundLife schemas (life_after life (Begin e end))
@@ -507,28 +389,23 @@ module _ (schemas : List Schema) (life : Life) (steady : AreSteady (world_of lif
   begin_sound e end may = absurd may.2
 
   intent_sound : (number token : ℕ) (lane path : List ℕ) (r : Request) (end : End) → MayHappen schemas life (Grant (entry.Intent number token lane path r) end) → IsSoundLife schemas (life_after life (Grant (entry.Intent number token lane path r) end))
-  intent_sound number token lane path r end (running, is, may) = ended end where
-    e : Entry
-    e = entry.Intent number token lane path r
-
-    own : NamesOwn (world_of life) number path r
-    own = names_own schemas life.entries life.lanes life.leases h steady (tokens_out life) number token lane path r may
-
-    going : (l : Lease) → In l life.leases → IsGoing (world_after (world_of life) (entry.Intent number token lane path r)) l
-    going = still_going schemas life.entries life.lanes life.leases h (entry.Intent number token lane path r) refl may
-
-    fits : AllFit (world_after (world_of life) (entry.Intent number token lane path r))
-    fits = fits_kept schemas (world_of life) (tokens_out life) (entry.Intent number token lane path r) may tt tt (h.orderly).apart steady h.fitted
-
-    ended : (end : End) → IsSoundLife schemas (life_after life (Grant (entry.Intent number token lane path r) end))
-    ended Whole =
-        let g = intent_keeps_in schemas life number token lane path r Whole own (running, is, may) sound in
-        entry_sound schemas life.entries life.lanes life.leases h steady (tokens_out life) (entry.Intent number token lane path r) may (tt, tt) _ g.agrees g.orderly
-        (in_more (IsGoing (world_after (world_of life) (entry.Intent number token lane path r))) _ life.leases going (intent_going schemas (world_of life) (tokens_out life) (h.orderly).apart number token lane path r may h.fitted fits))
-    ended BrokenWith =
-        let g = intent_keeps_in schemas life number token lane path r BrokenWith own (running, is, may) sound in
-        entry_sound schemas life.entries life.lanes life.leases h steady (tokens_out life) (entry.Intent number token lane path r) may (tt, tt) life.leases g.agrees g.orderly going
-    ended BrokenWithout = h
+  intent_sound number token lane path r end (running, is, may) =
+      let own : NamesOwn (world_of life) number path r =
+      names_own schemas life.entries life.lanes life.leases h steady (tokens_out life) number token lane path r may in
+      let going : (l : Lease) → In l life.leases → IsGoing (world_after (world_of life) (entry.Intent number token lane path r)) l =
+      still_going schemas life.entries life.lanes life.leases h (entry.Intent number token lane path r) refl may in
+      let fits : AllFit (world_after (world_of life) (entry.Intent number token lane path r)) =
+      fits_kept schemas (world_of life) (tokens_out life) (entry.Intent number token lane path r) may tt tt (h.orderly).apart steady h.fitted in
+      elim end as (λ d. IsSoundLife schemas (life_after life (Grant (entry.Intent number token lane path r) d))) [
+        | Whole ↦
+            let g = intent_keeps_in schemas life number token lane path r Whole own (running, is, may) sound in
+            entry_sound schemas life.entries life.lanes life.leases h steady (tokens_out life) (entry.Intent number token lane path r) may (tt, tt) _ g.agrees g.orderly
+            (in_more (IsGoing (world_after (world_of life) (entry.Intent number token lane path r))) _ life.leases going (intent_going schemas (world_of life) (tokens_out life) (h.orderly).apart number token lane path r may h.fitted fits))
+        | BrokenWith ↦
+            let g = intent_keeps_in schemas life number token lane path r BrokenWith own (running, is, may) sound in
+            entry_sound schemas life.entries life.lanes life.leases h steady (tokens_out life) (entry.Intent number token lane path r) may (tt, tt) life.leases g.agrees g.orderly going
+        | BrokenWithout ↦ h
+      ]
 
   -- an entry of the operation that tells no call
   granted_end : (e : Entry) → ((end : End) → life_after life (Grant e end) ≡ appended end e life) → AreSound schemas (life.entries ++ e ∷ []) (fold_of empty_world (life.entries ++ e ∷ [])) life.lanes life.leases
@@ -537,8 +414,7 @@ module _ (schemas : List Schema) (life : Life) (steady : AreSteady (world_of lif
 
   same_granted : (e : Entry) → (granted_by Whole e (appended Whole e life) ≡ appended Whole e life) → (end : End) → life_after life (Grant e end) ≡ appended end e life
   same_granted e k Whole = k
-  same_granted e k BrokenWith = refl
-  same_granted e k BrokenWithout = refl
+  same_granted e k _ = refl
 
   grant_sound : (e : Entry) (end : End) → MayHappen schemas life (Grant e end) → IsSoundLife schemas (life_after life (Grant e end))
   grant_sound (entry.Intent number token lane path r) end may = intent_sound number token lane path r end may
@@ -566,34 +442,21 @@ module _ (schemas : List Schema) (life : Life) (steady : AreSteady (world_of lif
   back_in : (token : ℕ) (l : Lease) → In l (filter (λ (z : Lease). not (token == z.token)) life.leases) → In l life.leases
   back_in token l i = (in_filter (λ (z : Lease). not (token == z.token)) life.leases l i).0
 
-  outcome_new : (lease : Lease) (r : CallEnd) (e : Entry) → IsOutcomeOf lease r e → is_opening e ≡ false
-  outcome_new lease (Answered (answer.Success id attrs) before after) e is = ap is_opening is
-  outcome_new lease (Answered (answer.Failed c) before after) e is = ap is_opening is
-  outcome_new lease (Answered answer.Fault before after) e is = ap is_opening is
-  outcome_new lease (Answered answer.NoMemory before after) e is = absurd is
-  outcome_new lease (Stale fence) e is = absurd is
-
   settle_sound : (token : ℕ) (e : Entry) (end : End) → MayHappen schemas life (Settle token e end) → IsSoundLife schemas (life_after life (Settle token e end))
-  settle_sound token e end (running, lease, r, found, replied, is, may) = ended end where
-    out : In lease life.leases
-    out = (found_one (λ (l : Lease). token == l.token) life.leases lease found).0
-
-    going : (l : Lease) → In l (filter (λ (z : Lease). not (token == z.token)) life.leases) → IsGoing (world_after (world_of life) e) l
-    going l i = still_going schemas life.entries life.lanes life.leases h e (outcome_new lease r e is) may l (back_in token l i)
-
-    new : IsNew (world_of life) e × IsOfItsLane (world_of life) e
-    new = settled_new schemas life.entries (world_of life) life.lanes life.leases h lease out e r replied is
-
-    ended : (end : End) → IsSoundLife schemas (life_after life (Settle token e end))
-    ended Whole =
-        let g = settle_keeps schemas life token e Whole (running, lease, r, found, replied, is, may) sound in
-        entry_sound schemas life.entries life.lanes life.leases h steady (tokens_out life) e may new _ g.agrees g.orderly going
-    ended BrokenWith =
-        let g = settle_keeps schemas life token e BrokenWith (running, lease, r, found, replied, is, may) sound in
-        entry_sound schemas life.entries life.lanes life.leases h steady (tokens_out life) e may new _ g.agrees g.orderly going
-    ended BrokenWithout =
-        let g = settle_keeps schemas life token e BrokenWithout (running, lease, r, found, replied, is, may) sound in
-        fewer_sound schemas life.entries life.lanes life.leases h _ g.agrees (λ l i. h.going l (back_in token l i))
+  settle_sound token e end (running, lease, r, found, replied, is, may) =
+      let out : In lease life.leases = (found_one (λ (l : Lease). token == l.token) life.leases lease found).0 in
+      let going : (l : Lease) → In l (filter (λ (z : Lease). not (token == z.token)) life.leases) → IsGoing (world_after (world_of life) e) l =
+      λ l i. still_going schemas life.entries life.lanes life.leases h e (outcome_new lease r e is) may l (back_in token l i) in
+      let new : IsNew (world_of life) e × IsOfItsLane (world_of life) e =
+      settled_new schemas life.entries (world_of life) life.lanes life.leases h lease out e r replied is in
+      elim end as (λ d. IsSoundLife schemas (life_after life (Settle token e d))) [
+        | BrokenWithout ↦
+            let g = settle_keeps schemas life token e BrokenWithout (running, lease, r, found, replied, is, may) sound in
+            fewer_sound schemas life.entries life.lanes life.leases h _ g.agrees (λ l i. h.going l (back_in token l i))
+        | end ↦
+            let g = settle_keeps schemas life token e end (running, lease, r, found, replied, is, may) sound in
+            entry_sound schemas life.entries life.lanes life.leases h steady (tokens_out life) e may new _ g.agrees g.orderly going
+      ]
 
   -- a call that is made again
   repeat_sound : (token : ℕ) → MayHappen schemas life (Repeat token) → IsSoundLife schemas (life_after life (Repeat token))
@@ -605,7 +468,7 @@ module _ (schemas : List Schema) (life : Life) (steady : AreSteady (world_of lif
       let others : (q : List ℕ × StackState) → In q (world_of life).stacks → q.0 ≢ name → find (has_token token) (q.1).tokens ≡ None =
       λ q i n. ((h.orderly).own).tokens (name, s) q token p (stands_in name s (world_of life).stacks m.stands) i (λ e. n (sym e)) found in
       let again : first_again token (world_of life).stacks ≡ Some (lease_for s.operation p) =
-      repeats_as (world_of life) token name s p m.stands found others in
+      repeats_as token name s p (world_of life).stacks m.stands found others in
       ended (first_again token (world_of life).stacks) again (repeat_keeps schemas life token (running, name, s, stage, p, m) sound).agrees
     where
       open_ : In p s.tokens
@@ -647,11 +510,10 @@ module _ (schemas : List Schema) (life : Life) (steady : AreSteady (world_of lif
       fewer_sound schemas life.entries life.lanes life.leases h (filter (λ (l : Lease). not (token == l.token)) life.leases) (lanes_keep schemas life (Park token) tt may h.agrees) (λ l i. h.going l (back_in token l i))
   event_sound (Raise n a true before counted) may =
       changed_sound n (λ l. raised_to l (world_of life).epoch) life.leases (lanes_keep schemas life (Raise n a true before counted) tt may h.agrees) h.going
-  event_sound (Raise n a false before counted) may = h
   event_sound (Act token r left) may = act_sound token r left may
   event_sound (Late n place s) may = changed_sound n (late_by place s) life.leases (lanes_keep schemas life (Late n place s) tt may h.agrees) h.going
-  event_sound Close may = h
   event_sound Crash may = fewer_sound schemas life.entries life.lanes life.leases h [] (lanes_keep schemas life Crash tt may h.agrees) (none_going (world_of life))
+  event_sound _ may = h
 
   -- what an event appends makes nothing that is not new
   appended_new : (ev : Event) (e : Entry) (out : List ℕ) → Appends life ev e out → MayHappen schemas life ev → MayFollow schemas (world_of life) out e × (IsNew (world_of life) e × IsOfItsLane (world_of life) e)

@@ -1,3 +1,5 @@
+pub mod Words
+pub mod Lemmas
 pub mod TidyLists
 pub mod TidyLedger
 pub mod TidySteps
@@ -22,36 +24,24 @@ pub mod BackAnswered
 pub mod BackEnds
 pub mod BackLaws
 pub mod BackSkips
-pub mod BlameLast
-pub mod BlameMoves
-pub mod BlameThings
-pub mod BlameHeard
-pub mod BlameIntent
 pub mod FitKept
 pub mod Entries
 pub mod Outcomes
 pub mod Moving
 pub mod WholeKept
-pub mod BlameOutcome
-pub mod BlameRank
-pub mod BlameTurns
 pub mod BlameStays
 pub mod RowsWritten
 pub mod Settling
 pub mod GoingBack
-pub mod GoingGone
-pub mod BlameFails
 pub mod BlameFailed
 pub mod BeginEvents
 pub mod Always
 pub mod KeepSound
-pub mod GoingDone
 pub mod GoingKnown
 mod MoreApart
 mod MoreLives
 mod MoreStacks
 mod OneThread
-pub mod GoingFails
 pub mod GoingForward
 pub mod GoingOn
 pub mod GoingTold

@@ -1,27 +1,16 @@
 -- What is left over of two stacks has no known id in common.
 use Rattle.std.proofs.Common.{◌≡◌, ◌≢◌, ℕ, List, ◌&&◌, not, Bool, Option, true, false, Some, None, sym, ap, ◌∙◌, true≢false, refl}
-use Rattle.std.specs.List.{list_any}
-use Rattle.std.specs.Option.{unwrap_or}
-use Rattle.std.specs.Str.{bytes_eq}
-use Rattle.cf_effect.specs.Words.{unknown_id}
-use Rattle.cf_effect.specs.declared.held.Held.{Held}
-use Rattle.cf_effect.specs.declared.held.Leftover.{Leftover}
-use Rattle.cf_effect.specs.Fold.{world_after}
-use Rattle.cf_effect.specs.World.{StackState, World, known_stack, no_stack, stack_at}
-use Rattle.cf_entry.specs.declared.entry.Entry.{Entry}
-use Rattle.cf_schema.specs.declared.described.Schema.{Schema}
+use Rattle.std.specs.{List.list_any, Option.unwrap_or, Str.bytes_eq}
+use Rattle.cf_effect.specs.{Words.unknown_id, World.StackState, World.World, World.known_stack, World.no_stack, World.stack_at}
+use Rattle.cf_effect.specs.{Fold.world_after, declared.held.Held.Held, declared.held.Leftover.Leftover}
 use Rattle.cf_plan.specs.Forward.{In}
 use Rattle.cf_plan.proofs.RunLists.{any_of}
 use Rattle.cf_agree.specs.Account.Role.{Stranger}
 use Rattle.cf_agree.proofs.Words.{same_bytes}
-use Rattle.cf_core.specs.AccountOf.{has_leftover, held_in, role_found, role_on}
-use Rattle.cf_core.specs.Fits.{IsWritten}
-use Rattle.cf_core.specs.More.{LeavesApart, LeavesApartStays, has_known_id}
-use Rattle.cf_core.specs.OneStack.{AreOwn}
-use Rattle.cf_core.proofs.KeepSound.{stands_in}
+use Rattle.cf_core.specs.{AccountOf.has_leftover, AccountOf.held_in, AccountOf.role_found, AccountOf.role_on, OneStack.AreOwn}
+use Rattle.cf_core.specs.{Fits.IsWritten, More.LeavesApart, More.LeavesApartStays, More.has_known_id}
+use Rattle.cf_core.proofs.{Entries.blank_role, Entries.held_role, KeepSound.stands_in, Written.written_is_to}
 use Rattle.cf_core.proofs.MoreStacks.{FromLeft, was, of_held, unknown, from_left, left_move}
-use Rattle.cf_core.proofs.Entries.{blank_role, held_role}
-use Rattle.cf_core.proofs.Written.{written_is_to}
 
 stranger_left : (name : List ℕ) (o : Option Held) (b : Bool) → role_found name o b ≡ Stranger → b ≡ false
 stranger_left name None true e = let no : ⊥ = cc in absurd no

@@ -1,38 +1,26 @@
 -- In a life no two calls that are out are of one token, and no lane settles a token twice.
 use Rattle.std.proofs.Common.{◌≡◌, inl, inr, ℕ, ◌+◌, ◌≤◌, ◌==◌, List, [], ◌∷◌, ◌++◌, Bool, true, false, not, Option, Some, None, map, filter, find, refl, sym, ap, subst, ◌∙◌, true≢false, cond, arith}
-use Rattle.std.specs.Option.{option_map, option_or}
-use Rattle.std.specs.Str.{bytes_eq}
+use Rattle.std.specs.{Option.option_map, Option.option_or, Str.bytes_eq}
 use Rattle.std.proofs.lemmas.Bool.{eq-eqb, eqb-true, ne_eqb}
-use Rattle.cf_tree.specs.Named.{all_differ}
-use Rattle.cf_tree.specs.declared.request.Request.{Request}
-use Rattle.cf_tree.specs.declared.request.Answer.{Answer}
+use Rattle.cf_tree.specs.{Named.all_differ, declared.request.Answer.Answer, declared.request.Request.Request}
 use Rattle.cf_tree.specs.declared.request.Answer.TheVariants as answer
-use Rattle.cf_handler.specs.declared.settled.Settlement.{Settlement}
+use Rattle.cf_handler.specs.declared.{settled.Settled.Settled, settled.Settlement.Settlement}
 use Rattle.cf_handler.specs.declared.settled.Settlement.TheVariants as settlement
-use Rattle.cf_handler.specs.declared.settled.Settled.{Settled}
 use Rattle.cf_handler.specs.Fence.{CallMove, FencedLane, Flying, LateMove, Left, late_by, left_by, raised_to, settled_late}
-use Rattle.cf_handler.specs.Lane.{LaneState, settlement_of}
-use Rattle.cf_handler.specs.Move.{LaneMove, SettlesBy}
+use Rattle.cf_handler.specs.{Lane.LaneState, Lane.settlement_of, Move.LaneMove, Move.SettlesBy}
 use Rattle.cf_entry.specs.declared.entry.Entry.{Entry}
 use Rattle.cf_entry.specs.declared.entry.Entry.TheVariants as entry
 use Rattle.cf_schema.specs.declared.described.Schema.{Schema}
 use Rattle.cf_effect.specs.declared.held.Pending.{Pending}
-use Rattle.cf_effect.specs.Calls.{is_call}
-use Rattle.cf_effect.specs.Words.{has_token}
-use Rattle.cf_plan.specs.Follow.{is_in_flight}
-use Rattle.cf_plan.specs.Forward.{In, here, there}
-use Rattle.cf_plan.specs.Lanes.{Lane, lane_at}
-use Rattle.cf_plan.specs.Life.{Answered, CallEnd, End, Event, Lease, Life, BrokenWith, BrokenWithout, MayHappen, MayLeave, Stale, Whole, acted, appended, changed, first_again, granted, lease_at, lease_for, life_after, repeated, replied_to, replying, tokens_out, with_lease, world_of}
+use Rattle.cf_effect.specs.{Calls.is_call, Words.has_token}
+use Rattle.cf_plan.specs.{Follow.is_in_flight, Forward.In, Forward.here, Forward.there, Lanes.Lane, Lanes.lane_at}
+use Rattle.cf_plan.specs.Life.{Answered, CallEnd, End, Event, Lease, Life, MayHappen, MayLeave, Stale, Whole, acted, appended, changed, first_again, granted, lease_at, lease_for, life_after, repeated, replied_to, replying, tokens_out, with_lease, world_of}
 use Rattle.cf_plan.specs.Life as life
-use Rattle.cf_plan.proofs.CreatedEnd.{in_changed}
-use Rattle.cf_plan.proofs.CreatedStays.{found_one}
-use Rattle.cf_plan.proofs.RunLists.{any_of}
+use Rattle.cf_plan.proofs.{CreatedEnd.in_changed, CreatedStays.found_one, RunLists.any_of}
 use Rattle.cf_agree.proofs.Words.{bytes_same}
-use Rattle.cf_core.specs.AccountOf.{Named}
-use Rattle.cf_core.specs.More.{LeasesOnce, LeasesOnceStays, SettlesOnce, SettlesOnceStays, StartIsOnce}
+use Rattle.cf_core.specs.{AccountOf.Named, More.LeasesOnce, More.LeasesOnceStays, More.SettlesOnce, More.SettlesOnceStays, More.StartIsOnce}
 use Rattle.cf_core.specs.SoundLife.{IsSoundLife}
-use Rattle.cf_core.proofs.FitKept.{into_mapped, one_id}
-use Rattle.cf_core.proofs.Outcomes.{differ_end, differ_less, token_of}
+use Rattle.cf_core.proofs.{FitKept.into_mapped, FitKept.one_id, Outcomes.differ_end, Outcomes.differ_less, Outcomes.token_of}
 use Rattle.cf_core.proofs.Settling.{may_again}
 
 -- the lease of a call that goes out again is of its token
@@ -46,11 +34,7 @@ again_token token (s ∷ ss) l e = by (find (has_token token) (s.1).tokens) refl
 
 tokens_replied : (t : ℕ) (r : CallEnd) (ls : List Lease) → map (λ (l : Lease). l.token) (map (replying t r) ls) ≡ map (λ (l : Lease). l.token) ls
 tokens_replied t r [] = refl
-tokens_replied t r (l ∷ ls) = by (t == l.token) (tokens_replied t r ls) where
-  by : (b : Bool) → map (λ (z : Lease). z.token) (map (replying t r) ls) ≡ map (λ (z : Lease). z.token) ls
-      → (cond b (record l { reply = Some r }) l).token ∷ map (λ (z : Lease). z.token) (map (replying t r) ls) ≡ l.token ∷ map (λ (z : Lease). z.token) ls
-  by true ih = ap (λ ns. l.token ∷ ns) ih
-  by false ih = ap (λ ns. l.token ∷ ns) ih
+tokens_replied t r (l ∷ ls) = grind (arith, tokens_replied t r ls)
 
 abbrev differ : {A : Type 0} → (A → ℕ) → List A → Bool
 differ f xs = all_differ ◌==◌ (map f xs)
@@ -58,8 +42,7 @@ differ f xs = all_differ ◌==◌ (map f xs)
 -- an append changes neither lanes nor leases
 appended_same : (end : End) (e : Entry) (m : Life) → ((appended end e m).leases ≡ m.leases) × ((appended end e m).lanes ≡ m.lanes)
 appended_same Whole e m = (refl, refl)
-appended_same BrokenWith e m = (refl, refl)
-appended_same BrokenWithout e m = (refl, refl)
+appended_same _ e m = (refl, refl)
 
 above : (a n : ℕ) → a ≤ n → a ≡ n + 1 → ⊥
 above a n h e = omega arith
@@ -83,18 +66,14 @@ module _ (schemas : List Schema) (l : Life) (h : IsSoundLife schemas l) (once : 
       let (n, s, stage, found, at, m) = may in
       one_more (record { number = number; token = token; lane = lane; request = r; reply = None })
       (λ k i same. above k.token (world_of l).token (below k i) (same ∙ m.next))
-  grants Whole e may = once
-  grants BrokenWith e may = once
-  grants BrokenWithout e may = once
+  grants end e may = once
 
   repeats : (token : ℕ) → MayHappen schemas l (life.Repeat token) → (o : Option Lease) → first_again token (world_of l).stacks ≡ o → LeasesOnce (repeated o l)
   repeats token may None e = once
-  repeats token (running, name, s, stage, p, m) (Some lease) e = one_more lease (λ k i same. true≢false (sym (out k i (sym (again_token token (world_of l).stacks lease e) ∙ sym same)) ∙ home)) where
-    home : is_in_flight (tokens_out l) token ≡ false
-    home = ap (is_in_flight (tokens_out l)) (sym m.of_token) ∙ (may_again schemas name (world_of l) (tokens_out l) s stage p m.may).1
-
-    out : (k : Lease) → In k l.leases → token ≡ k.token → is_in_flight (tokens_out l) token ≡ true
-    out k i same = any_of (λ t. token == t) (tokens_out l) k.token (into_mapped (λ (z : Lease). z.token) l.leases k i) (eq-eqb token k.token same)
+  repeats token (running, name, s, stage, p, m) (Some lease) e =
+      let home : is_in_flight (tokens_out l) token ≡ false = ap (is_in_flight (tokens_out l)) (sym m.of_token) ∙ (may_again schemas name (world_of l) (tokens_out l) s stage p m.may).1 in
+      let out : (k : Lease) → In k l.leases → token ≡ k.token → is_in_flight (tokens_out l) token ≡ true = λ k i same. any_of (λ t. token == t) (tokens_out l) k.token (into_mapped (λ (z : Lease). z.token) l.leases k i) (eq-eqb token k.token same) in
+      one_more lease (λ k i same. true≢false (sym (out k i (sym (again_token token (world_of l).stacks lease e) ∙ sym same)) ∙ home))
 
   leases_after : (ev : Event) → MayHappen schemas l ev → LeasesOnce (life_after l ev)
   leases_after (life.Opened epoch lanes end) may =
@@ -109,14 +88,10 @@ module _ (schemas : List Schema) (l : Life) (h : IsSoundLife schemas l) (once : 
     by : (o : Option Lease) → LeasesOnce (replied_to token reply (acted left o l))
     by None = ap (all_differ ◌==◌) (tokens_replied token reply l.leases) ∙ once
     by (Some k) = ap (all_differ ◌==◌) (tokens_replied token reply l.leases) ∙ once
-  leases_after (life.Raise name a moved before counted) may = by moved where
-    by : (b : Bool) → LeasesOnce (life_after l (life.Raise name a b before counted))
-    by true = once
-    by false = once
+  leases_after (life.Raise name a moved before counted) may = grind arith
   leases_after (life.Park token) may = less token
-  leases_after (life.Late name place s) may = once
-  leases_after life.Close may = once
   leases_after life.Crash may = refl
+  leases_after _ may = once
 
 pub leases_once_stays : LeasesOnceStays
 leases_once_stays schemas l ev may h once = leases_after schemas l h once ev may
@@ -127,14 +102,8 @@ Once a = all_differ ◌==◌ (map (λ (s : Settled). s.token) a.settled) ≡ tru
 
 not_settled : (t : ℕ) (ss : List Settled) → settlement_of t ss ≡ None → (s : Settled) → In s ss → (s.token == t) ≡ false
 not_settled t [] e s i = elim i [ ]
-not_settled t (q ∷ ss) e _ here = ne_eqb q.token t (λ same. by (t == q.token) (eq-eqb t q.token (sym same)) e) where
-  by : (b : Bool) → b ≡ true → cond b (Some q.settlement) (settlement_of t ss) ≡ None → ⊥
-  by true k f = cc
-  by false k f = true≢false (sym k)
-not_settled t (q ∷ ss) e s (there i) = by (t == q.token) e (not_settled t ss) where
-  by : (b : Bool) → cond b (Some q.settlement) (settlement_of t ss) ≡ None → (settlement_of t ss ≡ None → (z : Settled) → In z ss → (z.token == t) ≡ false) → (s.token == t) ≡ false
-  by true f ih = let no : ⊥ = cc in absurd no
-  by false f ih = ih f s i
+not_settled t (q ∷ ss) e _ here = grind arith
+not_settled t (q ∷ ss) e s (there i) = grind (arith, not_settled t ss)
 
 settles_new : (a : LaneState) (s : Settled) → Once a → settlement_of s.token a.settled ≡ None → all_differ ◌==◌ (map (λ (z : Settled). z.token) (a.settled ++ s ∷ [])) ≡ true
 settles_new a s once none = differ_end ◌==◌ (λ (z : Settled). z.token) a.settled s (not_settled s.token a.settled none) once
@@ -200,17 +169,9 @@ module _ (schemas : List Schema) (l : Life) (h : IsSoundLife schemas l) (once : 
       same_lanes (appended_same end (entry.Opened epoch lanes) (record l { leases = []; is_open = true; has_granted = false; is_stopped = false })).1
   settles_after (life.ChangeSet e end) may = same_lanes (appended_same end e l).1
   settles_after (life.Begin e end) may = same_lanes (appended_same end e l).1
-  settles_after (life.Grant e end) may = by end e where
-    by : (end : End) (e : Entry) → SettlesOnce (granted end e (appended end e l))
-    by Whole (entry.Intent number token lane path r) = once
-    by Whole e = once
-    by BrokenWith e = once
-    by BrokenWithout e = once
+  settles_after (life.Grant e end) may = grind arith
   settles_after (life.Settle token e end) may = same_lanes (appended_same end e l).1
-  settles_after (life.Repeat token) may = by (first_again token (world_of l).stacks) where
-    by : (o : Option Lease) → SettlesOnce (repeated o l)
-    by None = once
-    by (Some k) = once
+  settles_after (life.Repeat token) may = grind arith
   settles_after (life.Act token reply left) may = acts token reply left may
   settles_after (life.Raise name a moved before counted) may = by moved where
     by : (b : Bool) → SettlesOnce (life_after l (life.Raise name a b before counted))

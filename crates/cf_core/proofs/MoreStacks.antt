@@ -1,50 +1,29 @@
 -- What completed is what was begun, what was given up is listed, and nothing is left over twice.
-use Rattle.std.proofs.Common.{◌≡◌, ◌⊎◌, inl, inr, ℕ, ◌+◌, List, [], ◌∷◌, ◌++◌, Option, Bool, true, false, not, ◌&&◌, Some, None, refl, sym, ap, subst, ◌∙◌, true≢false, map, filter, cond}
-use Rattle.std.specs.Cmp.{second_so}
-use Rattle.std.specs.List.{list_any}
-use Rattle.std.specs.Str.{bytes_eq}
-use Rattle.std.proofs.lemmas.List.Elements.{filter-append}
-use Rattle.std.proofs.lemmas.List.{append-nil}
+use Rattle.std.proofs.Common.{arith, ◌≡◌, ◌⊎◌, inl, inr, ℕ, ◌+◌, List, [], ◌∷◌, ◌++◌, Option, Bool, true, false, not, ◌&&◌, Some, None, refl, sym, ap, subst, ◌∙◌, true≢false, map, filter, cond}
+use Rattle.std.specs.{Cmp.second_so, List.list_any, Str.bytes_eq}
+use Rattle.std.proofs.lemmas.{List.Elements.filter-append, List.append-nil}
 use Rattle.cf_tree.specs.Named.{all_differ}
-use Rattle.cf_entry.specs.declared.entry.Entry.{Entry}
+use Rattle.cf_entry.specs.declared.{entry.Begun.Begun, entry.Entry.Entry, entry.Reply.Reply, status.Status.Status, turn.Phase.Phase}
 use Rattle.cf_entry.specs.declared.entry.Entry.TheVariants as entry
-use Rattle.cf_entry.specs.declared.entry.Begun.{Begun}
 use Rattle.cf_entry.specs.declared.entry.Begun.TheVariants as begin
-use Rattle.cf_entry.specs.declared.entry.Reply.{Reply}
-use Rattle.cf_entry.specs.declared.status.Status.{Status}
 use Rattle.cf_entry.specs.declared.status.Status.TheVariants as status
-use Rattle.cf_entry.specs.declared.turn.Phase.{Phase}
 use Rattle.cf_entry.specs.declared.turn.Phase.TheVariants as phase
 use Rattle.cf_entry.specs.declared.turn.Why.{Why}
 use Rattle.cf_schema.specs.declared.described.Schema.{Schema}
-use Rattle.cf_effect.specs.declared.held.GivenUp.{GivenUp}
-use Rattle.cf_effect.specs.declared.held.Leftover.{Leftover}
-use Rattle.cf_effect.specs.declared.held.Pending.{Pending}
+use Rattle.cf_effect.specs.declared.{held.GivenUp.GivenUp, held.Held.Held, held.Leftover.Leftover, held.Pending.Pending}
 use Rattle.cf_effect.specs.World.{StackState, World}
-use Rattle.cf_effect.specs.Words.{has_physical, has_token, is_create_at, is_created, pending_of, resources_of, unknown_id}
-use Rattle.cf_effect.specs.Begin.{given_up, lost_create, skipped_creates}
-use Rattle.cf_effect.specs.Calls.{is_restore, new_call}
-use Rattle.cf_effect.specs.End.{ended_effect, turned_effect}
-use Rattle.cf_effect.specs.Fold.{effect_of}
+use Rattle.cf_effect.specs.Words.{has_physical, is_create_at, is_created, pending_of, resources_of, unknown_id}
+use Rattle.cf_effect.specs.{Begin.given_up, Begin.lost_create, Begin.skipped_creates, Calls.is_restore, Fold.effect_of}
+use Rattle.cf_effect.specs.{End.ended_effect, End.turned_effect, Status.Stage, Status.begun, Status.reviewed as reviewed_as, Status.turned}
 use Rattle.cf_effect.specs.Reply.{intending, keeping, keeping_known, keeping_unknown, replied, replying}
-use Rattle.cf_effect.specs.Status.{Stage, begun, reviewed as reviewed_as, turned}
-use Rattle.cf_plan.specs.Follow.{EndsAs, MayFollowIn}
-use Rattle.cf_plan.specs.Forward.{In, here, there}
-use Rattle.cf_plan.proofs.BlameMade.{answered_left}
-use Rattle.cf_plan.proofs.CreatedEnd.{in_changed}
-use Rattle.cf_plan.proofs.CreatedRight.{in_filter}
-use Rattle.cf_plan.proofs.Members.{in_any}
-use Rattle.cf_plan.proofs.RunLists.{any_of, in_back, in_either, in_front, in_one}
+use Rattle.cf_plan.specs.{Follow.EndsAs, Follow.MayFollowIn, Forward.In, Forward.here, Forward.there}
+use Rattle.cf_plan.proofs.{BlameMade.answered_left, CreatedRight.in_filter, Members.in_any}
+use Rattle.cf_plan.proofs.{CreatedEnd.in_changed, RunLists.any_of, RunLists.in_back, RunLists.in_either, RunLists.in_front, RunLists.in_one}
 use Rattle.cf_agree.proofs.Words.{bytes_same, same_bytes}
-use Rattle.cf_core.specs.AccountOf.{held_in}
-use Rattle.cf_effect.specs.declared.held.Held.{Held}
+use Rattle.cf_core.specs.{AccountOf.held_in, Written.IsTo, Written.begins, Written.opened, Written.other, Written.reviewed, Written.step}
 use Rattle.cf_core.specs.More.{CompletesBegun, CompletesBegunStays, LeavesOnce, LeavesOnceStays, ListsGivenUp, ListsGivenUpStays, has_completed, has_known_id}
 use Rattle.cf_core.specs.OneStack.{IsOnce}
-use Rattle.cf_core.specs.Written.{IsTo, step, begins, reviewed, opened, other}
-use Rattle.cf_core.proofs.FitKept.{into_mapped}
-use Rattle.cf_core.proofs.BeginEvents.{held_of}
-use Rattle.cf_core.proofs.Outcomes.{differ_end}
-use Rattle.cf_core.proofs.Written.{written_is_to}
+use Rattle.cf_core.proofs.{BeginEvents.held_of, FitKept.into_mapped, Outcomes.differ_end, Written.written_is_to}
 
 -- What an entry leaves of the lists of what is left over and given up: nothing changes, a resource of the stack is left over, or creates
 -- are given up, each of which is left over under no known id.
@@ -67,10 +46,7 @@ module _ (s : StackState) where
   LeftBy t = LeftMove s t.leftovers t.abandoned
 
   intended : (number : ℕ) (p : Pending) → IsRest s (intending number p s) × LeftBy (intending number p s)
-  intended number p = by (list_any (has_token p.token) s.tokens) where
-    by : (b : Bool) → (let t = cond b s (record s { tokens = s.tokens ++ p ∷ []; ledger = s.ledger ++ new_call number s.status p ∷ [] }) in IsRest s t × LeftBy t)
-    by true = (record { status = refl; source = refl; going = refl }, same refl refl)
-    by false = (record { status = refl; source = refl; going = refl }, same refl refl)
+  intended number p = grind arith
 
   replied_rest : (token : ℕ) (a : Reply) (o : Option Pending) → IsRest s (replied token a o s) × LeftBy (replied token a o s)
   replied_rest token a None = (record { status = refl; source = refl; going = refl }, same refl refl)
@@ -98,35 +74,27 @@ module _ (s : StackState) where
 
   turned_left : (p : Phase) → LeftBy (turned_effect p s).stack
   turned_left phase.Clean = same refl refl
-  turned_left phase.Back = same refl refl
-  turned_left phase.BackClean = same refl refl
+  turned_left _ = same refl refl
 
   ended_left : (state : Status) → LeftBy (ended_effect state s).stack
   ended_left status.CreateComplete = same refl refl
-  ended_left status.RollbackFailed = same refl refl
-  ended_left status.UpdateRollbackComplete = same refl refl
-  ended_left status.RollbackComplete = same refl refl
-  ended_left status.DeleteComplete = same refl refl
   ended_left state = same refl refl
 
   begun_left : (number : ℕ) (name : List ℕ) (k : Begun) → LeftBy (effect_of (entry.Begin number name k) s).stack
-  begun_left number name (begin.Create source) = same refl refl
-  begun_left number name (begin.Update source) = same refl refl
-  begun_left number name (begin.Delete paths) = same refl refl
   begun_left number name (begin.Continue paths) =
       let ps = skipped_creates paths s.tokens in
       lost (map lost_create ps) ps refl refl (λ p i. (lost_create p, into_mapped lost_create ps p i, refl, refl))
       (λ l i. ap (λ (z : Leftover). z.physical) (sym (in_changed lost_create ps l i).same))
+  begun_left number name _ = same refl refl
 
   entry_left : (e : Entry) → LeftBy (effect_of e s).stack
-  entry_left (entry.Opened epoch lanes) = same refl refl
   entry_left (entry.Begin number n k) = begun_left number n k
   entry_left (entry.Kept number path physical w) = (kept path physical w).1
   entry_left (entry.Intent number token lane path r) = (intended number (record { token = token; path = path; lane = lane; request = r })).1
   entry_left (entry.Outcome number token a before after) = (replied_rest token a (pending_of token s)).1
   entry_left (entry.Phase number p c) = turned_left p
   entry_left (entry.Done number state failed) = ended_left state
-  entry_left (entry.ChangeSet number n source rows outputs) = same refl refl
+  entry_left _ = same refl refl
 
   module _ {schemas : List Schema} {x : World} {out name : List ℕ} where
     pub left_move : {e : Entry} {t : StackState} → IsTo schemas x out name s e t → LeftBy t
@@ -235,9 +203,7 @@ module _ (schemas : List Schema) (x : World) (out name : List ℕ) (s : StackSta
 
   begun_completes : (number : ℕ) (k : Begun) → CompletesBegun (effect_of (entry.Begin number name k) s).stack
   begun_completes number (begin.Create source) e = absurd (true≢false (sym e))
-  begun_completes number (begin.Update source) e = absurd (true≢false (sym e))
-  begun_completes number (begin.Delete paths) e = absurd (true≢false (sym e))
-  begun_completes number (begin.Continue paths) e = absurd (true≢false (sym e))
+  begun_completes number _ e = absurd (true≢false (sym e))
 
   reviewed_completes : (a : Status) → has_completed (reviewed_as a) ≡ true → has_completed a ≡ true
   reviewed_completes status.DeleteComplete e = e

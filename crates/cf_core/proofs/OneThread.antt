@@ -1,13 +1,11 @@
 -- What one thread does keeps the promises, and leaves no call out.
-use Rattle.std.proofs.Common.{◌≡◌, ◌⊎◌, inl, inr, ℕ, ◌==◌, true, false, Bool, not, List, [], ◌∷◌, ◌++◌, Option, Some, None, refl, sym, ap, subst, ◌∙◌, true≢false, filter, map, find}
-use Rattle.std.specs.Prelude.{cond}
+use Rattle.std.proofs.Common.{arith, ◌≡◌, ◌⊎◌, inl, inr, ℕ, ◌==◌, false, Bool, not, List, [], ◌∷◌, ◌++◌, Option, Some, None, refl, sym, ap, subst, ◌∙◌, true≢false, filter, map, find}
 use Rattle.cf_entry.specs.declared.entry.Entry.{Entry}
 use Rattle.cf_entry.specs.declared.entry.Entry.TheVariants as entry
-use Rattle.cf_schema.specs.declared.described.Schema.{Schema}
 use Rattle.cf_handler.specs.Fence.{Left}
 use Rattle.cf_effect.specs.Fold.{is_intent}
-use Rattle.cf_plan.specs.Life.{CallEnd, IsLife, Lease, Life, Whole, acted, appended, first_again, granted, lease_at, repeated, replying, world_of}
-use Rattle.cf_core.specs.OneThread.{CutRunsKeepPromises, Deed, OneCallAtATime, RunsKeepPromises, calls, calls_again, events_of, events_of_run, writes}
+use Rattle.cf_plan.specs.Life.{CallEnd, Lease, Life, Whole, acted, appended, first_again, granted, lease_at, repeated, replying, world_of}
+use Rattle.cf_core.specs.OneThread.{CutRunsKeepPromises, OneCallAtATime, RunsKeepPromises, calls, calls_again, events_of_run, writes}
 use Rattle.cf_core.proofs.Always.{lives_keep_promises}
 
 pub runs_keep : RunsKeepPromises
@@ -23,23 +21,11 @@ AtMostOne ls = (ls ≡ []) ⊎ ((k : Lease) × (ls ≡ k ∷ []))
 -- an entry that is no intent hands out nothing; any one hands out a call at most
 quiet : (e : Entry) (l : Life) → is_intent e ≡ false → (granted Whole e l).leases ≡ l.leases
 quiet (entry.Intent number token lane path r) l n = absurd (true≢false n)
-quiet (entry.Opened epoch lanes) l n = refl
-quiet (entry.Begin number stack k) l n = refl
-quiet (entry.Kept number path physical w) l n = refl
-quiet (entry.Outcome number token a before after) l n = refl
-quiet (entry.Phase number p c) l n = refl
-quiet (entry.Done number state failed) l n = refl
-quiet (entry.ChangeSet number stack source rows outputs) l n = refl
+quiet e l n = refl
 
 one_granted : (e : Entry) (l : Life) → l.leases ≡ [] → AtMostOne (granted Whole e l).leases
 one_granted (entry.Intent number token lane path r) l none = inr (record { number = number; token = token; lane = lane; request = r; reply = None }, ap (λ (ls : List Lease). ls ++ record { number = number; token = token; lane = lane; request = r; reply = None } ∷ []) none)
-one_granted (entry.Opened epoch lanes) l none = inl none
-one_granted (entry.Begin number stack k) l none = inl none
-one_granted (entry.Kept number path physical w) l none = inl none
-one_granted (entry.Outcome number token a before after) l none = inl none
-one_granted (entry.Phase number p c) l none = inl none
-one_granted (entry.Done number state failed) l none = inl none
-one_granted (entry.ChangeSet number stack source rows outputs) l none = inl none
+one_granted e l none = inl none
 
 one_repeated : (o : Option Lease) (l : Life) → l.leases ≡ [] → AtMostOne (repeated o l).leases
 one_repeated None l none = inl none
@@ -50,26 +36,16 @@ acted_leases left None l = refl
 acted_leases left (Some k) l = refl
 
 replying_token : (token : ℕ) (reply : CallEnd) (l : Lease) → (replying token reply l).token ≡ l.token
-replying_token token reply l = by (token == l.token)
-  where
-    by : (b : Bool) → (cond b (record l { reply = Some reply }) l).token ≡ l.token
-    by true = refl
-    by false = refl
+replying_token token reply l = grind arith
 
 -- it is the one that is called and settled, and then it is back
 back : (token : ℕ) (reply : CallEnd) (ls : List Lease) (k : Lease) → AtMostOne ls → find (λ (l : Lease). token == l.token) ls ≡ Some k
     → filter (λ (l : Lease). not (token == l.token)) (map (replying token reply) ls) ≡ []
 back token reply ls k (inl none) found = let no : ⊥ = cc in absurd no
-back token reply ls k (inr (one, is_one)) found = subst (λ (ms : List Lease). filter (λ (l : Lease). not (token == l.token)) (map (replying token reply) ms) ≡ []) (sym is_one) (by (token == one.token) refl)
-  where
-    found_one : find (λ (l : Lease). token == l.token) (one ∷ []) ≡ Some k
-    found_one = subst (λ (ms : List Lease). find (λ (l : Lease). token == l.token) ms ≡ Some k) is_one found
-
-    by : (b : Bool) → (token == one.token) ≡ b → filter (λ (l : Lease). not (token == l.token)) (map (replying token reply) (one ∷ [])) ≡ []
-    by true same = ap (λ (b : Bool). cond (not b) (replying token reply one ∷ []) []) (ap (λ (n : ℕ). token == n) (replying_token token reply one) ∙ same)
-    by false differs =
-        let never : ◌≡◌ {A = Option Lease} None (Some k) = sym (ap (λ (b : Bool). cond b (Some one) None) differs) ∙ found_one in
-        let no : ⊥ = cc in absurd no
+back token reply ls k (inr (one, is_one)) found =
+    let found_one : find (λ (l : Lease). token == l.token) (one ∷ []) ≡ Some k = subst (λ (ms : List Lease). find (λ (l : Lease). token == l.token) ms ≡ Some k) is_one found in
+    let by : (b : Bool) → (token == one.token) ≡ b → filter (λ (l : Lease). not (token == l.token)) (map (replying token reply) (one ∷ [])) ≡ [] = λ b e. grind (arith, replying_token token reply one) in
+    subst (λ (ms : List Lease). filter (λ (l : Lease). not (token == l.token)) (map (replying token reply) ms) ≡ []) (sym is_one) (by (token == one.token) refl)
 
 -- a call that is out, or none, is made and settled
 settles : (token : ℕ) (reply : CallEnd) (left : Left) (o : Option Lease) (l : Life) (k : Lease) → AtMostOne l.leases → lease_at token l ≡ Some k

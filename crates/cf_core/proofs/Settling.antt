@@ -1,61 +1,39 @@
 -- An outcome that is written down keeps what holds at each moment of a life.
-use Rattle.cf_effect.specs.Calls.{is_restore}
+use Rattle.cf_effect.specs.{Calls.is_restore, World.StackState, World.World, World.empty_world, World.is_going, World.stack_of_operation}
 use Rattle.cf_core.proofs.FitKept.{find_mapped, left_by as answered_left, differ_left}
-use Rattle.cf_agree.proofs.Effects.{gone_names, set_names}
+use Rattle.cf_agree.proofs.{Effects.gone_names, Effects.set_names, Leases.leased_granted}
+use Rattle.cf_agree.proofs.Calls.{request_of}
 use Rattle.cf_agree.proofs.Keeps.{call_keeps, stale_keeps, late_keeps, fence_keeps, return_keeps, opening_keeps, intent_keeps, answer_keeps}
-use Rattle.cf_agree.proofs.Leases.{leased_granted}
-use Rattle.cf_agree.proofs.Words.{bytes_or, if_same, if_other, number_or, at_same, at_other, one_lane, same_bytes, bytes_same, in_cons}
+use Rattle.cf_agree.proofs.Words.{if_same, if_other, number_or, one_lane, same_bytes, bytes_same, in_cons}
 use Rattle.cf_agree.specs.Account.{Account, Thing, Open, intended, called, answered, Called}
-use Rattle.cf_agree.specs.Account.Role.{Resource}
-use Rattle.cf_agree.specs.Base.{In as InLane, here, there, lane_of, named_by}
-use Rattle.cf_agree.specs.Lanes.{Lanes, IsThere, Replaced, no_lane, entry_in}
-use Rattle.cf_agree.specs.Laws.{Agree, settlement_in}
-use Rattle.cf_agree.specs.Moves.{Lease, replying, replied, returned, MayIntend, granted, IsOut, AreLeased}
+use Rattle.cf_agree.specs.{Account.Role.Resource, Base.In as InLane, Base.here, Base.lane_of, Base.named_by, Base.there}
+use Rattle.cf_agree.specs.{Lanes.IsThere, Lanes.Lanes, Lanes.Replaced, Lanes.entry_in, Lanes.no_lane, Laws.Agree, Laws.settlement_in}
+use Rattle.cf_agree.specs.Moves.{Lease, replied, returned, MayIntend, granted, IsOut, AreLeased}
 use Rattle.cf_agree.specs.Ties.{AreTied, IsKindFor, IsSettled, Books, Ties}
 use Rattle.cf_core.proofs.Entries.{IsOnOne, intent_moves, is_working, map_none, none_open, on_one, once_here, open_none, open_own, opening_moves, own_kept, role_here, sends, stands_on}
 use Rattle.cf_core.proofs.Outcomes.{answered_stack, differ_once, doubt_local, doubt_moves, held_stands, in_doubt, intent_local, open_found_in, outcome_local, outcome_moves, own_opened, role_found_in, token_of}
 use Rattle.cf_core.specs.AccountOf.{account_of, lanes_of, named_in, role_in, open_in, resting_in, open_as, role_found, has_leftover, held_in, is_at_rest, thing_of, for_good, Named}
-use Rattle.cf_core.specs.Bridges.{account_with}
+use Rattle.cf_core.specs.{Bridges.account_with, OneStack.IsLocal, OneStack.OneStack}
 use Rattle.cf_core.specs.LifeAgrees.{IsOrderly, IsSound, lease_of, AgreesIn, LanesKeep, OpenedKeeps, LanesOnce, good_reply, SettleKeeps, RepeatKeeps, HeldIsLive}
-use Rattle.cf_core.specs.OneStack.{OneStack, IsLocal, AreOwn}
-use Rattle.cf_entry.specs.declared.entry.Entry.{Entry}
-use Rattle.cf_entry.specs.declared.entry.Reply.{Reply}
-use Rattle.cf_handler.specs.Fence.{FencedLane, Left, left_by, late_by, FenceAnswer, raised_to, live_at}
-use Rattle.cf_handler.specs.Lane.{Live, live_of}
-use Rattle.cf_handler.specs.Move.{IsOfLane}
-use Rattle.cf_handler.specs.Name.{is_lane_name}
-use Rattle.cf_handler.specs.declared.settled.Settled.{Settled}
-use Rattle.cf_handler.specs.declared.settled.Settlement.{Settlement}
-use Rattle.cf_plan.proofs.Chosen.{found_in}
-use Rattle.cf_plan.proofs.Members.{in_any}
-use Rattle.cf_plan.proofs.RunLists.{is_found_in, any_of}
-use Rattle.cf_plan.specs.Ends.{IsLive}
+use Rattle.cf_entry.specs.declared.{entry.Entry.Entry, entry.Reply.Reply}
+use Rattle.cf_handler.specs.Fence.{Flying, FencedLane, left_by, late_by, raised_to, live_at}
+use Rattle.cf_handler.specs.{Lane.Live, Lane.live_of, Move.IsOfLane, Name.is_lane_name}
+use Rattle.cf_handler.specs.declared.{settled.Settled.Settled, settled.Settlement.Settlement}
+use Rattle.cf_plan.proofs.{CreatedStays.found_one, Members.in_any, RunLists.any_of, RunLists.is_found_in}
+use Rattle.cf_plan.specs.{Ends.IsLive, Forward.In, Lanes.Lane, Lanes.lane_at}
 use Rattle.cf_plan.specs.Follow.{IsKindFor as IsKindOf, FitsLane, is_lane_of, is_opened_since, MayFollow, MayRepeat, is_in_flight}
-use Rattle.cf_plan.specs.Forward.{In}
-use Rattle.cf_plan.specs.Lanes.{Lane, lane_at}
-use Rattle.cf_plan.specs.Life.{Life, End, Whole, BrokenWith, BrokenWithout, appended, world_of, CallEnd, Answered, Stale, Event, Opened, ChangeSet, Begin, Grant, Repeat, Settle, Park, Raise, Act, Late, Close, Crash, life_after, MayHappen, changed, settled_reply, replying as replying_life, settlement_in as settlement_life, lease_at, Lease as Granted, IsStart, AreHandedIn, tokens_out, IsOutcomeOf, first_again, lease_for, repeated, MayBeRepeated}
+use Rattle.cf_plan.specs.Life.{MayLeave, Life, End, Whole, BrokenWith, BrokenWithout, world_of, CallEnd, Answered, Stale, Opened, Grant, Settle, Park, Raise, Act, Late, Close, Crash, life_after, MayHappen, changed, settled_reply, replying as replying_life, settlement_in as settlement_life, lease_at, Lease as Granted, IsStart, AreHandedIn, tokens_out, IsOutcomeOf, first_again, lease_for, repeated}
 use Rattle.cf_schema.specs.declared.described.Schema.{Schema}
-use Rattle.cf_stacks.proofs.Apart.{stay_apart}
-use Rattle.cf_stacks.proofs.Worlds.{found_stands}
+use Rattle.cf_stacks.proofs.{Apart.stay_apart, Worlds.found_stands}
 use Rattle.cf_stacks.specs.Apart.{IsNext, AreApart}
-use Rattle.cf_effect.specs.Effect.{heard, on_stack as stays_listed}
-use Rattle.cf_effect.specs.Fold.{fold_of, world_after, changed_by, effect_at}
-use Rattle.cf_effect.specs.Reply.{replied as reply_of}
-use Rattle.cf_effect.specs.Status.{Stage, Forward, Clean, Back, BackClean, Gone}
-use Rattle.cf_effect.specs.Words.{has_token, pending_of}
-use Rattle.cf_effect.specs.World.{StackState, World, empty_world, is_going, stack_of_operation}
-use Rattle.cf_effect.specs.declared.held.Held.{Held}
-use Rattle.cf_effect.specs.declared.held.Pending.{Pending}
-use Rattle.cf_tree.specs.Keys.{value_at}
-use Rattle.cf_tree.specs.declared.request.Answer.{Answer}
-use Rattle.cf_tree.specs.declared.request.Request.{Request}
-use Rattle.std.proofs.Common.{◌≡◌, ℕ, List, [], ◌∷◌, ◌++◌, map, refl, sym, subst, ◌≢◌, inl, inr, ◌==◌, Bool, true, false, not, Option, Some, None, filter, find, ap, ◌∙◌, ◌≤◌, true≢false, arith, ◌+◌, ◌&&◌, ◌||◌}
+use Rattle.cf_effect.specs.{Effect.heard, Effect.on_stack as stays_listed, Fold.changed_by, Fold.effect_at, Fold.fold_of, Fold.world_after}
+use Rattle.cf_effect.specs.{Reply.replied as reply_of, Words.has_token, Words.pending_of}
+use Rattle.cf_effect.specs.{Status.Forward, Status.Stage, declared.held.Held.Held, declared.held.Pending.Pending}
+use Rattle.cf_tree.specs.{Keys.value_at, declared.request.Answer.Answer, declared.request.Request.Request}
+use Rattle.std.proofs.Common.{◌≡◌, ℕ, List, [], ◌∷◌, ◌++◌, map, refl, sym, subst, ◌≢◌, inl, inr, ◌==◌, true, false, not, Option, Some, None, filter, find, ap, ◌∙◌, ◌≤◌, true≢false, arith, ◌+◌, ◌&&◌}
 use Rattle.std.proofs.lemmas.Bool.{not-true, eq-eqb}
-use Rattle.std.specs.Cmp.{first_so, second_so}
-use Rattle.std.specs.List.{list_all, list_any}
-use Rattle.std.specs.Option.{option_map, option_map_or, option_or}
-use Rattle.std.specs.Prelude.{cond, is_some}
-use Rattle.std.specs.Str.{bytes_eq}
+use Rattle.std.specs.{Cmp.first_so, Cmp.second_so, Option.option_map, Option.option_map_or, Option.option_or, Prelude.is_some}
+use Rattle.std.specs.{List.list_all, List.list_any, Str.bytes_eq}
 use Rattle.cf_entry.specs.declared.entry.Entry.TheVariants as entry
 use Rattle.cf_entry.specs.declared.entry.Reply.TheVariants as reply
 use Rattle.cf_handler.specs.declared.settled.Settlement.TheVariants as settlement
@@ -67,6 +45,13 @@ use Rattle.cf_tree.specs.declared.request.Request.TheVariants as request
 pub fold_more : (x : World) (es : List Entry) (e : Entry) → fold_of x (es ++ e ∷ []) ≡ world_after (fold_of x es) e
 fold_more x [] e = refl
 fold_more x (d ∷ es) e = fold_more (world_after x d) es e
+
+-- what the journal says in a life, and its lanes
+abbrev told_in : Life → Account
+told_in life = account_of life.entries (world_of life)
+
+abbrev held_by : Life → Lanes
+held_by life = lanes_of life.lanes
 
 module _ (life : Life) (e : Entry) where
   -- the entry is there: of its world
@@ -91,22 +76,16 @@ orderly_on x e name s s' h next one local lanes = let apart = stay_apart x e h.a
 -- one lane is changed under its name
 module _ (n : List ℕ) (change : FencedLane → FencedLane) where
   pub kept_name : (l : Lane) → (changed n change l).name ≡ l.name
-  kept_name l = either (bytes_eq n l.name) where
-    either : (b : Bool) → (cond b (record l { state = change l.state }) l).name ≡ l.name
-    either true = refl
-    either false = refl
+  kept_name l = grind arith
 
   pub kept_kind : (l : Lane) → (changed n change l).kind ≡ l.kind
-  kept_kind l = either (bytes_eq n l.name) where
-    either : (b : Bool) → (cond b (record l { state = change l.state }) l).kind ≡ l.kind
-    either true = refl
-    either false = refl
+  kept_kind l = grind arith
 
   found_changed : (m : List ℕ) (ls : List Lane) → lane_at m (map (changed n change) ls) ≡ option_map (changed n change) (lane_at m ls)
   found_changed m ls = find_mapped (λ (l : Lane). bytes_eq m l.name) (changed n change) ls (λ l. ap (bytes_eq m) (kept_name l))
 
   pub found_name : (m : List ℕ) (ls : List Lane) (l : Lane) → lane_at m ls ≡ Some l → m ≡ l.name
-  found_name m ls l e = bytes_same m l.name (found_in (λ (k : Lane). bytes_eq m k.name) ls l e).1
+  found_name m ls l e = bytes_same m l.name (found_one (λ (k : Lane). bytes_eq m k.name) ls l e).1
 
   pub replaced : (ls : List Lane) (l : Lane) → lane_at n ls ≡ Some l → Replaced n (change l.state) (lanes_of ls) (lanes_of (map (changed n change) ls))
   replaced ls l e = record {
@@ -132,125 +111,72 @@ there_is ls n l e = ((l.kind, ap (option_map (λ (x : Lane). x.kind)) e), ap (λ
 pub found_lease : (t : ℕ) (ls : List Granted) (l : Granted) → find (λ l. t == l.token) ls ≡ Some l → (t ≡ l.token) × InLane (lease_of l) (map lease_of ls)
 found_lease t [] l e = absurd (cc)
 found_lease t (k ∷ ls) l e = elim (number_or t k.token) [
-  | inl x ↦ (let z = at_same t k.token (Some k) (find (λ l. t == l.token) ls) x in let one : k ≡ l = cc in
-      (x ∙ ap (λ (y : Granted). y.token) one, subst (λ q. InLane q (map lease_of (k ∷ ls))) (ap lease_of one) here))
-  | inr x ↦ (let (y, i) = found_lease t ls l (sym (at_other t k.token (Some k) (find (λ l. t == l.token) ls) x) ∙ e) in (y, there i))
+  | inl x ↦ (let one : k ≡ l = grind arith in (x ∙ ap (λ (y : Granted). y.token) one, subst (λ q. InLane q (map lease_of (k ∷ ls))) (ap lease_of one) here))
+  | inr x ↦ (let (y, i) = found_lease t ls l (grind arith) in (y, there i))
 ]
 
 replied_same : (t : ℕ) (r : CallEnd) (ls : List Granted) → map lease_of (map (replying_life t r) ls) ≡ replied t (settled_reply r) (map lease_of ls)
 replied_same t r [] = refl
-replied_same t r (l ∷ ls) = ap (λ x. x ∷ map lease_of (map (replying_life t r) ls)) (either (t == l.token)) ∙ ap (λ xs. replying t (settled_reply r) (lease_of l) ∷ xs) (replied_same t r ls) where
-  either : (b : Bool) → lease_of (cond b (record l { reply = Some r }) l) ≡ cond b (record (lease_of l) { reply = settled_reply r }) (lease_of l)
-  either true = refl
-  either false = refl
+replied_same t r (l ∷ ls) = grind (arith, replied_same t r ls)
 
 pub returned_same : (t : ℕ) (ls : List Granted) → map lease_of (filter (λ l. not (t == l.token)) ls) ≡ returned t (map lease_of ls)
 returned_same t [] = refl
-returned_same t (l ∷ ls) = either (t == l.token) (returned_same t ls) where
-  either : (b : Bool) → map lease_of (filter (λ l. not (t == l.token)) ls) ≡ returned t (map lease_of ls) → map lease_of (cond (not b) (l ∷ filter (λ l. not (t == l.token)) ls) (filter (λ l. not (t == l.token)) ls)) ≡ cond (not b) (lease_of l ∷ returned t (map lease_of ls)) (returned t (map lease_of ls))
-  either true ih = ih
-  either false ih = ap (λ xs. lease_of l ∷ xs) ih
+returned_same t (l ∷ ls) = grind (arith, returned_same t ls)
 
 same_settlement : (a : Answer) → settlement_life a ≡ settlement_in a
 same_settlement (answer.Success i v) = refl
-same_settlement (answer.Failed c) = refl
-same_settlement answer.Fault = refl
-same_settlement answer.NoMemory = refl
+same_settlement _ = refl
 
 -- no lease is out
 pub none_out : (a : Account) (w : Lanes) (ls : List Lease) → Agree a w ls → Agree a w []
 none_out a w ls h = record { tied = h.tied; leased = record { once = λ l m i. elim i [ ]; out = λ l i. elim i [ ]; replies = λ l x i. elim i [ ] } }
 
 pub lanes_keep : LanesKeep
-lanes_keep schemas life (Act token reply left) of may h = by_reply reply m5 refl where
-  lease : Granted
-  lease = may.0
-
-  lane : Lane
-  lane = may.1
-
-  found : lease_at token life ≡ Some lease
-  found = may.2
-
-  home : lane_at lease.lane life.lanes ≡ Some lane
-  home = may.4
-
-  m5 : Rattle.cf_plan.specs.Life.MayLeave lane (left_by left (world_of life).epoch lease.token lease.request lane.state) (world_of life).epoch lease reply
-  m5 = may.5
-
-  change : FencedLane → FencedLane
-  change = left_by left (world_of life).epoch lease.token lease.request
-
-  is : IsThere (lanes_of life.lanes) lease.lane × ((lanes_of life.lanes).lane lease.lane ≡ lane.state)
-  is = there_is life.lanes lease.lane lane home
-
-  name_is : lease.lane ≡ lane.name
-  name_is = found_name lease.lane change lease.lane life.lanes lane home
-
-  mine : (token ≡ lease.token) × InLane (lease_of lease) (map lease_of life.leases)
-  mine = found_lease token life.leases lease found
-
-  a : Account
-  a = account_of life.entries (world_of life)
-
-  rep : Replaced lease.lane (change lane.state) (lanes_of life.lanes) (lanes_of (map (changed lease.lane change) life.lanes))
-  rep = replaced lease.lane change life.lanes lane home
-
-  -- the life after it, where the lease is found
-  done : (r : CallEnd) → Agree a (lanes_of (map (changed lease.lane change) life.lanes)) (replied lease.token (settled_reply r) (map lease_of life.leases)) → AgreesIn (life_after life (Act token r left))
-  done r g = subst (λ o. AgreesIn (Rattle.cf_plan.specs.Life.replied_to token r (Rattle.cf_plan.specs.Life.acted left o life))) (sym found)
-      (subst (λ ls. Agree a (lanes_of (map (changed lease.lane change) life.lanes)) ls) (ap (λ t. replied t (settled_reply r) (map lease_of life.leases)) (sym mine.0) ∙ sym (replied_same token r life.leases)) g)
-
-  by_reply : (r : CallEnd) → Rattle.cf_plan.specs.Life.MayLeave lane (change lane.state) (world_of life).epoch lease r → r ≡ reply → AgreesIn (life_after life (Act token reply left))
-  by_reply (Answered x before counted) m e = subst (λ r. AgreesIn (life_after life (Act token r left))) e (done (Answered x before counted)
-      (subst (λ o. Agree a (lanes_of (map (changed lease.lane change) life.lanes)) (replied lease.token o (map lease_of life.leases))) (sym (same_settlement x))
-      (call_keeps a (lanes_of life.lanes) (lanes_of (map (changed lease.lane change) life.lanes)) (map lease_of life.leases) (lease_of lease) (change lane.state) x h mine.1 is.0 rep
-      (subst (λ l. Rattle.cf_handler.specs.Fence.CallMove lease.lane l (change lane.state) (world_of life).epoch lease.token lease.request x) (sym is.1)
-      (subst (λ n. Rattle.cf_handler.specs.Fence.CallMove n lane.state (change lane.state) (world_of life).epoch lease.token lease.request x) (sym name_is) m.1)))))
-  by_reply (Stale fence) m e = subst (λ r. AgreesIn (life_after life (Act token r left))) e (done (Stale fence)
-      (stale_keeps a (lanes_of life.lanes) (lanes_of (map (changed lease.lane change) life.lanes)) (map lease_of life.leases) (lease_of lease) (change lane.state) fence h mine.1 is.0 rep
-      (subst (λ l. Rattle.cf_handler.specs.Fence.IsStale l (change lane.state) (world_of life).epoch fence) (sym is.1) m)))
+lanes_keep schemas life (Act token reply left) of (lease, lane, found, rest, home, leave) h =
+    let change : FencedLane → FencedLane = left_by left (world_of life).epoch lease.token lease.request in
+    let is : IsThere (held_by life) lease.lane × ((held_by life).lane lease.lane ≡ lane.state) = there_is life.lanes lease.lane lane home in
+    let mine : (token ≡ lease.token) × InLane (lease_of lease) (map lease_of life.leases) = found_lease token life.leases lease found in
+    let after : Lanes = lanes_of (map (changed lease.lane change) life.lanes) in
+    let rep : Replaced lease.lane (change lane.state) (held_by life) after = replaced lease.lane change life.lanes lane home in
+    -- the life after it, where the lease is found
+    let done : (r : CallEnd) → Agree (told_in life) after (replied lease.token (settled_reply r) (map lease_of life.leases)) → AgreesIn (life_after life (Act token r left)) =
+    λ r g. subst (λ o. AgreesIn (Rattle.cf_plan.specs.Life.replied_to token r (Rattle.cf_plan.specs.Life.acted left o life))) (sym found)
+    (subst (Agree (told_in life) after) (ap (λ t. replied t (settled_reply r) (map lease_of life.leases)) (sym mine.0) ∙ sym (replied_same token r life.leases)) g) in
+    (elim reply as (λ r. MayLeave lane (change lane.state) (world_of life).epoch lease r → AgreesIn (life_after life (Act token r left))) [
+      | Answered x before counted ↦ λ m. done (Answered x before counted)
+          (subst (λ o. Agree (told_in life) after (replied lease.token o (map lease_of life.leases))) (sym (same_settlement x))
+          (call_keeps (told_in life) (held_by life) after (map lease_of life.leases) (lease_of lease) (change lane.state) x h mine.1 is.0 rep
+          (subst (λ l. Rattle.cf_handler.specs.Fence.CallMove lease.lane l (change lane.state) (world_of life).epoch lease.token lease.request x) (sym is.1)
+          (subst (λ n. Rattle.cf_handler.specs.Fence.CallMove n lane.state (change lane.state) (world_of life).epoch lease.token lease.request x)
+          (sym (found_name lease.lane change lease.lane life.lanes lane home)) m.1))))
+      | Stale fence ↦ λ m. done (Stale fence)
+          (stale_keeps (told_in life) (held_by life) after (map lease_of life.leases) (lease_of lease) (change lane.state) fence h mine.1 is.0 rep
+          (subst (λ l. Rattle.cf_handler.specs.Fence.IsStale l (change lane.state) (world_of life).epoch fence) (sym is.1) m))
+    ]) leave
 lanes_keep schemas life (Late n place s) of may h =
-    let is : IsThere (lanes_of life.lanes) n × ((lanes_of life.lanes).lane n ≡ may.0.state) = there_is life.lanes n may.0 may.1 in
-    late_keeps (account_of life.entries (world_of life)) (lanes_of life.lanes) (lanes_of (map (changed n (late_by place s)) life.lanes)) (map lease_of life.leases) n (late_by place s may.0.state) place s h is.0
+    let is : IsThere (held_by life) n × ((held_by life).lane n ≡ may.0.state) = there_is life.lanes n may.0 may.1 in
+    late_keeps (account_of life.entries (world_of life)) (held_by life) (lanes_of (map (changed n (late_by place s)) life.lanes)) (map lease_of life.leases) n (late_by place s may.0.state) place s h is.0
     (replaced n (late_by place s) life.lanes may.0 may.1)
     (subst (λ l. Rattle.cf_handler.specs.Fence.LateMove n l (late_by place s may.0.state) place s) (sym is.1)
     (subst (λ m. Rattle.cf_handler.specs.Fence.LateMove m may.0.state (late_by place s may.0.state) place s) refl may.2))
-lanes_keep schemas life (Raise n x moved before counted) of may h = by_moved moved may.6 where
-  lane : Lane
-  lane = may.2
-
-  is : IsThere (lanes_of life.lanes) n × ((lanes_of life.lanes).lane n ≡ lane.state)
-  is = there_is life.lanes n lane may.3
-
-  a : Account
-  a = account_of life.entries (world_of life)
-
-  by_moved : (b : Bool) → Rattle.cf_handler.specs.Fence.FenceMove lane.state (Rattle.cf_plan.specs.Life.fenced b (world_of life).epoch lane.state) (world_of life).epoch x before counted → AgreesIn (life_after life (Raise n x b before counted))
-  by_moved true m =
-      fence_keeps a (lanes_of life.lanes) (lanes_of (map (changed n (λ l. raised_to l (world_of life).epoch)) life.lanes)) (map lease_of life.leases) n (raised_to lane.state (world_of life).epoch) x before counted h is.0
-      (replaced n (λ l. raised_to l (world_of life).epoch) life.lanes lane may.3) (subst (λ l. Rattle.cf_handler.specs.Fence.FenceMove l (raised_to lane.state (world_of life).epoch) (world_of life).epoch x before counted) (sym is.1) m)
-  by_moved false m = h
+lanes_keep schemas life (Raise n x true before counted) of may h =
+    let is : IsThere (held_by life) n × ((held_by life).lane n ≡ may.2.state) = there_is life.lanes n may.2 may.3 in
+    fence_keeps (told_in life) (held_by life) (lanes_of (map (changed n (λ l. raised_to l (world_of life).epoch)) life.lanes)) (map lease_of life.leases) n (raised_to may.2.state (world_of life).epoch) x before counted h is.0
+    (replaced n (λ l. raised_to l (world_of life).epoch) life.lanes may.2 may.3)
+    (subst (λ l. Rattle.cf_handler.specs.Fence.FenceMove l (raised_to may.2.state (world_of life).epoch) (world_of life).epoch x before counted) (sym is.1) may.6)
+lanes_keep schemas life (Raise n x false before counted) of may h = h
 lanes_keep schemas life (Park token) of may h =
-    subst (λ ls. Agree (account_of life.entries (world_of life)) (lanes_of life.lanes) ls) (sym (returned_same token life.leases))
-    (return_keeps (account_of life.entries (world_of life)) (lanes_of life.lanes) (map lease_of life.leases) token h)
+    subst (λ ls. Agree (account_of life.entries (world_of life)) (held_by life) ls) (sym (returned_same token life.leases))
+    (return_keeps (account_of life.entries (world_of life)) (held_by life) (map lease_of life.leases) token h)
 lanes_keep schemas life Close of may h = h
-lanes_keep schemas life Crash of may h = none_out (account_of life.entries (world_of life)) (lanes_of life.lanes) (map lease_of life.leases) h
-lanes_keep schemas life (Opened epoch lanes end) of may h = absurd of
-lanes_keep schemas life (ChangeSet e end) of may h = absurd of
-lanes_keep schemas life (Begin e end) of may h = absurd of
-lanes_keep schemas life (Grant e end) of may h = absurd of
-lanes_keep schemas life (Repeat token) of may h = absurd of
-lanes_keep schemas life (Settle token e end) of may h = absurd of
+lanes_keep schemas life Crash of may h = none_out (account_of life.entries (world_of life)) (held_by life) (map lease_of life.leases) h
+lanes_keep schemas life e of may h = absurd of
 
 -- A start agrees.
 
 named_all : (n : List ℕ) (ls : List Lane) (l : Lane) → list_all (λ (l : Lane). is_lane_name l.name) ls ≡ true → lane_at n ls ≡ Some l → is_lane_name n ≡ true
 named_all n [] l h e = absurd (cc)
-named_all n (k ∷ ls) l h e = either (bytes_eq n k.name) refl e (named_all n ls l (second_so (is_lane_name k.name) (list_all (λ (l : Lane). is_lane_name l.name) ls) h)) where
-  either : (b : Bool) → bytes_eq n k.name ≡ b → cond b (Some k) (lane_at n ls) ≡ Some l → (lane_at n ls ≡ Some l → is_lane_name n ≡ true) → is_lane_name n ≡ true
-  either true x g ih = ap is_lane_name (Rattle.cf_agree.proofs.Words.bytes_same n k.name x) ∙ first_so (is_lane_name k.name) (list_all (λ (l : Lane). is_lane_name l.name) ls) h
-  either false x g ih = ih g
+named_all n (k ∷ ls) l h e = let more = second_so (is_lane_name k.name) _ h in let now = first_so (is_lane_name k.name) _ h in grind (arith, named_all n ls l, bytes_same n k.name)
 
 -- nothing was called or is live on it
 record IsBlank (l : FencedLane) : Type 0 where
@@ -263,7 +189,7 @@ module _ (life : Life) (untouched : (l : Lane) → In l life.lanes → (l.state.
   blank_by : (n : List ℕ) (o : Option Lane) → lane_at n life.lanes ≡ o → IsBlank (option_map_or (λ (l : Lane). l.state) o no_lane)
   blank_by n None e = record { settled = refl; base = refl; flying = refl; fence = refl }
   blank_by n (Some l) e =
-      let (s, f, g, v) = untouched l (found_in (λ (k : Lane). bytes_eq n k.name) life.lanes l e).0 in
+      let (s, f, g, v) = untouched l (found_one (λ (k : Lane). bytes_eq n k.name) life.lanes l e).0 in
       record { settled = s; base = sym (ap (λ ss. Rattle.cf_handler.specs.Lane.live_after l.state.state.base ss) s) ∙ v; flying = f; fence = g }
 
   blank : (n : List ℕ) → IsBlank ((lanes_of life.lanes).lane n)
@@ -275,35 +201,7 @@ map_some (Some l) k e = (l, refl)
 
 pub start_agrees : (schemas : List Schema) (life : Life) → IsStart schemas life → AgreesIn life
 start_agrees schemas life h =
-    subst (λ es. Agree (account_of es (fold_of empty_world es)) w (map lease_of life.leases)) (sym h.no_entries)
-    (subst (λ ls. Agree (account_of [] empty_world) w (map lease_of ls)) (sym h.no_leases) (record { tied = tied; leased = record { once = λ l m i. elim i [ ]; out = λ l i. elim i [ ]; replies = λ l x i. elim i [ ] } }))
-  where
-    w : Lanes
-    w = lanes_of life.lanes
-
-    none : (n : List ℕ) → IsBlank (w.lane n)
-    none n = blank life h.untouched n
-
-    no_entry : {A : Type 0} (n : List ℕ) (t : ℕ) (s : Rattle.cf_handler.specs.declared.settled.Settled.Settled) → Rattle.cf_agree.specs.Lanes.entry_in w n t ≡ Some s → A
-    no_entry n t s e = let z = ap (λ ss. Rattle.cf_agree.specs.Base.entry_at t ss) (none n).settled in absurd (cc)
-
-    no_live : {A : Type 0} (n i : List ℕ) (v : Live) → Rattle.cf_agree.specs.Lanes.live_in w n i ≡ Some v → A
-    no_live n i v e =
-        let y = ap (λ ss. find (λ (r : Live). bytes_eq i r.id) (Rattle.cf_handler.specs.Lane.live_after (w.lane n).state.base ss)) (none n).settled in
-        let z = ap (λ bs. find (λ (r : Live). bytes_eq i r.id) bs) (none n).base in absurd (cc)
-
-    no_flying : {A : Type 0} (n : List ℕ) (f : Rattle.cf_handler.specs.Fence.Flying) → Rattle.cf_agree.specs.Base.In f (w.lane n).flying → A
-    no_flying n f i = none_in (subst (λ fs. Rattle.cf_agree.specs.Base.In f fs) (none n).flying i) where
-      none_in : {A : Type 0} → Rattle.cf_agree.specs.Base.In f [] → A
-      none_in i = elim i [ ]
-
-    no_settled : {A : Type 0} (n : List ℕ) (s : Rattle.cf_handler.specs.declared.settled.Settled.Settled) → Rattle.cf_agree.specs.Base.In s (w.lane n).state.settled → A
-    no_settled n s i = none_in (subst (λ fs. Rattle.cf_agree.specs.Base.In s fs) (none n).settled i) where
-      none_in : {A : Type 0} → Rattle.cf_agree.specs.Base.In s [] → A
-      none_in i = elim i [ ]
-
-    tied : AreTied (account_of [] empty_world) w
-    tied = record {
+    let tied : AreTied (account_of [] empty_world) w = record {
       books = record {
         calls = λ t o e. absurd (cc);
         numbers = λ t c e. absurd (cc);
@@ -340,7 +238,32 @@ start_agrees schemas life h =
         live_named = λ n i v e. no_live n i v e;
         listed = λ n i v e. no_live n i v e;
       };
-    }
+    } in
+    subst (λ es. Agree (account_of es (fold_of empty_world es)) w (map lease_of life.leases)) (sym h.no_entries)
+    (subst (λ ls. Agree (account_of [] empty_world) w (map lease_of ls)) (sym h.no_leases) (record { tied = tied; leased = record { once = λ l m i. elim i [ ]; out = λ l i. elim i [ ]; replies = λ l x i. elim i [ ] } }))
+  where
+    w : Lanes
+    w = lanes_of life.lanes
+
+    none : (n : List ℕ) → IsBlank (w.lane n)
+    none n = blank life h.untouched n
+
+    no_entry : {A : Type 0} (n : List ℕ) (t : ℕ) (s : Rattle.cf_handler.specs.declared.settled.Settled.Settled) → Rattle.cf_agree.specs.Lanes.entry_in w n t ≡ Some s → A
+    no_entry n t s e = let z = ap (λ ss. Rattle.cf_agree.specs.Base.entry_at t ss) (none n).settled in absurd (cc)
+
+    no_live : {A : Type 0} (n i : List ℕ) (v : Live) → Rattle.cf_agree.specs.Lanes.live_in w n i ≡ Some v → A
+    no_live n i v e =
+        let y = ap (λ ss. find (λ (r : Live). bytes_eq i r.id) (Rattle.cf_handler.specs.Lane.live_after (w.lane n).state.base ss)) (none n).settled in
+        let z = ap (λ bs. find (λ (r : Live). bytes_eq i r.id) bs) (none n).base in absurd (cc)
+
+    none_in : {A B : Type 0} (x : A) (xs : List A) → xs ≡ [] → InLane x xs → B
+    none_in x xs e i = elim (subst (InLane x) e i) [ ]
+
+    no_flying : {A : Type 0} (n : List ℕ) (f : Flying) → InLane f (w.lane n).flying → A
+    no_flying n f i = none_in f (w.lane n).flying (none n).flying i
+
+    no_settled : {A : Type 0} (n : List ℕ) (s : Settled) → InLane s (w.lane n).state.settled → A
+    no_settled n s i = none_in s (w.lane n).state.settled (none n).settled i
 
 -- An opening keeps what holds at each moment of a life.
 
@@ -349,7 +272,7 @@ pub named_found : (lanes : List (List ℕ × List ℕ)) (n k : List ℕ) → nam
 named_found lanes n k e = go (find (λ (l : List ℕ × List ℕ). bytes_eq n l.0) lanes) refl e where
   go : (o : Option (List ℕ × List ℕ)) → find (λ (l : List ℕ × List ℕ). bytes_eq n l.0) lanes ≡ o → option_map (λ (l : List ℕ × List ℕ). l.1) o ≡ Some k → (l : List ℕ × List ℕ) × In l lanes × (n ≡ l.0) × (l.1 ≡ k)
   go None f g = absurd (cc)
-  go (Some l) f g = let (i, t) = found_in (λ (l : List ℕ × List ℕ). bytes_eq n l.0) lanes l f in (l, i, bytes_same n l.0 t, cc)
+  go (Some l) f g = let (i, t) = found_one (λ (l : List ℕ × List ℕ). bytes_eq n l.0) lanes l f in (l, i, bytes_same n l.0 t, cc)
 
 -- lanes that are handed in are named with their types
 module _ (life : Life) (lanes : List (List ℕ × List ℕ)) (handed : AreHandedIn life lanes) where
@@ -364,71 +287,46 @@ module _ (life : Life) (lanes : List (List ℕ × List ℕ)) (handed : AreHanded
   pub named_of : (l : List ℕ × List ℕ) → In l lanes → named_in lanes l.0 ≡ Some l.1
   named_of l i =
       let (m, f) = is_found_in (λ (q : List ℕ × List ℕ). bytes_eq l.0 q.0) lanes l i (same_bytes l.0 l.0 refl) in
-      let (j, t) = found_in (λ (q : List ℕ × List ℕ). bytes_eq l.0 q.0) lanes m f in
+      let (j, t) = found_one (λ (q : List ℕ × List ℕ). bytes_eq l.0 q.0) lanes m f in
       let same : l.0 ≡ m.0 = bytes_same l.0 m.0 t in
       let both : Some l.1 ≡ Some m.1 = sym (is_there l i) ∙ ap (lanes_of life.lanes).kind same ∙ is_there m j in
       ap (option_map (λ (q : List ℕ × List ℕ). q.1)) f ∙ sym both
 
 kind_for : (r : Request) (k : List ℕ) → IsKindOf r k → IsKindFor r k
 kind_for (request.Create made props) k e = e
-kind_for (request.Update id props) k e = tt
-kind_for (request.Delete id) k e = tt
+kind_for _ k e = tt
 
 pub opened_keeps : OpenedKeeps
-opened_keeps schemas life epoch lanes end may h = by_end end where
-  a : Account
-  a = account_of life.entries (world_of life)
-
-  w : Lanes
-  w = lanes_of life.lanes
-
-  e : Entry
-  e = entry.Opened epoch lanes
-
-  own : AreOwn (world_of life).stacks
-  own = h.orderly.own
-
-  handed : AreHandedIn life lanes
-  handed = may.2
-
-  name_of : (l : List ℕ × List ℕ) → In l lanes → is_lane_name l.0 ≡ true
-  name_of l i = ((h.agrees.tied).ties).lane_names l.0 (l.1, is_there life lanes handed l i)
-
-  homes : (i : List ℕ) (r : Thing) → role_in (world_of life).stacks i ≡ Resource r → named_in lanes (lane_of i) ≡ Some r.kind
-  homes i r k =
-      let f = role_found_in (world_of life).stacks i r own.names k in
-      let (j, ih) = held_stands i f.stack f.held f.found in
-      let (l, il, of, kd) = (may.1.2 r.stack f.stack f.stands).0 f.held j in
-      let at : lane_of i ≡ l.0 = ap lane_of ih ∙ one_lane l.0 (f.held).physical (name_of l il) of in
-      ap (named_in lanes) at ∙ named_of life lanes handed l il ∙ ap Some (kd ∙ ap (λ (t : Thing). t.kind) f.same)
-
-  open_homes : (t : ℕ) (o : Open) → open_in (world_of life).stacks t ≡ Some o → (k : List ℕ) × (named_in lanes o.lane ≡ Some k) × IsKindFor o.request k
-  open_homes t o k =
-      let f = open_found_in (world_of life).stacks t o own.names k in
-      let (l, il, fit) = (may.1.2 o.stack f.stack f.stands).1 f.pending (found_in _ _ f.pending f.found).0 in
-      let at = fit.0 in
-      let kd = fit.1 in
-      (l.1, ap (named_in lanes) (ap (λ (v : Open). v.lane) (sym f.same) ∙ sym at) ∙ named_of life lanes handed l il, subst (λ (v : Open). IsKindFor v.request l.1) f.same (kind_for (f.pending).request l.1 kd))
-
-  agreed : Agree (account_of (life.entries ++ e ∷ []) (world_after (world_of life) (entry.Opened epoch lanes))) w []
-  agreed =
-      subst (λ b. Agree b w []) (sym (opening_moves life.entries (world_of life) epoch lanes may.1.1))
-      (opening_keeps a w (named_in lanes) (resting_in (world_after (world_of life) (entry.Opened epoch lanes)).stacks) h.agrees.tied (record { handed = named_there life lanes handed; homes = homes; open_homes = open_homes }))
-
-  apart : AreApart (world_after (world_of life) (entry.Opened epoch lanes))
-  apart = stay_apart (world_of life) (entry.Opened epoch lanes) h.orderly.apart tt
-
-  orderly : IsOrderly (world_after (world_of life) (entry.Opened epoch lanes))
-  orderly = record {
-    apart = apart;
-    own = own_opened ((world_of life).place + 1) epoch lanes (world_of life).stacks apart.names own;
-    once = λ l m i j k. differ_once bytes_eq (λ (n : List ℕ × List ℕ). n.0) lanes same_bytes handed.once l m i j k;
-  }
-
-  by_end : (d : End) → IsSound (life_after life (Opened epoch lanes d))
-  by_end Whole = record { agrees = agrees_more life e [] agreed; orderly = orderly_more life e orderly }
-  by_end BrokenWith = record { agrees = agrees_more life e [] agreed; orderly = orderly_more life e orderly }
-  by_end BrokenWithout = record { agrees = none_out a w (map lease_of life.leases) h.agrees; orderly = h.orderly }
+opened_keeps schemas life epoch lanes end may h =
+    let e : Entry = entry.Opened epoch lanes in
+    let name_of : (l : List ℕ × List ℕ) → In l lanes → is_lane_name l.0 ≡ true =
+    λ l i. ((h.agrees.tied).ties).lane_names l.0 (l.1, is_there life lanes may.2 l i) in
+    let homes : (i : List ℕ) (r : Thing) → role_in (world_of life).stacks i ≡ Resource r → named_in lanes (lane_of i) ≡ Some r.kind = λ i r k.
+    let f = role_found_in (world_of life).stacks i r h.orderly.own.names k in
+    let (j, ih) = held_stands i f.stack f.held f.found in
+    let (l, il, of, kd) = (may.1.2 r.stack f.stack f.stands).0 f.held j in
+    let at : lane_of i ≡ l.0 = ap lane_of ih ∙ one_lane l.0 (f.held).physical (name_of l il) of in
+    ap (named_in lanes) at ∙ named_of life lanes may.2 l il ∙ ap Some (kd ∙ ap (λ (t : Thing). t.kind) f.same) in
+    let open_homes : (t : ℕ) (o : Open) → open_in (world_of life).stacks t ≡ Some o → (k : List ℕ) × (named_in lanes o.lane ≡ Some k) × IsKindFor o.request k = λ t o k.
+    let f = open_found_in (world_of life).stacks t o h.orderly.own.names k in
+    let (l, il, fit) = (may.1.2 o.stack f.stack f.stands).1 f.pending (found_one _ _ f.pending f.found).0 in
+    let at = fit.0 in
+    let kd = fit.1 in
+    (l.1, ap (named_in lanes) (ap (λ (v : Open). v.lane) (sym f.same) ∙ sym at) ∙ named_of life lanes may.2 l il, subst (λ (v : Open). IsKindFor v.request l.1) f.same (kind_for (f.pending).request l.1 kd)) in
+    let agreed : Agree (account_of (life.entries ++ e ∷ []) (world_after (world_of life) (entry.Opened epoch lanes))) (held_by life) [] =
+    subst (λ b. Agree b (held_by life) []) (sym (opening_moves life.entries (world_of life) epoch lanes may.1.1))
+    (opening_keeps (told_in life) (held_by life) (named_in lanes) (resting_in (world_after (world_of life) (entry.Opened epoch lanes)).stacks) h.agrees.tied (record { handed = named_there life lanes may.2; homes = homes; open_homes = open_homes })) in
+    let apart : AreApart (world_after (world_of life) (entry.Opened epoch lanes)) =
+    stay_apart (world_of life) (entry.Opened epoch lanes) h.orderly.apart tt in
+    let orderly : IsOrderly (world_after (world_of life) (entry.Opened epoch lanes)) = record {
+      apart = apart;
+      own = own_opened ((world_of life).place + 1) epoch lanes (world_of life).stacks apart.names h.orderly.own;
+      once = λ l m i j k. differ_once bytes_eq (λ (n : List ℕ × List ℕ). n.0) lanes same_bytes may.2.once l m i j k;
+    } in
+    elim end as (λ d. IsSound (life_after life (Opened epoch lanes d))) [
+      | BrokenWithout ↦ record { agrees = none_out (told_in life) (held_by life) (map lease_of life.leases) h.agrees; orderly = h.orderly }
+      | _ ↦ record { agrees = agrees_more life e [] agreed; orderly = orderly_more life e orderly }
+    ]
 
 -- A call that is written down and granted keeps what holds at each moment of a life.
 
@@ -441,7 +339,7 @@ module _ (x : World) (once : LanesOnce x) where
   names_lane : (l : List ℕ × List ℕ) → In l x.lanes → named_in x.lanes l.0 ≡ Some l.1
   names_lane l i =
       let (m, f) = is_found_in (λ (q : List ℕ × List ℕ). bytes_eq l.0 q.0) x.lanes l i (same_bytes l.0 l.0 refl) in
-      let (j, t) = found_in (λ (q : List ℕ × List ℕ). bytes_eq l.0 q.0) x.lanes m f in
+      let (j, t) = found_one (λ (q : List ℕ × List ℕ). bytes_eq l.0 q.0) x.lanes m f in
       let same = once l m i j (bytes_same l.0 m.0 t) in
       ap (option_map (λ (q : List ℕ × List ℕ). q.1)) f ∙ ap (λ (q : List ℕ × List ℕ). Some q.1) (sym same)
 
@@ -456,8 +354,7 @@ module _ (x : World) (once : LanesOnce x) where
       let named = first_so (bytes_eq lane l.0) (bytes_eq k l.1) t in
       let kind = second_so (bytes_eq lane l.0) (bytes_eq k l.1) t in
       (l.1, ap (named_in x.lanes) (bytes_same lane l.0 named) ∙ names_lane l i, sym (bytes_same k l.1 kind))
-  at_home lane (request.Update id props) h = let (k, e) = by_name lane h.1 in (k, e, tt)
-  at_home lane (request.Delete id) h = let (k, e) = by_name lane h.1 in (k, e, tt)
+  at_home lane _ h = let (k, e) = by_name lane h.1 in (k, e, tt)
 
   of_lane : (lane : List ℕ) (r : Request) (i : List ℕ) → FitsLane x lane r → named_by r ≡ Some i → IsOfLane lane i
   of_lane lane (request.Create k props) i h e = absurd (cc)
@@ -471,99 +368,62 @@ NamesOwn x number path r =
 
 pub intent_keeps_in : (schemas : List Schema) (life : Life) (number token : ℕ) (lane path : List ℕ) (r : Request) (end : End) → NamesOwn (world_of life) number path r
     → MayHappen schemas life (Grant (entry.Intent number token lane path r) end) → IsSound life → IsSound (life_after life (Grant (entry.Intent number token lane path r) end))
-intent_keeps_in schemas life number token lane path r end names (running, granting, (name, s, stage, found, at_stage, may)) h = by_end end where
-  a : Account
-  a = account_of life.entries (world_of life)
-
-  w : Lanes
-  w = lanes_of life.lanes
-
-  x : World
-  x = fold_of empty_world life.entries
-
-  e : Entry
-  e = entry.Intent number token lane path r
-
-  o : Open
-  o = record { stack = name; path = path; lane = lane; request = r }
-
-  p : Pending
-  p = record { token = token; path = path; lane = lane; request = r }
-
-  s' : StackState
-  s' = (effect_at (x.place + 1) (entry.Intent number token lane path r) s).stack
-
-  at : IsOnOne x (changed_by (x.place + 1) (entry.Intent number token lane path r) x) name s s'
-  at = on_one (entry.Intent number token lane path r) x name s h.orderly.own refl found
-
-  stands : value_at name x.stacks ≡ Some s
-  stands = found_stands (λ (q : List ℕ × StackState). is_going number q.1) x.stacks (name, s) h.orderly.own.names found
-
-  free : (t : ℕ) (v : Open) → a.open_ t ≡ Some v → v.stack ≡ name → v.path ≢ path
-  free t v k n q =
-      let f = open_found_in x.stacks t v h.orderly.own.names k in
-      let both : Some f.stack ≡ Some s = sym f.stands ∙ ap (λ m. value_at m x.stacks) n ∙ stands in
-      let same : f.stack ≡ s = cc in
-      let j : In f.pending s.tokens = subst (λ (t : StackState). In f.pending t.tokens) same (found_in (has_token t) (f.stack).tokens f.pending f.found).0 in
-      true≢false (sym (any_of (λ (p : Pending). bytes_eq path p.path) s.tokens f.pending j (same_bytes path (f.pending).path (sym q ∙ ap (λ (u : Open). u.path) (sym f.same))))
-      ∙ not-true (list_any (λ (p : Pending). bytes_eq path p.path) s.tokens) may.free)
-
-  may_intend : MayIntend a o
-  may_intend = record {
-    free = free;
-    named = λ i n. let (q, k, l) = names name s i found n in (
-      thing_of name q,
-      role_here x.stacks (changed_by (x.place + 1) (entry.Intent number token lane path r) x).stacks name s s' at.one i (thing_of name q) (at.unshared.roles i q k).0 (ap (λ z. role_found name z (has_leftover i s.leftovers)) k),
-      refl,
-      l,
-    );
-    home = λ i n. let (k, f, z) = at_home x h.orderly.once lane r may.fits in
-        one_lane lane i (((h.agrees.tied).ties).lane_names lane (k, ((h.agrees.tied).ties).handed lane k f)) (of_lane x h.orderly.once lane r i may.fits n);
-    at_home = at_home x h.orderly.once lane r may.fits;
-  }
-
-  resting : a.resting name ≡ false
-  resting = ap (λ z. option_map_or is_at_rest z false) stands ∙ ap (λ b. not b && is_opened_since s) (is_working number x name s found)
-
-  both : Agree (intended o a) w (map lease_of life.leases) × (a.resting name ≡ false → Agree (intended o a) w (granted (a.last + 1) lane r (map lease_of life.leases)))
-  both = intent_keeps a w (map lease_of life.leases) o h.agrees may_intend
-
-  there_now : (ls : List Lease) → Agree (intended o a) w ls → Agree (account_of (life.entries ++ e ∷ []) (fold_of empty_world (life.entries ++ e ∷ []))) w ls
-  there_now ls g = agrees_more life e ls (subst (λ b. Agree b w ls) (sym (intent_moves life.entries x name s number token lane path r h.orderly.own found may.next (h.agrees.tied).books)) g)
-
-  none : open_in x.stacks token ≡ None
-  none = ap (open_in x.stacks) may.next ∙ none_open life.entries x (h.agrees.tied).books
-
-  none_here : find (has_token token) s.tokens ≡ None
-  none_here = map_none (open_as name) (find (has_token token) s.tokens) (open_none x.stacks (changed_by (x.place + 1) (entry.Intent number token lane path r) x).stacks name s s' at.one token none).1
-
-  orderly : IsOrderly (world_after x e)
-  orderly = orderly_on x (entry.Intent number token lane path r) name s s' h.orderly tt at.one
-      (intent_local x.stacks name s s' p (once_here x.stacks (changed_by (x.place + 1) (entry.Intent number token lane path r) x).stacks name s s' at.one h.orderly.own) none none_here (sends (x.place + 1) number p s none_here)) at.lanes
-
-  lease : Granted
-  lease = record { number = number; token = token; lane = lane; request = r; reply = None }
-
-  by_end : (d : End) → IsSound (life_after life (Grant (entry.Intent number token lane path r) d))
-  by_end Whole = record {
-    agrees = there_now (map lease_of (life.leases ++ lease ∷ []))
-        (subst (λ ls. Agree (intended o a) w ls) (ap (λ t. granted t lane r (map lease_of life.leases)) (sym may.next) ∙ sym (more_leases life.leases lease)) (both.1 resting));
-    orderly = orderly_more life e orderly;
-  }
-  by_end BrokenWith = record { agrees = there_now (map lease_of life.leases) both.0; orderly = orderly_more life e orderly }
-  by_end BrokenWithout = record { agrees = h.agrees; orderly = h.orderly }
+intent_keeps_in schemas life number token lane path r end names (running, granting, (name, s, stage, found, at_stage, may)) h =
+    let x : World = fold_of empty_world life.entries in
+    let e : Entry = entry.Intent number token lane path r in
+    let o : Open = record { stack = name; path = path; lane = lane; request = r } in
+    let p : Pending = record { token = token; path = path; lane = lane; request = r } in
+    let s' : StackState = (effect_at (x.place + 1) (entry.Intent number token lane path r) s).stack in
+    let at : IsOnOne x (changed_by (x.place + 1) (entry.Intent number token lane path r) x) name s s' =
+    on_one (entry.Intent number token lane path r) x name s h.orderly.own refl found in
+    let stands : value_at name x.stacks ≡ Some s =
+    found_stands (λ (q : List ℕ × StackState). is_going number q.1) x.stacks (name, s) h.orderly.own.names found in
+    let free : (t : ℕ) (v : Open) → (told_in life).open_ t ≡ Some v → v.stack ≡ name → v.path ≢ path = λ t v k n q.
+    let f = open_found_in x.stacks t v h.orderly.own.names k in
+    let both : Some f.stack ≡ Some s = sym f.stands ∙ ap (λ m. value_at m x.stacks) n ∙ stands in
+    let same : f.stack ≡ s = cc in
+    let j : In f.pending s.tokens = subst (λ (t : StackState). In f.pending t.tokens) same (found_one (has_token t) (f.stack).tokens f.pending f.found).0 in
+    true≢false (sym (any_of (λ (p : Pending). bytes_eq path p.path) s.tokens f.pending j (same_bytes path (f.pending).path (sym q ∙ ap (λ (u : Open). u.path) (sym f.same))))
+    ∙ not-true (list_any (λ (p : Pending). bytes_eq path p.path) s.tokens) may.free) in
+    let may_intend : MayIntend (told_in life) o = record {
+      free = free;
+      named = λ i n. let (q, k, l) = names name s i found n in (
+        thing_of name q,
+        role_here x.stacks (changed_by (x.place + 1) (entry.Intent number token lane path r) x).stacks name s s' at.one i (thing_of name q) (at.unshared.roles i q k).0 (ap (λ z. role_found name z (has_leftover i s.leftovers)) k),
+        refl,
+        l,
+      );
+      home = λ i n. let (k, f, z) = at_home x h.orderly.once lane r may.fits in
+          one_lane lane i (((h.agrees.tied).ties).lane_names lane (k, ((h.agrees.tied).ties).handed lane k f)) (of_lane x h.orderly.once lane r i may.fits n);
+      at_home = at_home x h.orderly.once lane r may.fits;
+    } in
+    let resting : (told_in life).resting name ≡ false =
+    ap (λ z. option_map_or is_at_rest z false) stands ∙ ap (λ b. not b && is_opened_since s) (is_working number x name s found) in
+    let both : Agree (intended o (told_in life)) (held_by life) (map lease_of life.leases) × ((told_in life).resting name ≡ false → Agree (intended o (told_in life)) (held_by life) (granted ((told_in life).last + 1) lane r (map lease_of life.leases))) =
+    intent_keeps (told_in life) (held_by life) (map lease_of life.leases) o h.agrees may_intend in
+    let there_now : (ls : List Lease) → Agree (intended o (told_in life)) (held_by life) ls → Agree (account_of (life.entries ++ e ∷ []) (fold_of empty_world (life.entries ++ e ∷ []))) (held_by life) ls =
+    λ ls g. agrees_more life e ls (subst (λ b. Agree b (held_by life) ls) (sym (intent_moves life.entries x name s number token lane path r h.orderly.own found may.next (h.agrees.tied).books)) g) in
+    let none : open_in x.stacks token ≡ None = ap (open_in x.stacks) may.next ∙ none_open life.entries x (h.agrees.tied).books in
+    let none_here : find (has_token token) s.tokens ≡ None =
+    map_none (open_as name) (find (has_token token) s.tokens) (open_none x.stacks (changed_by (x.place + 1) (entry.Intent number token lane path r) x).stacks name s s' at.one token none).1 in
+    let orderly : IsOrderly (world_after x e) = orderly_on x (entry.Intent number token lane path r) name s s' h.orderly tt at.one
+    (intent_local x.stacks name s s' p (once_here x.stacks (changed_by (x.place + 1) (entry.Intent number token lane path r) x).stacks name s s' at.one h.orderly.own) none none_here (sends (x.place + 1) number p s none_here)) at.lanes in
+    let lease : Granted = record { number = number; token = token; lane = lane; request = r; reply = None } in
+    elim end as (λ d. IsSound (life_after life (Grant (entry.Intent number token lane path r) d))) [
+      | Whole ↦ record {
+        agrees = there_now (map lease_of (life.leases ++ lease ∷ []))
+            (subst (λ ls. Agree (intended o (told_in life)) (held_by life) ls) (ap (λ t. granted t lane r (map lease_of life.leases)) (sym may.next) ∙ sym (more_leases life.leases lease)) (both.1 resting));
+        orderly = orderly_more life e orderly;
+      }
+      | BrokenWith ↦ record { agrees = there_now (map lease_of life.leases) both.0; orderly = orderly_more life e orderly }
+      | BrokenWithout ↦ record { agrees = h.agrees; orderly = h.orderly }
+    ]
 
 some_of : {A : Type 0} (o : Option A) → is_some o ≡ true → (x : A) × (o ≡ Some x)
 some_of None h = absurd (true≢false (sym h))
 some_of (Some x) h = (x, refl)
 
 module _ (schemas : List Schema) (life : Life) (token : ℕ) (h : IsSound life) (lease : Granted) (found : lease_at token life ≡ Some lease) where
-  abbrev a : Account
-  a = account_of life.entries (world_of life)
-
-  abbrev w : Lanes
-  w = lanes_of life.lanes
-
   abbrev ls : List Lease
   ls = map lease_of life.leases
 
@@ -572,14 +432,17 @@ module _ (schemas : List Schema) (life : Life) (token : ℕ) (h : IsSound life) 
 
   -- what the entry leaves: the lease is back
   pub record IsBack (e : Entry) : Type 0 where
-    pub agrees : Agree (account_of (life.entries ++ e ∷ []) (world_after (world_of life) e)) w (returned token ls)
+    pub agrees : Agree (account_of (life.entries ++ e ∷ []) (world_after (world_of life) e)) (held_by life) (returned token ls)
     pub orderly : IsOrderly (world_after (world_of life) e)
 
   -- the entry is there, or not
   settled_life : (e : Entry) → IsBack e → (end : End) → IsSound (life_after life (Settle token e end))
-  settled_life e g Whole = record { agrees = subst (λ xs. Agree (account_of (life.entries ++ e ∷ []) (fold_of empty_world (life.entries ++ e ∷ []))) w xs) (sym (returned_same token life.leases)) (agrees_more life e (returned token ls) g.agrees); orderly = orderly_more life e g.orderly }
-  settled_life e g BrokenWith = record { agrees = subst (λ xs. Agree (account_of (life.entries ++ e ∷ []) (fold_of empty_world (life.entries ++ e ∷ []))) w xs) (sym (returned_same token life.leases)) (agrees_more life e (returned token ls) g.agrees); orderly = orderly_more life e g.orderly }
-  settled_life e g BrokenWithout = record { agrees = subst (λ xs. Agree a w xs) (sym (returned_same token life.leases)) (return_keeps a w ls token h.agrees); orderly = h.orderly }
+  settled_life e g BrokenWithout =
+      record { agrees = subst (Agree (told_in life) (held_by life)) (sym (returned_same token life.leases)) (return_keeps (told_in life) (held_by life) ls token h.agrees); orderly = h.orderly }
+  settled_life e g _ = record {
+    agrees = subst (Agree (account_of (life.entries ++ e ∷ []) (fold_of empty_world (life.entries ++ e ∷ []))) (held_by life)) (sym (returned_same token life.leases)) (agrees_more life e (returned token ls) g.agrees);
+    orderly = orderly_more life e g.orderly;
+  }
 
   by_doubt : (before after : ℕ) → MayFollow schemas (world_of life) (tokens_out life) (entry.Outcome lease.number lease.token reply.Doubt before after) → IsBack (entry.Outcome lease.number lease.token reply.Doubt before after)
   by_doubt before after (name, s, stage, at_work, at_stage, may) =
@@ -588,7 +451,7 @@ module _ (schemas : List Schema) (life : Life) (token : ℕ) (h : IsSound life) 
       let at : IsOnOne x (changed_by (x.place + 1) (entry.Outcome lease.number lease.token reply.Doubt before after) x) name s s' =
       on_one (entry.Outcome lease.number lease.token reply.Doubt before after) x name s h.orderly.own refl at_work in
       record {
-        agrees = subst (λ c. Agree c w (returned token ls)) (sym (doubt_moves life.entries x name s lease.number lease.token before after h.orderly.own at_work)) (return_keeps a w ls token h.agrees);
+        agrees = subst (λ c. Agree c (held_by life) (returned token ls)) (sym (doubt_moves life.entries x name s lease.number lease.token before after h.orderly.own at_work)) (return_keeps (told_in life) (held_by life) ls token h.agrees);
         orderly = orderly_on x (entry.Outcome lease.number lease.token reply.Doubt before after) name s s' h.orderly tt at.one
             (doubt_local x.stacks name s s' (once_here x.stacks (changed_by (x.place + 1) (entry.Outcome lease.number lease.token reply.Doubt before after) x).stacks name s s' at.one h.orderly.own) (in_doubt (x.place + 1) lease.number lease.token before after s)) at.lanes;
       }
@@ -596,35 +459,29 @@ module _ (schemas : List Schema) (life : Life) (token : ℕ) (h : IsSound life) 
   -- the answer is for good
   by_good : (answer_ : Reply) (y : Settlement) (before after : ℕ) → for_good answer_ ≡ Some y → good_reply lease.reply ≡ Some y
       → MayFollow schemas (world_of life) (tokens_out life) (entry.Outcome lease.number lease.token answer_ before after) → IsBack (entry.Outcome lease.number lease.token answer_ before after)
-  by_good answer_ y before after g k (name, s, stage, at_work, at_stage, (out, is_open, counted)) = by_pending (some_of (pending_of lease.token s) is_open) where
-    x : World
-    x = fold_of empty_world life.entries
-
-    z : World
-    z = changed_by (x.place + 1) (entry.Outcome lease.number lease.token answer_ before after) x
-
-    at0 : IsOnOne x z name s (effect_at (x.place + 1) (entry.Outcome lease.number lease.token answer_ before after) s).stack
-    at0 = on_one (entry.Outcome lease.number lease.token answer_ before after) x name s h.orderly.own refl at_work
-
-    by_pending : (p : Pending) × (pending_of lease.token s ≡ Some p) → IsBack (entry.Outcome lease.number lease.token answer_ before after)
-    by_pending (p, pending) =
-        let o = open_as name p in
-        let sf = answered_stack (x.place + 1) lease.number lease.token answer_ before after p s in
-        let at : IsOnOne x z name s sf = subst (λ q. IsOnOne x z name s (heard (x.place + 1) (entry.Outcome lease.number lease.token answer_ before after) s (stays_listed (reply_of lease.token answer_ q s))).stack) pending at0 in
-        let (fr, bk) = at.unshared.tokens lease.token p pending in
-        let open_ = open_own x.stacks z.stacks name s sf at.one lease.token o fr (ap (option_map (open_as name)) pending) in
-        let (r, en, ry) = (h.agrees.leased).replies (lease_of lease) y mine.1 k in
-        let fit = ((((h.agrees.leased).out (lease_of lease) mine.1).own).written (called o) (((h.agrees.tied).books).calls lease.token o open_)).0 in
-        let is : IsSettled a w lease.token o r = (open_, subst (λ n. entry_in w n lease.token ≡ Some r) (sym fit) en) in
-        let good = g ∙ ap Some (sym ry) in
-        let moved = outcome_moves life.entries x w name s p r lease.number lease.token answer_ before after h.orderly.own at_work pending good h.agrees.tied is in
-        let kept = answer_keeps a w ls (lease_of lease) o y h.agrees mine.1 k open_ in
-        record {
-          agrees = subst (λ c. Agree c w (returned token ls)) (sym (moved ∙ ap (λ v. answered lease.token o v a) ry)) (subst (λ t. Agree (answered lease.token o y a) w (returned t ls)) (sym mine.0) kept);
-          orderly = orderly_on x (entry.Outcome lease.number lease.token answer_ before after) name s sf h.orderly tt at.one
-              (outcome_local life.entries x z w name s p r (x.place + 1) lease.number lease.token answer_ before after h.orderly.own good h.agrees.tied is at
-              (differ_left s _ p.path p.request answer_ (answered_left (is_restore lease.token s) p.path p.request answer_ s))) at.lanes;
-        }
+  by_good answer_ y before after g k (name, s, stage, at_work, at_stage, (out, is_open, counted)) =
+      let x : World = fold_of empty_world life.entries in
+      let z : World = changed_by (x.place + 1) (entry.Outcome lease.number lease.token answer_ before after) x in
+      let at0 : IsOnOne x z name s (effect_at (x.place + 1) (entry.Outcome lease.number lease.token answer_ before after) s).stack =
+      on_one (entry.Outcome lease.number lease.token answer_ before after) x name s h.orderly.own refl at_work in
+      let (p, pending) = some_of (pending_of lease.token s) is_open in
+      let o = open_as name p in
+      let sf = answered_stack (x.place + 1) lease.number lease.token answer_ before after p s in
+      let at : IsOnOne x z name s sf = subst (λ q. IsOnOne x z name s (heard (x.place + 1) (entry.Outcome lease.number lease.token answer_ before after) s (stays_listed (reply_of lease.token answer_ q s))).stack) pending at0 in
+      let (fr, bk) = at.unshared.tokens lease.token p pending in
+      let open_ = open_own x.stacks z.stacks name s sf at.one lease.token o fr (ap (option_map (open_as name)) pending) in
+      let (r, en, ry) = (h.agrees.leased).replies (lease_of lease) y mine.1 k in
+      let fit = ((((h.agrees.leased).out (lease_of lease) mine.1).own).written (called o) (((h.agrees.tied).books).calls lease.token o open_)).0 in
+      let is : IsSettled (told_in life) (held_by life) lease.token o r = (open_, subst (λ n. entry_in (held_by life) n lease.token ≡ Some r) (sym fit) en) in
+      let good = g ∙ ap Some (sym ry) in
+      let moved = outcome_moves life.entries x (held_by life) name s p r lease.number lease.token answer_ before after h.orderly.own at_work pending good h.agrees.tied is in
+      let kept = answer_keeps (told_in life) (held_by life) ls (lease_of lease) o y h.agrees mine.1 k open_ in
+      record {
+        agrees = subst (λ c. Agree c (held_by life) (returned token ls)) (sym (moved ∙ ap (λ v. answered lease.token o v (told_in life)) ry)) (subst (λ t. Agree (answered lease.token o y (told_in life)) (held_by life) (returned t ls)) (sym mine.0) kept);
+        orderly = orderly_on x (entry.Outcome lease.number lease.token answer_ before after) name s sf h.orderly tt at.one
+            (outcome_local life.entries x z (held_by life) name s p r (x.place + 1) lease.number lease.token answer_ before after h.orderly.own good h.agrees.tied is at
+            (differ_left s _ p.path p.request answer_ (answered_left (is_restore lease.token s) p.path p.request answer_ s))) at.lanes;
+      }
 
   by_entry : (e : Entry) (r : CallEnd) → lease.reply ≡ Some r → IsOutcomeOf lease r e → MayFollow schemas (world_of life) (tokens_out life) e → IsBack e
   by_entry e (Answered (answer.Success i v) before after) k is may =
@@ -633,8 +490,7 @@ module _ (schemas : List Schema) (life : Life) (token : ℕ) (h : IsSound life) 
       subst IsBack (sym is) (by_good (reply.Failed c) (settlement.Failed c) before after refl (ap good_reply k) (subst (λ d. MayFollow schemas (world_of life) (tokens_out life) d) is may))
   by_entry e (Answered answer.Fault before after) k is may =
       subst IsBack (sym is) (by_doubt before after (subst (λ d. MayFollow schemas (world_of life) (tokens_out life) d) is may))
-  by_entry e (Answered answer.NoMemory before after) k is may = absurd is
-  by_entry e (Stale fence) k is may = absurd is
+  by_entry e _ k is may = absurd is
 
 pub settle_keeps : SettleKeeps
 settle_keeps schemas life token e end may h = settled_life schemas life token h may.1 may.3 e (by_entry schemas life token h may.1 may.3 e may.2 may.4 may.5 may.6) end
@@ -672,143 +528,77 @@ again (s ∷ ss) token o e = go (find (has_token token) (s.1).tokens) refl (agai
 -- a call that may be made again is open and not out
 pub may_again : (schemas : List Schema) (name : List ℕ) (x : World) (out : List ℕ) (s : StackState) (stage : Stage) (p : Pending) → MayRepeat schemas name x out s stage p → In p s.tokens × (is_in_flight out p.token ≡ false)
 may_again schemas name x out s Forward p m = (m.1, not-true (is_in_flight out p.token) (first_so (not (is_in_flight out p.token)) _ m.2))
-may_again schemas name x out s Clean p m = (m.0, not-true (is_in_flight out p.token) (first_so (not (is_in_flight out p.token)) _ m.1))
-may_again schemas name x out s Back p m = (m.0, not-true (is_in_flight out p.token) (first_so (not (is_in_flight out p.token)) _ m.1))
-may_again schemas name x out s BackClean p m = (m.0, not-true (is_in_flight out p.token) (first_so (not (is_in_flight out p.token)) _ m.1))
-may_again schemas name x out s Gone p m = (m.0, not-true (is_in_flight out p.token) (first_so (not (is_in_flight out p.token)) _ m.1))
+may_again schemas name x out s _ p m = (m.0, not-true (is_in_flight out p.token) (first_so (not (is_in_flight out p.token)) _ m.1))
 
 not_out : (token : ℕ) (ls : List Granted) → is_in_flight (map (λ (l : Granted). l.token) ls) token ≡ false → (l : Lease) → InLane l (map lease_of ls) → l.token ≢ token
 not_out token [] h l i = elim i [ ]
-not_out token (k ∷ ls) h l i = either (token == k.token) refl h (not_out token ls) where
-  either : (b : Bool) → (token == k.token) ≡ b → (b || is_in_flight (map (λ (l : Granted). l.token) ls) token) ≡ false → (is_in_flight (map (λ (l : Granted). l.token) ls) token ≡ false → (l : Lease) → InLane l (map lease_of ls) → l.token ≢ token) → l.token ≢ token
-  either true e g ih = absurd (true≢false g)
-  either false e g ih = elim (in_cons l (lease_of k) (map lease_of ls) i) [
-    | inl m ↦ (λ z. true≢false (sym (eq-eqb token k.token (sym z ∙ ap (λ (q : Lease). q.token) m)) ∙ e))
-    | inr m ↦ ih g l m
-  ]
+not_out token (k ∷ ls) h l i = elim (in_cons l (lease_of k) (map lease_of ls) i) [
+  | inl m ↦ (λ z. let e : token ≡ k.token = sym z ∙ ap (λ (q : Lease). q.token) m in absurd (grind arith))
+  | inr m ↦ not_out token ls (grind arith) l m
+]
 
 pub repeat_keeps : RepeatKeeps
-repeat_keeps schemas life token may h = by_again (again (world_of life).stacks token o open_) where
-  name : List ℕ
-  name = may.1
-
-  s : StackState
-  s = may.2
-
-  m : MayBeRepeated schemas life token may.1 may.2 may.3 may.4
-  m = may.5
-
-  a : Account
-  a = account_of life.entries (world_of life)
-
-  is : In may.4 s.tokens × (is_in_flight (tokens_out life) (may.4).token ≡ false)
-  is = may_again schemas name (world_of life) (tokens_out life) s may.3 may.4 m.may
-
-  pending : (p : Pending) × (find (has_token token) s.tokens ≡ Some p)
-  pending = is_found_in (has_token token) s.tokens may.4 is.0 (eq-eqb token (may.4).token (sym m.of_token))
-
-  o : Open
-  o = open_as name pending.0
-
-  at : IsOnOne (world_of life) (world_of life) name s s
-  at = stands_on (world_of life) name s h.orderly.own m.stands
-
-  open_ : open_in (world_of life).stacks token ≡ Some o
-  open_ = open_own (world_of life).stacks (world_of life).stacks name s s at.one token o (at.unshared.tokens token pending.0 pending.1).0 (ap (option_map (open_as name)) pending.1)
-
-  out : (lane : List ℕ) (r : Request) → lane ≡ o.lane → r ≡ o.request → IsOut a lane token r
-  out lane r el er = record {
-    own = record {
-      number = (((h.agrees).tied).books).numbers token (called o) ((((h.agrees).tied).books).calls token o open_);
-      written = λ c e. let k = (((h.agrees).tied).books).calls token o open_ in let same : called o ≡ c = cc in
-          (ap (λ (q : Called). q.lane) (sym same) ∙ sym el, ap (λ (q : Called). q.request) (sym same) ∙ sym er);
-    };
-    accounted = inl (o, open_);
-    going = λ v e. let k = open_ in let same : o ≡ v = cc in
-        ap (λ (q : Open). resting_in (world_of life).stacks q.stack) (sym same) ∙ ap (λ z. option_map_or is_at_rest z false) m.stands ∙ ap (λ c. not c && is_opened_since s) (ap is_some m.at_stage);
-  }
-
-  by_again : Again (world_of life).stacks token o → IsSound (life_after life (Repeat token))
-  by_again g =
-      subst (λ q. IsSound (repeated q life)) (sym g.found) (record {
-        agrees = record {
-          tied = (h.agrees).tied;
-          leased = subst (λ ls. AreLeased a (lanes_of life.lanes) ls) (ends (sym (more_leases life.leases g.lease)))
-              (leased_granted a a (lanes_of life.lanes) (map lease_of life.leases) (h.agrees).leased token g.lease.lane g.lease.request (λ l i x. x)
-              (not_out token life.leases (ap (is_in_flight (tokens_out life)) (sym m.of_token) ∙ is.1)) (out g.lease.lane g.lease.request g.lane g.request));
-        };
-        orderly = h.orderly;
-      })
-    where
-      ends : {ls : List Lease} → map lease_of life.leases ++ lease_of g.lease ∷ [] ≡ ls → map lease_of life.leases ++ record { token = token; lane = g.lease.lane; request = g.lease.request; reply = None } ∷ [] ≡ ls
-      ends e = ap (λ l. map lease_of life.leases ++ l ∷ []) same ∙ e where
-        same : record { token = token; lane = g.lease.lane; request = g.lease.request; reply = None } ≡ lease_of g.lease
-        same = λ i. record { token = sym g.of_token i; lane = g.lease.lane; request = g.lease.request; reply = sym (ap good_reply g.reply) i }
+repeat_keeps schemas life token (running, name, s, stage, p, m) h =
+    let is : In p s.tokens × (is_in_flight (tokens_out life) p.token ≡ false) = may_again schemas name (world_of life) (tokens_out life) s stage p m.may in
+    let (q, pending) = is_found_in (has_token token) s.tokens p is.0 (eq-eqb token p.token (sym m.of_token)) in
+    let o : Open = open_as name q in
+    let at : IsOnOne (world_of life) (world_of life) name s s = stands_on (world_of life) name s h.orderly.own m.stands in
+    let open_ : open_in (world_of life).stacks token ≡ Some o =
+    open_own (world_of life).stacks (world_of life).stacks name s s at.one token o (at.unshared.tokens token q pending).0 (ap (option_map (open_as name)) pending) in
+    let written : (told_in life).call token ≡ Some (called o) = (((h.agrees).tied).books).calls token o open_ in
+    let g : Again (world_of life).stacks token o = again (world_of life).stacks token o open_ in
+    let out : IsOut (told_in life) g.lease.lane token g.lease.request = record {
+      own = record {
+        number = (((h.agrees).tied).books).numbers token (called o) written;
+        written = λ c e. let same : called o ≡ c = cc in (ap (λ (q : Called). q.lane) (sym same) ∙ sym g.lane, ap (λ (q : Called). q.request) (sym same) ∙ sym g.request);
+      };
+      accounted = inl (o, open_);
+      going = λ v e. let same : o ≡ v = cc in
+          ap (λ (q : Open). resting_in (world_of life).stacks q.stack) (sym same) ∙ ap (λ z. option_map_or is_at_rest z false) m.stands ∙ ap (λ c. not c && is_opened_since s) (ap is_some m.at_stage);
+    } in
+    let ls : List Lease = map lease_of life.leases in
+    let ends : ls ++ record { token = token; lane = g.lease.lane; request = g.lease.request; reply = None } ∷ [] ≡ map lease_of (life.leases ++ g.lease ∷ []) =
+    ap (λ l. ls ++ l ∷ []) (λ i. record { token = sym g.of_token i; lane = g.lease.lane; request = g.lease.request; reply = sym (ap good_reply g.reply) i }) ∙ sym (more_leases life.leases g.lease) in
+    subst (λ q. IsSound (repeated q life)) (sym g.found) (record {
+      agrees = record {
+        tied = (h.agrees).tied;
+        leased = subst (AreLeased (told_in life) (lanes_of life.lanes)) ends
+            (leased_granted (told_in life) (told_in life) (lanes_of life.lanes) ls (h.agrees).leased token g.lease.lane g.lease.request (λ l i x. x)
+            (not_out token life.leases (ap (is_in_flight (tokens_out life)) (sym m.of_token) ∙ is.1)) out);
+      };
+      orderly = h.orderly;
+    })
 
 -- Where no call of a stack is open, what it holds is live.
 
 pub held_is_live : HeldIsLive
-held_is_live life name s r h stands none held = (v.0, is_live, v.2, λ sure. same sure) where
-  a : Account
-  a = account_of life.entries (world_of life)
-
-  w : Lanes
-  w = lanes_of life.lanes
-
-  b : Books a
-  b = (h.agrees.tied).books
-
-  t : Ties a w
-  t = (h.agrees.tied).ties
-
-  i : List ℕ
-  i = r.physical
-
-  at : IsOnOne (world_of life) (world_of life) name s s
-  at = stands_on (world_of life) name s h.orderly.own stands
-
-  role : a.role i ≡ Resource (thing_of name r)
-  role =
-      role_here (world_of life).stacks (world_of life).stacks name s s at.one i (thing_of name r) (at.unshared.roles i r held).0
-      (ap (λ o. role_found name o (has_leftover i s.leftovers)) held)
-
-  home : IsOfLane (lane_of i) i × (a.named (lane_of i) ≡ Some r.kind)
-  home = b.homes i (thing_of name r) role
-
-  there_ : IsThere w (lane_of i)
-  there_ = (r.kind, t.handed (lane_of i) r.kind home.1)
-
-  -- no open call names it
-  not_named : (u : ℕ) (o : Open) → a.open_ u ≡ Some o → named_by o.request ≡ Some i → ⊥
-  not_named u o e n =
-      let (r', x, y, z) = b.named u o i e n in
-      let both : Resource r' ≡ Resource (thing_of name r) = sym x ∙ role in
-      let same : r' ≡ thing_of name r = cc in
-      let at : o.stack ≡ name = sym y ∙ ap (λ (q : Thing). q.stack) same in
-      let f = open_found_in (world_of life).stacks u o h.orderly.own.names e in
-      let stacks : Some f.stack ≡ Some s = sym f.stands ∙ ap (λ m. value_at m (world_of life).stacks) at ∙ stands in
-      let is : f.stack ≡ s = cc in
-      let found : find (has_token u) [] ≡ Some f.pending = sym (ap (find (has_token u)) (ap (λ (q : StackState). q.tokens) is ∙ none)) ∙ f.found in
-      cc
-
-  request_of : (u : ℕ) (o : Open) (q : Settled) → IsSettled a w u o q → o.request ≡ q.request
-  request_of u o q (y, z) = ((t.settled_calls o.lane u q z).written (called o) (b.calls u o y)).1
-
-  v : (v : Live) × (Rattle.cf_agree.specs.Lanes.live_in w (lane_of i) i ≡ Some v) × (v.kind ≡ r.kind)
-  v = t.alive i (thing_of name r) role there_ (λ (u, o, q, is, d). not_named u o is.0 (ap named_by (request_of u o q is) ∙ gone_names q.request q.settlement i d))
-
-  same : r.unsure ≡ false → ((v.0).props ≡ r.props) × ((v.0).attrs ≡ r.attrs)
-  same sure = t.same i (thing_of name r) v.0 role (ap not sure) (λ (u, o, q, x, y, is, d). not_named u o is.0 (ap named_by (request_of u o q is) ∙ set_names q.request q.settlement i x y d)) v.1
-
-  lane : (l : Lane) × (lane_at (lane_of i) life.lanes ≡ Some l)
-  lane = map_some (lane_at (lane_of i) life.lanes) r.kind there_.1
-
-  name_is : lane_of i ≡ (lane.0).name
-  name_is = found_name (lane_of i) (λ l. l) (lane_of i) life.lanes lane.0 lane.1
-
-  is_live : IsLive life.lanes r v.0
-  is_live = record {
-    lane = lane.0;
-    home = record { handed_in = ap (λ n. lane_at n life.lanes) (sym name_is) ∙ lane.1; named = subst (λ n. IsOfLane n i) name_is home.0 };
-    live = ap (live_at i) (sym (there_is life.lanes (lane_of i) lane.0 lane.1).1) ∙ v.1;
-  }
+held_is_live life name s r h stands none held =
+    let b : Books (told_in life) = (h.agrees.tied).books in
+    let t : Ties (told_in life) (held_by life) = (h.agrees.tied).ties in
+    let at : IsOnOne (world_of life) (world_of life) name s s = stands_on (world_of life) name s h.orderly.own stands in
+    let role : (told_in life).role r.physical ≡ Resource (thing_of name r) =
+    role_here (world_of life).stacks (world_of life).stacks name s s at.one r.physical (thing_of name r) (at.unshared.roles r.physical r held).0
+    (ap (λ o. role_found name o (has_leftover r.physical s.leftovers)) held) in
+    let home : IsOfLane (lane_of r.physical) r.physical × ((told_in life).named (lane_of r.physical) ≡ Some r.kind) = b.homes r.physical (thing_of name r) role in
+    let there_ : IsThere (held_by life) (lane_of r.physical) = (r.kind, t.handed (lane_of r.physical) r.kind home.1) in
+    -- no open call names it
+    let not_named : (u : ℕ) (o : Open) → (told_in life).open_ u ≡ Some o → named_by o.request ≡ Some r.physical → ⊥ = λ u o e n.
+    let (r', x, y, z) = b.named u o r.physical e n in
+    let both : Resource r' ≡ Resource (thing_of name r) = sym x ∙ role in
+    let same : r' ≡ thing_of name r = cc in
+    let at : o.stack ≡ name = sym y ∙ ap (λ (q : Thing). q.stack) same in
+    let f = open_found_in (world_of life).stacks u o h.orderly.own.names e in
+    let stacks : Some f.stack ≡ Some s = sym f.stands ∙ ap (λ m. value_at m (world_of life).stacks) at ∙ stands in
+    let is : f.stack ≡ s = cc in
+    let found : find (has_token u) [] ≡ Some f.pending = sym (ap (find (has_token u)) (ap (λ (q : StackState). q.tokens) is ∙ none)) ∙ f.found in
+    cc in
+    let v : (v : Live) × (Rattle.cf_agree.specs.Lanes.live_in (held_by life) (lane_of r.physical) r.physical ≡ Some v) × (v.kind ≡ r.kind) = t.alive r.physical (thing_of name r) role there_ (λ (u, o, q, is, d). not_named u o is.0 (ap named_by (request_of (told_in life) (held_by life) b t u o q is) ∙ gone_names q.request q.settlement r.physical d)) in
+    let same : r.unsure ≡ false → ((v.0).props ≡ r.props) × ((v.0).attrs ≡ r.attrs) = λ sure. t.same r.physical (thing_of name r) v.0 role (ap not sure) (λ (u, o, q, x, y, is, d). not_named u o is.0 (ap named_by (request_of (told_in life) (held_by life) b t u o q is) ∙ set_names q.request q.settlement r.physical x y d)) v.1 in
+    let lane : (l : Lane) × (lane_at (lane_of r.physical) life.lanes ≡ Some l) = map_some (lane_at (lane_of r.physical) life.lanes) r.kind there_.1 in
+    let name_is : lane_of r.physical ≡ (lane.0).name = found_name (lane_of r.physical) (λ l. l) (lane_of r.physical) life.lanes lane.0 lane.1 in
+    let is_live : IsLive life.lanes r v.0 = record {
+      lane = lane.0;
+      home = record { handed_in = ap (λ n. lane_at n life.lanes) (sym name_is) ∙ lane.1; named = subst (λ n. IsOfLane n r.physical) name_is home.0 };
+      live = ap (live_at r.physical) (sym (there_is life.lanes (lane_of r.physical) lane.0 lane.1).1) ∙ v.1;
+    } in
+    (v.0, is_live, v.2, λ sure. same sure)

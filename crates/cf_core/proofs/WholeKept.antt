@@ -1,144 +1,32 @@
 -- What a completed stack holds is whole: it becomes so, stays so, and keeps what its status promises.
-use Rattle.std.proofs.Common.{◌≡◌, ◌⊎◌, inl, inr, ◌↔◌, ℕ, List, [], ◌∷◌, Bool, true, false, not, Some, refl, sym, ap, subst, ◌∙◌, true≢false, map, filter, find, ◌++◌, ◌&&◌, Option, None, option_map, ◌+◌}
-use Rattle.std.specs.Prelude.{cond, is_some, unwrap_or, ◌≢◌}
-use Rattle.std.specs.Str.{bytes_eq}
-use Rattle.std.specs.List.{list_all, list_any}
-use Rattle.std.specs.Cmp.{first_so, second_so}
-use Rattle.std.specs.Option.{option_and_then, option_map_or, option_or}
-use Rattle.std.proofs.lemmas.List.Folds.{find-append}
-use Rattle.cf_tree.specs.Datum.{Data}
-use Rattle.cf_tree.specs.Keys.{value_at}
-use Rattle.cf_tree.specs.Named.{all_differ}
-use Rattle.cf_tree.specs.declared.source.Source.{Source}
+use Rattle.std.proofs.Common.{◌≡◌, ◌⊎◌, inl, inr, ◌↔◌, ℕ, List, ◌∷◌, Bool, true, false, not, Some, refl, sym, ap, subst, ◌∙◌, true≢false, map, filter, find, ◌++◌, ◌&&◌, Option, None, ◌+◌, []}
+use Rattle.cf_core.proofs.Words.{AllDone, AreSameThings, AreSingle, BecomesBy, Begun, Cause, Clean, DeletesSuperseded, EndsAs, Entry, Export, Fits, HasFailed, Held, HeldStatus, HoldsWhole, In, IsAdvancing, IsAsSaid, IsAtRest, IsDone, IsOnCourse, Known, MayFollow, MayFollowIn, MayFollowOn, MayKeep, MayTurn, Pending, Phase, Reply, Right, Schema, Source, StackState, Status, Why, World, all_differ, answered, at_opening, begins_from, bytes_eq, change_first, current_at, deleting, effect_at, effect_of, evaluated_at, first_so, has_physical, has_token, here, intending, is_current_at, is_made, is_on, is_opening, is_restore, is_right, is_updated, keeping, known_stack, leaving, left_in_doubt, list_any, marked, more as more_same, new_call, none as none_same, option_map_or, option_or, own as is_own, pending_of, plan_now, replied, replying, resources_of, right_at, second_so, seen_as_held, seen_now, settled_in, stack_for, stack_of_operation, stage_of, stopping, turning, where_physical, whole_now, with_status, without, world_after}
+use Rattle.cf_core.proofs.Lemmas.{bytes_same, find-append, found_one, in_changed, in_filter, in_front, in_kept, none_false, none_first, not_so, own_framed, same_bytes, some_is}
+use Rattle.std.specs.Prelude.{◌≢◌}
+use Rattle.cf_effect.specs.Listed.{export_by, reexported, exports_after}
+use Rattle.cf_plan.proofs.Listed.{in_map}
+use Rattle.cf_plan.specs.Created.{IsHeldAs}
+use Rattle.cf_plan.specs.Promise.{Promised}
+use Rattle.cf_core.specs.Completing.{ShapeIsKept, CreationIsWhole, UpdateIsWhole, ExportsSame, CleanupKeepsWhole, IsAsItWas, IsNoBegin, RestKeepsWhole, StaysAtRest, UpdateEndsAtRest, BackIsRestored, ClearedIsRestored, CourseKeepsPromise, HeldIsFound, WholeIsComplete}
+use Rattle.cf_core.specs.Fits.{other as of_another}
+use Rattle.cf_core.proofs.FitKept.{one_id}
+use Rattle.cf_core.proofs.Moving.{in_stage}
+use Rattle.cf_core.proofs.TidyLists.{from_changed, to_changed}
+use Rattle.cf_core.proofs.BackLists.{own_front, is_of, was_of}
+use Rattle.cf_core.proofs.AdvLists.{either_way}
+use Rattle.cf_core.proofs.Statuses.{kept_way, intended_way}
+use Rattle.cf_core.proofs.Written.{beginning_name}
+use Rattle.cf_export.specs.declared.Output.{Output}
+use Rattle.cf_plan.proofs.WholeFound.{IsFinished, IsWholeIn, current_is, evaluated, found_only, none_marked, other_exports, own_exports, stays_current, whole_left}
 use Rattle.cf_tree.specs.declared.code.Code.TheVariants as code
 use Rattle.cf_tree.specs.declared.request.Request.TheVariants as request
-use Rattle.cf_export.specs.declared.Export.{Export}
-use Rattle.cf_effect.specs.Listed.{export_by, is_export_before, not_export_of, reexported, exports_after}
-use Rattle.cf_effect.specs.declared.held.Held.{Held}
-use Rattle.cf_effect.specs.declared.held.Pending.{Pending}
-use Rattle.cf_effect.specs.World.{StackState, World, known_stack, stack_of_operation}
-use Rattle.cf_effect.specs.Words.{current_at, is_current_at, resource_at, resources_of, change_first, has_physical, has_token, is_on, pending_of, where_physical, without}
-use Rattle.cf_effect.specs.Begin.{seen_as_held, seen_in}
-use Rattle.cf_effect.specs.End.{as_wanted, empty_whole, is_physical_of, is_right_at, seen_now, settled_in, whole_now, whole_over, marked, stopping, turning, left_in_doubt}
-use Rattle.cf_effect.specs.Fold.{effect_at, is_opening, stack_for, world_after, effect_of}
-use Rattle.cf_effect.specs.declared.held.HeldStatus.{HeldStatus}
-use Rattle.cf_effect.specs.Calls.{is_restore, new_call}
-use Rattle.cf_effect.specs.Effect.{leaving}
-use Rattle.cf_effect.specs.Reply.{answered, closing, deleting, keeping, replied, replying, with_status, intending}
-use Rattle.cf_effect.specs.Status.{Clean, stage_of}
 use Rattle.cf_effect.specs.declared.held.HeldStatus.TheVariants as held
-use Rattle.cf_plan.specs.Forward.{In, here, there, AllDone, HasFailed, IsDone, Known, evaluated_at, is_made, is_right, is_updated, plan_in, plan_now, wanted_paths}
-use Rattle.cf_plan.proofs.CreatedEnd.{in_changed, none_first}
-use Rattle.cf_plan.proofs.CreatedRight.{in_filter, not_so}
-use Rattle.cf_plan.proofs.CreatedStays.{found_one, found_in, is_found}
-use Rattle.cf_plan.proofs.Listed.{bytes_same, same_bytes, in_map}
-use Rattle.cf_plan.proofs.RunLists.{in_kept, is_found_in, in_back, in_either, in_front, none_false}
-use Rattle.cf_plan.specs.Created.{IsHeldAs}
-use Rattle.cf_plan.specs.Ends.{right_at}
-use Rattle.cf_plan.proofs.CreatedSeen.{shown_at}
-use Rattle.cf_plan.proofs.OneShape.{plan_paths}
-use Rattle.cf_plan.specs.Follow.{EndsAs, MayTurn, MayFollow, MayFollowIn, MayFollowOn, MayKeep, begins_from}
-use Rattle.cf_plan.proofs.Frame.{own_framed}
-use Rattle.cf_plan.specs.Promise.{Promised}
-use Rattle.cf_entry.proofs.Codec.{some_is}
-use Rattle.cf_entry.specs.declared.entry.Entry.{Entry}
-use Rattle.cf_entry.specs.declared.status.Status.{Status}
-use Rattle.cf_entry.specs.declared.turn.Cause.{Cause}
-use Rattle.cf_entry.specs.declared.entry.Reply.{Reply}
-use Rattle.cf_entry.specs.declared.turn.Why.{Why}
-use Rattle.cf_entry.specs.declared.entry.Begun.{Begun}
-use Rattle.cf_entry.specs.declared.turn.Phase.{Phase}
 use Rattle.cf_entry.specs.declared.entry.Entry.TheVariants as entry
 use Rattle.cf_entry.specs.declared.status.Status.TheVariants as status
 use Rattle.cf_entry.specs.declared.turn.Phase.TheVariants as phase
 use Rattle.cf_entry.specs.declared.entry.Reply.TheVariants as reply
 use Rattle.cf_entry.specs.declared.entry.Begun.TheVariants as begin
 use Rattle.cf_entry.specs.declared.turn.Why.TheVariants as why
-use Rattle.cf_schema.specs.declared.described.Schema.{Schema}
-use Rattle.cf_desired.specs.declared.seen.SeenAt.{SeenAt}
-use Rattle.cf_desired.specs.declared.wanted.Plan.{Plan}
-use Rattle.cf_desired.specs.declared.wanted.Wanted.{Wanted}
-use Rattle.cf_desired.specs.Seeing.{Seen}
-use Rattle.cf_desired.specs.Plan.{plan_by, plan_of}
-use Rattle.cf_desired.specs.Shape.{shape_of}
-use Rattle.cf_desired.specs.Stays.{IsWholeOf}
-use Rattle.cf_desired.specs.Whole.{Right, Whole, is_wanted_at, known_of, right_of, wanted_at, whole_of}
-use Rattle.cf_desired.specs.Work.{Shape}
-use Rattle.cf_desired.proofs.AllKnown.{known_whole}
-use Rattle.cf_desired.proofs.Planned.{is_seen_at, plan_known}
-use Rattle.cf_core.specs.Advancing.{IsAdvancing, IsAsSaid, AreSameThings, more as more_same, none as none_same, AreSingle}
-use Rattle.cf_core.specs.Completing.{ShapeIsKept, CreationIsWhole, UpdateIsWhole, ExportsSame, CleanupKeepsWhole, IsAsItWas, IsNoBegin, RestKeepsWhole, StaysAtRest, UpdateEndsAtRest, BackIsRestored, ClearedIsRestored, CourseKeepsPromise, HeldIsFound, WholeIsComplete}
-use Rattle.cf_core.specs.Fits.{Fits, BecomesBy, at_opening, other as of_another, own as is_own}
-use Rattle.cf_core.proofs.FitKept.{one_id}
-use Rattle.cf_core.specs.Whole.{HoldsWhole, IsAtRest, DeletesSuperseded}
-use Rattle.cf_core.proofs.Moving.{in_stage}
-use Rattle.cf_core.proofs.TidyLists.{from_changed, to_changed}
-use Rattle.cf_core.proofs.BackLists.{own_front, is_of, was_of}
-use Rattle.cf_core.proofs.AdvLists.{either_way, all_inserted}
-use Rattle.cf_core.proofs.Statuses.{kept_way, intended_way}
-use Rattle.cf_core.proofs.Written.{beginning_name}
-use Rattle.cf_core.specs.Course.{IsOnCourse}
-
--- What alone passes a test, and the exports that a stack has anew.
-
--- what alone passes is found
-pub found_only : {A : Type 0} (test : A → Bool) (xs : List A) (y : A) → In y xs → test y ≡ true → ((x : A) → In x xs → test x ≡ true → x ≡ y) → find test xs ≡ Some y
-found_only test xs y i t only =
-    let f = is_found_in test xs y i t in
-    let one = found_one test xs f.0 f.1 in
-    f.1 ∙ ap (λ z. Some z) (only f.0 one.0 one.1)
-
-abbrev of : List ℕ → Export → Bool
-of name e = bytes_eq name e.stack
-
--- the exports that a stack has anew are all of its own, and leave those of others
-module _ (name : List ℕ) (exports : List (List ℕ × List ℕ)) (all : List Export) (e : Export) where
-  abbrev rest : List Export
-  rest = filter (not_export_of name) all
-
-  there_all : In e (reexported name exports all) ↔ (In e rest ⊎ In e (map (export_by name) exports))
-  there_all = all_inserted is_export_before e (map (export_by name) exports) rest
-
-  of_own : In e (map (export_by name) exports) → name ≡ e.stack
-  of_own i = ap (λ (z : Export). z.stack) (in_changed (export_by name) exports e i).same
-
-  pub own_exports : In e (filter (of name) (reexported name exports all)) ↔ In e (map (export_by name) exports)
-  own_exports = (
-    λ i. let f = in_filter (of name) (reexported name exports all) e i in elim (there_all.0 f.0) [
-      | inl j ↦ absurd (true≢false (sym f.1 ∙ not_so (of name e) (in_filter (not_export_of name) all e j).1))
-      | inr j ↦ j
-    ],
-    λ i. in_kept (of name) (reexported name exports all) e (there_all.1 (inr i)) (ap (bytes_eq name) (sym (of_own i)) ∙ same_bytes name),
-  )
-
-  pub other_exports : (other : List ℕ) → (name ≡ other → ⊥) → In e (filter (of other) (reexported name exports all)) ↔ In e (filter (of other) all)
-  other_exports other differs = (
-    λ i. let f = in_filter (of other) (reexported name exports all) e i in elim (there_all.0 f.0) [
-      | inl j ↦ in_kept (of other) all e (in_filter (not_export_of name) all e j).0 f.1
-      | inr j ↦ absurd (differs (of_own j ∙ sym (bytes_same other e.stack f.1)))
-    ],
-    λ i. let f = in_filter (of other) all e i in
-        in_kept (of other) (reexported name exports all) e (there_all.1 (inl (in_kept (not_export_of name) all e f.0 (ap not (not_own (of name e) refl f.1))))) f.1,
-  ) where
-    not_own : (b : Bool) → of name e ≡ b → of other e ≡ true → of name e ≡ false
-    not_own true q o = absurd (differs (bytes_same name e.stack q ∙ sym (bytes_same other e.stack o)))
-    not_own false q o = q
-
--- Where all is done and nothing is at fault, the template is whole over what is seen, and the completed stack holds just that.
-
--- the resource of a path is of the list, at that path, and not superseded
-pub current_is : (path : List ℕ) (hs : List Held) (r : Held) → current_at path hs ≡ Some r → In r hs × (path ≡ r.path) × (r.superseded ≡ false)
-current_is path hs r e =
-    let one = found_one (is_current_at path) hs r e in
-    (one.0, bytes_same path r.path (first_so (bytes_eq path r.path) _ one.1), not_so r.superseded (second_so (bytes_eq path r.path) _ one.1))
-
--- each path of the template has its resource, as the template says, and nothing is at fault
-pub record IsFinished (s : StackState) (source : Source) : Type 0 where
-  pub going : s.going ≡ Some source
-  pub shape : ShapeIsKept s source
-  pub no_flaw : (plan_now s).flaws ≡ []
-  pub each : (p : List ℕ) → In p (wanted_paths s) → (r : Held) × (resource_at p s ≡ Some r) × (r.unsure ≡ false) × (evaluated_at p s ≡ Known r.kind r.props)
-  pub ids : all_differ bytes_eq (map (λ r. r.physical) (resources_of s)) ≡ true
 
 module _ (schemas : List Schema) (s : StackState) (source : Source) (a : IsAdvancing schemas s source) where
   done_at :
@@ -170,222 +58,6 @@ module _ (schemas : List Schema) (s : StackState) (source : Source) (a : IsAdvan
     none_in : (ps : List Pending) → ((p : Pending) → In p ps → ⊥) → ps ≡ []
     none_in [] h = refl
     none_in (p ∷ ps) h = absurd (h p here)
-
-abbrev right_with : Wanted → List (List ℕ × Data) → Right
-right_with w props = record { path = w.path; kind = w.kind; deletion = w.deletion; replace = w.replace; needs = w.needs; props = props }
-
-all_seen :
-    (seen : Seen) (ws : List Wanted) → ((p : List ℕ) → In p (map (λ w. w.path) ws) → (r : Held) × (value_at p seen ≡ Some (seen_as_held r)))
-    → list_all (is_seen_at seen) ws ≡ true
-all_seen seen [] h = refl
-all_seen seen (w ∷ ws) h =
-    let first = h w.path here in
-    ap (λ (o : Option SeenAt). (is_some (option_and_then (λ z. z.physical) o) && is_some (option_and_then (λ z. z.attrs) o)) && list_all (is_seen_at seen) ws) first.1
-    ∙ all_seen seen ws (λ p i. h p (there i))
-
--- rights and what they are of are found alike
-rights_at :
-    (path : List ℕ) (rs : List Right) (ws : List Wanted) → map (λ r. Some r) rs ≡ map right_of ws
-    → find (is_right_at path) rs ≡ option_and_then right_of (find (is_wanted_at path) ws)
-rights_at path [] [] e = refl
-rights_at path [] (w ∷ ws) e = let no : ⊥ = cc in absurd no
-rights_at path (r ∷ rs) [] e = let no : ⊥ = cc in absurd no
-rights_at path (r ∷ rs) (w ∷ ws) e =
-    let head : right_of w ≡ Some r = cc in
-    let rest : map (λ x. Some x) rs ≡ map right_of ws = cc in
-    ap (λ p. cond (bytes_eq path p) (Some r) (find (is_right_at path) rs)) (ap (λ o. option_map_or (λ x. x.path) o w.path) (sym head) ∙ by_props (known_of w.props))
-    ∙ either head (rights_at path rs ws rest) (bytes_eq path w.path) where
-      by_props : (o : Option (List (List ℕ × Data))) → option_map_or (λ x. x.path) (option_map (right_with w) o) w.path ≡ w.path
-      by_props None = refl
-      by_props (Some ps) = refl
-
-      either :
-          right_of w ≡ Some r → find (is_right_at path) rs ≡ option_and_then right_of (find (is_wanted_at path) ws) → (b : Bool)
-          → cond b (Some r) (find (is_right_at path) rs) ≡ option_and_then right_of (cond b (Some w) (find (is_wanted_at path) ws))
-      either h ih true = sym h
-      either h ih false = ih
-
-found_before : {A B : Type 0} (f : A → Option B) (o : Option A) (b : B) → option_and_then f o ≡ Some b → (a : A) × (o ≡ Some a)
-found_before f None b h = let no : ⊥ = cc in absurd no
-found_before f (Some a) b h = (a, refl)
-
--- when one that is settled is not superseded
-settled_cases : (b : Bool) (o : Option Right) (h : Held) → (cond b (as_wanted o h) (record h { superseded = true })).superseded ≡ false → (b ≡ true) × (w : Right) × (o ≡ Some w)
-settled_cases true None h e = absurd (true≢false e)
-settled_cases true (Some w) h e = (refl, w, refl)
-settled_cases false o h e = absurd (true≢false e)
-
-physical_cases : (o : Option Held) (id : List ℕ) → is_physical_of id o ≡ true → (r : Held) × (o ≡ Some r) × (id ≡ r.physical)
-physical_cases None id e = absurd (true≢false (sym e))
-physical_cases (Some r) id e = (r, refl, bytes_same id r.physical e)
-
--- these hold what the whole map wants
-pub record IsWholeIn (seen : Seen) (whole : Whole) (hs : List Held) : Type 0 where
-  pub sees : (path : List ℕ) (r : Held) → current_at path hs ≡ Some r → value_at path seen ≡ Some (seen_as_held r)
-  pub wanted : (path : List ℕ) (w : Right) → right_at path whole ≡ Some w → (r : Held) × (current_at path hs ≡ Some r) × IsHeldAs w r
-  pub held : (r : Held) → In r hs → r.superseded ≡ false → (w : Right) × (right_at r.path whole ≡ Some w) × IsHeldAs w r
-  pub single : (r : Held) → In r hs → r.superseded ≡ false → current_at r.path hs ≡ Some r
-  pub sure : (r : Held) → In r hs → r.superseded ≡ false → r.unsure ≡ false
-
-module _ (s : StackState) (source : Source) (f : IsFinished s source) where
-  abbrev seen : Seen
-  seen = seen_now s
-
-  abbrev plan : Plan
-  plan = plan_of source seen
-
-  now_is : plan_now s ≡ plan
-  now_is = ap (λ g. plan_in g (seen_in s.before) seen) f.going ∙ ap (λ (h : Shape). plan_by source h seen) (sym f.shape)
-
-  paths_are : map (λ w. w.path) plan.wanted ≡ wanted_paths s
-  paths_are =
-      ap (λ (h : Shape). map (λ w. w.path) (plan_by source h seen).wanted) f.shape
-      ∙ plan_paths source (shape_of source (seen_in s.before)) seen ∙ sym (plan_paths source (shape_of source (seen_in s.before)) (seen_in s.before))
-      ∙ ap (λ g. map (λ w. w.path) (plan_in g (seen_in s.before) (seen_in s.before)).wanted) (sym f.going)
-
-  seen_at : (p : List ℕ) (r : Held) → resource_at p s ≡ Some r → value_at p seen ≡ Some (seen_as_held r)
-  seen_at p r e = shown_at p (s.made ++ s.held) ∙ ap (option_map seen_as_held) (find-append (is_current_at p) s.made s.held ∙ e)
-
-  wholly : (w : Whole) × (whole_of source seen ≡ Some w) × IsWholeOf plan w
-  wholly =
-      known_whole plan
-      (plan_known source seen (all_seen seen plan.wanted (λ p i. let m = f.each p (subst (In p) paths_are i) in (m.0, seen_at p m.0 m.1)))
-      (subst (λ (p : Plan). p.flaws ≡ []) now_is f.no_flaw))
-
-  abbrev pub whole : Whole
-  whole = whole_now s
-
-  whole_is : whole ≡ wholly.0
-  whole_is = ap (λ g. whole_over g seen) f.going ∙ ap (λ o. unwrap_or o empty_whole) wholly.1
-
-  pub evaluated : whole_of source seen ≡ Some whole
-  evaluated = wholly.1 ∙ ap (λ w. Some w) (sym whole_is)
-
-  right_is : (p : List ℕ) → right_at p whole ≡ option_and_then right_of (wanted_at p plan)
-  right_is p = rights_at p whole.wanted plan.wanted (subst (IsWholeOf plan) (sym whole_is) wholly.2).wanted
-
-  -- the resource of a path has what is wanted there
-  record IsHad (p : List ℕ) (w : Right) : Type 0 where
-    pub one : Held
-    pub at : resource_at p s ≡ Some one
-    pub sure : one.unsure ≡ false
-    pub kind : one.kind ≡ w.kind
-    pub props : one.props ≡ w.props
-
-  had_at : (p : List ℕ) → In p (wanted_paths s) → (w : Right) × (right_at p whole ≡ Some w) × IsHad p w
-  had_at p i =
-      let m = f.each p i in
-      let g = is_found m.0.kind m.0.props (wanted_at p plan) (ap (λ (q : Plan). found_in (wanted_at p q)) (sym now_is) ∙ m.3) in (
-        right_with g.wanted m.0.props,
-        right_is p ∙ ap (option_and_then right_of) g.there ∙ ap (option_map (right_with g.wanted)) g.props,
-        record { one = m.0; at = m.1; sure = m.2; kind = sym g.kind; props = refl },
-      )
-
-  wanted_in : (p : List ℕ) (w : Right) → right_at p whole ≡ Some w → In p (wanted_paths s)
-  wanted_in p w e =
-      let b = found_before right_of (wanted_at p plan) w (sym (right_is p) ∙ e) in
-      let one = found_one (is_wanted_at p) plan.wanted b.0 b.1 in
-      subst (In p) paths_are (subst (λ q. In q (map (λ v. v.path) plan.wanted)) (sym (bytes_same p b.0.path one.1)) (in_map (λ (v : Wanted). v.path) b.0 plan.wanted one.0))
-
-  had : (p : List ℕ) (w : Right) → right_at p whole ≡ Some w → IsHad p w
-  had p w e = let h = had_at p (wanted_in p w e) in subst (IsHad p) (some_is h.0 w (sym h.1 ∙ e)) h.2
-
-  -- how a resource is settled
-  abbrev settle : Held → Held
-  settle h = settled_in whole s h
-
-  abbrev held_by : Right → Held → Held
-  held_by w h = record h { needs = w.needs; deletion = w.deletion; replace = w.replace; superseded = false }
-
-  abbrev left : List Held
-  left = map settle (resources_of s)
-
-  settles : (h : Held) (w : Right) → resource_at h.path s ≡ Some h → h.superseded ≡ false → right_at h.path whole ≡ Some w → settle h ≡ held_by w h
-  settles h w at stands right =
-      ap (λ o. cond (is_physical_of h.physical o && not h.superseded) (as_wanted (right_at h.path whole) h) (record h { superseded = true })) at
-      ∙ ap (λ b. cond (b && not h.superseded) (as_wanted (right_at h.path whole) h) (record h { superseded = true })) (same_bytes h.physical)
-      ∙ ap (λ b. cond (not b) (as_wanted (right_at h.path whole) h) (record h { superseded = true })) stands
-      ∙ ap (λ o. as_wanted o h) right
-
-  resource_is : (p : List ℕ) (r : Held) → resource_at p s ≡ Some r → In r (resources_of s) × (p ≡ r.path) × (r.superseded ≡ false)
-  resource_is p r e =
-      let c = current_is p (s.made ++ s.held) r (find-append (is_current_at p) s.made s.held ∙ e) in
-      (elim (in_either r s.made s.held c.0) [ inl i ↦ in_back r s.held s.made i | inr i ↦ in_front r s.held s.made i ], c.1, c.2)
-
-  record IsCurrent (h : Held) : Type 0 where
-    pub at : resource_at h.path s ≡ Some h
-    pub right : Right
-    pub wanted : right_at h.path whole ≡ Some right
-    pub same : settle h ≡ held_by right h
-
-  lives : (h : Held) → In h (resources_of s) → (settle h).superseded ≡ false → IsCurrent h
-  lives h i e =
-      let c = settled_cases (is_physical_of h.physical (resource_at h.path s) && not h.superseded) (right_at h.path whole) h e in
-      let p = physical_cases (resource_at h.path s) h.physical (first_so (is_physical_of h.physical (resource_at h.path s)) (not h.superseded) c.0) in
-      let same : p.0 ≡ h = one_id (λ (r : Held). r.physical) (resources_of s) f.ids p.0 h (resource_is h.path p.0 p.1).0 i (sym p.2) in
-      let at : resource_at h.path s ≡ Some h = p.1 ∙ ap (λ r. Some r) same in
-      record {
-        at = at;
-        right = c.1;
-        wanted = c.2;
-        same = settles h c.1 at (not_so h.superseded (second_so (is_physical_of h.physical (resource_at h.path s)) (not h.superseded) c.0)) c.2;
-      }
-
-  currents : (h : Held) → In h (resources_of s) → IsCurrent h → current_at h.path left ≡ Some (settle h)
-  currents h i c = found_only (is_current_at h.path) left (settle h) (in_map settle h (resources_of s) i) (ap (is_current_at h.path) c.same ∙ ap (λ b. b && true) (same_bytes h.path)) only where
-    only : (y : Held) → In y left → is_current_at h.path y ≡ true → y ≡ settle h
-    only y j t =
-        let m = in_changed settle (resources_of s) y j in
-        let d = lives m.one m.of_list (ap (λ (z : Held). z.superseded) m.same ∙ not_so y.superseded (second_so (bytes_eq h.path y.path) _ t)) in
-        let path : m.one.path ≡ h.path = ap (λ (z : Held). z.path) (sym d.same ∙ m.same) ∙ sym (bytes_same h.path y.path (first_so (bytes_eq h.path y.path) _ t)) in
-        sym m.same ∙ ap settle (some_is m.one h (sym d.at ∙ ap (λ q. resource_at q s) path ∙ c.at))
-
-  is_as : (h : Held) (c : IsCurrent h) → (h.unsure ≡ false) × IsHeldAs c.right (settle h)
-  is_as h c =
-      let g = had h.path c.right c.wanted in
-      let one : g.one ≡ h = some_is g.one h (sym g.at ∙ c.at) in (
-        subst (λ (r : Held). r.unsure ≡ false) one g.sure,
-        subst (IsHeldAs c.right) (sym c.same)
-            (record { kind = ap (λ (r : Held). r.kind) (sym one) ∙ g.kind; props = ap (λ (r : Held). r.props) (sym one) ∙ g.props; needs = refl; deletion = refl; replace = refl }),
-      )
-
-  record IsLeft (r : Held) : Type 0 where
-    pub one : Held
-    pub of_list : In one (resources_of s)
-    pub same : settle one ≡ r
-    pub current : IsCurrent one
-    pub path : one.path ≡ r.path
-
-  is_left : (r : Held) → In r left → r.superseded ≡ false → IsLeft r
-  is_left r i e =
-      let m = in_changed settle (resources_of s) r i in
-      let c = lives m.one m.of_list (ap (λ (z : Held). z.superseded) m.same ∙ e) in
-      record { one = m.one; of_list = m.of_list; same = m.same; current = c; path = ap (λ (z : Held). z.path) (sym c.same ∙ m.same) }
-
-  pub whole_left : IsWholeIn seen whole left
-  whole_left = record {
-    sees = λ path r e.
-        let c = current_is path left r e in
-        let l = is_left r c.0 c.2 in
-        seen_at path l.one (ap (λ q. resource_at q s) (c.1 ∙ sym l.path) ∙ l.current.at) ∙ ap (λ (z : Held). Some (seen_as_held z)) (sym l.current.same ∙ l.same);
-    wanted = λ path w e.
-        let h = had path w e in
-        let i = resource_is path h.one h.at in
-        let at : resource_at h.one.path s ≡ Some h.one = ap (λ q. resource_at q s) (sym i.1) ∙ h.at in
-        let right : right_at h.one.path whole ≡ Some w = ap (λ q. right_at q whole) (sym i.1) ∙ e in
-        let c : IsCurrent h.one = record { at = at; right = w; wanted = right; same = settles h.one w at i.2 right } in
-        (settle h.one, ap (λ q. current_at q left) i.1 ∙ currents h.one i.0 c, (is_as h.one c).1);
-    held = λ r i e.
-        let l = is_left r i e in
-        (l.current.right, ap (λ q. right_at q whole) (sym l.path) ∙ l.current.wanted, subst (IsHeldAs l.current.right) l.same (is_as l.one l.current).1);
-    single = λ r i e. let l = is_left r i e in ap (λ q. current_at q left) (sym l.path) ∙ currents l.one l.of_list l.current ∙ ap (λ z. Some z) l.same;
-    sure = λ r i e. let l = is_left r i e in ap (λ (z : Held). z.unsure) (sym l.same ∙ l.current.same) ∙ (is_as l.one l.current).0;
-  }
-
-  -- what is the resource of a path of the template is not superseded
-  pub stays_current : (h : Held) → resource_at h.path s ≡ Some h → In h.path (wanted_paths s) → (settle h).superseded ≡ false
-  stays_current h at i =
-      let w = had_at h.path i in ap (λ (z : Held). z.superseded) (settles h w.0 at (resource_is h.path h at).2 w.1)
 
 -- Where a forward phase is completed, the stack after it holds what its template wants.
 
@@ -447,14 +119,6 @@ update_is_whole schemas x out number why name s t source w differs a shape =
             quiet,
             quiet,
           )
-
--- without an open call nothing is marked
-unmarked : (hs : List Held) → map (marked []) hs ≡ hs
-unmarked [] = refl
-unmarked (h ∷ hs) = ap (λ t. h ∷ t) (unmarked hs)
-
-pub none_marked : (ps : List Pending) (hs : List Held) → ps ≡ [] → hs ≡ map (marked ps) hs
-none_marked ps hs e = sym (ap (λ qs. map (marked qs) hs) e ∙ unmarked hs)
 
 nothing_held : (bs hs : List Held) → AreSameThings bs hs → bs ≡ [] → hs ≡ []
 nothing_held bs hs none_same e = refl
@@ -527,13 +191,17 @@ pub record StayHeld (hs ks : List Held) : Type 0 where
   pub kept : (h : Held) → In h hs → h.superseded ≡ false → (k : Held) × In k ks × IsAlike h k
   pub only : (k : Held) → In k ks → k.superseded ≡ false → (h : Held) × In h hs × IsAlike h k
 
-pub record StaysWhole (s t : StackState) : Type 0 where
-  pub held : StayHeld s.held t.held
-  pub none_made : t.made ≡ []
-  pub source : t.source ≡ s.source
-  pub outputs : t.outputs ≡ s.outputs
+-- so all that is whole of a stack stays, where no other of its parts is looked at
+record StaysOf (s : StackState) (hs ms : List Held) (source : Option Source) (outputs : List Output) : Type 0 where
+  held : StayHeld s.held hs
+  none_made : ms ≡ []
+  source_same : source ≡ s.source
+  outputs_same : outputs ≡ s.outputs
 
-pub same_held : (hs ks : List Held) → ks ≡ hs → StayHeld hs ks
+abbrev StaysWhole : StackState → StackState → Type 0
+StaysWhole s t = StaysOf s t.held t.made t.source t.outputs
+
+same_held : (hs ks : List Held) → ks ≡ hs → StayHeld hs ks
 same_held hs ks e = record { kept = λ h i l. (h, subst (In h) (sym e) i, refl); only = λ k i l. (k, subst (In k) e i, refl) }
 
 pub marked_held : (ps : List Pending) (hs : List Held) → StayHeld hs (map (marked ps) hs)
@@ -580,23 +248,23 @@ module _ (x : World) (s : StackState) (fits : Fits x s) (none_made : s.made ≡ 
   IsGone id = (r : Held) × In r s.held × (r.superseded ≡ true) × (id ≡ r.physical)
 
   unchanged : StaysWhole s s
-  unchanged = record { held = same_held s.held s.held refl; none_made = none_made; source = refl; outputs = refl }
+  unchanged = record { held = same_held s.held s.held refl; none_made = none_made; source_same = refl; outputs_same = refl }
 
   -- a superseded resource is deleted
   deleted : (id : List ℕ) → IsGone id → StaysWhole s (deleting id s)
   deleted id g = record {
     held = without_held id s.held (own_front s.held s.made fits.ids) g.0 g.1 g.2 (sym g.3);
     none_made = ap (without id) none_made;
-    source = refl;
-    outputs = refl;
+    source_same = refl;
+    outputs_same = refl;
   }
 
   restated : (id : List ℕ) (state : HeldStatus) → StaysWhole s (with_status id state s)
   restated id state =
       let change : Held → Held = λ h. record h { status = state } in
       either_way (StaysWhole s) (list_any (has_physical id) s.held) (record s { held = where_physical id change s.held }) (record s { made = where_physical id change s.made })
-      (record { held = changed_held (has_physical id) state s.held; none_made = none_made; source = refl; outputs = refl })
-      (record { held = same_held s.held s.held refl; none_made = ap (where_physical id change) none_made; source = refl; outputs = refl })
+      (record { held = changed_held (has_physical id) state s.held; none_made = none_made; source_same = refl; outputs_same = refl })
+      (record { held = same_held s.held s.held refl; none_made = ap (where_physical id change) none_made; source_same = refl; outputs_same = refl })
 
   -- its deletion is answered
   answered_so : (restores : Bool) (path id : List ℕ) → IsGone id → (answer : Reply) → StaysWhole s (answered restores path (request.Delete id) answer s)
@@ -605,26 +273,22 @@ module _ (x : World) (s : StackState) (fits : Fits x s) (none_made : s.made ≡ 
   answered_so restores path id g (reply.Failed c) = restated id held.DeleteFailed
   answered_so restores path id g reply.Doubt = unchanged
 
-  pub replied_so : ((p : Pending) → In p s.tokens → DeletesSuperseded s p) → (token : ℕ) (answer : Reply) → StaysWhole s (replying token answer s)
+  replied_so : ((p : Pending) → In p s.tokens → DeletesSuperseded s p) → (token : ℕ) (answer : Reply) → StaysWhole s (replying token answer s)
   replied_so deletes token answer = by (pending_of token s) refl
     where
-      closed : (u : StackState) → StaysWhole s u → StaysWhole s (closing token answer u)
-      closed u h = record { held = h.held; none_made = h.none_made; source = h.source; outputs = h.outputs }
-
       by : (o : Option Pending) → pending_of token s ≡ o → StaysWhole s (replied token answer o s)
       by None e = unchanged
       by (Some p) e =
           let d = deletes p (found_one (has_token token) s.tokens p e).0 in
-          closed (answered (is_restore token s) p.path p.request answer s)
-          (subst (λ r. StaysWhole s (answered (is_restore token s) p.path r answer s)) (sym d.3)
-          (answered_so (is_restore token s) p.path d.0.physical (d.0, d.1, d.2, refl) answer))
+          subst (λ r. StaysWhole s (answered (is_restore token s) p.path r answer s)) (sym d.3)
+          (answered_so (is_restore token s) p.path d.0.physical (d.0, d.1, d.2, refl) answer)
 
   -- a superseded resource is kept
-  pub kept_so : (path id : List ℕ) (w : Why) → IsGone id → StaysWhole s (keeping path id w s)
+  kept_so : (path id : List ℕ) (w : Why) → IsGone id → StaysWhole s (keeping path id w s)
   kept_so path id w g =
       let h = deleted id g in
-      kept_way (StaysWhole s) s unchanged path id w (record { held = same_held s.held s.held refl; none_made = none_made; source = refl; outputs = refl })
-      (record { held = h.held; none_made = h.none_made; source = refl; outputs = refl })
+      kept_way (StaysWhole s) s unchanged path id w (record { held = same_held s.held s.held refl; none_made = none_made; source_same = refl; outputs_same = refl })
+      h
 
 -- what is whole stays so, as it was
 module _ (name : List ℕ) (x y : World) (s t : StackState) (fits : Fits y t) (h : HoldsWhole name x s) (k : StaysWhole s t) (exports : ExportsSame name x y) where
@@ -649,13 +313,13 @@ module _ (name : List ℕ) (x y : World) (s t : StackState) (fits : Fits y t) (h
   as_held : (w : Right) (a b : Held) → IsAlike a b → IsHeldAs w a → IsHeldAs w b
   as_held w a b e g = subst (IsHeldAs w) e (record { kind = g.kind; props = g.props; needs = g.needs; deletion = g.deletion; replace = g.replace })
 
-  pub whole_still : (v : HoldsWhole name y t) × (v.source ≡ h.source) × (v.whole ≡ h.whole)
+  whole_still : (v : HoldsWhole name y t) × (v.source ≡ h.source) × (v.whole ≡ h.whole)
   whole_still = (
     record {
       source = h.source;
       seen = h.seen;
       whole = h.whole;
-      of_source = k.source ∙ h.of_source;
+      of_source = k.source_same ∙ h.of_source;
       sees = λ path r e.
           let c = current_is path t.held r e in
           let a = k.held.only r c.0 c.2 in
@@ -673,7 +337,7 @@ module _ (name : List ℕ) (x y : World) (s t : StackState) (fits : Fits y t) (h
           (g.0, ap (λ p. right_at p h.whole) (sym (ap (λ (z : Held). z.path) a.2)) ∙ g.1, as_held g.0 a.0 r a.2 g.2);
       single = single_still;
       sure = λ r i l. let a = k.held.only r i l in sym (ap (λ (z : Held). z.unsure) a.2) ∙ h.sure a.0 a.1 (live a.0 r a.2 l);
-      outputs = k.outputs ∙ h.outputs;
+      outputs = k.outputs_same ∙ h.outputs;
       exports = λ e. (λ i. (h.exports e).0 ((exports e).0 i), λ i. (exports e).1 ((h.exports e).1 i));
       none_made = k.none_made;
     },
@@ -737,7 +401,7 @@ module _ (schemas : List Schema) (x : World) (out : List ℕ) (name : List ℕ) 
   module _ (fits : Fits x s) (none_made : s.made ≡ []) (cleans : s.status ≡ status.UpdateCompleteCleanupInProgress)
       (deletes : (p : Pending) → In p s.tokens → DeletesSuperseded s p) where
     stays : (t : StackState) → t.held ≡ s.held → t.made ≡ s.made → t.source ≡ s.source → t.outputs ≡ s.outputs → StaysWhole s t
-    stays t held made source outputs = record { held = same_held s.held t.held held; none_made = made ∙ none_made; source = source; outputs = outputs }
+    stays t held made source outputs = record { held = same_held s.held t.held held; none_made = made ∙ none_made; source_same = source; outputs_same = outputs }
 
     -- the stage is that of the cleanup
     cleaning : (e : Entry) (number : ℕ) → stack_of_operation number x ≡ Some (name, s) → MayFollowOn schemas number x out e → MayFollowIn schemas name x out s Clean e
@@ -758,7 +422,7 @@ module _ (schemas : List Schema) (x : World) (out : List ℕ) (name : List ℕ) 
 
     ended : (number : ℕ) (failed : List (List ℕ)) (state : Status) → EndsAs schemas name x s status.UpdateCompleteCleanupInProgress state → Goes (entry.Done number state failed)
     ended number failed status.UpdateComplete ends = (
-      record { held = marked_held s.tokens s.held; none_made = ap (map (marked s.tokens)) none_made; source = refl; outputs = refl },
+      record { held = marked_held s.tokens s.held; none_made = ap (map (marked s.tokens)) none_made; source_same = refl; outputs_same = refl },
       refl,
     )
     ended number failed _ ends = absurd ends
@@ -773,14 +437,11 @@ module _ (schemas : List Schema) (x : World) (out : List ℕ) (name : List ℕ) 
     goes (entry.Begin number n k) q may =
         absurd (none_begins k (ap (begins_from k) (sym (ap (λ m. (known_stack m x).status) (beginning_name schemas x out name s number n k q) ∙ ap (λ (u : StackState). u.status) was ∙ cleans)) ∙ may.1))
     goes (entry.Kept number path physical w) q may =
-        let h = kept_so x s fits none_made path physical w (kept path physical w (cleaning (entry.Kept number path physical w) number q may)) in
-        (record { held = h.held; none_made = h.none_made; source = h.source; outputs = h.outputs }, refl)
+        (kept_so x s fits none_made path physical w (kept path physical w (cleaning (entry.Kept number path physical w) number q may)), refl)
     goes (entry.Intent number token lane path r) q may =
-        let h = intended (record { token = token; path = path; lane = lane; request = r }) number in
-        (record { held = h.held; none_made = h.none_made; source = h.source; outputs = h.outputs }, refl)
+        (intended (record { token = token; path = path; lane = lane; request = r }) number, refl)
     goes (entry.Outcome number token answer low high) q may =
-        let h = replied_so x s fits none_made deletes token answer in
-        (record { held = h.held; none_made = h.none_made; source = h.source; outputs = h.outputs }, refl)
+        (replied_so x s fits none_made deletes token answer, refl)
     goes (entry.Phase number p c) q may = absurd (never_turns p c (cleaning (entry.Phase number p c) number q may).1)
     goes (entry.Done number state failed) q may =
         ended number failed state (subst (λ a. EndsAs schemas name x s a state) cleans (cleaning (entry.Done number state failed) number q may).2)
@@ -803,7 +464,7 @@ as_was : (s : StackState) → IsAsItWas s s
 as_was s = record { status = inl refl; held = refl; before = refl; made = refl; tokens = refl; source = refl; outputs = refl }
 
 was_whole : (s t : StackState) → s.made ≡ [] → IsAsItWas s t → StaysWhole s t
-was_whole s t none a = record { held = same_held s.held t.held a.held; none_made = a.made ∙ none; source = a.source; outputs = a.outputs }
+was_whole s t none a = record { held = same_held s.held t.held a.held; none_made = a.made ∙ none; source_same = a.source; outputs_same = a.outputs }
 
 pub cleanup_keeps_whole : CleanupKeepsWhole
 cleanup_keeps_whole schemas x out e name s t w cleans deletes h = by t w.becomes w.fits_after

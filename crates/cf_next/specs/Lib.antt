@@ -1,1 +1,14 @@
+pub mod Chosen
+pub mod Due
+pub mod Facts
+pub mod Forward
+pub mod Joining
+pub mod Lookups
+pub mod Needed
 pub mod Offer
+pub mod Removals
+pub mod Repeats
+pub mod Restoring
+pub mod Taking
+pub mod Tallies
+pub mod Unmaking

@@ -8,12 +8,12 @@ use Rattle.cf_entry.specs.declared.turn.Phase.{Phase}
 use Rattle.cf_entry.specs.declared.turn.Why.{Why}
 use Rattle.cf_effect.specs.declared.held.Pending.{Pending}
 use Rattle.cf_effect.specs.World.{StackState, World}
-use Rattle.cf_effect.specs.Status.{Stage, Forward}
+use Rattle.cf_effect.specs.Status.{Stage, Forward, stage_of}
 use Rattle.cf_plan.specs.Forward.{In, AllDone, HasFailed}
 use Rattle.cf_plan.specs.Follow.{IntendsIn, MayKeep, MayRepeat, MayTurn, is_free, waits_for_repeats}
 use Rattle.cf_next.specs.declared.offer.Keeping.{Keeping}
 use Rattle.cf_next.specs.declared.offer.Offer.{Offer}
-use Rattle.cf_next.specs.declared.offer.Start.{Start}
+use Rattle.cf_plan.specs.declared.stepping.Start.{Start}
 use Rattle.cf_next.specs.declared.offer.Turn.{Turn}
 
 -- these are just the open calls that may be made again
@@ -50,3 +50,7 @@ pub record IsOffer (schemas : List Schema) (name : List ℕ) (x : World) (out : 
   pub keepings : AreKeepings stage out s o.keepings
   pub turn : IsTurn schemas name x s o.turn
   pub made : stage ≡ Forward → IsTrue o.is_made ↔ IsMade schemas name x s
+
+-- this is all of the operation in progress of a stack, whichever its stage
+abbrev pub IsOfferOn : List Schema → List ℕ → World → List ℕ → StackState → Offer → Type 0
+IsOfferOn schemas name x out s o = (stage : Stage) → stage_of s.status ≡ Some stage → IsOffer schemas name x out s stage o

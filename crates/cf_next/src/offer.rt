@@ -1,18 +1,9 @@
 //! What an operation has to offer in its stage: the steps that may begin, but for lanes that are out.
 
 use cf_entry::{Cause, Phase, Why};
+use cf_plan::Starts;
 use cf_stacks::Pending;
-use cf_tree::{Listing, Request, Txt};
-
-/// A call that may begin at a path.
-#[derive(Drop)]
-pub struct Start {
-    pub path: Txt,
-    pub request: Request,
-}
-
-/// Calls that may begin.
-pub type Starts = Listing<Start>;
+use cf_tree::{Listing, Txt};
 
 /// A resource that may go off its stack's list; the physical id is empty where it is not known.
 #[derive(Drop)]
@@ -37,6 +28,7 @@ pub struct Turn {
 pub struct Offer {
     /// Open calls that may be made again.
     pub repeats: Listing<Pending>,
+    /// Calls that may begin.
     pub starts: Starts,
     pub keepings: Keepings,
     pub turn: Option<Turn>,

@@ -1,5 +1,5 @@
 -- The lane that takes a request, as code tells it: with its type.
-use Rattle.std.proofs.Common.{◌≡◌, ℕ, List, Option, Some, None, option_map, is_some, ap}
+use Rattle.std.proofs.Common.{◌≡◌, ℕ, List, Option, Some, None, option_map, ap}
 use Rattle.std.specs.Option.{option_copied}
 use denote.Ref.{Bor}
 
@@ -8,8 +8,3 @@ pub lane_named : (o : Option (Bor (List ℕ × List ℕ))) (q : Option (List ℕ
     → option_map (λ (l : Bor (List ℕ × List ℕ)). l.now.0) o ≡ option_map (λ (m : List ℕ × List ℕ). m.0) q
 lane_named None q e = ap (option_map (λ (m : List ℕ × List ℕ). m.0)) e
 lane_named (Some l) q e = ap (option_map (λ (m : List ℕ × List ℕ). m.0)) e
-
--- there is one just where there is a name
-pub lane_told : (o : Option (Bor (List ℕ × List ℕ))) (q : Option (List ℕ)) → option_map (λ (l : Bor (List ℕ × List ℕ)). l.now.0) o ≡ q → is_some o ≡ is_some q
-lane_told None q e = ap is_some e
-lane_told (Some l) q e = ap is_some e

@@ -1,6 +1,6 @@
 -- What is computed of the failure of a forward phase is so.
 use Rattle.std.proofs.Common.{◌≡◌, ◌⊎◌, ◌↔◌, inl, inr, ℕ, Bool, true, false, Option, Some, None, List, [], ◌∷◌, ◌++◌, IsTrue, filter, find, map, option_map, refl, ap, sym, ◌∙◌, subst, if◌then◌else◌, true≢false}
-use Rattle.std.specs.Prelude.{filter_map, option_and_then, Result, Ok, Err, IfOk}
+use Rattle.std.specs.Prelude.{filter_map, is_some, option_and_then, Result, Ok, Err, IfOk}
 use Rattle.std.specs.declared.alloc.AllocError.{AllocError}
 use Rattle.std.specs.List.{list_all, cons_option}
 use Rattle.std.specs.Option.{option_map_or}
@@ -8,8 +8,6 @@ use Rattle.std.proofs.lemmas.Option.{none-some, same_Some}
 use Rattle.std.proofs.lemmas.Bool.{and_parts, and_from}
 use Rattle.cf_tree.specs.Datum.{Data}
 use Rattle.cf_tree.specs.Lists.{first_in, is_among}
-use Rattle.cf_entry.specs.declared.turn.Cause.{Cause}
-use Rattle.cf_entry.specs.declared.turn.Cause.TheVariants as cause
 use Rattle.cf_entry.specs.declared.turn.Reason.{Reason}
 use Rattle.cf_export.specs.declared.Export.{Export}
 use Rattle.cf_desired.specs.declared.flaw.Flaw.{Flaw}
@@ -23,11 +21,12 @@ use Rattle.cf_effect.specs.World.{StackState, World}
 use Rattle.cf_plan.specs.declared.cause.Failure.{Failure}
 use Rattle.cf_plan.specs.declared.cause.Failure.TheVariants.{Nothing}
 use Rattle.cf_plan.specs.Between.{needs_at}
-use Rattle.cf_plan.specs.Forward.{In, here, there, Finding, Bad, Later, finding, known_or_later, AllDone, HasFailed, IsBadAt, IsBadOutput, IsBadPath, IsCause, IsLostExport, first_failing, is_lost, path_of_token, plan_now}
+use Rattle.cf_plan.specs.Forward.{In, here, there, Finding, Bad, Later, finding, known_or_later, AllDone, HasFailed, IsBadAt, IsBadOutput, IsBadPath, IsLostExport, first_failing, is_lost, path_of_token, plan_now}
 use Rattle.cf_plan.specs.Done.{AreDone, HasTerms, are_met, needs_by}
 use Rattle.cf_plan.specs.Failed.{are_all_done, flaw_by, flaw_found, flaw_in, flaws_found, inner_found, least}
 use Rattle.cf_plan.specs.Causes.{IsFailureOf, end_failure, failure_of_call, of_export, or_call, or_flaw, or_path, plan_failure}
 use Rattle.cf_plan.proofs.Doing.{all_met, met_all}
+use Rattle.cf_plan.proofs.FailingCalls.{failing_called}
 use Rattle.cf_plan.proofs.Least.{least_in, least_low, least_none}
 use Rattle.cf_plan.proofs.Listed.{in_cons, in_map, in_none}
 
@@ -66,7 +65,7 @@ mapped_in f y x (z ∷ zs) i e = elim (in_cons i) [
   | inr j ↦ skips y (f z) (filter_map f zs) (mapped_in f y x zs j e)
 ]
 
-map_in : {A B : Type 0} (f : A → B) (y : B) (xs : List A) → In y (map f xs) → (x : A) × In x xs × (f x ≡ y)
+pub map_in : {A B : Type 0} (f : A → B) (y : B) (xs : List A) → In y (map f xs) → (x : A) × In x xs × (f x ≡ y)
 map_in f y [] i = absurd (in_none i)
 map_in f y (x ∷ xs) i = elim (in_cons i) [ inl e ↦ (x, here, e) | inr j ↦ (let z = map_in f y xs j in (z.0, there z.1, z.2)) ]
 
@@ -84,7 +83,7 @@ unfolding is_bad
 bad_known k None f e = later_bad f e
 bad_known k (Some ps) f e = true≢false (sym (ap is_bad e))
 
-bad_same : (a b : Flaw) → Bad a ≡ Bad b → a ≡ b
+pub bad_same : (a b : Flaw) → Bad a ≡ Bad b → a ≡ b
 bad_same a b e = ap (flaw_or a) e
   where
     flaw_or : Flaw → Finding → Flaw
@@ -207,12 +206,7 @@ module _ (schemas : List Schema) (name : List ℕ) (x : World) (s : StackState) 
 
   by_call : (a : ℕ × Reason) (o : Option (List ℕ)) → first_failing schemas s ≡ Some a → path_of_token a.0 s ≡ o → IsFailureOf schemas name x s (failure_of_call o a.1)
   by_call a (Some path) f k = (inl (a, f), (a.0, f, k))
-  by_call a None f k = (inl (a, f), none_told)
-    where
-      none_told : (c : Cause) → IsCause schemas name x s c → ⊥
-      none_told (cause.Handler path r) (t, e, g) = none-some path (sym k ∙ ap (λ (b : ℕ × Reason). path_of_token b.0 s) (same_Some a (t, r) (sym f ∙ e)) ∙ g)
-      none_told (cause.Plan text) (fault, e, g, h) = none-some a (sym g ∙ f)
-      none_told (cause.Export export) (g, h, i, j) = none-some a (sym g ∙ f)
+  by_call a None f k = absurd (true≢false (sym (failing_called schemas s a f) ∙ ap is_some k))
 
   pub tells : (o : Option (ℕ × Reason)) → first_failing schemas s ≡ o → IsFailureOf schemas name x s (or_call o s (plan_failure name x terms (plan_now s) done))
   tells (Some a) f = by_call a (path_of_token a.0 s) f refl

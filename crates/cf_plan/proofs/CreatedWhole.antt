@@ -31,7 +31,7 @@ use Rattle.cf_plan.proofs.CreatedSeen.{shown, shown_at}
 use Rattle.cf_plan.proofs.CreatedStays.{IsFound, is_found, said_now, found_one}
 use Rattle.cf_plan.proofs.OneShape.{paths_same, plan_same}
 
-abbrev right_with : Wanted → List (List ℕ × Data) → Right
+abbrev pub right_with : Wanted → List (List ℕ × Data) → Right
 right_with w props = record { path = w.path; kind = w.kind; deletion = w.deletion; replace = w.replace; needs = w.needs; props = props }
 
 -- where there is no update, none succeeded
@@ -58,7 +58,7 @@ made_at source s c p (is_right h i done e u k) = let no : None ≡ Some h = sym 
 seen_of : (o : Option SeenAt) (h : Held) → o ≡ Some (shown h) → (is_some (option_and_then (λ s. s.physical) o) && is_some (option_and_then (λ s. s.attrs) o)) ≡ true
 seen_of o h e = ap (λ x. is_some (option_and_then (λ s. s.physical) x) && is_some (option_and_then (λ s. s.attrs) x)) e
 
-all_seen :
+pub all_seen :
     (seen : Seen) (ws : List Wanted) → ((p : List ℕ) → In p (map (λ w. w.path) ws) → (r : Held) × (value_at p seen ≡ Some (shown r)))
     → list_all (is_seen_at seen) ws ≡ true
 all_seen seen [] h = refl
@@ -73,7 +73,7 @@ right_path w r e = ap (λ o. option_map_or (λ x. x.path) o w.path) (sym e) ∙ 
   by_props (Some ps) = refl
 
 -- rights and what they are of are found alike
-rights_at :
+pub rights_at :
     (path : List ℕ) (rs : List Right) (ws : List Wanted) → map (λ r. Some r) rs ≡ map right_of ws
     → find (is_right_at path) rs ≡ option_and_then right_of (find (is_wanted_at path) ws)
 rights_at path [] [] e = refl
@@ -95,7 +95,7 @@ in_map f x (y ∷ xs) here = here
 in_map f x (y ∷ xs) (there i) = there (in_map f x xs i)
 in_map f x [] i = elim i [ ]
 
-found_before : {A B : Type 0} (f : A → Option B) (o : Option A) (b : B) → option_and_then f o ≡ Some b → (a : A) × (o ≡ Some a)
+pub found_before : {A B : Type 0} (f : A → Option B) (o : Option A) (b : B) → option_and_then f o ≡ Some b → (a : A) × (o ≡ Some a)
 found_before f None b h = let no : ⊥ = cc in absurd no
 found_before f (Some a) b h = (a, refl)
 

@@ -26,6 +26,9 @@ use Rattle.cf_plan.specs.Follow.{is_bad_outcome, has_path, last_at, is_bad_last,
 use Rattle.cf_plan.specs.Blaming.{Verdicts, noted, noted_call, verdicts_of, blamed, blames_of, bad_among}
 use Rattle.cf_plan.proofs.Members.{not_both, in_first}
 use Rattle.cf_plan.proofs.Orders.{lower, not_below_itself}
+use Rattle.std.proofs.lemmas.Bool.{cond_both}
+use Rattle.cf_tree.proofs.Order.{ascends_put}
+use Rattle.std.specs.declared.alloc.AllocError.{AllocError}
 
 -- what is put under a name, as a look-up sees it
 pub put_is : {X : Type 0} (p k : List ℕ) (v : X) (ps : List (List ℕ × X)) → value_at p (put k v ps) ≡ cond (bytes_eq p k) (Some v) (value_at p ps)
@@ -280,3 +283,25 @@ failing s vs (Ok ns) a e h =
           let f = failed_is s p in
           (λ i. f.0 (ap (value_at p) (sym e) ∙ l.0 i), λ t. l.1 (ap (value_at p) e ∙ f.1 t)),
     )
+
+-- the failed paths of an end
+module _ {A : Type 0} (f : Verdicts → A → Verdicts) (keeps : (vs : Verdicts) (a : A) → ascends vs ≡ true → ascends (f vs a) ≡ true) where
+  all_ascend : (xs : List A) (vs : Verdicts) → ascends vs ≡ true → ascends (fold f vs xs) ≡ true
+  all_ascend [] vs e = e
+  all_ascend (x ∷ xs) vs e = all_ascend xs (f vs x) (keeps vs x e)
+
+noted_ascends : (s : StackState) (vs : Verdicts) (e : Entry) → ascends vs ≡ true → ascends (noted s vs e) ≡ true
+noted_ascends s vs (entry.Outcome number token a before after) h = cond_both (s.operation == number) _ vs (λ ws. ascends ws ≡ true) (λ e. by (call_under token s)) (λ e. h) where
+  by : (o : Option Call) → ascends (noted_call o a vs) ≡ true
+  by None = h
+  by (Some c) = ascends_put c.path _ vs h
+noted_ascends s vs e h = h
+
+abbrev pub failed_list : StackState → List (List ℕ)
+failed_list s = bad_among (blames_of s)
+
+pub are_failed : (s : StackState) → AreFailed s status.RollbackFailed (failed_list s)
+are_failed s =
+    failing {E = AllocError} s (blames_of s) (Ok (failed_list s))
+    (all_ascend (blamed s) (λ vs r e. cond_both (nat_lt 0 (refusals_of r.physical s)) _ vs (λ ws. ascends ws ≡ true) (λ f. ascends_put r.path true vs e) (λ f. e)) (resources_of s)
+    (verdicts_of s) (all_ascend (noted s) (noted_ascends s) s.entries [] refl)) refl refl

@@ -38,8 +38,7 @@ use Rattle.cf_effect.specs.Fold.{effect_at, fold_of, world_after}
 use Rattle.cf_plan.specs.Forward.{In, here, there}
 use Rattle.cf_plan.specs.Follow.{MayFollow, MayFollowOn, MayFollowIn, MayTurn, EndsAs}
 use Rattle.cf_plan.specs.Run.{Told, IsDone, IsOwn, Runs}
-use Rattle.cf_plan.specs.Stepping.{Creates}
-use Rattle.cf_plan.specs.Going.{IsUnderWay, ends_creation, IsOver, Leaves, CreationStarts, CreationGoesOn, CreationEnds, CreationIsProper, AnswerFollows, IntentOpens}
+use Rattle.cf_plan.specs.Going.{Creates, IsUnderWay, ends_creation, IsOver, Leaves, CreationStarts, CreationGoesOn, CreationEnds, CreationIsProper, AnswerFollows, IntentOpens}
 use Rattle.cf_plan.proofs.Frame.{IsOn, begun_here, begun_on, created, found_passes, here_after, none_after, number_is, on_after}
 
 in_progress : (s : StackState) → Creates s → is_in_progress s.status ≡ true

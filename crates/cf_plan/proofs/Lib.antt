@@ -6,13 +6,8 @@ pub mod CreatedRight
 pub mod CreatedWhole
 pub mod CreatedEnd
 pub mod CreatedNext
-pub mod Choosing
-pub mod Chosen
 pub mod FailedPaths
-pub mod Followed
 pub mod Members
-pub mod Firsts
-pub mod Needed
 pub mod OfLane
 pub mod Orders
 pub mod Told
@@ -24,14 +19,10 @@ pub mod Fresh
 pub mod Doing
 pub mod Least
 pub mod Causing
+pub mod FailingCalls
 pub mod Starting
 pub mod AtHome
-pub mod StepChosen
-pub mod InOrder
-pub mod CallsDue
-pub mod DueForward
-pub mod DueBack
-pub mod DueAll
+pub mod StartsListed
 pub mod Begins
 pub mod RunLists
 pub mod RunLanes
@@ -58,3 +49,9 @@ pub mod BlameRun
 pub mod Frame
 mod Owned
 mod Successes
+pub mod ChangedLists
+pub mod DoneFound
+pub mod FailedFound
+pub mod PropsStay
+pub mod RowsFound
+pub mod WholeFound

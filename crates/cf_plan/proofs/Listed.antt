@@ -1,7 +1,6 @@
 -- Members of lists that grow at the end.
 use Rattle.std.proofs.Common.{◌≡◌, ◌⊎◌, inl, inr, ℕ, zero, suc, ◌+◌, ◌<◌, Bool, true, false, ◌||◌, List, [], ◌∷◌, ◌++◌, Option, Some, None, length, take, get_or, map, refl, ap, sym, ◌∙◌, subst, arith, true≢false}
-use Rattle.std.specs.Prelude.{filter_map, fold}
-use Rattle.std.proofs.lemmas.List.Sums.{fold_more}
+use Rattle.std.specs.Prelude.{filter_map}
 use Rattle.std.specs.List.{cons_option}
 use Rattle.std.specs.Option.{option_to_list}
 use Rattle.std.specs.Str.{bytes_eq}
@@ -83,8 +82,3 @@ same_bytes p = (bytes_eq-Decides p p).1 refl
 
 pub bytes_same : (p q : List ℕ) → bytes_eq p q ≡ true → p ≡ q
 bytes_same p q = (bytes_eq-Decides p q).0
-
--- one more member of a list is folded in
-pub folded_on : {A B : Type 0} (f : B → A → B) (start : B) (xs : List A) (i : ℕ) (a : A) → i < length xs → a ≡ get_or xs i a
-    → f (fold f start (take i xs)) a ≡ fold f start (take (i + 1) xs)
-folded_on f start xs i a l e = ap (f (fold f start (take i xs))) e ∙ sym (fold_more f start xs i a l)

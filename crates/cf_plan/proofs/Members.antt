@@ -1,12 +1,21 @@
 -- Tests over the members of a list.
-use Rattle.std.proofs.Common.{◌≡◌, Bool, true, false, ◌||◌, List, [], ◌∷◌, flat_map, refl, ap, sym, ◌∙◌, true≢false}
-use Rattle.std.specs.List.{list_any}
+use Rattle.std.proofs.Common.{◌≡◌, Bool, true, false, ◌||◌, not, List, [], ◌∷◌, flat_map, refl, ap, sym, ◌∙◌, true≢false}
+use Rattle.std.specs.List.{list_any, list_all}
+use Rattle.std.specs.Cmp.{first_so, second_so}
+use Rattle.std.proofs.lemmas.Bool.{and_from}
 use Rattle.std.proofs.lemmas.List.Folds.{list_any-append}
 use Rattle.cf_plan.specs.Forward.{In, here, there}
 
 pub false_from : (b : Bool) → (b ≡ true → ⊥) → b ≡ false
 false_from true n = absurd (n refl)
 false_from false n = refl
+
+pub not_so : (b : Bool) → b ≡ false → not b ≡ true
+not_so b e = rw e refl
+
+pub is_so : (b : Bool) → not b ≡ true → b ≡ false
+is_so true e = absurd (true≢false (sym e))
+is_so false e = refl
 
 pub not_both : (b : Bool) → b ≡ true → b ≡ false → ⊥
 not_both b t f = true≢false (sym t ∙ f)
@@ -18,6 +27,16 @@ in_none i = elim i [ ]
 pub in_first : {A : Type 0} (P : A → Type 0) (x : A) (xs : List A) → P x → ((a : A) → In a xs → P a) → (a : A) → In a (x ∷ xs) → P a
 in_first P x xs p q a here = p
 in_first P x xs p q a (there i) = q a i
+
+-- a test that all pass
+pub all_in : {A : Type 0} (test : A → Bool) (xs : List A) → list_all test xs ≡ true → (a : A) → In a xs → test a ≡ true
+all_in test [] h a i = absurd (in_none i)
+all_in test (x ∷ xs) h a i =
+    in_first (λ b. test b ≡ true) x xs (first_so (test x) (list_all test xs) h) (all_in test xs (second_so (test x) (list_all test xs) h)) a i
+
+pub in_all : {A : Type 0} (test : A → Bool) (xs : List A) → ((a : A) → In a xs → test a ≡ true) → list_all test xs ≡ true
+in_all test [] h = refl
+in_all test (x ∷ xs) h = and_from (test x) (list_all test xs) (h x here) (in_all test xs (λ a i. h a (there i)))
 
 module _ {A : Type 0} where
   -- a member that passes makes the list pass

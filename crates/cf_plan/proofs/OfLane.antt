@@ -3,7 +3,7 @@ use Rattle.std.proofs.Common.{◌≡◌, ◌↔◌, ℕ, ◌==◌, true, List, [
 use Rattle.std.proofs.lemmas.Bool.{eqb-true, eq-eqb}
 use Rattle.cf_handler.specs.Move.{IsOfLane}
 use Rattle.std.specs.Cmp.{first_so, second_so}
-use Rattle.cf_plan.specs.Taking.{is_of_lane}
+use Rattle.cf_plan.specs.Homes.{is_of_lane}
 
 named : (lane id : List ℕ) → is_of_lane lane id ≡ true → IsOfLane lane id
 named [] [] e = absurd (true≢false (sym e))

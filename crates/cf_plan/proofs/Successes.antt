@@ -48,5 +48,5 @@ no_phase e h = let s = success_is e h in ap is_phase s.is
 pub no_refusal : (schemas : List Schema) (s : StackState) (e : Entry) → is_success_outcome e ≡ true → refusing schemas s e ≡ None
 no_refusal schemas s e h = let k = success_is e h in ap (refusing schemas s) k.is
 
-pub no_third : (earlier : List Entry) (e : Entry) → is_success_outcome e ≡ true → doubting earlier e ≡ None
-no_third earlier e h = let k = success_is e h in ap (doubting earlier) k.is
+pub no_third : (s : StackState) (earlier : List Entry) (e : Entry) → is_success_outcome e ≡ true → doubting s earlier e ≡ None
+no_third s earlier e h = let k = success_is e h in ap (doubting s earlier) k.is

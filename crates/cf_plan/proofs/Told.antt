@@ -1,6 +1,6 @@
--- Lists of which some are left by a test: that one of them passes another, how many do, and that none is left.
-use Rattle.std.proofs.Common.{◌≡◌, suc, arith, length, nat_eq, nat_lt, Bool, true, false, ◌||◌, ◌&&◌, not, List, [], ◌∷◌, ◌++◌, filter, map, cond, refl, ap, ◌∙◌, sym}
-use Rattle.std.proofs.lemmas.Bool.{ne_eqb, lt-ltb}
+-- Lists of which some are left by a test: that one of them passes another, and how many do.
+use Rattle.std.proofs.Common.{◌≡◌, suc, arith, length, nat_lt, Bool, true, false, ◌||◌, ◌&&◌, not, List, [], ◌∷◌, ◌++◌, filter, map, cond, refl, ap, ◌∙◌, sym}
+use Rattle.std.proofs.lemmas.Bool.{lt-ltb}
 use Rattle.std.proofs.lemmas.List.Sums.{length-filter}
 use Rattle.std.specs.List.{list_any, count_by}
 use Rattle.cf_change.specs.Changes.{is_empty}
@@ -34,18 +34,6 @@ filter_filtered p q (x ∷ xs) = by (p x) (filter_filtered p q xs)
 pub any_mapped : {X Y : Type 0} (f : X → Y) (q : Y → Bool) (xs : List X) → list_any q (map f xs) ≡ list_any (λ x. q (f x)) xs
 any_mapped f q [] = refl
 any_mapped f q (x ∷ xs) = ap (λ b. q (f x) || b) (any_mapped f q xs)
-
-none_passes : {X : Type 0} (p : X → Bool) (xs : List X) → nat_eq (length (filter p xs)) 0 ≡ not (list_any p xs)
-none_passes p [] = refl
-none_passes p (x ∷ xs) = by (none_passes p xs) (p x)
-  where
-    by : nat_eq (length (filter p xs)) 0 ≡ not (list_any p xs) → (b : Bool) → nat_eq (length (cond b (x ∷ filter p xs) (filter p xs))) 0 ≡ not (b || list_any p xs)
-    by h true = ne_eqb (suc (length (filter p xs))) 0 (λ e. absurd (omega (arith, e)))
-    by h false = h
-
--- none of those that pass the first test passes the second
-pub none_of : {X : Type 0} (q p : X → Bool) (xs : List X) → nat_eq (length (filter p (filter q xs))) 0 ≡ not (list_any (λ x. q x && p x) xs)
-none_of q p xs = none_passes p (filter q xs) ∙ ap not (any_filtered q p xs)
 
 some_left : {X : Type 0} (p q : X → Bool) (xs : List X) → nat_lt 0 (length (filter q (filter p xs))) ≡ list_any (λ x. p x && q x) xs
 some_left p q [] = refl

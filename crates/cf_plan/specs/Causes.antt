@@ -1,7 +1,6 @@
 -- Whether the forward phase has failed, and for which cause, as code tells it (this project's own).
 use Rattle.std.specs.Prelude.{ℕ, List, Option, Some, None, find, if◌then◌else◌}
 use Rattle.cf_tree.specs.Lists.{first_in}
-use Rattle.cf_entry.specs.declared.turn.Cause.{Cause}
 use Rattle.cf_entry.specs.declared.turn.Cause.TheVariants as cause
 use Rattle.cf_entry.specs.declared.turn.Reason.{Reason}
 use Rattle.cf_export.specs.declared.Export.{Export}
@@ -13,12 +12,12 @@ use Rattle.cf_effect.specs.World.{StackState, World}
 use Rattle.cf_plan.specs.Failed.{are_all_done, flaws_found, least}
 use Rattle.cf_plan.specs.Forward.{HasFailed, IsCause, is_lost, path_of_token}
 use Rattle.cf_plan.specs.declared.cause.Failure.{Failure}
-use Rattle.cf_plan.specs.declared.cause.Failure.TheVariants.{Nothing, Because, Untold}
+use Rattle.cf_plan.specs.declared.cause.Failure.TheVariants.{Nothing, Because}
 
--- a call that failed the phase; a flaw; an export
+-- A call that failed the phase, which has its row in the ledger and so a path; a flaw; an export.
 abbrev pub failure_of_call : Option (List ℕ) → Reason → Failure
 failure_of_call (Some path) reason = Because (cause.Handler path reason)
-failure_of_call None reason = Untold
+failure_of_call None reason = Nothing
 
 abbrev pub or_call : Option (ℕ × Reason) → StackState → Failure → Failure
 or_call None s other = other
@@ -44,8 +43,7 @@ abbrev pub plan_failure : List ℕ → World → Plan → Plan → List (List �
 plan_failure name x before now done =
     or_path (least (flaws_found before now done)) (if are_all_done before done then end_failure name x now else Nothing)
 
--- The phase has not failed; it has, for this cause; or it has, and no cause tells why.
+-- The phase has not failed; or it has, for this cause.
 abbrev pub IsFailureOf : List Schema → List ℕ → World → StackState → Failure → Type 0
 IsFailureOf schemas name x s Nothing = ¬ HasFailed schemas name x s
 IsFailureOf schemas name x s (Because c) = HasFailed schemas name x s × IsCause schemas name x s c
-IsFailureOf schemas name x s Untold = HasFailed schemas name x s × ((c : Cause) → IsCause schemas name x s c → ⊥)

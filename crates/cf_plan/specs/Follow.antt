@@ -424,6 +424,12 @@ MayFollowOn schemas number x out e =
     (name : List ℕ) × (s : StackState) × (stage : Stage) × (stack_of_operation number x ≡ Some (name, s)) × (stage_of s.status ≡ Some stage)
     × MayFollowIn schemas name x out s stage e
 
+-- the call of an open token may be made again in the operation of this number
+abbrev pub MayRepeatOn : List Schema → World → List ℕ → ℕ → Pending → Type 0
+MayRepeatOn schemas x out number p =
+    (name : List ℕ) × (s : StackState) × (stage : Stage) × (stack_of_operation number x ≡ Some (name, s)) × (stage_of s.status ≡ Some stage)
+    × MayRepeat schemas name x out s stage p
+
 -- Entry e may follow the world x while the leases of these tokens are out. Every entry but an opening, a beginning and
 -- a change set carries the number of the operation in progress of its stack.
 abbrev pub MayFollow : List Schema → World → List ℕ → Entry → Type 0

@@ -124,7 +124,8 @@ is_excused schemas s (request.Update physical props) code.NotUpdatable =
     option_map_or (λ h. is_conditional (difference_to schemas h props)) (held_before physical s) false
 is_excused schemas s _ _ = false
 
--- The outcomes that fail the phase: a refusal that is not excused, at any time in the phase, and in this opening the third doubt of a token.
+-- The outcomes that fail the phase, each of a call that the ledger has: a refusal that is not excused, at any time in the phase,
+-- and in this opening the third doubt of a token.
 abbrev pub is_refused_call : List Schema → StackState → Option Call → Code → Bool
 is_refused_call schemas s None c = false
 is_refused_call schemas s (Some call) c = not (is_excused schemas s call.request c)
@@ -134,10 +135,10 @@ refusing schemas s (entry.Outcome number token (reply.Failed c) before after) =
     if is_refused_call schemas s (call_under token s) c then Some (token, reason.Code c) else None
 refusing schemas s _ = None
 
-abbrev pub doubting : List Entry → Entry → Option (ℕ × Reason)
-doubting earlier (entry.Outcome number token reply.Doubt before after) =
-    if doubts_in token earlier == 2 then Some (token, reason.Fault) else None
-doubting earlier _ = None
+abbrev pub doubting : StackState → List Entry → Entry → Option (ℕ × Reason)
+doubting s earlier (entry.Outcome number token reply.Doubt before after) =
+    if is_some (call_under token s) && doubts_in token earlier == 2 then Some (token, reason.Fault) else None
+doubting s earlier _ = None
 
 abbrev pub first_refusing : List Schema → StackState → List Entry → Option (ℕ × Reason)
 first_refusing schemas s [] = None
@@ -146,7 +147,7 @@ first_refusing schemas s (e ∷ es) = option_or (refusing schemas s e) (first_re
 abbrev pub first_failing_behind : List Schema → StackState → List Entry → List Entry → Option (ℕ × Reason)
 first_failing_behind schemas s earlier [] = None
 first_failing_behind schemas s earlier (e ∷ es) =
-    option_or (refusing schemas s e) (option_or (doubting earlier e) (first_failing_behind schemas s (earlier ++ e ∷ []) es))
+    option_or (refusing schemas s e) (option_or (doubting s earlier e) (first_failing_behind schemas s (earlier ++ e ∷ []) es))
 
 -- the first outcome that fails the phase: its token, and the reason
 abbrev pub first_failing : List Schema → StackState → Option (ℕ × Reason)

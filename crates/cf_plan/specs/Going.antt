@@ -1,5 +1,5 @@
 -- How a creation goes on: what each entry of its operation leaves of it (this project's own).
-use Rattle.std.specs.Prelude.{◌≡◌, ◌<◌, ℕ, Bool, true, false, List, [], ◌∷◌, ◌++◌, Some, None, IsTrue}
+use Rattle.std.specs.Prelude.{◌≡◌, ◌<◌, ◌⊎◌, ℕ, Bool, true, false, List, [], ◌∷◌, ◌++◌, Some, None, IsTrue}
 use Rattle.cf_tree.specs.declared.request.Request.{Request}
 use Rattle.cf_tree.specs.declared.source.Source.{Source}
 use Rattle.cf_schema.specs.declared.described.Schema.{Schema}
@@ -15,9 +15,12 @@ use Rattle.cf_effect.specs.World.{StackState, World, stack_at, stack_of_operatio
 use Rattle.cf_effect.specs.Fold.{fold_of, world_after}
 use Rattle.cf_stacks.specs.Apart.{AreApart}
 use Rattle.cf_plan.specs.Forward.{In}
-use Rattle.cf_plan.specs.Stepping.{Creates}
 use Rattle.cf_plan.specs.Follow.{MayFollow, IsCounted}
 use Rattle.cf_plan.specs.Run.{Told, IsDone, IsOwn, Runs, open_call}
+
+-- a creation is in progress on a stack, or is rolled back
+abbrev pub Creates : StackState → Type 0
+Creates s = (s.status ≡ status.CreateInProgress) ⊎ (s.status ≡ status.RollbackInProgress)
 
 -- the creation of this number is in progress on the stack of this name, and each operation is of one stack
 pub record IsUnderWay (number : ℕ) (name : List ℕ) (x : World) : Type 0 where

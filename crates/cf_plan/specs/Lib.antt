@@ -13,9 +13,7 @@ pub mod Ends
 pub mod Life
 pub mod Promise
 pub mod Created
-pub mod Chosen
-pub mod Taking
-pub mod Stepping
+pub mod Homes
 pub mod Progress
 pub mod Blaming
 pub mod Run
@@ -24,4 +22,3 @@ pub mod Blame
 pub mod RunBegins
 pub mod Going
 pub mod Cleared
-pub mod Due

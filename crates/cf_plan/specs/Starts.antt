@@ -1,5 +1,5 @@
 -- The requests that the forward phase may begin with, path by path, as code finds them (this project's own).
-use Rattle.std.specs.Prelude.{◌≡◌, ◌⊎◌, ◌↔◌, ℕ, Bool, true, false, ◌&&◌, ◌||◌, not, List, [], Option, Some, None, IsTrue, fold, map, if◌then◌else◌}
+use Rattle.std.specs.Prelude.{◌≡◌, ◌⊎◌, ◌↔◌, ℕ, Bool, true, false, ◌&&◌, ◌||◌, not, List, [], ◌∷◌, ◌++◌, Option, Some, None, IsTrue, flat_map, fold, map, if◌then◌else◌}
 use Rattle.std.specs.Str.{bytes_eq}
 use Rattle.cf_tree.specs.Datum.{Data}
 use Rattle.cf_tree.specs.declared.request.Request.{Request}
@@ -14,9 +14,10 @@ use Rattle.cf_tree.specs.Keys.{put, value_at}
 use Rattle.cf_tree.specs.Lists.{is_among}
 use Rattle.cf_desired.specs.declared.wanted.Plan.{Plan}
 use Rattle.cf_plan.specs.Done.{are_met, finding_by}
-use Rattle.cf_plan.specs.Forward.{Finding, Known, IsDone, IsReady, difference_to, is_conditional, was_answered_at}
+use Rattle.cf_plan.specs.Forward.{Finding, In, Known, IsDone, IsReady, difference_to, is_conditional, was_answered_at}
 use Rattle.cf_plan.specs.Follow.{IntendsForward, is_free, was_not_updatable}
 use Rattle.cf_plan.specs.declared.forward.Wants.{Wants}
+use Rattle.cf_plan.specs.declared.stepping.Start.{Start}
 
 abbrev pub is_replacing : Difference → Bool
 is_replacing ToReplace = true
@@ -74,3 +75,20 @@ abbrev pub AreStarts : List Schema → StackState → List (List ℕ × Wants) �
 AreStarts schemas s starts =
     (path : List ℕ) (r : Request) →
     (IsReady s path × ¬ IsDone s path × IsTrue (is_free path s) × IntendsForward schemas s path r) ↔ IsOneOf (value_at path starts) r
+
+-- the requests that a map of paths has, each with its path
+abbrev pub start_of : List ℕ → Option Request → List Start
+start_of path None = []
+start_of path (Some r) = record { path = path; request = r } ∷ []
+
+abbrev pub starts_at : List ℕ × Wants → List Start
+starts_at e = start_of e.0 e.1.create ++ start_of e.0 e.1.update
+
+abbrev pub starts_in : List (List ℕ × Wants) → List Start
+starts_in starts = flat_map starts_at starts
+
+-- these are just the requests that may begin while the forward phase has not failed
+abbrev pub AreOpen : List Schema → StackState → List Start → Type 0
+AreOpen schemas s starts =
+    (path : List ℕ) (r : Request)
+    → (IsReady s path × ¬ IsDone s path × IsTrue (is_free path s) × IntendsForward schemas s path r) ↔ In (record { path = path; request = r }) starts

@@ -4,7 +4,7 @@ ghost use Rattle.std.specs.Prelude.{◌≡◌, ◌==◌, ◌≤◌, ◌&&◌, fa
 ghost use Rattle.std.specs.List.{list_any};
 ghost use Rattle.std.specs.Option.{option_copied};
 ghost use Rattle.std.specs.Str.{bytes_eq};
-ghost use Rattle.cf_effect.specs.Calls.{call_under, deletions_of, succeeded};
+ghost use Rattle.cf_effect.specs.Calls.{call_under, succeeded};
 ghost use Rattle.cf_effect.specs.Operation.{after_last, before_first, doubts_in, is_doubt, is_phase, is_turn_or_opening, up_to_last};
 ghost use Rattle.cf_effect.specs.Words.{deletes, is_update, updates};
 ghost use Rattle.cf_plan.specs.Called.{last_place, reply_passes};
@@ -123,20 +123,6 @@ pub fn was_not_updatable(stack: &StackState, held: &Held) -> bool
     ensures { result ≡ was_not_updatable stack.now.stack held.now }
 {
     has_refused(stack.ledger().as_slice(), stack.operation(), &held.physical)
-}
-
-/// Whether one of these calls, of an operation, is a deletion of a resource.
-fn has_deletion(calls: &[Call], number: u64, physical: &Txt) -> bool
-    ensures { result ≡ list_any (λ c. c.number == number && deletes physical.now c.request) calls.now }
-{
-    calls.iter().any(|call| call.number == number && deletes(physical, &call.request))
-}
-
-/// Whether the operation of a stack began no deletion of a resource.
-pub fn is_untried(stack: &StackState, physical: &Txt) -> bool
-    ensures { result ≡ (length (deletions_of physical.now stack.now.stack) == 0) }
-{
-    !has_deletion(stack.ledger().as_slice(), stack.operation(), physical)
 }
 
 /// Whether an entry answers a token by a doubt.

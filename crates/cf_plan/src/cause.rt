@@ -1,5 +1,5 @@
 //! Why the forward phase of an operation has failed.
-ghost use Rattle.std.specs.Prelude.{◌≡◌, IfOk, find};
+ghost use Rattle.std.specs.Prelude.{◌≡◌, true, IfOk, find, is_some};
 ghost use Rattle.std.specs.List.{list_any};
 ghost use Rattle.std.specs.Option.{option_copied};
 ghost use Rattle.cf_desired.specs.FlawText.{flaw_text};
@@ -28,9 +28,6 @@ pub enum Failure {
     Nothing,
     /// It has, for this cause.
     Because { cause: Cause },
-    /// It has, by an outcome of a call that has no row in the ledger: no cause tells it. A journal each of whose
-    /// entries may follow those before it never comes to this.
-    Untold,
 }
 
 /// Whether a plan exports a name with its value.
@@ -82,13 +79,14 @@ pub fn are_all_done(before: &Plan, done: &Names) -> bool
         .all(|wanted| done.contains(&wanted.path))
 }
 
-/// The failure that a call makes.
+/// The failure that a call makes, which has its row in the ledger.
 fn failure_of_call(
     alloc: Global,
     stack: &StackState,
     token: u64,
     reason: Reason,
 ) -> Result<Failure, AllocError>
+    requires { is_some (path_of_token token stack.now.stack) ≡ true }
     ensures { IfOk result (λ failure. failure ≡ failure_of_call (path_of_token token stack.now.stack) reason) }
 {
     match path_of_token(stack, token) {
@@ -98,7 +96,8 @@ fn failure_of_call(
                 cause: Cause::Handler { path, reason },
             })
         }
-        None => Ok(Failure::Untold),
+        // The call has its row.
+        None => unreachable!(),
     }
 }
 

@@ -16,7 +16,7 @@ use cf_tree::{ByName, Code, Names, Request, Txt};
 use std::alloc::{AllocError, Global};
 
 /// Whether a call was refused; a deletion that finds nothing was not.
-fn is_refusal(request: &Request, answer: &Option<Settled>) -> bool
+pub fn is_refusal(request: &Request, answer: &Option<Settled>) -> bool
     ensures { result ≡ is_refusal request.now answer.now }
 {
     match (request, answer) {

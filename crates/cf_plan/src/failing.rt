@@ -1,5 +1,5 @@
 //! The outcome that fails the forward phase of an operation.
-ghost use Rattle.std.specs.Prelude.{◌≡◌, ◌==◌, [], find};
+ghost use Rattle.std.specs.Prelude.{◌≡◌, ◌==◌, ◌&&◌, [], find, is_some};
 ghost use Rattle.std.specs.Option.{option_copied};
 ghost use Rattle.cf_effect.specs.Calls.{call_under};
 ghost use Rattle.cf_effect.specs.Operation.{doubts_in};
@@ -99,16 +99,16 @@ fn refusing_heard(
     }
 }
 
-/// Whether these entries answer a token by two doubts.
-fn has_two_doubts(entries: &[HeardEntry], token: u64) -> bool
-    ensures { result ≡ (doubts_in token entries.now == 2) }
+/// Whether a doubt of a token is the third one of a call: it stands in the ledger, and two doubts are in these entries.
+fn is_third_doubt(stack: &StackState, earlier: &[HeardEntry], token: u64) -> bool
+    ensures { result ≡ (is_some (call_under token stack.now.stack) && doubts_in token earlier.now == 2) }
 {
-    doubts_in(entries, token) == 2
+    call_of(stack, token).is_some() && doubts_in(earlier, token) == 2
 }
 
-/// The token, where an entry is its third doubt: two are in those before it.
-fn doubting(earlier: &[HeardEntry], entry: &Entry) -> Option<(u64, Reason)>
-    ensures { result ≡ doubting earlier.now entry.now }
+/// The token, where an entry is the third doubt of its call: two are in those before it.
+fn doubting(stack: &StackState, earlier: &[HeardEntry], entry: &Entry) -> Option<(u64, Reason)>
+    ensures { result ≡ doubting stack.now.stack earlier.now entry.now }
 {
     match entry {
         Entry::Outcome {
@@ -119,7 +119,7 @@ fn doubting(earlier: &[HeardEntry], entry: &Entry) -> Option<(u64, Reason)>
             after: _,
         } => match answer {
             Reply::Doubt => {
-                if has_two_doubts(earlier, *token) {
+                if is_third_doubt(stack, earlier, *token) {
                     Some((*token, Reason::Fault))
                 } else {
                     None
@@ -135,13 +135,17 @@ fn doubting(earlier: &[HeardEntry], entry: &Entry) -> Option<(u64, Reason)>
     }
 }
 
-/// The token, where an entry as the stack keeps it is its third doubt.
+/// The token, where an entry as the stack keeps it is the third doubt of its call.
 #[tactic(auto, using(crate::proofs::Successes::no_third))]
-fn doubting_heard(earlier: &[HeardEntry], heard: &HeardEntry) -> Option<(u64, Reason)>
-    ensures { result ≡ doubting earlier.now heard.now }
+fn doubting_heard(
+    stack: &StackState,
+    earlier: &[HeardEntry],
+    heard: &HeardEntry,
+) -> Option<(u64, Reason)>
+    ensures { result ≡ doubting stack.now.stack earlier.now heard.now }
 {
     match heard.as_entry() {
-        Some(entry) => doubting(earlier, entry),
+        Some(entry) => doubting(stack, earlier, entry),
         None => None,
     }
 }
@@ -174,7 +178,7 @@ fn first_failing_now(
         if let Some(failing) = refusing_heard(schemas, stack, heard) {
             return Some(failing);
         }
-        if let Some(failing) = doubting_heard(&entries[..at], heard) {
+        if let Some(failing) = doubting_heard(stack, &entries[..at], heard) {
             return Some(failing);
         }
     }
@@ -182,7 +186,7 @@ fn first_failing_now(
 }
 
 /// The token of the first outcome that fails the forward phase, and the reason: a refusal that is not excused, at any time in
-/// the phase, and in this opening a token's third doubt. It goes over the entries once, and once more for each refusal and
+/// the phase, and in this opening a call's third doubt. It goes over the entries once, and once more for each refusal and
 /// each doubt.
 pub fn first_failing(schemas: &Schemas, stack: &StackState) -> Option<(u64, Reason)>
     ensures { result ≡ first_failing schemas.now stack.now.stack }

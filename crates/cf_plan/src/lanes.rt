@@ -4,8 +4,7 @@ ghost use Rattle.std.specs.List.{list_any};
 ghost use Rattle.std.specs.Str.{bytes_eq};
 ghost use Rattle.cf_handler.specs.Move.{IsOfLane};
 ghost use Rattle.cf_plan.specs.Follow.{is_in_flight, calls_in_flight, is_lane_leased};
-ghost use Rattle.cf_plan.specs.Chosen.{first_home};
-ghost use Rattle.cf_plan.specs.Taking.{is_of_lane};
+ghost use Rattle.cf_plan.specs.Homes.{first_home, is_of_lane};
 
 use crate::repeats::is_in_flight;
 use cf_stacks::{Call, StackState, World};

@@ -1,4 +1,4 @@
-//! How far a create has come: whether it has failed, and what may begin where it has not.
+//! How far a forward phase has come: whether it has failed, and what may begin where it has not.
 ghost use Rattle.std.specs.Prelude.{◌≡◌, IfOk};
 ghost use Rattle.cf_plan.specs.Forward.{plan_now};
 ghost use Rattle.cf_plan.specs.Progress.{IsProgressOf};
@@ -13,15 +13,13 @@ use cf_stacks::{StackState, World};
 use cf_tree::Txt;
 use std::alloc::{AllocError, Global};
 
-/// How far a create has come.
+/// How far a create or an update has come in its forward phase.
 #[derive(Drop)]
-pub(crate) enum Progress {
+pub enum Progress {
     /// It has not failed: these requests may begin.
     Going { starts: Starts, is_done: bool },
     /// It has failed, for this cause.
     Failed { cause: Cause },
-    /// It has failed, and no cause tells why.
-    Untold,
 }
 
 /// How far a create has come, by what its source wants over the resources of now: its paths and
@@ -40,7 +38,6 @@ fn progress_by(
     let done = done_by(alloc, stack, now, now)?;
     match failure_by(alloc, schemas, name, world, stack, now, now, &done)? {
         Failure::Because { cause } => Ok(Progress::Failed { cause }),
-        Failure::Untold => Ok(Progress::Untold),
         Failure::Nothing => {
             let starts = open_starts(alloc, schemas, stack, now, now, &done)?;
             let is_done = is_all_done(stack, now, &done);
@@ -49,8 +46,12 @@ fn progress_by(
     }
 }
 
-/// How far a create has come.
-pub(crate) fn progress_of(
+/// How far a create or an update has come in its forward phase.
+///
+/// # Errors
+///
+/// Only for want of memory.
+pub fn progress_of(
     alloc: Global,
     schemas: &Schemas,
     name: &Txt,

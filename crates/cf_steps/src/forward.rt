@@ -46,7 +46,6 @@ fn add_failure(line: &mut Line, failure: &Failure) {
     match failure {
         Failure::Nothing => line.word("nothing"),
         Failure::Because { cause } => add_cause(line, cause),
-        Failure::Untold => line.word("untold"),
     }
 }
 

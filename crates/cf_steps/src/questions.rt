@@ -14,6 +14,7 @@ use cf_export::Pins;
 use cf_stacks::{World, fold};
 use cf_tree::{TryClone, Txt};
 use std::alloc::{AllocError, Global};
+use std::mem;
 
 /// What is asked over: a journal, and what the sections of its table share.
 #[derive(Clone, Copy)]
@@ -38,6 +39,17 @@ pub fn last_number(journal: &Entries) -> u64 {
     match last_begun(journal) {
         Some((number, _)) => number,
         None => 0,
+    }
+}
+
+/// The number of the operation that a question is of: the one of its words `of NUMBER`, and the last one where it has none.
+fn number_asked(words: &mut Words, journal: &Entries) -> u64 {
+    match words.rest.strip_prefix("of ") {
+        Some(rest) => {
+            words.rest = rest;
+            words.number()
+        }
+        None => last_number(journal),
     }
 }
 
@@ -156,7 +168,7 @@ fn add_answer(line: &mut Line, words: &mut Words, asked: &Asked, world: &World) 
 fn add_of_operation(line: &mut Line, words: &mut Words, asked: &Asked, world: &World, word: &str) {
     match word {
         "next" | "due" => {
-            let number = last_number(asked.journal);
+            let number = number_asked(words, asked.journal);
             add_coming(line, words, asked.library, world, word, number);
         }
         "failure" | "done" | "starts" | "wants" | "finding" | "right" | "failing" | "blamed" => {
@@ -178,11 +190,19 @@ fn over(alloc: Global, asked: &Asked, world: &World, question: &str) -> Result<S
     }
 }
 
-/// The answer over the world that is folded.
-fn over_folded(alloc: Global, asked: &Asked, question: &str) -> Result<String, AllocError> {
-    let world = fold(alloc, asked.journal.try_clone(alloc)?)?;
+/// The answer over the world that is folded: of a journal that has not changed since the last question that one stays.
+fn over_folded(
+    alloc: Global,
+    asked: &Asked,
+    folded: &mut Option<World>,
+    question: &str,
+) -> Result<String, AllocError> {
+    let world = match folded.take() {
+        Some(world) => world,
+        None => fold(alloc, asked.journal.try_clone(alloc)?)?,
+    };
     let text = over(alloc, asked, &world, question);
-    drop(world);
+    drop(mem::replace(folded, Some(world)));
     text
 }
 
@@ -210,6 +230,7 @@ fn make_room(
 pub fn answer(
     alloc: Global,
     asked: &Asked,
+    folded: &mut Option<World>,
     stepped: &mut Stepped,
     question: &str,
 ) -> Result<String, AllocError> {
@@ -217,7 +238,7 @@ pub fn answer(
         .split_once(" with room for ")
         .unwrap_or((question, ""));
     make_room(alloc, asked, stepped, entry)?;
-    let folded = over_folded(alloc, asked, question)?;
+    let folded = over_folded(alloc, asked, folded, question)?;
     let stepped = over(alloc, asked, stepped.world(), question)?;
     if folded == stepped {
         return Ok(folded);

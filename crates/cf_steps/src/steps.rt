@@ -1,11 +1,14 @@
 //! What comes next in an operation, and what is due.
-ghost use Rattle.cf_plan.specs.Stepping.{IsCreation};
+ghost use Rattle.std.specs.Prelude.{◌≡◌, ◌↔◌, IsTrue, Some};
+ghost use Rattle.cf_effect.specs.Status.{Stage, stage_of};
+ghost use Rattle.cf_next.specs.Chosen.{IsInProgress};
 
 use crate::library::Library;
 use crate::line::Line;
 use crate::spelled::{add_kept, add_names, add_request, add_turn};
 use crate::words::Words;
-use cf_plan::{Home, Homes, Next, due, is_creation, next_in_creation, schemas_of};
+use cf_entry::Status;
+use cf_next::{Home, Homes, Next, NextFault, due, next, schemas_of};
 use cf_schema::Schemas;
 use cf_stacks::{StackState, World};
 use cf_tree::{Request, Txt};
@@ -128,15 +131,16 @@ fn add_next(
     number: u64,
     out: &[u64],
 )
-    requires { IsCreation world.now.world number }
+    requires { IsInProgress world.now.world number }
 {
     let homes = homes_of(words, library, world, out);
-    match next_in_creation(line.alloc, world, number, &homes) {
-        Ok(next) => {
-            add_step(line, library, &next);
-            drop(next);
+    match next(line.alloc, world, number, &homes) {
+        Ok(step) => {
+            add_step(line, library, &step);
+            drop(step);
         }
-        Err(_) => line.word("no step"),
+        Err(NextFault::NoStep) => line.word("no step"),
+        Err(NextFault::NoMemory) => line.lose(),
     }
     drop(homes);
 }
@@ -150,7 +154,7 @@ fn add_due(
     number: u64,
     out: &[u64],
 )
-    requires { IsCreation world.now.world number }
+    requires { IsInProgress world.now.world number }
 {
     let schemas = schemas_in(words, library, world);
     match due(line.alloc, world, number, out, &schemas) {
@@ -166,6 +170,32 @@ fn add_due(
     drop(schemas);
 }
 
+/// Whether an operation is in progress on a stack.
+fn goes_on(stack: &StackState) -> bool
+    ensures { IsTrue result ↔ ((stage : Stage) × (stage_of stack.now.stack.status ≡ Some stage)) }
+{
+    matches!(
+        stack.status(),
+        Status::CreateInProgress
+            | Status::UpdateInProgress
+            | Status::UpdateCompleteCleanupInProgress
+            | Status::RollbackInProgress
+            | Status::UpdateRollbackInProgress
+            | Status::UpdateRollbackCompleteCleanupInProgress
+            | Status::DeleteInProgress
+    )
+}
+
+/// Whether the operation of a number is in progress.
+fn is_in_progress(world: &World, number: u64) -> bool
+    ensures { IsTrue result ↔ IsInProgress world.now.world number }
+{
+    match world.stack_of_operation(number) {
+        Some(going) => goes_on(&going.1),
+        None => false,
+    }
+}
+
 /// The step that comes next in an operation, while the calls of these tokens are out; or all steps that are due.
 pub fn add_coming(
     line: &mut Line,
@@ -179,8 +209,8 @@ pub fn add_coming(
         words.word();
     }
     let out = tokens_of(words);
-    if !is_creation(world, number) {
-        line.word("no creation");
+    if !is_in_progress(world, number) {
+        line.word("not in progress");
     } else if word == "next" {
         add_next(line, words, library, world, number, out.as_slice());
     } else {

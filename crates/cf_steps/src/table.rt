@@ -5,6 +5,7 @@ use crate::questions::{Asked, answer, last_number};
 use crate::words::Words;
 use crate::worlds::Stepped;
 use cf_entry::{Entries, Entry};
+use cf_stacks::World;
 use cf_tree::{ByName, Rows, TryClone};
 use std::alloc::{AllocError, Global};
 use std::{io, mem};
@@ -23,6 +24,8 @@ pub struct Table {
     /// The journals that were marked.
     marks: ByName<Entries>,
     journal: Entries,
+    /// The world that the journal folds to, where it was asked for since the journal changed.
+    folded: Option<World>,
     stepped: Stepped,
     waiting: Option<Waiting>,
     pub rows: u64,
@@ -36,6 +39,7 @@ impl Table {
             library: Library::new(alloc),
             marks: ByName::new(alloc),
             journal: Entries::new(alloc),
+            folded: None,
             stepped: Stepped::new(alloc),
             waiting: None,
             rows: 0,
@@ -102,7 +106,7 @@ impl Table {
             library: &self.library,
             journal: &self.journal,
         };
-        answer(alloc, &asked, &mut self.stepped, question)
+        answer(alloc, &asked, &mut self.folded, &mut self.stepped, question)
     }
 
     /// Reads a line that goes on with no row.
@@ -144,6 +148,7 @@ impl Table {
             None => Entries::new(words.memory.alloc),
         };
         drop(mem::replace(&mut self.journal, journal));
+        drop(self.folded.take());
         self.stepped.begin(words, &self.journal);
     }
 
@@ -185,6 +190,7 @@ impl Table {
         if self.journal.push(entry).is_err() {
             words.memory.lose();
         }
+        drop(self.folded.take());
         drop(mem::replace(&mut self.library.rows, Rows::new(words.memory.alloc)));
     }
 }

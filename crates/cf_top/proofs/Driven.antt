@@ -15,16 +15,16 @@ use Rattle.cf_entry.specs.declared.entry.Reply.{Reply}
 use Rattle.cf_entry.specs.declared.entry.Reply.TheVariants as reply
 use Rattle.cf_effect.specs.declared.held.Pending.{Pending}
 use Rattle.cf_effect.specs.World.{StackState, World, stack_of_operation}
-use Rattle.cf_effect.specs.Status.{Stage, Forward, Clean, Back, BackClean, Gone}
+use Rattle.cf_effect.specs.Status.{Stage, Forward, Clean, Back, BackClean, Gone, stage_of}
 use Rattle.cf_effect.specs.Words.{has_token, pending_of}
 use Rattle.cf_effect.specs.Fold.{fold_of, world_after}
-use Rattle.cf_plan.specs.declared.next.Next.{Next}
-use Rattle.cf_plan.specs.declared.next.Next.TheVariants as next
+use Rattle.cf_next.specs.declared.step.Next.{Next}
+use Rattle.cf_next.specs.declared.step.Next.TheVariants as next
 use Rattle.cf_plan.specs.Forward.{In, here, there}
 use Rattle.cf_plan.specs.Follow.{MayFollow, MayRepeat, IsCounted}
-use Rattle.cf_plan.specs.Chosen.{IsNext, entry_of}
-use Rattle.cf_plan.specs.Stepping.{IsCreation}
-use Rattle.cf_plan.specs.Going.{AnswerFollows, CreationGoesOn, CreationIsProper, IntentOpens, IsUnderWay}
+use Rattle.cf_next.specs.Chosen.{IsNext, entry_of}
+use Rattle.cf_next.specs.Chosen.{IsInProgress}
+use Rattle.cf_plan.specs.Going.{Creates, AnswerFollows, CreationGoesOn, CreationIsProper, IntentOpens, IsUnderWay}
 use Rattle.cf_plan.specs.Run.{Told, IsAsked, IsDone, IsOwn, MovesAt, Runs, open_call, answer_as}
 use Rattle.cf_plan.proofs.Frame.{found_passes}
 use Rattle.cf_top.specs.declared.book.Halt.{Halt}
@@ -193,8 +193,14 @@ repeats_open schemas x number path lane token r (name, t, stage, going, in_stage
     let f = found_in (has_token token) t.tokens p (repeats_in schemas name x [] t stage p chosen.may.repeats) (eq-eqb token token refl) in
     (f.0, ap (option_and_then (λ s. pending_of token s.1)) going ∙ f.1)
 
-pub creates : (x y : World) (number : ℕ) → y ≡ x → GoesOn number x → IsCreation y number
-creates x y number e (name, u) = subst (λ w. IsCreation w number) (sym e) (name, u.stack, u.going, u.creates)
+stage_there : (s : StackState) → Creates s → (stage : Stage) × (stage_of s.status ≡ Some stage)
+stage_there s (inl q) = (Forward, ap stage_of q)
+stage_there s (inr q) = (Back, ap stage_of q)
+
+pub in_progress : (x y : World) (number : ℕ) → y ≡ x → GoesOn number x → IsInProgress y number
+in_progress x y number e (name, u) =
+    let at = stage_there u.stack u.creates in
+    subst (λ w. IsInProgress w number) (sym e) (name, u.stack, at.0, u.going, at.1)
 
 pub comes_next : (schemas : List Schema) (x y : World) (out : List ℕ) (number : ℕ) (n : Next) → y ≡ x → out ≡ [] → IsNext schemas y out number n → IsNext schemas x [] number n
 comes_next schemas x y out number n e o c = subst (λ w. IsNext schemas w [] number n) e (subst (λ l. IsNext schemas y l number n) o c)

@@ -1,6 +1,6 @@
 -- What fails the forward phase of a creation is among its stack's entries.
-use Rattle.std.proofs.Common.{◌≡◌, ℕ, ◌==◌, List, [], ◌∷◌, ◌++◌, Bool, true, false, Option, Some, None, refl, ap, ◌∙◌}
-use Rattle.std.specs.Prelude.{cond}
+use Rattle.std.proofs.Common.{◌≡◌, ℕ, ◌==◌, ◌&&◌, List, [], ◌∷◌, ◌++◌, Bool, true, false, Option, Some, None, refl, ap, ◌∙◌}
+use Rattle.std.specs.Prelude.{cond, is_some}
 use Rattle.std.specs.List.{list_any}
 use Rattle.std.specs.Option.{option_or}
 use Rattle.cf_schema.specs.declared.described.Schema.{Schema}
@@ -83,18 +83,18 @@ module _ (token : ℕ) (why : Reason) where
   refusing_says schemas s (entry.Done number state failed) h = absurd (none_some h)
   refusing_says schemas s (entry.ChangeSet number name source rows outputs) h = absurd (none_some h)
 
-  doubting_says : (earlier : List Entry) (e : Entry) → doubting earlier e ≡ Some (token, why) → IsFailedOutcome token why e
-  doubting_says earlier (entry.Outcome number t reply.Doubt before after) h =
-      refused_so number t reply.Doubt reason.Fault before after (doubts_in t earlier == 2) refl h
-  doubting_says earlier (entry.Outcome number t (reply.Success physical attrs) before after) h = absurd (none_some h)
-  doubting_says earlier (entry.Outcome number t (reply.Failed c) before after) h = absurd (none_some h)
-  doubting_says earlier (entry.Opened epoch lanes) h = absurd (none_some h)
-  doubting_says earlier (entry.Begin number name k) h = absurd (none_some h)
-  doubting_says earlier (entry.Kept number path physical w) h = absurd (none_some h)
-  doubting_says earlier (entry.Intent number t lane path r) h = absurd (none_some h)
-  doubting_says earlier (entry.Phase number p c) h = absurd (none_some h)
-  doubting_says earlier (entry.Done number state failed) h = absurd (none_some h)
-  doubting_says earlier (entry.ChangeSet number name source rows outputs) h = absurd (none_some h)
+  doubting_says : (s : StackState) (earlier : List Entry) (e : Entry) → doubting s earlier e ≡ Some (token, why) → IsFailedOutcome token why e
+  doubting_says s earlier (entry.Outcome number t reply.Doubt before after) h =
+      refused_so number t reply.Doubt reason.Fault before after (is_some (call_under t s) && doubts_in t earlier == 2) refl h
+  doubting_says s earlier (entry.Outcome number t (reply.Success physical attrs) before after) h = absurd (none_some h)
+  doubting_says s earlier (entry.Outcome number t (reply.Failed c) before after) h = absurd (none_some h)
+  doubting_says s earlier (entry.Opened epoch lanes) h = absurd (none_some h)
+  doubting_says s earlier (entry.Begin number name k) h = absurd (none_some h)
+  doubting_says s earlier (entry.Kept number path physical w) h = absurd (none_some h)
+  doubting_says s earlier (entry.Intent number t lane path r) h = absurd (none_some h)
+  doubting_says s earlier (entry.Phase number p c) h = absurd (none_some h)
+  doubting_says s earlier (entry.Done number state failed) h = absurd (none_some h)
+  doubting_says s earlier (entry.ChangeSet number name source rows outputs) h = absurd (none_some h)
 
   abbrev SomeFails : List Entry → Type 0
   SomeFails es = (e : Entry) × In e es × IsFailedOutcome token why e
@@ -109,10 +109,10 @@ module _ (token : ℕ) (why : Reason) where
   first_behind_says : (schemas : List Schema) (s : StackState) (es earlier : List Entry) → first_failing_behind schemas s earlier es ≡ Some (token, why) → SomeFails es
   first_behind_says schemas s [] earlier h = absurd (none_some h)
   first_behind_says schemas s (e ∷ es) earlier h =
-      by_first (refusing schemas s e) (doubting earlier e) refl refl h (first_behind_says schemas s es (earlier ++ e ∷ [])) where
-        by_first : (o d : Option (ℕ × Reason)) → refusing schemas s e ≡ o → doubting earlier e ≡ d → option_or o (option_or d (first_failing_behind schemas s (earlier ++ e ∷ []) es)) ≡ Some (token, why) → (first_failing_behind schemas s (earlier ++ e ∷ []) es ≡ Some (token, why) → SomeFails es) → SomeFails (e ∷ es)
+      by_first (refusing schemas s e) (doubting s earlier e) refl refl h (first_behind_says schemas s es (earlier ++ e ∷ [])) where
+        by_first : (o d : Option (ℕ × Reason)) → refusing schemas s e ≡ o → doubting s earlier e ≡ d → option_or o (option_or d (first_failing_behind schemas s (earlier ++ e ∷ []) es)) ≡ Some (token, why) → (first_failing_behind schemas s (earlier ++ e ∷ []) es ≡ Some (token, why) → SomeFails es) → SomeFails (e ∷ es)
         by_first (Some f) d q p g ih = (e, here, refusing_says schemas s e (q ∙ g))
-        by_first None (Some f) q p g ih = (e, here, doubting_says earlier e (p ∙ g))
+        by_first None (Some f) q p g ih = (e, here, doubting_says s earlier e (p ∙ g))
         by_first None None q p g ih = let r = ih g in (r.0, there r.1, r.2)
 
   -- what fails the phase is a failed outcome among the stack's entries

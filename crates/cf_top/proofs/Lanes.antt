@@ -11,9 +11,9 @@ use Rattle.cf_schema.specs.declared.described.Schema.{Schema}
 use Rattle.cf_schema.specs.Kinds.{with_kind}
 use Rattle.cf_handler.specs.Lane.{LaneState}
 use Rattle.cf_handler.specs.Move.{CallTells, HasCause}
-use Rattle.cf_plan.specs.declared.next.Home.{Home}
-use Rattle.cf_plan.specs.Chosen.{leases_of}
-use Rattle.cf_plan.specs.Stepping.{schemas_of}
+use Rattle.cf_next.specs.declared.home.Home.{Home}
+use Rattle.cf_next.specs.Chosen.{leases_of}
+use Rattle.cf_next.specs.Chosen.{schemas_of}
 use Rattle.cf_plan.specs.Run.{AreLater, MovesAt}
 use Rattle.cf_top.specs.Lanes.{homes_of, one_of_each}
 

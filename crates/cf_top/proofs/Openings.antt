@@ -1,13 +1,13 @@
 -- An opening that is written or not.
-use Rattle.std.proofs.Common.{◌≡◌, ℕ, Bool, List, [], ◌∷◌, ◌++◌, Option, None, refl, sym, ap, subst, ◌∙◌, map}
-use Rattle.std.specs.Prelude.{fold, Ok, Err}
+use Rattle.std.proofs.Common.{◌≡◌, ℕ, Bool, List, [], ◌∷◌, ◌++◌, None, sym, ap, subst, ◌∙◌}
+use Rattle.std.specs.Prelude.{Ok, Err}
 use Rattle.cf_entry.specs.declared.entry.Entry.{Entry}
-use Rattle.cf_effect.specs.World.{StackState, World}
+use Rattle.cf_effect.specs.World.{World}
 use Rattle.cf_face.specs.declared.exit.Exit.{Exit}
 use Rattle.cf_top.specs.declared.book.Halt.{Halt}
 use Rattle.cf_top.specs.declared.book.Halt.TheVariants as halt
 use Rattle.cf_top.specs.Book.{HaltsAt, world_of}
-use Rattle.cf_top.specs.Opening.{EnterTells, exit_of, missing, missing_in, need_of_call, need_of_held, needs_of, opening, or_missing, twice}
+use Rattle.cf_top.specs.Opening.{EnterTells, exit_of, missing, opening, twice}
 
 module _ (tells : Bool) (bytes : List ℕ) (room faults faults' : ℕ) (names kinds : List (List ℕ)) (es more : List Entry) (e : Entry) (x : World)
     (apart : twice names ≡ None) (none : missing names kinds (world_of es) ≡ None) (same : x ≡ world_of es) (entry_is : e ≡ opening names kinds x) where

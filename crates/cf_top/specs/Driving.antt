@@ -8,8 +8,8 @@ use Rattle.cf_entry.specs.declared.entry.Reply.{Reply}
 use Rattle.cf_entry.specs.declared.status.Status.{Status}
 use Rattle.cf_effect.specs.declared.held.Pending.{Pending}
 use Rattle.cf_effect.specs.World.{World}
-use Rattle.cf_plan.specs.declared.next.Next.{Next}
-use Rattle.cf_plan.specs.declared.next.Next.TheVariants as next
+use Rattle.cf_next.specs.declared.step.Next.{Next}
+use Rattle.cf_next.specs.declared.step.Next.TheVariants as next
 use Rattle.cf_plan.specs.Follow.{MayFollow}
 use Rattle.cf_plan.specs.Forward.{In}
 use Rattle.cf_plan.specs.Run.{Told, IsAsked, IsDone, IsOwn, Runs, open_call, answer_as}

@@ -3,7 +3,7 @@ use Rattle.std.specs.Prelude.{ℕ, List, [], ◌∷◌, map, fold, Option, Some,
 use Rattle.cf_schema.specs.declared.described.Schema.{Schema}
 use Rattle.cf_schema.specs.Kinds.{with_kind}
 use Rattle.cf_handler.specs.Lane.{LaneState}
-use Rattle.cf_plan.specs.declared.next.Home.{Home}
+use Rattle.cf_next.specs.declared.home.Home.{Home}
 
 -- the types of lanes, as their schemas say them
 abbrev pub kinds_of : List Schema → List (List ℕ)

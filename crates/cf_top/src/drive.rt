@@ -7,8 +7,7 @@ ghost use Rattle.cf_plan.specs.Follow.{MayFollow};
 ghost use Rattle.cf_effect.specs.declared.held.Pending.{Pending};
 ghost use Rattle.cf_plan.specs.Run.{MovesAt, open_call};
 ghost use Rattle.cf_effect.specs.Words.{has_token};
-ghost use Rattle.cf_plan.specs.Chosen.{IsNext, leases_of, entry_of};
-ghost use Rattle.cf_plan.specs.Stepping.{schemas_of};
+ghost use Rattle.cf_next.specs.Chosen.{IsNext, entry_of, leases_of, schemas_of};
 ghost use Rattle.cf_top.specs.Book.{IsOpen, world_of};
 ghost use Rattle.cf_top.specs.Lanes.{homes_of};
 ghost use Rattle.cf_top.specs.Driving.{CallEnds, CallsEnd, ConcludeTells, DriveTells, GoesOn, NoteTells, RepliesAs, TakeTells, called_by, taken_by};
@@ -17,10 +16,8 @@ use crate::book::{Book, Halt, append};
 use cf_disk::Disk;
 use cf_entry::{Entry, Reply};
 use cf_handler::Handler;
-use cf_plan::{
-    Home, Homes, Next, answer_follows, creation_goes_on, creation_is_proper, intent_opens,
-    next_in_creation,
-};
+use cf_next::{Home, Homes, Next, next};
+use cf_plan::{answer_follows, creation_goes_on, creation_is_proper, intent_opens};
 use cf_schema::Schema;
 use cf_stacks::{Pending, World};
 use cf_tree::{Answer, Request, TryClone, Txt};
@@ -455,8 +452,9 @@ fn take<D: Disk, H: Handler>(
       entries' = book.new.entries.items;
     }) number result }
 {
-    match next_in_creation(alloc, &book.world, number, homes) {
+    match next(alloc, &book.world, number, homes) {
         Ok(next) => take_step(alloc, book, disk, lanes, homes, number, next),
+        // A creation that has no step is none that this engine began: what a halt can say of it is this.
         Err(_) => Err(Halt::NoMemory),
     }
 }

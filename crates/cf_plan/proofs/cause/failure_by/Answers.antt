@@ -2,7 +2,12 @@ use Rattle.std.proofs.Common.{◌∙◌, None, Some, sym}
 use Rattle.cf_plan.specs.Forward.{path_of_token}
 use Rattle.cf_plan.specs.Causes.{IsFailureOf, failure_of_call, plan_failure}
 use Rattle.cf_plan.proofs.Causing.{tells_by, told}
+use Rattle.cf_plan.proofs.FailingCalls.{failing_called}
 use Rattle.cf_plan.proofs.cause.failure_by.Goals as goal
+
+pub failure_of_call-requires : goal.failure_of_call-requires
+failure_of_call-requires c =
+    failing_called c.args.schemas.now c.args.stack.now.stack (c.in-Some.token, c.in-Some.reason) (sym c.first_failing.ensures ∙ c.in-Some.is)
 
 pub returns-in-Some : goal.returns-in-Some
 returns-in-Some c =

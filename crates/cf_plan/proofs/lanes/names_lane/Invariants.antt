@@ -1,5 +1,5 @@
 use Rattle.std.proofs.Common.{◌≡◌, length}
-use Rattle.cf_plan.specs.Taking.{is_of_lane}
+use Rattle.cf_plan.specs.Homes.{is_of_lane}
 use Rattle.cf_plan.proofs.lanes.names_lane.Given as goal
 
 abbrev pub invariant-loop-byte : goal.invariant-loop-byte

@@ -1,5 +1,5 @@
 use Rattle.std.proofs.Common.{◌≡◌, take}
-use Rattle.cf_plan.specs.Stepping.{starts_in}
+use Rattle.cf_plan.specs.Starts.{starts_in}
 use Rattle.cf_plan.proofs.stepping.listed.Given as goal
 
 abbrev pub invariant-loop-entry : goal.invariant-loop-entry

@@ -1,7 +1,7 @@
 use Rattle.std.proofs.Common.{sym, subst}
 use Rattle.std.proofs.lemmas.Result.{IfOk-weaker}
-use Rattle.cf_plan.specs.Stepping.{AreOpen}
-use Rattle.cf_plan.proofs.StepChosen.{are_open}
+use Rattle.cf_plan.specs.Starts.{AreOpen}
+use Rattle.cf_plan.proofs.StartsListed.{are_open}
 use Rattle.cf_plan.proofs.stepping.open_starts.Goals as goal
 
 pub returns : goal.returns

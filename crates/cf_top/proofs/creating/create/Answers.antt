@@ -1,6 +1,6 @@
 use Rattle.std.proofs.Common.{map, ap, subst, refl, inl, ◌∙◌}
-use Rattle.cf_plan.specs.Chosen.{leases_of}
-use Rattle.cf_plan.specs.Stepping.{schemas_of}
+use Rattle.cf_next.specs.Chosen.{leases_of}
+use Rattle.cf_next.specs.Chosen.{schemas_of}
 use Rattle.cf_stacks.specs.Apart.{AreApart}
 use Rattle.cf_top.specs.Creating.{next_number}
 use Rattle.cf_top.specs.Lanes.{one_of_each}

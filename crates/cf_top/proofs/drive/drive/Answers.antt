@@ -1,5 +1,5 @@
 use Rattle.std.proofs.Common.{map, arith, refl, ◌∙◌}
-use Rattle.cf_plan.specs.Stepping.{schemas_of}
+use Rattle.cf_next.specs.Chosen.{schemas_of}
 use Rattle.cf_top.specs.declared.book.Halt.TheVariants as halt
 use Rattle.cf_top.proofs.Driven.{so_far, goes_further, is_driven, cut_later, no_memory}
 use Rattle.cf_top.proofs.drive.drive.Goals as goal

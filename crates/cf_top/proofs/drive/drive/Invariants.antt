@@ -1,5 +1,5 @@
 use Rattle.std.proofs.Common.{◌≡◌, ◌≤◌, map}
-use Rattle.cf_plan.specs.Stepping.{schemas_of}
+use Rattle.cf_next.specs.Chosen.{schemas_of}
 use Rattle.cf_top.specs.Book.{IsOpen}
 use Rattle.cf_top.proofs.Driven.{IsSoFar}
 use Rattle.cf_top.proofs.drive.drive.Given as goal

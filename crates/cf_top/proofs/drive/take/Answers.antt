@@ -1,12 +1,11 @@
 use Rattle.std.proofs.Common.{map, refl}
-use Rattle.cf_plan.specs.Chosen.{leases_of}
-use Rattle.cf_plan.specs.Stepping.{schemas_of}
+use Rattle.cf_next.specs.Chosen.{leases_of, schemas_of}
 use Rattle.cf_top.specs.Book.{world_of}
-use Rattle.cf_top.proofs.Driven.{comes_next, creates, follows_next, no_memory}
+use Rattle.cf_top.proofs.Driven.{comes_next, follows_next, in_progress, no_memory}
 use Rattle.cf_top.proofs.drive.take.Goals as goal
 
-pub next_in_creation-requires : goal.next_in_creation-requires
-next_in_creation-requires g c = creates (world_of c.args.book.now.entries.items) c.args.book.now.world.world c.args.number c.requires.open.world c.requires.goes_on
+pub next-requires : goal.next-requires
+next-requires g c = in_progress (world_of c.args.book.now.entries.items) c.args.book.now.world.world c.args.number c.requires.open.world c.requires.goes_on
 
 pub take_step-requires-clause-comes : goal.take_step-requires-clause-comes
 take_step-requires-clause-comes g c =

@@ -2,9 +2,9 @@ use Rattle.std.proofs.Common.{◌≡◌, map, Some, refl, sym, subst}
 use Rattle.std.specs.Prelude.{IfSome, Ok, Err}
 use Rattle.cf_entry.specs.Entry.{IsProper}
 use Rattle.cf_effect.specs.declared.held.Pending.{Pending}
-use Rattle.cf_plan.specs.Chosen.{entry_of}
+use Rattle.cf_next.specs.Chosen.{entry_of}
 use Rattle.cf_plan.specs.Run.{open_call}
-use Rattle.cf_plan.specs.Stepping.{schemas_of}
+use Rattle.cf_next.specs.Chosen.{schemas_of}
 use Rattle.cf_top.specs.Book.{world_of}
 use Rattle.cf_top.specs.Driving.{CallsEnd, NoteTells, TakeTells}
 use Rattle.cf_top.proofs.Driven.{call_halts, is_taken, note_halts, note_opens, note_proper, noted_is}

@@ -1,0 +1,172 @@
+//! What is worked out of a stack once, before a stage goes through the resources that it may delete.
+ghost use Rattle.std.specs.Prelude.{◌≡◌, ◌&&◌, ℕ, List, [], IfOk, fold, not, false};
+ghost use Rattle.cf_tree.specs.Keys.{value_at};
+ghost use Rattle.cf_tree.specs.Lists.{is_among};
+ghost use Rattle.cf_effect.specs.declared.held.Held.{Held as Resource};
+ghost use Rattle.cf_plan.specs.Follow.{is_free};
+ghost use Rattle.cf_next.specs.Facts.{AreFacts, with_doubted, with_open, with_policy};
+ghost use Rattle.cf_next.specs.Lookups.{has};
+ghost use Rattle.cf_next.specs.Repeats.{retained_in};
+ghost use Rattle.cf_next.specs.Unmaking.{is_cleanup, is_doubted, is_needed, policy_at, stage_in};
+
+use crate::lookups::{TxtSet, add_first, set_of};
+use crate::needed::{needed_in_deletion, needed_in_rollback};
+use crate::tallies::{Tally, tallies};
+use crate::unmaking::{Unmaking, is_cleanup};
+use cf_plan::doubts_of;
+use cf_stacks::{Held, Pending, StackState};
+use cf_tree::{ByName, Names, Replace, Request};
+use std::alloc::{AllocError, Global};
+
+/// What is worked out of a stack once.
+#[derive(Drop)]
+pub(crate) struct Facts {
+    /// The physical ids of the resources that others need, where the stage goes by that.
+    pub needed: TxtSet,
+    /// How often the operation began to delete each resource, by physical id.
+    pub tallies: ByName<Tally>,
+    /// The paths with an open call.
+    pub busy: TxtSet,
+    /// In a cleanup, the physical ids of the resources of which an open deletion was three times in doubt.
+    pub doubted: TxtSet,
+    /// In the cleanup of an update, the policies of the resources that took the place of others, by path.
+    pub policies: ByName<Replace>,
+    /// The paths that are to be retained.
+    pub retained: TxtSet,
+}
+
+/// The physical ids of the resources that others need, where a stage goes by that.
+fn needed_for(alloc: Global, stage: Unmaking, stack: &StackState) -> Result<Names, AllocError>
+    ensures { IfOk result (λ ids. (r : Resource) → is_among r.physical ids ≡ is_needed stage stack.now.stack r) }
+{
+    match stage {
+        Unmaking::Back => needed_in_rollback(alloc, stack),
+        Unmaking::Gone => needed_in_deletion(alloc, stack),
+        Unmaking::Clean | Unmaking::BackClean => Ok(Names::new(alloc)),
+    }
+}
+
+/// The paths of these open calls.
+fn opened_at(alloc: Global, tokens: &[Pending]) -> Result<TxtSet, AllocError>
+    ensures { IfOk result (λ paths. paths ≡ fold with_open [] tokens.now) }
+{
+    let mut paths = TxtSet::new(alloc);
+    for pending in tokens {
+        add_first(alloc, &mut paths, &pending.path, ())?;
+    }
+    Ok(paths)
+}
+
+/// The paths with an open call.
+fn open_paths(alloc: Global, stack: &StackState) -> Result<TxtSet, AllocError>
+    ensures { IfOk result (λ paths. (path : List ℕ) → has path paths ≡ not (is_free path stack.now.stack)) }
+{
+    opened_at(alloc, stack.tokens().as_slice())
+}
+
+/// Adds the resource that an open call deletes, where that was three times in doubt. After an error the set is as it was.
+fn add_doubted(
+    alloc: Global,
+    ids: &mut TxtSet,
+    stack: &StackState,
+    pending: &Pending,
+) -> Result<(), AllocError>
+    ensures { IfOk result (λ _. ids.new ≡ with_doubted stack.now.stack ids.old pending.now) }
+{
+    if doubts_of(pending.token, stack) < 3 {
+        return Ok(());
+    }
+    match &pending.request {
+        Request::Delete { physical } => add_first(alloc, ids, physical, ()),
+        _ => Ok(()),
+    }
+}
+
+/// The resources that these open calls delete, where that was three times in doubt.
+fn doubted_by(alloc: Global, stack: &StackState, tokens: &[Pending]) -> Result<TxtSet, AllocError>
+    ensures { IfOk result (λ ids. ids ≡ fold (with_doubted stack.now.stack) [] tokens.now) }
+{
+    let mut ids = TxtSet::new(alloc);
+    for pending in tokens {
+        add_doubted(alloc, &mut ids, stack, pending)?;
+    }
+    Ok(ids)
+}
+
+/// In a cleanup, the resources of which an open deletion was three times in doubt.
+fn doubted_for(alloc: Global, stage: Unmaking, stack: &StackState) -> Result<TxtSet, AllocError>
+    ensures { IfOk result (λ ids. (id : List ℕ) → has id ids ≡ (is_cleanup stage && is_doubted id stack.now.stack)) }
+{
+    if is_cleanup(stage) {
+        doubted_by(alloc, stack, stack.tokens().as_slice())
+    } else {
+        Ok(TxtSet::new(alloc))
+    }
+}
+
+/// Adds the policy of a resource under its path, where it is the first there and is not superseded. After an error the map is as it
+/// was.
+fn add_policy(alloc: Global, policies: &mut ByName<Replace>, held: &Held) -> Result<(), AllocError>
+    ensures { IfOk result (λ _. policies.new ≡ with_policy policies.old held.now) }
+{
+    if held.superseded {
+        Ok(())
+    } else {
+        add_first(alloc, policies, &held.path, held.replace)
+    }
+}
+
+/// The policies of those of these resources that are not superseded.
+fn policies_of(alloc: Global, helds: &[Held]) -> Result<ByName<Replace>, AllocError>
+    ensures { IfOk result (λ policies. policies ≡ fold with_policy [] helds.now) }
+{
+    let mut policies = ByName::new(alloc);
+    for held in helds {
+        add_policy(alloc, &mut policies, held)?;
+    }
+    Ok(policies)
+}
+
+/// In the cleanup of an update, the policies of the resources that took the place of others.
+fn policies_for(
+    alloc: Global,
+    stage: Unmaking,
+    stack: &StackState,
+) -> Result<ByName<Replace>, AllocError>
+    ensures { IfOk result (λ policies. (path : List ℕ) → value_at path policies ≡ policy_at stage stack.now.stack path) }
+{
+    match stage {
+        Unmaking::Clean => policies_of(alloc, stack.held().as_slice()),
+        Unmaking::Back | Unmaking::BackClean | Unmaking::Gone => Ok(ByName::new(alloc)),
+    }
+}
+
+/// The set of the physical ids of the resources that others need, where a stage goes by that.
+fn needed_set(alloc: Global, stage: Unmaking, stack: &StackState) -> Result<TxtSet, AllocError>
+    ensures { IfOk result (λ ids. (r : Resource) → has r.physical ids ≡ is_needed stage stack.now.stack r) }
+{
+    let ids = needed_for(alloc, stage, stack)?;
+    let set = set_of(alloc, ids.as_slice());
+    drop(ids);
+    set
+}
+
+/// What a stage has to know of its stack; the paths are those that it is to retain.
+pub(crate) fn facts_of(
+    alloc: Global,
+    stage: Unmaking,
+    stack: &StackState,
+    retained: &Names,
+) -> Result<Facts, AllocError>
+    requires { retained.now ≡ retained_in (stage_in stage) stack.now.stack }
+    ensures { IfOk result (λ facts. AreFacts stage stack.now.stack facts) }
+{
+    Ok(Facts {
+        needed: needed_set(alloc, stage, stack)?,
+        tallies: tallies(alloc, stack)?,
+        busy: open_paths(alloc, stack)?,
+        doubted: doubted_for(alloc, stage, stack)?,
+        policies: policies_for(alloc, stage, stack)?,
+        retained: set_of(alloc, retained.as_slice())?,
+    })
+}

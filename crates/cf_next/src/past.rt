@@ -1,0 +1,175 @@
+//! What the calls and the entries of a stack tell of the resources that it held before.
+ghost use Rattle.std.specs.Prelude.{◌≡◌, ◌==◌, ◌&&◌, [], ℕ, List, true, fold, not, IfOk};
+ghost use Rattle.cf_effect.specs.declared.held.Pending.{Pending as Open};
+ghost use Rattle.cf_effect.specs.Calls.{succeeded};
+ghost use Rattle.cf_effect.specs.Operation.{named_in, was_skipped};
+ghost use Rattle.cf_effect.specs.Status.{goes_back, goes_forward};
+ghost use Rattle.cf_plan.specs.Follow.{is_free};
+ghost use Rattle.cf_next.specs.Restoring.{IsPast, is_marked, told_by, with_mark, with_marks, with_update};
+
+use crate::marks::{Marks, mark, mark_all};
+use cf_entry::{Begun, Entry, Status};
+use cf_stacks::{Call, HeardEntry, Pending, Settled, StackState};
+use cf_tree::{Request, Txt};
+use std::alloc::{AllocError, Global};
+
+/// What is known of resources, to be looked up by name.
+#[derive(Drop)]
+pub(crate) struct Past {
+    /// The ids of those that were updated in place since the update began.
+    pub(crate) updated: Marks,
+    /// The ids of those that were given back what they had.
+    pub(crate) restored: Marks,
+    /// The ids of those of which the operation called to give back what they had.
+    pub(crate) tried: Marks,
+    /// The paths that a continued rollback skips.
+    pub(crate) skipped: Marks,
+    /// The paths at which a call is open.
+    pub(crate) called: Marks,
+}
+
+/// Whether a stack that has this status goes forward.
+fn goes_forward(status: Status) -> bool
+    ensures { result ≡ goes_forward status }
+{
+    matches!(status, Status::CreateInProgress | Status::UpdateInProgress)
+}
+
+/// Whether a stack that has this status goes back.
+pub(crate) fn goes_back(status: Status) -> bool
+    ensures { result ≡ goes_back status }
+{
+    matches!(
+        status,
+        Status::RollbackInProgress | Status::UpdateRollbackInProgress
+    )
+}
+
+/// Whether a call succeeded.
+fn succeeded(call: &Call) -> bool
+    ensures { result ≡ succeeded call.now }
+{
+    matches!(call.answer, Some(Settled::Success))
+}
+
+/// Marks what a call tells of the resource that it updates. After an error nothing is said of the
+/// marks.
+fn note_update(
+    alloc: Global,
+    past: &mut Past,
+    number: u64,
+    call: &Call,
+    physical: &Txt,
+) -> Result<(), AllocError>
+    ensures { IfOk result (λ _. past.new ≡ with_update number past.old call.now physical.now) }
+{
+    let updated = goes_forward(call.status) && succeeded(call);
+    let restored = goes_back(call.status) && succeeded(call);
+    let tried = call.number == number && goes_back(call.status);
+    mark(alloc, &mut past.updated, updated, physical)?;
+    mark(alloc, &mut past.restored, restored, physical)?;
+    mark(alloc, &mut past.tried, tried, physical)
+}
+
+/// Marks what a call tells. After an error nothing is said of the marks.
+fn note(alloc: Global, past: &mut Past, number: u64, call: &Call) -> Result<(), AllocError>
+    ensures { IfOk result (λ _. past.new ≡ told_by number past.old call.now) }
+{
+    match &call.request {
+        Request::Update { physical, props: _ } => note_update(alloc, past, number, call, physical),
+        _ => Ok(()),
+    }
+}
+
+/// Marks what these calls tell. After an error nothing is said of the marks.
+fn note_all(alloc: Global, past: &mut Past, number: u64, calls: &[Call]) -> Result<(), AllocError>
+    ensures { IfOk result (λ _. past.new ≡ fold (told_by number) past.old calls.now) }
+{
+    for call in calls {
+        note(alloc, past, number, call)?;
+    }
+    Ok(())
+}
+
+/// Marks the paths that an entry names. After an error nothing is said of the marks.
+fn mark_named(alloc: Global, marks: &mut Marks, entry: &Entry) -> Result<(), AllocError>
+    ensures { IfOk result (λ _. marks.new ≡ with_marks (named_in entry.now) marks.old) }
+{
+    match entry {
+        Entry::Begin {
+            number: _,
+            stack: _,
+            kind: Begun::Delete { paths } | Begun::Continue { paths },
+        } => mark_all(alloc, marks, paths),
+        _ => Ok(()),
+    }
+}
+
+/// Marks the paths that an entry as the stack keeps it names. After an error nothing is said of the
+/// marks.
+fn mark_heard(alloc: Global, marks: &mut Marks, heard: &HeardEntry) -> Result<(), AllocError>
+    ensures { IfOk result (λ _. marks.new ≡ with_marks (named_in heard.now) marks.old) }
+{
+    match heard.as_entry() {
+        Some(entry) => mark_named(alloc, marks, entry),
+        None => Ok(()),
+    }
+}
+
+/// The paths that these entries name.
+fn named_by(alloc: Global, entries: &[HeardEntry]) -> Result<Marks, AllocError>
+    ensures { IfOk result (λ marks. marks ≡ fold (λ ms e. with_marks (named_in e) ms) [] entries.now) }
+{
+    let mut marks = Marks::new(alloc);
+    for heard in entries {
+        mark_heard(alloc, &mut marks, heard)?;
+    }
+    Ok(marks)
+}
+
+/// The paths that a continued rollback skips.
+fn skipped_paths(alloc: Global, stack: &StackState) -> Result<Marks, AllocError>
+    ensures { IfOk result (λ marks. (path : List ℕ) → is_marked path marks ≡ was_skipped path stack.now.stack) }
+{
+    named_by(alloc, stack.entries().as_slice())
+}
+
+/// The paths of these open calls.
+fn paths_of(alloc: Global, tokens: &[Pending]) -> Result<Marks, AllocError>
+    ensures { IfOk result (λ marks. marks ≡ fold (λ ms (p : Open). with_mark true p.path ms) [] tokens.now) }
+{
+    let mut marks = Marks::new(alloc);
+    for pending in tokens {
+        mark(alloc, &mut marks, true, &pending.path)?;
+    }
+    Ok(marks)
+}
+
+/// The paths at which a call is open.
+fn called_paths(alloc: Global, stack: &StackState) -> Result<Marks, AllocError>
+    ensures { IfOk result (λ marks. (path : List ℕ) → not (is_marked path marks) ≡ is_free path stack.now.stack) }
+{
+    paths_of(alloc, stack.tokens().as_slice())
+}
+
+/// What is known of the resources of a stack.
+pub(crate) fn past_of(alloc: Global, stack: &StackState) -> Result<Past, AllocError>
+    ensures { IfOk result (λ past. IsPast stack.now.stack past) }
+{
+    let skipped = skipped_paths(alloc, stack)?;
+    let called = called_paths(alloc, stack)?;
+    let mut past = Past {
+        updated: Marks::new(alloc),
+        restored: Marks::new(alloc),
+        tried: Marks::new(alloc),
+        skipped,
+        called,
+    };
+    note_all(
+        alloc,
+        &mut past,
+        stack.operation(),
+        stack.ledger().as_slice(),
+    )?;
+    Ok(past)
+}

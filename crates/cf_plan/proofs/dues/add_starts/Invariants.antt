@@ -1,6 +1,0 @@
-use Rattle.std.proofs.Common.{◌≡◌, fold, take}
-use Rattle.cf_plan.specs.Due.{with_start}
-use Rattle.cf_plan.proofs.dues.add_starts.Given as goal
-
-abbrev pub invariant-loop-start : goal.invariant-loop-start
-invariant-loop-start l = l.dues ≡ fold (with_start l.out l.world.world) l.fn.dues (take l.start-index l.starts)

@@ -1,6 +1,0 @@
-use Rattle.std.proofs.Common.{◌≡◌, take}
-use Rattle.cf_plan.specs.Stepping.{schemas_of}
-use Rattle.cf_plan.proofs.stepping.schemas_of.Given as goal
-
-abbrev pub invariant-loop-home : goal.invariant-loop-home
-invariant-loop-home l = l.schemas ≡ schemas_of (take l.home-index l.homes)
