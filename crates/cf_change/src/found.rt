@@ -11,9 +11,9 @@ ghost use Rattle.cf_desired.specs.Work.{Body, Member};
 
 use crate::held::HeldAt;
 use crate::rows::{row_for, seen_after};
-use cf_desired::{Evaluated, Seen, Shape, Terms, Wanted, all_terms, props_at, shape_of};
+use cf_desired::{Evaluated, Seen, Shape, Templates, Terms, Wanted, all_terms, props_at, shape_of};
 use cf_schema::Schemas;
-use cf_tree::{Listing, Names, Row, Rows, Source, Templates, Txt};
+use cf_tree::{Listing, Names, Row, Rows, Source, Txt};
 use std::alloc::{AllocError, Global};
 
 /// The rows so far, what is seen, and the paths that are held with another type.

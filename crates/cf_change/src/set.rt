@@ -8,9 +8,9 @@ use crate::found::{Found, found_of};
 use crate::held::HeldMap;
 use crate::rows::{add_removed, by_path};
 use crate::same::{are_same_exports, are_same_outputs};
-use cf_desired::{DesiredFault, Plan, desired};
+use cf_desired::{DesiredFault, Plan, Templates, desired};
 use cf_schema::Schemas;
-use cf_tree::{Names, Rows, Source, Templates, Txt};
+use cf_tree::{Names, Rows, Source, Txt};
 use std::alloc::{AllocError, Global};
 
 /// What an update would change: rows by path, and whether outputs differ, or may.

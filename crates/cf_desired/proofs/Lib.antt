@@ -39,3 +39,4 @@ pub mod LaidOut
 pub mod LaidBy
 pub mod Termed
 pub mod Planned
+mod ResourceAt

@@ -1,12 +1,10 @@
 -- What the code keeps: what its types stand for, and how its answers are those of the definitions (this project's own).
-use Rattle.std.specs.Borrow.{Bor}
-use Rattle.std.specs.Prelude.{◌≡◌, ℕ, ◌+◌, ◌-◌, length, Bool, true, false, List, [], ◌∷◌, ◌++◌, Option, Some, None, Result, Ok, Err, map, option_map}
-use Rattle.std.specs.Option.{option_copied, option_or}
+use Rattle.std.specs.Prelude.{◌≡◌, ℕ, ◌+◌, ◌-◌, length, Bool, true, false, List, [], ◌∷◌, ◌++◌, Option, Some, None, Result, Ok, Err, codes, map, option_map}
+use Rattle.std.specs.Option.{option_or}
 use Rattle.cf_tree.specs.Datum.{Data}
-use Rattle.cf_tree.specs.Keys.{put}
+use Rattle.cf_tree.specs.Keys.{put, value_at}
 use Rattle.cf_tree.specs.Value.{datum_of}
 use Rattle.cf_tree.specs.declared.source.Source.{Source}
-use Rattle.cf_tree.specs.declared.template.Template.{Template}
 use Rattle.cf_eval.specs.declared.env.OutputSight.{OutputSight}
 use Rattle.cf_eval.specs.declared.fault.EvalFault.{EvalFault}
 use Rattle.cf_eval.specs.declared.fault.EvalFault.TheVariants as unvalued
@@ -115,7 +113,7 @@ url_in (named.Flawed f) = no_url f
 
 -- a stack, a template that is entered, a resource and a nested stack in the order of work, a turn
 abbrev pub stack_in : kept_stack.Stack → Stack
-stack_in s = record { path = s.path; name = s.name; template = s.template.now }
+stack_in s = record { path = s.path; name = s.name; template = s.template }
 
 abbrev pub entering_in : kept_entering.Entering → Entering
 entering_in e = record { stack = stack_in e.stack; deletion = e.deletion; replace = e.replace; needs = e.needs }
@@ -123,12 +121,12 @@ entering_in e = record { stack = stack_in e.stack; deletion = e.deletion; replac
 abbrev pub member_in : kept_member.Member → Member
 member_in m = record {
   path = m.path;
-  id = m.resource.now.name;
-  kind = m.resource.now.kind;
+  id = m.resource.name;
+  kind = m.resource.kind;
   deletion = m.deletion;
   replace = m.replace;
   needs = m.needs;
-  props = m.resource.now.props;
+  props = m.resource.props;
   unnamed = m.unnamed;
 }
 
@@ -137,7 +135,7 @@ nesting_in n = record { path = n.path; id = n.id; name = n.name; needs = n.needs
 
 abbrev pub entry_in : kept_entry.Entry → Entry
 entry_in entry.Root = the_root
-entry_in (entry.Nested n form) = through (nesting_in n) (option_copied form)
+entry_in (entry.Nested n r) = through (nesting_in n) (value_at (codes "Parameters") r.props)
 
 abbrev pub turn_in : kept_turn.Turn → Turn
 turn_in (turn.Resource m) = a_resource (member_in m)
@@ -170,7 +168,7 @@ frames_in (f ∷ fs) = frames_in fs ++ frame_in f ∷ []
 
 -- what resources and outputs are evaluated over
 abbrev pub scope_by : Ground → Sights → Scope
-scope_by g sights = resource_scope g.stack.now.template.now g.bound.now g.conds.now g.pseudo.now sights g.source.now.imports
+scope_by g sights = resource_scope g.stack.now.template g.bound.now g.conds.now g.pseudo.now sights g.source.now.imports
 
 -- whether work on a template can begin
 abbrev pub decision_in : Decision → Result (Verdicts × List (List ℕ × List (List ℕ))) Flaw
@@ -218,16 +216,11 @@ pub record IsJoined (source : Source) (n : Nesting) (l : Laid) (old new : kept_c
   pub paths : new.paths ≡ old.paths ++ (l.paths ++ n.needs)
   pub count : new.count ≡ l.count
 
--- the template of a nested stack, behind a reference
-abbrev pub enterable_in : Result (Bor Template) Flaw → Result Template Flaw
-enterable_in (Ok t) = Ok t.now
-enterable_in (Err f) = Err f
-
 -- what becomes of a nested stack, and what is laid out then
 abbrev pub way_in : kept_way.Way → Way
 way_in (way.Shut f) = way_shut f
 way_in (way.Barred f) = way_barred f
-way_in (way.Entered t g) = way_entered t.now (offer_in g)
+way_in (way.Entered t g) = way_entered t (offer_in g)
 
 abbrev pub WayLaid : Source → Seen → Scope → Entering → Nesting → Option Form → Res → ℕ → Count → Way → Laid → Type 0
 WayLaid source seen s e n form r left c (way_shut f) l = IsWithin source seen s n c (shut f) l

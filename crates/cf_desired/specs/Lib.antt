@@ -24,4 +24,5 @@ pub mod NeededIsKnown
 pub mod Listed
 pub mod Turns
 pub mod Laying
+pub mod Shared
 pub mod Kept

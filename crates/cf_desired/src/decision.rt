@@ -1,6 +1,6 @@
 //! What the conditions of a template come to, and the order of work in it.
 ghost use Rattle.std.specs.Prelude.{◌≡◌, ◌∷◌, IfOk, map};
-ghost use Rattle.cf_eval.specs.Env.{conditions_of};
+ghost use Rattle.cf_eval.specs.Env.{Decides, conditions_of};
 ghost use Rattle.cf_eval.specs.Outcome.{got};
 ghost use Rattle.cf_eval.specs.ScopeOf.{verdict_of};
 ghost use Rattle.cf_desired.specs.Kept.{decision_in, stack_in};
@@ -10,7 +10,7 @@ ghost use Rattle.cf_desired.specs.Shape.{first_later};
 use crate::flaw::Flaw;
 use crate::shape::Stack;
 use crate::told::{blame_of, flaw_by};
-use cf_eval::conditions;
+use cf_eval::{EvalFault, conditions};
 use cf_graph::{GraphFault, Needs, order};
 use cf_tree::{Bound, CondMap, Dict, Txt, Verdict};
 use std::alloc::{AllocError, Global};
@@ -24,6 +24,18 @@ pub(crate) enum Decision {
     Opened { conds: CondMap, order: Needs },
 }
 
+/// What the conditions of a template come to.
+fn conditions_on(
+    alloc: Global,
+    stack: &Stack,
+    bound: &Bound,
+    pseudo: &Dict,
+) -> Result<CondMap, EvalFault>
+    ensures { Decides stack.now.path (conditions_of stack.now.template bound.now pseudo.now) result }
+{
+    conditions(alloc, &stack.template, bound, pseudo, &stack.path)
+}
+
 /// Decides the conditions of a template, and finds the order of work in it.
 #[tactic(auto, using(crate::proofs::Decisions::stopped_decision))]
 pub(crate) fn decide(
@@ -32,9 +44,9 @@ pub(crate) fn decide(
     bound: &Bound,
     pseudo: &Dict,
 ) -> Result<Decision, AllocError>
-    ensures { IfOk result (λ d. decision_in d ≡ decision_of (stack_in stack.now) (conditions_of stack.now.template.now bound.now pseudo.now)) }
+    ensures { IfOk result (λ d. decision_in d ≡ decision_of (stack_in stack.now) (conditions_of stack.now.template bound.now pseudo.now)) }
 {
-    match conditions(alloc, stack.template, bound, pseudo, &stack.path) {
+    match conditions_on(alloc, stack, bound, pseudo) {
         Ok(conds) => decided(alloc, stack, conds),
         Err(fault) => Ok(Decision::Halted {
             flaw: flaw_by(blame_of(fault)?),
@@ -73,7 +85,7 @@ fn first_later(alloc: Global, conds: &CondMap) -> Result<Option<Txt>, AllocError
 fn ordered(alloc: Global, stack: &Stack, conds: CondMap) -> Result<Decision, AllocError>
     ensures { IfOk result (λ d. decision_in d ≡ ordered_of (stack_in stack.now) conds) }
 {
-    match order(alloc, stack.template, &conds) {
+    match order(alloc, &stack.template, &conds) {
         Ok(order) => Ok(Decision::Opened { conds, order }),
         Err(GraphFault::NoMemory) => Err(AllocError),
         Err(fault) => Ok(Decision::Halted {

@@ -6,12 +6,13 @@ ghost use Rattle.cf_desired.specs.Kept.{entry_in, frame_in, frames_in, nesting_i
 ghost use Rattle.cf_desired.specs.Turns.{close, come, come_through, flaw_at_turn, flaw_through, frame_of, frames_after, given_at, given_through, scope_on};
 
 use crate::binding::{pieces_of, settings};
-use crate::offers::{Offer, Offered, offered_by};
+use crate::offers::{Offer, Offered};
 use crate::outputs::output_sights;
 use crate::pseudo::pseudo_of;
 use crate::seen::Seen;
 use crate::shape::{Entry, Nesting, Stack, Turn};
 use crate::sights::{add_nested, first_sights};
+use crate::urls::offered_to;
 use cf_eval::{Env, OutputSight, Sight};
 use cf_tree::{Bound, ByName, CondMap, Dict, Names, Source};
 use std::alloc::{AllocError, Global};
@@ -19,8 +20,8 @@ use std::alloc::{AllocError, Global};
 /// A template that is open: what its parameters are bound to, and what is seen of its resources.
 #[derive(Drop)]
 pub(crate) struct Frame<'a> {
-    pub entry: &'a Entry<'a>,
-    pub stack: &'a Stack<'a>,
+    pub entry: &'a Entry,
+    pub stack: &'a Stack,
     pub conds: &'a CondMap,
     pub bound: Bound,
     pub pseudo: Dict,
@@ -103,8 +104,11 @@ fn offered_through(
             },
             flaw: None,
         }),
-        Entry::Nested { nesting: _, form } => match frames.last() {
-            Some(frame) => offered_by(alloc, *form, &env_on(source, frame)),
+        Entry::Nested {
+            nesting: _,
+            resource,
+        } => match frames.last() {
+            Some(frame) => offered_to(alloc, resource, &env_on(source, frame)),
             None => Ok(nothing_known()),
         },
     }
@@ -118,7 +122,7 @@ pub(crate) fn take_turn<'a>(
     seen: &Seen,
     frames: &mut Vec<Frame<'a>>,
     given: &Offer,
-    turn: &'a Turn<'a>,
+    turn: &'a Turn,
 ) -> Result<(), AllocError>
     ensures { IfOk result (λ _. frames_in frames.new.items ≡ frames_after source.now seen.now (offer_in given.now) (frames_in frames.old.items) (turn_in turn.now)) }
 {
@@ -154,8 +158,8 @@ fn frame_of<'a>(
     source: &Source,
     seen: &Seen,
     given: &Offer,
-    entry: &'a Entry<'a>,
-    stack: &'a Stack<'a>,
+    entry: &'a Entry,
+    stack: &'a Stack,
     conds: &'a CondMap,
     own: &Names,
 ) -> Result<Frame<'a>, AllocError>
@@ -196,7 +200,10 @@ fn leave(
 {
     match entry {
         Entry::Root => Ok(()),
-        Entry::Nested { nesting, form: _ } => leave_nested(alloc, source, nesting, outputs, frames),
+        Entry::Nested {
+            nesting,
+            resource: _,
+        } => leave_nested(alloc, source, nesting, outputs, frames),
     }
 }
 

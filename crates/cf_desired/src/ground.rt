@@ -11,7 +11,7 @@ use cf_tree::{Bound, ByName, CondMap, Dict, Source};
 #[derive(Drop)]
 pub(crate) struct Ground<'a> {
     pub source: &'a Source,
-    pub stack: &'a Stack<'a>,
+    pub stack: &'a Stack,
     pub bound: &'a Bound,
     pub conds: &'a CondMap,
     pub pseudo: &'a Dict,

@@ -1,11 +1,10 @@
 //! The shape of a source, laid out template by template.
 ghost use Rattle.std.specs.Prelude.{◌≡◌, ◌+◌, [], ◌∷◌, ◌++◌, IfOk, codes, fold, length, map};
-ghost use Rattle.std.specs.Option.{option_copied};
 ghost use Rattle.cf_eval.specs.Env.{scope_in};
 ghost use Rattle.cf_template.proofs.Ordered.{AreOrdered};
-ghost use Rattle.cf_desired.specs.Kept.{IsContents, IsJoined, IsLaid, IsShape, IsWithin, WayLaid, course_in, enterable_in, entering_in, entry_in, nesting_in, offer_in, scope_by, stack_in, way_in};
+ghost use Rattle.cf_desired.specs.Kept.{IsContents, IsJoined, IsLaid, IsShape, IsWithin, WayLaid, course_in, entering_in, entry_in, nesting_in, offer_in, scope_by, stack_in, way_in};
 ghost use Rattle.cf_desired.specs.Laying.{IsWay, begun, below, entered_by, entered_way, few, step_by, way_by, with_member, with_nested};
-ghost use Rattle.cf_desired.specs.Listed.{stands_by};
+ghost use Rattle.cf_desired.specs.Listed.{settings_by, stands_by};
 ghost use Rattle.cf_desired.specs.Given.{Given, given_in};
 ghost use Rattle.cf_desired.specs.Seeing.{Seen, by_names, output_sights};
 ghost use Rattle.cf_tree.specs.Keys.{value_at};
@@ -25,18 +24,19 @@ use crate::flaw::Flaw;
 use crate::ground::{Ground, env_over};
 use crate::members::{member_by, nesting_by, unnamed};
 use crate::names::path_in;
-use crate::offers::{Offer, offered_by};
+use crate::offers::Offer;
 use crate::outputs::output_sights;
 use crate::pseudo::pseudo_of;
 use crate::seen::Seen;
 use crate::shape::{Entry, Nesting, Shape, Stack, Turn};
+use crate::shared::{Shared, SharedRes, shared_res};
 use crate::sights::{add_nested, first_sights};
-use crate::templates::{is_stack, template_named};
-use crate::urls::{Url, has_stack_shape, property, template_url};
+use crate::templates::{Templates, is_stack, template_named};
+use crate::urls::{Url, has_shape, offered_to, url_wanted};
 use cf_eval::{Env, OutputSight, Sight};
 use cf_graph::Needs;
 use cf_tree::{
-    ByName, CondMap, Deletion, Expr, Listing, Names, Replace, Res, Source, Template, Templates, Txt,
+    Bound, ByName, CondMap, Deletion, Listing, Names, Replace, Source, Template, TryClone, Txt,
 };
 use std::alloc::{AllocError, Global};
 
@@ -59,8 +59,8 @@ struct Laying<'a> {
 
 /// A stack, with the policies and the needs around it.
 #[derive(Drop)]
-pub(crate) struct Entering<'a> {
-    pub stack: Stack<'a>,
+pub(crate) struct Entering {
+    pub stack: Stack,
     pub deletion: Option<Deletion>,
     pub replace: Option<Replace>,
     pub needs: Names,
@@ -75,8 +75,8 @@ pub(crate) struct Count {
 
 /// What was laid out: its turns, what is seen of its outputs, and the paths in it.
 #[derive(Drop)]
-pub(crate) struct Laid<'a> {
-    pub turns: Listing<Turn<'a>>,
+pub(crate) struct Laid {
+    pub turns: Listing<Turn>,
     pub outputs: ByName<OutputSight>,
     pub paths: Names,
     pub count: Count,
@@ -85,8 +85,8 @@ pub(crate) struct Laid<'a> {
 /// What is known along the order of work in a template: what is seen of its resources, the paths that logical ids stand for, and
 /// those of its nested stacks.
 #[derive(Drop)]
-pub(crate) struct Course<'a> {
-    pub turns: Listing<Turn<'a>>,
+pub(crate) struct Course {
+    pub turns: Listing<Turn>,
     pub sights: ByName<Sight>,
     pub stands: ByName<Names>,
     pub paths: Names,
@@ -95,22 +95,21 @@ pub(crate) struct Course<'a> {
 
 /// What is in a template that was opened: the logical ids of its own resources, and what was laid out along the order of work.
 #[derive(Drop)]
-pub(crate) struct Contents<'a> {
+pub(crate) struct Contents {
     pub own: Names,
-    pub laid: Laid<'a>,
+    pub laid: Laid,
 }
 
-/// A nested stack, with its stack resource and what its parameters are given.
+/// A nested stack, with its stack resource.
 #[derive(Drop)]
-pub(crate) struct Inner<'a> {
+pub(crate) struct Inner {
     pub nesting: Nesting,
-    pub resource: &'a Res,
-    pub form: Option<&'a Expr>,
+    pub resource: SharedRes,
 }
 
 /// What becomes of a nested stack.
 #[derive(Drop)]
-pub(crate) enum Way<'a> {
+pub(crate) enum Way {
     /// Its stack resource has a flaw.
     Shut {
         flaw: Flaw,
@@ -121,7 +120,7 @@ pub(crate) enum Way<'a> {
     },
     /// Its template is entered, with what its parameters are given.
     Entered {
-        template: &'a Template,
+        template: Shared<Template>,
         given: Offer,
     },
 }
@@ -131,12 +130,12 @@ pub(crate) enum Way<'a> {
 /// # Errors
 ///
 /// Only for want of memory.
-pub fn shape_of<'a>(
+pub fn shape_of(
     alloc: Global,
-    source: &'a Source,
-    templates: &'a Templates,
-    seen: &'a Seen,
-) -> Result<Shape<'a>, AllocError>
+    source: &Source,
+    templates: &Templates,
+    seen: &Seen,
+) -> Result<Shape, AllocError>
     requires templates { templates.now ≡ templates_of source.now }
     ensures { IfOk result (λ s. IsShape s (shape_of source.now seen.now)) }
 {
@@ -164,9 +163,9 @@ pub fn shape_of<'a>(
 }
 
 fn shape_from(laid: Laid) -> Shape
-    ensures turns { result.turns ≡ laid.entry.turns }
-    ensures templates { result.templates ≡ laid.entry.count.templates }
-    ensures members { result.members ≡ laid.entry.count.members }
+    ensures turns { result.turns ≡ laid.turns }
+    ensures templates { result.templates ≡ laid.count.templates }
+    ensures members { result.members ≡ laid.count.members }
 {
     Shape {
         turns: laid.turns,
@@ -176,18 +175,18 @@ fn shape_from(laid: Laid) -> Shape
 }
 
 /// The root template, as it is entered.
-fn root_entering<'a>(
+fn root_entering(
     alloc: Global,
     source: &Source,
-    template: &'a Template,
-) -> Result<Entering<'a>, AllocError>
+    template: &Shared<Template>,
+) -> Result<Entering, AllocError>
     ensures { IfOk result (λ e. entering_in e ≡ root_of source.now template.now) }
 {
     Ok(Entering {
         stack: Stack {
             path: Txt::from_str(alloc, "")?,
             name: source.stack.try_clone(alloc)?,
-            template,
+            template: template.try_clone(alloc)?,
         },
         deletion: None,
         replace: None,
@@ -198,24 +197,24 @@ fn root_entering<'a>(
 /// A template that is entered: its conditions decided, its order found, then its resources in this order, then what is seen of its
 /// outputs. So many stacks may lie below one another in it.
 #[cycle(laying)]
-fn lay<'a>(
+fn lay(
     alloc: Global,
-    laying: &Laying<'a>,
-    entering: Entering<'a>,
-    entry: Entry<'a>,
+    laying: &Laying,
+    entering: Entering,
+    entry: Entry,
     given: &Offer,
     left: usize,
     count: Count,
-) -> Result<Laid<'a>, AllocError>
+) -> Result<Laid, AllocError>
     requires templates { laying.now.templates.now ≡ templates_of laying.now.source.now }
-    requires ordered { AreOrdered entering.stack.template.now.resources }
-    requires few { few (count.templates + 1) (count.members + length entering.stack.template.now.resources) }
-    ensures laid { IfOk result (IsLaid laying.now.source.now laying.now.seen.now (entry_in entry.entry) (offer_in given.now) count
-        (laid left laying.now.source.now laying.now.seen.now (entering_in entering.entry) (offer_in given.now) (count.templates + 1) (count.members + length entering.entry.stack.template.now.resources))) }
+    requires ordered { AreOrdered entering.stack.template.resources }
+    requires few { few (count.templates + 1) (count.members + length entering.stack.template.resources) }
+    ensures laid { IfOk result (IsLaid laying.now.source.now laying.now.seen.now (entry_in entry) (offer_in given.now) count
+        (laid left laying.now.source.now laying.now.seen.now (entering_in entering) (offer_in given.now) (count.templates + 1) (count.members + length entering.stack.template.resources))) }
     ensures few { IfOk result (λ l. few l.count.templates l.count.members) }
 {
     let source = laying.source;
-    let bound = settings(alloc, &entering.stack.template.params, given)?;
+    let bound = settings_on(alloc, &entering.stack, given)?;
     let pseudo = pseudo_of(alloc, &entering.stack.name, source.number)?;
     match decide(alloc, &entering.stack, &bound, &pseudo)? {
         Decision::Halted { flaw } => halted(alloc, entry, entering.stack, flaw, count),
@@ -242,39 +241,39 @@ fn lay<'a>(
 /// What is in a template: its own logical ids are found first, then its resources come one after another, then what is seen of its
 /// outputs. Large values are let go here and not in `lay`, which owns many.
 #[cycle(laying)]
-fn contents_of<'a>(
+fn contents_of(
     alloc: Global,
-    laying: &Laying<'a>,
-    entering: &Entering<'a>,
+    laying: &Laying,
+    entering: &Entering,
     ground: &Ground,
     order: &Needs,
     left: usize,
     count: Count,
-) -> Result<Contents<'a>, AllocError>
+) -> Result<Contents, AllocError>
     requires templates { laying.now.templates.now ≡ templates_of laying.now.source.now }
     requires stack { stack_in ground.now.stack.now ≡ stack_in entering.now.stack }
     requires source { ground.now.source.now ≡ laying.now.source.now }
-    requires few { few (count.templates + 1) (count.members + length ground.now.stack.now.template.now.resources) }
-    ensures contents { IfOk result (IsContents (stack_in ground.now.stack.now) ground.now.conds.now (scope_by ground.now) (own_in ground.now.stack.now.template.now order.now.entries)
+    requires few { few (count.templates + 1) (count.members + length ground.now.stack.now.template.resources) }
+    ensures contents { IfOk result (IsContents (stack_in ground.now.stack.now) ground.now.conds.now (scope_by ground.now) (own_in ground.now.stack.now.template order.now.entries)
         (fold (step_by (below left laying.now.source.now laying.now.seen.now) laying.now.source.now laying.now.seen.now (entering_in entering.now) ground.now.conds.now (scope_by ground.now))
-        (begun laying.now.seen.now (stack_in ground.now.stack.now) ground.now.conds.now (own_in ground.now.stack.now.template.now order.now.entries) count.templates count.members) order.now.entries)) }
+        (begun laying.now.seen.now (stack_in ground.now.stack.now) ground.now.conds.now (own_in ground.now.stack.now.template order.now.entries) count.templates count.members) order.now.entries)) }
     ensures few { IfOk result (λ k. few k.laid.count.templates k.laid.count.members) }
 {
-    let own = own_ids(alloc, ground.stack.template, order)?;
+    let own = own_on(alloc, ground.stack, order)?;
     let mut course = begun(alloc, laying.seen, ground, &own, count)?;
     work(alloc, laying, entering, ground, order, left, &mut course)?;
     gathered(alloc, ground, own, course)
 }
 
 /// What a course came to, with what is seen of the outputs behind it and with the paths of the template's own resources.
-fn gathered<'a>(
+fn gathered(
     alloc: Global,
     ground: &Ground,
     own: Names,
-    course: Course<'a>,
-) -> Result<Contents<'a>, AllocError>
-    ensures contents { IfOk result (IsContents (stack_in ground.now.stack.now) ground.now.conds.now (scope_by ground.now) own (course_in course.entry)) }
-    ensures count { IfOk result (λ k. k.laid.count ≡ course.entry.count) }
+    course: Course,
+) -> Result<Contents, AllocError>
+    ensures contents { IfOk result (IsContents (stack_in ground.now.stack.now) ground.now.conds.now (scope_by ground.now) own (course_in course)) }
+    ensures count { IfOk result (λ k. k.laid.count ≡ course.count) }
 {
     let outputs = outputs_behind(alloc, ground, &course.sights)?;
     let paths = all_paths(alloc, ground.stack, &own, &course.paths)?;
@@ -290,15 +289,15 @@ fn gathered<'a>(
 }
 
 /// A template in which nothing can be done.
-fn halted<'a>(
+fn halted(
     alloc: Global,
-    entry: Entry<'a>,
-    stack: Stack<'a>,
+    entry: Entry,
+    stack: Stack,
     flaw: Flaw,
     count: Count,
-) -> Result<Laid<'a>, AllocError>
-    requires few { few (count.templates + 1) (count.members + length stack.template.now.resources) }
-    ensures laid { IfOk result (λ l. (source : Source) (seen : Seen) (g : Given) → IsLaid source seen (entry_in entry.entry) g count (halted (stack_in stack.entry) flaw) l) }
+) -> Result<Laid, AllocError>
+    requires few { few (count.templates + 1) (count.members + length stack.template.resources) }
+    ensures laid { IfOk result (λ l. (source : Source) (seen : Seen) (g : Given) → IsLaid source seen (entry_in entry) g count (halted (stack_in stack) flaw) l) }
     ensures few { IfOk result (λ l. few l.count.templates l.count.members) }
 {
     let members = count.members + stack.template.resources.len() as u64;
@@ -327,11 +326,11 @@ fn outputs_behind(
 }
 
 /// A template of which all has come.
-fn opened<'a>(alloc: Global, turn: Turn<'a>, laid: Laid<'a>) -> Result<Laid<'a>, AllocError>
-    ensures turns { IfOk result (λ l. l.turns ≡ turn.entry ∷ (laid.entry.turns ++ Closed ∷ [])) }
-    ensures outputs { IfOk result (λ l. l.outputs ≡ laid.entry.outputs) }
-    ensures paths { IfOk result (λ l. l.paths ≡ laid.entry.paths) }
-    ensures count { IfOk result (λ l. l.count ≡ laid.entry.count) }
+fn opened(alloc: Global, turn: Turn, laid: Laid) -> Result<Laid, AllocError>
+    ensures turns { IfOk result (λ l. l.turns ≡ turn ∷ (laid.turns ++ Closed ∷ [])) }
+    ensures outputs { IfOk result (λ l. l.outputs ≡ laid.outputs) }
+    ensures paths { IfOk result (λ l. l.paths ≡ laid.paths) }
+    ensures count { IfOk result (λ l. l.count ≡ laid.count) }
 {
     Ok(Laid {
         turns: between(alloc, turn, laid.turns)?,
@@ -342,12 +341,8 @@ fn opened<'a>(alloc: Global, turn: Turn<'a>, laid: Laid<'a>) -> Result<Laid<'a>,
 }
 
 /// Turns between that which opens their template and that which closes it.
-fn between<'a>(
-    alloc: Global,
-    turn: Turn<'a>,
-    inner: Listing<Turn<'a>>,
-) -> Result<Listing<Turn<'a>>, AllocError>
-    ensures { IfOk result (λ turns. turns ≡ turn.entry ∷ (inner.entry ++ Closed ∷ [])) }
+fn between(alloc: Global, turn: Turn, inner: Listing<Turn>) -> Result<Listing<Turn>, AllocError>
+    ensures { IfOk result (λ turns. turns ≡ turn ∷ (inner ++ Closed ∷ [])) }
 {
     let mut turns = Listing::new(alloc);
     turns.push(turn)?;
@@ -371,15 +366,29 @@ fn own_ids(alloc: Global, template: &Template, order: &Needs) -> Result<Names, A
     Ok(own)
 }
 
+/// The logical ids of the own resources of a stack's template in the order of work.
+fn own_on(alloc: Global, stack: &Stack, order: &Needs) -> Result<Names, AllocError>
+    ensures { IfOk result (λ ids. ids ≡ own_in stack.now.template order.now.entries) }
+{
+    own_ids(alloc, &stack.template, order)
+}
+
+/// What the parameters of a stack's template are bound to.
+fn settings_on(alloc: Global, stack: &Stack, given: &Offer) -> Result<Bound, AllocError>
+    ensures { IfOk result (λ b. b ≡ settings_by stack.now.template.params (offer_in given.now)) }
+{
+    settings(alloc, &stack.template.params, given)
+}
+
 /// What is known before the first resource of a template comes.
-fn begun<'a>(
+fn begun(
     alloc: Global,
     seen: &Seen,
     ground: &Ground,
     own: &Names,
     count: Count,
-) -> Result<Course<'a>, AllocError>
-    requires few { few (count.templates + 1) (count.members + length ground.now.stack.now.template.now.resources) }
+) -> Result<Course, AllocError>
+    requires few { few (count.templates + 1) (count.members + length ground.now.stack.now.template.resources) }
     ensures { IfOk result (λ c. course_in c ≡ begun seen.now (stack_in ground.now.stack.now) ground.now.conds.now own.now count.templates count.members) }
 {
     let stack = ground.stack;
@@ -432,14 +441,14 @@ fn add_all(alloc: Global, paths: &mut Names, others: &Names) -> Result<(), Alloc
 
 /// Takes the resources of a template one after another.
 #[cycle(laying)]
-fn work<'a>(
+fn work(
     alloc: Global,
-    laying: &Laying<'a>,
-    entering: &Entering<'a>,
+    laying: &Laying,
+    entering: &Entering,
     ground: &Ground,
     order: &Needs,
     left: usize,
-    course: &mut Course<'a>,
+    course: &mut Course,
 ) -> Result<(), AllocError>
     requires templates { laying.now.templates.now ≡ templates_of laying.now.source.now }
     requires stack { stack_in ground.now.stack.now ≡ stack_in entering.now.stack }
@@ -456,14 +465,14 @@ fn work<'a>(
 
 /// Takes one resource of a template, with the logical ids that it needs.
 #[cycle(laying)]
-fn step<'a>(
+fn step(
     alloc: Global,
-    laying: &Laying<'a>,
-    entering: &Entering<'a>,
+    laying: &Laying,
+    entering: &Entering,
     ground: &Ground,
     row: (&Txt, &Names),
     left: usize,
-    course: &mut Course<'a>,
+    course: &mut Course,
 ) -> Result<(), AllocError>
     requires templates { laying.now.templates.now ≡ templates_of laying.now.source.now }
     requires stack { stack_in ground.now.stack.now ≡ stack_in entering.now.stack }
@@ -473,9 +482,9 @@ fn step<'a>(
     ensures few { IfOk result (λ _. few course.new.count.templates course.new.count.members) }
 {
     let (id, ids) = row;
-    match entering.stack.template.resources.find(id.as_str()) {
+    match shared_res(alloc, &entering.stack.template, id.as_str())? {
         Some(resource) => {
-            if is_stack(resource) {
+            if is_stack(&resource) {
                 nest(alloc, laying, entering, ground, resource, ids, left, course)
             } else {
                 add_member(alloc, entering, ground.conds, resource, ids, course)
@@ -486,15 +495,15 @@ fn step<'a>(
 }
 
 /// Adds one more resource.
-fn add_member<'a>(
+fn add_member(
     alloc: Global,
-    entering: &Entering<'a>,
+    entering: &Entering,
     conds: &CondMap,
-    resource: &'a Res,
+    resource: SharedRes,
     ids: &Names,
-    course: &mut Course<'a>,
+    course: &mut Course,
 ) -> Result<(), AllocError>
-    ensures course { IfOk result (λ _. course_in course.new ≡ with_member (entering_in entering.now) conds.now (course_in course.old) ids.now resource.now) }
+    ensures course { IfOk result (λ _. course_in course.new ≡ with_member (entering_in entering.now) conds.now (course_in course.old) ids.now resource) }
     ensures count { IfOk result (λ _. course.new.count ≡ course.old.count) }
 {
     let member = member_by(alloc, entering, conds, &course.stands, resource, ids)?;
@@ -504,30 +513,29 @@ fn add_member<'a>(
 /// Lays out a nested stack.
 #[cycle(laying)]
 #[tactic(auto, using(crate::proofs::LaidOut::way_fits, crate::proofs::LaidOut::way_laid, crate::proofs::LaidOut::nested_so))]
-fn nest<'a>(
+fn nest(
     alloc: Global,
-    laying: &Laying<'a>,
-    entering: &Entering<'a>,
+    laying: &Laying,
+    entering: &Entering,
     ground: &Ground,
-    resource: &'a Res,
+    resource: SharedRes,
     ids: &Names,
     left: usize,
-    course: &mut Course<'a>,
+    course: &mut Course,
 ) -> Result<(), AllocError>
     requires templates { laying.now.templates.now ≡ templates_of laying.now.source.now }
     requires stack { stack_in ground.now.stack.now ≡ stack_in entering.now.stack }
     requires source { ground.now.source.now ≡ laying.now.source.now }
     requires few { few course.old.count.templates course.old.count.members }
-    ensures course { IfOk result (λ _. course_in course.new ≡ with_nested (below left laying.now.source.now laying.now.seen.now) laying.now.source.now laying.now.seen.now (entering_in entering.now) ground.now.conds.now (scope_by ground.now) (course_in course.old) ids.now resource.now) }
+    ensures course { IfOk result (λ _. course_in course.new ≡ with_nested (below left laying.now.source.now laying.now.seen.now) laying.now.source.now laying.now.seen.now (entering_in entering.now) ground.now.conds.now (scope_by ground.now) (course_in course.old) ids.now resource) }
     ensures few { IfOk result (λ _. few course.new.count.templates course.new.count.members) }
 {
-    let nesting = nesting_by(alloc, entering, &course.stands, resource, ids)?;
+    let nesting = nesting_by(alloc, entering, &course.stands, &resource, ids)?;
     let inner = Inner {
         nesting: nesting.try_clone(alloc)?,
         resource,
-        form: property(&resource.props, "Parameters"),
     };
-    let unnamed = unnamed(alloc, &entering.stack, ground.conds, resource)?;
+    let unnamed = unnamed(alloc, &entering.stack, ground.conds, &inner.resource)?;
     let env = env_over(ground, &course.sights);
     let way = way_into(alloc, laying, &env, &inner, unnamed, left, course.count)?;
     let laid = within(alloc, laying, entering, inner, way, left, course.count)?;
@@ -535,14 +543,14 @@ fn nest<'a>(
 }
 
 /// Adds a nested stack that was laid out.
-fn join<'a>(
+fn join(
     alloc: Global,
     source: &Source,
     nesting: &Nesting,
-    laid: Laid<'a>,
-    course: &mut Course<'a>,
+    laid: Laid,
+    course: &mut Course,
 ) -> Result<(), AllocError>
-    ensures { IfOk result (λ _. IsJoined source.now (nesting_in nesting.now) laid.entry course.old course.new) }
+    ensures { IfOk result (λ _. IsJoined source.now (nesting_in nesting.now) laid course.old course.new) }
 {
     let mut paths = laid.paths;
     add_all(alloc, &mut paths, &nesting.needs)?;
@@ -556,53 +564,52 @@ fn join<'a>(
 
 /// What becomes of a nested stack: its condition counts first, then the properties that it may have, then its template's name, then
 /// the limits.
-fn way_into<'a>(
+fn way_into(
     alloc: Global,
-    laying: &Laying<'a>,
+    laying: &Laying,
     env: &Env,
-    inner: &Inner<'a>,
+    inner: &Inner,
     unnamed: Option<Flaw>,
     left: usize,
     count: Count,
-) -> Result<Way<'a>, AllocError>
+) -> Result<Way, AllocError>
     requires templates { laying.now.templates.now ≡ templates_of laying.now.source.now }
-    requires form { option_copied inner.now.form ≡ value_at (codes "Parameters") inner.now.resource.now.props }
     requires few { few count.templates count.members }
-    ensures { IfOk result (λ w. way_in w ≡ way_by left laying.now.source.now env.now.stack.now (scope_in env.now) count.templates count.members inner.now.nesting.path inner.now.resource.now unnamed) }
+    ensures { IfOk result (λ w. way_in w ≡ way_by left laying.now.source.now env.now.stack.now (scope_in env.now) count.templates count.members inner.now.nesting.path inner.now.resource unnamed) }
 {
     if let Some(flaw) = unnamed {
         return Ok(Way::Shut { flaw });
     }
     let path = &inner.nesting.path;
-    if !has_stack_shape(inner.resource) {
+    if !has_shape(&inner.resource) {
         let path = path.try_clone(alloc)?;
         return Ok(Way::Shut {
             flaw: Flaw::Shape { path },
         });
     }
-    match template_url(alloc, inner.resource, path, env)? {
+    match url_wanted(alloc, &inner.resource, path, env)? {
         Url::Named { name } => way_by_name(alloc, laying, env, inner, &name, left, count),
         Url::Flawed { flaw } => Ok(Way::Barred { flaw }),
     }
 }
 
 /// What becomes of a nested stack whose template has this name.
-fn way_by_name<'a>(
+fn way_by_name(
     alloc: Global,
-    laying: &Laying<'a>,
+    laying: &Laying,
     env: &Env,
-    inner: &Inner<'a>,
+    inner: &Inner,
     name: &Txt,
     left: usize,
     count: Count,
-) -> Result<Way<'a>, AllocError>
+) -> Result<Way, AllocError>
     requires templates { laying.now.templates.now ≡ templates_of laying.now.source.now }
     requires few { few count.templates count.members }
-    ensures { IfOk result (λ w. way_in w ≡ entered_way (given_in (scope_in env.now) (option_copied inner.now.form)) (entered_by left inner.now.nesting.path name.now count.templates count.members (template_named name.now laying.now.source.now))) }
+    ensures { IfOk result (λ w. way_in w ≡ entered_way (given_in (scope_in env.now) (value_at (codes "Parameters") inner.now.resource.props)) (entered_by left inner.now.nesting.path name.now count.templates count.members (template_named name.now laying.now.source.now))) }
 {
     match enterable(alloc, laying, &inner.nesting.path, name, left, count)? {
         Ok(template) => {
-            let offered = offered_by(alloc, inner.form, env)?;
+            let offered = offered_to(alloc, &inner.resource, env)?;
             Ok(Way::Entered {
                 template,
                 given: offered.given,
@@ -614,21 +621,16 @@ fn way_by_name<'a>(
 
 /// How the template of a nested stack comes to be entered.
 fn entry_of(inner: Inner) -> Entry
-    ensures { entry_in result ≡ through (nesting_in inner.entry.nesting) (option_copied inner.entry.form) }
+    ensures { entry_in result ≡ through (nesting_in inner.nesting) (value_at (codes "Parameters") inner.resource.props) }
 {
     Entry::Nested {
         nesting: inner.nesting,
-        form: inner.form,
+        resource: inner.resource,
     }
 }
 
 /// A nested stack whose stack resource has a flaw.
-fn shut<'a>(
-    alloc: Global,
-    nesting: Nesting,
-    flaw: Flaw,
-    count: Count,
-) -> Result<Laid<'a>, AllocError>
+fn shut(alloc: Global, nesting: Nesting, flaw: Flaw, count: Count) -> Result<Laid, AllocError>
     ensures laid { IfOk result (λ l. (source : Source) (seen : Seen) (s : Scope) → IsWithin source seen s (nesting_in nesting) count (shut flaw) l) }
     ensures count { IfOk result (λ l. l.count ≡ count) }
 {
@@ -638,13 +640,8 @@ fn shut<'a>(
 }
 
 /// A template that can't be entered.
-fn barred<'a>(
-    alloc: Global,
-    entry: Entry<'a>,
-    flaw: Flaw,
-    count: Count,
-) -> Result<Laid<'a>, AllocError>
-    ensures laid { IfOk result (λ l. (source : Source) (seen : Seen) (g : Given) → IsLaid source seen (entry_in entry.entry) g count (barred flaw) l) }
+fn barred(alloc: Global, entry: Entry, flaw: Flaw, count: Count) -> Result<Laid, AllocError>
+    ensures laid { IfOk result (λ l. (source : Source) (seen : Seen) (g : Given) → IsLaid source seen (entry_in entry) g count (barred flaw) l) }
     ensures count { IfOk result (λ l. l.count ≡ count) }
 {
     let mut turns = Listing::new(alloc);
@@ -653,8 +650,8 @@ fn barred<'a>(
 }
 
 /// Turns with which no template was opened.
-fn nothing_laid<'a>(alloc: Global, turns: Listing<Turn<'a>>, count: Count) -> Laid<'a>
-    ensures turns { result.turns ≡ turns.entry }
+fn nothing_laid(alloc: Global, turns: Listing<Turn>, count: Count) -> Laid
+    ensures turns { result.turns ≡ turns }
     ensures outputs { result.outputs ≡ [] }
     ensures paths { result.paths ≡ [] }
     ensures count { result.count ≡ count }
@@ -669,19 +666,19 @@ fn nothing_laid<'a>(alloc: Global, turns: Listing<Turn<'a>>, count: Count) -> La
 
 /// What is in a nested stack.
 #[cycle(laying)]
-fn within<'a>(
+fn within(
     alloc: Global,
-    laying: &Laying<'a>,
-    entering: &Entering<'a>,
-    inner: Inner<'a>,
-    way: Way<'a>,
+    laying: &Laying,
+    entering: &Entering,
+    inner: Inner,
+    way: Way,
     left: usize,
     count: Count,
-) -> Result<Laid<'a>, AllocError>
+) -> Result<Laid, AllocError>
     requires templates { laying.now.templates.now ≡ templates_of laying.now.source.now }
     requires few { few count.templates count.members }
     requires fits { IsWay left count.templates count.members (way_in way) }
-    ensures laid { IfOk result (λ l. (s : Scope) → WayLaid laying.now.source.now laying.now.seen.now s (entering_in entering.now) (nesting_in inner.entry.nesting) (option_copied inner.entry.form) inner.entry.resource.now left count (way_in way.entry) l) }
+    ensures laid { IfOk result (λ l. (s : Scope) → WayLaid laying.now.source.now laying.now.seen.now s (entering_in entering.now) (nesting_in inner.nesting) (value_at (codes "Parameters") inner.resource.props) inner.resource left count (way_in way) l) }
     ensures few { IfOk result (λ l. few l.count.templates l.count.members) }
 {
     match way {
@@ -703,17 +700,17 @@ fn within<'a>(
 }
 
 /// The template of a name, or the limit that keeps from entering it, or that it is not there.
-fn enterable<'a>(
+fn enterable(
     alloc: Global,
-    laying: &Laying<'a>,
+    laying: &Laying,
     path: &Txt,
     name: &Txt,
     left: usize,
     count: Count,
-) -> Result<Result<&'a Template, Flaw>, AllocError>
+) -> Result<Result<Shared<Template>, Flaw>, AllocError>
     requires templates { laying.now.templates.now ≡ templates_of laying.now.source.now }
     requires few { few count.templates count.members }
-    ensures { IfOk result (λ r. enterable_in r ≡ entered_by left path.now name.now count.templates count.members (template_named name.now laying.now.source.now)) }
+    ensures { IfOk result (λ r. r ≡ entered_by left path.now name.now count.templates count.members (template_named name.now laying.now.source.now)) }
 {
     if left == 0 {
         let path = path.try_clone(alloc)?;
@@ -731,17 +728,17 @@ fn enterable<'a>(
     if members > MEMBERS {
         return Ok(Err(Flaw::TooMany { count: members }));
     }
-    Ok(Ok(template))
+    Ok(Ok(template.try_clone(alloc)?))
 }
 
 /// The template of a nested stack, as it is entered.
-fn entering_below<'a>(
+fn entering_below(
     alloc: Global,
     entering: &Entering,
-    inner: &Inner<'a>,
-    template: &'a Template,
-) -> Result<Entering<'a>, AllocError>
-    ensures { IfOk result (λ e. entering_in e ≡ entering_below (entering_in entering.now) (nesting_in inner.now.nesting) inner.now.resource.now template.now) }
+    inner: &Inner,
+    template: Shared<Template>,
+) -> Result<Entering, AllocError>
+    ensures { IfOk result (λ e. entering_in e ≡ entering_below (entering_in entering.now) (nesting_in inner.now.nesting) inner.now.resource template) }
 {
     let nesting = &inner.nesting;
     Ok(Entering {

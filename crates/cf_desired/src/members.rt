@@ -10,23 +10,23 @@ use crate::flaw::Flaw;
 use crate::laying::Entering;
 use crate::names::{name_in, path_in, resource_place};
 use crate::shape::{Member, Nesting, Stack};
+use crate::shared::SharedRes;
 use cf_eval::EvalWhy;
-use cf_tree::{ByName, CondMap, Deletion, Names, Replace, Res, Txt};
+use cf_tree::{ByName, CondMap, Deletion, Names, Replace, Txt};
 use std::alloc::{AllocError, Global};
 
 /// A resource, where ids stand for paths. One without a policy of its own takes that around its stack, or else `Delete`.
-pub(crate) fn member_by<'a>(
+pub(crate) fn member_by(
     alloc: Global,
-    entering: &Entering<'a>,
+    entering: &Entering,
     conds: &CondMap,
     stands: &ByName<Names>,
-    resource: &'a Res,
+    resource: SharedRes,
     ids: &Names,
-) -> Result<Member<'a>, AllocError>
-    ensures { IfOk result (λ m. member_in m ≡ member_by (entering_in entering.now) conds.now stands.now ids.now resource.now) }
+) -> Result<Member, AllocError>
+    ensures { IfOk result (λ m. member_in m ≡ member_by (entering_in entering.now) conds.now stands.now ids.now resource) }
 {
     Ok(Member {
-        resource,
         path: path_in(alloc, &entering.stack.path, &resource.name)?,
         deletion: resource
             .deletion
@@ -37,7 +37,8 @@ pub(crate) fn member_by<'a>(
             .or(entering.replace)
             .unwrap_or(Replace::Delete),
         needs: needed_paths(alloc, ids, stands, &entering.needs)?,
-        unnamed: unnamed(alloc, &entering.stack, conds, resource)?,
+        unnamed: unnamed(alloc, &entering.stack, conds, &resource)?,
+        resource,
     })
 }
 
@@ -46,7 +47,7 @@ pub(crate) fn nesting_by(
     alloc: Global,
     entering: &Entering,
     stands: &ByName<Names>,
-    resource: &Res,
+    resource: &SharedRes,
     ids: &Names,
 ) -> Result<Nesting, AllocError>
     ensures { IfOk result (λ n. nesting_in n ≡ nesting_by (entering_in entering.now) stands.now ids.now resource.now) }
@@ -103,7 +104,7 @@ pub(crate) fn unnamed(
     alloc: Global,
     stack: &Stack,
     conds: &CondMap,
-    resource: &Res,
+    resource: &SharedRes,
 ) -> Result<Option<Flaw>, AllocError>
     ensures { IfOk result (λ f. f ≡ unnamed_at stack.now.path conds.now resource.now) }
 {

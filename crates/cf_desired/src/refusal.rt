@@ -7,12 +7,13 @@ ghost use Rattle.cf_desired.specs.Templates.{templates_of};
 
 use crate::flaw::Flaw;
 use crate::seen::Seen;
+use crate::templates::Templates;
 use crate::values::plan;
 use crate::wanted::Plan;
 use cf_eval::EvalFault;
 use cf_graph::GraphFault;
 use cf_param::BindFault;
-use cf_tree::{Source, Templates, TryClone, Txt};
+use cf_tree::{Source, TryClone, Txt};
 use std::alloc::{AllocError, Global};
 
 /// A plan without a flaw.

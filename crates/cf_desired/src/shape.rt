@@ -8,23 +8,24 @@ ghost use Rattle.cf_desired.specs.Valued.{resources_in};
 ghost use Rattle.cf_desired.specs.Work.{Body};
 
 use crate::flaw::Flaw;
-use cf_tree::{CondMap, Deletion, Expr, Listing, Names, Replace, Res, Template, Txt};
+use crate::shared::{Shared, SharedRes};
+use cf_tree::{CondMap, Deletion, Listing, Names, Replace, Template, Txt};
 use std::alloc::{AllocError, Global};
 
 /// A template that is entered as a stack.
 #[derive(Drop)]
-pub(crate) struct Stack<'a> {
+pub(crate) struct Stack {
     /// The path of its stack resource, empty for the root.
     pub path: Txt,
     pub name: Txt,
-    pub template: &'a Template,
+    pub template: Shared<Template>,
 }
 
 /// A resource in the order of work.
 #[derive(Drop)]
-pub(crate) struct Member<'a> {
+pub(crate) struct Member {
     /// Its logical id, its type and its expressions.
-    pub resource: &'a Res,
+    pub resource: SharedRes,
     pub path: Txt,
     pub deletion: Deletion,
     pub replace: Replace,
@@ -62,22 +63,22 @@ impl Nesting {
 
 /// How a template comes to be entered.
 #[derive(Drop)]
-pub(crate) enum Entry<'a> {
+pub(crate) enum Entry {
     /// As the root.
     Root,
-    /// As a nested stack, with what its parameters are given.
+    /// As a nested stack, by the stack resource, which says what its parameters are given.
     Nested {
         nesting: Nesting,
-        form: Option<&'a Expr>,
+        resource: SharedRes,
     },
 }
 
 /// A turn of the work on a source.
 #[derive(Drop)]
-pub(crate) enum Turn<'a> {
+pub(crate) enum Turn {
     /// A resource of the template that was opened last.
     Resource {
-        member: Member<'a>,
+        member: Member,
     },
     /// A nested stack whose stack resource has a flaw.
     Shut {
@@ -86,19 +87,19 @@ pub(crate) enum Turn<'a> {
     },
     /// A template that can't be entered.
     Barred {
-        entry: Entry<'a>,
+        entry: Entry,
         flaw: Flaw,
     },
     /// A template whose conditions, or the needs in it, have a flaw.
     Halted {
-        entry: Entry<'a>,
-        stack: Stack<'a>,
+        entry: Entry,
+        stack: Stack,
         flaw: Flaw,
     },
     /// A template is opened: what its conditions come to, and the logical ids of its resources in the order of work.
     Opened {
-        entry: Entry<'a>,
-        stack: Stack<'a>,
+        entry: Entry,
+        stack: Stack,
         conds: CondMap,
         own: Names,
     },
@@ -108,8 +109,8 @@ pub(crate) enum Turn<'a> {
 
 /// What a source wants, but for values.
 #[derive(Drop)]
-pub struct Shape<'a> {
-    pub(crate) turns: Listing<Turn<'a>>,
+pub struct Shape {
+    pub(crate) turns: Listing<Turn>,
     /// How many templates were entered.
     pub(crate) templates: u64,
     /// How many resources these have, each counted as often as it was entered.

@@ -24,7 +24,7 @@ pub(crate) fn first_sights(
 ) -> Result<ByName<Sight>, AllocError>
     ensures { IfOk result (λ sights. sights ≡ sights_by (stack_in stack.now) conds.now seen.now own.now) }
 {
-    let mut sights = not_made(alloc, stack.template, conds)?;
+    let mut sights = not_made(alloc, &stack.template, conds)?;
     for id in own.as_slice() {
         let path = path_in(alloc, &stack.path, id)?;
         let sight = seen_as(alloc, seen.get(path.as_str()))?;

@@ -4,9 +4,13 @@ ghost use Rattle.std.specs.Option.{option_copied};
 ghost use Rattle.cf_template.specs.Whole.{template_of};
 ghost use Rattle.cf_desired.specs.Templates.{accepted, is_stack, template_named, template_under, templates_of};
 
+use crate::shared::Shared;
 use cf_template::{TemplateFault, read_template};
-use cf_tree::{ByName, Bytes, Res, Source, Template, Templates, Txt};
+use cf_tree::{ByName, Bytes, Res, Source, Template, Txt};
 use std::alloc::{AllocError, Global};
+
+/// Templates by their names in the library.
+pub type Templates = ByName<Shared<Template>>;
 
 /// The templates of those of a source's texts that are templates, by their names.
 ///
@@ -26,13 +30,14 @@ pub fn templates_of(alloc: Global, source: &Source) -> Result<Templates, AllocEr
 /// Adds the template that a text is, where it is one, under its name.
 fn add_template(
     alloc: Global,
-    templates: &mut Vec<(Txt, Template)>,
+    templates: &mut Vec<(Txt, Shared<Template>)>,
     text: &(Txt, Bytes),
 ) -> Result<(), AllocError>
     ensures { IfOk result (λ _. templates.new.items ≡ templates.old.items ++ filter_map template_under (text.now ∷ [])) }
 {
     match template_of(alloc, &text.1)? {
         Some(template) => {
+            let template = Shared::new(alloc, template)?;
             templates.push((text.0.try_clone(alloc)?, template))?;
             Ok(())
         }
@@ -56,7 +61,7 @@ pub(crate) fn template_named<'a>(
     source: &Source,
     templates: &'a Templates,
     name: &Txt,
-) -> Option<&'a Template>
+) -> Option<&'a Shared<Template>>
     requires { templates.now ≡ templates_of source.now }
     ensures { option_copied result ≡ template_named name.now source.now }
 {

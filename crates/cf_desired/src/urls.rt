@@ -1,14 +1,18 @@
 //! The names of nested templates.
-ghost use Rattle.std.specs.Prelude.{◌≡◌, IfOk};
+ghost use Rattle.std.specs.Prelude.{◌≡◌, IfOk, codes};
 ghost use Rattle.std.specs.Option.{option_copied};
 ghost use Rattle.cf_tree.specs.Keys.{value_at};
 ghost use Rattle.cf_eval.specs.Env.{scope_in};
-ghost use Rattle.cf_desired.specs.Kept.{url_in};
+ghost use Rattle.cf_desired.specs.Given.{given_in};
+ghost use Rattle.cf_desired.specs.Kept.{offer_in, url_in};
+ghost use Rattle.cf_desired.specs.Met.{offers_flaw};
 ghost use Rattle.std.specs.List.{list_all};
 ghost use Rattle.cf_desired.specs.Shape.{has_stack_shape, is_stack_property, no_url, url_of};
 ghost use Rattle.cf_desired.specs.declared.flaw.Flaw.TheVariants as flaw;
 
 use crate::flaw::Flaw;
+use crate::offers::{Offered, offered_by};
+use crate::shared::SharedRes;
 use crate::told::{blame_of, flaw_by, text_of, wrong_kind};
 use cf_eval::{Env, Got, eval};
 use cf_tree::{Expr, ExprDict, Res, Txt};
@@ -24,12 +28,7 @@ pub(crate) enum Url {
 /// The name of the template of the nested stack at a path: a text; where it is left out the shape is wrong, and where it is not
 /// known yet it can't be told.
 #[tactic(auto, using(crate::proofs::UrlStops::url_stops))]
-pub(crate) fn template_url(
-    alloc: Global,
-    resource: &Res,
-    path: &Txt,
-    env: &Env,
-) -> Result<Url, AllocError>
+fn template_url(alloc: Global, resource: &Res, path: &Txt, env: &Env) -> Result<Url, AllocError>
     ensures { IfOk result (λ u. url_in u ≡ url_of env.now.stack.now path.now (scope_in env.now) resource.now) }
 {
     let Some(expr) = property(&resource.props, "TemplateURL") else {
@@ -65,7 +64,7 @@ fn shapeless(alloc: Global, path: &Txt) -> Result<Url, AllocError>
 }
 
 /// Whether a nested stack has its template's name, and no property that it may not have.
-pub(crate) fn has_stack_shape(resource: &Res) -> bool
+fn has_stack_shape(resource: &Res) -> bool
     ensures { result ≡ has_stack_shape resource.now }
 {
     has_stack_properties(&resource.props) && property(&resource.props, "TemplateURL").is_some()
@@ -103,4 +102,35 @@ pub(crate) fn property<'a>(props: &'a ExprDict, name: &str) -> Option<&'a Expr>
         }
     }
     None
+}
+
+/// What a nested stack's parameters are given by its stack resource.
+pub(crate) fn offered_to(
+    alloc: Global,
+    resource: &SharedRes,
+    env: &Env,
+) -> Result<Offered, AllocError>
+    ensures given { IfOk result (λ o. offer_in o.given ≡ given_in (scope_in env.now) (value_at (codes "Parameters") resource.now.props)) }
+    ensures flaw { IfOk result (λ o. o.flaw ≡ offers_flaw env.now.stack.now (scope_in env.now) (value_at (codes "Parameters") resource.now.props)) }
+{
+    offered_by(alloc, property(&resource.props, "Parameters"), env)
+}
+
+/// Whether a shared resource has the shape of a nested stack.
+pub(crate) fn has_shape(resource: &SharedRes) -> bool
+    ensures { result ≡ has_stack_shape resource.now }
+{
+    has_stack_shape(resource)
+}
+
+/// The template's name of a shared resource.
+pub(crate) fn url_wanted(
+    alloc: Global,
+    resource: &SharedRes,
+    path: &Txt,
+    env: &Env,
+) -> Result<Url, AllocError>
+    ensures { IfOk result (λ u. url_in u ≡ url_of env.now.stack.now path.now (scope_in env.now) resource.now) }
+{
+    template_url(alloc, resource, path, env)
 }

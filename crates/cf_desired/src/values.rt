@@ -19,10 +19,11 @@ use crate::offers::{Offer, Offered};
 use crate::outputs::{exports, outputs_over, unmade};
 use crate::seen::Seen;
 use crate::shape::{Entry, Member, Nesting, Shape, Stack, Turn};
+use crate::templates::Templates;
 use crate::told::properties;
 use crate::wanted::{Evaluated, Inner, Plan, Wanted, WantedOutput};
 use cf_eval::Env;
-use cf_tree::{CondMap, Listing, Names, Source, Templates, TryClone, Txt};
+use cf_tree::{CondMap, Listing, Names, Source, TryClone, Txt};
 use std::alloc::{AllocError, Global};
 
 /// What a source wants of each path, over what is seen, in the order of work; with every flaw in the order in which it is met:
@@ -74,7 +75,7 @@ fn pass<'a>(
     seen: &Seen,
     frames: &mut Vec<Frame<'a>>,
     plan: &mut Plan,
-    turn: &'a Turn<'a>,
+    turn: &'a Turn,
 ) -> Result<(), AllocError>
     ensures plan { IfOk result (λ _. plan.new ≡ plan_behind source.now (frames_in frames.old.items) plan.old (turn_in turn.now)) }
     ensures frames { IfOk result (λ _. frames_in frames.new.items ≡ frames_behind source.now seen.now (frames_in frames.old.items) (turn_in turn.now)) }
@@ -200,7 +201,7 @@ fn add_turn(
 fn bind_flaw(alloc: Global, stack: &Stack, given: &Offer) -> Result<Option<Flaw>, AllocError>
     ensures { IfOk result (λ f. f ≡ bind_flaw (stack_in stack.now) (offer_in given.now)) }
 {
-    match bind_fault_of(alloc, stack.template, given)? {
+    match bind_fault_of(alloc, &stack.template, given)? {
         Some(fault) => Ok(Some(Flaw::Bind {
             at: stack.path.try_clone(alloc)?,
             fault,
@@ -235,7 +236,10 @@ fn add_entered(
 {
     match entry {
         Entry::Root => add_some_flaw(alloc, plan, bind),
-        Entry::Nested { nesting, form: _ } => add_below(alloc, plan, nesting, offers, bind),
+        Entry::Nested {
+            nesting,
+            resource: _,
+        } => add_below(alloc, plan, nesting, offers, bind),
     }
 }
 

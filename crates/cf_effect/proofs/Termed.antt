@@ -9,7 +9,7 @@ use Rattle.cf_desired.specs.declared.shape.Shape as laid
 use Rattle.cf_desired.specs.declared.shape.Terms as desired
 use Rattle.cf_desired.specs.declared.wanted.Wanted.{Wanted}
 use Rattle.cf_desired.specs.Kept.{IsShape}
-use Rattle.cf_desired.specs.Plan.{member_at, plan_of}
+use Rattle.cf_desired.specs.Plan.{plan_of}
 use Rattle.cf_desired.specs.Seeing.{Seen}
 use Rattle.cf_desired.specs.Shape.{shape_of}
 use Rattle.cf_desired.specs.Turns.{pathed}
@@ -20,7 +20,7 @@ use Rattle.cf_desired.specs.Work.{Body, Member}
 use Rattle.cf_desired.proofs.Puts.{value_put}
 use Rattle.cf_desired.proofs.Termed.{terms_by, wanted_terms}
 use Rattle.cf_effect.specs.declared.terms.Terms.{Terms}
-use Rattle.cf_effect.specs.Outset.{given_terms, put_terms, without_kind}
+use Rattle.cf_effect.specs.Outset.{HaveTerms, given_terms, put_terms, without_kind}
 use Rattle.cf_effect.specs.Reply.{terms_of}
 
 -- of two under one name the first counts
@@ -82,9 +82,8 @@ terms_given source seen shape ts is all path =
     ∙ ap given_terms (put_behind path (resources_in (shape_of source seen)) [] ∙ ap terms_in (sym (wanted_terms source seen (shape_of source seen) path)))
     ∙ given_so (wanted_at path (plan_of source seen))
 
-pub all_given : {E : Type 0} (source : Source) (seen : Seen) (shape : laid.Shape) (ts : List (List ℕ × desired.Terms)) (r : Result (List (List ℕ × Terms)) E)
-    → IfOk r (λ terms. terms ≡ fold put_terms [] ts) → IsShape shape (shape_of source seen) → ((b : Body) → IsShape shape b → ts ≡ map pathed (resources_in b))
-    → IfOk r (λ terms. (path : List ℕ) → given_terms (value_at path terms) ≡ terms_of (wanted_at path (plan_of source seen)))
-all_given source seen shape ts (Err x) put is all = tt
-all_given source seen shape ts (Ok terms) put is all =
-    λ path. ap (λ (qs : List (List ℕ × Terms)). given_terms (value_at path qs)) put ∙ terms_given source seen shape ts is all path
+pub all_given : {E : Type 0} (shape : laid.Shape) (ts : List (List ℕ × desired.Terms)) (r : Result (List (List ℕ × Terms)) E)
+    → IfOk r (λ terms. terms ≡ fold put_terms [] ts) → ((b : Body) → IsShape shape b → ts ≡ map pathed (resources_in b)) → IfOk r (HaveTerms shape)
+all_given shape ts (Err x) put all = tt
+all_given shape ts (Ok terms) put all =
+    λ source seen is path. ap (λ (qs : List (List ℕ × Terms)). given_terms (value_at path qs)) put ∙ terms_given source seen shape ts is all path

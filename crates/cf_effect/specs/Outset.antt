@@ -3,11 +3,16 @@ use Rattle.std.specs.Prelude.{◌≡◌, ℕ, List, Option, Some, None, is_some,
 use Rattle.cf_tree.specs.Keys.{put, value_at}
 use Rattle.cf_tree.specs.declared.source.Source.{Source}
 use Rattle.cf_desired.specs.declared.shape.Terms as desired
+use Rattle.cf_desired.specs.declared.shape.Shape.{Shape}
+use Rattle.cf_desired.specs.Kept.{IsShape}
 use Rattle.cf_desired.specs.Plan.{plan_of}
+use Rattle.cf_desired.specs.Seeing.{Seen}
+use Rattle.cf_desired.specs.Shape.{shape_of}
 use Rattle.cf_desired.specs.Templates.{templates_of}
 use Rattle.cf_desired.specs.Whole.{wanted_at}
 use Rattle.cf_effect.specs.declared.held.Held.{Held}
 use Rattle.cf_effect.specs.declared.outset.Ground.{Ground}
+use Rattle.cf_effect.specs.declared.outset.Reading.{Reading}
 use Rattle.cf_effect.specs.declared.terms.Terms.{Terms}
 use Rattle.cf_effect.specs.Begin.{seen_in}
 use Rattle.cf_effect.specs.Reply.{terms_of}
@@ -30,7 +35,17 @@ abbrev pub given_terms : Option Terms → Terms
 given_terms None = terms_of None
 given_terms (Some t) = t
 
--- the templates are those of the source, and the policies and needs are those that it gives over what was held
-pub record IsGround (g : Ground) : Type 0 where
-  pub templates : g.templates ≡ templates_of g.source
-  pub terms : (path : List ℕ) → given_terms (value_at path g.terms) ≡ terms_of (wanted_at path (plan_of g.source (seen_in g.before.items)))
+-- the policies and needs are those of each path, whatever source the shape is of
+abbrev pub HaveTerms : Shape → List (List ℕ × Terms) → Type 0
+HaveTerms shape terms =
+    (source : Source) (seen : Seen) → IsShape shape (shape_of source seen)
+    → (path : List ℕ) → given_terms (value_at path terms) ≡ terms_of (wanted_at path (plan_of source seen))
+
+-- the templates are those of the source, and over what was held the shape is its own, as the policies and needs are
+pub record IsReading (source : Source) (before : List Held) (r : Reading) : Type 0 where
+  pub templates : r.templates ≡ templates_of source
+  pub shape : IsShape r.shape (shape_of source (seen_in before))
+  pub terms : HaveTerms r.shape r.terms
+
+abbrev pub IsGround : Ground → Type 0
+IsGround g = IsReading g.source g.before.items g.read

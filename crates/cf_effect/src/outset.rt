@@ -1,6 +1,5 @@
 //! What a create or an update set out with.
-ghost use Rattle.std.specs.Prelude.{◌≡◌, [], IfOk, List, Some, fold, option_copied, ℕ};
-ghost use Rattle.cf_tree.specs.Keys.{value_at};
+ghost use Rattle.std.specs.Prelude.{◌≡◌, [], IfOk, Some, fold, option_copied};
 ghost use Rattle.cf_desired.specs.Kept.{IsShape};
 ghost use Rattle.cf_desired.specs.Plan.{plan_of};
 ghost use Rattle.cf_desired.specs.Shape.{shape_of};
@@ -8,7 +7,7 @@ ghost use Rattle.cf_desired.specs.Templates.{templates_of};
 ghost use Rattle.cf_desired.specs.Whole.{export_names_of, wanted_at};
 ghost use Rattle.cf_effect.specs.Begin.{seen_in};
 ghost use Rattle.cf_effect.specs.End.{empty_whole, whole_over};
-ghost use Rattle.cf_effect.specs.Outset.{IsGround, given_terms, outset_of, put_terms};
+ghost use Rattle.cf_effect.specs.Outset.{HaveTerms, IsGround, IsReading, outset_of, put_terms};
 ghost use Rattle.cf_effect.specs.Reply.{terms_of, wanted_in};
 ghost use Rattle.cf_effect.specs.State.{before_in, source_in};
 
@@ -16,11 +15,11 @@ use crate::held::{Held, Helds};
 use crate::seen::seen_in;
 use crate::terms::Terms;
 use cf_desired::{
-    Plan, Seen, Shape, Terms as Termed, WholePlan, all_terms, export_names, plan, shape_of,
-    templates_of, whole,
+    Plan, Seen, Shape, Templates, Terms as Termed, WholePlan, all_terms, export_names, plan,
+    plan_by, shape_of, templates_of, whole,
 };
 use cf_export::Outputs;
-use cf_tree::{ByName, Listing, Names, Source, Templates, TryClone, Txt};
+use cf_tree::{ByName, Listing, Names, Source, TryClone, Txt};
 use std::alloc::{AllocError, Global};
 use std::marker::Model;
 use std::sync::Arc;
@@ -30,8 +29,14 @@ use std::sync::Arc;
 struct Ground {
     before: Helds,
     source: Source,
+    read: Reading,
+}
+
+/// What is read of a source once: its templates, and over what was held its shape with the policies and needs of each path.
+#[derive(Drop)]
+struct Reading {
     templates: Templates,
-    /// The policies and needs that the source gives each path, over what was held.
+    shape: Shape,
     terms: ByName<Terms>,
 }
 
@@ -98,41 +103,66 @@ fn by_path(alloc: Global, all: Listing<(Txt, Termed)>) -> Result<ByName<Terms>, 
     Ok(terms)
 }
 
-/// The policies and needs that a source gives each path, over what was held.
-fn terms_given(
+/// The policies and needs that a source gives each path, by its shape.
+fn terms_by(alloc: Global, shape: &Shape) -> Result<ByName<Terms>, AllocError>
+    ensures { IfOk result (HaveTerms shape.now) }
+{
+    by_path(alloc, all_terms(alloc, shape)?)
+}
+
+/// The shape of a source over what was held.
+fn shape_before(
     alloc: Global,
     source: &Source,
     templates: &Templates,
     before: &[Held],
-) -> Result<ByName<Terms>, AllocError>
+) -> Result<Shape, AllocError>
     requires { templates.now ≡ templates_of source.now }
-    ensures { IfOk result (λ terms. (path : List ℕ)
-        → given_terms (value_at path terms) ≡ terms_of (wanted_at path (plan_of source.now (seen_in before.now)))) }
+    ensures { IfOk result (λ shape. IsShape shape (shape_of source.now (seen_in before.now))) }
 {
     let seen = seen_in(alloc, before)?;
-    let shape = shape_of(alloc, source, templates, &seen)?;
-    by_path(alloc, all_terms(alloc, &shape)?)
+    let shape = shape_of(alloc, source, templates, &seen);
+    drop(seen);
+    shape
 }
 
-/// What is read of a source: its templates, and the policies and needs that it gives each path, over
-/// what was held.
-fn read(
+/// What is read of a source whose templates are read.
+fn read_on(
     alloc: Global,
     source: &Source,
+    templates: Templates,
     before: &[Held],
-) -> Result<(Templates, ByName<Terms>), AllocError>
-    ensures templates { IfOk result (λ r. r.0 ≡ templates_of source.now) }
-    ensures terms { IfOk result (λ r. (path : List ℕ)
-        → given_terms (value_at path r.1) ≡ terms_of (wanted_at path (plan_of source.now (seen_in before.now)))) }
+) -> Result<Reading, AllocError>
+    requires { templates ≡ templates_of source.now }
+    ensures { IfOk result (IsReading source.now before.now) }
 {
-    let templates = templates_of(alloc, source)?;
-    match terms_given(alloc, source, &templates, before) {
-        Ok(terms) => Ok((templates, terms)),
+    let shape = match shape_before(alloc, source, &templates, before) {
+        Ok(shape) => shape,
         Err(failed) => {
             drop(templates);
+            return Err(failed);
+        }
+    };
+    match terms_by(alloc, &shape) {
+        Ok(terms) => Ok(Reading {
+            templates,
+            shape,
+            terms,
+        }),
+        Err(failed) => {
+            drop(templates);
+            drop(shape);
             Err(failed)
         }
     }
+}
+
+/// What is read of a source, over what was held.
+fn read(alloc: Global, source: &Source, before: &[Held]) -> Result<Reading, AllocError>
+    ensures { IfOk result (IsReading source.now before.now) }
+{
+    let templates = templates_of(alloc, source)?;
+    read_on(alloc, source, templates, before)
 }
 
 impl Outset {
@@ -145,13 +175,12 @@ impl Outset {
         ensures { IfOk result (λ o. o ≡ record { before = before.items; source = source }) }
     {
         match read(alloc, &source, before.as_slice()) {
-            Ok((templates, terms)) => Outset::of(
+            Ok(read) => Outset::of(
                 alloc,
                 Ground {
                     before,
                     source,
-                    templates,
-                    terms,
+                    read,
                 },
             ),
             Err(failed) => {
@@ -193,18 +222,19 @@ impl Outset {
     pub fn plan(&self, alloc: Global, seen: &Seen) -> Result<Plan, AllocError>
         ensures { IfOk result (λ plan. plan ≡ plan_of self.now.source seen.now) }
     {
-        plan(alloc, &self.ground.source, &self.ground.templates, seen)
+        plan(
+            alloc,
+            &self.ground.source,
+            &self.ground.read.templates,
+            seen,
+        )
     }
 
-    /// The shape of the source, over what is seen.
-    ///
-    /// # Errors
-    ///
-    /// Only for want of memory.
-    pub fn shape<'a>(&'a self, alloc: Global, seen: &'a Seen) -> Result<Shape<'a>, AllocError>
-        ensures { IfOk result (λ shape. IsShape shape (shape_of self.now.source seen.now)) }
+    /// The shape of the source, over what was held.
+    pub fn shape(&self) -> &Shape
+        ensures { IsShape result.now (shape_of self.now.source (seen_in self.now.before)) }
     {
-        shape_of(alloc, &self.ground.source, &self.ground.templates, seen)
+        &self.ground.read.shape
     }
 
     /// The policies and needs that the source gives a path, over what was held.
@@ -215,7 +245,7 @@ impl Outset {
     pub fn terms(&self, alloc: Global, path: &Txt) -> Result<Terms, AllocError>
         ensures { IfOk result (λ terms. terms ≡ terms_of (wanted_at path.now (plan_of self.now.source (seen_in self.now.before)))) }
     {
-        match self.ground.terms.get(path.as_str()) {
+        match self.ground.read.terms.get(path.as_str()) {
             Some(terms) => terms.try_clone(alloc),
             None => Ok(Terms::usual(alloc)),
         }
@@ -240,7 +270,7 @@ impl Outset {
         ensures { IfOk result (λ names. names ≡ export_names_of self.now.source (seen_in self.now.before)) }
     {
         let seen = seen_in(alloc, self.before().as_slice())?;
-        let plan = self.plan(alloc, &seen)?;
+        let plan = plan_by(alloc, self.source(), self.shape(), &seen)?;
         let names = export_names(alloc, &plan);
         drop(plan);
         names

@@ -6,10 +6,8 @@ use Rattle.std.proofs.lemmas.Bool.{and_from}
 use Rattle.std.proofs.lemmas.Slice.Eq.{bytes_eq-Decides}
 use Rattle.cf_tree.specs.Datum.{Data, members_of}
 use Rattle.cf_tree.specs.Same.{same_members}
-use Rattle.cf_desired.specs.declared.wanted.Plan.{Plan}
 use Rattle.cf_schema.proofs.Equal.{same_equal, equal_same}
 use Rattle.cf_plan.specs.Forward.{Finding, Known}
-use Rattle.cf_plan.specs.Done.{finding_by}
 
 pub kind_found : Finding → List ℕ
 kind_found (Known kind props) = kind
@@ -21,10 +19,10 @@ props_found _ = []
 
 -- what is found is this type with these properties just where both are the same
 pub known_has :
-    (path : List ℕ) (p : Plan) (k kind : List ℕ) (wanted props : List (List ℕ × Data)) (b : Bool) → Known k wanted ≡ finding_by path p
-    → b ≡ (bytes_eq k kind && same_members (members_of wanted) (members_of props)) → IsTrue b ↔ (finding_by path p ≡ Known kind props)
+    (f : Finding) (k kind : List ℕ) (wanted props : List (List ℕ × Data)) (b : Bool) → Known k wanted ≡ f
+    → b ≡ (bytes_eq k kind && same_members (members_of wanted) (members_of props)) → IsTrue b ↔ (f ≡ Known kind props)
 unfolding kind_found props_found
-known_has path p k kind wanted props b e s = (
+known_has f k kind wanted props b e s = (
   λ t.
       let both = sym s ∙ t in
       let kinds : k ≡ kind = (bytes_eq-Decides k kind).0 (first_so (bytes_eq k kind) (same_members (members_of wanted) (members_of props)) both) in

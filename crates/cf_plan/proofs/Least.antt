@@ -1,5 +1,5 @@
 -- The first in byte order of what is found.
-use Rattle.std.proofs.Common.{◌≡◌, ◌⊎◌, inl, inr, ℕ, suc, ◌+◌, ◌<◌, Bool, true, false, List, [], ◌∷◌, Option, Some, None, length, take, get_or, refl, ap, sym, ◌∙◌, subst, arith, if◌then◌else◌, true≢false}
+use Rattle.std.proofs.Common.{◌≡◌, ◌⊎◌, inl, inr, ℕ, suc, ◌+◌, ◌<◌, Bool, true, false, List, [], ◌∷◌, Option, Some, None, option_map, length, take, get_or, refl, ap, sym, ◌∙◌, subst, arith, if◌then◌else◌, true≢false}
 use Rattle.std.specs.Prelude.{filter_map, fold}
 use Rattle.std.specs.Option.{option_to_list}
 use Rattle.std.proofs.lemmas.List.Sums.{fold-append}
@@ -11,7 +11,10 @@ use Rattle.std.specs.Cmp.Lexicographic.{slice_cmp, nat_list_cmp_total, texts_tie
 use Rattle.std.proofs.lemmas.Bool.{false_from_ne_true}
 use Rattle.cf_tree.specs.Keys.{bytes_lt}
 use Rattle.cf_desired.specs.declared.flaw.Flaw.{Flaw}
-use Rattle.cf_plan.specs.Failed.{least, lesser, lesser_of}
+use Rattle.cf_desired.specs.declared.wanted.Plan.{Plan}
+use Rattle.cf_desired.specs.declared.wanted.Wanted.{Wanted}
+use Rattle.cf_plan.specs.Done.{are_met}
+use Rattle.cf_plan.specs.Failed.{flaw_by, flaw_found, least, lesser, lesser_of}
 use Rattle.cf_plan.specs.Forward.{In, here, there}
 use Rattle.cf_plan.proofs.Listed.{bytes_same, in_cons, in_none, mapped_more}
 
@@ -109,3 +112,15 @@ least_low xs a e = (low xs None a e).1
 pub least_none : (xs : List B) → least xs ≡ None → (b : B) → In b xs → ⊥
 least_none [] e b i = in_none i
 least_none (x ∷ xs) e b i = keeps xs x e
+
+-- of a path without a flaw none is found, whatever it needs
+pub none_found : (before now : Plan) (done : List (List ℕ)) (w : Wanted) → flaw_by w.path now ≡ None → flaw_found before now done w ≡ None
+none_found before now done w h =
+    ap (λ o. if are_met w.path before done then option_map (λ f. (w.path, f)) o else None) h ∙ either (are_met w.path before done)
+  where
+    nothing : Option (List ℕ × Flaw)
+    nothing = None
+
+    either : (b : Bool) → (if b then nothing else nothing) ≡ nothing
+    either true = refl
+    either false = refl

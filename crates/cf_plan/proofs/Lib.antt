@@ -55,3 +55,4 @@ pub mod FailedFound
 pub mod PropsStay
 pub mod RowsFound
 pub mod WholeFound
+mod Placed

@@ -1,9 +1,10 @@
 -- Which paths are done, as it is found out: path after path joins those that are done already (this project's own).
-use Rattle.std.specs.Prelude.{◌≡◌, ◌↔◌, ◌⊎◌, ℕ, Bool, ◌&&◌, false, List, [], ◌∷◌, ◌++◌, Some, IsTrue, filter, map, not}
+use Rattle.std.specs.Prelude.{◌≡◌, ◌↔◌, ◌⊎◌, ℕ, Bool, ◌&&◌, false, List, [], ◌∷◌, ◌++◌, Option, Some, IsTrue, filter, map, not}
 use Rattle.std.specs.List.{list_all}
 use Rattle.std.specs.Option.{option_map_or}
 use Rattle.cf_tree.specs.Lists.{is_among}
 use Rattle.cf_desired.specs.declared.wanted.Plan.{Plan}
+use Rattle.cf_desired.specs.declared.wanted.Wanted.{Wanted}
 use Rattle.cf_desired.specs.Whole.{wanted_at}
 use Rattle.cf_effect.specs.declared.held.Held.{Held}
 use Rattle.cf_effect.specs.World.{StackState}
@@ -23,6 +24,9 @@ finding_of not_yet = Later
 finding_of (known kind props) = Known kind.now props
 
 -- by a plan: what the properties of a path come to, and what it needs
+abbrev pub finding_over : Option Wanted → Finding
+finding_over o = option_map_or (λ w. finding w.kind w.props) o Later
+
 abbrev pub finding_by : List ℕ → Plan → Finding
 finding_by path p = option_map_or (λ w. finding w.kind w.props) (wanted_at path p) Later
 
@@ -40,6 +44,9 @@ pub record HasTerms (s : StackState) (p : Plan) : Type 0 where
 -- what is held at a path is sure and has the type and properties that a plan gives the path
 abbrev pub IsHeldRight : List ℕ → Plan → List Held → Type 0
 IsHeldRight path p held = (h : Held) × (current_at path held ≡ Some h) × (h.unsure ≡ false) × (finding_by path p ≡ Known h.kind h.props)
+
+abbrev pub IsRight : Option Wanted → Option Held → Type 0
+IsRight w o = (h : Held) × (o ≡ Some h) × (h.unsure ≡ false) × (finding_over w ≡ Known h.kind h.props)
 
 -- the paths that are done whatever the template says: those of what was made, and of the updates that succeeded
 abbrev pub made_paths : StackState → List (List ℕ)

@@ -4,6 +4,7 @@ pub mod Forward
 pub mod Accept
 pub mod Follow
 pub mod Done
+pub mod Index
 pub mod Failed
 pub mod Causes
 pub mod Starts

@@ -4,22 +4,22 @@ ghost use Rattle.std.specs.Option.{option_copied};
 ghost use Rattle.cf_plan.specs.Failed.{bad_of, flaw_by, flaw_found, flaws_found, inner_found, least, lesser, lesser_of};
 
 use crate::done::{are_among, are_met};
-use crate::found::wanted_at;
-use cf_desired::{Evaluated, Flaw, Inner, Plan, Wanted};
-use cf_tree::{Names, Txt};
+use crate::index::{NameIndex, PlanIndex};
+use cf_desired::{Evaluated, Flaw, Inner, Wanted};
+use cf_tree::Txt;
 
 /// A path, and its flaw.
 #[derive(Drop)]
-pub struct BadAt<'a> {
+pub(crate) struct BadAt<'a> {
     pub path: &'a Txt,
     pub flaw: &'a Flaw,
 }
 
 /// The flaw of a path by a plan.
-fn flaw_at<'a>(plan: &'a Plan, path: &Txt) -> Option<&'a Flaw>
+fn flaw_at<'a>(plan: &PlanIndex<'a>, path: &Txt) -> Option<&'a Flaw>
     ensures { option_copied result ≡ flaw_by path.now plan.now }
 {
-    match wanted_at(plan, path) {
+    match plan.wanted_at(path) {
         Some(wanted) => match &wanted.props {
             Evaluated::Flawed { flaw } => Some(flaw),
             Evaluated::Known { props: _ } => None,
@@ -29,29 +29,33 @@ fn flaw_at<'a>(plan: &'a Plan, path: &Txt) -> Option<&'a Flaw>
 }
 
 /// A wanted path with its flaw, where its needs are done.
+#[tactic(auto, using(crate::proofs::Least::none_found))]
 fn flaw_found<'a>(
-    before: &Plan,
-    now: &'a Plan,
-    done: &Names,
+    before: &PlanIndex,
+    now: &PlanIndex<'a>,
+    done: &NameIndex,
     wanted: &'a Wanted,
 ) -> Option<BadAt<'a>>
     ensures { option_map bad_of result ≡ flaw_found before.now now.now done.now wanted.now }
 {
-    if are_met(before, done, &wanted.path) {
-        match flaw_at(now, &wanted.path) {
-            Some(flaw) => Some(BadAt {
-                path: &wanted.path,
-                flaw,
-            }),
-            None => None,
+    // Most paths have no flaw, and of these it need not be known what they need.
+    match flaw_at(now, &wanted.path) {
+        Some(flaw) => {
+            if are_met(before, done, &wanted.path) {
+                Some(BadAt {
+                    path: &wanted.path,
+                    flaw,
+                })
+            } else {
+                None
+            }
         }
-    } else {
-        None
+        None => None,
     }
 }
 
 /// The path of a nested stack with its flaw, where its needs are done.
-fn inner_found<'a>(done: &Names, inner: &'a Inner) -> Option<BadAt<'a>>
+fn inner_found<'a>(done: &NameIndex, inner: &'a Inner) -> Option<BadAt<'a>>
     ensures { option_map bad_of result ≡ inner_found done.now inner.now }
 {
     if are_among(&inner.needs, done) {
@@ -94,7 +98,11 @@ fn lesser_of<'a>(first: Option<BadAt<'a>>, second: Option<BadAt<'a>>) -> Option<
 }
 
 /// The first of these in byte order, `first` included.
-fn first_inner<'a>(done: &Names, nested: &'a [Inner], first: Option<BadAt<'a>>) -> Option<BadAt<'a>>
+fn first_inner<'a>(
+    done: &NameIndex,
+    nested: &'a [Inner],
+    first: Option<BadAt<'a>>,
+) -> Option<BadAt<'a>>
     ensures { option_map bad_of result ≡ fold lesser (option_map bad_of first.entry) (filter_map (inner_found done.now) nested.now) }
 {
     let mut first = first;
@@ -105,12 +113,16 @@ fn first_inner<'a>(done: &Names, nested: &'a [Inner], first: Option<BadAt<'a>>) 
 }
 
 /// The first path in byte order that is at fault while its needs are done, nested stacks included.
-pub fn first_bad<'a>(before: &'a Plan, now: &'a Plan, done: &Names) -> Option<BadAt<'a>>
+pub(crate) fn first_bad<'a>(
+    before: &PlanIndex<'a>,
+    now: &PlanIndex<'a>,
+    done: &NameIndex,
+) -> Option<BadAt<'a>>
     ensures { option_map bad_of result ≡ least (flaws_found before.now now.now done.now) }
 {
     let mut first = None;
-    for wanted in before.wanted.as_slice() {
+    for wanted in before.plan().wanted.as_slice() {
         first = lesser_of(first, flaw_found(before, now, done, wanted));
     }
-    first_inner(done, now.nested.as_slice(), first)
+    first_inner(done, now.plan().nested.as_slice(), first)
 }

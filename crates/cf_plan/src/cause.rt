@@ -13,6 +13,7 @@ ghost use Rattle.cf_entry.specs.declared.turn.Cause.TheVariants as told;
 use crate::bad::first_bad;
 use crate::calls::path_of_token;
 use crate::failing::first_failing;
+use crate::index::{NameIndex, PlanIndex};
 use cf_desired::{Flaw, Plan, plan_text};
 use cf_entry::{Cause, Reason};
 use cf_export::{Export, pinned};
@@ -69,7 +70,14 @@ fn lost_export<'a>(name: &Txt, world: &'a World, now: &Plan) -> Option<&'a Expor
 }
 
 /// Whether all wanted paths are done.
-pub fn are_all_done(before: &Plan, done: &Names) -> bool
+pub(crate) fn are_all_done(before: &PlanIndex, done: &NameIndex) -> bool
+    ensures { result ≡ are_all_done before.now done.now }
+{
+    are_done(before.plan(), done)
+}
+
+/// Whether all paths of a plan are done.
+fn are_done(before: &Plan, done: &NameIndex) -> bool
     ensures { result ≡ are_all_done before.now done.now }
 {
     before
@@ -146,9 +154,9 @@ fn plan_failure(
     alloc: Global,
     name: &Txt,
     world: &World,
-    before: &Plan,
-    now: &Plan,
-    done: &Names,
+    before: &PlanIndex,
+    now: &PlanIndex,
+    done: &NameIndex,
 ) -> Result<Failure, AllocError>
     ensures { IfOk result (λ failure. failure ≡ plan_failure name.now world.now.world before.now now.now done.now) }
 {
@@ -156,7 +164,7 @@ fn plan_failure(
         Some(bad) => failure_of_flaw(alloc, bad.flaw),
         None => {
             if are_all_done(before, done) {
-                end_failure(alloc, name, world, now)
+                end_failure(alloc, name, world, now.plan())
             } else {
                 Ok(Failure::Nothing)
             }
@@ -166,15 +174,15 @@ fn plan_failure(
 
 /// Whether the forward phase of a stack has failed, and why, by any plan with the paths and the needs of the operation's source, by
 /// what that says over the resources of now, and by the paths that are done.
-pub(crate) fn failure_by(
+pub(crate) fn failure_by<'a>(
     alloc: Global,
     schemas: &Schemas,
     name: &Txt,
     world: &World,
     stack: &StackState,
-    terms: &Plan,
-    now: &Plan,
-    done: &Names,
+    terms: &PlanIndex<'a>,
+    now: &PlanIndex<'a>,
+    done: &NameIndex,
 ) -> Result<Failure, AllocError>
     requires terms { HasTerms stack.now.stack terms.now }
     requires now { now.now ≡ plan_now stack.now.stack }
@@ -212,5 +220,8 @@ pub fn failure_of(
     requires done { AreDone stack.now.stack done.now }
     ensures { IfOk result (λ failure. IsFailureOf schemas.now name.now world.now.world stack.now.stack failure) }
 {
-    failure_by(alloc, schemas, name, world, stack, before, now, done)
+    let before = PlanIndex::new(alloc, before)?;
+    let now = PlanIndex::new(alloc, now)?;
+    let done = NameIndex::of(alloc, done)?;
+    failure_by(alloc, schemas, name, world, stack, &before, &now, &done)
 }

@@ -6,44 +6,45 @@ ghost use Rattle.cf_plan.specs.Forward.{plan_before, plan_now};
 ghost use Rattle.cf_plan.specs.Done.{Adds, AreDone, HasTerms, IsFresh, IsNext, Joined, are_met, is_good_update, made_paths, updated_paths};
 
 use crate::calls::is_good_update;
-use crate::found::{is_held_right, wanted_at};
+use crate::found::is_right_at;
+use crate::index::{HeldIndex, NameIndex, PlanIndex};
 use cf_desired::Plan;
 use cf_stacks::{Call, Held, StackState};
 use cf_tree::{Names, Txt};
 use std::alloc::{AllocError, Global};
 
 /// Whether all of these are among others.
-pub fn are_among(needs: &Names, names: &Names) -> bool
+pub(crate) fn are_among(needs: &Names, names: &NameIndex) -> bool
     ensures { result ≡ list_all (λ n. is_among n names.now) needs.now }
 {
     needs.as_slice().iter().all(|need| names.contains(need))
 }
 
 /// Whether all that a path needs by a plan is among these.
-pub fn are_met(plan: &Plan, done: &Names, path: &Txt) -> bool
+pub(crate) fn are_met(plan: &PlanIndex, done: &NameIndex, path: &Txt) -> bool
     ensures { result ≡ are_met path.now plan.now done.now }
 {
-    match wanted_at(plan, path) {
+    match plan.wanted_at(path) {
         Some(wanted) => are_among(&wanted.needs, done),
         None => true,
     }
 }
 
 /// The paths of the resources of a list that are not superseded.
-fn current_paths(alloc: Global, helds: &[Held]) -> Result<Names, AllocError>
+fn current_paths(alloc: Global, helds: &[Held]) -> Result<NameIndex, AllocError>
     ensures { IfOk result (λ paths. paths ≡ map (λ h. h.path) (filter (λ h. not h.superseded) helds.now)) }
 {
-    let mut paths = Names::new(alloc);
+    let mut paths = NameIndex::new(alloc);
     for held in helds {
         if !held.superseded {
-            paths.push(held.path.try_clone(alloc)?)?;
+            paths.push(alloc, &held.path)?;
         }
     }
     Ok(paths)
 }
 
 /// The paths of what the operation made.
-fn made_paths(alloc: Global, stack: &StackState) -> Result<Names, AllocError>
+fn made_paths(alloc: Global, stack: &StackState) -> Result<NameIndex, AllocError>
     ensures { IfOk result (λ paths. paths ≡ made_paths stack.now.stack) }
 {
     current_paths(alloc, stack.made().as_slice())
@@ -59,7 +60,7 @@ fn is_own_update(number: u64, call: &Call) -> bool
 /// Adds the paths of the calls of an operation that are updates which succeeded. After an error nothing is said of the list.
 fn push_calls(
     alloc: Global,
-    paths: &mut Names,
+    paths: &mut NameIndex,
     calls: &[Call],
     number: u64,
 ) -> Result<(), AllocError>
@@ -67,14 +68,14 @@ fn push_calls(
 {
     for call in calls {
         if is_own_update(number, call) {
-            paths.push(call.path.try_clone(alloc)?)?;
+            paths.push(alloc, &call.path)?;
         }
     }
     Ok(())
 }
 
 /// Adds the paths that the operation updated. After an error nothing is said of the list.
-fn push_updated(alloc: Global, stack: &StackState, paths: &mut Names) -> Result<(), AllocError>
+fn push_updated(alloc: Global, stack: &StackState, paths: &mut NameIndex) -> Result<(), AllocError>
     ensures { IfOk result (λ _. paths.new ≡ paths.old ++ updated_paths stack.now.stack) }
 {
     push_calls(alloc, paths, stack.ledger().as_slice(), stack.operation())
@@ -83,10 +84,10 @@ fn push_updated(alloc: Global, stack: &StackState, paths: &mut Names) -> Result<
 /// Whether a path is not among those that are done, though what is held there is right and its needs are done.
 fn is_fresh(
     alloc: Global,
-    before: &Plan,
-    now: &Plan,
-    held: &[Held],
-    done: &Names,
+    before: &PlanIndex,
+    now: &PlanIndex,
+    held: &HeldIndex,
+    done: &NameIndex,
     path: &Txt,
 ) -> Result<bool, AllocError>
     ensures { IfOk result (λ fresh. IsTrue fresh ↔ IsFresh before.now now.now held.now done.now path.now) }
@@ -94,7 +95,7 @@ fn is_fresh(
     if done.contains(path) || !are_met(before, done, path) {
         Ok(false)
     } else {
-        is_held_right(alloc, now, held, path)
+        is_right_at(alloc, now, held, path)
     }
 }
 
@@ -102,17 +103,16 @@ fn is_fresh(
 /// error the list is as it was.
 fn add_one(
     alloc: Global,
-    before: &Plan,
-    now: &Plan,
-    held: &[Held],
-    done: &mut Names,
+    before: &PlanIndex,
+    now: &PlanIndex,
+    held: &HeldIndex,
+    done: &mut NameIndex,
     path: &Txt,
 ) -> Result<(), AllocError>
     ensures { IfOk result (λ _. Adds before.now now.now held.now path.now done.old done.new) }
 {
     if is_fresh(alloc, before, now, held, done, path)? {
-        done.push(path.try_clone(alloc)?)?;
-        Ok(())
+        done.push(alloc, path)
     } else {
         Ok(())
     }
@@ -122,15 +122,15 @@ fn add_one(
 /// list.
 fn add_right(
     alloc: Global,
-    before: &Plan,
-    now: &Plan,
-    held: &[Held],
-    done: &mut Names,
+    before: &PlanIndex,
+    now: &PlanIndex,
+    held: &HeldIndex,
+    done: &mut NameIndex,
 ) -> Result<(), AllocError>
     ensures joined { IfOk result (λ _. Joined before.now now.now held.now done.old done.new) }
     ensures all { IfOk result (λ _. done.new ≡ done.old → (p : List ℕ) → IsNext before.now now.now held.now done.old p → ⊥) }
 {
-    for wanted in before.wanted.as_slice() {
+    for wanted in before.plan().wanted.as_slice() {
         add_one(alloc, before, now, held, done, &wanted.path)?;
     }
     Ok(())
@@ -140,10 +140,10 @@ fn add_right(
 /// work, so the second time finds no more. After an error nothing is said of the list.
 fn add_all_right(
     alloc: Global,
-    before: &Plan,
-    now: &Plan,
-    held: &[Held],
-    done: &mut Names,
+    before: &PlanIndex,
+    now: &PlanIndex,
+    held: &HeldIndex,
+    done: &mut NameIndex,
 ) -> Result<(), AllocError>
     ensures joined { IfOk result (λ _. Joined before.now now.now held.now done.old done.new) }
     ensures all { IfOk result (λ _. (p : List ℕ) → IsNext before.now now.now held.now done.new p → ⊥) }
@@ -159,19 +159,21 @@ fn add_all_right(
 
 /// The paths that are done, by any plan with the paths and the needs of the operation's source, and by what that says over the
 /// resources of now.
-pub(crate) fn done_by(
+pub(crate) fn done_by<'a>(
     alloc: Global,
     stack: &StackState,
-    terms: &Plan,
-    now: &Plan,
-) -> Result<Names, AllocError>
+    terms: &PlanIndex<'a>,
+    now: &PlanIndex<'a>,
+    held: &HeldIndex,
+) -> Result<NameIndex, AllocError>
     requires terms { HasTerms stack.now.stack terms.now }
     requires now { now.now ≡ plan_now stack.now.stack }
+    requires held { held.now ≡ stack.now.stack.held }
     ensures { IfOk result (λ done. AreDone stack.now.stack done) }
 {
     let mut done = made_paths(alloc, stack)?;
     push_updated(alloc, stack, &mut done)?;
-    add_all_right(alloc, terms, now, stack.held().as_slice(), &mut done)?;
+    add_all_right(alloc, terms, now, held, &mut done)?;
     Ok(done)
 }
 
@@ -179,8 +181,8 @@ pub(crate) fn done_by(
 /// held resource is sure and has the type and the properties of now.
 ///
 /// `before` is what the operation's source says over what was held before, `now` what it says over the resources of now.
-/// For each wanted path it looks through the plan and through what is done for each that the path needs, in two rounds at
-/// most where the plan is in the order of work.
+/// In each round it looks each wanted path up by halves, with all that it needs; two rounds at most where the plan is in the order
+/// of work.
 ///
 /// # Errors
 ///
@@ -196,5 +198,9 @@ pub fn done_paths(
     requires now { now.now ≡ plan_now stack.now.stack }
     ensures { IfOk result (λ done. AreDone stack.now.stack done) }
 {
-    done_by(alloc, stack, before, now)
+    let before = PlanIndex::new(alloc, before)?;
+    let now = PlanIndex::new(alloc, now)?;
+    let held = HeldIndex::new(alloc, stack.held().as_slice())?;
+    let done = done_by(alloc, stack, &before, &now, &held)?;
+    Ok(done.into_names())
 }

@@ -5,13 +5,14 @@ ghost use Rattle.std.specs.Option.{option_copied};
 ghost use Rattle.std.specs.Str.{bytes_eq};
 ghost use Rattle.cf_plan.specs.Forward.{plan_now};
 ghost use Rattle.cf_plan.specs.Follow.{is_free};
-ghost use Rattle.cf_plan.specs.Done.{finding_by};
+ghost use Rattle.cf_plan.specs.Done.{finding_over};
+ghost use Rattle.cf_effect.specs.Words.{current_at};
 ghost use Rattle.cf_plan.specs.Starts.{AreIntended, create_over, update_over, wants_by, wants_new, wants_update};
 
 use crate::calls::{was_answered_at, was_not_updatable};
 use crate::failing::difference_to;
-use crate::found::{Found, finding_at};
-use cf_desired::Plan;
+use crate::found::{Found, finding_over, wanted_at};
+use cf_desired::{Plan, Wanted};
 use cf_schema::{Difference, Schemas};
 use cf_stacks::{Held, Pending, StackState, current_at};
 use cf_tree::{Dict, Request, Txt};
@@ -112,19 +113,20 @@ fn update_over(
     }
 }
 
-/// The requests that a path wants, by what its properties come to.
-pub fn wants_by(
+/// The requests that a path wants, by what its properties come to and by what is held there.
+pub(crate) fn wants_over(
     alloc: Global,
     schemas: &Schemas,
     stack: &StackState,
-    now: &Plan,
     path: &Txt,
+    wanted: Option<&Wanted>,
+    held: Option<&Held>,
 ) -> Result<Wants, AllocError>
-    ensures { IfOk result (λ wants. wants ≡ wants_by schemas.now stack.now.stack path.now (finding_by path.now now.now)) }
+    requires { option_copied held ≡ current_at path.now stack.now.stack.held }
+    ensures { IfOk result (λ wants. wants ≡ wants_by schemas.now stack.now.stack path.now (finding_over (option_copied wanted.entry))) }
 {
-    match finding_at(alloc, now, path)? {
+    match finding_over(alloc, wanted)? {
         Found::Known { kind, props } => {
-            let held = current_at(stack.held().as_slice(), path);
             let create = create_over(alloc, schemas, stack, kind, &props, held)?;
             let update = update_over(alloc, schemas, stack, path, kind, &props, held)?;
             Ok(Wants { create, update })
@@ -158,5 +160,6 @@ pub fn wants_at(
     requires now { now.now ≡ plan_now stack.now.stack }
     ensures { IfOk result (λ wants. AreIntended schemas.now stack.now.stack path.now wants) }
 {
-    wants_by(alloc, schemas, stack, now, path)
+    let held = current_at(stack.held().as_slice(), path);
+    wants_over(alloc, schemas, stack, path, wanted_at(now, path), held)
 }

@@ -7,8 +7,9 @@ ghost use Rattle.cf_tree.specs.Same.{same_members};
 ghost use Rattle.cf_desired.specs.Whole.{wanted_at};
 ghost use Rattle.cf_effect.specs.Words.{current_at};
 ghost use Rattle.cf_plan.specs.Forward.{Known, finding};
-ghost use Rattle.cf_plan.specs.Done.{IsHeldRight, finding_by, finding_of};
+ghost use Rattle.cf_plan.specs.Done.{IsHeldRight, IsRight, finding_by, finding_of, finding_over};
 
+use crate::index::{HeldIndex, PlanIndex};
 use cf_desired::{Evaluated, Flaw, Plan, Wanted};
 use cf_stacks::{Held, current_at};
 use cf_tree::{Dict, Txt};
@@ -51,14 +52,24 @@ fn finding<'a>(alloc: Global, wanted: &'a Wanted) -> Result<Found<'a>, AllocErro
     }
 }
 
+/// What the properties of what is wanted come to, where something is.
+pub(crate) fn finding_over<'a>(
+    alloc: Global,
+    wanted: Option<&'a Wanted>,
+) -> Result<Found<'a>, AllocError>
+    ensures { IfOk result (λ found. finding_of found ≡ finding_over (option_copied wanted.entry)) }
+{
+    match wanted {
+        Some(wanted) => finding(alloc, wanted),
+        None => Ok(Found::Later),
+    }
+}
+
 /// What the properties of a path come to by a plan.
 pub fn finding_at<'a>(alloc: Global, plan: &'a Plan, path: &Txt) -> Result<Found<'a>, AllocError>
     ensures { IfOk result (λ found. finding_of found ≡ finding_by path.now plan.now) }
 {
-    match wanted_at(plan, path) {
-        Some(wanted) => finding(alloc, wanted),
-        None => Ok(Found::Later),
-    }
+    finding_over(alloc, wanted_at(plan, path))
 }
 
 /// Whether a type and properties are the same as others.
@@ -68,17 +79,16 @@ fn are_same(found: &Txt, wanted: &Dict, kind: &Txt, props: &Dict) -> bool
     *found == *kind && *wanted == *props
 }
 
-/// Whether a plan gives a path this type and these properties.
+/// Whether what is wanted has this type and these properties.
 fn has_props(
     alloc: Global,
-    plan: &Plan,
-    path: &Txt,
+    wanted: Option<&Wanted>,
     kind: &Txt,
     props: &Dict,
 ) -> Result<bool, AllocError>
-    ensures { IfOk result (λ same. IsTrue same ↔ (finding_by path.now plan.now ≡ Known kind.now props.now)) }
+    ensures { IfOk result (λ same. IsTrue same ↔ (finding_over (option_copied wanted.entry) ≡ Known kind.now props.now)) }
 {
-    let finding = finding_at(alloc, plan, path)?;
+    let finding = finding_over(alloc, wanted)?;
     match finding {
         Found::Known {
             kind: found,
@@ -87,6 +97,34 @@ fn has_props(
         Found::Bad { flaw: _ } => Ok(false),
         Found::Later => Ok(false),
     }
+}
+
+/// Whether what is held is sure and has the type and properties that are wanted.
+fn is_right(alloc: Global, wanted: Option<&Wanted>, held: Option<&Held>) -> Result<bool, AllocError>
+    ensures { IfOk result (λ right. IsTrue right ↔ IsRight (option_copied wanted.entry) (option_copied held.entry)) }
+{
+    match held {
+        Some(held) => {
+            if held.unsure {
+                Ok(false)
+            } else {
+                has_props(alloc, wanted, &held.kind, &held.props)
+            }
+        }
+        None => Ok(false),
+    }
+}
+
+/// Whether what is held at a path is sure and has the type and properties that a plan gives the path.
+pub(crate) fn is_right_at(
+    alloc: Global,
+    plan: &PlanIndex,
+    helds: &HeldIndex,
+    path: &Txt,
+) -> Result<bool, AllocError>
+    ensures { IfOk result (λ right. IsTrue right ↔ IsHeldRight path.now plan.now helds.now) }
+{
+    is_right(alloc, plan.wanted_at(path), helds.current_at(path))
 }
 
 /// Whether what is held at a path is sure and has the type and properties that a plan gives the path.
@@ -98,14 +136,5 @@ pub fn is_held_right(
 ) -> Result<bool, AllocError>
     ensures { IfOk result (λ right. IsTrue right ↔ IsHeldRight path.now plan.now helds.now) }
 {
-    match current_at(helds, path) {
-        Some(held) => {
-            if held.unsure {
-                Ok(false)
-            } else {
-                has_props(alloc, plan, path, &held.kind, &held.props)
-            }
-        }
-        None => Ok(false),
-    }
+    is_right(alloc, wanted_at(plan, path), current_at(helds, path))
 }

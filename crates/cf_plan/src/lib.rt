@@ -9,6 +9,7 @@ mod end;
 mod failing;
 mod forward;
 mod found;
+mod index;
 mod lanes;
 mod laws;
 mod progress;
@@ -16,9 +17,8 @@ mod repeats;
 mod starts;
 mod stepping;
 
-pub use bad::{BadAt, first_bad};
 pub use calls::{call_of, doubts_in, path_of_token, was_answered_at, was_not_updatable};
-pub use cause::{Failure, are_all_done, failure_of};
+pub use cause::{Failure, failure_of};
 pub use cf_desired::plan_text;
 pub use done::done_paths;
 pub use end::{failed_paths, is_cleared, is_refusal};

@@ -5,7 +5,8 @@ ghost use Rattle.cf_plan.specs.Done.{AreDone, HasTerms};
 ghost use Rattle.cf_plan.specs.Starts.{AreStarts, may_start, starts_by, with_start};
 
 use crate::done::are_met;
-use crate::forward::{Wants, is_free, wants_by};
+use crate::forward::{Wants, is_free, wants_over};
+use crate::index::{HeldIndex, NameIndex, PlanIndex};
 use cf_desired::Plan;
 use cf_schema::Schemas;
 use cf_stacks::StackState;
@@ -13,7 +14,7 @@ use cf_tree::{ByName, Names, Txt};
 use std::alloc::{AllocError, Global};
 
 /// Whether a path is not done, all that it needs is done, and no token of it is open.
-fn may_start(stack: &StackState, before: &Plan, done: &Names, path: &Txt) -> bool
+fn may_start(stack: &StackState, before: &PlanIndex, done: &NameIndex, path: &Txt) -> bool
     ensures { result ≡ may_start stack.now.stack before.now done.now path.now }
 {
     !done.contains(path) && are_met(before, done, path) && is_free(stack, path)
@@ -24,16 +25,19 @@ fn add_start(
     alloc: Global,
     schemas: &Schemas,
     stack: &StackState,
-    before: &Plan,
-    now: &Plan,
-    done: &Names,
+    before: &PlanIndex,
+    now: &PlanIndex,
+    held: &HeldIndex,
+    done: &NameIndex,
     starts: &mut ByName<Wants>,
     path: &Txt,
 ) -> Result<(), AllocError>
+    requires { held.now ≡ stack.now.stack.held }
     ensures { IfOk result (λ _. starts.new ≡ with_start schemas.now stack.now.stack before.now now.now done.now starts.old path.now) }
 {
     if may_start(stack, before, done, path) {
-        let wants = wants_by(alloc, schemas, stack, now, path)?;
+        let (wanted, held) = (now.wanted_at(path), held.current_at(path));
+        let wants = wants_over(alloc, schemas, stack, path, wanted, held)?;
         let path = path.try_clone(alloc)?;
         starts.insert(path, wants)
     } else {
@@ -46,20 +50,23 @@ fn starts_by(
     alloc: Global,
     schemas: &Schemas,
     stack: &StackState,
-    before: &Plan,
-    now: &Plan,
-    done: &Names,
+    before: &PlanIndex,
+    now: &PlanIndex,
+    held: &HeldIndex,
+    done: &NameIndex,
 ) -> Result<ByName<Wants>, AllocError>
+    requires { held.now ≡ stack.now.stack.held }
     ensures { IfOk result (λ starts. starts ≡ starts_by schemas.now stack.now.stack before.now now.now done.now) }
 {
     let mut starts = ByName::new(alloc);
-    for wanted in before.wanted.as_slice() {
+    for wanted in before.plan().wanted.as_slice() {
         add_start(
             alloc,
             schemas,
             stack,
             before,
             now,
+            held,
             done,
             &mut starts,
             &wanted.path,
@@ -74,16 +81,18 @@ pub(crate) fn starts_over(
     alloc: Global,
     schemas: &Schemas,
     stack: &StackState,
-    terms: &Plan,
-    now: &Plan,
-    done: &Names,
+    terms: &PlanIndex,
+    now: &PlanIndex,
+    held: &HeldIndex,
+    done: &NameIndex,
 ) -> Result<ByName<Wants>, AllocError>
     requires terms { HasTerms stack.now.stack terms.now }
     requires now { now.now ≡ plan_now stack.now.stack }
+    requires held { held.now ≡ stack.now.stack.held }
     requires done { AreDone stack.now.stack done.now }
     ensures { IfOk result (λ starts. AreStarts schemas.now stack.now.stack starts) }
 {
-    starts_by(alloc, schemas, stack, terms, now, done)
+    starts_by(alloc, schemas, stack, terms, now, held, done)
 }
 
 /// What the forward phase may begin with, by path in byte order: the requests of each path that is ready and not done, and of
@@ -109,5 +118,9 @@ pub fn starts_of(
     requires done { AreDone stack.now.stack done.now }
     ensures { IfOk result (λ starts. AreStarts schemas.now stack.now.stack starts) }
 {
-    starts_over(alloc, schemas, stack, before, now, done)
+    let before = PlanIndex::new(alloc, before)?;
+    let now = PlanIndex::new(alloc, now)?;
+    let held = HeldIndex::new(alloc, stack.held().as_slice())?;
+    let done = NameIndex::of(alloc, done)?;
+    starts_over(alloc, schemas, stack, &before, &now, &held, &done)
 }

@@ -9,6 +9,7 @@ ghost use Rattle.cf_plan.specs.Starts.{AreOpen, start_of, starts_at, starts_in};
 
 use crate::cause::are_all_done;
 use crate::forward::Wants;
+use crate::index::{HeldIndex, NameIndex, PlanIndex};
 use crate::starts::starts_over;
 use cf_desired::{Plan, Seen, plan_by};
 use cf_schema::Schemas;
@@ -47,11 +48,7 @@ fn plan_over(alloc: Global, stack: &StackState, seen: &Seen) -> Result<Plan, All
     ensures { IfOk result (λ plan. plan ≡ plan_in stack.now.stack.going (seen_in stack.now.stack.before) seen.now) }
 {
     match stack.outset() {
-        Some(outset) => {
-            let before = seen_in(alloc, stack.before())?;
-            let shape = outset.shape(alloc, &before)?;
-            plan_by(alloc, outset.source(), &shape, seen)
-        }
+        Some(outset) => plan_by(alloc, outset.source(), outset.shape(), seen),
         None => Ok(no_plan(alloc)),
     }
 }
@@ -111,25 +108,27 @@ fn listed(alloc: Global, starts: &ByName<Wants>) -> Result<Starts, AllocError>
 }
 
 /// The requests that may begin while the forward phase has not failed.
-pub(crate) fn open_starts(
+pub(crate) fn open_starts<'a>(
     alloc: Global,
     schemas: &Schemas,
     stack: &StackState,
-    terms: &Plan,
-    now: &Plan,
-    done: &Names,
+    terms: &PlanIndex<'a>,
+    now: &PlanIndex<'a>,
+    held: &HeldIndex,
+    done: &NameIndex,
 ) -> Result<Starts, AllocError>
     requires terms { HasTerms stack.now.stack terms.now }
     requires now { now.now ≡ plan_now stack.now.stack }
+    requires held { held.now ≡ stack.now.stack.held }
     requires done { AreDone stack.now.stack done.now }
     ensures { IfOk result (λ starts. AreOpen schemas.now stack.now.stack starts) }
 {
-    let starts = starts_over(alloc, schemas, stack, terms, now, done)?;
+    let starts = starts_over(alloc, schemas, stack, terms, now, held, done)?;
     listed(alloc, &starts)
 }
 
 /// Whether all paths of the operation's template are done.
-pub(crate) fn is_all_done(stack: &StackState, terms: &Plan, done: &Names) -> bool
+pub(crate) fn is_all_done(stack: &StackState, terms: &PlanIndex, done: &NameIndex) -> bool
     requires terms { HasTerms stack.now.stack terms.now }
     requires done { AreDone stack.now.stack done.now }
     ensures { IsTrue result ↔ AllDone stack.now.stack }

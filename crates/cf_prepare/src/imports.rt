@@ -8,8 +8,8 @@ ghost use Rattle.cf_prepare.specs.Imports.{UsesJust};
 ghost use Rattle.cf_prepare.specs.Leaving.{LeavesOut, LeavesSome, Left};
 
 use crate::same::same_plan;
-use cf_desired::{Plan, Seen, plan};
-use cf_tree::{Names, Pairs, Source, Templates, Txt};
+use cf_desired::{Plan, Seen, Templates, plan};
+use cf_tree::{Names, Pairs, Source, Txt};
 use std::alloc::{AllocError, Global};
 use std::mem;
 

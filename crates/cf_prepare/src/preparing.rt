@@ -30,10 +30,11 @@ use crate::taken::test_in_use;
 use crate::wish::{Order, PrepareFault, StackFault, Wish};
 use crate::work::{Place, Worked, test_changing, work_out};
 use cf_change::ChangeSet;
+use cf_desired::Templates;
 use cf_entry::{Begun, Entry};
 use cf_schema::Schemas;
 use cf_stacks::{KeptSet, World};
-use cf_tree::{Names, Pairs, Source, Templates, Txt};
+use cf_tree::{Names, Pairs, Source, Txt};
 use std::alloc::{AllocError, Global};
 
 /// The entry that begins the next operation on a stack.

@@ -17,10 +17,10 @@ use crate::source::proposal;
 use crate::taken::{export_names, test_in_use, test_taken};
 use crate::wish::{PrepareFault, StackFault};
 use cf_change::{ChangeFault, ChangeSet, Found, HeldMap, change_set, found_of};
-use cf_desired::{Plan, plan};
+use cf_desired::{Plan, Templates, plan};
 use cf_schema::Schemas;
 use cf_stacks::World;
-use cf_tree::{Names, Pairs, Rows, Source, Templates, Txt};
+use cf_tree::{Names, Pairs, Rows, Source, Txt};
 use std::alloc::{AllocError, Global};
 
 /// What a source comes to: the imports that it uses, and what it changes.

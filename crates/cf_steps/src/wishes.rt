@@ -13,14 +13,13 @@ use crate::line::Line;
 use crate::spelled::{add_entry, add_source};
 use crate::steps::schemas_in;
 use crate::words::Words;
-use cf_desired::templates_of;
+use cf_desired::{Templates, templates_of};
 use cf_entry::Entry;
 use cf_prepare::{Order, PrepareFault, StackFault, Wish, prepare};
 use cf_schema::Schemas;
 use cf_stacks::{KeptSet, World};
 use cf_tree::{
-    Action, Attribute, Detail, Evaluation, Recreation, Replacement, Row, Rows, Source, Templates,
-    Txt,
+    Action, Attribute, Detail, Evaluation, Recreation, Replacement, Row, Rows, Source, Txt,
 };
 
 fn action_word(action: Action) -> &'static str {

@@ -10,13 +10,14 @@ ghost use Rattle.cf_top.specs.Refusals.{TestsAs, refusal_in, refusal_of, source_
 
 use crate::not_yet::is_not_yet;
 use crate::refusals::{not_yet, refused, unread};
+use cf_desired::{Shared, Templates};
 use cf_entry::Entry;
 use cf_face::{Choice, Exit};
 use cf_prepare::{Order, Wish, prepare};
 use cf_schema::Schemas;
 use cf_stacks::World;
 use cf_template::read_template;
-use cf_tree::{Bytes, Pairs, Source, Template, Templates, Texts, Txt};
+use cf_tree::{Bytes, Pairs, Source, Template, Texts, Txt};
 use std::alloc::{AllocError, Global};
 
 /// The entry with which the creation of a stack of this name begins, over a world in which none bars it, from the bytes that
@@ -111,7 +112,7 @@ fn templates_under(alloc: Global, name: &Txt, template: Template) -> Result<Temp
     let mut templates = Templates::new(alloc);
     match name.try_clone(alloc) {
         Ok(name) => {
-            templates.insert(name, template)?;
+            templates.insert(name, Shared::new(alloc, template)?)?;
             Ok(templates)
         }
         Err(failed) => {

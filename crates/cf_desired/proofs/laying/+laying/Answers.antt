@@ -1,5 +1,6 @@
 use Rattle.std.proofs.Common.{◌∙◌, ap, refl, sym}
-use Rattle.std.specs.Option.{option_copied}
+use Rattle.std.specs.Prelude.{codes}
+use Rattle.cf_tree.specs.Keys.{value_at}
 use Rattle.cf_eval.specs.Env.{scope_in}
 use Rattle.cf_desired.specs.declared.shape.Turn.TheVariants as turn
 use Rattle.cf_desired.specs.Kept.{decision_in, entering_in, entry_in, offer_in, scope_by, stack_in}
@@ -37,17 +38,17 @@ contents_of-returns-clause-contents t c =
 pub nest-returns-clause-course : goal.nest-returns-clause-course
 nest-returns-clause-course t c =
     nested_by c.args.left c.args.laying.now.source.now c.args.laying.now.seen.now (entering_in c.args.entering.now) c.args.ground.now.conds.now (scope_by c.args.ground.now)
-    c.args.course.now c.args.ids.now c.args.resource.now c.in_ok-nesting.nesting c.in_ok-try_clone.field-0 (option_copied c.property.result) c.in_ok-unnamed.unnamed
+    c.args.course.now c.args.ids.now c.args.resource c.in_ok-nesting.nesting c.in_ok-try_clone.field-0 (value_at (codes "Parameters") c.args.resource.props) c.in_ok-unnamed.unnamed
     (scope_in c.env_over-env.result) c.env_over-env.result.stack.now c.in_ok-way.way c.in_ok-laid.laid c.join.new.course c.join.result
-    c.in_ok-nesting.ensures c.in_ok-try_clone.ensures c.property.ensures c.in_ok-unnamed.ensures c.env_over-env.ensures.scope
+    c.in_ok-nesting.ensures c.in_ok-try_clone.ensures refl c.in_ok-unnamed.ensures c.env_over-env.ensures.scope
     (c.env_over-env.ensures.stack ∙ ap (λ (s : Stack). s.path) c.requires.stack) c.in_ok-way.ensures c.in_ok-laid.ensures.laid c.join.ensures
 
 pub within-returns-in-Shut-clause-laid : goal.within-returns-in-Shut-clause-laid
 within-returns-in-Shut-clause-laid t c =
-    shut_by c.args.laying.now.source.now c.args.laying.now.seen.now (entering_in c.args.entering.now) c.args.inner.nesting (option_copied c.args.inner.form) c.args.inner.resource.now c.args.left
+    shut_by c.args.laying.now.source.now c.args.laying.now.seen.now (entering_in c.args.entering.now) c.args.inner.nesting (value_at (codes "Parameters") c.args.inner.resource.props) c.args.inner.resource c.args.left
     c.args.count c.args.way c.in-Shut.flaw c.shut.result c.in-Shut.is c.shut.ensures.laid
 
 pub within-returns-in-Barred-clause-laid : goal.within-returns-in-Barred-clause-laid
 within-returns-in-Barred-clause-laid t c =
-    barred_by c.args.laying.now.source.now c.args.laying.now.seen.now (entering_in c.args.entering.now) c.args.inner.nesting (option_copied c.args.inner.form) c.args.inner.resource.now c.args.left
+    barred_by c.args.laying.now.source.now c.args.laying.now.seen.now (entering_in c.args.entering.now) c.args.inner.nesting (value_at (codes "Parameters") c.args.inner.resource.props) c.args.inner.resource c.args.left
     c.args.count c.args.way c.in-Barred.flaw c.barred.result (entry_in c.entry_of.result) c.in-Barred.is c.entry_of.ensures c.barred.ensures.laid

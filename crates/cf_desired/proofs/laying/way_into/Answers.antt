@@ -1,5 +1,6 @@
 use Rattle.std.proofs.Common.{◌≡◌, ◌∙◌, IfOk, None, true, ap, sym, subst}
-use Rattle.std.specs.Prelude.{cond}
+use Rattle.std.specs.Prelude.{codes, cond}
+use Rattle.cf_tree.specs.Keys.{value_at}
 use Rattle.cf_eval.specs.Env.{scope_in}
 use Rattle.cf_desired.specs.declared.flaw.Flaw.TheVariants as flaw
 use Rattle.cf_desired.specs.Given.{given_in}
@@ -17,11 +18,10 @@ returns-in-Named c =
     let n = c.args.count.templates in
     let k = c.args.count.members in
     let path = c.args.inner.now.nesting.path in
-    let r = c.args.inner.now.resource.now in
+    let r = c.args.inner.now.resource in
     let none : c.args.unnamed ≡ None = not_some c.args.unnamed c.in_default.not-Some in
-    let shape : has_stack_shape r ≡ true = sym c.has_stack_shape.ensures ∙ c.if-not-has_stack_shape.false in
+    let shape : has_stack_shape r ≡ true = sym c.has_shape.ensures ∙ c.if-not-has_shape.false in
     let named : url_of stack path s r ≡ url c.in-Named.name = sym c.in_ok-name.ensures ∙ ap url_in c.in-Named.is in
-    let form = sym c.requires.form in
     let whole = ap (λ o. way_by c.args.left source stack s n k path r o) none
-    ∙ (λ j. cond (shape j) (url_way c.args.left source path n k (given_in s (form j)) (named j)) (way_shut (flaw.Shape path))) in
+    ∙ (λ j. cond (shape j) (url_way c.args.left source path n k (given_in s (value_at (codes "Parameters") r.props)) (named j)) (way_shut (flaw.Shape path))) in
     subst (λ (x : Way). IfOk c.way_by_name.result (λ w. way_in w ≡ x)) (sym whole) c.way_by_name.ensures

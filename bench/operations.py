@@ -1,0 +1,135 @@
+#!/usr/bin/env python3
+"""Measures what operations cost, whole process, reading and report included: a chain, a fan and a binary tree of 100, 250
+and 500 resources, created, and created and rolled back.
+
+usage: bench/operations.py PROGRAM [MOST [MOST_BACK]]
+
+PROGRAM is the built program, MOST the greatest number of resources that are created, MOST_BACK the greatest number that
+are created and rolled back (500 each if left out; smaller numbers are left out from the top). The table has for each
+template its bytes, the instructions that the process executes, its shortest time of three runs and its peak memory; then
+for each shape how many times as many instructions the greatest takes as half of it.
+
+Instructions are counted by valgrind: the total that `valgrind --tool=callgrind` says it collected, which is every
+instruction that the process executes in user mode, from its first to its last. Other work on the machine doesn't change
+them. Where there is no valgrind the column is `-`. Times and memory are those of runs without valgrind.
+
+Every resource is a record whose value refers to the one that it needs. A creation is rolled back for an output whose index
+lies outside its list once all is made. Disk and lanes are in memory. The templates stand in a folder that is removed
+afterwards. Updates, their rollbacks, deletions and change sets are not measured, since no command of the program does
+them yet.
+"""
+import json
+import os
+import re
+import shutil
+import subprocess
+import sys
+import tempfile
+import time
+from pathlib import Path
+
+COUNTS = (100, 250, 500)
+
+RUNS = 3
+
+# What the resource of a number, above 1, needs.
+SHAPES = {
+    "chain": lambda number: number - 1,
+    "fan": lambda number: 1,
+    "tree": lambda number: number // 2,
+}
+
+# How a command ends, by whether it is rolled back.
+ENDS = {
+    False: "exit 0 Done",
+    True: 'exit 4 RolledBack Plan Eval Bad IndexOutside "" "/Outputs/O/Value"',
+}
+
+
+def record(number, need):
+    """A record, which refers to the one that it needs."""
+    value = {"Ref": f"R{need(number):04}"} if number > 1 else "first"
+    return {"Type": "Local::Records::Record", "Properties": {"Key": f"k{number}", "Value": value}}
+
+
+def template(count, need, back):
+    """A template of so many resources, as bytes of compact JSON."""
+    text = {"Resources": {f"R{number:04}": record(number, need) for number in range(1, count + 1)}}
+    if back:
+        text["Outputs"] = {"O": {"Value": {"Fn::Select": [1, [{"Ref": "R0001"}]]}}}
+    return json.dumps(text, separators=(",", ":")).encode()
+
+
+def run(words, count, back):
+    """A run, which must make all resources, or hold none; its seconds and what it printed as errors."""
+    begin = time.perf_counter()
+    ended = subprocess.run(words, stdout=subprocess.PIPE, stderr=subprocess.PIPE, check=False)
+    end = time.perf_counter()
+    lines = ended.stdout.decode().splitlines()
+    held = sum(line.startswith("resource ") for line in lines)
+    if lines[-1:] != [ENDS[back]] or held != (0 if back else count):
+        sys.exit(f"{' '.join(words)} holds {held} of {count} and ended in {lines[-1:]}")
+    return end - begin, ended.stderr.decode()
+
+
+def peak(words):
+    """The peak memory of a run in MB."""
+    child = os.fork()
+    if child == 0:
+        null = os.open(os.devnull, os.O_WRONLY)
+        os.dup2(null, 1)
+        os.dup2(null, 2)
+        os.execv(words[0], words)
+    _, _, used = os.wait4(child, 0)
+    return used.ru_maxrss / 1000
+
+
+def instructions(words, count, back, home):
+    """The instructions that a run executes, None where nothing counts them."""
+    if shutil.which("valgrind") is None:
+        return None
+    counted = ["valgrind", "--tool=callgrind", f"--callgrind-out-file={home}/counted", *words]
+    _, told = run(counted, count, back)
+    found = re.search(r"Collected : (\d+)", told)
+    return int(found.group(1)) if found else None
+
+
+def measure(program, home, counts, back):
+    """Prints the lines of the three shapes."""
+    name = "rolled back" if back else "created"
+    for shape, need in SHAPES.items():
+        taken = {}
+        for count in counts:
+            text = template(count, need, back)
+            Path(home, "templates", f"{shape}{count}").write_bytes(text)
+            words = [program, home, "1", "deploy", "s", f"{shape}{count}"]
+            least = min(run(words, count, back)[0] for _ in range(RUNS))
+            taken[count] = instructions(words, count, back, home)
+            shown = "-" if taken[count] is None else f"{taken[count] / 1e6:.1f}"
+            print(f"{name:12}{shape:6}{count:>10}{len(text):>10}{shown:>14}{least:>10.3f}{peak(words):>10.1f}", flush=True)
+        most = counts[-1] if counts else 0
+        if taken.get(most) and taken.get(most // 2):
+            ratio = taken[most] / taken[most // 2]
+            print(f"{name:12}{shape:6}{most} to {most // 2}: {ratio:.2f} times as many instructions", flush=True)
+
+
+def counts_to(most):
+    """The numbers of resources up to the greatest."""
+    return [count for count in COUNTS if count <= most]
+
+
+def main():
+    if len(sys.argv) not in (2, 3, 4):
+        sys.exit(__doc__)
+    program = os.path.abspath(sys.argv[1])
+    most, most_back = [int(word) for word in (*sys.argv[2:], *("500", "500")[len(sys.argv) - 2 :])]
+    with tempfile.TemporaryDirectory() as home:
+        Path(home, "templates").mkdir()
+        print(f"load at the start: {os.getloadavg()[0]:.1f}, processors: {os.cpu_count()}")
+        print(f"{'':12}{'shape':6}{'resources':>10}{'bytes':>10}{'million instr':>14}{'least s':>10}{'peak MB':>10}", flush=True)
+        measure(program, home, counts_to(most), False)
+        measure(program, home, counts_to(most_back), True)
+
+
+if __name__ == "__main__":
+    main()
