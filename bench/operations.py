@@ -12,6 +12,7 @@ for each shape how many times as many instructions the greatest takes as half of
 Instructions are counted by valgrind: the total that `valgrind --tool=callgrind` says it collected, which is every
 instruction that the process executes in user mode, from its first to its last. Other work on the machine doesn't change
 them. Where there is no valgrind the column is `-`. Times and memory are those of runs without valgrind.
+Peak memory below that of this script's own process, some 11 MB, is not seen.
 
 Every resource is a record whose value refers to the one that it needs. A creation is rolled back for an output whose index
 lies outside its list once all is made. Disk and lanes are in memory. The templates stand in a folder that is removed
