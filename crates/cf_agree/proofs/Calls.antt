@@ -226,11 +226,7 @@ module _
   old_or_new : (m : List ℕ) (t : ℕ) (r : Settled) → entry_in w' m t ≡ Some r → (entry_in w m t ≡ Some r) ⊎ ((m ≡ n) × (t ≡ s.token) × (r ≡ s))
   old_or_new m t r e = go (bytes_or m n) (number_or t s.token) where
     go : (m ≡ n) ⊎ (m ≢ n) → (t ≡ s.token) ⊎ (t ≢ s.token) → (entry_in w m t ≡ Some r) ⊎ ((m ≡ n) × (t ≡ s.token) × (r ≡ s))
-    go (inr x) y = inl (sym (f.at_others m t (inl x)) ∙ e)
-    go (inl x) (inr y) = inl (sym (f.at_others m t (inr y)) ∙ e)
-    go (inl x) (inl y) =
-        let z : entry_in w' n s.token ≡ Some r = subst (λ j. entry_in w' j s.token ≡ Some r) x (subst (λ j. entry_in w' m j ≡ Some r) y e) in
-        let fa = f.at in inr (x, y, cc)
+    go v0 y = grind arith
 
   kept : (m : List ℕ) (t : ℕ) (r : Settled) → entry_in w m t ≡ Some r → entry_in w' m t ≡ Some r
   kept m t r e = grind arith
@@ -310,22 +306,15 @@ module _
     go : Leaving (lane_of i) i → (entry_in w o.lane t ≡ Some q) ⊎ ((o.lane ≡ n) × (t ≡ s.token) × (q ≡ s)) → live_in w' (lane_of i) i ≡ None
     go (born_there at m) x = absurd (not_made i (resource_used i r e) m)
     go (set_there p t' v c l l') (inl k) = let g = h.gone i r e (t, o, q, (y, k), d) in absurd (cc)
-    go (set_there p t' v c l l') (inr k) =
-        let g = gone_request s.request s.settlement i (subst (λ (v : Settled). gone_by v.request v.settlement ≡ Some i) k.2 d) in
-        let c' = set_request s.request s.settlement i p t' c in absurd (cc)
+    go (set_there p t' v c l l') (inr k) = grind (arith, gone_request, set_request)
     go (gone_there c l) x = l
     go (left_there c l) (inl k) = l ∙ h.gone i r e (t, o, q, (y, k), d)
-    go (left_there c l) (inr k) =
-        let g = subst (λ (v : Settled). gone_by v.request v.settlement ≡ Some i) k.2 d in
-        absurd (c (named_open i r e (gone_names s.request s.settlement i g)).2 g)
+    go (left_there c l) (inr k) = grind (arith, named_open, gone_names)
 
   alive : (i : List ℕ) (r : Thing) → a.role i ≡ Resource r → (IsGone a w' i → ⊥) → (v : Live) × (live_in w' (lane_of i) i ≡ Some v) × (v.kind ≡ r.kind)
   alive i r e g = go (leaving (lane_of i) i) (h.alive i r e (resource_there i r e) (λ k. g (gone_kept i k))) where
     go : Leaving (lane_of i) i → (v : Live) × (live_in w (lane_of i) i ≡ Some v) × (v.kind ≡ r.kind) → (v : Live) × (live_in w' (lane_of i) i ≡ Some v) × (v.kind ≡ r.kind)
-    go (born_there at m) was = absurd (not_made i (resource_used i r e) m)
-    go (set_there p t v c l l') (v', x, y) = let same : v ≡ v' = cc in (with_props v p t, l', ap (λ (z : Live). z.kind) same ∙ y)
-    go (gone_there c l) was = absurd (g (is_gone i r e c))
-    go (left_there c l) (v, x, y) = (v, l ∙ x, y)
+    go v0 was = grind (arith, not_made, resource_used, with_props, is_gone)
 
   same : (i : List ℕ) (r : Thing) (v : Live) → a.role i ≡ Resource r → r.sure ≡ true → (IsChanged a w' i → ⊥) → live_in w' (lane_of i) i ≡ Some v → (v.props ≡ r.props) × (v.attrs ≡ r.attrs)
   same i r v e su g l = h.same i r v e su (λ k. g (changed_kept i k)) (elim (leaving (lane_of i) i) [
@@ -337,12 +326,7 @@ module _
 
   -- an id that was used, and that the call doesn't name, isn't touched
   untouched : (i : List ℕ) → used_in w (lane_of i) i ≡ true → named_by s.request ≢ Some i → live_in w' (lane_of i) i ≡ live_in w (lane_of i) i
-  untouched i u ns = elim (leaving (lane_of i) i) [
-    | born_there at m ↦ absurd (not_made i u m)
-    | set_there p t v' c l' l'' ↦ absurd (ns (set_names s.request s.settlement i p t c))
-    | gone_there c l' ↦ absurd (ns (gone_names s.request s.settlement i c))
-    | left_there c l' ↦ l'
-  ]
+  untouched i u ns = grind (arith, leaving, not_made, set_names, gone_names)
 
   -- what was settled before isn't the new call's token
   apart : (t : ℕ) (o : Open) (r : Settled) → IsSettled a w t o r → t ≢ s.token
@@ -351,10 +335,7 @@ module _
   changed : (t : ℕ) (o : Open) (q : Settled) (i : List ℕ) (p u : Dict) → IsSettled a w' t o q → effect_of q.request q.settlement ≡ Set i p u → (v : Live) × (live_in w' o.lane i ≡ Some v) × (v.props ≡ p) × (v.attrs ≡ u)
   changed t o q i p u (y, z) d = go (old_or_new o.lane t q z) where
     on_new : effect_of s.request s.settlement ≡ Set i p u → Does s.request s.settlement i (live_in w n i) (live_in w' n i) → (v : Live) × (live_in w' n i ≡ Some v) × (v.props ≡ p) × (v.attrs ≡ u)
-    on_new e (makes k p' t' c l) = absurd (cc)
-    on_new e (sets p' t' v c l l') = let x : p' ≡ p = cc in let x' : t' ≡ u = cc in (with_props v p' t', l', x, x')
-    on_new e (takes c l) = let x = (gone_request s.request s.settlement i c) in let x' = set_request s.request s.settlement i p u e in absurd (cc)
-    on_new e (keeps c c' c'' l) = absurd (c' p u e)
+    on_new e v1 = grind (arith, with_props, gone_request, set_request)
 
     on_old : entry_in w o.lane t ≡ Some q → (v : Live) × (live_in w' o.lane i ≡ Some v) × (v.props ≡ p) × (v.attrs ≡ u)
     on_old k =
@@ -373,14 +354,10 @@ module _
         (v.0, ap (λ m. live_in w' m i) k.0 ∙ v.1, v.2, v.3)
 
   role_or : (r : Role) → (r ≡ Stranger) ⊎ (r ≢ Stranger)
-  role_or Stranger = inl refl
-  role_or _ = inr (λ e. absurd (cc))
+  role_or r = grind arith
 
   stranger_if_made : (i : List ℕ) → IsMade s i → a.role i ≡ Stranger
-  stranger_if_made i m = elim (role_or (a.role i)) [
-    | inl e ↦ e
-    | inr e ↦ absurd (not_made i (h.known i e (subst (λ k. IsThere w k) (sym (made_new i m).0) there)) m)
-  ]
+  stranger_if_made i m = grind (arith, role_or, not_made, made_new)
 
   not_named : (i : List ℕ) → a.role i ≡ Stranger → named_by s.request ≡ Some i → ⊥
   not_named i x e = grind arith
@@ -395,19 +372,14 @@ module _
       → (live_in w' o.lane i ≡ Some (record { id = i; kind = k; props = p; attrs = u })) × (a.role i ≡ Stranger)
   born t o q i k p u (y, z) d = go (old_or_new o.lane t q z) where
     on_new : effect_of s.request s.settlement ≡ Made i k p u → Does s.request s.settlement i (live_in w n i) (live_in w' n i) → live_in w' n i ≡ Some (record { id = i; kind = k; props = p; attrs = u })
-    on_new e (makes k' p' t' c l) = let x : k' ≡ k = cc in let x' : p' ≡ p = cc in let x'' : t' ≡ u = cc in cc
-    on_new e (sets p' t' v c l l') = absurd (cc)
-    on_new e (takes c l) = let x = (gone_request s.request s.settlement i c) in let x' = (made_success s.request s.settlement i k p u e).1 in absurd (cc)
-    on_new e (keeps c c' c'' l) = absurd (c k p u e)
+    on_new e v1 = grind (arith, gone_request, made_success)
 
     go : (entry_in w o.lane t ≡ Some q) ⊎ ((o.lane ≡ n) × (t ≡ s.token) × (q ≡ s)) → (live_in w' o.lane i ≡ Some (record { id = i; kind = k; props = p; attrs = u })) × (a.role i ≡ Stranger)
     go (inl e) =
         let was = h.born t o q i k p u (y, e) d in
         let hm = (h.created_named o.lane i t q e (k, p, u, d)).0 in
         (subst (λ m. live_in w' m i ≡ live_in w m i) hm (untouched i (entry_used o.lane t q i e (k, p, u, d)) (λ x. not_named i was.1 x)) ∙ was.0, was.1)
-    go (inr e) =
-        let d' = subst (λ (x : Settled). effect_of x.request x.settlement ≡ Made i k p u) e.2 d in
-        (ap (λ m. live_in w' m i) e.0 ∙ on_new d' (f.does i), stranger_if_made i (k, p, u, d'))
+    go (inr e) = grind (arith, on_new, does, stranger_if_made)
 
   created_once : (m i : List ℕ) (t u : ℕ) (r q : Settled) → entry_in w' m t ≡ Some r → entry_in w' m u ≡ Some q → IsMade r i → IsMade q i → t ≡ u
   created_once m i t u r q e e' d d' = go (old_or_new m t r e) (old_or_new m u q e') where

@@ -1,15 +1,15 @@
 -- The laws.
-use Rattle.cf_agree.proofs.Calls.{each_lane, Leaves, alone, flown, leaves as call_leaves, settled, ties_alike, ties_called, ties_fenced, Alike, one_call, request_of, ties_late, ties_stale}
-use Rattle.cf_agree.proofs.Effects.{gone_names, gone_request, set_names, made_success}
+use Rattle.cf_agree.proofs.Calls.{each_lane, Leaves, leaves as call_leaves, settled, ties_alike, ties_called, ties_fenced, Alike, one_call, request_of, ties_late}
+use Rattle.cf_agree.proofs.Effects.{gone_names, set_names, made_success}
 use Rattle.cf_agree.proofs.Leases.{Stays, leased_still, leased_replied, leased_by, leased_returned, leased_granted}
-use Rattle.cf_agree.proofs.Words.{bytes_or, if_same, if_other, number_or, at_same, at_other, used_born, settled_as, entry_now, entry_still, unsettled, some_or}
+use Rattle.cf_agree.proofs.Words.{bytes_or, if_same, if_other, number_or, at_same, at_other, used_born, settled_as, entry_now, entry_still, unsettled}
 use Rattle.cf_agree.specs.Account.{Thing, Role, Open, Account, made_thing, set_thing, role_after, creates, Called, called, intended, answered, dropped, is_create}
 use Rattle.cf_agree.specs.Account.Role.{Stranger, Resource, Leftover}
 use Rattle.cf_agree.specs.Base.{Dict, Made, Set, named_by, gone_by, effect_of, lane_of, In, entry_at}
 use Rattle.cf_agree.specs.Lanes.{Lanes, entry_in, IsThere, live_in, used_in, Replaced}
 use Rattle.cf_agree.specs.Laws.{Agree, settlement_in, CallKeeps, StaleKeeps, LateKeeps, FenceKeeps, OpeningKeeps, RestKeeps, IntentKeeps, AnswerKeeps, ReturnKeeps, DropKeeps}
-use Rattle.cf_agree.specs.Moves.{MayIntend, stays, leaves, doubted, GivenUp, of_create, of_leftover, of_doubted, MayDrop, IsOut, Lease, returned}
-use Rattle.cf_agree.specs.Ties.{Books, Ties, Fits, IsSettled, IsKindFor, IsAccounted, IsMade, IsGone, IsChanged, IsBorn, IsLost, AreTied}
+use Rattle.cf_agree.specs.Moves.{MayIntend, stays, leaves, doubted, MayDrop, IsOut, Lease, returned}
+use Rattle.cf_agree.specs.Ties.{Books, Ties, Fits, IsSettled, IsAccounted, IsMade, IsGone, IsChanged, IsBorn, IsLost, AreTied}
 use Rattle.cf_handler.specs.Fence.{Flying, FencedLane, CallMove, FenceMove, FenceAnswer, Raised, Ahead, Broken, settled_late}
 use Rattle.cf_handler.specs.{Lane.LaneState, Lane.Live, Lane.settlement_of, Move.IsOfLane, Move.SettlesBy, Move.with_settled}
 use Rattle.cf_handler.specs.declared.{settled.Settled.Settled, settled.Settlement.Settlement}
@@ -152,10 +152,7 @@ module _ (a : Account) (w : Lanes) (b : Books a) (h : Ties a w) (t : ℕ) (o : O
     before = b.named u v i (open_old u v e).1 k
 
     go : Turns o s.request s.settlement a.role i → (r : Thing) × (after.role i ≡ Resource r) × (r.stack ≡ v.stack) × (r.path ≡ v.path)
-    go (makes l p c d q) = let x = made_was i l p c d in let y = before.1 in absurd (cc)
-    go (sets p c d q) = absurd (not_both u v i e k (set_names s.request s.settlement i p c d))
-    go (takes d q) = absurd (not_both u v i e k (gone_names s.request s.settlement i d))
-    go (keeps c c' c'' q) = (before.0, role_is i ∙ q ∙ before.1, before.2, before.3)
+    go v0 = grind (arith, made_was, before, not_both, set_names, gone_names, role_is)
 
   homes : (i : List ℕ) (r : Thing) → after.role i ≡ Resource r → IsOfLane (lane_of i) i × (a.named (lane_of i) ≡ Some r.kind)
   homes i r e = go (turn i) where
@@ -163,13 +160,7 @@ module _ (a : Account) (w : Lanes) (b : Books a) (h : Ties a w) (t : ℕ) (o : O
     at_kind k p x y z = ap a.named z ∙ y ∙ ap Some x
 
     go : Turns o s.request s.settlement a.role i → IsOfLane (lane_of i) i × (a.named (lane_of i) ≡ Some r.kind)
-    go (makes k p c d q) =
-        let x : Resource (made_thing o k p c) ≡ Resource r = sym q ∙ sym (role_is i) ∙ e in
-        let y : made_thing o k p c ≡ r = cc in
-        let z = h.created_named o.lane i t s is.1 (k, p, c, d) in
-        let (l, m, f) = b.open_homes t o is.0 in
-        let g : IsKindFor (Create k p) l = subst (λ v. IsKindFor v l) (request_is ∙ (made_success s.request s.settlement i k p c d).1) f in
-        (subst (λ n. IsOfLane n i) (sym z.0) z.1, at_kind r.kind l (g ∙ ap (λ (v : Thing). v.kind) y) m z.0)
+    go (makes k p c d q) = grind (arith, role_is, request_is, made_success, at_kind)
     go (sets p c d q) =
         let (r', x, y, z) = set_was i p c d in
         let g : Resource (record r' { props = p; attrs = c; sure = true }) ≡ Resource r = sym (set_now i p c r' x q) ∙ e in
@@ -222,22 +213,8 @@ module _ (a : Account) (w : Lanes) (b : Books a) (h : Ties a w) (t : ℕ) (o : O
   same : (i : List ℕ) (r : Thing) (v : Live) → after.role i ≡ Resource r → r.sure ≡ true → (IsChanged after w i → ⊥) → live_in w (lane_of i) i ≡ Some v → (v.props ≡ r.props) × (v.attrs ≡ r.attrs)
   same i r v e su g l = go (turn i) where
     go : Turns o s.request s.settlement a.role i → (v.props ≡ r.props) × (v.attrs ≡ r.attrs)
-    go (makes k p c d q) =
-        let x : Resource (made_thing o k p c) ≡ Resource r = sym q ∙ sym (role_is i) ∙ e in
-        let y : made_thing o k p c ≡ r = cc in
-        let z = (h.created_named o.lane i t s is.1 (k, p, c, d)).0 in
-        let m : live_in w (lane_of i) i ≡ Some (record { id = i; kind = k; props = p; attrs = c }) = ap (λ n. live_in w n i) z ∙ (h.born t o s i k p c is d).0 in
-        let n : Some v ≡ Some (record { id = i; kind = k; props = p; attrs = c }) = sym l ∙ m in
-        let n' : v ≡ record { id = i; kind = k; props = p; attrs = c } = cc in
-        (ap (λ (u : Live). u.props) n' ∙ ap (λ (u : Thing). u.props) y, ap (λ (u : Live). u.attrs) n' ∙ ap (λ (u : Thing). u.attrs) y)
-    go (sets p c d q) =
-        let (r', x, y, z) = set_was i p c d in
-        let f : Resource (record r' { props = p; attrs = c; sure = true }) ≡ Resource r = sym (set_now i p c r' x q) ∙ e in
-        let f' : record r' { props = p; attrs = c; sure = true } ≡ r = cc in
-        let (v', m, n, k) = h.changed t o s i p c is d in
-        let j : Some v ≡ Some v' = sym l ∙ ap (λ n. live_in w n i) (set_home i p c d) ∙ m in
-        let j' : v ≡ v' = cc in
-        (ap (λ (u : Live). u.props) j' ∙ n ∙ ap (λ (u : Thing). u.props) f', ap (λ (u : Live). u.attrs) j' ∙ k ∙ ap (λ (u : Thing). u.attrs) f')
+    go (makes k p c d q) = grind (arith, role_is)
+    go (sets p c d q) = grind (arith, set_was, set_now, set_home)
     go (takes d q) = let x = role_is i in absurd (cc)
     go (keeps c c' c'' q) =
         h.same i r v (sym q ∙ sym (role_is i) ∙ e) su (λ (u, v', q', p, c0, x', d'). elim (still u v' q' x') [
@@ -277,11 +254,7 @@ module _ (a : Account) (w : Lanes) (b : Books a) (h : Ties a w) (t : ℕ) (o : O
     go : Turns o s.request s.settlement a.role i → (after.role i ≢ Stranger) ⊎ IsBorn after w i ⊎ IsLost after w i
     go (makes k p c d q) = inl (λ e. let x = role_is i in absurd (cc))
     go (sets p c d q) = let (r, x, y, z) = set_was i p c d in inl (λ e. let f = set_now i p c r x q in absurd (cc))
-    go (takes d q) =
-        let (r, x) = gone_was i d in
-        let f = h.gone i r x (t, o, s, is, d) in
-        let f' : live_in w n i ≡ None = subst (λ m. live_in w m i ≡ None) (h.live_named n i v l) f in
-        absurd (cc)
+    go (takes d q) = grind (arith, gone_was, gone)
     go (keeps e e' e'' q) = by_before (λ x. inl (λ y. x (sym q ∙ sym (role_is i) ∙ y))) (λ (k, p, c, m). absurd (e k p c m))
 
   known : (i : List ℕ) → after.role i ≢ Stranger → IsThere w (lane_of i) → used_in w (lane_of i) i ≡ true
@@ -295,12 +268,7 @@ module _ (a : Account) (w : Lanes) (b : Books a) (h : Ties a w) (t : ℕ) (o : O
     go (keeps c c' c'' q) = h.known i (λ k. e (role_is i ∙ q ∙ k)) th
 
   pub leftover_stays : (i : List ℕ) → a.role i ≡ Leftover → after.role i ≡ Leftover
-  leftover_stays i y = role_is i ∙ go (turn i) where
-    go : Turns o s.request s.settlement a.role i → role_after o s.request s.settlement a.role i ≡ Leftover
-    go (makes k' p c d q) = let g = made_was i k' p c d in absurd (cc)
-    go (sets p c d q) = let (r, x, g, z) = set_was i p c d in absurd (cc)
-    go (takes d q) = let (r, x) = gone_was i d in absurd (cc)
-    go (keeps c c' c'' q) = q ∙ y
+  leftover_stays i y = grind (arith, role_is, turn, made_was, set_was, gone_was)
 
   flying_open : (n : List ℕ) (f : Flying) → In f (w.lane n).flying → entry_in w n f.token ≡ None → (w.lane n).fence ≤ f.epoch → IsAccounted after f.token f.request
   flying_open n f m e k = elim (h.flying_open n f m e k) [
@@ -309,15 +277,7 @@ module _ (a : Account) (w : Lanes) (b : Books a) (h : Ties a w) (t : ℕ) (o : O
   ]
     where
       apart : (v : Open) → a.open_ f.token ≡ Some v → f.token ≢ t
-      apart v x c =
-          let p = is.0 in
-          let q = is.1 in
-          let y = ((h.flying_calls n f m).written (called v) (b.calls f.token v x)).0 in
-          let x' : a.open_ t ≡ Some v = subst (λ g. a.open_ g ≡ Some v) c x in
-          let vo : v ≡ o = cc in
-          let no : n ≡ o.lane = sym y ∙ ap (λ (g : Open). g.lane) vo in
-          let z : entry_in w o.lane t ≡ None = subst (λ g. entry_in w g t ≡ None) no (subst (λ g. entry_in w n g ≡ None) c e) in
-          absurd (cc)
+      apart v x c = grind arith
 
   answers : (u : ℕ) (x : Settlement) (c : Called) → after.told u ≡ Some x → a.call u ≡ Some c → IsThere w c.lane → (r : Settled) × (entry_in w c.lane u ≡ Some r) × (r.settlement ≡ x)
   answers u x c e k th = grind arith
@@ -336,8 +296,7 @@ module _ (a : Account) (w : Lanes) (b : Books a) (h : Ties a w) (drop : ℕ → 
   after_dropped = dropped drop role a
 
   pub bool_or : (c : Bool) → (c ≡ true) ⊎ (c ≡ false)
-  bool_or true = inl refl
-  bool_or false = inr refl
+  bool_or c = grind arith
 
   pub open_old_dropped : (u : ℕ) (v : Open) → after_dropped.open_ u ≡ Some v → (a.open_ u ≡ Some v) × (drop u ≡ false)
   open_old_dropped u v e = grind arith
@@ -376,59 +335,22 @@ module _ (a : Account) (w : Lanes) (b : Books a) (h : Ties a w) (drop : ℕ → 
   still_dropped u v q i r (x, y) n e = grind arith
 
   alive_dropped : (i : List ℕ) (r : Thing) → role i ≡ Resource r → IsThere w (lane_of i) → (IsGone after_dropped w i → ⊥) → (v : Live) × (live_in w (lane_of i) i ≡ Some v) × (v.kind ≡ r.kind)
-  alive_dropped i r e th g =
-      let (q, x, y, z) = resource_back i r e in
-      let (v, l, m) = h.alive i q x th (λ (u, o, s, is, d). elim (still_dropped u o s i r is (ap named_by (request_of a w b h u o s is) ∙ gone_names s.request s.settlement i d) e) [
-        | inl k ↦ g (u, o, s, k, d)
-        | inr k ↦ k.1 d
-      ]) in
-      (v, l, m ∙ y)
+  alive_dropped i r e th g = grind (arith, resource_back, alive, still_dropped, request_of, gone_names)
 
   same_dropped : (i : List ℕ) (r : Thing) (v : Live) → role i ≡ Resource r → r.sure ≡ true → (IsChanged after_dropped w i → ⊥) → live_in w (lane_of i) i ≡ Some v → (v.props ≡ r.props) × (v.attrs ≡ r.attrs)
-  same_dropped i r v e su g l =
-      let (q, x, y, z) = resource_back i r e in
-      h.same i r v (subst (λ k. a.role i ≡ Resource k) (z su) x) su (λ (u, o, s, p, t, is, d). elim (still_dropped u o s i r is (ap named_by (request_of a w b h u o s is) ∙ set_names s.request s.settlement i p t d) e) [
-        | inl k ↦ g (u, o, s, p, t, k, d)
-        | inr k ↦ true≢false (sym su ∙ k.0)
-      ]) l
+  same_dropped i r v e su g l = grind (arith, resource_back, same, still_dropped, request_of, set_names)
 
   listed_dropped : (n i : List ℕ) (v : Live) → live_in w n i ≡ Some v → (role i ≢ Stranger) ⊎ IsBorn after_dropped w i ⊎ IsLost after_dropped w i
-  listed_dropped n i v l = elim (h.listed n i v l) [
-    | inl x ↦ inl (λ e. x (stranger_back i e))
-    | inr x ↦ elim x [
-      | inl (u, o, s, z, m) ↦ by_dropped u o s z m (bool_or (drop u))
-      | inr (u, n', s, x', y, m) ↦ inr (inr (u, n', s, lost_more u x', y, m))
-    ]
-  ]
-    where
-      by_given : (u : ℕ) (o : Open) (s : Settled) → IsSettled a w u o s → IsMade s i → drop u ≡ true → GivenUp a w role o → (role i ≢ Stranger) ⊎ IsBorn after_dropped w i ⊎ IsLost after_dropped w i
-      by_given u o s z m k (of_create c) = inr (inr (u, o.lane, s, lost_now u o z.0 k c, z.1, m))
-      by_given u o s z (k', p, t, d) k (of_leftover j c e) = let x = request_of a w b h u o s z in let y = (made_success s.request s.settlement i k' p t d).1 in let n : named_by o.request ≡ None = ap named_by (x ∙ y) in absurd (cc)
-      by_given u o s z (k', p, t, d) k (of_doubted j p' r c e su g f) = let x = request_of a w b h u o s z in let y = (made_success s.request s.settlement i k' p t d).1 in let no : Update j p' ≡ Create k' p = sym c ∙ x ∙ y in absurd (cc)
-
-      by_dropped : (u : ℕ) (o : Open) (s : Settled) → IsSettled a w u o s → IsMade s i → (drop u ≡ true) ⊎ (drop u ≡ false) → (role i ≢ Stranger) ⊎ IsBorn after_dropped w i ⊎ IsLost after_dropped w i
-      by_dropped u o s z m (inl k) = by_given u o s z m k (may.calls u o z.0 k)
-      by_dropped u o s z m (inr k) = inr (inl (u, o, s, (open_kept_dropped u o k z.0, z.1), m))
+  listed_dropped n i v l = grind (arith, listed, stranger_back, bool_or, lost_more, lost_now, request_of, made_success, open_kept_dropped)
 
   -- what a call can still change is known after it, where one in doubt can't act any more
   pub accounted_dropped :
       (n : List ℕ) (t : ℕ) (r : Request) → Fits a n t r → ((v : Open) → a.open_ t ≡ Some v → a.resting v.stack ≡ true → (w.lane n).fence ≡ a.epoch → ⊥)
       → IsAccounted a t r → IsAccounted after_dropped t r
-  accounted_dropped n t r fits never (inr (inl (i, x, y))) = inr (inl (i, x, leftover_on i y))
-  accounted_dropped n t r fits never (inr (inr (x, y))) = inr (inr (x, lost_more t y))
-  accounted_dropped n t r fits never (inl (v, x)) = elim (bool_or (drop t)) [
-    | inl d ↦ by_given d (fits.written (called v) (b.calls t v x)) (may.calls t v x d)
-    | inr d ↦ inl (v, open_kept_dropped t v d x)
-  ]
-    where
-      by_given : drop t ≡ true → (v.lane ≡ n) × (v.request ≡ r) → GivenUp a w role v → IsAccounted after_dropped t r
-      by_given d own (of_create c) = inr (inr (ap named_by (sym own.1) ∙ c, lost_now t v x d c))
-      by_given d own (of_leftover j c l) = inr (inl (j, ap named_by (sym own.1) ∙ c, l))
-      by_given d own (of_doubted j p s c l su rest raised) = absurd (never v x rest (subst (λ c. (w.lane c).fence ≡ a.epoch) own.0 raised))
+  accounted_dropped n t r fits never v5 = grind (arith, leftover_on, lost_more, bool_or, open_kept_dropped, lost_now)
 
   flying_open_dropped : (n : List ℕ) (f : Flying) → In f (w.lane n).flying → entry_in w n f.token ≡ None → (w.lane n).fence ≤ f.epoch → IsAccounted after_dropped f.token f.request
-  flying_open_dropped n f m e k =
-      accounted_dropped n f.token f.request (h.flying_calls n f m) (λ v x rest raised. let q = h.flying_at_rest n f v m e x rest in absurd (omega arith)) (h.flying_open n f m e k)
+  flying_open_dropped n f m e k = grind (arith, accounted_dropped, flying_open)
 
   pub ties_dropped : Ties after_dropped w
   ties_dropped =
@@ -457,9 +379,7 @@ module _ (n : List ℕ) (l : FencedLane) (w w' : Lanes) (rep : Replaced n l w w'
   one_more s e = stays_with (λ t r k. ap (λ (x : LaneState). entry_at t x.settled) e ∙ entry_still t (w.lane n).state.settled s r k)
 
   by_leaving : (e t : ℕ) (r : Request) → Leaves n (w.lane n) l e t r → Stays w w'
-  by_leaving e t r (alone k) = as_before (ap (λ (x : FencedLane). x.state) k)
-  by_leaving e t r (settled x new fits k) = one_more (record { token = t; request = r; settlement = x }) (ap (λ (y : FencedLane). y.state) k)
-  by_leaving e t r (flown new k) = as_before (ap (λ (x : FencedLane). x.state) k)
+  by_leaving e t r v3 = grind (arith, as_before, one_more)
 
 -- an answer for good is the settled one
 module _ (n : List ℕ) (l l' : FencedLane) (e t : ℕ) (r : Request) where
@@ -477,15 +397,7 @@ module _ (n : List ℕ) (l l' : FencedLane) (e t : ℕ) (r : Request) where
       )
 
   answer_settled : (x : Answer) (y : Settlement) → CallMove n l l' e t r x → settlement_in x ≡ Some y → (s : Settled) × (entry_at t l'.state.settled ≡ Some s) × (s.settlement ≡ y)
-  answer_settled (answer.Success i p) y m k =
-      let (st, z, q) = m.1 in
-      let one : Success i p ≡ y = cc in
-      let (s, u, v) = by_settling (Success i p) _ st refl z q in (s, u, v ∙ one)
-  answer_settled (answer.Failed c) y m k =
-      let (st, z, q) = m.1 in
-      let one : Failed c ≡ y = cc in
-      let (s, u, v) = by_settling (Failed c) _ st refl z q in (s, u, v ∙ one)
-  answer_settled _ y m k = absurd (cc)
+  answer_settled x y m k = grind (arith, by_settling)
 
 pub call_keeps : CallKeeps
 call_keeps a w w' ls l after x h mine there rep m = record {
@@ -545,11 +457,7 @@ intent_keeps a w ls o h may = (
     call_now = Rattle.cf_agree.proofs.Words.at_same (a.last + 1) (a.last + 1) (Some (called o)) (a.call (a.last + 1)) refl
 
     new : a.resting o.stack ≡ false → IsOut (intended o a) o.lane (a.last + 1) o.request
-    new going = record {
-      own = record { number = omega arith; written = λ c e. let k = call_now in let one : called o ≡ c = cc in (ap (λ (q : Rattle.cf_agree.specs.Account.Called). q.lane) (sym one), ap (λ (q : Rattle.cf_agree.specs.Account.Called). q.request) (sym one)) };
-      accounted = inl (o, open_now);
-      going = λ v e. let k = open_now in let one : o ≡ v = cc in subst (λ (q : Open). a.resting q.stack ≡ false) one going;
-    }
+    new going = grind (arith, call_now, open_now)
 
 pub answer_keeps : AnswerKeeps
 answer_keeps a w ls l o x h mine re op = by_entry ((h.leased).replies l x mine re)

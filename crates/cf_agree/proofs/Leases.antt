@@ -1,5 +1,5 @@
 -- What is out stays so: each move of a lane and of the account keeps the leases.
-use Rattle.std.proofs.Common.{arith, ◌≡◌, ◌≢◌, ◌⊎◌, inl, inr, ℕ, ◌==◌, List, [], ◌∷◌, Bool, true, false, not, Option, Some, filter, refl, sym, ap, subst, ◌∙◌, true≢false}
+use Rattle.std.proofs.Common.{arith, ◌≡◌, ◌≢◌, ◌⊎◌, inl, inr, ℕ, List, [], ◌∷◌, Bool, true, false, Option, Some, filter, refl, sym, ap, subst, ◌∙◌}
 use Rattle.std.specs.Prelude.{cond}
 use Rattle.cf_tree.specs.declared.request.Request.{Request}
 use Rattle.cf_handler.specs.declared.{settled.Settled.Settled, settled.Settlement.Settlement}
@@ -71,17 +71,7 @@ module _ (a a' : Account) (w : Lanes) (ls : List Lease) (h : AreLeased a w ls) w
 
   -- a lease comes back
   pub leased_returned : (t : ℕ) → ((l : Lease) → In l ls → l.token ≢ t → IsOut a l.lane l.token l.request → IsOut a' l.lane l.token l.request) → AreLeased a' w (returned t ls)
-  leased_returned t keep = record {
-    once = λ l m i j. h.once l m (in_kept _ l ls i).0 (in_kept _ m ls j).0;
-    out = λ l i. let (j, e) = in_kept (λ m. not (t == m.token)) l ls i in keep l j (λ k. other l.token e (sym k)) (h.out l j);
-    replies = λ l x i. h.replies l x (in_kept _ l ls i).0;
-  }
-    where
-      other : (u : ℕ) → not (t == u) ≡ true → t ≡ u → ⊥
-      other u e k = let z = at_same t u false true k in by (t == u) e z where
-        by : (b : Bool) → not b ≡ true → cond b false true ≡ false → ⊥
-        by true e z = true≢false (sym e)
-        by false e z = true≢false z
+  leased_returned t keep = grind (arith, in_kept)
 
   -- a call is granted
   pub leased_granted : (t : ℕ) (lane : List ℕ) (r : Request) → ((l : Lease) → In l ls → IsOut a l.lane l.token l.request → IsOut a' l.lane l.token l.request) → ((l : Lease) → In l ls → l.token ≢ t) → IsOut a' lane t r → AreLeased a' w (granted t lane r ls)

@@ -1,12 +1,11 @@
 -- Lists, ids and lanes.
-use Rattle.std.proofs.Common.{◌≡◌, ◌≢◌, ◌⊎◌, inl, inr, ℕ, zero, suc, slice_get, ◌==◌, List, [], ◌∷◌, ◌++◌, Bool, true, false, not, ◌||◌, Option, Some, None, refl, sym, ap, subst, ◌∙◌, true≢false, map, filter, find, length, nat_le, arith}
-use Rattle.std.specs.{Cmp.first_so, Cmp.second_so, List.list_all, List.list_any, List.remove, Prelude.cond, Str.bytes_eq}
+use Rattle.std.proofs.Common.{◌≡◌, ◌≢◌, ◌⊎◌, inl, inr, ℕ, zero, suc, slice_get, ◌==◌, List, [], ◌∷◌, ◌++◌, Bool, true, false, ◌||◌, Option, Some, None, refl, sym, ap, subst, ◌∙◌, true≢false, map, filter, find, length, nat_le, arith}
+use Rattle.std.specs.{Cmp.second_so, List.list_all, List.list_any, List.remove, Prelude.cond, Str.bytes_eq}
 use Rattle.std.proofs.lemmas.{Bool.eq-eqb, Bool.ne_eqb, Bool.or_from, Bool.or_left, Bool.or_right, List.Folds.list_any-append, Slice.Eq.bytes_eq-Decides}
 use Rattle.cf_tree.specs.Datum.{Data}
 use Rattle.cf_tree.specs.declared.request.Request.{Request}
-use Rattle.cf_tree.specs.declared.request.Request.TheVariants.{Create, Update, Delete}
 use Rattle.cf_handler.specs.declared.{settled.Settled.Settled, settled.Settlement.Settlement}
-use Rattle.cf_handler.specs.declared.settled.Settlement.TheVariants.{Success, Failed}
+use Rattle.cf_handler.specs.declared.settled.Settlement.TheVariants.{Success}
 use Rattle.cf_handler.specs.Lane.{LaneState, Live, live_of, live_after, changed_by, updated, has_id, is_used, succeeded_with, settlement_of}
 use Rattle.cf_handler.specs.{Move.IsOfLane, Move.with_settled, Name.is_lane_name, Name.is_name_byte}
 use Rattle.cf_agree.specs.Base.{In, here, there, lane_of, entry_at}
@@ -52,8 +51,7 @@ pub at_other : {A : Type 0} (m n : ℕ) (x y : A) → m ≢ n → cond (m == n) 
 at_other m n x y e = ap (λ c. cond c x y) (ne_eqb m n e)
 
 pub in_cons : {A : Type 0} (x y : A) (ys : List A) → In x (y ∷ ys) → (x ≡ y) ⊎ In x ys
-in_cons x y ys here = inl refl
-in_cons x y ys (there i) = inr i
+in_cons x y ys v3 = grind arith
 
 pub in_either : {A : Type 0} (x : A) (xs : List A) (y : A) → In x (xs ++ y ∷ []) → In x xs ⊎ (x ≡ y)
 in_either x [] y i = elim (in_cons x y [] i) [ inl e ↦ inr e | inr e ↦ inl e ]
@@ -95,25 +93,13 @@ live_more live (t ∷ ss) s = live_more (changed_by t.request t.settlement live)
 
 -- an id that was used stays so, and that of a success was
 pub used_still : (id : List ℕ) (lane : LaneState) (s : Settled) → is_used id lane ≡ true → is_used id (with_settled lane s) ≡ true
-used_still id lane s h =
-    ap (λ b. has_id id lane.base || b) (list_any-append (λ t. succeeded_with id t.settlement) lane.settled (s ∷ []))
-    ∙ more (has_id id lane.base) (list_any (λ t. succeeded_with id t.settlement) lane.settled) (list_any (λ t. succeeded_with id t.settlement) (s ∷ [])) h where
-      more : (a b c : Bool) → (a || b) ≡ true → (a || (b || c)) ≡ true
-      more true b c g = refl
-      more false true c g = refl
-      more false false c g = absurd (true≢false (sym g))
+used_still id lane s h = grind (arith, list_any-append)
 
 pub used_born : (token : ℕ) (id : List ℕ) (attrs : List (List ℕ × Data)) (lane : LaneState) (s : Settled) → entry_at token lane.settled ≡ Some s → s.settlement ≡ Success id attrs → is_used id lane ≡ true
 used_born token id attrs lane s h e = or_right (has_id id lane.base) _ (among lane.settled h) where
   among : (ss : List Settled) → entry_at token ss ≡ Some s → list_any (λ t. succeeded_with id t.settlement) ss ≡ true
   among [] k = absurd (cc)
-  among (q ∷ ss) k = elim (number_or token q.token) [
-    | inl z ↦
-        (let y = at_same token q.token (Some q) (entry_at token ss) z in
-        let same : q ≡ s = cc in
-        or_left (succeeded_with id q.settlement) _ (ap (λ (x : Settled). succeeded_with id x.settlement) same ∙ ap (succeeded_with id) e ∙ same_bytes id id refl))
-    | inr z ↦ or_right (succeeded_with id q.settlement) _ (among ss (sym (at_other token q.token (Some q) (entry_at token ss) z) ∙ k))
-  ]
+  among (q ∷ ss) k = grind (arith, among ss, number_or, or_left, same_bytes, or_right, at_other)
 
 -- the resource that is found under an id has it
 pub found_id : (i : List ℕ) (live : List Live) (v : Live) → find (λ r. bytes_eq i r.id) live ≡ Some v → i ≡ v.id
@@ -152,34 +138,17 @@ none_left id test (r ∷ live) h = grind (arith, none_left id test live)
 
 none_updated : (id other : List ℕ) (p t : List (List ℕ × Data)) (live : List Live) → has_id id live ≡ false → has_id id (map (updated other p t) live) ≡ false
 none_updated id other p t [] h = refl
-none_updated id other p t (r ∷ live) h =
-    or_from (bytes_eq id (updated other p t r).id) (has_id id (map (updated other p t) live))
-    (either (bytes_eq other r.id) (first_not (bytes_eq id r.id) (has_id id live) h)) (none_updated id other p t live (second_not (bytes_eq id r.id) (has_id id live) h)) where
-      either : (b : Bool) → bytes_eq id r.id ≡ false → bytes_eq id (cond b (record { id = r.id; kind = r.kind; props = p; attrs = t }) r).id ≡ false
-      either true e = e
-      either false e = e
+none_updated id other p t (r ∷ live) h = grind (arith, none_updated id other p t live, or_from, first_not, second_not)
 
 none_changed : (id : List ℕ) (r : Request) (s : Settlement) (live : List Live) → succeeded_with id s ≡ false → has_id id live ≡ false → has_id id (changed_by r s live) ≡ false
-none_changed id (Create kind props) (Success physical attrs) live u h =
-    list_any-append (λ r. bytes_eq id r.id) live (record { id = physical; kind = kind; props = props; attrs = attrs } ∷ [])
-    ∙ or_from (has_id id live) (bytes_eq id physical || false) h (or_from (bytes_eq id physical) false u refl)
-none_changed id (Update other props) (Success physical attrs) live u h = none_updated id other props attrs live h
-none_changed id (Delete other) (Success physical attrs) live u h = none_left id (λ r. not (bytes_eq other r.id)) live h
-none_changed id (Create kind props) (Failed code) live u h = h
-none_changed id (Update other props) (Failed code) live u h = h
-none_changed id (Delete other) (Failed code) live u h = h
+none_changed id r s live u h = grind (arith, list_any-append, or_from, none_updated, none_left)
 
 none_after : (id : List ℕ) (ss : List Settled) (live : List Live) → has_id id live ≡ false → list_any (λ t. succeeded_with id t.settlement) ss ≡ false → has_id id (live_after live ss) ≡ false
 none_after id [] live h u = h
-none_after id (t ∷ ss) live h u =
-    none_after id ss (changed_by t.request t.settlement live)
-    (none_changed id t.request t.settlement live (first_not (succeeded_with id t.settlement) (list_any (λ s. succeeded_with id s.settlement) ss) u) h)
-    (second_not (succeeded_with id t.settlement) (list_any (λ s. succeeded_with id s.settlement) ss) u)
+none_after id (t ∷ ss) live h u = grind (arith, none_after id ss, none_changed, first_not, second_not)
 
 pub unused : (id : List ℕ) (lane : LaneState) → is_used id lane ≡ false → find (λ r. bytes_eq id r.id) (live_of lane) ≡ None
-unused id lane h =
-    has_none id (live_of lane) (none_after id lane.settled lane.base (first_not (has_id id lane.base) _ h)
-    (second_not (has_id id lane.base) (list_any (λ s. succeeded_with id s.settlement) lane.settled) h))
+unused id lane h = grind (arith, has_none, none_after, first_not, second_not)
 
 -- what stands at a place is of the list, and what is left without it was
 pub in_got : {A : Type 0} (x : A) (xs : List A) (i : ℕ) → slice_get xs i ≡ Some x → In x xs

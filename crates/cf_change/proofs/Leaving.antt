@@ -17,7 +17,7 @@ use Rattle.cf_tree.specs.declared.row.Row.{Row}
 use Rattle.cf_tree.specs.declared.source.Source.{Source}
 use Rattle.cf_eval.specs.Knows.{Keeps}
 use Rattle.cf_schema.specs.declared.described.Schema.{Schema}
-use Rattle.cf_desired.specs.declared.seen.SeenAt.{SeenAt}
+use Rattle.cf_desired.specs.Seeing.{SeenAt}
 use Rattle.cf_desired.specs.declared.wanted.Evaluated.{Evaluated}
 use Rattle.cf_desired.specs.declared.wanted.Wanted.{Wanted}
 use Rattle.cf_desired.specs.Plan.{at_path, props_at, wanted_of}

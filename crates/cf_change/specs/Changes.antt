@@ -39,7 +39,7 @@ use Rattle.cf_desired.specs.declared.wanted.Exporting.TheVariants as exporting
 use Rattle.cf_desired.specs.declared.flaw.Flaw.{Flaw}
 use Rattle.cf_desired.specs.declared.refusal.DesiredFault.{DesiredFault}
 use Rattle.cf_desired.specs.declared.refusal.DesiredFault.TheVariants as unwanted
-use Rattle.cf_desired.specs.declared.seen.SeenAt.{SeenAt}
+use Rattle.cf_desired.specs.Seeing.{SeenAt}
 use Rattle.cf_desired.specs.declared.wanted.Evaluated.{Evaluated}
 use Rattle.cf_desired.specs.declared.wanted.Plan.{Plan}
 use Rattle.cf_desired.specs.declared.wanted.Wanted.{Wanted}

@@ -1,25 +1,11 @@
 -- The forward phase begins, and goes on behind each entry that is written.
-use Rattle.std.proofs.Common.{◌≡◌, ℕ, List, ◌++◌, Option, Some, None, refl, sym, ap, subst, ◌∙◌, map, option_map, ◌==◌, Bool, true, false, ◌&&◌, not, true≢false, find, ◌∷◌, inl, inr, ◌+◌, ◌||◌, IsTrue, is_some, filter, [], ◌⊎◌}
-use Rattle.cf_core.proofs.Words.{AdvancingBegins, AdvancingGoesOn, AgreeAt, AreAhead, AreSameThings, AreSingle, BeginsBy, Begun, Call, CourseIsFree, Data, EndsAs, Entry, Fits, Forward, GoesOn, Gone, HasBegun, Held, HeldLeft, In, IntendsForward, IsAccepted, IsAdvancing, IsAsSaid, IsAsked, IsCleared, IsDone, IsFreeToBegin, IsFurther, IsHidden, IsMoved, IsOnCourse, IsOpenAhead, IsOwn, IsReady, IsRowOf, IsSameThing, IsStill, IsTo, IsWritten, KeepsRest, Known, Later, LeftAt, MayFollowIn, MayIntend, MayKeep, Member, Pending, Phase, Reply, Request, RestIsSeen, Row, Schema, Seen, Source, StackState, Stage, Status, Wanted, Why, World, anew, answered, answered_call, begins_from, by_create, by_update, bytes_eq, change_first, changes_begun, closed, closing, creates_from, current_at, effect_at, evaluated_at, finding, first_so, goes_back, goes_forward, has_physical, has_token, heard, hides_attrs, hides_id, is_call, is_current_at, is_in_progress, is_made, is_open_call, is_restore, is_right, is_success, is_update, is_updated, list_any, made_of, member_at, moved, needs_at, new_call, on_stack, option_map_or, option_or, pending_of, plan_by, plan_in, props_at, replied, resources_of, reviewed, seen_in, seen_now, settled_by, shape_of, source_for, stage_of, status_made, still_open, succeeded, terms_at, terms_of, turned, unmoved, updates, updates_from, updating, value_at, wanted_at, wanted_from, wanted_in, wanted_paths, was_updated, was_updated_at, where_call, where_physical, without_token}
-use Rattle.cf_core.proofs.Lemmas.{any_filtered, any_mapped, any_of, by_paths, bytes_eq-Decides, bytes_same, cases_Bool, eqb-true, false_from, find-append, found_in_more, found_one, found_still, in_any, in_filter, in_front, in_more, kept_self, needs_suffice, none_kept, not_so, or_right, same_bytes, same_in, shown, shown_at, some_is, some_of, terms_by, wanted_terms}
+use Rattle.std.proofs.Common.{arith, ◌≡◌, ℕ, List, ◌++◌, Option, Some, None, refl, sym, ap, subst, ◌∙◌, map, option_map, ◌==◌, Bool, true, false, ◌&&◌, not, true≢false, ◌∷◌, inl, inr, ◌+◌, ◌||◌, IsTrue, is_some, filter, [], ◌⊎◌}
+use Rattle.cf_core.proofs.Words.{AdvancingBegins, AdvancingGoesOn, AgreeAt, AreAhead, AreSameThings, AreSingle, BeginsBy, Begun, Call, CourseIsFree, Data, EndsAs, Entry, Fits, Forward, GoesOn, HasBegun, Held, HeldLeft, In, IntendsForward, IsAccepted, IsAdvancing, IsAsSaid, IsAsked, IsCleared, IsDone, IsFreeToBegin, IsFurther, IsHidden, IsMove, IsMoved, IsOnCourse, IsOpenAhead, IsOwn, IsReady, IsRowOf, IsSameThing, IsStill, IsTo, IsWritten, KeepsRest, Known, Later, LeftAt, MayFollowIn, MayIntend, MayKeep, Member, Pending, Phase, Reply, Request, RestIsSeen, Row, Schema, Seen, Source, StackState, Status, Wanted, Why, World, anew, answered, answered_call, begins_from, by_create, by_update, bytes_eq, change_first, changes_begun, closed, closing, cond, creates_from, current_at, effect_at, evaluated_at, finding, first_so, goes_forward, has_physical, has_token, heard, hides_attrs, hides_id, is_call, is_current_at, is_in_progress, is_made, is_open_call, is_restore, is_right, is_success, is_update, is_updated, list_any, made_of, member_at, moved, needs_at, new_call, on_stack, option_map_or, pending_of, plan_by, plan_in, props_at, replied, resources_of, reviewed, seen_in, seen_now, settled_by, shape_of, source_for, status_made, still_open, succeeded, terms_at, terms_of, turned, unmoved, updates, updates_from, updating, value_at, wanted_at, wanted_from, wanted_in, wanted_paths, was_updated, was_updated_at, where_call, where_physical, without_token}
+use Rattle.cf_core.proofs.Lemmas.{and_no, any_filtered, any_mapped, any_no_more, any_of, by_paths, bytes_eq-Decides, bytes_same, cases_Bool, each_map, eqb-true, false_from, find-append, found_changed, found_else, found_in_more, found_no_more, found_one, found_still, in_any, in_filter, in_front, in_more, kept_self, needs_suffice, no_and, none_if, none_kept, not_so, one_id, one_number, or_right, same_bytes, same_in, shown, shown_at, some_is, some_of, terms_by, wanted_terms}
+use Rattle.cf_core.proofs.{Rows.answered_same, Rows.answered_row, Rows.answered_row_same, Statuses.ended_status, Statuses.turned_status, Moving.written_is_to, Moving.written_moves, BackLists.is_of, BackLists.same_things}
 use Rattle.std.specs.Option.{option_and_then}
-use Rattle.std.specs.Prelude.{cond}
 use Rattle.cf_desired.specs.declared.shape.Terms.{Terms}
-use Rattle.cf_core.proofs.AdvLists.{and_no, each_map, found_changed, found_else, found_no_more, in_changed, no_and, any_no_more, either_way, none_if}
-use Rattle.cf_core.proofs.FitKept.{one_number, one_id}
-use Rattle.cf_core.proofs.Statuses.{ended_status, turned_status}
-use Rattle.cf_core.proofs.Written.{written_is_to}
-use Rattle.cf_core.proofs.BackLists.{is_of, same_things}
-use Rattle.cf_core.specs.Moving.{IsMove}
-use Rattle.cf_core.proofs.Moving.{written_moves}
-use Rattle.cf_tree.specs.declared.request.Request.TheVariants as request
-use Rattle.cf_desired.specs.Turns as turn
-use Rattle.cf_entry.specs.declared.entry.Reply.TheVariants as reply
-use Rattle.cf_entry.specs.declared.status.Status.TheVariants as status
-use Rattle.cf_entry.specs.declared.entry.Entry.TheVariants as entry
-use Rattle.cf_entry.specs.declared.entry.Begun.TheVariants as begin
-use Rattle.cf_entry.specs.declared.turn.Phase.TheVariants as phase
-use Rattle.cf_entry.specs.declared.turn.Why.TheVariants as why
+use Rattle.cf_plan.proofs.ChangedLists.{in_changed}
 use Rattle.cf_core.specs.Advancing as things
 use Rattle.cf_core.specs.Written as to
 use Rattle.cf_core.specs.Moving as move
@@ -32,8 +18,7 @@ needs_in None = []
 needs_in (Some t) = t.needs
 
 needs_of : (o : Option Wanted) → (terms_of o).needs ≡ needs_in (option_map terms_by o)
-needs_of None = refl
-needs_of (Some w) = refl
+needs_of o = grind arith
 
 -- over one shape a plan says the same of a path where the same is seen of what the path needs
 says_same :
@@ -46,15 +31,11 @@ says_same source before a b path agree =
     by :
         (o : Option Member) → member_at (shape_of source before) path ≡ o
         → wanted_from o (props_at source (shape_of source before) b path) ≡ wanted_from o (props_at source (shape_of source before) a path)
-    by None e = refl
-    by (Some m) e = ap (wanted_from (Some m)) (needs_suffice source before a b path m e (agree m e))
+    by o e = grind (arith, needs_suffice)
 
 -- what is seen of a path is told by what is made and held at it
 pub seen_still : (s t : StackState) (path : List ℕ) → IsStill s t path → value_at path (seen_now t) ≡ value_at path (seen_now s)
-seen_still s t path h =
-    shown_at path (t.made ++ t.held) ∙ ap (option_map shown) (find-append (is_current_at path) t.made t.held)
-    ∙ (λ i. option_map shown (option_or (h.made i) (h.held i)))
-    ∙ sym (shown_at path (s.made ++ s.held) ∙ ap (option_map shown) (find-append (is_current_at path) s.made s.held))
+seen_still s t path h = grind (arith, shown_at, shown, find-append)
 
 -- The same source over what was held before: paths and needs are the same.
 module _ (s t : StackState) (source : Source) (going : s.going ≡ Some source) (goes : t.going ≡ Some source) (before : t.before ≡ s.before) where
@@ -66,10 +47,7 @@ module _ (s t : StackState) (source : Source) (going : s.going ≡ Some source) 
 
   -- what a path needs is what its shape says
   member_needs : (path : List ℕ) (m : Member) → member_at (shape_of source (seen_in s.before)) path ≡ Some m → needs_at path s ≡ m.needs
-  member_needs path m e =
-      ap (λ g. (terms_of (wanted_in g (seen_in s.before) path)).needs) going
-      ∙ needs_of (wanted_at path (plan_by source (shape_of source (seen_in s.before)) (seen_in s.before)))
-      ∙ ap needs_in (wanted_terms source (seen_in s.before) (shape_of source (seen_in s.before)) path ∙ ap (option_map turn.terms_of) e)
+  member_needs path m e = grind (arith, needs_of, wanted_terms)
 
   -- what the template says of a path rests on what is seen of the paths that it needs
   pub said_still : (path : List ℕ) → ((q : List ℕ) → In q (needs_at path s) → IsStill s t q) → evaluated_at path t ≡ evaluated_at path s
@@ -102,10 +80,7 @@ module _ (s t : StackState) (source : Source) (h : IsFurther s t source) where
 
   -- and what was ready is ready
   pub ready_stays : (path : List ℕ) → IsReady s path → IsReady t path
-  ready_stays path ready = (
-    subst (λ ps. In path ps) (sym (same_paths s t source h.going h.goes h.before)) ready.0,
-    λ q j. done_stays q (ready.1 q (subst (λ ns. In q ns) (same_needs s t source h.going h.goes h.before path) j)),
-  )
+  ready_stays path ready = grind (arith, same_paths, done_stays, same_needs)
 
   -- a ready path that is left as it was is done only where it was
   pub not_done_stays : (path : List ℕ) → IsReady s path → IsStill s t path → IsDone t path → IsDone s path
@@ -117,14 +92,12 @@ module _ (s t : StackState) (source : Source) (h : IsFurther s t source) where
 -- A stack that goes forward and moves so goes forward.
 
 asked_stays : (s t : StackState) (source : Source) → IsFurther s t source → (path : List ℕ) (r : Request) → IsReady s path → IsStill s t path → IsAsked s path r → IsAsked t path r
-asked_stays s t source f path (request.Create kind props) ready still a = ready_said s t source f path ready ∙ a
-asked_stays s t source f path (request.Update physical props) ready still (h, e, id, said) = (h, still.held ∙ e, id, ready_said s t source f path ready ∙ said)
-asked_stays s t source f path (request.Delete physical) ready still a = a
+asked_stays s t source f path (Request.Create kind props) ready still a = ready_said s t source f path ready ∙ a
+asked_stays s t source f path (Request.Update physical props) ready still (h, e, id, said) = (h, still.held ∙ e, id, ready_said s t source f path ready ∙ said)
+asked_stays s t source f path (Request.Delete physical) ready still a = a
 
 hidden_stays : (rows : List Row) (s t : StackState) (path : List ℕ) (r : Request) → IsStill s t path → IsHidden rows s path r → IsHidden rows t path r
-hidden_stays rows s t path (request.Create kind props) still h = λ g e. h g (sym still.held ∙ e)
-hidden_stays rows s t path (request.Update physical props) still h = h
-hidden_stays rows s t path (request.Delete physical) still h = h
+hidden_stays rows s t path r still h = grind arith
 
 -- what is open as a stack that goes forward has it
 pub open_of : (schemas : List Schema) (s : StackState) (source : Source) → IsAdvancing schemas s source → (p : Pending) → In p s.tokens → IsOpenAhead schemas s source p
@@ -136,10 +109,7 @@ module _ (schemas : List Schema) (s : StackState) (source : Source) (h : IsAdvan
   Rest rs = KeepsRest (hides_id (changes_begun schemas s source).rows) (hides_attrs (changes_begun schemas s source).rows) (seen_in s.before) (seen_in rs)
 
   pub further_of : (t : StackState) → t.going ≡ s.going → t.before ≡ s.before → ((q : List ℕ) → LeftAt s t q) → IsFurther s t source
-  further_of t going before left = record { going = h.going; goes = going ∙ h.going; before = before; done = λ q d. by q d (left q) } where
-    by : (q : List ℕ) → IsDone s q → LeftAt s t q → IsStill s t q
-    by q d (unmoved k) = k
-    by q d (closed p i e none k) = absurd (h.not_done p i (subst (IsDone s) (sym e) d))
+  further_of t going before left = grind arith
 
   module _ (hs ms : List Held) (ts : List Pending) (cs : List Call) (es : List Entry) (lines : List (List ℕ)) where
     abbrev t : StackState
@@ -178,37 +148,16 @@ module _ (schemas : List Schema) (s : StackState) (source : Source) (h : IsAdvan
           record { sure = a.sure; said = ready_said s t source further r.path a.ready ∙ a.said; ready = ready_stays s t source further r.path a.ready }
 
       open_still : (p : Pending) → In p ts → LeftAt s t p.path → IsStill s t p.path
-      open_still p i (unmoved k) = k
-      open_still p i (closed q j e none k) = absurd (none p i refl)
+      open_still p i k = grind arith
 
 -- What the ledger tells of updates as an open call is answered.
 
--- a row is what it was but for its answer and doubts
-pub record Stays (c d : Call) : Type 0 where
-  pub token : d.token ≡ c.token
-  pub number : d.number ≡ c.number
-  pub path : d.path ≡ c.path
-  pub request : d.request ≡ c.request
-  pub status : d.status ≡ c.status
-
-pub answered_stays : (a : Reply) (c : Call) → Stays c (answered_call a c)
-answered_stays (reply.Success physical attrs) c = record { token = refl; number = refl; path = refl; request = refl; status = refl }
-answered_stays a c = record { token = refl; number = refl; path = refl; request = refl; status = refl }
-
 success_by : (a : Reply) (c : Call) → c.answer ≡ None → succeeded (answered_call a c) ≡ is_success (settled_by a)
-success_by (reply.Success physical attrs) c e = refl
-success_by (reply.Failed k) c e = refl
-success_by reply.Doubt c e = ap is_success e
+success_by a c e = grind arith
 
 -- what is so of the two statuses of a forward phase
-pub only_forward : (P : Status → Type 0) → P status.CreateInProgress → P status.UpdateInProgress → (z : Status) → goes_forward z ≡ true → P z
-only_forward P a b status.CreateInProgress e = a
-only_forward P a b status.UpdateInProgress e = b
-only_forward P a b z e = absurd (true≢false (sym e))
-
--- the row as it is answered, where it is that of the token
-abbrev pub with_answer : ℕ → Reply → Call → Call
-with_answer token a c = cond (is_call token c) (answered_call a c) c
+pub only_forward : (P : Status → Type 0) → P Status.CreateInProgress → P Status.UpdateInProgress → (z : Status) → goes_forward z ≡ true → P z
+only_forward P a b z e = grind arith
 
 -- a good update in the operation of this number at a path; a success of an update of a resource that went out as it went forward
 abbrev is_updated_at : ℕ → List ℕ → Call → Bool
@@ -233,9 +182,7 @@ module _ (x : World) (s : StackState) (fits : Fits x s) (token : ℕ) (p : Pendi
 
   -- no other row is of the token
   pub row_only : (c : Call) → In c s.ledger → is_call token c ≡ true → c ≡ (fits.rows p i).0
-  row_only c j e =
-      one_number (λ c. c.token) s.ledger fits.row_tokens c (fits.rows p i).0 j row_in.0
-      (sym (eqb-true token c.token e) ∙ token_is ∙ eqb-true p.token (fits.rows p i).0.token row_in.1)
+  row_only c j e = grind (arith, one_number, row_in, eqb-true, token_is)
 
   open_row : (c : Call) → In c s.ledger → is_call token c ≡ true → IsRowOf p c
   open_row c j e = subst (IsRowOf p) (sym (row_only c j e)) row_of
@@ -249,72 +196,50 @@ module _ (x : World) (s : StackState) (fits : Fits x s) (token : ℕ) (p : Pendi
       let k = in_filter (λ y. not (has_token token y)) s.tokens q j in
       (k.0, λ e. true≢false (sym (ap (has_token token) (fits.paths q p k.0 i e) ∙ named) ∙ not_so _ k.1))
 
-  pub was_open : (a : Reply) (q : Pending) → In q (still_open token a s.tokens) → In q s.tokens × ((q.path ≡ p.path → ⊥) ⊎ (a ≡ reply.Doubt))
-  was_open reply.Doubt q j = (j, inr refl)
-  was_open a q j = let k = elsewhere q j in (k.0, inl k.1)
+  pub was_open : (a : Reply) (q : Pending) → In q (still_open token a s.tokens) → In q s.tokens × ((q.path ≡ p.path → ⊥) ⊎ (a ≡ Reply.Doubt))
+  was_open a q j = grind (arith, elsewhere)
 
   -- a call that went out as its stack went forward gives nothing back
   pub no_restore : AreAhead s s.ledger → is_restore token s ≡ false
-  no_restore h =
-      ap (λ t. option_map_or (λ c. goes_back c.status) (find (is_call t) s.ledger) false) token_is
-      ∙ ap (λ o. option_map_or (λ c. goes_back c.status) o false) (fits.rows p i).1
-      ∙ only_forward (λ z. goes_back z ≡ false) refl refl (fits.rows p i).0.status (h.calls (fits.rows p i).0 row_in.0).1
+  no_restore h = grind (arith, token_is, only_forward, row_in)
 
   module _ (a : Reply) where
-    stays_so : (c : Call) → Stays c (with_answer token a c)
-    stays_so c = either_way (Stays c) (is_call token c) (answered_call a c) c (answered_stays a c) (record { token = refl; number = refl; path = refl; request = refl; status = refl })
-
     pub rows_ahead : AreAhead s s.ledger → AreAhead s (where_call token (answered_call a) s.ledger)
     rows_ahead h = record {
       calls =
-          each_map (λ d. (d.number ≡ s.operation) × IsTrue (goes_forward d.status)) (with_answer token a) s.ledger
-          (λ c j. ((stays_so c).number ∙ (h.calls c j).0, ap goes_forward (stays_so c).status ∙ (h.calls c j).1));
+          each_map (λ d. (d.number ≡ s.operation) × IsTrue (goes_forward d.status)) (answered_row token a) s.ledger
+          (λ c j. ((answered_row_same token a c).number ∙ (h.calls c j).0, ap goes_forward (answered_row_same token a c).status ∙ (h.calls c j).1));
       at_path = λ d b j k u.
-          each_map (λ e. IsTrue (updates b.physical e.request) → e.path ≡ b.path) (with_answer token a) s.ledger
-          (λ c l v. (stays_so c).path ∙ h.at_path c b l k (sym (ap (updates b.physical) (stays_so c).request) ∙ v)) d j u;
+          each_map (λ e. IsTrue (updates b.physical e.request) → e.path ≡ b.path) (answered_row token a) s.ledger
+          (λ c l v. (answered_row_same token a c).path ∙ h.at_path c b l k (sym (ap (updates b.physical) (answered_row_same token a c).request) ∙ v)) d j u;
     }
 
     -- what is so of a row as it is so of the row that is answered
     pub rows_same : (test : Call → Bool) → ((c : Call) → In c s.ledger → is_call token c ≡ true → IsRowOf p c → test (answered_call a c) ≡ test c)
         → list_any test (where_call token (answered_call a) s.ledger) ≡ list_any test s.ledger
-    rows_same test same =
-        any_mapped (with_answer token a) test s.ledger ∙ same_in (λ c. test (with_answer token a c)) test s.ledger (λ c j. by c j (is_call token c) refl) where
-          by : (c : Call) → In c s.ledger → (b : Bool) → is_call token c ≡ b → test (cond b (answered_call a c) c) ≡ test c
-          by c j false e = refl
-          by c j true e = same c j e (open_row c j e)
+    rows_same test same = grind (arith, any_mapped, same_in, open_row)
 
     -- a path is updated as before, but for that of the call where an update succeeds
     updated_same : (q : List ℕ) → (bytes_eq q p.path && (is_update p.request && is_success (settled_by a))) ≡ false
         → list_any (is_updated_at s.operation q) (where_call token (answered_call a) s.ledger) ≡ list_any (is_updated_at s.operation q) s.ledger
-    updated_same q none = rows_same (is_updated_at s.operation q) (λ c j e r.
-        let k = answered_stays a c in
-        and_no ((answered_call a c).number == s.operation) _
-        ((λ n. bytes_eq q ((k.path ∙ r.path) n) && (is_update ((k.request ∙ r.request) n) && success_by a c r.unanswered n)) ∙ none)
-        ∙ sym (and_no (c.number == s.operation) _ (and_no (bytes_eq q c.path) _ (and_no (is_update c.request) _ (fails_yet c j e)))))
+    updated_same q k = grind (arith, rows_same, answered_same, and_no, success_by, fails_yet)
 
     -- what was updated stays so
     pub updated_more : (id : List ℕ) → list_any (is_good_update id) (where_call token (answered_call a) s.ledger) ≡ false → was_updated id s ≡ false
     updated_more id none = false_from (was_updated id s) (λ yes.
         let one = some_of (is_good_update id) s.ledger yes in
-        let passes : is_good_update id (with_answer token a one.one) ≡ true = by one.one one.of_list one.passes (is_call token one.one) refl in
-        true≢false (sym (any_of (λ c. is_good_update id (with_answer token a c)) s.ledger one.one one.of_list passes)
-        ∙ (sym (any_mapped (with_answer token a) (is_good_update id) s.ledger) ∙ none)))
+        let passes : is_good_update id (answered_row token a one.one) ≡ true = by one.one one.of_list one.passes (is_call token one.one) refl in
+        true≢false (sym (any_of (λ c. is_good_update id (answered_row token a c)) s.ledger one.one one.of_list passes)
+        ∙ (sym (any_mapped (answered_row token a) (is_good_update id) s.ledger) ∙ none)))
       where
         by : (c : Call) → In c s.ledger → is_good_update id c ≡ true → (b : Bool) → is_call token c ≡ b → is_good_update id (cond b (answered_call a c) c) ≡ true
-        by c j u false e = u
-        by c j u true e =
-            absurd (true≢false (sym u ∙ and_no (goes_forward c.status) _ (and_no (updates id c.request) _ (fails_yet c j e))))
+        by c j u b e = grind (arith, and_no, fails_yet)
 
   -- and what is updated now is
   pub updated_now :
       (id physical : List ℕ) (attrs : List (List ℕ × Data)) → AreAhead s s.ledger → updates id p.request ≡ true
-      → list_any (is_good_update id) (where_call token (answered_call (reply.Success physical attrs)) s.ledger) ≡ true
-  updated_now id physical attrs h u =
-      any_mapped (with_answer token (reply.Success physical attrs)) (is_good_update id) s.ledger
-      ∙ any_of (λ c. is_good_update id (with_answer token (reply.Success physical attrs) c)) s.ledger (fits.rows p i).0 row_in.0
-      (ap (λ b. is_good_update id (cond b (answered_call (reply.Success physical attrs) (fits.rows p i).0) (fits.rows p i).0))
-      (ap (λ t. is_call t (fits.rows p i).0) token_is ∙ row_in.1)
-      ∙ (λ n. (h.calls (fits.rows p i).0 row_in.0).1 n && (updates id (row_of.request n) && true)) ∙ ap (λ b. b && true) u)
+      → list_any (is_good_update id) (where_call token (answered_call (Reply.Success physical attrs)) s.ledger) ≡ true
+  updated_now id physical attrs h u = grind (arith, any_mapped, any_of, row_in, token_is, row_of)
 
 -- A stack that goes forward does so behind the answer to an open call.
 
@@ -396,9 +321,9 @@ module _ (schemas : List Schema) (x : World) (s : StackState) (source : Source) 
 
     -- a create succeeds
     makes : (physical : List ℕ) (attrs : List (List ℕ × Data)) (m : Held) → m.path ≡ p.path → m.superseded ≡ false
-        → IsAsSaid s m → is_update p.request ≡ false → Moves schemas s source h s.held (s.made ++ m ∷ []) others (rows (reply.Success physical attrs)) es lines
+        → IsAsSaid s m → is_update p.request ≡ false → Moves schemas s source h s.held (s.made ++ m ∷ []) others (rows (Reply.Success physical attrs)) es lines
     makes physical attrs m at current said none =
-        let a : Reply = reply.Success physical attrs in
+        let a : Reply = Reply.Success physical attrs in
         let ms : List Held = s.made ++ m ∷ [] in
         let passes : (q : List ℕ) → is_current_at q m ≡ bytes_eq q p.path = λ q. (λ n. bytes_eq q (at n) && not (current n)) ∙ with_true (bytes_eq q p.path) in
         let updated : (q : List ℕ) → was_updated_at q (moved s s.held ms others (rows a) es lines) ≡ was_updated_at q s =
@@ -419,17 +344,16 @@ module _ (schemas : List Schema) (x : World) (s : StackState) (source : Source) 
         })
       where
         with_true : (b : Bool) → (b && true) ≡ b
-        with_true true = refl
-        with_true false = refl
+        with_true b = grind arith
 
     -- an update succeeds
-    module _ (id : List ℕ) (props : List (List ℕ × Data)) (physical : List ℕ) (attrs : List (List ℕ × Data)) (of_call : p.request ≡ request.Update id props)
+    module _ (id : List ℕ) (props : List (List ℕ × Data)) (physical : List ℕ) (attrs : List (List ℕ × Data)) (of_call : p.request ≡ Request.Update id props)
         (g : Held) (at : current_at p.path s.held ≡ Some g) (named_so : g.physical ≡ id) (said : evaluated_at p.path s ≡ Known g.kind props) where
       abbrev changed : List Held
       changed = where_physical id (updating props attrs) s.held
 
       abbrev updated_to : StackState
-      updated_to = moved s changed s.made others (rows (reply.Success physical attrs)) es lines
+      updated_to = moved s changed s.made others (rows (Reply.Success physical attrs)) es lines
 
       is_held : has_physical id g ≡ true
       is_held = (bytes_eq-Decides id g.physical).1 (sym named_so)
@@ -449,7 +373,7 @@ module _ (schemas : List Schema) (x : World) (s : StackState) (source : Source) 
         held =
             found_else (has_physical id) (updating props attrs) (is_current_at q) (λ a. refl) s.held
             (λ r j e. no_and (bytes_eq q r.path) _ (ap (bytes_eq q) (ap (λ o. o.path) (only r j e) ∙ found_at p.path s.held g at) ∙ n));
-        updated = same (reply.Success physical attrs) changed s.made others q (no_and (bytes_eq q p.path) _ n);
+        updated = same (Reply.Success physical attrs) changed s.made others q (no_and (bytes_eq q p.path) _ n);
       }
 
       is_said : IsAsSaid s (updating props attrs g)
@@ -472,8 +396,8 @@ module _ (schemas : List Schema) (x : World) (s : StackState) (source : Source) 
           true≢false (sym (updated_now x s fits token p i named id physical attrs ahead (ap (updates id) of_call ∙ same_bytes id))
           ∙ ap (λ v. was_updated v updated_to) (sym is_id) ∙ n)
 
-      updates_so : Moves schemas s source h changed s.made others (rows (reply.Success physical attrs)) es lines
-      updates_so = goes_on schemas s source h changed s.made others (rows (reply.Success physical attrs)) es lines (record {
+      updates_so : Moves schemas s source h changed s.made others (rows (Reply.Success physical attrs)) es lines
+      updates_so = goes_on schemas s source h changed s.made others (rows (Reply.Success physical attrs)) es lines (record {
         left = left_but updated_to refl (by_update g (updating props attrs g) (ap is_update of_call) refl at now refl) as_it_was;
         open_ = λ q j. open_of schemas s source h q (elsewhere x s fits token p i named q j).0;
         held =
@@ -481,13 +405,13 @@ module _ (schemas : List Schema) (x : World) (s : StackState) (source : Source) 
             (λ b r k. record { path = k.path; physical = k.physical; kind = k.kind; needs = k.needs; deletion = k.deletion; replace = k.replace; superseded = k.superseded })
             s.before s.held h.held;
         unchanged = λ b r j l e n. elim (in_changed (has_physical id) (updating props attrs) s.held r l) [
-          | inl k ↦ h.unchanged b r j k e (updated_more x s fits token p i named (reply.Success physical attrs) b.physical n)
+          | inl k ↦ h.unchanged b r j k e (updated_more x s fits token p i named (Reply.Success physical attrs) b.physical n)
           | inr k ↦ absurd (counts b r e k n)
         ];
         single_made = h.single_made;
         made = h.made;
         updated = to_updated;
-        calls = rows_ahead x s fits token p i named (reply.Success physical attrs) ahead;
+        calls = rows_ahead x s fits token p i named (Reply.Success physical attrs) ahead;
       })
 
 -- The forward phase goes on behind each entry that is written: an answer, a call that goes out, an opening, and what is of another stack.
@@ -511,11 +435,11 @@ module _ (schemas : List Schema) (x : World) (out name : List ℕ) (s : StackSta
   -- an answer to an open call
   module _ (number token before after : ℕ) (p : Pending) (i : In p s.tokens) (named : has_token token p ≡ true) where
     abbrev heard_by : Reply → StackState → StackState
-    heard_by a t = (heard place (entry.Outcome number token a before after) s (on_stack (closing token a t))).stack
+    heard_by a t = (heard place (Entry.Outcome number token a before after) s (on_stack (closing token a t))).stack
 
-    by_held : (id : List ℕ) (props : List (List ℕ × Data)) (physical : List ℕ) (attrs : List (List ℕ × Data)) → p.request ≡ request.Update id props
-        → IsAsked s p.path (request.Update id props) → (b : Bool) → list_any (has_physical id) s.held ≡ b
-        → On (heard_by (reply.Success physical attrs) (cond b (record s { held = where_physical id (updating props attrs) s.held })
+    by_held : (id : List ℕ) (props : List (List ℕ × Data)) (physical : List ℕ) (attrs : List (List ℕ × Data)) → p.request ≡ Request.Update id props
+        → IsAsked s p.path (Request.Update id props) → (b : Bool) → list_any (has_physical id) s.held ≡ b
+        → On (heard_by (Reply.Success physical attrs) (cond b (record s { held = where_physical id (updating props attrs) s.held })
         (record s { made = where_physical id (updating props attrs) s.made })))
     by_held id props physical attrs of_call (g, at, named_so, said) true e =
         let m = updates_so schemas x s source h fits token p i named _ _ id props physical attrs of_call g at named_so said in on refl refl refl m.0 m.1
@@ -526,19 +450,19 @@ module _ (schemas : List Schema) (x : World) (out name : List ℕ) (s : StackSta
     changes_nothing a none = let m = quiet schemas x s source h fits token p i named _ _ a none in on refl refl refl m.0 m.1
 
     by_request : (r : Request) (restores : Bool) (a : Reply) → p.request ≡ r → restores ≡ false → IsAsked s p.path r → On (heard_by a (answered restores p.path r a s))
-    by_request (request.Create k props) restores (reply.Success physical attrs) e none asked =
+    by_request (Request.Create k props) restores (Reply.Success physical attrs) e none asked =
         let m = makes schemas x s source h fits token p i named _ _ physical attrs
         (made_of (terms_at p.path s) (status_made (current_at p.path s.held)) p.path k props physical attrs) refl refl
         (record { sure = refl; said = asked; ready = h.ready p i }) (ap is_update e) in
         on refl refl refl m.0 m.1
-    by_request (request.Update id props) restores (reply.Success physical attrs) e none asked = by_held id props physical attrs e asked (list_any (has_physical id) s.held) refl
-    by_request (request.Update id props) true (reply.Failed c) e none asked = absurd (true≢false none)
-    by_request (request.Delete id) restores a e none asked = absurd asked
+    by_request (Request.Update id props) restores (Reply.Success physical attrs) e none asked = by_held id props physical attrs e asked (list_any (has_physical id) s.held) refl
+    by_request (Request.Update id props) true (Reply.Failed c) e none asked = absurd (true≢false none)
+    by_request (Request.Delete id) restores a e none asked = absurd asked
     by_request r restores a e none asked = changes_nothing a (and_no (is_update p.request) false refl)
 
   -- an answer, be its call open or not
   by_pending : (number token before after : ℕ) (a : Reply) (o : Option Pending) → pending_of token s ≡ o
-      → On (heard place (entry.Outcome number token a before after) s (on_stack (replied token a o s))).stack
+      → On (heard place (Entry.Outcome number token a before after) s (on_stack (replied token a o s))).stack
   by_pending number token before after a None e =
       let m = still_goes schemas x s source h fits s.tokens s.ledger _ _ (λ q j. open_of schemas s source h q j) (λ q. refl) (λ id n. n) (ahead schemas x s source h fits) in
       on refl refl refl m.0 m.1
@@ -548,7 +472,7 @@ module _ (schemas : List Schema) (x : World) (out name : List ℕ) (s : StackSta
       (no_restore x s fits token p found.0 found.1 (ahead schemas x s source h fits)) (h.asked p found.0)
 
   -- an opening
-  opening_goes : (epoch : ℕ) (lanes : List (List ℕ × List ℕ)) → On (effect_at place (entry.Opened epoch lanes) s).stack
+  opening_goes : (epoch : ℕ) (lanes : List (List ℕ × List ℕ)) → On (effect_at place (Entry.Opened epoch lanes) s).stack
   opening_goes epoch lanes =
       let m = still_goes schemas x s source h fits s.tokens (map anew s.ledger) _ _ (λ q j. open_of schemas s source h q j)
       (λ q. any_filtered _ _ (map anew s.ledger) ∙ any_mapped anew _ s.ledger ∙ sym (any_filtered _ _ s.ledger)) (λ id n. sym (any_mapped anew _ s.ledger) ∙ n)
@@ -560,17 +484,15 @@ module _ (schemas : List Schema) (x : World) (out name : List ℕ) (s : StackSta
 
   -- a call that goes out
   asked_by : (path : List ℕ) (r : Request) → IntendsForward schemas s path r → IsAsked s path r
-  asked_by path (request.Create k props) f = f.0
-  asked_by path (request.Update id props) (g, at, same, said, wants, first) = (g, at, sym same, said)
-  asked_by path (request.Delete id) f = f
+  asked_by path r f = grind arith
 
   at_its_path : (path : List ℕ) (r : Request) → IntendsForward schemas s path r → (b : Held) → In b s.before → IsTrue (updates b.physical r) → path ≡ b.path
-  at_its_path path (request.Create k props) f b i u = absurd (true≢false (sym u))
-  at_its_path path (request.Update id props) (g, at, same, said, wants, first) b i u =
+  at_its_path path (Request.Create k props) f b i u = absurd (true≢false (sym u))
+  at_its_path path (Request.Update id props) (g, at, same, said, wants, first) b i u =
       let (k, j, thing) = is_of h.held i in
       let is_it : k ≡ g = one_held x s fits k g j (found_one (is_current_at path) s.held g at).0 (thing.physical ∙ bytes_same b.physical id u ∙ same) in
       sym (found_at path s.held g at) ∙ sym (ap (λ r. r.path) is_it) ∙ thing.path
-  at_its_path path (request.Delete id) f b i u = absurd f
+  at_its_path path (Request.Delete id) f b i u = absurd f
 
   module _ (number token : ℕ) (lane path : List ℕ) (r : Request) (own : number ≡ s.operation) (forward : goes_forward s.status ≡ true)
       (may : MayIntend schemas name x out s Forward token lane path r) where
@@ -583,12 +505,10 @@ module _ (schemas : List Schema) (x : World) (out name : List ℕ) (s : StackSta
     -- no path is updated by it
     not_updated : (q : List ℕ) → list_any (λ c. bytes_eq q c.path && (is_update c.request && succeeded c)) (filter (λ c. c.number == s.operation) (s.ledger ++ row_out ∷ []))
         ≡ was_updated_at q s
-    not_updated q =
-        any_filtered _ _ (s.ledger ++ row_out ∷ [])
-        ∙ any_no_more _ s.ledger row_out (and_no (number == s.operation) _ (and_no (bytes_eq q path) _ (and_no (is_update r) _ refl))) ∙ sym (any_filtered _ _ s.ledger)
+    not_updated q = grind (arith, any_filtered, any_no_more, and_no)
 
     by_open : (b : Bool)
-        → On (heard place (entry.Intent number token lane path r) s (on_stack (cond b s (record s { tokens = s.tokens ++ call_out ∷ []; ledger = s.ledger ++ row_out ∷ [] })))).stack
+        → On (heard place (Entry.Intent number token lane path r) s (on_stack (cond b s (record s { tokens = s.tokens ++ call_out ∷ []; ledger = s.ledger ++ row_out ∷ [] })))).stack
     by_open true =
         let m = still_goes schemas x s source h fits s.tokens s.ledger _ _ (λ q j. open_of schemas s source h q j) (λ q. refl) (λ id n. n) (ahead schemas x s source h fits) in
         on refl refl refl m.0 m.1
@@ -615,61 +535,43 @@ module _ (schemas : List Schema) (x : World) (out name : List ℕ) (s : StackSta
 
 -- nothing is kept in the forward phase
 pub keeps_nothing : (out : List ℕ) (s : StackState) (path physical : List ℕ) (w : Why) → MayKeep Forward out s path physical w → ⊥
-keeps_nothing out s path physical why.Retained m = elim m [ inl k ↦ k.1 | inr k ↦ let e : Forward ≡ Gone = k.0 in cc ]
-keeps_nothing out s path physical why.Failed m = elim m.0.1 [ ]
-keeps_nothing out s path physical why.Doubt m = elim m.0.1 [ ]
+keeps_nothing out s path physical w m = grind arith
 
 pub none_begins : (k : Begun) (z : Status) → goes_forward z ≡ true → begins_from k z ≡ true → ⊥
-none_begins (begin.Create source) = only_forward _ (λ e. true≢false (sym e)) (λ e. true≢false (sym e))
-none_begins k = only_forward _ (λ e. true≢false (sym e)) (λ e. true≢false (sym e))
+none_begins k = grind (arith, only_forward)
 
 -- a later phase, and an end, leave another status, whatever the operation was in
 turned_back : (z : Status) (p : Phase) → goes_forward (turned z p) ≡ false
-turned_back z phase.Clean = refl
-turned_back status.CreateInProgress p = refl
-turned_back z p = refl
+turned_back z p = grind arith
 
 ends_rest : (schemas : List Schema) (name : List ℕ) (x : World) (s : StackState) (z state : Status) → EndsAs schemas name x s z state → goes_forward state ≡ false
-ends_rest schemas name x s status.CreateInProgress status.CreateComplete e = refl
-ends_rest schemas name x s status.RollbackInProgress status.RollbackComplete e = refl
-ends_rest schemas name x s status.RollbackInProgress status.RollbackFailed e = refl
-ends_rest schemas name x s status.DeleteInProgress status.DeleteComplete e = refl
-ends_rest schemas name x s status.DeleteInProgress status.DeleteFailed e = refl
-ends_rest schemas name x s status.UpdateCompleteCleanupInProgress status.UpdateComplete e = refl
-ends_rest schemas name x s status.UpdateRollbackCompleteCleanupInProgress status.UpdateRollbackComplete e = refl
-ends_rest schemas name x s status.UpdateRollbackInProgress status.UpdateRollbackFailed e = refl
-ends_rest schemas name x s z state e = absurd e
+ends_rest schemas name x s z state e = grind arith
 
 -- what is written as the phase goes on: a call that may go out, an answer, an opening, or what is of another stack
 pub data IsAhead (schemas : List Schema) (x : World) (out name : List ℕ) (s : StackState) : Entry → StackState → Type 0 where
   asks :
       (number token : ℕ) (lane path : List ℕ) (r : Request) → number ≡ s.operation → MayIntend schemas name x out s Forward token lane path r
-      → IsAhead schemas x out name s (entry.Intent number token lane path r) (effect_at (x.place + 1) (entry.Intent number token lane path r) s).stack
+      → IsAhead schemas x out name s (Entry.Intent number token lane path r) (effect_at (x.place + 1) (Entry.Intent number token lane path r) s).stack
   hears :
       (number token before after : ℕ) (a : Reply) → is_some (pending_of token s) ≡ true
-      → IsAhead schemas x out name s (entry.Outcome number token a before after) (effect_at (x.place + 1) (entry.Outcome number token a before after) s).stack
-  opens : (epoch : ℕ) (lanes : List (List ℕ × List ℕ)) → IsAhead schemas x out name s (entry.Opened epoch lanes) (effect_at (x.place + 1) (entry.Opened epoch lanes) s).stack
+      → IsAhead schemas x out name s (Entry.Outcome number token a before after) (effect_at (x.place + 1) (Entry.Outcome number token a before after) s).stack
+  opens : (epoch : ℕ) (lanes : List (List ℕ × List ℕ)) → IsAhead schemas x out name s (Entry.Opened epoch lanes) (effect_at (x.place + 1) (Entry.Opened epoch lanes) s).stack
   is_other : {e : Entry} → IsAhead schemas x out name s e s
 
 module _ (schemas : List Schema) (x : World) (out name : List ℕ) (s : StackState) (forward : goes_forward s.status ≡ true) where
   stepped : (e : Entry) → IsOwn s.operation e → MayFollowIn schemas name x out s Forward e → goes_forward (effect_at (x.place + 1) e s).stack.status ≡ true
       → IsAhead schemas x out name s e (effect_at (x.place + 1) e s).stack
-  stepped (entry.Kept number path physical w) own may on = absurd (keeps_nothing out s path physical w may)
-  stepped (entry.Intent number token lane path r) own may on = asks number token lane path r own may
-  stepped (entry.Outcome number token a before after) own may on = hears number token before after a may.1
-  stepped (entry.Phase number p c) own may on =
-      absurd (true≢false (sym on ∙ ap goes_forward (turned_status (x.place + 1) number p s c) ∙ turned_back s.status p))
-  stepped (entry.Done number state failed) own may on =
-      absurd (true≢false (sym on ∙ ap goes_forward (ended_status (x.place + 1) number state failed s) ∙ ends_rest schemas name x s s.status state may.2))
+  stepped (Entry.Kept number path physical w) own may on = absurd (keeps_nothing out s path physical w may)
+  stepped (Entry.Intent number token lane path r) own may on = asks number token lane path r own may
+  stepped (Entry.Outcome number token a before after) own may on = hears number token before after a may.1
+  stepped (Entry.Phase number p c) own may on = grind (arith, turned_status, turned_back)
+  stepped (Entry.Done number state failed) own may on = grind (arith, ended_status, ends_rest)
   stepped e own may on = absurd own
 
   pub is_ahead : {e : Entry} {t : StackState} → IsTo schemas x out name s e t → goes_forward t.status ≡ true → IsAhead schemas x out name s e t
-  is_ahead (to.step {e = e} stage at own may) on =
-      let is_forward : stage ≡ Forward = some_is _ _ (sym at ∙ only_forward (λ z. stage_of z ≡ Some Forward) refl refl s.status forward) in
-      stepped e own (subst (λ (g : Stage). MayFollowIn schemas name x out s g e) is_forward may) on
+  is_ahead (to.step {e = e} stage at own may) on = grind (arith, some_is, only_forward, stepped)
   is_ahead (to.begins k from by) on = absurd (none_begins k s.status forward from)
-  is_ahead (to.reviewed number from rows outputs may) on =
-      absurd (only_forward (λ z. (creates_from z || updates_from z) ≡ true → ⊥) (λ e. true≢false (sym e)) (λ e. true≢false (sym e)) s.status forward may)
+  is_ahead (to.reviewed number from rows outputs may) on = grind (arith, only_forward)
   is_ahead (to.opened epoch lanes) on = opens epoch lanes
   is_ahead to.other on = is_other
 
@@ -680,8 +582,7 @@ module _ (schemas : List Schema) (x : World) (out name : List ℕ) (s : StackSta
       by_open schemas x out name s source h fits (x.place + 1) number token lane path r own forward may (list_any (has_token token) s.tokens)
   goes_by (hears number token before after a open_) = by_pending schemas x out name s source h fits (x.place + 1) number token before after a (pending_of token s) refl
   goes_by (opens epoch lanes) = opening_goes schemas x out name s source h fits (x.place + 1) epoch lanes
-  goes_by is_other =
-      on schemas x out name s source h fits (x.place + 1) refl refl refl (λ q. unmoved (record { made = refl; held = refl; updated = refl })) (λ rest. h)
+  goes_by is_other = grind arith
 
 pub advancing_goes_on : AdvancingGoesOn
 advancing_goes_on schemas x out e name s t source w forward on h hid =
@@ -689,11 +590,10 @@ advancing_goes_on schemas x out e name s t source w forward on h hid =
 
 -- What makes a stack go forward is what begins a creation or an update of it.
 was_forward : (z : Status) → goes_forward (reviewed z) ≡ true → goes_forward z ≡ true
-was_forward status.DeleteComplete e = absurd (true≢false (sym e))
-was_forward z e = e
+was_forward z e = grind arith
 
 abbrev pub begun_from : World → List ℕ → StackState → Begun → StackState
-begun_from x name s k = (effect_at (x.place + 1) (entry.Begin (x.operation + 1) name k) s).stack
+begun_from x name s k = (effect_at (x.place + 1) (Entry.Begin (x.operation + 1) name k) s).stack
 
 abbrev pub HasBegunBy : List Schema → World → List ℕ → StackState → StackState → Type 0
 HasBegunBy schemas x name s t = (k : Begun) × IsTrue (begins_from k s.status) × BeginsBy schemas name x (x.operation + 1) s k × (begun_from x name s k ≡ t)
@@ -704,8 +604,7 @@ begins_ahead {schemas} {x} {out} {e} {name} {s} {t} w waits = by (written_moves 
   by : {d : Entry} {u : StackState} → IsMove schemas x out name s d u → goes_forward u.status ≡ true → HasBegunBy schemas x name s u
   by (move.stays same) on = absurd (true≢false (sym on ∙ ap goes_forward same ∙ waits))
   by (move.turns number p why q may) on = absurd (true≢false (sym on ∙ ap goes_forward (turned_status (x.place + 1) number p s why) ∙ turned_back s.status p))
-  by (move.ends number state failed stage q at may) on =
-      absurd (true≢false (sym on ∙ ap goes_forward (ended_status (x.place + 1) number state failed s) ∙ ends_rest schemas name x s s.status state may.2))
+  by (move.ends number state failed stage q at may) on = grind (arith, ended_status, ends_rest)
   by (move.begins k from b) on = (k, from, b, refl)
   by (move.reviewed number from rows outputs may) on = absurd (true≢false (sym (was_forward s.status on) ∙ waits))
   by move.other on = absurd (true≢false (sym on ∙ waits))
@@ -762,19 +661,19 @@ module _ (schemas : List Schema) (x : World) (s : StackState) (fits : Fits x s) 
     at_path = λ c b i j u. no_call c i;
   }
 
-differ : status.UpdateInProgress ≡ status.CreateInProgress → ⊥
+differ : Status.UpdateInProgress ≡ Status.CreateInProgress → ⊥
 differ e = let no : ⊥ = cc in no
 
 -- what begins
 by_begun :
     (schemas : List Schema) (x : World) (place number : ℕ) (name : List ℕ) (k : Begun) (s : StackState) → Fits x s → IsTrue (begins_from k s.status)
-    → BeginsBy schemas name x number s k → goes_forward (effect_at place (entry.Begin number name k) s).stack.status ≡ true → IsFreeToBegin s
-    → (source : Source) × HasBegun schemas s (effect_at place (entry.Begin number name k) s).stack source
-by_begun schemas x place number name (begin.Create source) s fits from by on free =
+    → BeginsBy schemas name x number s k → goes_forward (effect_at place (Entry.Begin number name k) s).stack.status ≡ true → IsFreeToBegin s
+    → (source : Source) × HasBegun schemas s (effect_at place (Entry.Begin number name k) s).stack source
+by_begun schemas x place number name (Begun.Create source) s fits from by on free =
     let f = free (ap (λ b. b || updates_from s.status) from) in
     let goes = begins_so schemas x s fits f.0 f.1 _ _ _ _ _ (source_for name number source) _ name by in
     (source_for name number source, record { creates = λ e. from; updates = λ e. absurd (differ (sym e)); before = refl; advancing = goes })
-by_begun schemas x place number name (begin.Update source) s fits from by on free =
+by_begun schemas x place number name (Begun.Update source) s fits from by on free =
     let f = free (or_right (creates_from s.status) (updates_from s.status) from) in
     let goes = begins_so schemas x s fits f.0 f.1 _ _ _ _ _ (source_for name s.number source) _ name by in
     (source_for name s.number source, record { creates = λ e. absurd (differ e); updates = λ e. from; before = refl; advancing = goes })
@@ -796,12 +695,7 @@ cleared s c = (c.settled.none_open, λ r i. elim (subst (In r) c.none_held i) [ 
 
 free_by : (schemas : List Schema) (name : List ℕ) (x : World) (s : StackState) (z : Status) → IsOnCourse schemas name x s z → (creates_from z || updates_from z) ≡ true
     → (s.tokens ≡ []) × AreSingle s.held
-free_by schemas name x s status.CreateComplete c e = (c.1.none_open, c.1.single)
-free_by schemas name x s status.UpdateComplete c e = (c.1.none_open, c.1.single)
-free_by schemas name x s status.UpdateRollbackComplete c e = (c.1.none_open, c.1.single)
-free_by schemas name x s status.DeleteComplete c e = cleared s c
-free_by schemas name x s status.ReviewInProgress c e = cleared s c
-free_by schemas name x s z c e = absurd (true≢false (sym e))
+free_by schemas name x s z c e = grind (arith, cleared)
 
 pub course_is_free : CourseIsFree
 course_is_free schemas name x s c = free_by schemas name x s s.status c

@@ -1,59 +1,26 @@
 -- A call is answered while an update goes back: what was open as it went forward, or a restore.
 use Rattle.std.proofs.Common.{◌≡◌, ◌⊎◌, inl, inr, ℕ, ◌==◌, List, [], ◌∷◌, ◌++◌, Bool, true, false, not, Option, Some, None, refl, sym, ap, subst, ◌∙◌, true≢false, find, map, cond, arith}
-use Rattle.std.specs.List.{list_any}
-use Rattle.std.specs.Str.{bytes_eq}
-use Rattle.std.proofs.lemmas.Bool.{eqb-true}
-use Rattle.std.proofs.lemmas.List.{map-id}
-use Rattle.cf_tree.specs.Datum.{Data}
-use Rattle.cf_tree.specs.declared.request.Request.{Request}
-use Rattle.cf_tree.specs.declared.request.Request.TheVariants as request
-use Rattle.cf_entry.specs.declared.entry.Reply.{Reply}
-use Rattle.cf_entry.specs.declared.entry.Reply.TheVariants as reply
-use Rattle.cf_entry.specs.declared.status.Status.{Status}
-use Rattle.cf_effect.specs.declared.call.Call.{Call}
-use Rattle.cf_effect.specs.declared.held.Held.{Held}
-use Rattle.cf_effect.specs.declared.held.HeldStatus.TheVariants as held
-use Rattle.cf_effect.specs.declared.held.Pending.{Pending}
-use Rattle.cf_effect.specs.World.{StackState, World}
-use Rattle.cf_effect.specs.Words.{current_at, has_physical, has_token, id_named, pending_of, resources_of, updates, where_physical, without_token}
-use Rattle.cf_effect.specs.Calls.{answered_call, call_under as call_of, is_call, is_restore, is_success, succeeded, was_restored, where_call}
-use Rattle.cf_effect.specs.Operation.{was_skipped}
-use Rattle.cf_effect.specs.Reply.{answered, changing, closing, made_of, making, replied, replying, status_made, still_open, terms_at, updating, with_status}
-use Rattle.cf_effect.specs.Status.{goes_back, goes_forward}
-use Rattle.cf_plan.specs.Follow.{settled_by}
-use Rattle.cf_plan.specs.Forward.{In}
-use Rattle.cf_plan.proofs.CreatedRight.{in_filter, not_so}
-use Rattle.cf_plan.proofs.CreatedStays.{found_one}
+use Rattle.cf_core.proofs.Words.{AreSingle, Call, Data, Fits, Held, HeldStatus, In, IsBack, IsForwardCall, IsGoingBack, IsOpenInBack, IsSameThing, IsUpdateBack, Pending, Reply, Request, StackState, Status, World, answered, answered_call, bytes_eq, call_under as call_of, changing, closing, current_at, goes_back, goes_forward, has_physical, has_token, id_named, is_call, is_restore, is_success, list_any, made_of, making, pending_of, replied, replying, resources_of, settled_by, status_made, still_open, succeeded, terms_at, updates, updating, was_restored, was_skipped, where_call, where_physical, with_status, without_token}
+use Rattle.cf_core.proofs.Lemmas.{any_of, eqb-true, found_one, in_filter, map-id, none_false, not_so, one_number}
 use Rattle.cf_plan.proofs.RunLanes.{bytes_same, same_bytes}
-use Rattle.cf_plan.proofs.RunLists.{any_of, none_false}
-use Rattle.cf_core.specs.Advancing.{AreSingle, IsSameThing}
-use Rattle.cf_core.specs.Back.{IsBack, IsForwardCall, IsGoingBack, IsOpenInBack, IsUpdateBack}
-use Rattle.cf_core.specs.Fits.{Fits}
-use Rattle.cf_core.proofs.BackLists.{HaveOwnIds, changed_all, changed_if, is_of, none_with, one_keyed, one_of, own_before, own_front, same_thing, single_more, was_of}
-use Rattle.cf_core.proofs.BackCalls.{answered_rows, did, forward_only, same_did, success_did}
-use Rattle.cf_core.proofs.BackGoing.{Plain, goes_on, open_stays, plain, plainly}
+use Rattle.cf_core.proofs.{BackLists.HaveOwnIds, BackLists.changed_all, BackLists.changed_if, BackLists.is_of, BackLists.none_with, BackLists.one_of, BackLists.own_before, BackLists.own_front, BackLists.same_thing, BackLists.single_more, BackLists.was_of, BackCalls.answered_rows, BackCalls.did, BackCalls.forward_only, BackCalls.same_did, BackCalls.success_did, BackGoing.Plain, BackGoing.goes_on, BackGoing.open_stays, BackGoing.plain, BackGoing.plainly}
 
 -- what still is open was open
 pub was_open : (token : ℕ) (a : Reply) (ps : List Pending) (q : Pending) → In q (still_open token a ps) → In q ps
-was_open token (reply.Success physical attrs) ps q i = (in_filter (λ r. not (has_token token r)) ps q i).0
-was_open token (reply.Failed c) ps q i = (in_filter (λ r. not (has_token token r)) ps q i).0
-was_open token reply.Doubt ps q i = i
+was_open token a ps q i = grind (arith, in_filter)
 
 same_token : (n : ℕ) → (n == n) ≡ true
 same_token n = Prim.grind (arith)
 
 -- a change that leaves a resource what it is leaves it so where it comes to pass
 same_if : (b : Bool) (f : Held → Held) → ((h : Held) → IsSameThing h (f h)) → (h : Held) → IsSameThing h (cond b (f h) h)
-same_if true f same h = same h
-same_if false f same h = same_thing h
+same_if b f same h = grind (arith, same_thing)
 
 props_if : (b : Bool) (f : Held → Held) → ((h : Held) → (f h).props ≡ h.props) → (h : Held) → (cond b (f h) h).props ≡ h.props
-props_if true f same h = same h
-props_if false f same h = refl
+props_if b f same h = grind arith
 
 unsure_if : (b : Bool) (f : Held → Held) → ((h : Held) → (f h).unsure ≡ h.unsure) → (h : Held) → (cond b (f h) h).unsure ≡ h.unsure
-unsure_if true f same h = same h
-unsure_if false f same h = refl
+unsure_if b f same h = grind arith
 
 module _ (x : World) (s : StackState) (fits : Fits x s) (b : IsGoingBack s) (token : ℕ) (p : Pending) (pending : pending_of token s ≡ Some p) where
   of_tokens : In p s.tokens
@@ -72,14 +39,11 @@ module _ (x : World) (s : StackState) (fits : Fits x s) (b : IsGoingBack s) (tok
   one_row : (c : Call) → In c s.ledger → is_call token c ≡ true → c ≡ row
   one_row c i e =
       let f = found_one (is_call p.token) s.ledger row row_found in
-      one_keyed (λ (r : Call). r.token) ◌==◌ same_token s.ledger fits.row_tokens c row i f.0
+      one_number (λ (r : Call). r.token) s.ledger fits.row_tokens c row i f.0
       (sym (eqb-true token c.token e) ∙ token_is ∙ eqb-true p.token row.token f.1)
 
   rows_of : (c : Call) → In c s.ledger → is_call token c ≡ true → (c.status ≡ row.status) × (c.request ≡ p.request) × (succeeded c ≡ false)
-  rows_of c i e =
-      let k = (fits.rows p of_tokens).2 in
-      let same = one_row c i e in
-      (ap (λ (r : Call). r.status) same, ap (λ (r : Call). r.request) same ∙ k.request, ap (λ (r : Call). succeeded r) same ∙ ap is_success k.unanswered)
+  rows_of c i e = grind (arith, of_tokens, one_row)
 
   held_own : HaveOwnIds s.held
   held_own = own_front s.held s.made fits.ids
@@ -93,10 +57,7 @@ module _ (x : World) (s : StackState) (fits : Fits x s) (b : IsGoingBack s) (tok
 
   module _ (a : Reply) (none_updated : (is_success (settled_by a) ≡ false) ⊎ ((id : List ℕ) → updates id p.request ≡ false)) where
     reason : (dir : Status → Bool) (id : List ℕ) → ((is_success (settled_by a) ≡ false) ⊎ (dir row.status ≡ false)) ⊎ (updates id p.request ≡ false)
-    reason dir id = elim none_updated [
-      | inl e ↦ inl (inl e)
-      | inr n ↦ inr (n id)
-    ]
+    reason dir id = grind arith
 
     closed_back :
         (g : Held → Held) (hs ms : List Held) → hs ≡ map g s.held → ((h : Held) → IsSameThing h (g h)) → ((h : Held) → (g h).props ≡ h.props)
@@ -144,10 +105,10 @@ module _ (x : World) (s : StackState) (fits : Fits x s) (b : IsGoingBack s) (tok
 
   -- A create makes a resource at its path.
   created_back :
-      (kind : List ℕ) (props : List (List ℕ × Data)) (physical : List ℕ) (attrs : List (List ℕ × Data)) → p.request ≡ request.Create kind props
-      → current_at p.path s.made ≡ None → IsGoingBack (closing token (reply.Success physical attrs) (making (made_of (terms_at p.path s) (status_made (current_at p.path s.held)) p.path kind props physical attrs) s))
+      (kind : List ℕ) (props : List (List ℕ × Data)) (physical : List ℕ) (attrs : List (List ℕ × Data)) → p.request ≡ Request.Create kind props
+      → current_at p.path s.made ≡ None → IsGoingBack (closing token (Reply.Success physical attrs) (making (made_of (terms_at p.path s) (status_made (current_at p.path s.held)) p.path kind props physical attrs) s))
   created_back kind props physical attrs is none =
-      closed_back (reply.Success physical attrs) (inr (λ id. ap (updates id) is)) (λ h. h) s.held (s.made ++ new ∷ []) (sym (map-id s.held)) same_thing (λ h. refl) (λ h. refl)
+      closed_back (Reply.Success physical attrs) (inr (λ id. ap (updates id) is)) (λ h. h) s.held (s.made ++ new ∷ []) (sym (map-id s.held)) same_thing (λ h. refl) (λ h. refl)
       (single_more s.made new refl none b.single_made)
       (λ q i n. none_with s.made new q.path (none_false (bytes_eq q.path p.path) (λ e. apart q i (bytes_same q.path p.path e))) n)
     where
@@ -158,7 +119,7 @@ module _ (x : World) (s : StackState) (fits : Fits x s) (b : IsGoingBack s) (tok
       apart q i e = let f = in_filter (λ (r : Pending). not (has_token token r)) s.tokens q i in other_path q f.0 (not_so (has_token token q) f.1) e
 
   -- An update, be it of the forward phase or a restore, changes a resource of before.
-  module _ (id : List ℕ) (props : List (List ℕ × Data)) (is : p.request ≡ request.Update id props) (u : IsUpdateBack s p id props) where
+  module _ (id : List ℕ) (props : List (List ℕ × Data)) (is : p.request ≡ Request.Update id props) (u : IsUpdateBack s p id props) where
     one_before : (c : Held) → In c s.before → c.physical ≡ id → c ≡ u.was
     one_before c i e = one_of s.before before_own c u.was i u.of_before (e ∙ sym u.named)
 
@@ -167,7 +128,7 @@ module _ (x : World) (s : StackState) (fits : Fits x s) (b : IsGoingBack s) (tok
 
     module _ (physical : List ℕ) (attrs : List (List ℕ × Data)) where
       abbrev answer : Reply
-      answer = reply.Success physical attrs
+      answer = Reply.Success physical attrs
 
       abbrev g : Held → Held
       g = changed_if id (updating props attrs)
@@ -255,13 +216,13 @@ module _ (x : World) (s : StackState) (fits : Fits x s) (b : IsGoingBack s) (tok
 
   -- by the request and the answer
   answered_back : (restores : Bool) (r : Request) (a : Reply) → p.request ≡ r → IsOpenInBack s p r → IsGoingBack (closing token a (answered restores p.path r a s))
-  answered_back restores (request.Create kind props) (reply.Success physical attrs) e o = created_back kind props physical attrs e o.1
-  answered_back restores (request.Create kind props) (reply.Failed c) e o = quiet_back (reply.Failed c) (inl refl)
-  answered_back restores (request.Create kind props) reply.Doubt e o = quiet_back reply.Doubt (inl refl)
-  answered_back restores (request.Update id props) (reply.Success physical attrs) e o = updated_back id props e o physical attrs
-  answered_back restores (request.Update id props) (reply.Failed c) e o = restated_back (reply.Failed c) (inl refl) restores held.UpdateFailed id (is_held id props e o)
-  answered_back restores (request.Update id props) reply.Doubt e o = quiet_back reply.Doubt (inl refl)
-  answered_back restores (request.Delete id) a e o = absurd o
+  answered_back restores (Request.Create kind props) (Reply.Success physical attrs) e o = created_back kind props physical attrs e o.1
+  answered_back restores (Request.Create kind props) (Reply.Failed c) e o = quiet_back (Reply.Failed c) (inl refl)
+  answered_back restores (Request.Create kind props) Reply.Doubt e o = quiet_back Reply.Doubt (inl refl)
+  answered_back restores (Request.Update id props) (Reply.Success physical attrs) e o = updated_back id props e o physical attrs
+  answered_back restores (Request.Update id props) (Reply.Failed c) e o = restated_back (Reply.Failed c) (inl refl) restores HeldStatus.UpdateFailed id (is_held id props e o)
+  answered_back restores (Request.Update id props) Reply.Doubt e o = quiet_back Reply.Doubt (inl refl)
+  answered_back restores (Request.Delete id) a e o = absurd o
 
 -- an answer of an open call, be it known or not
 pub replied_back : (x : World) (s : StackState) (token : ℕ) (a : Reply) → Fits x s → IsGoingBack s → IsGoingBack (replying token a s)

@@ -1,48 +1,19 @@
 -- What an entry leaves of a stack whose update goes back, part by part.
-use Rattle.std.proofs.Common.{◌≡◌, inl, inr, ℕ, List, [], ◌∷◌, ◌++◌, Bool, true, false, Some, None, refl, sym, ap, subst, ◌∙◌, map, cond, flat_map}
-use Rattle.std.specs.List.{list_any}
-use Rattle.std.proofs.lemmas.List.{map-id, append-nil}
-use Rattle.std.proofs.lemmas.Grind.{flat_map-append}
-use Rattle.cf_tree.specs.Lists.{is_among}
-use Rattle.cf_tree.specs.declared.request.Request.{Request}
-use Rattle.cf_tree.specs.declared.request.Request.TheVariants as request
-use Rattle.cf_entry.specs.declared.entry.Entry.{Entry}
-use Rattle.cf_entry.specs.declared.entry.Entry.TheVariants as entry
-use Rattle.cf_entry.specs.declared.status.Status.{Status}
-use Rattle.cf_effect.specs.declared.call.Call.{Call}
-use Rattle.cf_effect.specs.declared.held.Held.{Held}
-use Rattle.cf_effect.specs.declared.held.Pending.{Pending}
-use Rattle.cf_effect.specs.World.{StackState}
-use Rattle.cf_effect.specs.Words.{current_at, has_token, id_named}
-use Rattle.cf_effect.specs.Calls.{anew, new_call, was_restored, was_updated}
-use Rattle.cf_effect.specs.Effect.{entries_with}
-use Rattle.cf_effect.specs.Operation.{named_in, was_skipped}
-use Rattle.cf_effect.specs.Reply.{intending}
-use Rattle.cf_effect.specs.Status.{goes_back, goes_forward}
-use Rattle.cf_plan.specs.Forward.{In}
-use Rattle.cf_plan.proofs.CreatedStays.{in_more}
-use Rattle.cf_core.specs.Advancing.{AreSameThings, AreSingle, IsSameThing}
-use Rattle.cf_core.specs.Back.{IsBack, IsForwardCall, IsGoingBack, IsOpenInBack}
-use Rattle.cf_core.proofs.BackLists.{from_map, same_mapped, same_thing}
-use Rattle.cf_core.proofs.BackCalls.{KeepsRows, anew_did, anew_rows, more_did, more_rows}
+use Rattle.std.proofs.Common.{arith, ◌≡◌, ℕ, List, [], ◌∷◌, ◌++◌, Bool, true, false, Some, None, refl, sym, ap, ◌∙◌, map, cond, flat_map}
+use Rattle.cf_core.proofs.Words.{AreSingle, Call, Entry, Held, In, IsBack, IsGoingBack, IsOpenInBack, IsSameThing, Pending, Request, StackState, Status, anew, current_at, entries_with, goes_back, goes_forward, has_token, id_named, intending, list_any, new_call, was_restored, was_skipped, was_updated}
+use Rattle.cf_core.proofs.Lemmas.{append-nil, flat_map-append, in_more, map-id}
+use Rattle.cf_effect.specs.Operation.{named_in}
+use Rattle.cf_core.proofs.{BackLists.from_map, BackLists.same_mapped, BackLists.same_thing, BackCalls.KeepsRows, BackCalls.anew_did, BackCalls.anew_rows, BackCalls.more_did, BackCalls.more_rows}
 
 -- an entry that begins nothing names no path
 named_more : (e : Entry) (es : List Entry) → named_in e ≡ [] → flat_map named_in (es ++ e ∷ []) ≡ flat_map named_in es
 named_more e es n = flat_map-append named_in es (e ∷ []) ∙ ap (λ ps. flat_map named_in es ++ (ps ++ [])) n ∙ append-nil (flat_map named_in es)
 
-opened_more : (epoch : ℕ) (lanes : List (List ℕ × List ℕ)) (es : List Entry) → flat_map named_in (entries_with (entry.Opened epoch lanes) es) ≡ flat_map named_in es
-opened_more epoch lanes [] = refl
-opened_more epoch lanes (e ∷ es) = named_more (entry.Opened epoch lanes) (e ∷ es) refl
+opened_more : (epoch : ℕ) (lanes : List (List ℕ × List ℕ)) (es : List Entry) → flat_map named_in (entries_with (Entry.Opened epoch lanes) es) ≡ flat_map named_in es
+opened_more epoch lanes es = grind (arith, named_more)
 
 pub names_more : (e : Entry) (es : List Entry) → named_in e ≡ [] → flat_map named_in (entries_with e es) ≡ flat_map named_in es
-names_more (entry.Opened epoch lanes) es n = opened_more epoch lanes es
-names_more (entry.Begin number name k) es n = named_more (entry.Begin number name k) es n
-names_more (entry.Kept number path physical w) es n = named_more (entry.Kept number path physical w) es n
-names_more (entry.Intent number token lane path r) es n = named_more (entry.Intent number token lane path r) es n
-names_more (entry.Outcome number token a before after) es n = named_more (entry.Outcome number token a before after) es n
-names_more (entry.Phase number p c) es n = named_more (entry.Phase number p c) es n
-names_more (entry.Done number state failed) es n = named_more (entry.Done number state failed) es n
-names_more (entry.ChangeSet number name source rows outputs) es n = refl
+names_more e es n = grind (arith, opened_more, named_more)
 
 -- The held resources change one by one, and all that is said of them stays so.
 pub record Goes (s t : StackState) (g : Held → Held) : Type 0 where
@@ -56,19 +27,7 @@ pub record Goes (s t : StackState) (g : Held → Held) : Type 0 where
   pub calls : (p : Pending) → In p t.tokens → IsOpenInBack t p p.request
 
 pub goes_on : (s t : StackState) (g : Held → Held) → IsGoingBack s → Goes s t g → IsGoingBack t
-goes_on s t g b k = record {
-  single_before = subst AreSingle (sym k.before) b.single_before;
-  held = subst (λ (bs : List Held). AreSameThings bs t.held) (sym k.before) (subst (λ (hs : List Held). AreSameThings s.before hs) (sym k.held) (same_mapped g k.same b.held));
-  as_before = λ c h i j e u w.
-      let m = from_map g s.held h (subst (In h) k.held j) in
-      ap (λ (r : Held). r.props) m.2
-      ∙ k.as_before c m.0 (subst (In c) k.before i) m.1 (sym ((k.same m.0).physical) ∙ sym (ap (λ (r : Held). r.physical) m.2) ∙ e) (sym (ap (λ (r : Held). r.unsure) m.2) ∙ u) w;
-  skipped = λ h j w.
-      let m = from_map g s.held h (subst (In h) k.held j) in
-      ap (λ (r : Held). r.unsure) m.2 ∙ k.skipped m.0 m.1 (subst (λ (p : List ℕ). was_skipped p t ≡ true) (ap (λ (r : Held). r.path) m.2 ∙ (k.same m.0).path) w);
-  single_made = k.made;
-  calls = k.calls;
-}
+goes_on s t g b k = grind (arith, same_mapped, from_map)
 
 -- an open call stays what it is
 pub record Stays (s t : StackState) (p : Pending) : Type 0 where
@@ -79,25 +38,7 @@ pub record Stays (s t : StackState) (p : Pending) : Type 0 where
   pub made : current_at p.path s.made ≡ None → current_at p.path t.made ≡ None
 
 pub open_stays : (s t : StackState) (p : Pending) → Stays s t p → (r : Request) → p.request ≡ r → IsOpenInBack s p r → IsOpenInBack t p r
-open_stays s t p k = by
-  where
-    forward : IsForwardCall s p → IsForwardCall t p
-    forward (c, f, w) = let d = k.rows p.token c f in (d.0, d.1, ap goes_forward d.2 ∙ w)
-
-    by : (r : Request) → p.request ≡ r → IsOpenInBack s p r → IsOpenInBack t p r
-    by (request.Create kind props) e o = (forward o.0, k.made o.1)
-    by (request.Update id props) e u = record {
-      was = u.was;
-      of_before = subst (In u.was) (sym k.before) u.of_before;
-      named = u.named;
-      at_path = u.at_path;
-      not_skipped = k.skips u.not_skipped;
-      gives = elim u.gives [
-        | inl f ↦ inl (forward f.0, k.restored id (ap id_named e) f.1)
-        | inr q ↦ inr q
-      ];
-    }
-    by (request.Delete id) e o = o
+open_stays s t p k = grind arith
 
 -- Where nothing is updated or given back, and no property changes.
 pub record Plain (s t : StackState) (g : Held → Held) : Type 0 where
@@ -124,8 +65,7 @@ plain s t g k b made calls =
     })
   where
     back : (c : Held) → IsBack t c → IsBack s c
-    back c (inl n) = inl (sym (k.updated c.physical) ∙ n)
-    back c (inr n) = inr (sym (k.restored c.physical) ∙ n)
+    back c w = grind arith
 
 pub plainly : (s t : StackState) (g : Held → Held) → Plain s t g → (p : Pending) → (current_at p.path s.made ≡ None → current_at p.path t.made ≡ None) → Stays s t p
 plainly s t g k p made = record { before = k.before; rows = k.rows; restored = λ id e n. k.restored id ∙ n; skips = λ n. k.skips p.path ∙ n; made = made }
@@ -135,23 +75,10 @@ keeps_rows cs token c e = (c, e, refl)
 
 -- a stack hears of an entry that names no path
 pub heard_back : (s : StackState) (es : List Entry) (ls : List (List ℕ)) → flat_map named_in es ≡ flat_map named_in s.entries → IsGoingBack s → IsGoingBack (record s { entries = es; events = ls })
-heard_back s es ls n b = plain s t (λ h. h) k b b.single_made (λ p i. open_stays s t p (plainly s t (λ h. h) k p (λ m. m)) p.request refl (b.calls p i))
-  where
-    t : StackState
-    t = record s { entries = es; events = ls }
+heard_back s es ls n b = grind (arith, plain, open_stays, plainly, map-id, same_thing, keeps_rows)
 
-    k : Plain s t (λ h. h)
-    k = record {
-      before = refl;
-      held = sym (map-id s.held);
-      same = same_thing;
-      props = λ h. refl;
-      unsure = λ h. refl;
-      updated = λ id. refl;
-      restored = λ id. refl;
-      rows = keeps_rows s.ledger;
-      skips = λ path. ap (is_among path) n;
-    }
+pub heard_of : (e : Entry) (u : StackState) (ls : List (List ℕ)) → named_in e ≡ [] → IsGoingBack u → IsGoingBack (record u { entries = entries_with e u.entries; events = ls })
+heard_of e u ls n b = heard_back u (entries_with e u.entries) ls (names_more e u.entries n) b
 
 -- its calls count anew
 pub anew_back : (s : StackState) (st : Status) → IsGoingBack s → IsGoingBack (record s { status = st; ledger = map anew s.ledger })

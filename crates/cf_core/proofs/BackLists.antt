@@ -1,21 +1,8 @@
 -- Resources before and after an entry: lists that go along each other, and the one that has an id.
-use Rattle.std.proofs.Common.{◌≡◌, ℕ, List, [], ◌∷◌, ◌++◌, Bool, true, false, not, ◌&&◌, ◌||◌, Option, Some, None, refl, sym, ap, subst, ◌∙◌, true≢false, map, cond}
-use Rattle.std.specs.Option.{option_or}
-use Rattle.std.specs.List.{list_any}
-use Rattle.std.specs.Str.{bytes_eq}
-use Rattle.std.specs.Cmp.{first_so, second_so}
-use Rattle.std.proofs.lemmas.List.{map-append}
-use Rattle.std.proofs.lemmas.List.Folds.{find-append, list_any-append}
-use Rattle.cf_tree.specs.Named.{all_differ}
-use Rattle.cf_effect.specs.declared.held.Held.{Held}
-use Rattle.cf_effect.specs.Words.{change_first, current_at, has_physical, is_current_at, without}
-use Rattle.cf_plan.specs.Forward.{In, here, there}
-use Rattle.cf_plan.proofs.CreatedStays.{found_in_more, found_one, found_still, in_more}
-use Rattle.cf_plan.proofs.CreatedWhole.{in_map}
-use Rattle.cf_plan.proofs.CreatedRight.{not_so}
+use Rattle.std.proofs.Common.{arith, ◌≡◌, ℕ, List, [], ◌∷◌, ◌++◌, Bool, true, false, not, ◌&&◌, Option, Some, None, refl, sym, ap, subst, ◌∙◌, map, cond}
+use Rattle.cf_core.proofs.Words.{AreSameThings, AreSingle, Held, In, IsSameThing, all_differ, bytes_eq, change_first, current_at, has_physical, here, is_current_at, more, none, there, without}
+use Rattle.cf_core.proofs.Lemmas.{bytes_eq-Decides, differ_apart, differ_rest, find-append, found_in_more, found_one, found_still, in_more, list_any-append, map-append, none_false, one_id}
 use Rattle.cf_plan.proofs.RunLanes.{bytes_same, same_bytes}
-use Rattle.cf_plan.proofs.RunLists.{any_of, none_false}
-use Rattle.cf_core.specs.Advancing.{AreSameThings, AreSingle, IsSameThing, more, none}
 
 -- one of what a list is mapped to
 pub from_map : {A B : Type 0} (f : A → B) (xs : List A) (y : B) → In y (map f xs) → (x : A) × In x xs × (y ≡ f x)
@@ -28,23 +15,6 @@ pub map_same : {A : Type 0} (f : A → A) (xs : List A) → ((x : A) → In x xs
 map_same f [] h = refl
 map_same f (x ∷ xs) h = ap (λ y. y ∷ map f xs) (h x here) ∙ ap (λ ys. x ∷ ys) (map_same f xs (λ y i. h y (there i)))
 
--- no two of a list have one key
-module _ {A K : Type 0} (key : A → K) (same : K → K → Bool) (same_self : (k : K) → same k k ≡ true) where
-  no_other : (x : A) (xs : List A) → all_differ same (map key (x ∷ xs)) ≡ true → (y : A) → In y xs → key x ≡ key y → ⊥
-  no_other x xs d y i e =
-      true≢false (sym (any_of (same (key x)) (map key xs) (key y) (in_map key y xs i) (subst (λ k. same (key x) k ≡ true) e (same_self (key x))))
-      ∙ not_so (list_any (same (key x)) (map key xs)) (first_so (not (list_any (same (key x)) (map key xs))) (all_differ same (map key xs)) d))
-
-  own_rest : (x : A) (xs : List A) → all_differ same (map key (x ∷ xs)) ≡ true → all_differ same (map key xs) ≡ true
-  own_rest x xs d = second_so (not (list_any (same (key x)) (map key xs))) (all_differ same (map key xs)) d
-
-  pub one_keyed : (xs : List A) → all_differ same (map key xs) ≡ true → (a b : A) → In a xs → In b xs → key a ≡ key b → a ≡ b
-  one_keyed (x ∷ xs) d a b here here e = refl
-  one_keyed (x ∷ xs) d a b here (there j) e = absurd (no_other x xs d b j e)
-  one_keyed (x ∷ xs) d a b (there i) here e = absurd (no_other x xs d a i (sym e))
-  one_keyed (x ∷ xs) d a b (there i) (there j) e = one_keyed xs (own_rest x xs d) a b i j e
-  one_keyed [] d a b i j e = elim i [ ]
-
 -- no two have one id
 abbrev pub ids_in : List Held → List (List ℕ)
 ids_in hs = map (λ r. r.physical) hs
@@ -52,39 +22,23 @@ ids_in hs = map (λ r. r.physical) hs
 abbrev pub HaveOwnIds : List Held → Type 0
 HaveOwnIds hs = all_differ bytes_eq (ids_in hs) ≡ true
 
-no_second : (h : Held) (hs : List Held) → HaveOwnIds (h ∷ hs) → (g : Held) → In g hs → h.physical ≡ g.physical → ⊥
-no_second h hs d g i e = no_other (λ (r : Held). r.physical) bytes_eq (λ k. same_bytes k k refl) h hs d g i e
-
 others_own : (h : Held) (hs : List Held) → HaveOwnIds (h ∷ hs) → HaveOwnIds hs
-others_own h hs d = own_rest (λ (r : Held). r.physical) bytes_eq (λ k. same_bytes k k refl) h hs d
+others_own h hs d = (differ_rest bytes_eq h.physical (ids_in hs) d).1
 
 pub one_of : (hs : List Held) → HaveOwnIds hs → (a b : Held) → In a hs → In b hs → a.physical ≡ b.physical → a ≡ b
-one_of hs d a b i j e = one_keyed (λ (r : Held). r.physical) bytes_eq (λ k. same_bytes k k refl) hs d a b i j e
+one_of = one_id (λ r. r.physical)
 
 -- of two lists together
 pub own_front : (hs gs : List Held) → HaveOwnIds (hs ++ gs) → HaveOwnIds hs
 own_front [] gs d = refl
-own_front (h ∷ hs) gs d =
-    ap (λ b. not b && all_differ bytes_eq (ids_in hs)) (none_false (list_any (bytes_eq h.physical) (ids_in hs)) none_here) ∙ own_front hs gs (others_own h (hs ++ gs) d)
-  where
-    none_here : list_any (bytes_eq h.physical) (ids_in hs) ≡ true → ⊥
-    none_here e =
-        true≢false (sym (ap (λ b. b || list_any (bytes_eq h.physical) (ids_in gs)) e)
-        ∙ (sym (list_any-append (bytes_eq h.physical) (ids_in hs) (ids_in gs)) ∙ ap (list_any (bytes_eq h.physical)) (sym (map-append (λ (r : Held). r.physical) hs gs)))
-        ∙ not_so (list_any (bytes_eq h.physical) (ids_in (hs ++ gs))) (first_so (not (list_any (bytes_eq h.physical) (ids_in (hs ++ gs)))) (all_differ bytes_eq (ids_in (hs ++ gs))) d))
+own_front (h ∷ hs) gs d = grind (arith, own_front hs gs, list_any-append, map-append)
 
 pub own_back : (hs gs : List Held) → HaveOwnIds (hs ++ gs) → HaveOwnIds gs
 own_back [] gs d = d
 own_back (h ∷ hs) gs d = own_back hs gs (others_own h (hs ++ gs) d)
 
-in_behind : (g : Held) (hs gs : List Held) → In g gs → In g (hs ++ gs)
-in_behind g [] gs i = i
-in_behind g (h ∷ hs) gs i = there (in_behind g hs gs i)
-
 pub not_in_both : (hs gs : List Held) → HaveOwnIds (hs ++ gs) → (a b : Held) → In a hs → In b gs → a.physical ≡ b.physical → ⊥
-not_in_both (h ∷ hs) gs d a b here j e = no_second h (hs ++ gs) d b (in_behind b hs gs j) e
-not_in_both (h ∷ hs) gs d a b (there i) j e = not_in_both hs gs (others_own h (hs ++ gs) d) a b i j e
-not_in_both [] gs d a b i j e = elim i [ ]
+not_in_both = differ_apart bytes_eq (λ k l. (bytes_eq-Decides k l).1) (λ r. r.physical)
 
 -- The one of an id is changed: so is each that has it.
 module _ (id : List ℕ) (change : Held → Held) where
@@ -99,38 +53,23 @@ module _ (id : List ℕ) (change : Held → Held) where
   changed_all (h ∷ hs) d = by (has_physical id h) refl (changed_all hs (others_own h hs d))
     where
       other : has_physical id h ≡ true → (g : Held) → In g hs → has_physical id g ≡ false
-      other e g i = none_false (has_physical id g) (λ so. no_second h hs d g i (sym (bytes_same id h.physical e) ∙ bytes_same id g.physical so))
+      other e g i = none_false (has_physical id g) (λ so.
+          not_in_both (h ∷ []) hs d h g here i (sym (bytes_same id h.physical e) ∙ bytes_same id g.physical so))
 
       by : (b : Bool) → has_physical id h ≡ b → change_first (has_physical id) change hs ≡ map changed_if hs
           → cond b (change h ∷ hs) (h ∷ change_first (has_physical id) change hs) ≡ cond b (change h) h ∷ map changed_if hs
-      by true e ih = ap (λ gs. change h ∷ gs) (sym (map_same changed_if hs (λ g i. not_changed g (other e g i))))
-      by false e ih = ap (λ gs. h ∷ gs) ih
-
-  -- where none has it, nothing changes
-  pub changed_none : (hs : List Held) → ((h : Held) → In h hs → has_physical id h ≡ false) → change_first (has_physical id) change hs ≡ hs
-  changed_none [] n = refl
-  changed_none (h ∷ hs) n =
-      ap (λ b. cond b (change h ∷ hs) (h ∷ change_first (has_physical id) change hs)) (n h here) ∙ ap (λ gs. h ∷ gs) (changed_none hs (λ g i. n g (there i)))
+      by b e ih = grind (arith, map_same, not_changed, other)
 
 pub without_none : (id : List ℕ) (hs : List Held) → ((h : Held) → In h hs → has_physical id h ≡ false) → without id hs ≡ hs
 without_none id [] n = refl
-without_none id (h ∷ hs) n =
-    ap (λ b. cond (not b) (h ∷ without id hs) (without id hs)) (n h here) ∙ ap (λ gs. h ∷ gs) (without_none id hs (λ g i. n g (there i)))
+without_none id (h ∷ hs) n = grind (arith, n h here, without_none id hs (λ g i. n g (there i)))
 
 -- The same resources.
 pub same_thing : (h : Held) → IsSameThing h h
 same_thing h = record { path = refl; physical = refl; kind = refl; needs = refl; deletion = refl; replace = refl; superseded = refl }
 
 thing_on : (b g h : Held) → IsSameThing b g → IsSameThing g h → IsSameThing b h
-thing_on b g h c d = record {
-  path = d.path ∙ c.path;
-  physical = d.physical ∙ c.physical;
-  kind = d.kind ∙ c.kind;
-  needs = d.needs ∙ c.needs;
-  deletion = d.deletion ∙ c.deletion;
-  replace = d.replace ∙ c.replace;
-  superseded = d.superseded ∙ c.superseded;
-}
+thing_on b g h c d = grind arith
 
 pub same_things : (hs : List Held) → AreSameThings hs hs
 same_things [] = none
@@ -168,15 +107,13 @@ along path (more {b = b} {h = h} {bs = bs} {hs = hs} e rest) =
     (ap (λ p. bytes_eq path p && not b.superseded) (sym e.path) ∙ ap (λ v. bytes_eq path h.path && not v) (sym e.superseded)) (by (is_current_at path b) (along path rest))
   where
     by : (c : Bool) → Along (current_at path bs) (current_at path hs) → Along (cond c (Some b) (current_at path bs)) (cond c (Some h) (current_at path hs))
-    by true ih = e
-    by false ih = ih
+    by c ih = grind arith
 
 pub none_along : {bs hs : List Held} (path : List ℕ) → AreSameThings bs hs → current_at path bs ≡ None → current_at path hs ≡ None
 none_along {bs} {hs} path h e = by (current_at path hs) refl (subst (λ o. Along o (current_at path hs)) e (along path h))
   where
     by : (o : Option Held) → current_at path hs ≡ o → Along None o → o ≡ None
-    by None f a = refl
-    by (Some g) f a = absurd a
+    by o f a = grind arith
 
 pub single_along : {bs hs : List Held} → AreSameThings bs hs → HaveOwnIds hs → AreSingle bs → AreSingle hs
 single_along {bs} {hs} s d single h i =
@@ -195,8 +132,7 @@ single_more hs m current n single =
     (found_in_more (is_current_at m.path) hs m (ap (λ b. b && not m.superseded) (same_bytes m.path m.path refl) ∙ ap not current) n)
 
 pub none_with : (hs : List Held) (m : Held) (path : List ℕ) → bytes_eq path m.path ≡ false → current_at path hs ≡ None → current_at path (hs ++ m ∷ []) ≡ None
-none_with hs m path other n =
-    find-append (is_current_at path) hs (m ∷ []) ∙ ap (λ o. option_or o (current_at path (m ∷ []))) n ∙ ap (λ b. cond (b && not m.superseded) (Some m) None) other
+none_with hs m path other n = grind (arith, find-append)
 
 -- what was there before an update has the ids of what is held
 pub own_before : (before hs ms : List Held) → AreSameThings before hs → HaveOwnIds (hs ++ ms) → HaveOwnIds before

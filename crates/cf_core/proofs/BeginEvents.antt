@@ -1,85 +1,14 @@
 -- Each row is the call that the journal has, and each resource was made by a create that was answered: each entry keeps that.
-use Rattle.cf_agree.specs.Account.{Called, Open, called, dropped, rested, Account, Role, Thing}
-use Rattle.cf_agree.specs.Base.{named_by, effect_of, Dict, lane_of}
-use Rattle.cf_agree.specs.Lanes.{entry_in, Lanes}
-use Rattle.cf_agree.specs.Ties.{Books, IsMade, Ties}
-use Rattle.cf_core.proofs.Entries.{call_more, on_one, open_own, told_more, IsOnOne, gone_without, is_working, not_resting, once_here, resting_same, role_here, role_now, role_same, told_same, one_is_put, keeps_known, kept_may, kept_moves, kept_stack, found_none, quiet_moves, alike_quiet, dropped_moves, passes, gives, left_more, on_bool, on_option, intended_way}
-use Rattle.cf_core.proofs.FitKept.{IsLeftBy, IsLess, IsSameBut, IsSameCall, Key, Stands, fitting_lane, gone as is_gone, has_other, in_keyed, intends_named, into_mapped, key_of, keys_of, known_steady, left_by, less_self, made as is_made, opening_less, own_less, rows_answered, same as is_same, same_call, stack_known, stands_by, with_key, at_known, after_stacks, differ_keyed, find_mapped, from_mapped, keeps_skipped, one_id, one_number, put_by, after_lanes, IsPlain}
-use Rattle.cf_core.specs.AccountOf.{called_as, account_of, call_in, for_good, lanes_of, named_in, open_as, open_in, told_in, Named, is_at_rest, lost_on, resting_in, role_in, has_leftover, held_in, role_found, role_on, thing_of}
-use Rattle.cf_core.specs.Fits.{BecomesBy, own as is_own, at_opening, other as is_other, IsNew}
-use Rattle.cf_core.specs.Fitting.{AreSteady, IsSteady, IsOfItsLane, IsGivenUpIn}
-use Rattle.cf_core.specs.LifeAgrees.{good_reply, lease_of, IsOrderly}
-use Rattle.cf_core.specs.OneStack.{AreOwn, OneStack, IsLocal, IsOnce}
-use Rattle.cf_core.specs.SoundLife.{called_by, AreWritten, HaveOrigins, IsMadeBy, AreSound}
-use Rattle.cf_entry.specs.declared.entry.Entry.{Entry}
-use Rattle.cf_entry.specs.declared.entry.Reply.{Reply}
-use Rattle.cf_handler.specs.declared.settled.Settled.{Settled}
-use Rattle.cf_handler.specs.declared.settled.Settlement.{Settlement}
-use Rattle.cf_plan.proofs.CreatedRight.{in_filter}
-use Rattle.cf_plan.proofs.CreatedStays.{in_more, found_one}
-use Rattle.cf_plan.proofs.RunLists.{is_found_in, any_of, in_either, in_front, in_back, in_kept, some_of}
-use Rattle.cf_plan.specs.Agrees.{written_in, call_at}
-use Rattle.cf_plan.specs.Follow.{MayFollow, MayKeep, cleaned_in, begins_from, continues_from, is_opened_since, updates_from}
-use Rattle.cf_plan.specs.Forward.{In, here, there}
-use Rattle.cf_plan.specs.Lanes.{Lane, lane_at}
-use Rattle.cf_plan.specs.Life.{CallEnd, Answered, Stale, IsOutcomeOf, Lease, named_lane}
-use Rattle.cf_schema.specs.declared.described.Schema.{Schema}
-use Rattle.cf_stacks.specs.Apart.{AreApart, IsNext}
-use Rattle.cf_effect.specs.Calls.{answered_call, is_restore, where_call}
-use Rattle.cf_effect.specs.Effect.{heard, on_stack}
-use Rattle.cf_effect.specs.Fold.{effect_at, is_opening, stack_for, changed_by, world_after}
-use Rattle.cf_effect.specs.Operation.{Response, reply_in}
-use Rattle.cf_effect.specs.Reply.{answered, closing, replied, keeping_unknown}
-use Rattle.cf_effect.specs.Words.{has_token, pending_of, resources_of, id_named, has_physical, is_create, is_create_at, is_created, unknown_id}
-use Rattle.cf_effect.specs.World.{StackState, World, known_stack, stack_of_operation, no_stack, stack_at}
-use Rattle.cf_effect.specs.declared.call.Call.{Call}
-use Rattle.cf_effect.specs.declared.held.Held.{Held}
-use Rattle.cf_effect.specs.declared.held.Pending.{Pending}
-use Rattle.cf_tree.specs.Datum.{Data}
-use Rattle.cf_tree.specs.declared.request.Request.{Request}
 use Rattle.std.proofs.Common.{◌≡◌, ◌⊎◌, inl, inr, ℕ, ◌+◌, List, [], ◌∷◌, ◌++◌, Bool, true, false, Option, Some, None, refl, sym, ap, subst, ◌∙◌, true≢false, find, unwrap_or, arith, map, ◌==◌, not, ◌&&◌, ◌||◌, filter}
-use Rattle.std.proofs.lemmas.Bool.{eq-eqb, eqb-true, or_left, or_right}
-use Rattle.std.proofs.lemmas.Slice.Eq.{bytes_eq-Decides}
-use Rattle.std.specs.List.{list_any, cons_option}
-use Rattle.std.specs.Option.{option_or, option_map, option_map_or}
-use Rattle.std.specs.Prelude.{cond}
-use Rattle.std.specs.Str.{bytes_eq}
-use Rattle.cf_agree.proofs.Keeps.{drop_keeps, rest_keeps}
-use Rattle.cf_agree.specs.Account.Role.{Stranger, Resource}
-use Rattle.cf_agree.specs.Laws.{Agree}
-use Rattle.cf_agree.specs.Moves.{GivenUp, MayDrop, RoleMove, doubted, of_create, of_doubted, stays}
-use Rattle.cf_core.proofs.Settling.{found_name, map_some, orderly_on, there_is, named_found}
-use Rattle.cf_core.specs.Bridges.{account_with, kept_role}
-use Rattle.cf_entry.specs.declared.entry.Begun.{Begun}
-use Rattle.cf_entry.specs.declared.status.Status.{Status}
-use Rattle.cf_entry.specs.declared.turn.Why.{Why}
-use Rattle.cf_handler.specs.Fence.{FencedLane}
-use Rattle.cf_handler.specs.Move.{IsOfLane}
-use Rattle.cf_plan.specs.Accept.{creates_from}
-use Rattle.cf_effect.specs.Begin.{as_before, creates_at, given_up, skipped_creates, skipped_in, lost_create}
-use Rattle.cf_effect.specs.Status.{Stage, Forward, Clean, Back, BackClean, Gone, is_in_progress, reviewed}
-use Rattle.cf_effect.specs.declared.held.GivenUp.{GivenUp as LostCall}
-use Rattle.cf_effect.specs.declared.held.Leftover.{Leftover as Left}
-use Rattle.cf_tree.proofs.Lookups.{put_here, put_else}
-use Rattle.cf_tree.specs.Keys.{put}
-use Rattle.cf_tree.specs.Lists.{is_among}
-use Rattle.cf_tree.specs.Named.{all_differ}
-use Rattle.cf_tree.specs.declared.row.Row.{Row}
-use Rattle.cf_tree.specs.declared.source.Source.{Source}
-use Rattle.std.proofs.lemmas.List.Folds.{list_any-append, find-append}
+use Rattle.cf_core.proofs.Words.{Account, Agree, Answer, Answered, AreApart, AreOwn, AreSound, AreSteady, AreWritten, BecomesBy, Begun, Books, Call, CallEnd, Called, Data, Dict, Entry, GivenUp as LostCall, HaveOrigins, Held, In, IsGivenUpIn, IsLocal, IsMade, IsMadeBy, IsNew, IsNext, IsOfItsLane, IsOfLane, IsOnce, IsOrderly, IsOutcomeOf, IsSteady, Lane, Lanes, Lease, Leftover as Left, MayDrop, MayFollow, MayKeep, Named, OneStack, Open, Pending, Reply, Request, Resource, Response, Role, RoleMove, Row, Schema, Settled, Settlement, Source, StackState, Stage, Stale, Status, Stranger, Thing, Ties, Why, World, account_of, account_with, all_differ, answered, answered_call, as_before, at_opening, begins_from, bytes_eq, call_in, called, called_as, called_by, changed_by, cleaned_in, closing, cond, continues_from, creates_from, doubted, dropped, effect_at, entry_in, for_good, given_up, good_reply, has_leftover, has_physical, has_token, heard, held_in, here, id_named, is_among, is_at_rest, is_create, is_create_at, is_created, is_in_progress, is_opened_since, is_opening, is_restore, keeping_unknown, kept_role, known_stack, lane_of, lanes_of, lease_of, list_any, lost_create, lost_on, named_by, named_in, named_lane, of_create, of_doubted, on_stack, open_as, open_in, option_map, option_or, other as is_other, own as is_own, pending_of, put, replied, reply_in, resources_of, rested, resting_in, reviewed, role_found, role_in, role_on, skipped_creates, skipped_in, stack_at, stack_for, stack_of_operation, there, thing_of, told_in, unknown_id, updates_from, where_call, world_after}
+use Rattle.cf_core.proofs.Lemmas.{any_of, bytes_eq-Decides, bytes_or, eq-eqb, eqb-true, find-append, find_mapped, found_one, in_back, in_either, in_filter, in_front, in_kept, in_more, into_mapped, is_found_in, list_any-append, one_id, one_number, or_left, or_right, other_bytes, put_else, put_here, some_of}
+use Rattle.cf_agree.specs.Moves.{GivenUp, stays}
+use Rattle.cf_core.proofs.{Stacks.call_more, Stacks.on_one, Stacks.open_own, Stacks.told_more, Stacks.IsOnOne, Stacks.is_working, Stacks.not_resting, Stacks.once_here, Stacks.resting_same, Stacks.role_here, Stacks.role_now, Stacks.role_same, Stacks.told_same, Stacks.one_is_put, Stacks.on_bool, Stacks.on_option, Outcomes.gone_without, Outcomes.keeps_known, Outcomes.kept_may, Outcomes.kept_moves, Outcomes.kept_stack, Outcomes.found_none, Outcomes.quiet_moves, Outcomes.alike_quiet, Outcomes.dropped_moves, Outcomes.passes, Outcomes.gives, Outcomes.left_more, Statuses.intended_way, FitKept.IsLeftBy, FitKept.IsLess, FitKept.IsSameBut, FitKept.IsSameCall, FitKept.Key, FitKept.Stands, FitKept.fitting_lane, FitKept.gone as is_gone, FitKept.has_other, FitKept.in_keyed, FitKept.intends_named, FitKept.key_of, FitKept.keys_of, FitKept.known_steady, FitKept.left_by, FitKept.less_self, FitKept.made as is_made, FitKept.opening_less, FitKept.own_less, FitKept.rows_answered, FitKept.same as is_same, FitKept.same_call, FitKept.stack_known, FitKept.stands_by, FitKept.with_key, FitKept.at_known, FitKept.after_stacks, FitKept.differ_keyed, FitKept.from_mapped, FitKept.keeps_skipped, FitKept.put_by, FitKept.after_lanes, FitKept.IsPlain, Settling.found_name, Settling.map_some, Settling.orderly_on, Settling.there_is, Settling.named_found, BlameStays.deleted_listed}
+use Rattle.cf_plan.specs.Agrees.{written_in, call_at}
+use Rattle.cf_agree.proofs.{Keeps.drop_keeps, Keeps.rest_keeps, Words.same_bytes, Words.bytes_same}
 use Rattle.std.specs.Bool.{IsTrue}
-use Rattle.cf_agree.proofs.Words.{same_bytes, bytes_same, bytes_or, other_bytes}
-use Rattle.cf_core.proofs.BlameStays.{deleted_listed}
 use Rattle.cf_agree.specs.Base as base
-use Rattle.cf_entry.specs.declared.entry.Entry.TheVariants as entry
-use Rattle.cf_entry.specs.declared.entry.Reply.TheVariants as reply
-use Rattle.cf_handler.specs.declared.settled.Settlement.TheVariants as settlement
-use Rattle.cf_tree.specs.declared.request.Answer.TheVariants as answer
-use Rattle.cf_tree.specs.declared.request.Request.TheVariants as request
 use Rattle.cf_core.specs.Fitting as fitting
-use Rattle.cf_entry.specs.declared.entry.Begun.TheVariants as begin
-use Rattle.cf_entry.specs.declared.status.Status.TheVariants as status
-use Rattle.cf_entry.specs.declared.turn.Why.TheVariants as why
 
 -- Where the rows and the resources of a stack come from: from before the entry, or from the call that it writes down or answers.
 
@@ -94,7 +23,7 @@ pub record IsNewResource (x : World) (e : Entry) (name : List ℕ) (s : StackSta
   pub attrs : List (List ℕ × Data)
   pub pending : Pending
   pub told : reply_in e ≡ Some answer
-  pub success : answer.answer ≡ reply.Success r.physical attrs
+  pub success : answer.answer ≡ Reply.Success r.physical attrs
   pub open_ : pending_of answer.token s ≡ Some pending
   pub create : named_by pending.request ≡ None
 
@@ -109,9 +38,9 @@ from_less : (x : World) (e : Entry) (name : List ℕ) (s t : StackState) → IsL
 from_less x e name s t d = record { rows = λ c i. inl ((d.rows).from c i); resources = λ r i. inl (by_keys s t (in_keyed d.keyed) r i) }
 
 from_intent : (x : World) (name : List ℕ) (s : StackState) (number token : ℕ) (lane path : List ℕ) (r : Request)
-    → ComesFrom x (entry.Intent number token lane path r) name s (effect_at (x.place + 1) (entry.Intent number token lane path r) s).stack
+    → ComesFrom x (Entry.Intent number token lane path r) name s (effect_at (x.place + 1) (Entry.Intent number token lane path r) s).stack
 from_intent x name s number token lane path r =
-    let e : Entry = entry.Intent number token lane path r in
+    let e : Entry = Entry.Intent number token lane path r in
     let p : Pending = record { token = token; path = path; lane = lane; request = r } in
     intended_way (λ t. ComesFrom x e name s (heard (x.place + 1) e s (on_stack t)).stack) s
     (record { rows = λ d i. inl (d, i, same_call d); resources = λ q i. inl (q, i, refl) }) number p
@@ -121,17 +50,17 @@ from_intent x name s number token lane path r =
     })
 
 from_outcome :
-    (x : World) (name : List ℕ) (s : StackState) (number token : ℕ) (a : Reply) (before after : ℕ) → stack_for (entry.Outcome number token a before after) x ≡ Some (name, s)
-    → ComesFrom x (entry.Outcome number token a before after) name s (effect_at (x.place + 1) (entry.Outcome number token a before after) s).stack
+    (x : World) (name : List ℕ) (s : StackState) (number token : ℕ) (a : Reply) (before after : ℕ) → stack_for (Entry.Outcome number token a before after) x ≡ Some (name, s)
+    → ComesFrom x (Entry.Outcome number token a before after) name s (effect_at (x.place + 1) (Entry.Outcome number token a before after) s).stack
 from_outcome x name s number token a before after mine = by (pending_of token s) refl where
   e : Entry
-  e = entry.Outcome number token a before after
+  e = Entry.Outcome number token a before after
 
   rows : (u : StackState) (ps : List Pending) → IsSameBut s u → (d : Call) → In d (where_call token (answered_call a) u.ledger) → (c : Call) × In c s.ledger × IsSameCall c d
   rows u ps b d i = (rows_answered token a ps s.ledger).from d (subst (λ cs. In d (where_call token (answered_call a) cs)) b.ledger i)
 
   answered_from : (p : Pending) → pending_of token s ≡ Some p → (r : Request) (b : Reply) (u : StackState) → p.request ≡ r → a ≡ b → IsLeftBy s p.path r b u
-      → ComesFrom x (entry.Outcome number token a before after) name s (heard (x.place + 1) (entry.Outcome number token a before after) s (on_stack (closing token a u))).stack
+      → ComesFrom x (Entry.Outcome number token a before after) name s (heard (x.place + 1) (Entry.Outcome number token a before after) s (on_stack (closing token a u))).stack
   answered_from p k r b u f g (is_same but keys) =
       record { rows = λ d i. inl (rows u [] but d i); resources = λ q i. inl (by_keys s u (λ z j. subst (In z) keys j) q i) }
   answered_from p k r b u f g (is_gone id but named closes keys) =
@@ -139,37 +68,35 @@ from_outcome x name s number token a before after mine = by (pending_of token s)
   answered_from p k _ _ u f g (is_made kind id props attrs h but is id_is kind_is) = record {
     rows = λ d i. inl (rows u [] but d i);
     resources = λ q i.
-        in_more (λ z. ((y : Held) × In y (resources_of s) × (y.physical ≡ z.physical)) ⊎ IsNewResource x (entry.Outcome number token a before after) name s z) h (resources_of s) (λ z j. inl (z, j, refl))
+        in_more (λ z. ((y : Held) × In y (resources_of s) × (y.physical ≡ z.physical)) ⊎ IsNewResource x (Entry.Outcome number token a before after) name s z) h (resources_of s) (λ z j. inl (z, j, refl))
         (inr (record {
           mine = mine;
           answer = record { token = token; answer = a; before = before; after = after };
           attrs = attrs;
           pending = p;
           told = refl;
-          success = g ∙ ap (λ n. reply.Success n attrs) (sym id_is);
+          success = g ∙ ap (λ n. Reply.Success n attrs) (sym id_is);
           open_ = k;
           create = ap named_by f;
         }))
         q (subst (In q) is i);
   }
 
-  by : (o : Option Pending) → pending_of token s ≡ o → ComesFrom x (entry.Outcome number token a before after) name s (effect_at (x.place + 1) (entry.Outcome number token a before after) s).stack
-  by None k =
-      subst (λ o. ComesFrom x (entry.Outcome number token a before after) name s (heard (x.place + 1) (entry.Outcome number token a before after) s (on_stack (replied token a o s))).stack) (sym k)
-      (record { rows = λ d i. inl (d, i, same_call d); resources = λ q i. inl (q, i, refl) })
+  by : (o : Option Pending) → pending_of token s ≡ o → ComesFrom x (Entry.Outcome number token a before after) name s (effect_at (x.place + 1) (Entry.Outcome number token a before after) s).stack
+  by None k = grind (arith, rows, same_call)
   by (Some p) k =
-      subst (λ o. ComesFrom x (entry.Outcome number token a before after) name s (heard (x.place + 1) (entry.Outcome number token a before after) s (on_stack (replied token a o s))).stack) (sym k)
+      subst (λ o. ComesFrom x (Entry.Outcome number token a before after) name s (heard (x.place + 1) (Entry.Outcome number token a before after) s (on_stack (replied token a o s))).stack) (sym k)
       (answered_from p k p.request a (answered (is_restore token s) p.path p.request a s) refl refl (left_by (is_restore token s) p.path p.request a s))
 
 module _ (schemas : List Schema) (x : World) (out : List ℕ) (apart : AreApart x) where
   own_from : (e : Entry) (name : List ℕ) (s : StackState) → stack_for e x ≡ Some (name, s) → MayFollow schemas x out e → IsSteady s → ComesFrom x e name s (effect_at (x.place + 1) e s).stack
-  own_from (entry.Intent number token lane path r) name s mine may steady = from_intent x name s number token lane path r
-  own_from (entry.Outcome number token a before after) name s mine may steady = from_outcome x name s number token a before after mine
-  own_from (entry.Opened epoch lanes) name s mine may steady = let none : ⊥ = cc in absurd none
+  own_from (Entry.Intent number token lane path r) name s mine may steady = from_intent x name s number token lane path r
+  own_from (Entry.Outcome number token a before after) name s mine may steady = from_outcome x name s number token a before after mine
+  own_from (Entry.Opened epoch lanes) name s mine may steady = let none : ⊥ = cc in absurd none
   own_from e name s mine may steady = from_less x e name s _ (own_less schemas x out apart e name s mine may steady tt)
 
   opening_from : (e : Entry) (name : List ℕ) (s : StackState) → is_opening e ≡ true → ComesFrom x e name s (effect_at (x.place + 1) e s).stack
-  opening_from (entry.Opened epoch lanes) name s n = from_less x (entry.Opened epoch lanes) name s _ (opening_less x epoch lanes s)
+  opening_from (Entry.Opened epoch lanes) name s n = from_less x (Entry.Opened epoch lanes) name s _ (opening_less x epoch lanes s)
   opening_from e name s n = absurd (true≢false (sym n))
 
   -- so it is with every stack that is there after an entry
@@ -194,29 +121,15 @@ told_kept : (es : List Entry) (e : Entry) (t : ℕ) (y : Settlement) → told_in
 told_kept es e t y h = told_more es e t ∙ ap (λ o. option_or o (told_in (e ∷ []) t)) h
 
 pub made_kept : (es : List Entry) (e : Entry) (id : List ℕ) → IsMadeBy es id → IsMadeBy (es ++ e ∷ []) id
-made_kept es e id (u, c, attrs, told, call, create) = (u, c, attrs, told_kept es e u (settlement.Success id attrs) told, call_kept es e u c call, create)
+made_kept es e id (u, c, attrs, told, call, create) = (u, c, attrs, told_kept es e u (Settlement.Success id attrs) told, call_kept es e u c call, create)
 
 -- a call that the journal has now it had before, or the entry writes it down
 call_back : (es : List Entry) (e : Entry) (t : ℕ) (c : Called) → call_in (es ++ e ∷ []) t ≡ Some c → (call_in es t ≡ Some c) ⊎ ((p : Pending) × (written_in e ≡ Some p) × (called_as p ≡ c))
-call_back es e t c h = by (call_at t es) refl (sym (ap (option_map called_as) (call_more es e t)) ∙ h) where
-  new : (w : Option Pending) → written_in e ≡ w → option_map called_as (find (has_token t) (cons_option w [])) ≡ Some c → (p : Pending) × (written_in e ≡ Some p) × (called_as p ≡ c)
-  new None f k = absurd (cc)
-  new (Some p) f k = (p, f, by_token (has_token t p) k) where
-    by_token : (b : Bool) → option_map called_as (cond b (Some p) None) ≡ Some c → called_as p ≡ c
-    by_token b z = grind arith
-
-  by : (o : Option Pending) → call_at t es ≡ o → option_map called_as (option_or o (call_at t (e ∷ []))) ≡ Some c → (call_in es t ≡ Some c) ⊎ ((p : Pending) × (written_in e ≡ Some p) × (called_as p ≡ c))
-  by None f k = inr (new (written_in e) refl k)
-  by (Some p) f k = inl (ap (option_map called_as) f ∙ k)
+call_back es e t c h = grind (arith, call_more)
 
 -- the call that an entry writes down under a token that has none
 call_new : (es : List Entry) (e : Entry) (p : Pending) → written_in e ≡ Some p → call_in es p.token ≡ None → call_in (es ++ e ∷ []) p.token ≡ Some (called_as p)
-call_new es e p w none =
-    ap (option_map called_as) (call_more es e p.token) ∙ by (call_at p.token es) none
-    ∙ cc (eq-eqb p.token p.token refl) where
-      by : (o : Option Pending) → option_map called_as o ≡ None → option_map called_as (option_or o (call_at p.token (e ∷ []))) ≡ call_in (e ∷ []) p.token
-      by None k = refl
-      by (Some q) k = absurd (cc)
+call_new es e p w none = grind (arith, call_more, eq-eqb)
 
 -- an answer for good that an entry writes down for a call that has none
 told_new : (es : List Entry) (e : Entry) (r : Response) (y : Settlement) → reply_in e ≡ Some r → for_good r.answer ≡ Some y → told_in es r.token ≡ None → told_in (es ++ e ∷ []) r.token ≡ Some y
@@ -224,12 +137,10 @@ told_new es e r y w good none = cc (told_more es e r.token, eq-eqb r.token r.tok
 
 module _ (es : List Entry) (x : World) where
   pub known_written : AreWritten es x → (name : List ℕ) (s : StackState) → known_stack name x ≡ s → (c : Call) → In c s.ledger → call_in es c.token ≡ Some (called_by c)
-  known_written h name s e c i =
-      at_known (λ (t : StackState). In c t.ledger → call_in es c.token ≡ Some (called_by c)) x name (λ j. elim j [ ]) (λ t f. h name t c f) (subst (λ (t : StackState). In c t.ledger) (sym e) i)
+  known_written h name s e c i = grind (arith, at_known)
 
   pub known_made : (lanes : List Lane) → HaveOrigins es x lanes → (name : List ℕ) (s : StackState) → known_stack name x ≡ s → (r : Held) → In r (resources_of s) → IsMadeBy es r.physical
-  known_made lanes h name s e r i =
-      at_known (λ (t : StackState). In r (resources_of t) → IsMadeBy es r.physical) x name (λ j. elim j [ ]) (λ t f. h.made name t r f) (subst (λ (t : StackState). In r (resources_of t)) (sym e) i)
+  known_made lanes h name s e r i = grind (arith, at_known)
 
   -- an open call of a stack is open
   pub open_there : AreOwn x.stacks → (e : Entry) → is_opening e ≡ false → (name : List ℕ) (s : StackState) → stack_for e x ≡ Some (name, s) → (t : ℕ) (p : Pending) → pending_of t s ≡ Some p → open_in x.stacks t ≡ Some (open_as name p)
@@ -254,10 +165,10 @@ module _ (schemas : List Schema) (es : List Entry) (x : World) (lanes : List Lan
     pub named : (id : List ℕ) → named_by p.request ≡ Some id → IsMadeBy es id
     pub lane : (k : List ℕ) × (named_in x.lanes p.lane ≡ Some k)
 
-  intent_known : (number token : ℕ) (lane path : List ℕ) (r : Request) → MayFollow schemas x out (entry.Intent number token lane path r) → IsKnownCall (record { token = token; path = path; lane = lane; request = r })
+  intent_known : (number token : ℕ) (lane path : List ℕ) (r : Request) → MayFollow schemas x out (Entry.Intent number token lane path r) → IsKnownCall (record { token = token; path = path; lane = lane; request = r })
   intent_known number token lane path r (name, s, stage, at, is, m) =
       let p : Pending = record { token = token; path = path; lane = lane; request = r } in
-      let known = stack_known x apart (entry.Intent number token lane path r) name s at in
+      let known = stack_known x apart (Entry.Intent number token lane path r) name s at in
       record {
         next = m.next;
         named = λ id n.
@@ -269,7 +180,7 @@ module _ (schemas : List Schema) (es : List Entry) (x : World) (lanes : List Lan
       }
 
   known_call : (d : Entry) → MayFollow schemas x out d → (p : Pending) → written_in d ≡ Some p → IsKnownCall p
-  known_call (entry.Intent number token lane path r) m p w =
+  known_call (Entry.Intent number token lane path r) m p w =
       let one : record { token = token; path = path; lane = lane; request = r } ≡ p = ap (λ (o : Option Pending). unwrap_or o p) w in
       subst IsKnownCall one (intent_known number token lane path r m)
   known_call d m p w = absurd (cc)
@@ -299,7 +210,7 @@ module _ (schemas : List Schema) (es : List Entry) (x : World) (lanes : List Lan
             token,
             called (open_as name n.pending),
             n.attrs,
-            told_new es e n.answer (settlement.Success r.physical n.attrs) n.told (ap for_good n.success) (books.untold token (open_as name n.pending) open_),
+            told_new es e n.answer (Settlement.Success r.physical n.attrs) n.told (ap for_good n.success) (books.untold token (open_as name n.pending) open_),
             call_kept es e token (called (open_as name n.pending)) call,
             n.create,
           )
@@ -316,23 +227,23 @@ module _ (schemas : List Schema) (es : List Entry) (x : World) (lanes : List Lan
   }
 
 -- what a create that succeeds makes
-made_create : (r : Request) (attrs : Dict) (id : List ℕ) → named_by r ≡ None → (q : Settled) → q.request ≡ r → q.settlement ≡ settlement.Success id attrs → IsMade q id
-made_create (request.Create kind props) attrs id n q a b = (kind, props, attrs, cc)
-made_create (request.Update i props) attrs id n q a b = absurd (cc)
-made_create (request.Delete i) attrs id n q a b = absurd (cc)
+made_create : (r : Request) (attrs : Dict) (id : List ℕ) → named_by r ≡ None → (q : Settled) → q.request ≡ r → q.settlement ≡ Settlement.Success id attrs → IsMade q id
+made_create (Request.Create kind props) attrs id n q a b = (kind, props, attrs, cc)
+made_create (Request.Update i props) attrs id n q a b = absurd (cc)
+made_create (Request.Delete i) attrs id n q a b = absurd (cc)
 
 -- What an open create made is new to its stack, and has an id of its lane.
 module _ (es : List Entry) (x : World) (lanes : List Lane) (books : Books (account_of es x)) (ties : Ties (account_of es x) (lanes_of lanes)) (origins : HaveOrigins es x lanes) where
   module _ (t : ℕ) (o : Open) (y : Settled) (id : List ℕ) (open_ : open_in x.stacks t ≡ Some o) (settled : entry_in (lanes_of lanes) o.lane t ≡ Some y) (made : IsMade y id) where
     pub never_made : IsMadeBy es id → ⊥
     never_made (u, c, attrs, told, call, create) =
-        let (s, at, is) = ties.answers u (settlement.Success id attrs) c told call (origins.there u c call) in
+        let (s, at, is) = ties.answers u (Settlement.Success id attrs) c told call (origins.there u c call) in
         let request = ((ties.settled_calls c.lane u s at).written c call).1 in
         let also = made_create c.request attrs id create s (sym request) is in
         let lane : c.lane ≡ o.lane = sym (ties.created_named c.lane id u s at also).0 ∙ (ties.created_named o.lane id t y settled made).0 in
         let same : u ≡ t = ties.created_once o.lane id u t s y (subst (λ n. entry_in (lanes_of lanes) n u ≡ Some s) lane at) settled also made in
         let none = books.untold t o open_ in
-        let some : told_in es t ≡ Some (settlement.Success id attrs) = ap (told_in es) (sym same) ∙ told in
+        let some : told_in es t ≡ Some (Settlement.Success id attrs) = ap (told_in es) (sym same) ∙ told in
         cc
 
 -- What a create that is answered made is new to its stack, and has an id of its lane.
@@ -344,9 +255,9 @@ agreed_in f (y ∷ xs) _ here = base.here
 agreed_in f (y ∷ xs) x (there i) = base.there (agreed_in f xs x i)
 
 module _ (schemas : List Schema) (es : List Entry) (x : World) (lanes : List Lane) (leases : List Lease) (h : AreSound schemas es x lanes leases) (lease : Lease) (out : In lease leases) where
-  module _ (id : List ℕ) (attrs : List (List ℕ × Data)) (before after : ℕ) (replied : good_reply lease.reply ≡ Some (settlement.Success id attrs)) where
+  module _ (id : List ℕ) (attrs : List (List ℕ × Data)) (before after : ℕ) (replied : good_reply lease.reply ≡ Some (Settlement.Success id attrs)) where
     abbrev outcome : Entry
-    outcome = entry.Outcome lease.number lease.token (reply.Success id attrs) before after
+    outcome = Entry.Outcome lease.number lease.token (Reply.Success id attrs) before after
 
     record IsAnswer (name : List ℕ) (s : StackState) (p : Pending) : Type 0 where
       pub open_ : open_in x.stacks lease.token ≡ Some (open_as name p)
@@ -360,7 +271,7 @@ module _ (schemas : List Schema) (es : List Entry) (x : World) (lanes : List Lan
         let books = ((h.agrees).tied).books in
         let ties = ((h.agrees).tied).ties in
         let member = agreed_in lease_of leases lease out in
-        let (y, at, is) = leased.replies (lease_of lease) (settlement.Success id attrs) member replied in
+        let (y, at, is) = leased.replies (lease_of lease) (Settlement.Success id attrs) member replied in
         let open_ = open_there es x (h.orderly).own outcome refl name s going lease.token p pending in
         let call = books.calls lease.token (open_as name p) open_ in
         let (lane, request) = ((leased.out (lease_of lease) member).own).written (called (open_as name p)) call in
@@ -384,11 +295,11 @@ module _ (schemas : List Schema) (es : List Entry) (x : World) (lanes : List Lan
         ((((h.agrees).tied).ties).created_named p.lane id lease.token a.settled a.at a.made).1
 
   pub settled_new : (e : Entry) (r : CallEnd) → lease.reply ≡ Some r → IsOutcomeOf lease r e → IsNew x e × IsOfItsLane x e
-  settled_new e (Answered (answer.Success id attrs) before after) k is =
+  settled_new e (Answered (Answer.Success id attrs) before after) k is =
       subst (λ d. IsNew x d × IsOfItsLane x d) (sym is) (is_new id attrs before after (ap good_reply k), is_of_lane id attrs before after (ap good_reply k))
-  settled_new e (Answered (answer.Failed c) before after) k is = subst (λ d. IsNew x d × IsOfItsLane x d) (sym is) (tt, tt)
-  settled_new e (Answered answer.Fault before after) k is = subst (λ d. IsNew x d × IsOfItsLane x d) (sym is) (tt, tt)
-  settled_new e (Answered answer.NoMemory before after) k is = absurd is
+  settled_new e (Answered (Answer.Failed c) before after) k is = subst (λ d. IsNew x d × IsOfItsLane x d) (sym is) (tt, tt)
+  settled_new e (Answered Answer.Fault before after) k is = subst (λ d. IsNew x d × IsOfItsLane x d) (sym is) (tt, tt)
+  settled_new e (Answered Answer.NoMemory before after) k is = absurd is
   settled_new e (Stale fence) k is = absurd is
 
 -- What begins, and a change set, keep agreement, and take nothing of another stack.
@@ -397,10 +308,7 @@ module _ (schemas : List Schema) (es : List Entry) (x : World) (lanes : List Lan
 
 -- no stack rests that did not, where the one that changes doesn't
 pub rests_less : (ss : Named) (name : List ℕ) (t : StackState) → is_at_rest t ≡ false → (n : List ℕ) → resting_in (put name t ss) n ≡ true → resting_in ss n ≡ true
-rests_less ss name t off n h = elim (bytes_or n name) [
-  | inl e ↦ absurd (true≢false (sym h ∙ ap (resting_in (put name t ss)) e ∙ ap (λ o. option_map_or is_at_rest o false) (put_here name t ss) ∙ off))
-  | inr e ↦ ap (λ o. option_map_or is_at_rest o false) (sym (put_else n name t ss (other_bytes n name e))) ∙ h
-]
+rests_less ss name t off n h = grind (arith, bytes_or, put_here, put_else, other_bytes)
 
 -- A change of a stack that takes nothing of another, where no call and no resource is new.
 
@@ -441,13 +349,10 @@ module _ (ss : Named) (name : List ℕ) (s s' : StackState) (once : IsOnce s) (d
     tokens = λ t v e. inl (let (i, f) = found_one (has_token t) s'.tokens v e in is_found_in (has_token t) s.tokens v (d.open_ v i) f);
   } where
     not_left : (i : List ℕ) (h : Held) → held_in i s' ≡ Some h → IsLeftAlike s s' i → has_leftover i s'.leftovers ≡ false
-    not_left i h e (alike k) = k ∙ (let (g, f) = was_held i h e in once.left i g f)
-    not_left i h e (taken g f k) = let none : ⊥ = cc in absurd none
+    not_left i h e k = grind (arith, was_held)
 
     blank : (i : List ℕ) → held_in i s ≡ None → has_leftover i s.leftovers ≡ false → (o : Option Held) → held_in i s' ≡ o → IsLeftAlike s s' i → role_on name s' i ≡ Stranger
-    blank i a b (Some h) e k = let (g, f) = was_held i h e in let none : ⊥ = cc in absurd none
-    blank i a b None e (alike k) = ap (λ o. role_found name o (has_leftover i s'.leftovers)) e ∙ ap (role_found name None) (k ∙ b)
-    blank i a b None e (taken g f k) = let none : ⊥ = cc in absurd none
+    blank i a b o e k = grind (arith, was_held)
 
 -- so it is with an entry that is no opening, no Intent and no outcome
 pub plain_orderly : (schemas : List Schema) (x : World) (out : List ℕ) (o : IsOrderly x) → AreSteady x → (e : Entry) (name : List ℕ) (s : StackState) → is_opening e ≡ false → stack_for e x ≡ Some (name, s)
@@ -493,8 +398,7 @@ lost_among test ps cs once from to s s' is t =
     tokens (q ∷ qs) = ap (λ b. (t == q.token) || b) (tokens qs)
 
     back : (o : Option Pending) → find (has_token t) ps ≡ o → gives test o ≡ true → list_any (has_token t) cs ≡ true
-    back None e h = absurd (true≢false (sym h))
-    back (Some p) e h = let (i, k) = found_one (has_token t) ps p e in any_of (has_token t) cs p (to p i h) k
+    back o e h = grind (arith, found_one, any_of)
 
 -- those at one path, and at some paths
 both : (a b : Bool) → (a && b) ≡ true → (a ≡ true) × (b ≡ true)
@@ -507,39 +411,23 @@ wider : (a b c : Bool) → (b && c) ≡ true → ((a || b) && c) ≡ true
 wider a b c h = grind arith
 
 at_path : (path : List ℕ) (ps : List Pending) (p : Pending) → In p (filter (is_create_at path) ps) → In p ps × ((is_create_at path p && is_created p) ≡ true)
-at_path path ps p i =
-    let (j, t) = in_filter (is_create_at path) ps p i in
-    (j, each (is_create_at path p) (is_created p) t (both (is_created p) (bytes_eq path p.path) t).0)
+at_path path ps p i = grind (arith, in_filter, each, both)
 
 to_path : (path : List ℕ) (ps : List Pending) (p : Pending) → In p ps → (is_create_at path p && is_created p) ≡ true → In p (filter (is_create_at path) ps)
 to_path path ps p i t = in_kept (is_create_at path) ps p i (both (is_create_at path p) (is_created p) t).0
 
 at_paths : (paths : List (List ℕ)) (ps : List Pending) (p : Pending) → In p (skipped_creates paths ps) → In p ps × ((is_among p.path paths && is_created p) ≡ true)
 at_paths [] ps p i = elim i [ ]
-at_paths (path ∷ paths) ps p i = elim (in_either p (creates_at ps path) (skipped_creates paths ps) i) [
-  | inl j ↦ (let (k, t) = in_filter (λ (q : Pending). is_created q && bytes_eq path q.path) ps p j in
-      let (c, e) = both (is_created p) (bytes_eq path p.path) t in
-      let same = same_bytes p.path path (sym (bytes_same path p.path e)) in
-      (k, each (is_among p.path (path ∷ paths)) (is_created p) (or_left (bytes_eq p.path path) (is_among p.path paths) same) c))
-  | inr j ↦ (let (k, t) = at_paths paths ps p j in (k, wider (bytes_eq p.path path) (is_among p.path paths) (is_created p) t))
-]
+at_paths (path ∷ paths) ps p i = grind (arith, at_paths paths, in_either, in_filter, both, same_bytes, bytes_same, each, or_left, wider)
 
 to_paths : (paths : List (List ℕ)) (ps : List Pending) (p : Pending) → In p ps → (is_among p.path paths && is_created p) ≡ true → In p (skipped_creates paths ps)
 to_paths [] ps p i t = absurd (true≢false (sym t))
-to_paths (path ∷ paths) ps p i t = elim (bytes_or p.path path) [
-  | inl e ↦ in_front p (creates_at ps path) (skipped_creates paths ps)
-      (in_kept (λ (q : Pending). is_created q && bytes_eq path q.path) ps p i (each (is_created p) (bytes_eq path p.path) (both (is_among p.path (path ∷ paths)) (is_created p) t).1 (same_bytes path p.path (sym e))))
-  | inr e ↦ in_back p (creates_at ps path) (skipped_creates paths ps) (to_paths paths ps p i (ap (λ b. (b || is_among p.path paths) && is_created p) (sym (other_bytes p.path path e)) ∙ t))
-]
+to_paths (path ∷ paths) ps p i t = grind (arith, to_paths paths, bytes_or, in_front, in_kept, each, both, same_bytes, in_back, other_bytes)
 
 -- Where only creates are given_one up, and no role changes.
 pub may_drop_creates : (a : Account) (w : Lanes) (drop : ℕ → Bool) (role : List ℕ → Role) → Books a → ((i : List ℕ) → role i ≡ a.role i)
     → ((t : ℕ) (o : Open) → a.open_ t ≡ Some o → drop t ≡ true → named_by o.request ≡ None) → MayDrop a w drop role
-may_drop_creates a w drop role b same none = record {
-  roles = λ i. stays (same i);
-  calls = λ t o e d. of_create (none t o e d);
-  left = λ t o i e d n. let (r, k, rest, at) = b.named t o i e n in (r, same i ∙ k);
-}
+may_drop_creates a w drop role b same none = grind arith
 
 create_names : (r : Request) → is_create r ≡ true → named_by r ≡ None
 create_names r t = grind arith
@@ -552,10 +440,7 @@ module _ (x y : World) (name : List ℕ) (s s' : StackState) (at : IsOnOne x y n
 
   -- those that are given_one up at a path are creates
   dropped_creates : (path : List ℕ) (t : ℕ) (o : Open) → open_in x.stacks t ≡ Some o → passes (is_create_at path) (find (has_token t) s.tokens) ≡ true → named_by o.request ≡ None
-  dropped_creates path t o e d = by (find (has_token t) s.tokens) refl d where
-    by : (q : Option Pending) → find (has_token t) s.tokens ≡ q → passes (is_create_at path) q ≡ true → named_by o.request ≡ None
-    by None k h = absurd (true≢false (sym h))
-    by (Some p) k h = ap (λ (v : Open). named_by v.request) (sym (open_by t p o k e)) ∙ create_names p.request (both (is_created p) (bytes_eq path p.path) h).0
+  dropped_creates path t o e d = grind (arith, passes, open_by, create_names, both)
 
   -- What is held at skipped paths is in doubt.
   module _ (paths : List (List ℕ)) (held : s'.held ≡ map (skipped_in paths s.before) s.held) (made : s'.made ≡ s.made) (left : (i : List ℕ) → has_leftover i s'.leftovers ≡ has_leftover i s.leftovers) where
@@ -606,8 +491,8 @@ module _ (x y : World) (name : List ℕ) (s s' : StackState) (at : IsOnOne x y n
       is_skipped p = is_among p.path paths
 
       given_one : (t : ℕ) (o : Open) → (account_of es x).open_ t ≡ Some o → (p : Pending) → find (has_token t) s.tokens ≡ Some p → is_skipped p ≡ true → (r : Request) → p.request ≡ r → IsGivenUpIn s p r → GivenUp (account_of es x) w (role_in y.stacks) o
-      given_one t o e p k d (request.Create kind props) f g = of_create (ap (λ (v : Open). named_by v.request) (sym (open_by t p o k e)) ∙ ap named_by f)
-      given_one t o e p k d (request.Update i props) f (h, h_in, h_id, h_path) =
+      given_one t o e p k d (Request.Create kind props) f g = of_create (ap (λ (v : Open). named_by v.request) (sym (open_by t p o k e)) ∙ ap named_by f)
+      given_one t o e p k d (Request.Update i props) f (h, h_in, h_id, h_path) =
           let (g, found) = is_found_in (has_physical i) s.held h h_in (same_bytes i h.physical (sym h_id)) in
           let (g_in, g_id) = found_one (has_physical i) s.held g found in
           let same : g ≡ h = one_id (λ (z : Held). z.physical) (resources_of s) ids g h (in_front g s.held s.made g_in) (in_front h s.held s.made h_in) (sym (bytes_same i g.physical g_id) ∙ sym h_id) in
@@ -615,7 +500,7 @@ module _ (x y : World) (name : List ℕ) (s s' : StackState) (at : IsOnOne x y n
           let was = find (has_physical h.physical) s.before in
           of_doubted i props (thing_of name (as_before was h)) (ap (λ (v : Open). v.request) (sym (open_by t p o k e)) ∙ f) (doubted_role i h (found ∙ ap Some same) path) (ap not (in_doubt was h).0)
           (ap (account_of es x).resting (ap (λ (v : Open). v.stack) (sym (open_by t p o k e))) ∙ rests) (raised t o e)
-      given_one t o e p k d (request.Delete i) f g = absurd g
+      given_one t o e p k d (Request.Delete i) f g = absurd g
 
       pub may_skip : MayDrop (account_of es x) w (λ t. passes is_skipped (find (has_token t) s.tokens)) (role_in y.stacks)
       may_skip = record {
@@ -631,49 +516,42 @@ module _ (x y : World) (name : List ℕ) (s s' : StackState) (at : IsOnOne x y n
 
 -- what may be kept is a resource of the stack, or an open create without an id
 cleaned_from : (stage : Stage) (s : StackState) (r : Held) → In r (cleaned_in stage s) → In r (resources_of s)
-cleaned_from Forward s r i = elim i [ ]
-cleaned_from Clean s r i = in_front r s.held s.made (in_filter (λ (z : Held). z.superseded) s.held r i).0
-cleaned_from Back s r i = elim i [ ]
-cleaned_from BackClean s r i = in_back r s.held s.made i
-cleaned_from Gone s r i = elim i [ ]
+cleaned_from stage s r i = grind (arith, in_front, in_filter, in_back)
 
 abbrev IsKeptIn : StackState → List ℕ → List ℕ → Type 0
 IsKeptIn s path physical = ((r : Held) × In r (resources_of s) × (r.physical ≡ physical)) ⊎ ((physical ≡ []) × IsTrue (list_any (is_create_at path) s.tokens))
 
 kept_which : (stage : Stage) (out : List ℕ) (s : StackState) (path physical : List ℕ) (w : Why) → MayKeep stage out s path physical w → IsKeptIn s path physical
-kept_which stage out s path physical why.Retained (inl (r, may, waits, keeps, at, of, rest)) = inl (r, deleted_listed stage s r may, sym of)
-kept_which stage out s path physical why.Retained (inr (gone, none, among, create)) = inr (none, create)
-kept_which stage out s path physical why.Failed m = let (r, i, at, of) = m.0 in inl (r, cleaned_from stage s r i, sym of)
-kept_which stage out s path physical why.Doubt m = let (r, i, at, of) = m.0 in inl (r, cleaned_from stage s r i, sym of)
+kept_which stage out s path physical w m = grind (arith, deleted_listed, cleaned_from)
 
 -- the stack whose create is kept without an id
 abbrev unknown_stack : ℕ → ℕ → List ℕ → Why → StackState → StackState
-unknown_stack place number path w s = (heard place (entry.Kept number path [] w) s (on_stack (keeping_unknown path w s))).stack
+unknown_stack place number path w s = (heard place (Entry.Kept number path [] w) s (on_stack (keeping_unknown path w s))).stack
 
-keeps_unknown : (place number : ℕ) (path : List ℕ) (w : Why) (s : StackState) → list_any (is_create_at path) s.tokens ≡ true → (effect_at place (entry.Kept number path [] w) s).stack ≡ unknown_stack place number path w s
-keeps_unknown place number path w s t = ap (λ b. (heard place (entry.Kept number path [] w) s (on_stack (cond b (keeping_unknown path w s) s))).stack) t
+keeps_unknown : (place number : ℕ) (path : List ℕ) (w : Why) (s : StackState) → list_any (is_create_at path) s.tokens ≡ true → (effect_at place (Entry.Kept number path [] w) s).stack ≡ unknown_stack place number path w s
+keeps_unknown place number path w s t = ap (λ b. (heard place (Entry.Kept number path [] w) s (on_stack (cond b (keeping_unknown path w s) s))).stack) t
 
 module _ (schemas : List Schema) (es : List Entry) (x : World) (lanes : List Lane) (leases : List Lease) (h : AreSound schemas es x lanes leases) (steady : AreSteady x) (out : List ℕ)
-    (number : ℕ) (path physical : List ℕ) (w : Why) (name : List ℕ) (s : StackState) (going : stack_of_operation number x ≡ Some (name, s)) (may : MayFollow schemas x out (entry.Kept number path physical w)) where
+    (number : ℕ) (path physical : List ℕ) (w : Why) (name : List ℕ) (s : StackState) (going : stack_of_operation number x ≡ Some (name, s)) (may : MayFollow schemas x out (Entry.Kept number path physical w)) where
   abbrev y : World
-  y = changed_by (x.place + 1) (entry.Kept number path physical w) x
+  y = changed_by (x.place + 1) (Entry.Kept number path physical w) x
 
   abbrev s' : StackState
-  s' = (effect_at (x.place + 1) (entry.Kept number path physical w) s).stack
+  s' = (effect_at (x.place + 1) (Entry.Kept number path physical w) s).stack
 
-  at : IsOnOne x (changed_by (x.place + 1) (entry.Kept number path physical w) x) name s (effect_at (x.place + 1) (entry.Kept number path physical w) s).stack
-  at = on_one (entry.Kept number path physical w) x name s (h.orderly).own refl going
+  at : IsOnOne x (changed_by (x.place + 1) (Entry.Kept number path physical w) x) name s (effect_at (x.place + 1) (Entry.Kept number path physical w) s).stack
+  at = on_one (Entry.Kept number path physical w) x name s (h.orderly).own refl going
 
   once : IsOnce s
   once = once_here x.stacks y.stacks name s s' at.one (h.orderly).own
 
   -- a resource
-  known_holds : (r : Held) → held_in physical s ≡ Some r → Agree (account_with (entry.Kept number path physical w) es x) (lanes_of lanes) (map lease_of leases) × IsOrderly (world_after x (entry.Kept number path physical w))
+  known_holds : (r : Held) → held_in physical s ≡ Some r → Agree (account_with (Entry.Kept number path physical w) es x) (lanes_of lanes) (map lease_of leases) × IsOrderly (world_after x (Entry.Kept number path physical w))
   known_holds r held = (
     subst (λ a. Agree a (lanes_of lanes) (map lease_of leases)) (sym (kept_moves es x name s r number path physical w (h.orderly).own going held ((h.agrees).tied).books))
         (drop_keeps (account_of es x) (lanes_of lanes) (map lease_of leases) _ (kept_role physical (role_in x.stacks)) h.agrees
         (kept_may (account_of es x) (lanes_of lanes) physical (thing_of name r) ((h.agrees).tied).books role)),
-    plain_orderly schemas x out h.orderly steady (entry.Kept number path physical w) name s refl going may tt tt (λ i. subst (λ z. IsLeftAlike s z i) (sym (keeps_known (x.place + 1) number path physical w s r held (lane_of physical) of_lane)) (left i (bytes_eq i physical) refl)),
+    plain_orderly schemas x out h.orderly steady (Entry.Kept number path physical w) name s refl going may tt tt (λ i. subst (λ z. IsLeftAlike s z i) (sym (keeps_known (x.place + 1) number path physical w s r held (lane_of physical) of_lane)) (left i (bytes_eq i physical) refl)),
   ) where
     role : role_in x.stacks physical ≡ Resource (thing_of name r)
     role = role_here x.stacks y.stacks name s s' at.one physical (thing_of name r) ((at.unshared).roles physical r held).0 (ap (λ o. role_found name o (has_leftover physical s.leftovers)) held)
@@ -690,25 +568,25 @@ module _ (schemas : List Schema) (es : List Entry) (x : World) (lanes : List Lan
 
 -- a create without an id
 module _ (schemas : List Schema) (es : List Entry) (x : World) (lanes : List Lane) (leases : List Lease) (h : AreSound schemas es x lanes leases) (steady : AreSteady x) (out : List ℕ)
-    (number : ℕ) (path : List ℕ) (w : Why) (name : List ℕ) (s : StackState) (going : stack_of_operation number x ≡ Some (name, s)) (may : MayFollow schemas x out (entry.Kept number path [] w))
+    (number : ℕ) (path : List ℕ) (w : Why) (name : List ℕ) (s : StackState) (going : stack_of_operation number x ≡ Some (name, s)) (may : MayFollow schemas x out (Entry.Kept number path [] w))
     (create : list_any (is_create_at path) s.tokens ≡ true) where
-  unknown_holds : Agree (account_with (entry.Kept number path [] w) es x) (lanes_of lanes) (map lease_of leases) × IsOrderly (world_after x (entry.Kept number path [] w))
+  unknown_holds : Agree (account_with (Entry.Kept number path [] w) es x) (lanes_of lanes) (map lease_of leases) × IsOrderly (world_after x (Entry.Kept number path [] w))
   unknown_holds = (
     subst (λ a. Agree a (lanes_of lanes) (map lease_of leases)) (sym moved)
         (rest_keeps _ (lanes_of lanes) (map lease_of leases) (resting_in y1.stacks)
         (drop_keeps (account_of es x) (lanes_of lanes) (map lease_of leases) _ (role_in y1.stacks) h.agrees
         (may_drop_creates (account_of es x) (lanes_of lanes) _ (role_in y1.stacks) ((h.agrees).tied).books roles (dropped_creates x y1 name s t on path)))
         (λ m r. sym (resting_same x.stacks y1.stacks name s t on.one m (not_resting s t (is_working number x name s going) refl)) ∙ r)),
-    plain_orderly schemas x out h.orderly steady (entry.Kept number path [] w) name s refl going may tt tt (λ i. subst (λ z. IsLeftAlike s z i) (sym (keeps_unknown (x.place + 1) number path w s create)) (alike (left i))),
+    plain_orderly schemas x out h.orderly steady (Entry.Kept number path [] w) name s refl going may tt tt (λ i. subst (λ z. IsLeftAlike s z i) (sym (keeps_unknown (x.place + 1) number path w s create)) (alike (left i))),
   ) where
     y1 : World
-    y1 = changed_by (x.place + 1) (entry.Kept number path [] w) x
+    y1 = changed_by (x.place + 1) (Entry.Kept number path [] w) x
 
     t : StackState
     t = unknown_stack (x.place + 1) number path w s
 
-    on : IsOnOne x (changed_by (x.place + 1) (entry.Kept number path [] w) x) name s (unknown_stack (x.place + 1) number path w s)
-    on = subst (λ z. IsOnOne x (changed_by (x.place + 1) (entry.Kept number path [] w) x) name s z) (keeps_unknown (x.place + 1) number path w s create) (at schemas es x lanes leases h steady out number path [] w name s going may)
+    on : IsOnOne x (changed_by (x.place + 1) (Entry.Kept number path [] w) x) name s (unknown_stack (x.place + 1) number path w s)
+    on = subst (λ z. IsOnOne x (changed_by (x.place + 1) (Entry.Kept number path [] w) x) name s z) (keeps_unknown (x.place + 1) number path w s create) (at schemas es x lanes leases h steady out number path [] w name s going may)
 
     once1 : IsOnce s
     once1 = once schemas es x lanes leases h steady out number path [] w name s going may
@@ -726,42 +604,33 @@ module _ (schemas : List Schema) (es : List Entry) (x : World) (lanes : List Lan
     lost : (u : ℕ) → lost_on t u ≡ (lost_on s u || gives (is_create_at path) (find (has_token u) s.tokens))
     lost = lost_among (is_create_at path) s.tokens (filter (is_create_at path) s.tokens) once1.tokens (at_path path s.tokens) (to_path path s.tokens) s t refl
 
-    moved : account_with (entry.Kept number path [] w) es x ≡ rested (resting_in y1.stacks) (dropped (λ u. passes (is_create_at path) (find (has_token u) s.tokens)) (role_in y1.stacks) (account_of es x))
-    moved = dropped_moves es x y1 (entry.Kept number path [] w) name s t on refl (λ u. told_same es (entry.Kept number path [] w) u refl) (is_create_at path) once1.tokens refl lost
+    moved : account_with (Entry.Kept number path [] w) es x ≡ rested (resting_in y1.stacks) (dropped (λ u. passes (is_create_at path) (find (has_token u) s.tokens)) (role_in y1.stacks) (account_of es x))
+    moved = dropped_moves es x y1 (Entry.Kept number path [] w) name s t on refl (λ u. told_same es (Entry.Kept number path [] w) u refl) (is_create_at path) once1.tokens refl lost
 
 pub kept_holds : (schemas : List Schema) (es : List Entry) (x : World) (lanes : List Lane) (leases : List Lease) → AreSound schemas es x lanes leases → AreSteady x → (out : List ℕ) (number : ℕ) (path physical : List ℕ) (w : Why)
-    → MayFollow schemas x out (entry.Kept number path physical w) → Agree (account_with (entry.Kept number path physical w) es x) (lanes_of lanes) (map lease_of leases) × IsOrderly (world_after x (entry.Kept number path physical w))
+    → MayFollow schemas x out (Entry.Kept number path physical w) → Agree (account_with (Entry.Kept number path physical w) es x) (lanes_of lanes) (map lease_of leases) × IsOrderly (world_after x (Entry.Kept number path physical w))
 kept_holds schemas es x lanes leases h steady out number path physical w (name, s, stage, going, is, m) = by physical m (kept_which stage out s path physical w m) where
-  by : (id : List ℕ) → MayKeep stage out s path id w → IsKeptIn s path id → Agree (account_with (entry.Kept number path id w) es x) (lanes_of lanes) (map lease_of leases) × IsOrderly (world_after x (entry.Kept number path id w))
+  by : (id : List ℕ) → MayKeep stage out s path id w → IsKeptIn s path id → Agree (account_with (Entry.Kept number path id w) es x) (lanes_of lanes) (map lease_of leases) × IsOrderly (world_after x (Entry.Kept number path id w))
   by id k (inl (r, i, e)) =
       let (g, f) = held_of id s r i e in
       known_holds schemas es x lanes leases h steady out number path id w name s going (name, s, stage, going, is, k) g f
   by id k (inr (none, create)) =
-      subst (λ j. MayKeep stage out s path j w → Agree (account_with (entry.Kept number path j w) es x) (lanes_of lanes) (map lease_of leases) × IsOrderly (world_after x (entry.Kept number path j w))) (sym none)
+      subst (λ j. MayKeep stage out s path j w → Agree (account_with (Entry.Kept number path j w) es x) (lanes_of lanes) (map lease_of leases) × IsOrderly (world_after x (Entry.Kept number path j w))) (sym none)
       (λ z. unknown_holds schemas es x lanes leases h steady out number path w name s going (name, s, stage, going, is, z) create) k
 
 -- a beginning is of the known stack of its name
-stands_known : (x : World) (n : List ℕ) → ((known_stack n x).status ≡ status.DeleteComplete → ⊥) → option_map {U = List ℕ × StackState} (λ s. (n, s)) (stack_at n x) ≡ Some (n, known_stack n x)
-stands_known x n given = by (stack_at n x) given where
-  by : (o : Option StackState) → ((unwrap_or o no_stack).status ≡ status.DeleteComplete → ⊥) → option_map {U = List ℕ × StackState} (λ s. (n, s)) o ≡ Some (n, unwrap_or o no_stack)
-  by None t = absurd (t refl)
-  by (Some s) t = refl
+stands_known : (x : World) (n : List ℕ) → ((known_stack n x).status ≡ Status.DeleteComplete → ⊥) → option_map {U = List ℕ × StackState} (λ s. (n, s)) (stack_at n x) ≡ Some (n, known_stack n x)
+stands_known x n given = grind arith
 
-begin_stack : (x : World) (number : ℕ) (n : List ℕ) (k : Begun) → IsTrue (begins_from k (known_stack n x).status) → stack_for (entry.Begin number n k) x ≡ Some (n, known_stack n x)
-begin_stack x number n (begin.Create source) t = refl
-begin_stack x number n (begin.Update source) t = stands_known x n (λ e. true≢false (sym t ∙ ap (begins_from (begin.Update source)) e))
-begin_stack x number n (begin.Delete paths) t = stands_known x n (λ e. true≢false (sym t ∙ ap (begins_from (begin.Delete paths)) e))
-begin_stack x number n (begin.Continue paths) t = stands_known x n (λ e. true≢false (sym t ∙ ap (begins_from (begin.Continue paths)) e))
+begin_stack : (x : World) (number : ℕ) (n : List ℕ) (k : Begun) → IsTrue (begins_from k (known_stack n x).status) → stack_for (Entry.Begin number n k) x ≡ Some (n, known_stack n x)
+begin_stack x number n k t = grind (arith, stands_known)
 
-continues_in : (s : Status) → continues_from s ≡ true → s ≡ status.UpdateRollbackFailed
+continues_in : (s : Status) → continues_from s ≡ true → s ≡ Status.UpdateRollbackFailed
 continues_in s h = grind arith
 
 -- a stack from which a rollback goes on is there, and rests
 rests_now : (x : World) (n : List ℕ) → continues_from (known_stack n x).status ≡ true → is_opened_since (known_stack n x) ≡ true → resting_in x.stacks n ≡ true
-rests_now x n c o = by (stack_at n x) c o where
-  by : (q : Option StackState) → continues_from (unwrap_or q no_stack).status ≡ true → is_opened_since (unwrap_or q no_stack) ≡ true → option_map_or is_at_rest q false ≡ true
-  by None a b = absurd (true≢false (sym a))
-  by (Some s) a b = ap (λ z. not (is_in_progress z) && is_opened_since s) (continues_in s.status a) ∙ b
+rests_now x n c o = grind (arith, continues_in)
 
 module _ (schemas : List Schema) (es : List Entry) (x : World) (lanes : List Lane) (leases : List Lease) (h : AreSound schemas es x lanes leases) (steady : AreSteady x) (out : List ℕ) where
   abbrev Holds : Entry → Type 0
@@ -769,64 +638,57 @@ module _ (schemas : List Schema) (es : List Entry) (x : World) (lanes : List Lan
 
   -- the lanes of the open calls are raised
   raised : ((l : Lane) → In l lanes → In (named_lane l) x.lanes → l.state.fence ≡ x.epoch) → (t : ℕ) (o : Open) → (account_of es x).open_ t ≡ Some o → ((lanes_of lanes).lane o.lane).fence ≡ x.epoch
-  raised all t o e =
-      let (k, named, for) = (((h.agrees).tied).books).open_homes t o e in
-      let (l, found) = map_some (lane_at o.lane lanes) k ((((h.agrees).tied).ties).handed o.lane k named) in
-      let name = found_name o.lane (λ z. z) o.lane lanes l found in
-      let kind : Some l.kind ≡ Some k = sym (ap (option_map (λ (z : Lane). z.kind)) found) ∙ (((h.agrees).tied).ties).handed o.lane k named in
-      let (q, q_in, q_name, q_kind) = named_found x.lanes o.lane k named in
-      ap (λ (z : FencedLane). z.fence) (there_is lanes o.lane l found).1
-      ∙ all l (found_one (λ (z : Lane). bytes_eq o.lane z.name) lanes l found).0 (subst (λ z. In z x.lanes) ((λ i. (sym q_name i, q_kind i)) ∙ (λ i. (name i, ap (λ (z : Option (List ℕ)). unwrap_or z k) (sym kind) i))) q_in)
+  raised all t o e = grind (arith, map_some, found_name, named_found, there_is, found_one)
 
-  module _ (number : ℕ) (n : List ℕ) (k : Begun) (may : MayFollow schemas x out (entry.Begin number n k)) where
+  module _ (number : ℕ) (n : List ℕ) (k : Begun) (may : MayFollow schemas x out (Entry.Begin number n k)) where
     abbrev e : Entry
-    e = entry.Begin number n k
+    e = Entry.Begin number n k
 
     abbrev s : StackState
     s = known_stack n x
 
     abbrev begun_stack : StackState
-    begun_stack = (effect_at (x.place + 1) (entry.Begin number n k) (known_stack n x)).stack
+    begun_stack = (effect_at (x.place + 1) (Entry.Begin number n k) (known_stack n x)).stack
 
     abbrev begun_world : World
-    begun_world = changed_by (x.place + 1) (entry.Begin number n k) x
+    begun_world = changed_by (x.place + 1) (Entry.Begin number n k) x
 
-    mine : stack_for (entry.Begin number n k) x ≡ Some (n, known_stack n x)
+    mine : stack_for (Entry.Begin number n k) x ≡ Some (n, known_stack n x)
     mine = begin_stack x number n k may.1
 
-    begun_at : IsOnOne x (changed_by (x.place + 1) (entry.Begin number n k) x) n s begun_stack
-    begun_at = on_one (entry.Begin number n k) x n s (h.orderly).own refl mine
+    begun_at : IsOnOne x (changed_by (x.place + 1) (Entry.Begin number n k) x) n s begun_stack
+    begun_at = on_one (Entry.Begin number n k) x n s (h.orderly).own refl mine
 
     begun_once : IsOnce (known_stack n x)
     begun_once = once_here x.stacks begun_world.stacks n s begun_stack begun_at.one (h.orderly).own
 
-    begun_orderly : ((i : List ℕ) → IsLeftAlike s begun_stack i) → IsOrderly (world_after x (entry.Begin number n k))
+    begun_orderly : ((i : List ℕ) → IsLeftAlike s begun_stack i) → IsOrderly (world_after x (Entry.Begin number n k))
     begun_orderly left =
-        plain_orderly schemas x out h.orderly steady (entry.Begin number n k) n s refl mine may tt (let next : number ≡ x.operation + 1 = may.0 in omega (arith, next)) left
+        plain_orderly schemas x out h.orderly steady (Entry.Begin number n k) n s refl mine may tt (let next : number ≡ x.operation + 1 = may.0 in omega (arith, next)) left
 
     put_is : begun_world.stacks ≡ put n begun_stack x.stacks
-    put_is = after_stacks x (entry.Begin number n k) refl ∙ ap (put_by x (entry.Begin number n k)) mine
+    put_is = after_stacks x (Entry.Begin number n k) refl ∙ ap (put_by x (Entry.Begin number n k)) mine
 
     -- no other stack rests
     rests : is_at_rest begun_stack ≡ false → (m : List ℕ) → resting_in begun_world.stacks m ≡ true → resting_in x.stacks m ≡ true
     rests off m r = rests_less x.stacks n begun_stack off m (ap (λ ss. resting_in ss m) (sym put_is) ∙ r)
 
-    begun_agrees : is_at_rest begun_stack ≡ false → begun_stack.held ≡ s.held → begun_stack.made ≡ s.made → begun_stack.leftovers ≡ s.leftovers → begun_stack.tokens ≡ s.tokens → begun_stack.abandoned ≡ s.abandoned → Holds (entry.Begin number n k)
+    begun_agrees : is_at_rest begun_stack ≡ false → begun_stack.held ≡ s.held → begun_stack.made ≡ s.made → begun_stack.leftovers ≡ s.leftovers → begun_stack.tokens ≡ s.tokens → begun_stack.abandoned ≡ s.abandoned → Holds (Entry.Begin number n k)
     begun_agrees off held made leftovers tokens abandoned = (
-      subst (λ a. Agree a (lanes_of lanes) (map lease_of leases)) (sym (quiet_moves es x begun_world (entry.Begin number n k) n s begun_stack begun_at refl (λ u. told_same es (entry.Begin number n k) u refl) (alike_quiet s begun_stack held made leftovers tokens abandoned)))
+      subst (λ a. Agree a (lanes_of lanes) (map lease_of leases)) (sym (quiet_moves es x begun_world (Entry.Begin number n k) n s begun_stack begun_at refl (λ u. told_same es (Entry.Begin number n k) u refl) (alike_quiet s begun_stack held made leftovers tokens abandoned)))
           (rest_keeps (account_of es x) (lanes_of lanes) (map lease_of leases) (resting_in begun_world.stacks) h.agrees (rests off)),
       begun_orderly (λ i. alike (ap (has_leftover i) leftovers)),
     )
 
-  continue_holds : (number : ℕ) (n : List ℕ) (paths : List (List ℕ)) (may : MayFollow schemas x out (entry.Begin number n (begin.Continue paths)))
-      → ((l : Lane) → In l lanes → In (named_lane l) x.lanes → l.state.fence ≡ x.epoch) → Holds (entry.Begin number n (begin.Continue paths))
+  continue_holds : (number : ℕ) (n : List ℕ) (paths : List (List ℕ)) (may : MayFollow schemas x out (Entry.Begin number n (Begun.Continue paths)))
+      → ((l : Lane) → In l lanes → In (named_lane l) x.lanes → l.state.fence ≡ x.epoch) → Holds (Entry.Begin number n (Begun.Continue paths))
   continue_holds number n paths may all =
       let s : StackState = known_stack n x in
-      let e : Entry = entry.Begin number n (begin.Continue paths) in
-      let begun_stack : StackState = (effect_at (x.place + 1) (entry.Begin number n (begin.Continue paths)) (known_stack n x)).stack in
-      let begun_world : World = changed_by (x.place + 1) (entry.Begin number n (begin.Continue paths)) x in
-      let on = begun_at number n (begin.Continue paths) may in
-      let once_ = begun_once number n (begin.Continue paths) may in
+      let e : Entry = Entry.Begin number n (Begun.Continue paths) in
+      let begun_stack : StackState = (effect_at (x.place + 1) (Entry.Begin number n (Begun.Continue paths)) (known_stack n x)).stack in
+      let begun_world : World = changed_by (x.place + 1) (Entry.Begin number n (Begun.Continue paths)) x in
+      let on = begun_at number n (Begun.Continue paths) may in
+      let once_ = begun_once number n (Begun.Continue paths) may in
       let skipped : Pending → Bool = λ p. is_among p.path paths in
       let left : (i : List ℕ) → has_leftover i begun_stack.leftovers ≡ has_leftover i s.leftovers =
       λ i. unknown_more i s.leftovers (map lost_create (skipped_creates paths s.tokens))
@@ -836,33 +698,33 @@ module _ (schemas : List Schema) (es : List Entry) (x : World) (lanes : List Lan
       let skips = drop_keeps (account_of es x) (lanes_of lanes) (map lease_of leases) _ (role_in begun_world.stacks) h.agrees
       (may_skip x begun_world n s begun_stack on paths refl refl left es (lanes_of lanes) ((h.agrees).tied).books once_.ids ((known_steady x steady n).gives_up (continues_in s.status may.1)) (rests_now x n may.1 may.2.2) (raised all)) in (
         subst (λ a. Agree a (lanes_of lanes) (map lease_of leases)) (sym moved)
-            (rest_keeps _ (lanes_of lanes) (map lease_of leases) (resting_in begun_world.stacks) skips (rests number n (begin.Continue paths) may refl)),
-        begun_orderly number n (begin.Continue paths) may (λ i. alike (left i)),
+            (rest_keeps _ (lanes_of lanes) (map lease_of leases) (resting_in begun_world.stacks) skips (rests number n (Begun.Continue paths) may refl)),
+        begun_orderly number n (Begun.Continue paths) may (λ i. alike (left i)),
       )
 
-  pub begun_holds : (number : ℕ) (n : List ℕ) (k : Begun) → MayFollow schemas x out (entry.Begin number n k) → ((l : Lane) → In l lanes → In (named_lane l) x.lanes → l.state.fence ≡ x.epoch)
-      → Agree (account_with (entry.Begin number n k) es x) (lanes_of lanes) (map lease_of leases) × IsOrderly (world_after x (entry.Begin number n k))
-  begun_holds number n (begin.Create source) may all =
-      begun_agrees number n (begin.Create source) may refl refl (sym ((known_steady x steady n).rests (or_left (creates_from (known_stack n x).status) (updates_from (known_stack n x).status) may.1)).1) refl refl refl
-  begun_holds number n (begin.Update source) may all =
-      begun_agrees number n (begin.Update source) may refl refl (sym ((known_steady x steady n).rests (or_right (creates_from (known_stack n x).status) (updates_from (known_stack n x).status) may.1)).1) refl refl refl
-  begun_holds number n (begin.Delete paths) may all = begun_agrees number n (begin.Delete paths) may refl refl refl refl refl refl
-  begun_holds number n (begin.Continue paths) may all = continue_holds number n paths may all
+  pub begun_holds : (number : ℕ) (n : List ℕ) (k : Begun) → MayFollow schemas x out (Entry.Begin number n k) → ((l : Lane) → In l lanes → In (named_lane l) x.lanes → l.state.fence ≡ x.epoch)
+      → Agree (account_with (Entry.Begin number n k) es x) (lanes_of lanes) (map lease_of leases) × IsOrderly (world_after x (Entry.Begin number n k))
+  begun_holds number n (Begun.Create source) may all =
+      begun_agrees number n (Begun.Create source) may refl refl (sym ((known_steady x steady n).rests (or_left (creates_from (known_stack n x).status) (updates_from (known_stack n x).status) may.1)).1) refl refl refl
+  begun_holds number n (Begun.Update source) may all =
+      begun_agrees number n (Begun.Update source) may refl refl (sym ((known_steady x steady n).rests (or_right (creates_from (known_stack n x).status) (updates_from (known_stack n x).status) may.1)).1) refl refl refl
+  begun_holds number n (Begun.Delete paths) may all = begun_agrees number n (Begun.Delete paths) may refl refl refl refl refl refl
+  begun_holds number n (Begun.Continue paths) may all = continue_holds number n paths may all
 
   -- a change set
   reviewed_idle : (st : Status) → is_in_progress (reviewed st) ≡ is_in_progress st
   reviewed_idle st = grind arith
 
-  pub set_holds : (number : ℕ) (n : List ℕ) (source : Source) (rows : List Row) (outputs : Bool) → MayFollow schemas x out (entry.ChangeSet number n source rows outputs)
-      → Agree (account_with (entry.ChangeSet number n source rows outputs) es x) (lanes_of lanes) (map lease_of leases) × IsOrderly (world_after x (entry.ChangeSet number n source rows outputs))
+  pub set_holds : (number : ℕ) (n : List ℕ) (source : Source) (rows : List Row) (outputs : Bool) → MayFollow schemas x out (Entry.ChangeSet number n source rows outputs)
+      → Agree (account_with (Entry.ChangeSet number n source rows outputs) es x) (lanes_of lanes) (map lease_of leases) × IsOrderly (world_after x (Entry.ChangeSet number n source rows outputs))
   set_holds number n source rows outputs may =
       let s : StackState = known_stack n x in
-      let e : Entry = entry.ChangeSet number n source rows outputs in
-      let begun_stack : StackState = (effect_at (x.place + 1) (entry.ChangeSet number n source rows outputs) (known_stack n x)).stack in
-      let begun_world : World = changed_by (x.place + 1) (entry.ChangeSet number n source rows outputs) x in
-      let on = on_one (entry.ChangeSet number n source rows outputs) x n (known_stack n x) (h.orderly).own refl refl in
+      let e : Entry = Entry.ChangeSet number n source rows outputs in
+      let begun_stack : StackState = (effect_at (x.place + 1) (Entry.ChangeSet number n source rows outputs) (known_stack n x)).stack in
+      let begun_world : World = changed_by (x.place + 1) (Entry.ChangeSet number n source rows outputs) x in
+      let on = on_one (Entry.ChangeSet number n source rows outputs) x n (known_stack n x) (h.orderly).own refl refl in
       let rest : is_at_rest begun_stack ≡ is_at_rest s = ap (λ b. not b && is_opened_since s) (reviewed_idle s.status) in (
         subst (λ a. Agree a (lanes_of lanes) (map lease_of leases)) (sym (quiet_moves es x begun_world e n s begun_stack on refl (λ u. told_same es e u refl) (alike_quiet s begun_stack refl refl refl refl refl)))
             (rest_keeps (account_of es x) (lanes_of lanes) (map lease_of leases) (resting_in begun_world.stacks) h.agrees (λ m r. sym (resting_same x.stacks begun_world.stacks n s begun_stack on.one m rest) ∙ r)),
-        plain_orderly schemas x out h.orderly steady (entry.ChangeSet number n source rows outputs) n s refl refl may tt tt (λ i. alike refl),
+        plain_orderly schemas x out h.orderly steady (Entry.ChangeSet number n source rows outputs) n s refl refl may tt tt (λ i. alike refl),
       )

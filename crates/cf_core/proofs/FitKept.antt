@@ -1,80 +1,18 @@
 -- Each entry that may be written keeps the fit of every stack.
-use Rattle.std.proofs.lemmas.{List.Folds.find-append, List.append-nil, List.append_assoc, List.map-append, Slice.Eq.bytes_eq-Decides}
-use Rattle.cf_core.specs.AccountOf.{thing_of, held_in}
-use Rattle.cf_agree.specs.Account.{Thing}
-use Rattle.cf_core.proofs.{AdvLists.either_way, Entries.known_for, Statuses.kept_way}
-use Rattle.cf_core.proofs.Outcomes.{differ_end, differ_less, differ_once, LeavesThing, settled_leaves, marked_leaves, none_passes}
-use Rattle.cf_core.specs.Fits.{Fits, IsRowOf, BecomesBy, own, at_opening, other, IsNew}
-use Rattle.cf_core.specs.Fitting.{AllFit, AreSteady, EachIsWritten, FitsKept, IsOfItsLane, IsSteady}
-use Rattle.cf_entry.specs.declared.{entry.Begun.Begun, entry.Entry.Entry, entry.Reply.Reply, status.Status.Status, turn.Phase.Phase}
-use Rattle.cf_entry.specs.declared.turn.Why.{Why}
-use Rattle.cf_handler.specs.Move.{IsOfLane}
-use Rattle.cf_plan.proofs.{CreatedRight.in_filter, Frame.token_after}
-use Rattle.cf_plan.proofs.CreatedStays.{found_one, found_in_more, found_still, in_more}
-use Rattle.cf_plan.proofs.RunLists.{in_kept, any_of, in_front, none_false, in_back, none_any, some_of}
-use Rattle.cf_plan.specs.{Accept.creates_from, Forward.In, Forward.here, Forward.there}
-use Rattle.cf_plan.specs.Follow.{HasLanes, IsLaneFor, IsNamedLane, IsKindFor, FitsLane, begins_from, IntendsDeletion, IntendsIn, MayDelete, MayFollow, MayFollowIn, MayFollowOn, MayIntend, is_lane_of, updates_from}
-use Rattle.cf_schema.specs.declared.described.Schema.{Schema}
-use Rattle.cf_stacks.proofs.Worlds.{value_under}
-use Rattle.cf_stacks.specs.Apart.{AreApart}
-use Rattle.cf_effect.specs.{Begin.as_before, Begin.beginning, Begin.skipped_in, Effect.heard, Effect.leaving, Effect.on_stack}
-use Rattle.cf_effect.specs.Calls.{anew, answered_call, is_call, is_open_call, where_call, new_call, is_restore}
-use Rattle.cf_effect.specs.End.{ended_effect, marked, settled_in, stopping, turned_effect, turning, whole_now}
-use Rattle.cf_effect.specs.Fold.{effect_at, is_opening, stack_for, world_after}
-use Rattle.cf_effect.specs.Reply.{changing, deleting, still_open, keeping, keeping_known, keeping_unknown, answered, closing, made_of, status_made, terms_at, updating, with_status, replied}
-use Rattle.cf_effect.specs.Status.{Stage, Forward, Clean, Back, BackClean, Gone, is_in_progress, stage_of}
-use Rattle.cf_effect.specs.Words.{change_first, has_physical, resources_of, where_physical, without, has_token, without_token, id_named, is_create_at, is_on, current_at, pending_of, is_at}
-use Rattle.cf_effect.specs.World.{StackState, World, known_stack, no_stack, stack_at, is_going, stack_of_operation}
-use Rattle.cf_effect.specs.declared.{call.Call.Call, held.Held.Held, held.Pending.Pending}
-use Rattle.cf_tree.proofs.Lookups.{put_here, put_else}
-use Rattle.cf_tree.specs.{Datum.Data, Keys.put, Keys.value_at, Lists.is_among, Named.all_differ}
-use Rattle.cf_tree.specs.declared.{code.Code.Code, request.Request.Request}
+pub use Rattle.cf_plan.proofs.{BlameRows.into_mapped, ChangedLists.find_mapped, ChangedLists.find_left, Differ.one_id, Differ.one_number}
+pub use Rattle.cf_core.proofs.Stacks.{put_by}
 use Rattle.std.proofs.Common.{◌≡◌, ℕ, ◌==◌, List, [], ◌∷◌, Bool, true, false, Some, map, filter, find, refl, sym, ap, ◌∙◌, true≢false, option_map, ◌++◌, not, subst, None, ◌+◌, ◌≤◌, Option, arith, ◌⊎◌, inl, inr, unwrap_or}
-use Rattle.std.proofs.lemmas.{Bool.eq-eqb, Bool.eqb-true, Bool.not-true, Bool.or_left, Bool.or_right, List.Elements.filter-append}
-use Rattle.std.specs.Bool.{IsTrue}
-use Rattle.std.specs.{Cmp.first_so, Cmp.second_so, List.list_any, Option.option_map_or, Prelude.cond, Prelude.is_some, Str.bytes_eq}
-use Rattle.cf_entry.specs.declared.entry.Begun.TheVariants as begin
-use Rattle.cf_entry.specs.declared.entry.Entry.TheVariants as entry
-use Rattle.cf_entry.specs.declared.entry.Reply.TheVariants as reply
-use Rattle.cf_entry.specs.declared.status.Status.TheVariants as status
-use Rattle.cf_entry.specs.declared.turn.Phase.TheVariants as phase
-use Rattle.cf_effect.specs.declared.held.HeldStatus.TheVariants as held
-use Rattle.cf_tree.specs.declared.code.Code.TheVariants as code
-use Rattle.cf_tree.specs.declared.request.Request.TheVariants as request
-
--- Members of lists that are mapped, and of which no two have the same key.
-
-pub into_mapped : {A B : Type 0} (f : A → B) (xs : List A) (x : A) → In x xs → In (f x) (map f xs)
-into_mapped f (y ∷ xs) x here = here
-into_mapped f (y ∷ xs) x (there i) = there (into_mapped f xs x i)
-into_mapped f [] x i = elim i [ ]
+use Rattle.cf_core.proofs.Words.{AllFit, AreApart, AreSteady, Back, BackClean, BecomesBy, Begun, Call, Clean, Code, Data, EachIsWritten, Entry, Fits, FitsKept, FitsLane, Forward, Gone, HasLanes, Held, HeldStatus, In, IntendsDeletion, IntendsIn, IsKindFor, IsLaneFor, IsNamedLane, IsNew, IsOfItsLane, IsOfLane, IsRowOf, IsSteady, MayFollow, MayIntend, Pending, Phase, Reply, Request, Schema, StackState, Stage, Status, Thing, Why, World, all_differ, anew, answered, answered_call, at_opening, beginning, begins_from, bytes_eq, change_first, changing, closing, current_at, deleting, effect_at, ended_effect, first_so, has_physical, has_token, heard, held_in, id_named, is_among, is_at, is_call, is_create_at, is_lane_of, is_on, is_open_call, is_opening, is_restore, keeping, keeping_known, keeping_unknown, known_stack, list_any, made_of, marked, new_call, no_stack, on_stack, option_map_or, other, own, pending_of, replied, resources_of, second_so, settled_in, skipped_in, stack_at, stack_for, stack_of_operation, status_made, still_open, stopping, terms_at, there, thing_of, turned_effect, turning, updating, value_at, where_call, whole_now, with_status, without, without_token, world_after}
+use Rattle.cf_core.proofs.Lemmas.{any_of, append-nil, bytes_eq-Decides, bytes_or, differ_end, differ_less, either_way, eq-eqb, eqb-true, filter-append, find-append, found_in_more, found_one, found_still, in_back, in_filter, in_front, in_kept, in_more, keys_mapped, map-append, map_in, none_any, none_false, none_passes, not-true, or_left, or_right, other_bytes, put_else, put_here, some_is, some_of, token_after, value_under}
+use Rattle.cf_core.proofs.{Outcomes.LeavesThing, Outcomes.marked_leaves, Outcomes.settled_leaves, Statuses.kept_way}
+use Rattle.cf_core.proofs.Stacks.{Found, exports_by, known_for, left_of}
+use Rattle.cf_core.proofs.Moving.{beginning_name, in_stage, numbered_so}
+use Rattle.std.proofs.lemmas.List.{append_assoc}
+use Rattle.std.specs.{Bool.IsTrue, Prelude.cond, Prelude.is_some}
 
 -- a member of a mapped list is what one of the list is mapped to
 pub from_mapped : {A B : Type 0} (f : A → B) (xs : List A) (y : B) → In y (map f xs) → (x : A) × In x xs × (f x ≡ y)
-from_mapped f [] y i = elim i [ ]
-from_mapped f (x ∷ xs) _ here = (x, here, refl)
-from_mapped f (x ∷ xs) y (there i) = let (z, j, e) = from_mapped f xs y i in (z, there j, e)
-
-pub one_id : {A : Type 0} (key : A → List ℕ) (xs : List A) → all_differ bytes_eq (map key xs) ≡ true → (x y : A) → In x xs → In y xs → key x ≡ key y → x ≡ y
-one_id key xs = differ_once bytes_eq key xs (λ a b. (bytes_eq-Decides a b).1)
-
-pub one_number : {A : Type 0} (key : A → ℕ) (xs : List A) → all_differ ◌==◌ (map key xs) ≡ true → (x y : A) → In x xs → In y xs → key x ≡ key y → x ≡ y
-one_number key xs = differ_once ◌==◌ key xs eq-eqb
-
--- keys of what is mapped
-pub keys_mapped : {A B K : Type 0} (f : A → B) (key : B → K) (key' : A → K) (xs : List A) → ((x : A) → key (f x) ≡ key' x) → map key (map f xs) ≡ map key' xs
-keys_mapped f key key' [] h = refl
-keys_mapped f key key' (x ∷ xs) h = ap (λ k. k ∷ map key (map f xs)) (h x) ∙ ap (λ ks. key' x ∷ ks) (keys_mapped f key key' xs h)
-
--- what is searched among mapped ones
-pub find_mapped : {A : Type 0} (test : A → Bool) (f : A → A) (xs : List A) → ((x : A) → test (f x) ≡ test x) → find test (map f xs) ≡ option_map f (find test xs)
-find_mapped test f [] h = refl
-find_mapped test f (x ∷ xs) h = grind (arith, h x, find_mapped test f xs h)
-
--- what is found stays found among those that a test leaves, where it passes
-pub find_left : {A : Type 0} (test left : A → Bool) (xs : List A) (x : A) → find test xs ≡ Some x → left x ≡ true → find test (filter left xs) ≡ Some x
-find_left test left [] x e l = e
-find_left test left (y ∷ xs) x e l = grind (arith, find_left test left xs x)
+from_mapped f xs y = map_in f y xs
 
 -- What names the resources of a stack, their paths, ids and types, and what is left of them.
 
@@ -116,10 +54,7 @@ ids_by : (hs : List Held) → map (λ (k : Key). k.physical) (keys_in hs) ≡ ma
 ids_by hs = keys_mapped key_of (λ (k : Key). k.physical) (λ h. h.physical) hs (λ h. refl)
 
 pub differ_keyed : (hs gs : List Held) → Keyed (keys_in hs) (keys_in gs) → all_differ bytes_eq (map (λ h. h.physical) hs) ≡ true → all_differ bytes_eq (map (λ h. h.physical) gs) ≡ true
-differ_keyed hs gs k d = ap (all_differ bytes_eq) (sym (ids_by gs)) ∙ by k (ap (all_differ bytes_eq) (ids_by hs) ∙ d) where
-  by : Keyed (keys_in hs) (keys_in gs) → all_differ bytes_eq (map (λ (k : Key). k.physical) (keys_in hs)) ≡ true → all_differ bytes_eq (map (λ (k : Key). k.physical) (keys_in gs)) ≡ true
-  by (stay e) h = ap (λ ks. all_differ bytes_eq (map (λ (k : Key). k.physical) ks)) e ∙ h
-  by (one_less id e) h = ap (λ ks. all_differ bytes_eq (map (λ (k : Key). k.physical) ks)) e ∙ differ_less bytes_eq (λ (k : Key). k.physical) (has_other id) (keys_in hs) h
+differ_keyed hs gs k d = grind (arith, ids_by, differ_less)
 
 -- a change that keeps the keys
 abbrev pub KeepsKey : (Held → Held) → Type 0
@@ -146,10 +81,7 @@ keys_joined f k hs = ap keys_in (append-nil (map f hs)) ∙ keys_changed f k hs
 
 -- one resource is changed
 pub keys_changing : (id : List ℕ) (f : Held → Held) → KeepsKey f → (s : StackState) → keys_of (changing id f s) ≡ keys_of s
-keys_changing id f k s =
-    either_way (λ u. keys_of u ≡ keys_of s) (list_any (has_physical id) s.held) (record s { held = where_physical id f s.held }) (record s { made = where_physical id f s.made })
-    (keys_two s.held s.made (where_physical id f s.held) s.made (keys_first (has_physical id) f k s.held) refl)
-    (keys_two s.held s.made s.held (where_physical id f s.made) refl (keys_first (has_physical id) f k s.made))
+keys_changing id f k s = grind (arith, either_way, keys_two, keys_first)
 
 -- one is taken off
 keys_without : (id : List ℕ) (hs : List Held) → keys_in (without id hs) ≡ filter (has_other id) (keys_in hs)
@@ -187,17 +119,7 @@ pub rows_same : (ps : List Pending) (cs : List Call) → AreRowsLeft ps cs cs
 rows_same ps cs = record { row = λ p i c e n. (c, e, same_call c, n); tokens = λ d. d; from = λ d i. (d, i, same_call d) }
 
 pub rows_then : (ps : List Pending) (cs ds es : List Call) → AreRowsLeft ps cs ds → AreRowsLeft ps ds es → AreRowsLeft ps cs es
-rows_then ps cs ds es h k = record {
-  row = λ p i c e n.
-      let (d, f, s, m) = h.row p i c e n in
-      let (b, g, r, o) = k.row p i d f m in
-      (b, g, same_then c d b s r, o);
-  tokens = λ d. k.tokens (h.tokens d);
-  from = λ e i.
-      let (d, j, r) = k.from e i in
-      let (c, l, s) = h.from d j in
-      (c, l, same_then c d e s r);
-}
+rows_then ps cs ds es h k = grind (arith, same_then)
 
 -- rows that change one by one
 pub rows_mapped :
@@ -231,21 +153,16 @@ rows_open ps cs = record {
 
 -- A call that is answered: its row has the answer, and it is not open any more, but where it is in doubt.
 pub still_in : (token : ℕ) (a : Reply) (ps : List Pending) (p : Pending) → In p (still_open token a ps) → In p ps
-still_in token reply.Doubt ps p i = i
-still_in token a ps p i = (in_filter (λ q. not (has_token token q)) ps p i).0
+still_in token a ps p i = grind (arith, in_filter)
 
 pub still_differ : (token : ℕ) (a : Reply) (ps : List Pending) → all_differ ◌==◌ (map (λ p. p.token) ps) ≡ true → all_differ ◌==◌ (map (λ p. p.token) (still_open token a ps)) ≡ true
-still_differ token reply.Doubt ps d = d
-still_differ token a ps d = differ_less ◌==◌ (λ p. p.token) (λ q. not (has_token token q)) ps d
+still_differ token a ps d = grind (arith, differ_less)
 
 closed_other : (token : ℕ) (ps : List Pending) (p : Pending) → In p (without_token token ps) → token ≡ p.token → ⊥
-closed_other token ps p i e =
-    let z : (token == p.token) ≡ false = not-true (token == p.token) (in_filter (λ q. not (has_token token q)) ps p i).1 in
-    true≢false (sym (eq-eqb token p.token e) ∙ z)
+closed_other token ps p i e = grind (arith, not-true, in_filter, true≢false, eq-eqb)
 
 pub same_answered : (a : Reply) (c : Call) → IsSameCall c (answered_call a c)
-same_answered (reply.Success physical attrs) c = record { number = refl; token = refl; lane = refl; path = refl; request = refl }
-same_answered a c = record { number = refl; token = refl; lane = refl; path = refl; request = refl }
+same_answered a c = grind arith
 
 pub same_where : (token : ℕ) (a : Reply) (c : Call) → IsSameCall c (cond (is_call token c) (answered_call a c) c)
 same_where token a c = either_way (IsSameCall c) (is_call token c) (answered_call a c) c (same_answered a c) (same_call c)
@@ -253,7 +170,7 @@ same_where token a c = either_way (IsSameCall c) (is_call token c) (answered_cal
 pub rows_answered : (token : ℕ) (a : Reply) (ps : List Pending) (cs : List Call) → AreRowsLeft (still_open token a ps) cs (where_call token (answered_call a) cs)
 rows_answered token a ps cs = rows_mapped (still_open token a ps) (λ c. cond (is_call token c) (answered_call a c) c) (same_where token a) (λ p c i e n. open_ p c (is_call token c) refl i e n) cs where
   by : (b : Reply) (p : Pending) (c : Call) → token ≡ c.token → In p (still_open token b ps) → p.token ≡ c.token → c.answer ≡ None → (answered_call b c).answer ≡ None
-  by reply.Doubt p c t i e n = n
+  by Reply.Doubt p c t i e n = n
   by b p c t i e n = absurd (closed_other token ps p i (t ∙ sym e))
 
   open_ : (p : Pending) (c : Call) (b : Bool) → is_call token c ≡ b → In p (still_open token a ps) → p.token ≡ c.token → c.answer ≡ None → (cond b (answered_call a c) c).answer ≡ None
@@ -432,32 +349,26 @@ pub less_self : (s : StackState) → IsLess s s
 less_self s = less_stay s s refl refl (rows_same s.tokens s.ledger) (same_number s.operation)
 
 -- a change of what is held at skipped paths
-keeps_before : (o : Option Held) (h : Held) → key_of (as_before o h) ≡ key_of h
-keeps_before None h = refl
-keeps_before (Some b) h = refl
-
 pub keeps_skipped : (paths : List (List ℕ)) (before : List Held) → KeepsKey (skipped_in paths before)
 keeps_skipped paths before h = grind arith
 
 -- an operation begins: a creation or an update where nothing is made
 abbrev pub HasNoneMade : Begun → StackState → Type 0
-HasNoneMade (begin.Delete paths) s = Unit {0}
-HasNoneMade (begin.Continue paths) s = Unit {0}
+HasNoneMade (Begun.Delete paths) s = Unit {0}
+HasNoneMade (Begun.Continue paths) s = Unit {0}
 HasNoneMade _ s = s.made ≡ []
 
 rows_begun : (s : StackState) → AreRowsLeft s.tokens s.ledger (map anew (filter (is_open_call s.tokens) s.ledger))
 rows_begun s = rows_then s.tokens s.ledger (filter (is_open_call s.tokens) s.ledger) (map anew (filter (is_open_call s.tokens) s.ledger)) (rows_open s.tokens s.ledger) (rows_anew s.tokens (filter (is_open_call s.tokens) s.ledger))
 
 pub less_begun : (name : List ℕ) (number : ℕ) (k : Begun) (s : StackState) → s.operation ≤ number → HasNoneMade k s → IsLess s (beginning name number k s)
-less_begun name number (begin.Create source) s up none =
-    less_stay s (beginning name number (begin.Create source) s) (ap (λ ms. keys_in (s.held ++ ms)) (sym none)) refl (rows_begun s) up
-less_begun name number (begin.Update source) s up none =
-    less_stay s (beginning name number (begin.Update source) s) (ap (λ ms. keys_in (s.held ++ ms)) (sym none)) refl (rows_begun s) up
-less_begun name number (begin.Delete paths) s up none = less_stay s (beginning name number (begin.Delete paths) s) refl refl (rows_begun s) up
-less_begun name number (begin.Continue paths) s up none =
-    less_open s (beginning name number (begin.Continue paths) s) (λ p. not (is_among p.path paths))
+less_begun name number (Begun.Delete paths) s up none = less_stay s (beginning name number (Begun.Delete paths) s) refl refl (rows_begun s) up
+less_begun name number (Begun.Continue paths) s up none =
+    less_open s (beginning name number (Begun.Continue paths) s) (λ p. not (is_among p.path paths))
     (stay (keys_front (skipped_in paths s.before) (keeps_skipped paths s.before) s.held s.made)) (λ p i t e. tt) refl
     (rows_anew (filter (λ (p : Pending). not (is_among p.path paths)) s.tokens) s.ledger) up
+less_begun name number any s up none =
+    less_stay s (beginning name number any s) (ap (λ ms. keys_in (s.held ++ ms)) (sym none)) refl (rows_begun s) up
 
 -- a resource is kept, or the open create of a path is given up
 is_on_other : (id : List ℕ) (p : Pending) (i : List ℕ) → not (is_on id p) ≡ true → id_named p.request ≡ Some i → bytes_eq id i ≡ false
@@ -480,24 +391,20 @@ keeps_thing : (f : Held → Held) → LeavesThing f → KeepsKey f
 keeps_thing f l h = ap (keyed (f h).physical) (l.thing [] h) ∙ ap (λ i. keyed i (thing_of [] h)) (l.physical h)
 
 pub less_turned : (p : Phase) (s : StackState) → IsLess s (turned_effect p s).stack
-less_turned phase.Clean s =
-    less_stay s (turned_effect phase.Clean s).stack (keys_joined (settled_in (whole_now s) (turning phase.Clean s)) (keeps_thing (settled_in (whole_now s) (turning phase.Clean s)) (settled_leaves (whole_now s) (turning phase.Clean s))) (resources_of s)) refl (rows_anew s.tokens s.ledger) (same_number s.operation)
-less_turned phase.Back s = less_stay s (turned_effect phase.Back s).stack refl refl (rows_anew s.tokens s.ledger) (same_number s.operation)
-less_turned phase.BackClean s = less_stay s (turned_effect phase.BackClean s).stack refl refl (rows_anew s.tokens s.ledger) (same_number s.operation)
+less_turned Phase.Clean s =
+    less_stay s (turned_effect Phase.Clean s).stack (keys_joined (settled_in (whole_now s) (turning Phase.Clean s)) (keeps_thing (settled_in (whole_now s) (turning Phase.Clean s)) (settled_leaves (whole_now s) (turning Phase.Clean s))) (resources_of s)) refl (rows_anew s.tokens s.ledger) (same_number s.operation)
+less_turned any s = less_stay s (turned_effect any s).stack refl refl (rows_anew s.tokens s.ledger) (same_number s.operation)
 
 -- an end
 keys_stopped : (state : Status) (s : StackState) → keys_of (stopping state s) ≡ keys_of s
 keys_stopped state s = keys_each (marked s.tokens) (keeps_thing (marked s.tokens) (marked_leaves s.tokens)) s.held s.made
 
 pub less_ended : (state : Status) (s : StackState) → IsLess s (ended_effect state s).stack
-less_ended status.CreateComplete s =
-    let u = stopping status.CreateComplete s in
-    less_stay s (ended_effect status.CreateComplete s).stack (keys_joined (settled_in (whole_now u) u) (keeps_thing (settled_in (whole_now u) u) (settled_leaves (whole_now u) u)) (resources_of u) ∙ keys_stopped status.CreateComplete s) refl (rows_same s.tokens s.ledger) (same_number s.operation)
-less_ended status.RollbackFailed s =
-    less_stay s (ended_effect status.RollbackFailed s).stack (ap keys_in (append-nil (resources_of (stopping status.RollbackFailed s))) ∙ keys_stopped status.RollbackFailed s) refl (rows_same s.tokens s.ledger) (same_number s.operation)
-less_ended status.UpdateRollbackComplete s = less_stay s (ended_effect status.UpdateRollbackComplete s).stack (keys_stopped status.UpdateRollbackComplete s) refl (rows_same s.tokens s.ledger) (same_number s.operation)
-less_ended status.RollbackComplete s = less_stay s (ended_effect status.RollbackComplete s).stack (keys_stopped status.RollbackComplete s) refl (rows_same s.tokens s.ledger) (same_number s.operation)
-less_ended status.DeleteComplete s = less_stay s (ended_effect status.DeleteComplete s).stack (keys_stopped status.DeleteComplete s) refl (rows_same s.tokens s.ledger) (same_number s.operation)
+less_ended Status.CreateComplete s =
+    let u = stopping Status.CreateComplete s in
+    less_stay s (ended_effect Status.CreateComplete s).stack (keys_joined (settled_in (whole_now u) u) (keeps_thing (settled_in (whole_now u) u) (settled_leaves (whole_now u) u)) (resources_of u) ∙ keys_stopped Status.CreateComplete s) refl (rows_same s.tokens s.ledger) (same_number s.operation)
+less_ended Status.RollbackFailed s =
+    less_stay s (ended_effect Status.RollbackFailed s).stack (ap keys_in (append-nil (resources_of (stopping Status.RollbackFailed s))) ∙ keys_stopped Status.RollbackFailed s) refl (rows_same s.tokens s.ledger) (same_number s.operation)
 less_ended state s = less_stay s (ended_effect state s).stack (keys_stopped state s) refl (rows_same s.tokens s.ledger) (same_number s.operation)
 
 -- A stack fits after the answer to one of its open calls.
@@ -517,51 +424,44 @@ same_changing id f s = grind arith
 -- What an answer leaves of the resources: they stay, or that which was to be deleted is gone, or one more is made.
 pub data IsLeftBy (s : StackState) (path : List ℕ) : Request → Reply → StackState → Type 0 where
   same : {r : Request} {a : Reply} {u : StackState} → IsSameBut s u → keys_of u ≡ keys_of s → IsLeftBy s path r a u
-  gone : {r : Request} {a : Reply} {u : StackState} (id : List ℕ) → IsSameBut s u → id_named r ≡ Some id → (a ≡ reply.Doubt → ⊥) → keys_of u ≡ filter (has_other id) (keys_of s) → IsLeftBy s path r a u
+  gone : {r : Request} {a : Reply} {u : StackState} (id : List ℕ) → IsSameBut s u → id_named r ≡ Some id → (a ≡ Reply.Doubt → ⊥) → keys_of u ≡ filter (has_other id) (keys_of s) → IsLeftBy s path r a u
   made : {u : StackState} (k id : List ℕ) (props attrs : List (List ℕ × Data)) (h : Held) → IsSameBut s u → resources_of u ≡ resources_of s ++ h ∷ [] → h.physical ≡ id → h.kind ≡ k
-      → IsLeftBy s path (request.Create k props) (reply.Success id attrs) u
+      → IsLeftBy s path (Request.Create k props) (Reply.Success id attrs) u
 
 by_change : (s : StackState) (path : List ℕ) (r : Request) (a : Reply) (id : List ℕ) (f : Held → Held) → ((h : Held) → key_of (f h) ≡ key_of h) → IsLeftBy s path r a (changing id f s)
 by_change s path r a id f k = same (same_changing id f s) (keys_changing id f k s)
 
-by_deletion : (s : StackState) (path : List ℕ) (a : Reply) (id : List ℕ) → (a ≡ reply.Doubt → ⊥) → IsLeftBy s path (request.Delete id) a (deleting id s)
+by_deletion : (s : StackState) (path : List ℕ) (a : Reply) (id : List ℕ) → (a ≡ Reply.Doubt → ⊥) → IsLeftBy s path (Request.Delete id) a (deleting id s)
 by_deletion s path a id n = gone id (record { tokens = refl; ledger = refl; operation = refl }) refl n (keys_deleted id s)
 
-by_refusal : (restores : Bool) (s : StackState) (path id : List ℕ) (c : Code) → IsLeftBy s path (request.Delete id) (reply.Failed c) (answered restores path (request.Delete id) (reply.Failed c) s)
-by_refusal restores s path id code.NotFound = by_deletion s path (reply.Failed code.NotFound) id (λ e. let no : ⊥ = cc in no)
-by_refusal restores s path id c = by_change s path (request.Delete id) (reply.Failed c) id (λ h. record h { status = held.DeleteFailed }) (λ h. refl)
+by_refusal : (restores : Bool) (s : StackState) (path id : List ℕ) (c : Code) → IsLeftBy s path (Request.Delete id) (Reply.Failed c) (answered restores path (Request.Delete id) (Reply.Failed c) s)
+by_refusal restores s path id c = grind (arith, by_deletion, by_change)
 
 pub left_by : (restores : Bool) (path : List ℕ) (r : Request) (a : Reply) (s : StackState) → IsLeftBy s path r a (answered restores path r a s)
-left_by restores path (request.Create k props) (reply.Success id attrs) s =
+left_by restores path (Request.Create k props) (Reply.Success id attrs) s =
     made k id props attrs (made_of (terms_at path s) (status_made (current_at path s.held)) path k props id attrs) (record { tokens = refl; ledger = refl; operation = refl })
     (sym (append_assoc s.held s.made (made_of (terms_at path s) (status_made (current_at path s.held)) path k props id attrs ∷ []))) refl refl
-left_by restores path (request.Update id props) (reply.Success physical attrs) s = by_change s path (request.Update id props) (reply.Success physical attrs) id (updating props attrs) (λ h. refl)
-left_by restores path (request.Update id props) (reply.Failed c) s =
-    either_way (IsLeftBy s path (request.Update id props) (reply.Failed c)) restores (with_status id held.UpdateFailed s) s
-    (by_change s path (request.Update id props) (reply.Failed c) id (λ h. record h { status = held.UpdateFailed }) (λ h. refl)) (same (same_self s) refl)
-left_by restores path (request.Delete id) (reply.Success physical attrs) s = by_deletion s path (reply.Success physical attrs) id (λ e. let no : ⊥ = cc in no)
-left_by restores path (request.Delete id) (reply.Failed c) s = by_refusal restores s path id c
+left_by restores path (Request.Update id props) (Reply.Success physical attrs) s = by_change s path (Request.Update id props) (Reply.Success physical attrs) id (updating props attrs) (λ h. refl)
+left_by restores path (Request.Update id props) (Reply.Failed c) s =
+    either_way (IsLeftBy s path (Request.Update id props) (Reply.Failed c)) restores (with_status id HeldStatus.UpdateFailed s) s
+    (by_change s path (Request.Update id props) (Reply.Failed c) id (λ h. record h { status = HeldStatus.UpdateFailed }) (λ h. refl)) (same (same_self s) refl)
+left_by restores path (Request.Delete id) (Reply.Success physical attrs) s = by_deletion s path (Reply.Success physical attrs) id (λ e. let no : ⊥ = cc in no)
+left_by restores path (Request.Delete id) (Reply.Failed c) s = by_refusal restores s path id c
 left_by restores path r a s = same (same_self s) refl
 
-still_other : (token : ℕ) (a : Reply) (ps : List Pending) (p : Pending) → (a ≡ reply.Doubt → ⊥) → In p (still_open token a ps) → token ≡ p.token → ⊥
-still_other token reply.Doubt ps p n i e = n refl
-still_other token a ps p n i e = closed_other token ps p i e
+still_other : (token : ℕ) (a : Reply) (ps : List Pending) (p : Pending) → (a ≡ Reply.Doubt → ⊥) → In p (still_open token a ps) → token ≡ p.token → ⊥
+still_other token a ps p n i e = grind (arith, closed_other)
 
 module _ (x y : World) (s : StackState) (h : Fits x s) (token : ℕ) (q : Pending) (found : pending_of token s ≡ Some q) (lanes : y.lanes ≡ x.lanes) (last : y.token ≡ x.token) where
   -- no other open call names the id that this one names
-  not_named : (a : Reply) (id : List ℕ) → id_named q.request ≡ Some id → (a ≡ reply.Doubt → ⊥) → (p : Pending) (i : List ℕ) → In p (still_open token a s.tokens) → id_named p.request ≡ Some i → bytes_eq id i ≡ false
-  not_named a id e n p i j f = by (bytes_eq id i) refl where
-    by : (b : Bool) → bytes_eq id i ≡ b → b ≡ false
-    by false t = refl
-    by true t =
-        let (k, m) = found_one (has_token token) s.tokens q found in
-        let same : id ≡ i = (bytes_eq-Decides id i).0 t in
-        let (r, r_in, r_id, r_path) = h.named q id k e in
-        let (g, g_in, g_id, g_path) = h.named p i (still_in token a s.tokens p j) f in
-        let one : r ≡ g = one_id (λ (z : Held). z.physical) (resources_of s) h.ids r g r_in g_in (r_id ∙ same ∙ sym g_id) in
-        let path : q.path ≡ p.path = sym r_path ∙ ap (λ (z : Held). z.path) one ∙ g_path in
-        let call : q ≡ p = h.paths q p k (still_in token a s.tokens p j) path in
-        absurd (still_other token a s.tokens p n j (eqb-true token q.token m ∙ ap (λ (z : Pending). z.token) call))
+  not_named : (a : Reply) (id : List ℕ) → id_named q.request ≡ Some id → (a ≡ Reply.Doubt → ⊥) → (p : Pending) (i : List ℕ) → In p (still_open token a s.tokens) → id_named p.request ≡ Some i → bytes_eq id i ≡ false
+  not_named a id e n p i j f = none_false (bytes_eq id i) (λ t.
+      let (k, m) = found_one (has_token token) s.tokens q found in
+      let (r, r_in, r_id, r_path) = h.named q id k e in
+      let (g, g_in, g_id, g_path) = h.named p i (still_in token a s.tokens p j) f in
+      let one : r ≡ g = one_id (λ (z : Held). z.physical) (resources_of s) h.ids r g r_in g_in (r_id ∙ (bytes_eq-Decides id i).0 t ∙ sym g_id) in
+      let call : q ≡ p = h.paths q p k (still_in token a s.tokens p j) (sym r_path ∙ ap (λ (z : Held). z.path) one ∙ g_path) in
+      still_other token a s.tokens p n j (eqb-true token q.token m ∙ ap (λ (z : Pending). z.token) call))
 
   -- the calls of what is left
   less_closed : (a : Reply) (u : StackState) → IsSameBut s u → (k : Keyed (keys_of s) (keys_of u)) → ((p : Pending) (i : List ℕ) → In p (still_open token a s.tokens) → id_named p.request ≡ Some i → IsLeft k i) → IsLess s (closing token a u)
@@ -583,7 +483,7 @@ module _ (x y : World) (s : StackState) (h : Fits x s) (token : ℕ) (q : Pendin
 
   pub fits_answered :
       (a : Reply) (u : StackState) → IsLeftBy s q.path q.request a u
-      → ((id : List ℕ) (attrs : List (List ℕ × Data)) → a ≡ reply.Success id attrs → id_named q.request ≡ None → (IsOfLane q.lane id) × ((r : Held) → In r (resources_of s) → r.physical ≡ id → ⊥))
+      → ((id : List ℕ) (attrs : List (List ℕ × Data)) → a ≡ Reply.Success id attrs → id_named q.request ≡ None → (IsOfLane q.lane id) × ((r : Held) → In r (resources_of s) → r.physical ≡ id → ⊥))
       → Fits y (closing token a u)
   fits_answered a u d new = by q.request a u refl refl d where
     by : (r : Request) (b : Reply) (u : StackState) → q.request ≡ r → a ≡ b → IsLeftBy s q.path r b u → Fits y (closing token a u)
@@ -601,54 +501,42 @@ module _ (x y : World) (s : StackState) (h : Fits x s) (token : ℕ) (q : Pendin
 
 -- Which stacks stand in the world after an entry, and what else it leaves.
 
-abbrev pub Found : Type 0
-Found = Option (List ℕ × StackState)
-
-abbrev pub put_by : World → Entry → Found → List (List ℕ × StackState)
-put_by x e o = option_map_or (λ (s : List ℕ × StackState). put s.0 (effect_at (x.place + 1) e s.1).stack x.stacks) o x.stacks
-
-abbrev pub world_left : World → Entry → Found → World
-world_left x e o = option_map_or (λ (s : List ℕ × StackState). leaving s.0 (effect_at (x.place + 1) e s.1) x) o x
-
--- what an entry of one stack leaves
-left_as : (x : World) (e : Entry) (o : Found) → ((world_left x e o).stacks ≡ put_by x e o) × ((world_left x e o).lanes ≡ x.lanes) × ((world_left x e o).token ≡ x.token)
-left_as x e None = (refl, refl, refl)
-left_as x e (Some s) = (refl, refl, refl)
-
 pub after_stacks : (x : World) (e : Entry) → is_opening e ≡ false → (world_after x e).stacks ≡ put_by x e (stack_for e x)
-after_stacks x (entry.Opened epoch lanes) n = absurd (true≢false n)
-after_stacks x e n = (left_as x e (stack_for e x)).0
+after_stacks x e n = grind (arith, true≢false, left_of)
 
 pub after_lanes : (x : World) (e : Entry) → is_opening e ≡ false → (world_after x e).lanes ≡ x.lanes
-after_lanes x (entry.Opened epoch lanes) n = absurd (true≢false n)
-after_lanes x e n = (left_as x e (stack_for e x)).1
+after_lanes x e n = grind (arith, true≢false, left_of)
+
+pub after_exports : (x : World) (e : Entry) → is_opening e ≡ false → (world_after x e).exports ≡ exports_by x e (stack_for e x)
+after_exports x e n = grind (arith, true≢false, left_of)
 
 pub after_token : (x : World) (e : Entry) → (world_after x e).token ≡ token_after e x.token
-after_token x (entry.Opened epoch lanes) = refl
-after_token x (entry.Intent number token lane path r) = refl
-after_token x e = (left_as x e (stack_for e x)).2
+after_token x e = grind (arith, left_of)
 
 -- the stack that an entry is of is the one that is known by its name
 known_by : (x : World) (name : List ℕ) (s : StackState) → stack_at name x ≡ Some s → known_stack name x ≡ s
 known_by x name s e = ap (λ (o : Option StackState). unwrap_or o no_stack) e
 
-abbrev named : List ℕ → StackState → List ℕ × StackState
-named n s = (n, s)
-
--- a beginning is of the stack of its name
-known_same : (x : World) (n name : List ℕ) (s : StackState) → Some (named n (known_stack n x)) ≡ Some (named name s) → (n ≡ name) × (known_stack n x ≡ s)
-known_same x n name s e = (ap (λ (o : Found). (unwrap_or o (n, s)).0) e, ap (λ (o : Found). (unwrap_or o (n, s)).1) e)
-
-there_known : (x : World) (n name : List ℕ) (s : StackState) (o : Option StackState) → stack_at n x ≡ o → option_map (named n) o ≡ Some (named name s) → (n ≡ name) × (known_stack n x ≡ s)
-there_known x n name s None f e = let none : ⊥ = cc in absurd none
-there_known x n name s (Some t) f e = known_same x n name s (ap (λ (z : StackState). Some (named n z)) (known_by x n t f) ∙ e)
-
-pub begun_known : (x : World) (number : ℕ) (n : List ℕ) (k : Begun) (name : List ℕ) (s : StackState) → stack_for (entry.Begin number n k) x ≡ Some (name, s) → (n ≡ name) × (known_stack n x ≡ s)
-begun_known x number n (begin.Create source) name s e = known_same x n name s e
-begun_known x number n _ name s e = there_known x n name s (stack_at n x) refl e
-
 pub stack_known : (x : World) → AreApart x → (e : Entry) (name : List ℕ) (s : StackState) → stack_for e x ≡ Some (name, s) → known_stack name x ≡ s
 stack_known x h e name s f = known_for x h.names name s e f
+
+-- what stands under a name after an entry that is no opening: the stack that it is of, or what was there
+pub data AtName (x : World) (e : Entry) (name : List ℕ) : Type 0 where
+  of_it : (s : StackState) → stack_for e x ≡ Some (name, s) → stack_at name (world_after x e) ≡ Some (effect_at (x.place + 1) e s).stack → AtName x e name
+  of_another : ((s : StackState) → stack_for e x ≡ Some (name, s) → ⊥) → stack_at name (world_after x e) ≡ stack_at name x → AtName x e name
+
+pub at_name : (x : World) (e : Entry) (name : List ℕ) → is_opening e ≡ false → AtName x e name
+at_name x e name n = by (stack_for e x) refl (ap (value_at name) (after_stacks x e n)) where
+  by : (o : Found) → stack_for e x ≡ o → stack_at name (world_after x e) ≡ value_at name (put_by x e (stack_for e x)) → AtName x e name
+  by None f now = of_another (λ s k. let no : ⊥ = cc in no) (now ∙ ap (λ o. value_at name (put_by x e o)) f)
+  by (Some p) f now =
+      let at = now ∙ ap (λ o. value_at name (put_by x e o)) f in
+      elim (bytes_or name p.0) [
+        | inl is ↦ of_it p.1 (f ∙ ap (λ (m : List ℕ). Some (m, p.1)) (sym is))
+            (at ∙ ap (λ m. value_at m (put_by x e (Some p))) is ∙ put_here p.0 (effect_at (x.place + 1) e p.1).stack x.stacks)
+        | inr differs ↦ of_another (λ s k. differs (ap (λ (o : Found). (unwrap_or o (name, s)).0) (sym k ∙ f)))
+            (at ∙ put_else name p.0 (effect_at (x.place + 1) e p.1).stack x.stacks (other_bytes name p.0 differs))
+      ]
 
 -- A stack after an entry is the one before, changed by it or not.
 pub record Stands (x : World) (e : Entry) (name : List ℕ) (t : StackState) : Type 0 where
@@ -657,33 +545,19 @@ pub record Stands (x : World) (e : Entry) (name : List ℕ) (t : StackState) : T
   pub becomes : BecomesBy x e name stack t
   pub there : (stack_for e x ≡ Some (name, stack)) ⊎ (stack_at name x ≡ Some stack)
 
-module _ (x : World) (h : AreApart x) (e : Entry) (name : List ℕ) (t : StackState) where
-  unmoved : is_opening e ≡ false → ((s : StackState) → stack_for e x ≡ Some (name, s) → ⊥) → stack_at name x ≡ Some t → Stands x e name t
-  unmoved n apart f = record { stack = t; known = known_by x name t f; becomes = other n apart; there = inr f }
-
-  by_found : is_opening e ≡ false → (o : Found) → stack_for e x ≡ o → value_at name (put_by x e o) ≡ Some t → Stands x e name t
-  by_found n None f g = unmoved n (λ s k. let none : ⊥ = cc in none) g
-  by_found n (Some p) f g = by (bytes_eq name p.0) refl where
-    by : (b : Bool) → bytes_eq name p.0 ≡ b → Stands x e name t
-    by true k =
-        let same : name ≡ p.0 = (bytes_eq-Decides name p.0).0 k in
-        let mine : stack_for e x ≡ Some (name, p.1) = f ∙ ap (λ (m : List ℕ). Some (m, p.1)) (sym same) in
-        let now : Some (effect_at (x.place + 1) e p.1).stack ≡ Some t = sym (ap (λ m. value_at m (put_by x e (Some p))) same ∙ put_here p.0 (effect_at (x.place + 1) e p.1).stack x.stacks) ∙ g in
-        let is : (effect_at (x.place + 1) e p.1).stack ≡ t = cc in
-        record { stack = p.1; known = stack_known x h e name p.1 mine; becomes = subst (BecomesBy x e name p.1) is (own mine); there = inl mine }
-    by false k =
-        unmoved n
-        (λ s m. true≢false (sym ((bytes_eq-Decides name p.0).1 (ap (λ (o : Found). (unwrap_or o (name, t)).0) (sym m ∙ f))) ∙ k))
-        (sym (put_else name p.0 (effect_at (x.place + 1) e p.1).stack x.stacks k) ∙ g)
-
 pub stands_by : (x : World) → AreApart x → (e : Entry) (name : List ℕ) (t : StackState) → stack_at name (world_after x e) ≡ Some t → Stands x e name t
-stands_by x h (entry.Opened epoch lanes) name t g = by (stack_at name x) refl (sym (value_under (λ (s : StackState). (effect_at (x.place + 1) (entry.Opened epoch lanes) s).stack) name x.stacks) ∙ g) where
-  by : (o : Option StackState) → stack_at name x ≡ o → option_map (λ (s : StackState). (effect_at (x.place + 1) (entry.Opened epoch lanes) s).stack) o ≡ Some t → Stands x (entry.Opened epoch lanes) name t
+stands_by x h (Entry.Opened epoch lanes) name t g = by (stack_at name x) refl (sym (value_under (λ (s : StackState). (effect_at (x.place + 1) (Entry.Opened epoch lanes) s).stack) name x.stacks) ∙ g) where
+  by : (o : Option StackState) → stack_at name x ≡ o → option_map (λ (s : StackState). (effect_at (x.place + 1) (Entry.Opened epoch lanes) s).stack) o ≡ Some t → Stands x (Entry.Opened epoch lanes) name t
   by None f k = let none : ⊥ = cc in absurd none
   by (Some s) f k =
-      let is : (effect_at (x.place + 1) (entry.Opened epoch lanes) s).stack ≡ t = cc in
-      record { stack = s; known = known_by x name s f; becomes = subst (BecomesBy x (entry.Opened epoch lanes) name s) is (at_opening refl); there = inr f }
-stands_by x h e name t g = by_found x h e name t refl (stack_for e x) refl (sym (ap (value_at name) (after_stacks x e refl)) ∙ g)
+      let is : (effect_at (x.place + 1) (Entry.Opened epoch lanes) s).stack ≡ t = cc in
+      record { stack = s; known = known_by x name s f; becomes = subst (BecomesBy x (Entry.Opened epoch lanes) name s) is (at_opening refl); there = inr f }
+stands_by x h e name t g = elim (at_name x e name refl) [
+  | of_it s mine now ↦
+      let is : (effect_at (x.place + 1) e s).stack ≡ t = some_is _ _ (sym now ∙ g) in
+      record { stack = s; known = stack_known x h e name s mine; becomes = subst (BecomesBy x e name s) is (own mine); there = inl mine }
+  | of_another never now ↦ record { stack = t; known = known_by x name t (sym now ∙ g); becomes = other refl never; there = inr (sym now ∙ g) }
+]
 
 -- what is found at a path is held there
 held_at : (path : List ℕ) (hs : List Held) (h : Held) → current_at path hs ≡ Some h → In h hs × (h.path ≡ path)
@@ -695,40 +569,29 @@ abbrev IsNamedIn : StackState → List ℕ → List ℕ → Type 0
 IsNamedIn s path id = (r : Held) × In r (resources_of s) × (r.physical ≡ id) × (r.path ≡ path)
 
 deletion_named : (stage : Stage) (s : StackState) (path : List ℕ) (r : Request) (id : List ℕ) → IntendsDeletion stage s path r → id_named r ≡ Some id → IsNamedIn s path id
-deletion_named stage s path (request.Create k props) id d e = absurd d
-deletion_named stage s path (request.Update physical props) id d e = absurd d
-deletion_named stage s path (request.Delete physical) id (r, may, keeps, at, of) e = (r, by stage may, sym of ∙ (let same : physical ≡ id = cc in same), sym at) where
-  by : (stage : Stage) → MayDelete stage s r → In r (resources_of s)
-  by Forward m = absurd m
-  by Clean m = in_front r s.held s.made m.0
-  by Back m = in_back r s.held s.made m.1
-  by BackClean m = in_back r s.held s.made m.0
-  by Gone m = m.0
+deletion_named stage s path r id d e = grind (arith, in_front, in_back)
 
 -- what a call names is a resource of the stack, at the call's path
 pub intends_named :
     (stage : Stage) (schemas : List Schema) (name : List ℕ) (x : World) (s : StackState) (path : List ℕ) (r : Request) (id : List ℕ) → IsSteady s
     → IntendsIn stage schemas name x s path r → id_named r ≡ Some id → IsNamedIn s path id
-intends_named Forward schemas name x s path (request.Create k props) id steady m e = let none : ⊥ = cc in absurd none
-intends_named Forward schemas name x s path (request.Update physical props) id steady (a, b, c, (h, at, of, known, wants, rest)) e =
+intends_named Forward schemas name x s path (Request.Create k props) id steady m e = let none : ⊥ = cc in absurd none
+intends_named Forward schemas name x s path (Request.Update physical props) id steady (a, b, c, (h, at, of, known, wants, rest)) e =
     let (i, p) = held_at path s.held h at in
     let same : physical ≡ id = cc in
     (h, in_front h s.held s.made i, sym of ∙ same, p)
-intends_named Forward schemas name x s path (request.Delete physical) id steady (a, b, c, d) e = absurd d
+intends_named Forward schemas name x s path (Request.Delete physical) id steady (a, b, c, d) e = absurd d
 intends_named Back schemas name x s path r id steady (inl d) e = deletion_named Back s path r id d e
-intends_named Back schemas name x s path (request.Create k props) id steady (inr d) e = absurd d
-intends_named Back schemas name x s path (request.Delete physical) id steady (inr d) e = absurd d
-intends_named Back schemas name x s path (request.Update physical props) id steady (inr (state, b, todo, at, of, props_are, rest)) e =
-    let (h, i, f, g) = steady.restores state b todo.0 in
-    let same : physical ≡ id = cc in
-    (h, in_front h s.held s.made i, f ∙ sym of ∙ same, g ∙ sym at)
+intends_named Back schemas name x s path (Request.Create k props) id steady (inr d) e = absurd d
+intends_named Back schemas name x s path (Request.Delete physical) id steady (inr d) e = absurd d
+intends_named Back schemas name x s path (Request.Update physical props) id steady (inr (state, b, todo, at, of, props_are, rest)) e = grind (arith, in_front)
 intends_named Clean schemas name x s path r id steady d e = deletion_named Clean s path r id d e
 intends_named BackClean schemas name x s path r id steady d e = deletion_named BackClean s path r id d e
 intends_named Gone schemas name x s path r id steady d e = deletion_named Gone s path r id d e
 
 -- a lane that fits the request is one of those that were handed in
 pub fitting_lane : (x : World) (p : Pending) (r : Request) → p.request ≡ r → FitsLane x p.lane r → (l : List ℕ × List ℕ) × In l x.lanes × IsLaneFor p l
-fitting_lane x p (request.Create k props) e t =
+fitting_lane x p (Request.Create k props) e t =
     let f = some_of (is_lane_of p.lane k) x.lanes t in
     let l = f.one in
     let lane : l.0 ≡ p.lane = sym ((bytes_eq-Decides p.lane l.0).0 (first_so (bytes_eq p.lane l.0) (bytes_eq k l.1) f.passes)) in
@@ -748,24 +611,9 @@ last_known : (x : World) → AreApart x → (n : List ℕ) → (known_stack n x)
 last_known x h n = at_known (λ (s : StackState). s.operation ≤ x.operation) x n (omega arith) (h.last n)
 
 none_made : (k : Begun) (s : StackState) → IsSteady s → IsTrue (begins_from k s.status) → HasNoneMade k s
-none_made (begin.Create source) s steady t = (steady.rests (or_left (creates_from s.status) (updates_from s.status) t)).1
-none_made (begin.Update source) s steady t = (steady.rests (or_right (creates_from s.status) (updates_from s.status) t)).1
-none_made _ s steady t = tt
+none_made k s steady t = grind (arith, or_left, or_right)
 
 module _ (schemas : List Schema) (x : World) (out : List ℕ) (apart : AreApart x) where
-  -- an entry of an operation is of the stack on which it is in progress
-  pub may_on : (number : ℕ) (name : List ℕ) (s : StackState) → stack_of_operation number x ≡ Some (name, s) → (e : Entry) → MayFollowOn schemas number x out e
-      → (stage : Stage) × (stage_of s.status ≡ Some stage) × MayFollowIn schemas name x out s stage e
-  may_on number name s going e (n, t, stage, at, is, may) =
-      let same : Some (n, t) ≡ Some (name, s) = sym at ∙ going in
-      let one : (n, t) ≡ (name, s) = ap (λ (o : Option (List ℕ × StackState)). unwrap_or o (n, t)) same in
-      subst (λ (p : List ℕ × StackState). (stage : Stage) × (stage_of (p.1).status ≡ Some stage) × MayFollowIn schemas p.0 x out p.1 stage e) one (stage, is, may)
-
-  pub number_of : (number : ℕ) (name : List ℕ) (s : StackState) → stack_of_operation number x ≡ Some (name, s) → s.operation ≡ number
-  number_of number name s going =
-      let (i, t) = found_one (λ (p : List ℕ × StackState). is_going number p.1) x.stacks (name, s) going in
-      eqb-true s.operation number (first_so (s.operation == number) (is_in_progress s.status) t)
-
   module _ (s : StackState) (steady : IsSteady s) (h : Fits x s) where
     less_fits : (e : Entry) (t : StackState) → is_opening e ≡ false → x.token ≤ (world_after x e).token → IsLess s t → Fits (world_after x e) t
     less_fits e t n more d = fits_less x (world_after x e) s t h d (subst (λ ls. HasLanes ls s) (sym (after_lanes x e n)) h.lanes) more
@@ -774,26 +622,26 @@ module _ (schemas : List Schema) (x : World) (out : List ℕ) (apart : AreApart 
     token_same e f = omega (arith, f)
 
     intent_fits : (name : List ℕ) (number token : ℕ) (lane path : List ℕ) (r : Request) → number ≡ s.operation → (stage : Stage) → MayIntend schemas name x out s stage token lane path r
-        → Fits (world_after x (entry.Intent number token lane path r)) (effect_at (x.place + 1) (entry.Intent number token lane path r) s).stack
+        → Fits (world_after x (Entry.Intent number token lane path r)) (effect_at (x.place + 1) (Entry.Intent number token lane path r) s).stack
     intent_fits name number token lane path r of stage m =
         let p : Pending = record { token = token; path = path; lane = lane; request = r } in
         let called : Bool → StackState =
         λ b. cond b s (record s { tokens = s.tokens ++ p ∷ []; ledger = s.ledger ++ new_call number s.status p ∷ [] }) in
         let none : list_any (has_token token) s.tokens ≡ false =
-        none_any (has_token token) s.tokens (λ q i t. none_open x (world_after x (entry.Intent number token lane path r)) s s h token m.next q i (eqb-true token q.token t)) in
+        none_any (has_token token) s.tokens (λ q i t. none_open x (world_after x (Entry.Intent number token lane path r)) s s h token m.next q i (eqb-true token q.token t)) in
         let free : (q : Pending) → In q s.tokens → path ≡ q.path → ⊥ =
         λ q i e. true≢false (sym (any_of (λ (z : Pending). bytes_eq path z.path) s.tokens q i ((bytes_eq-Decides path q.path).1 e)) ∙ not-true (list_any (λ (z : Pending). bytes_eq path z.path) s.tokens) m.free) in
         let (l, l_in, l_for) = fitting_lane x p r refl m.fits in
-        fits_called x (world_after x (entry.Intent number token lane path r)) s (effect_at (x.place + 1) (entry.Intent number token lane path r) s).stack h number s.status p m.next
+        fits_called x (world_after x (Entry.Intent number token lane path r)) s (effect_at (x.place + 1) (Entry.Intent number token lane path r) s).stack h number s.status p m.next
         (ap (λ b. (called b).tokens) none) (ap (λ b. (called b).ledger) none) (ap (λ b. resources_of (called b)) none) (ap (λ b. (called b).operation) none)
-        (omega (arith, of)) (after_lanes x (entry.Intent number token lane path r) refl) refl free (λ id e. intends_named stage schemas name x s path r id steady m.chosen e) l l_in l_for
+        (omega (arith, of)) (after_lanes x (Entry.Intent number token lane path r) refl) refl free (λ id e. intends_named stage schemas name x s path r id steady m.chosen e) l l_in l_for
 
     outcome_fits : (name : List ℕ) (number token : ℕ) (a : Reply) (before after : ℕ) → stack_of_operation number x ≡ Some (name, s) → IsTrue (is_some (pending_of token s))
-        → IsNew x (entry.Outcome number token a before after) → IsOfItsLane x (entry.Outcome number token a before after)
-        → Fits (world_after x (entry.Outcome number token a before after)) (effect_at (x.place + 1) (entry.Outcome number token a before after) s).stack
+        → IsNew x (Entry.Outcome number token a before after) → IsOfItsLane x (Entry.Outcome number token a before after)
+        → Fits (world_after x (Entry.Outcome number token a before after)) (effect_at (x.place + 1) (Entry.Outcome number token a before after) s).stack
     outcome_fits name number token a before after going stands new lane = by (pending_of token s) refl stands where
       e : Entry
-      e = entry.Outcome number token a before after
+      e = Entry.Outcome number token a before after
 
       y : World
       y = world_after x e
@@ -805,47 +653,45 @@ module _ (schemas : List Schema) (x : World) (out : List ℕ) (apart : AreApart 
           let fit : Fits y u =
           fits_answered x y s h token q f (after_lanes x e refl) (after_token x e) a (answered (is_restore token s) q.path q.request a s) (left_by (is_restore token s) q.path q.request a s)
           (λ id attrs g n. (
-            subst (λ b. IsOfItsLane x (entry.Outcome number token b before after)) g lane name s q going f n,
-            (subst (λ b. IsNew x (entry.Outcome number token b before after)) g new name s q going f n).resources,
+            subst (λ b. IsOfItsLane x (Entry.Outcome number token b before after)) g lane name s q going f n,
+            (subst (λ b. IsNew x (Entry.Outcome number token b before after)) g new name s q going f n).resources,
           )) in
           subst (λ o. Fits y (heard (x.place + 1) e s (on_stack (replied token a o s))).stack) (sym f)
           (fits_less y y u (heard (x.place + 1) e s (on_stack u)).stack fit (less_heard u u _ _ (less_self u)) fit.lanes (omega arith))
 
   -- an entry that is no call, no answer and no opening makes nothing new
   abbrev pub IsPlain : Entry → Type 0
-  IsPlain (entry.Opened epoch lanes) = ⊥
-  IsPlain (entry.Intent number token lane path r) = ⊥
-  IsPlain (entry.Outcome number token a before after) = ⊥
+  IsPlain (Entry.Opened epoch lanes) = ⊥
+  IsPlain (Entry.Intent number token lane path r) = ⊥
+  IsPlain (Entry.Outcome number token a before after) = ⊥
   IsPlain e = Unit {0}
 
   pub own_less :
       (e : Entry) (name : List ℕ) (s : StackState) → stack_for e x ≡ Some (name, s) → MayFollow schemas x out e → IsSteady s → IsPlain e
       → IsLess s (effect_at (x.place + 1) e s).stack
-  own_less (entry.Begin number n k) name s mine may steady plain =
-      let known = (begun_known x number n k name s mine).1 in
+  own_less (Entry.Begin number n k) name s mine may steady plain =
+      let known : known_stack n x ≡ s = ap (λ m. known_stack m x) (beginning_name schemas x out name s number n k mine) ∙ stack_known x apart (Entry.Begin number n k) name s mine in
       let low : (known_stack n x).operation ≤ x.operation = last_known x apart n in
       let same : (known_stack n x).operation ≡ s.operation = ap (λ (z : StackState). z.operation) known in
       let next : number ≡ x.operation + 1 = may.0 in
       less_heard s (beginning n number k s) _ _
       (less_begun n number k s (omega (arith, low, same, next)) (none_made k s steady (subst (λ (z : StackState). IsTrue (begins_from k z.status)) known may.1)))
-  own_less (entry.ChangeSet number n source rows outputs) name s mine may steady plain =
-      less_stay s (effect_at (x.place + 1) (entry.ChangeSet number n source rows outputs) s).stack refl refl (rows_same s.tokens s.ledger) (same_number s.operation)
-  own_less (entry.Kept number path physical w) name s mine may steady plain = less_heard s (keeping path physical w s) _ _ (less_kept path physical w s)
-  own_less (entry.Phase number p cause) name s mine may steady plain = less_heard s (turned_effect p s).stack _ _ (less_turned p s)
-  own_less (entry.Done number state failed) name s mine may steady plain = less_heard s (ended_effect state s).stack _ _ (less_ended state s)
+  own_less (Entry.ChangeSet number n source rows outputs) name s mine may steady plain =
+      less_stay s (effect_at (x.place + 1) (Entry.ChangeSet number n source rows outputs) s).stack refl refl (rows_same s.tokens s.ledger) (same_number s.operation)
+  own_less (Entry.Kept number path physical w) name s mine may steady plain = less_heard s (keeping path physical w s) _ _ (less_kept path physical w s)
+  own_less (Entry.Phase number p cause) name s mine may steady plain = less_heard s (turned_effect p s).stack _ _ (less_turned p s)
+  own_less (Entry.Done number state failed) name s mine may steady plain = less_heard s (ended_effect state s).stack _ _ (less_ended state s)
   own_less e name s mine may steady plain = absurd plain
 
   own_fits : (e : Entry) (name : List ℕ) (s : StackState) → stack_for e x ≡ Some (name, s) → MayFollow schemas x out e → IsNew x e → IsOfItsLane x e → IsSteady s → Fits x s → Fits (world_after x e) (effect_at (x.place + 1) e s).stack
-  own_fits (entry.Opened epoch lanes) name s mine may new lane steady h = let none : ⊥ = cc in absurd none
-  own_fits (entry.Intent number token lane path r) name s mine may new at steady h =
-      let (stage, is, m) = may_on number name s mine (entry.Intent number token lane path r) may in
-      intent_fits s steady h name number token lane path r (sym (number_of number name s mine)) stage m
-  own_fits (entry.Outcome number token a before after) name s mine may new lane steady h =
-      let (stage, is, m) = may_on number name s mine (entry.Outcome number token a before after) may in
+  own_fits (Entry.Opened epoch lanes) name s mine may new lane steady h = let none : ⊥ = cc in absurd none
+  own_fits (Entry.Intent number token lane path r) name s mine may new at steady h =
+      let (stage, is, m) = in_stage schemas x out name s (Entry.Intent number token lane path r) number mine may in
+      intent_fits s steady h name number token lane path r (numbered_so schemas x out name s number mine) stage m
+  own_fits (Entry.Outcome number token a before after) name s mine may new lane steady h =
+      let (stage, is, m) = in_stage schemas x out name s (Entry.Outcome number token a before after) number mine may in
       outcome_fits s steady h name number token a before after mine m.1 new lane
-  own_fits (entry.ChangeSet number n source rows outputs) name s mine may new lane steady h =
-      less_fits s steady h (entry.ChangeSet number n source rows outputs) (effect_at (x.place + 1) (entry.ChangeSet number n source rows outputs) s).stack refl (omega arith)
-      (own_less (entry.ChangeSet number n source rows outputs) name s mine may steady tt)
+  own_fits (Entry.ChangeSet number n source rows outputs) name s mine may new lane steady h = grind arith
   own_fits e name s mine may new lane steady h =
       less_fits s steady h e (effect_at (x.place + 1) e s).stack refl (token_same s steady h e (after_token x e)) (own_less e name s mine may steady tt)
 
@@ -863,21 +709,20 @@ pub known_steady : (x : World) → AreSteady x → (name : List ℕ) → IsStead
 known_steady x all name = at_known IsSteady x name steady_none (all name)
 
 -- an opening is of every stack
-pub opening_less : (x : World) (epoch : ℕ) (lanes : List (List ℕ × List ℕ)) (s : StackState) → IsLess s (effect_at (x.place + 1) (entry.Opened epoch lanes) s).stack
-opening_less x epoch lanes s = less_stay s (effect_at (x.place + 1) (entry.Opened epoch lanes) s).stack refl refl (rows_anew s.tokens s.ledger) (same_number s.operation)
+pub opening_less : (x : World) (epoch : ℕ) (lanes : List (List ℕ × List ℕ)) (s : StackState) → IsLess s (effect_at (x.place + 1) (Entry.Opened epoch lanes) s).stack
+opening_less x epoch lanes s = less_stay s (effect_at (x.place + 1) (Entry.Opened epoch lanes) s).stack refl refl (rows_anew s.tokens s.ledger) (same_number s.operation)
 
 opening_fits :
     (schemas : List Schema) (x : World) (out : List ℕ) (e : Entry) (name : List ℕ) (s : StackState) → is_opening e ≡ true → MayFollow schemas x out e
     → (stack_for e x ≡ Some (name, s)) ⊎ (stack_at name x ≡ Some s) → Fits x s → Fits (world_after x e) (effect_at (x.place + 1) e s).stack
-opening_fits schemas x out (entry.Opened epoch lanes) name s n may (inl e) h = let none : ⊥ = cc in absurd none
-opening_fits schemas x out (entry.Opened epoch lanes) name s n may (inr e) h =
-    fits_less x (world_after x (entry.Opened epoch lanes)) s (effect_at (x.place + 1) (entry.Opened epoch lanes) s).stack h
+opening_fits schemas x out (Entry.Opened epoch lanes) name s n may (inl e) h = let none : ⊥ = cc in absurd none
+opening_fits schemas x out (Entry.Opened epoch lanes) name s n may (inr e) h =
+    fits_less x (world_after x (Entry.Opened epoch lanes)) s (effect_at (x.place + 1) (Entry.Opened epoch lanes) s).stack h
     (opening_less x epoch lanes s) (may.2 name s e) (omega arith)
 opening_fits schemas x out e name s n may stands h = absurd (true≢false (sym n))
 
 token_up : (x : World) (e : Entry) (schemas : List Schema) (out : List ℕ) → MayFollow schemas x out e → x.token ≤ (world_after x e).token
-token_up x (entry.Intent number token lane path r) schemas out (n, s, stage, at, is, m) = let next : token ≡ x.token + 1 = m.next in omega (arith, next)
-token_up x e schemas out m = let same : (world_after x e).token ≡ x.token = after_token x e in omega (arith, same)
+token_up x e schemas out m = grind (arith, after_token)
 
 pub fits_kept : FitsKept
 fits_kept schemas x out e may new lane apart steady all name t g = by t f.becomes where
@@ -909,7 +754,7 @@ each_is_written schemas x out e may new lane apart steady all name t g =
 
 -- no two resources have one id after an answer, where what is made is new
 pub differ_left : (s u : StackState) (path : List ℕ) (r : Request) (a : Reply) → IsLeftBy s path r a u → all_differ bytes_eq (map (λ (h : Held). h.physical) (resources_of s)) ≡ true
-    → ((k : List ℕ) (q : List (List ℕ × Data)) (i : List ℕ) (v : List (List ℕ × Data)) → r ≡ request.Create k q → a ≡ reply.Success i v → held_in i s ≡ None) → all_differ bytes_eq (map (λ (h : Held). h.physical) (resources_of u)) ≡ true
+    → ((k : List ℕ) (q : List (List ℕ × Data)) (i : List ℕ) (v : List (List ℕ × Data)) → r ≡ Request.Create k q → a ≡ Reply.Success i v → held_in i s ≡ None) → all_differ bytes_eq (map (λ (h : Held). h.physical) (resources_of u)) ≡ true
 differ_left s u path r a (same k keys) d new = differ_keyed (resources_of s) (resources_of u) (stay keys) d
 differ_left s u path r a (gone id k named n keys) d new = differ_keyed (resources_of s) (resources_of u) (one_less id keys) d
 differ_left s u path _ _ (made k id props attrs g b made_is id_is kind_is) d new =

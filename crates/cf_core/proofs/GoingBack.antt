@@ -1,18 +1,9 @@
 -- A rollback has a next step, or it ends; so has a deletion.
-use Rattle.std.proofs.Common.{◌≡◌, ◌⊎◌, inl, inr, ℕ, ◌+◌, Bool, true, false, not, ◌&&◌, ◌||◌, List, ◌∷◌, Option, Some, None, refl, sym, ap, subst, ◌∙◌, true≢false, take, drop, take-append-drop, ◌↔◌, suc, length, append_assoc, ◌++◌, IsTrue, []}
-use Rattle.cf_core.proofs.Words.{AreFailed, Back, Cause, DeletionGoesOn, EndsAs, FitsLane, Forward, Gone, HasNext, Held, In, IntendsDeletion, IntendsIn, IntendsRestore, IsAtEnd, IsOfLane, IsToRestore, MayDelete, MayIntend, MayKeep, MayRepeat, MayTurn, Pending, Phase, Request, RollbackGoesOn, Schema, StackState, Stage, Status, StepsIn, Why, World, bytes_eq, cleaned_in, first_so, goes_forward, has_refused_restore, has_restore, is_among, is_cleared, is_create, is_create_at, is_empty, is_free, is_needed_by_held, is_not_needed, is_repeated, is_to_retain, is_untried, keeps, list_any, may_repeat, named_paths, resources_of, second_so, stack_of_operation, stage_of, waits_for_repeats, was_restored, was_skipped, was_updated}
-use Rattle.cf_core.proofs.Lemmas.{and_from, any_of, bytes_eq-Decides, bytes_same, cases_Bool, none_any, none_of, not_so, or_cases, or_left, or_right, same_bytes, some_of}
+use Rattle.std.proofs.Common.{arith, ◌≡◌, ◌⊎◌, inl, inr, ℕ, ◌+◌, Bool, true, false, not, ◌&&◌, ◌||◌, List, ◌∷◌, Option, Some, None, refl, sym, ap, subst, ◌∙◌, true≢false, take, drop, take-append-drop, ◌↔◌, suc, length, append_assoc, ◌++◌, IsTrue, []}
+use Rattle.cf_core.proofs.Words.{AreFailed, Back, Cause, DeletionGoesOn, EndsAs, Entry, FitsLane, Gone, HasNext, Held, In, IntendsDeletion, IntendsIn, IntendsRestore, IsAtEnd, IsOfLane, IsToRestore, MayDelete, MayIntend, MayKeep, MayRepeat, MayTurn, Pending, Phase, Request, RollbackGoesOn, Schema, StackState, Stage, Status, StepsIn, Why, World, bytes_eq, cleaned_in, first_so, goes_forward, has_refused_restore, has_restore, is_among, is_cleared, is_create, is_create_at, is_empty, is_free, is_needed_by_held, is_not_needed, is_to_retain, is_untried, keeps, list_any, may_repeat, named_paths, resources_of, second_so, stack_of_operation, stage_of, waits_for_repeats, was_restored, was_skipped, was_updated}
+use Rattle.cf_core.proofs.Lemmas.{and_from, any_of, bytes_eq-Decides, bytes_same, cases_Bool, empty_list, none_any, none_of, not_so, or_cases, or_left, or_right, same_bytes, some_of}
 use Rattle.cf_core.proofs.TidyEnds.{at_end_by, at_home, follows, none_calls, none_flying, steps}
 use Rattle.cf_plan.proofs.FailedPaths.{are_failed, failed_list}
-use Rattle.cf_tree.specs.declared.request.Request.TheVariants as request
-use Rattle.cf_entry.specs.declared.entry.Entry.TheVariants as entry
-use Rattle.cf_entry.specs.declared.status.Status.TheVariants as status
-use Rattle.cf_entry.specs.declared.turn.Phase.TheVariants as phase
-use Rattle.cf_entry.specs.declared.turn.Why.TheVariants as why
-
-emptied : {A : Type 0} (xs : List A) → is_empty xs ≡ true → xs ≡ []
-emptied [] e = refl
-emptied (x ∷ xs) e = absurd (true≢false (sym e))
 
 -- the first that passes is taken, or none does
 tries : {A B C : Type 0} (test : A → Bool) (xs : List A) → ((a : A) → In a xs → test a ≡ true → B) → (((a : A) → In a xs → test a ≡ false) → B ⊎ C) → B ⊎ C
@@ -39,7 +30,7 @@ of_lane lane id =
 
 -- the statuses from which a phase begins
 abbrev may_turn : Status → Bool
-may_turn status.UpdateRollbackInProgress = true
+may_turn Status.UpdateRollbackInProgress = true
 may_turn st = goes_forward st
 
 -- an open create is given up
@@ -49,22 +40,11 @@ GivesUp stage s path physical =
 
 module _ (schemas : List Schema) (name : List ℕ) (x : World) (s : StackState) where
   turns_from : (p : Phase) (c : Option Cause) → MayTurn schemas name x s p c → may_turn s.status ≡ true
-  turns_from phase.Clean None w = ap may_turn w.0
-  turns_from phase.Back (Some c) w = by s.status w.0 where
-    by : (st : Status) → stage_of st ≡ Some Forward → may_turn st ≡ true
-    by status.CreateInProgress e = refl
-    by status.UpdateInProgress e = refl
-    by st e = let no : ⊥ = cc in absurd no
-  turns_from phase.BackClean None w = ap may_turn w.0
-  turns_from p c w = absurd w
+  turns_from p c w = grind arith
 
   -- where no call may be made again, none is waited for
   none_waits : (stage : Stage) → ((p : Pending) → In p s.tokens → may_repeat stage [] s p ≡ false) → waits_for_repeats stage [] s ≡ false
-  none_waits stage none = by stage (none_any (may_repeat stage [] s) s.tokens (λ p i e. true≢false (sym e ∙ none p i))) where
-    by : (k : Stage) → list_any (may_repeat k [] s) s.tokens ≡ false → waits_for_repeats k [] s ≡ false
-    by Back e = ap (λ cs. list_any is_repeated cs || list_any (may_repeat Back [] s) s.tokens) (none_calls s) ∙ e
-    by Gone e = ap (λ cs. list_any is_repeated cs || list_any (may_repeat Gone [] s) s.tokens) (none_calls s) ∙ e
-    by k e = refl
+  none_waits stage none = grind (arith, none_any, true≢false, none_calls)
 
   -- a lane of an id
   abbrev home : List ℕ → Bool
@@ -94,21 +74,21 @@ module _ (schemas : List Schema) (name : List ℕ) (x : World) (s : StackState) 
     goes_on : ((p : Pending) → In p s.tokens → may_repeat stage [] s p ≡ false) → (r : Held) → In r rs → goes r ≡ true → StepsIn schemas name x s stage
     goes_on idle r i e = elim (or_cases (keeps stage s r && is_open r) _ (second_so (may r) _ e)) [
       | inl k ↦ inl (
-        entry.Kept s.operation r.path r.physical why.Retained,
+        Entry.Kept s.operation r.path r.physical Why.Retained,
         inl (r, w, none_waits stage idle, first_so (keeps stage s r) _ k, refl, refl, or_cases (is_free r.path s) _ (second_so (keeps stage s r) _ k)),
       )
       | inr d ↦
           let rest = second_so (not (keeps stage s r)) _ d in
           let l = lane_for r.physical (second_so (is_free r.path s) _ rest) in
           inl (
-            entry.Intent s.operation (x.token + 1) l.0 r.path (request.Delete r.physical),
+            Entry.Intent s.operation (x.token + 1) l.0 r.path (Request.Delete r.physical),
             record {
               next = refl;
               free = first_so (is_free r.path s) _ rest;
               home = at_home x l.0;
               fits = (l.1, l.2);
               no_repeat = none_waits stage idle;
-              chosen = (calls r.path (request.Delete r.physical)).1 (r, w, not_so _ (first_so (not (keeps stage s r)) _ d), refl, refl);
+              chosen = (calls r.path (Request.Delete r.physical)).1 (r, w, not_so _ (first_so (not (keeps stage s r)) _ d), refl, refl);
             },
           )
     ] where
@@ -124,20 +104,16 @@ module _ (schemas : List Schema) (name : List ℕ) (x : World) (s : StackState) 
       no_call : (token : ℕ) (lane path : List ℕ) (r : Request) → MayIntend schemas name x [] s stage token lane path r → ⊥
       no_call token lane path r w = by r w.fits ((calls path r).0 w.chosen) where
         by : (k : Request) → FitsLane x lane k → IntendsDeletion stage s path k → ⊥
-        by (request.Delete id) fits (r, d, kept, at, of_id) =
+        by (Request.Delete id) fits (r, d, kept, at, of_id) =
             stays r d (or_right (keeps stage s r && is_open r) _ (and_from (not (keeps stage s r)) _ (ap not kept)
             (and_from (is_free r.path s) _ (ap (λ p. is_free p s) (sym at) ∙ w.free) (ap home (sym of_id) ∙ home_for id lane fits.0 fits.1))))
         by k fits d = absurd d
 
       no_keep : (cleaned_in stage s ≡ []) → ((path id : List ℕ) → GivesUp stage s path id → ⊥) → (path id : List ℕ) (w : Why) → MayKeep stage [] s path id w → ⊥
-      no_keep empty given path id why.Retained (inl (r, d, idle, kept, at, of_id, free)) =
-          stays r d (or_left (keeps stage s r && is_open r) _ (and_from (keeps stage s r) _ kept (ap (λ p. is_free p s || is_to_retain stage s p) (sym at) ∙ elim free [
-            | inl e ↦ or_left (is_free path s) _ e
-            | inr e ↦ or_right (is_free path s) _ e
-          ])))
-      no_keep empty given path id why.Retained (inr k) = given path id k
-      no_keep empty given path id why.Failed k = elim (subst (In k.0.0) empty k.0.1) [ ]
-      no_keep empty given path id why.Doubt k = elim (subst (In k.0.0) empty k.0.1) [ ]
+      no_keep empty given path id Why.Retained (inl (r, d, idle, kept, at, of_id, free)) = grind (arith, or_left, and_from, or_right)
+      no_keep empty given path id Why.Retained (inr k) = given path id k
+      no_keep empty given path id Why.Failed k = elim (subst (In k.0.0) empty k.0.1) [ ]
+      no_keep empty given path id Why.Doubt k = elim (subst (In k.0.0) empty k.0.1) [ ]
 
     deletes_or_ends : cleaned_in stage s ≡ [] → may_turn s.status ≡ false
         → ((p : Pending) → MayRepeat schemas name x [] s stage p → In p s.tokens × (may_repeat stage [] s p ≡ true))
@@ -148,13 +124,12 @@ module _ (schemas : List Schema) (name : List ℕ) (x : World) (s : StackState) 
         (λ p w. let r = repeats p w in true≢false (sym r.1 ∙ idle p r.0))))
 
   -- the rollback of a creation
-  module _ (rolling : s.status ≡ status.RollbackInProgress) where
+  module _ (rolling : s.status ≡ Status.RollbackInProgress) where
     made_deletes : (r : Held) → MayDelete Back s r ↔ (In r s.made × ((is_not_needed s r && is_untried s r) ≡ true))
     made_deletes r = (λ w. (w.1, and_from (is_not_needed s r) _ w.2 w.3), λ w. (rolling, w.0, first_so (is_not_needed s r) _ w.1, second_so (is_not_needed s r) _ w.1))
 
     no_restore : (path : List ℕ) (r : Request) → IntendsRestore s path r → ⊥
-    no_restore path (request.Update id props) d = let e = sym rolling ∙ d.0 in cc
-    no_restore path r d = d
+    no_restore path r d = grind arith
 
     steps_rolling : StepsIn schemas name x s Back ⊎ IsAtEnd schemas name x s Back
     steps_rolling = tries (may_repeat Back [] s) s.tokens (λ p i e. inr (p, (i, e))) (λ idle.
@@ -163,17 +138,12 @@ module _ (schemas : List Schema) (name : List ℕ) (x : World) (s : StackState) 
         (λ path id k. let e = k.0 in cc))
 
   -- a deletion
-  module _ (gone : s.status ≡ status.DeleteInProgress) where
+  module _ (gone : s.status ≡ Status.DeleteInProgress) where
     abbrev may_go : Held → Bool
     may_go r = is_not_needed s r && (not (is_needed_by_held s r) && is_untried s r)
 
     gone_deletes : (r : Held) → MayDelete Gone s r ↔ (In r (resources_of s) × (may_go r ≡ true))
-    gone_deletes r = (
-      λ w. (w.0, and_from (is_not_needed s r) _ w.1 (and_from (not (is_needed_by_held s r)) _ (ap not w.2) w.3)),
-      λ w.
-          let rest = second_so (is_not_needed s r) _ w.1 in
-          (w.0, first_so (is_not_needed s r) _ w.1, not_so _ (first_so (not (is_needed_by_held s r)) _ rest), second_so (not (is_needed_by_held s r)) _ rest),
-    )
+    gone_deletes r = grind (arith, and_from, not_so)
 
     -- an open create that is given up
     abbrev is_given_up : Pending → Bool
@@ -181,7 +151,7 @@ module _ (schemas : List Schema) (name : List ℕ) (x : World) (s : StackState) 
 
     given_up : (p : Pending) → In p s.tokens → is_given_up p ≡ true → StepsIn schemas name x s Gone
     given_up p i e = inl (
-      entry.Kept s.operation p.path [] why.Retained,
+      Entry.Kept s.operation p.path [] Why.Retained,
       inr (
         refl,
         refl,
@@ -200,7 +170,7 @@ module _ (schemas : List Schema) (name : List ℕ) (x : World) (s : StackState) 
         (first_so (is_create p.one.request) _ p.passes)) ∙ none p.one p.of_list))))
 
   -- the rollback of an update
-  module _ (back : s.status ≡ status.UpdateRollbackInProgress) where
+  module _ (back : s.status ≡ Status.UpdateRollbackInProgress) where
     abbrev is_left : Held → Bool
     is_left b = was_updated b.physical s && (not (was_restored b.physical s) && not (was_skipped b.path s))
 
@@ -211,16 +181,7 @@ module _ (schemas : List Schema) (name : List ℕ) (x : World) (s : StackState) 
     can_turn = is_empty s.tokens && (not (list_any is_left s.before) && not (has_refused_restore s))
 
     left_is : (b : Held) → IsToRestore s b ↔ (In b s.before × (is_left b ≡ true))
-    left_is b = (
-      λ w. (w.0, and_from (was_updated b.physical s) _ w.1 (and_from (not (was_restored b.physical s)) _ (ap not w.2) (ap not w.3))),
-      λ w.
-          let rest = second_so (was_updated b.physical s) _ w.1 in (
-            w.0,
-            first_so (was_updated b.physical s) _ w.1,
-            not_so _ (first_so (not (was_restored b.physical s)) _ rest),
-            not_so _ (second_so (not (was_restored b.physical s)) _ rest),
-          ),
-    )
+    left_is b = grind (arith, and_from, not_so)
 
     restore_goes : waits_for_repeats Back [] s ≡ false → (b : Held) → In b s.before → is_restorable b ≡ true → StepsIn schemas name x s Back
     restore_goes idle b i e =
@@ -228,7 +189,7 @@ module _ (schemas : List Schema) (name : List ℕ) (x : World) (s : StackState) 
         let last = second_so (not (has_restore b.physical s)) _ rest in
         let l = lane_for b.physical (second_so (is_free b.path s) _ last) in
         inl (
-          entry.Intent s.operation (x.token + 1) l.0 b.path (request.Update b.physical b.props),
+          Entry.Intent s.operation (x.token + 1) l.0 b.path (Request.Update b.physical b.props),
           record {
             next = refl;
             free = first_so (is_free b.path s) _ last;
@@ -248,19 +209,16 @@ module _ (schemas : List Schema) (name : List ℕ) (x : World) (s : StackState) 
         )
 
     no_left : list_any is_left s.before ≡ false ↔ ((b : Held) → IsToRestore s b → ⊥)
-    no_left = (
-      λ e b w. let m = (left_is b).0 w in true≢false (sym (any_of is_left s.before b m.0 m.1) ∙ e),
-      λ none. none_any is_left s.before (λ b i e. none b ((left_is b).1 (i, e))),
-    )
+    no_left = grind (arith, true≢false, any_of, none_any)
 
     turn_goes : can_turn ≡ true → StepsIn schemas name x s Back
     turn_goes e =
         let rest = second_so (is_empty s.tokens) _ e in
         inl (
-          entry.Phase s.operation phase.BackClean None,
+          Entry.Phase s.operation Phase.BackClean None,
           (
             back,
-            emptied s.tokens (first_so (is_empty s.tokens) _ e),
+            empty_list s.tokens (first_so (is_empty s.tokens) _ e),
             no_left.0 (not_so _ (first_so (not (list_any is_left s.before)) _ rest)),
             not_so _ (second_so (not (list_any is_left s.before)) _ rest),
           ),
@@ -271,24 +229,21 @@ module _ (schemas : List Schema) (name : List ℕ) (x : World) (s : StackState) 
       no_restored : (token : ℕ) (lane path : List ℕ) (r : Request) → MayIntend schemas name x [] s Back token lane path r → ⊥
       no_restored token lane path r w = by r w.fits w.chosen where
         by : (k : Request) → FitsLane x lane k → IntendsDeletion Back s path k ⊎ IntendsRestore s path k → ⊥
-        by (request.Create k props) fits e = elim e [ inl d ↦ d | inr d ↦ d ]
-        by (request.Delete id) fits e = elim e [ inl d ↦ (let k = sym back ∙ d.1.0 in cc) | inr d ↦ d ]
-        by (request.Update id props) fits (inl e) = e
-        by (request.Update id props) fits (inr (k, b, left, at, of_id, of_props, first)) =
+        by (Request.Create k props) fits e = elim e [ inl d ↦ d | inr d ↦ d ]
+        by (Request.Delete id) fits e = elim e [ inl d ↦ (let k = sym back ∙ d.1.0 in cc) | inr d ↦ d ]
+        by (Request.Update id props) fits (inl e) = e
+        by (Request.Update id props) fits (inr (k, b, left, at, of_id, of_props, first)) =
             let m = (left_is b).0 left in
             true≢false (sym (and_from (is_left b) _ m.1 (and_from (not (has_restore b.physical s)) _ (ap (λ n. not (has_restore n s)) (sym of_id) ∙ ap not first)
             (and_from (is_free b.path s) _ (ap (λ p. is_free p s) (sym at) ∙ w.free) (ap home (sym of_id) ∙ home_for id lane fits.0 fits.1)))) ∙ none b m.0)
 
       no_kept : (path id : List ℕ) (w : Why) → MayKeep Back [] s path id w → ⊥
-      no_kept path id why.Retained (inl k) = let e = sym back ∙ k.1.0 in cc
-      no_kept path id why.Retained (inr k) = let e = k.0 in cc
-      no_kept path id why.Failed k = elim k.0.1 [ ]
-      no_kept path id why.Doubt k = elim k.0.1 [ ]
+      no_kept path id w k = grind arith
 
       no_turn : (p : Phase) (c : Option Cause) → MayTurn schemas name x s p c → ⊥
-      no_turn phase.Clean None w = let e = sym back ∙ w.0 in cc
-      no_turn phase.Back (Some c) w = let e = ap stage_of (sym back) ∙ w.0 in cc
-      no_turn phase.BackClean None w =
+      no_turn Phase.Clean None w = let e = sym back ∙ w.0 in cc
+      no_turn Phase.Back (Some c) w = let e = ap stage_of (sym back) ∙ w.0 in cc
+      no_turn Phase.BackClean None w =
           true≢false (sym (and_from (is_empty s.tokens) _ (ap is_empty w.1) (and_from (not (list_any is_left s.before)) _ (ap not (no_left.1 w.2)) (ap not w.3))) ∙ stays)
       no_turn p c w = absurd w
 
@@ -306,19 +261,19 @@ module _ (schemas : List Schema) (name : List ℕ) (x : World) (s : StackState) 
         → StepsIn schemas name x s stage ⊎ IsAtEnd schemas name x s stage → HasNext schemas x s.operation
     goes_or_ends stage at ends (inl n) = steps schemas name x s stage going at n
     goes_or_ends stage at ends (inr end) =
-        let e = ends end in follows schemas name x s stage going at (entry.Done s.operation e.0 e.1) (none_flying s, end, e.2, e.3)
+        let e = ends end in follows schemas name x s stage going at (Entry.Done s.operation e.0 e.1) (none_flying s, end, e.2, e.3)
 
 pub rollback_goes_on : RollbackGoesOn
 rollback_goes_on schemas name x s going (inl e) = goes_or_ends schemas name x s going Back (ap stage_of e) (λ end. elim (cases_Bool (is_cleared s)) [
-  | inl c ↦ (status.RollbackComplete, [], subst (λ k. EndsAs schemas name x s k status.RollbackComplete) (sym e) c, refl)
-  | inr c ↦ (status.RollbackFailed, failed_list s, subst (λ k. EndsAs schemas name x s k status.RollbackFailed) (sym e) c, are_failed s)
+  | inl c ↦ (Status.RollbackComplete, [], subst (λ k. EndsAs schemas name x s k Status.RollbackComplete) (sym e) c, refl)
+  | inr c ↦ (Status.RollbackFailed, failed_list s, subst (λ k. EndsAs schemas name x s k Status.RollbackFailed) (sym e) c, are_failed s)
 ]) (steps_rolling schemas name x s e)
 rollback_goes_on schemas name x s going (inr e) = goes_or_ends schemas name x s going Back (ap stage_of e)
-    (λ end. (status.UpdateRollbackFailed, failed_list s, subst (λ k. EndsAs schemas name x s k status.UpdateRollbackFailed) (sym e) tt, are_failed s))
+    (λ end. (Status.UpdateRollbackFailed, failed_list s, subst (λ k. EndsAs schemas name x s k Status.UpdateRollbackFailed) (sym e) tt, are_failed s))
     (steps_back schemas name x s e)
 
 pub deletion_goes_on : DeletionGoesOn
 deletion_goes_on schemas name x s going e = goes_or_ends schemas name x s going Gone (ap stage_of e) (λ end. elim (cases_Bool (is_cleared s)) [
-  | inl c ↦ (status.DeleteComplete, [], subst (λ k. EndsAs schemas name x s k status.DeleteComplete) (sym e) c, refl)
-  | inr c ↦ (status.DeleteFailed, failed_list s, subst (λ k. EndsAs schemas name x s k status.DeleteFailed) (sym e) c, are_failed s)
+  | inl c ↦ (Status.DeleteComplete, [], subst (λ k. EndsAs schemas name x s k Status.DeleteComplete) (sym e) c, refl)
+  | inr c ↦ (Status.DeleteFailed, failed_list s, subst (λ k. EndsAs schemas name x s k Status.DeleteFailed) (sym e) c, are_failed s)
 ]) (steps_gone schemas name x s e)

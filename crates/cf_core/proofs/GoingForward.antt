@@ -1,50 +1,29 @@
 -- A forward phase has a next step, or it ends.
 use Rattle.std.proofs.Common.{◌≡◌, ◌⊎◌, inl, inr, ℕ, ◌+◌, ◌≤◌, ◌==◌, Bool, true, false, not, ◌&&◌, nat_lt, List, Option, Some, None, refl, sym, ap, subst, ◌∙◌, true≢false, map, arith, []}
-use Rattle.cf_core.proofs.Words.{AllDone, AreDone, Bad, Call, Cause, Code, Data, Difference, EndsAs, Finding, Fits, Forward, ForwardGoesOn, HasFailed, HasKinds, HasNext, Held, In, IsAdvancing, IsAtEnd, IsDone, IsReady, IsRefusedAhead, IsTold, Known, Later, MayTurn, Pending, Phase, Reason, Request, Schema, Source, StackState, Status, StepsIn, WantsNew, WantsUpdate, World, any_differs, bytes_eq, call_under as call_of, current_at, difference_of, difference_to, doubts_of, evaluated_at, first_so, found, has_physical, held_before, is_among, is_call, is_conditional, is_current_at, is_excused, is_free, is_lane_of, is_not_updatable, is_refused_call, is_right, is_success, is_update, is_updated, is_wanted_at, list_any, option_map_or, own_calls, plan_now, refusing, resources_of, second_so, stack_of_operation, stage_of, succeeded, updates, wanted_at, was_answered_at, was_not_updatable, was_updated}
-use Rattle.cf_core.proofs.Lemmas.{Passes, and_from, any_of, bytes_eq-Decides, cases_Bool, eq-eqb, eqb-true, found_one, in_changed, in_filter, in_front, is_found, is_found_in, ltb-false, some_of}
-use Rattle.std.specs.Prelude.{cond, is_some}
-use Rattle.cf_effect.specs.declared.call.Settled.{Settled}
-use Rattle.cf_plan.proofs.DoneFound.{all_found, first_or_all}
-use Rattle.cf_plan.proofs.FailedFound.{excused, failed_or, none_failing, not_thrice}
-use Rattle.cf_core.proofs.GoingKnown.{ready_known}
-use Rattle.cf_core.proofs.HidCalls.{it, not_updated, one_kind, was}
+use Rattle.cf_core.proofs.Words.{AllDone, AreDone, Bad, Call, Cause, Code, Data, Difference, EndsAs, Entry, Finding, Fits, Forward, ForwardGoesOn, HasFailed, HasKinds, HasNext, Held, In, IsAdvancing, IsAtEnd, IsDone, IsReady, IsRefusedAhead, IsTold, Known, Later, MayTurn, Pending, Phase, Reason, Reply, Request, Schema, Source, StackState, Status, StepsIn, WantsNew, WantsUpdate, World, any_differs, bytes_eq, call_under as call_of, current_at, difference_of, difference_to, doubts_of, evaluated_at, first_so, found, has_physical, held_before, is_among, is_call, is_conditional, is_current_at, is_excused, is_free, is_lane_of, is_not_updatable, is_refused_call, is_right, is_success, is_update, is_updated, is_wanted_at, list_any, option_map_or, own_calls, plan_now, refusing, resources_of, second_so, stack_of_operation, stage_of, succeeded, updates, wanted_at, was_answered_at, was_not_updatable, was_updated}
+use Rattle.cf_core.proofs.Lemmas.{Passes, all_found, and_from, any_of, bytes_eq-Decides, cases_Bool, eq-eqb, eqb-true, excused, failed_or, first_or_all, found_one, in_changed, in_filter, in_front, is_found, is_found_in, ltb-false, none_failing, not_thrice, some_of}
 use Rattle.cf_core.proofs.TidyEnds.{at_end_by, at_home, follows, lane_of, none_flying, steps}
-use Rattle.cf_core.proofs.TidyLists.{one_of_bytes, one_of_number}
-use Rattle.cf_core.proofs.TidyOwn.{some_same}
+use Rattle.cf_core.proofs.{GoingKnown.ready_known, HidCalls.it, HidCalls.not_updated, HidCalls.one_kind, HidCalls.was, TidyOwn.some_same}
+use Rattle.cf_core.proofs.{AdvSteps.keeps_nothing, BackLists.is_of, FitKept.one_id, FitKept.one_number}
+use Rattle.cf_effect.specs.declared.call.Settled.{Settled}
 use Rattle.cf_schema.proofs.Equal.{same_equal}
-use Rattle.cf_core.proofs.BackLists.{is_of}
-use Rattle.cf_core.proofs.AdvSteps.{keeps_nothing}
-use Rattle.cf_tree.specs.declared.code.Code.TheVariants as code
-use Rattle.cf_tree.specs.declared.request.Request.TheVariants as request
-use Rattle.cf_entry.specs.declared.entry.Entry.TheVariants as entry
-use Rattle.cf_entry.specs.declared.entry.Reply.TheVariants as reply
-use Rattle.cf_entry.specs.declared.status.Status.TheVariants as status
-use Rattle.cf_entry.specs.declared.turn.Phase.TheVariants as phase
-use Rattle.cf_entry.specs.declared.turn.Reason.TheVariants as reason
-use Rattle.cf_schema.specs.declared.changed.Difference.TheVariants as difference
-use Rattle.cf_effect.specs.declared.call.Settled.TheVariants as settled
+use Rattle.std.specs.Prelude.{cond, is_some}
 
 -- a resource whose properties don't differ has them
-none_differs : (b c d : Bool) → cond b difference.Same (cond c difference.Replace (cond d difference.MayReplace difference.Update)) ≡ difference.Same → b ≡ true
-none_differs true c d e = refl
-none_differs false true d e = let no : ⊥ = cc in absurd no
-none_differs false false true e = let no : ⊥ = cc in absurd no
-none_differs false false false e = let no : ⊥ = cc in absurd no
+none_differs : (b c d : Bool) → cond b Difference.Same (cond c Difference.Replace (cond d Difference.MayReplace Difference.Update)) ≡ Difference.Same → b ≡ true
+none_differs b c d e = grind arith
 
-same_props : (schemas : List Schema) (h : Held) (props : List (List ℕ × Data)) → difference_to schemas h props ≡ difference.Same → h.props ≡ props
+same_props : (schemas : List Schema) (h : Held) (props : List (List ℕ × Data)) → difference_to schemas h props ≡ Difference.Same → h.props ≡ props
 same_props schemas h props = by (found h.kind schemas) where
-  by : (o : Option Schema) → option_map_or (λ schema. difference_of schema h.props props) o difference.Update ≡ difference.Same → h.props ≡ props
+  by : (o : Option Schema) → option_map_or (λ schema. difference_of schema h.props props) o Difference.Update ≡ Difference.Same → h.props ≡ props
   by None e = let no : ⊥ = cc in absurd no
   by (Some schema) e = same_equal h.props props (none_differs _ (any_differs schema.create_only h.props props) (any_differs schema.conditional h.props props) e)
 
-forward_or : (st : Status) → stage_of st ≡ Some Forward → (st ≡ status.CreateInProgress) ⊎ (st ≡ status.UpdateInProgress)
-forward_or status.CreateInProgress e = inl refl
-forward_or status.UpdateInProgress e = inr refl
-forward_or st e = let no : ⊥ = cc in absurd no
+forward_or : (st : Status) → stage_of st ≡ Some Forward → (st ≡ Status.CreateInProgress) ⊎ (st ≡ Status.UpdateInProgress)
+forward_or st e = grind arith
 
-conditional : (d : Difference) → is_conditional d ≡ true → d ≡ difference.MayReplace
-conditional difference.MayReplace e = refl
-conditional d e = absurd (true≢false (sym e))
+conditional : (d : Difference) → is_conditional d ≡ true → d ≡ Difference.MayReplace
+conditional d e = grind (arith, true≢false)
 
 same_known : (k j : List ℕ) (ps qs : List (List ℕ × Data)) → Known k ps ≡ Known j qs → (k ≡ j) × (ps ≡ qs)
 same_known k j ps qs e = (cc, cc)
@@ -78,7 +57,7 @@ module _ (schemas : List Schema) (name : List ℕ) (x : World) (s : StackState) 
         let fit = any_of (is_lane_of l.one.0 k) x.lanes l.one l.of_list
         (and_from (bytes_eq l.one.0 l.one.0) _ ((bytes_eq-Decides l.one.0 l.one.0).1 refl) (ap (bytes_eq k) l.same ∙ e.passes)) in
         inl (
-          entry.Intent s.operation (x.token + 1) l.one.0 p (request.Create k props),
+          Entry.Intent s.operation (x.token + 1) l.one.0 p (Request.Create k props),
           record { next = refl; free = free; home = at_home x l.one.0; fits = fit; no_repeat = refl; chosen = (good, ready, undone, (said, wants)) },
         )
 
@@ -92,7 +71,7 @@ module _ (schemas : List Schema) (name : List ℕ) (x : World) (s : StackState) 
           let i = in_front h s.held s.made (found_one (is_current_at p) s.held h at).0 in
           let l = lane_of x h.physical h.kind (fits.lanes.0 h i) in
           inl (
-            entry.Intent s.operation (x.token + 1) l.0 p (request.Update h.physical props),
+            Entry.Intent s.operation (x.token + 1) l.0 p (Request.Update h.physical props),
             record {
               next = refl;
               free = free;
@@ -108,10 +87,10 @@ module _ (schemas : List Schema) (name : List ℕ) (x : World) (s : StackState) 
 
       -- where its update was answered, it was refused because a new resource is needed
       abbrev IsReplaced : Type 0
-      IsReplaced = (difference_to schemas h props ≡ difference.MayReplace) × (was_not_updatable s h ≡ true)
+      IsReplaced = (difference_to schemas h props ≡ Difference.MayReplace) × (was_not_updatable s h ≡ true)
 
-      refused_so : (c : Call) → In c (own_calls s) → (id : List ℕ) (asked : List (List ℕ × Data)) (r : Code) → c.request ≡ request.Update id asked
-          → c.answer ≡ Some (settled.Failed r) → p ≡ c.path → IsReplaced
+      refused_so : (c : Call) → In c (own_calls s) → (id : List ℕ) (asked : List (List ℕ × Data)) (r : Code) → c.request ≡ Request.Update id asked
+          → c.answer ≡ Some (Settled.Failed r) → p ≡ c.path → IsReplaced
       refused_so c i id asked r asks answer path = by_code r refl excuse where
         of_ledger : In c s.ledger
         of_ledger = (in_filter (λ d. d.number == s.operation) s.ledger c i).0
@@ -120,23 +99,23 @@ module _ (schemas : List Schema) (name : List ℕ) (x : World) (s : StackState) 
         call_is =
             let f = is_found_in (is_call c.token) s.ledger c of_ledger (eq-eqb c.token c.token refl) in
             let one = found_one (is_call c.token) s.ledger f.0 f.1 in
-            f.1 ∙ ap (λ d. Some d) (one_of_number (λ d. d.token) s.ledger f.0 c fits.row_tokens one.0 of_ledger (sym (eqb-true c.token f.0.token one.1)))
+            f.1 ∙ ap (λ d. Some d) (one_number (λ d. d.token) s.ledger fits.row_tokens f.0 c one.0 of_ledger (sym (eqb-true c.token f.0.token one.1)))
 
         t : IsRefusedAhead s c id asked r
         t = told.refused c id asked r of_ledger asks answer
 
-        excuse : is_excused schemas s (request.Update id asked) r ≡ true
-        excuse = elim (cases_Bool (is_excused schemas s (request.Update id asked) r)) [
+        excuse : is_excused schemas s (Request.Update id asked) r ≡ true
+        excuse = elim (cases_Bool (is_excused schemas s (Request.Update id asked) r)) [
           | inl e ↦ e
           | inr e ↦
               let refused : is_refused_call schemas s (call_of c.token s) r ≡ true =
               ap (λ o. is_refused_call schemas s o r) call_is ∙ ap (λ q. not (is_excused schemas s q r)) asks ∙ ap not e in
-              let some : ◌≡◌ {A = Option (ℕ × Reason)} (Some (c.token, reason.Code r)) None = sym (ap (λ b. cond b (Some (c.token, reason.Code r)) None) refused)
+              let some : ◌≡◌ {A = Option (ℕ × Reason)} (Some (c.token, Reason.Code r)) None = sym (ap (λ b. cond b (Some (c.token, Reason.Code r)) None) refused)
               ∙ refuses in
               let no : ⊥ = cc in absurd no
         ] where
-          refuses : refusing schemas s (entry.Outcome t.told.0 c.token (reply.Failed r) t.told.1 t.told.2) ≡ None
-          refuses = excused schemas s (none_failing schemas name x s good) told.no_phase (entry.Outcome t.told.0 c.token (reply.Failed r) t.told.1 t.told.2) t.told.3
+          refuses : refusing schemas s (Entry.Outcome t.told.0 c.token (Reply.Failed r) t.told.1 t.told.2) ≡ None
+          refuses = excused schemas s (none_failing schemas name x s good) told.no_phase (Entry.Outcome t.told.0 c.token (Reply.Failed r) t.told.1 t.told.2) t.told.3
 
         same_held : t.asks.0 ≡ h
         same_held = some_same t.asks.0 h (sym t.asks.1 ∙ ap (λ q. current_at q s.held) (sym path) ∙ at)
@@ -147,33 +126,33 @@ module _ (schemas : List Schema) (name : List ℕ) (x : World) (s : StackState) 
         same_asked : props ≡ asked
         same_asked = (same_known k t.asks.0.kind props asked (sym said ∙ ap (λ q. evaluated_at q s) path ∙ t.asks.3)).1
 
-        by_before : r ≡ code.NotUpdatable → (b : Held) → held_before id s ≡ Some b → is_conditional (difference_to schemas b asked) ≡ true → IsReplaced
+        by_before : r ≡ Code.NotUpdatable → (b : Held) → held_before id s ≡ Some b → is_conditional (difference_to schemas b asked) ≡ true → IsReplaced
         by_before n b e d =
             let f = found_one (has_physical id) s.before b e in
             let same : b.physical ≡ h.physical = sym ((bytes_eq-Decides id b.physical).0 f.1) ∙ sym of_id in
             let g = is_of a.held f.0 in
             let now = was schemas s source a p k props said undone h at in
-            let is_h : g.0 ≡ h = one_of_bytes (λ (y : Held). y.physical) (resources_of s) g.0 h fits.ids (in_front g.0 s.held s.made g.1)
+            let is_h : g.0 ≡ h = one_id (λ (y : Held). y.physical) (resources_of s) fits.ids g.0 h (in_front g.0 s.held s.made g.1)
             (in_front h s.held s.made now.in_held) (g.2.physical ∙ same) in
             let kind : h.kind ≡ b.kind = ap (λ (y : Held). y.kind) (sym is_h) ∙ g.2.kind in
             let still = not_updated schemas s source a p now.before now.in_before now.at undone in
             let props_are : h.props ≡ b.props =
             (a.unchanged b h f.0 now.in_held (sym same) (ap (λ q. was_updated q s) (same ∙ now.same.physical) ∙ still)).props in
             let differs : difference_to schemas h props ≡ difference_to schemas b asked =
-            λ i. option_map_or (λ schema. difference_of schema (props_are i) (same_asked i)) (found (kind i) schemas) difference.Update in (
+            λ i. option_map_or (λ schema. difference_of schema (props_are i) (same_asked i)) (found (kind i) schemas) Difference.Update in (
               differs ∙ conditional (difference_to schemas b asked) d,
               any_of (λ (q : Call). updates h.physical q.request && is_not_updatable q.answer) (own_calls s) c i
                   (and_from (updates h.physical c.request) _ (ap (updates h.physical) asks ∙ (bytes_eq-Decides h.physical id).1 of_id)
-                  (ap is_not_updatable answer ∙ ap (λ q. is_not_updatable (Some (settled.Failed q))) n)),
+                  (ap is_not_updatable answer ∙ ap (λ q. is_not_updatable (Some (Settled.Failed q))) n)),
             )
 
-        by_held : r ≡ code.NotUpdatable → (o : Option Held) → held_before id s ≡ o → option_map_or (λ b. is_conditional (difference_to schemas b asked)) o false ≡ true
+        by_held : r ≡ Code.NotUpdatable → (o : Option Held) → held_before id s ≡ o → option_map_or (λ b. is_conditional (difference_to schemas b asked)) o false ≡ true
             → IsReplaced
         by_held n None e d = absurd (true≢false (sym d))
         by_held n (Some b) e d = by_before n b e d
 
-        by_code : (q : Code) → r ≡ q → is_excused schemas s (request.Update id asked) q ≡ true → IsReplaced
-        by_code code.NotUpdatable n e = by_held n (held_before id s) refl e
+        by_code : (q : Code) → r ≡ q → is_excused schemas s (Request.Update id asked) q ≡ true → IsReplaced
+        by_code Code.NotUpdatable n e = by_held n (held_before id s) refl e
         by_code q n e = absurd (true≢false (sym e))
 
       answered_so : was_answered_at p s ≡ true → IsReplaced
@@ -187,28 +166,27 @@ module _ (schemas : List Schema) (name : List ℕ) (x : World) (s : StackState) 
         rest : (is_update c.one.request && is_some c.one.answer) ≡ true
         rest = second_so (bytes_eq p c.one.path) _ c.passes
 
-        by_answer : (id : List ℕ) (asked : List (List ℕ × Data)) → c.one.request ≡ request.Update id asked → (o : Option Settled) → c.one.answer ≡ o → is_some o ≡ true
+        by_answer : (id : List ℕ) (asked : List (List ℕ × Data)) → c.one.request ≡ Request.Update id asked → (o : Option Settled) → c.one.answer ≡ o → is_some o ≡ true
             → IsReplaced
         by_answer id asked q None g t = absurd (true≢false (sym t))
-        by_answer id asked q (Some (settled.Failed r)) g t = refused_so c.one c.of_list id asked r q g path
-        by_answer id asked q (Some settled.Success) g t =
+        by_answer id asked q (Some (Settled.Failed r)) g t = refused_so c.one c.of_list id asked r q g path
+        by_answer id asked q (Some Settled.Success) g t =
             absurd (undone (is_updated (any_of (λ d. bytes_eq p d.path && (is_update d.request && succeeded d)) (own_calls s) c.one c.of_list
             (and_from (bytes_eq p c.one.path) _ ((bytes_eq-Decides p c.one.path).1 path) (and_from (is_update c.one.request) _ (ap is_update q) (ap is_success g))))))
 
         by_request : (q : Request) → c.one.request ≡ q → is_update q ≡ true → IsReplaced
-        by_request (request.Update id asked) q t = by_answer id asked q c.one.answer refl (second_so (is_update c.one.request) _ rest)
-        by_request (request.Create kind asked) q t = absurd (true≢false (sym t))
-        by_request (request.Delete id) q t = absurd (true≢false (sym t))
+        by_request (Request.Update id asked) q t = by_answer id asked q c.one.answer refl (second_so (is_update c.one.request) _ rest)
+        by_request _ q t = absurd (true≢false (sym t))
 
       by_answer : WantsUpdate schemas s h props → (IsReplaced → Steps) → Steps
       by_answer wants more = elim (cases_Bool (was_answered_at p s)) [ inl e ↦ more (answered_so e) | inr e ↦ updates_it wants e ]
 
       held_goes : (d : Difference) → difference_to schemas h props ≡ d → Steps
-      held_goes difference.Replace e = creates_new (inl e)
-      held_goes difference.MayReplace e = by_answer ((λ n. let k = sym e ∙ n in cc), inr (λ n. let k = sym e ∙ n in cc)) (λ w. creates_new (inr (e, w.1)))
-      held_goes difference.Update e = by_answer ((λ n. let k = sym e ∙ n in cc), inr (λ n. let k = sym e ∙ n in cc))
+      held_goes Difference.Replace e = creates_new (inl e)
+      held_goes Difference.MayReplace e = by_answer ((λ n. let k = sym e ∙ n in cc), inr (λ n. let k = sym e ∙ n in cc)) (λ w. creates_new (inr (e, w.1)))
+      held_goes Difference.Update e = by_answer ((λ n. let k = sym e ∙ n in cc), inr (λ n. let k = sym e ∙ n in cc))
           (λ w. let k = sym e ∙ w.0 in let no : ⊥ = cc in absurd no)
-      held_goes difference.Same e = elim (cases_Bool h.unsure) [
+      held_goes Difference.Same e = elim (cases_Bool h.unsure) [
         | inl u ↦ by_answer ((λ n. let k = sym e ∙ n in cc), inl u) (λ w. let k = sym e ∙ w.0 in let no : ⊥ = cc in absurd no)
         | inr u ↦ absurd (undone (is_right h ready.0 ready.1 at u (said ∙ ap (λ n. Known n props) kind_is ∙ ap (Known h.kind) (sym (same_props schemas h props e)))))
       ]
@@ -236,25 +214,25 @@ module _ (schemas : List Schema) (name : List ℕ) (x : World) (s : StackState) 
     none_open : (p : Pending) → In p s.tokens → ⊥
     none_open p i = a.not_done p i (all p.path (a.ready p i).0)
 
-    module_end : s.status ≡ status.CreateInProgress → IsAtEnd schemas name x s Forward
+    module_end : s.status ≡ Status.CreateInProgress → IsAtEnd schemas name x s Forward
     module_end e = at_end_by schemas name x s Forward (λ token lane path r w. w.chosen.2 (all path w.chosen.1.0)) (keeps_nothing [] s) no_turn (λ p w. none_open p w.1) where
       no_turn : (p : Phase) (c : Option Cause) → MayTurn schemas name x s p c → ⊥
-      no_turn phase.Clean None w = let g = sym e ∙ w.0 in cc
-      no_turn phase.Back (Some c) w = good w.1
-      no_turn phase.BackClean None w = let g = sym e ∙ w.0 in cc
+      no_turn Phase.Clean None w = let g = sym e ∙ w.0 in cc
+      no_turn Phase.Back (Some c) w = good w.1
+      no_turn Phase.BackClean None w = let g = sym e ∙ w.0 in cc
       no_turn p c w = w
 
-    by : (s.status ≡ status.CreateInProgress) ⊎ (s.status ≡ status.UpdateInProgress) → HasNext schemas x s.operation
-    by (inr e) = steps schemas name x s Forward going in_forward (inl (entry.Phase s.operation phase.Clean None, (e, good, all)))
+    by : (s.status ≡ Status.CreateInProgress) ⊎ (s.status ≡ Status.UpdateInProgress) → HasNext schemas x s.operation
+    by (inr e) = steps schemas name x s Forward going in_forward (inl (Entry.Phase s.operation Phase.Clean None, (e, good, all)))
     by (inl e) =
-        follows schemas name x s Forward going in_forward (entry.Done s.operation status.CreateComplete [])
-        (none_flying s, module_end e, subst (λ k. EndsAs schemas name x s k status.CreateComplete) (sym e) (good, all), refl)
+        follows schemas name x s Forward going in_forward (Entry.Done s.operation Status.CreateComplete [])
+        (none_flying s, module_end e, subst (λ k. EndsAs schemas name x s k Status.CreateComplete) (sym e) (good, all), refl)
 
 pub forward_goes_on : ForwardGoesOn
 forward_goes_on schemas name x s source going in_forward fits a kinds told =
     let d = all_found s source a.going in
     elim (failed_or schemas name x s source a.going d.0 d.1 told.no_phase told.called) [
-      | inl f ↦ steps schemas name x s Forward going in_forward (inl (entry.Phase s.operation phase.Back (Some f.1.0), (in_forward, f.0, f.1.1)))
+      | inl f ↦ steps schemas name x s Forward going in_forward (inl (Entry.Phase s.operation Phase.Back (Some f.1.0), (in_forward, f.0, f.1.1)))
       | inr good ↦ elim (first_or_all s source a.going d.0 d.1) [
         | inl p ↦ steps schemas name x s Forward going in_forward
             (ready_goes schemas name x s source in_forward fits a kinds told good d.0 d.1 p.0 p.1 (λ e. true≢false (sym ((d.1 p.0).0 e) ∙ p.2)))

@@ -1,17 +1,13 @@
 -- While a forward phase has not failed, the properties of a path that is ready are known: they rest on what is done alone, and all
 -- of that is seen.
-use Rattle.std.proofs.Common.{◌≡◌, ◌⊎◌, inl, inr, ℕ, Bool, true, false, not, ◌&&◌, ◌||◌, List, ◌++◌, Option, Some, None, refl, sym, ap, subst, ◌∙◌, true≢false, map, filter, option_map}
+use Rattle.std.proofs.Common.{arith, ◌≡◌, ◌⊎◌, inl, inr, ℕ, Bool, true, false, not, ◌&&◌, ◌||◌, List, ◌++◌, Option, Some, None, refl, sym, ap, subst, ◌∙◌, true≢false, map, filter, option_map}
 use Rattle.cf_core.proofs.Words.{AgreeAt, AreDone, Evaluated, Flaw, HasFailed, Held, In, IsAdvancing, IsDone, IsReady, Later, Member, Nesting, Plan, Schema, Seen, SeenAt, Shape, Source, StackState, Wanted, World, all_differ, bind_flaw_in, bytes_eq, current_at, evaluated_at, fault_at, finding, found_of, given_root, held_before_as, inner_at, inner_from, is_among, is_current_at, is_made, is_of_evaluation, is_right, is_settled, is_shown, is_updated, list_all, member_at, needs_at, nesting_at, nestings_in, option_map_or, option_or, plan_by, plan_in, plan_now, props_at, resources_in, seen_in, seen_now, shape_of, terms_of, value_at, wanted_at, wanted_from, wanted_of}
-use Rattle.cf_core.proofs.Lemmas.{by_paths, bytes_eq-Decides, find-append, found_one, in_changed, is_found_in, needs_suffice, paths_apart, root_bound, shape_is_held, shown, shown_at, some_of}
-use Rattle.std.specs.Prelude.{cond, is_some}
-use Rattle.std.specs.Option.{option_and_then}
-use Rattle.cf_desired.specs.declared.wanted.Inner.{Inner}
+use Rattle.cf_core.proofs.Lemmas.{all_pass, by_paths, bytes_eq-Decides, differ_behind, each_passes, find-append, first_of, found_one, in_changed, is_found_in, needs_are, needs_suffice, never_later, paths_apart, paths_are, root_bound, seen_of, shape_is_held, shown, shown_at, some_of, value_left}
+use Rattle.cf_core.proofs.{HidSeen.shape_before, TidyOwn.some_same}
+use Rattle.cf_desired.proofs.{NeededKnown.needed_known, StackNeeds.stack_needs_suffice}
 use Rattle.cf_desired.specs.NeededIsKnown.{is_bound}
-use Rattle.cf_desired.proofs.NeededKnown.{needed_known}
-use Rattle.cf_desired.proofs.StackNeeds.{stack_needs_suffice}
-use Rattle.cf_plan.proofs.DoneFound.{all_pass, differ_behind, each_passes, first_of, needs_are, never_later, paths_are, seen_of, value_left}
-use Rattle.cf_core.proofs.HidSeen.{shape_before}
-use Rattle.cf_core.proofs.TidyOwn.{some_same}
+use Rattle.cf_desired.specs.declared.wanted.Inner.{Inner}
+use Rattle.std.specs.{Option.option_and_then, Prelude.cond, Prelude.is_some}
 
 module _ (schemas : List Schema) (name : List ℕ) (x : World) (s : StackState) (source : Source) (a : IsAdvancing schemas s source)
     (done : List (List ℕ)) (are : AreDone s done) where
@@ -32,18 +28,7 @@ module _ (schemas : List Schema) (name : List ℕ) (x : World) (s : StackState) 
 
   -- what is done is seen
   shown_so : (q : List ℕ) (o p : Option Held) (r : Held) → current_at q s.made ≡ o → current_at q s.held ≡ p → (o ≡ Some r) ⊎ (p ≡ Some r) → is_shown now q ≡ true
-  shown_so q o p r e f w =
-      let at : value_at q now ≡ option_map shown (option_or o p) =
-      shown_at q (s.made ++ s.held) ∙ ap (option_map shown) (find-append (is_current_at q) s.made s.held ∙ ap (λ k. option_or k (current_at q s.held)) e
-      ∙ ap (option_or o) f) in
-      ap (λ k. is_some (option_and_then (λ v. v.physical) k) && is_some (option_and_then (λ v. v.attrs) k)) at ∙ by o p w where
-        by : (u v : Option Held) → (u ≡ Some r) ⊎ (v ≡ Some r)
-            → (is_some (option_and_then (λ (k : SeenAt). k.physical) (option_map shown (option_or u v))) && is_some
-            (option_and_then (λ (k : SeenAt). k.attrs) (option_map shown (option_or u v)))) ≡ true
-        by (Some h) v w = refl
-        by None (Some h) w = refl
-        by None None (inl e) = let no : ⊥ = cc in absurd no
-        by None None (inr e) = let no : ⊥ = cc in absurd no
+  shown_so q o p r e f w = grind (arith, option_map, shown, shown_at, find-append)
 
   done_shown : (q : List ℕ) → IsDone s q → is_shown now q ≡ true
   done_shown q (is_made r e) = shown_so q (Some r) (current_at q s.held) r e refl (inl refl)
@@ -57,12 +42,7 @@ module _ (schemas : List Schema) (name : List ℕ) (x : World) (s : StackState) 
   left_shown q e = ap (λ k. is_some (option_and_then (λ v. v.physical) k) && is_some (option_and_then (λ v. v.attrs) k)) (at_done q e) ∙ done_shown q ((are q).1 e)
 
   shown_left : (q : List ℕ) → is_shown left q ≡ true → is_among q done ≡ true
-  shown_left q e = by (is_among q done) refl where
-    by : (b : Bool) → is_among q done ≡ b → b ≡ true
-    by true f = refl
-    by false f =
-        let none : value_at q left ≡ None = value_left done q now ∙ ap (λ b. cond b (value_at q now) None) f in
-        absurd (true≢false (sym e ∙ ap (λ k. is_some (option_and_then (λ v. v.physical) k) && is_some (option_and_then (λ v. v.attrs) k)) none))
+  shown_left q e = grind (arith, value_left, true≢false)
 
   agree_at : (qs : List (List ℕ)) → ((q : List ℕ) → is_among q qs ≡ true → is_among q done ≡ true) → AgreeAt qs left now
   agree_at qs h q i = (ap (option_and_then (λ v. v.physical)) (sym (at_done q (h q i))), ap (option_and_then (λ v. v.attrs)) (sym (at_done q (h q i))))

@@ -1,35 +1,20 @@
 -- What a forward phase's entries and ledger say of each other is kept by each of its entries.
-use Rattle.std.proofs.Common.{◌≡◌, ◌⊎◌, inl, inr, ℕ, ◌+◌, ◌<◌, ◌≤◌, ◌==◌, Bool, true, false, ◌&&◌, ◌||◌, nat_lt, List, ◌∷◌, ◌++◌, Option, Some, None, refl, sym, ap, subst, ◌∙◌, true≢false, map, filter, arith, []}
-use Rattle.cf_core.proofs.Words.{AsksOfNow, Call, Code, Data, Entry, Fits, Forward, Held, In, IntendsIn, IsAdvancing, IsAsked, IsFurther, IsReady, IsRefusedIn, IsRowOf, IsTold, LeftAt, MayIntend, Pending, Reply, Request, Response, Schema, Source, StackState, ToldBegins, ToldStays, World, after_last, anew, answered, answered_call, by_create, by_update, bytes_eq, call_under as call_of, closed, closing, current_at, doubts_in, doubts_of, effect_at, entries_with, goes_forward, has_token, heard, is_call, is_open_call, is_phase, is_restore, is_turn_or_opening, is_update, list_any, moved, new_call, now_of, on_stack, one_more, option_map_or, pending_of, replied, reply_in, still_open, unmoved, was_answered_at}
-use Rattle.cf_core.proofs.Lemmas.{and_from, answered_left, any_filtered, any_mapped, any_of, bytes_eq-Decides, eq-eqb, eqb-true, found_in_more, found_one, found_still, in_changed, in_either, in_end, in_front, in_mapped, in_more, in_one, some_is, to_mapped}
-use Rattle.std.specs.Prelude.{cond, is_some}
+use Rattle.std.proofs.Common.{◌≡◌, ◌⊎◌, inl, inr, ℕ, ◌+◌, ◌<◌, ◌≤◌, ◌==◌, Bool, true, false, ◌&&◌, nat_lt, List, ◌∷◌, ◌++◌, Option, Some, None, refl, sym, ap, subst, ◌∙◌, true≢false, map, filter, arith, []}
+use Rattle.cf_core.proofs.Words.{AsksOfNow, Begun, Call, Code, Data, Entry, Fits, Forward, Held, In, IsAdvancing, IsAsked, IsFurther, IsReady, IsRefusedIn, IsRowOf, IsTold, LeftAt, MayIntend, Pending, Reply, Request, Response, Schema, Source, StackState, ToldBegins, ToldStays, World, after_last, anew, answered, answered_call, by_create, by_update, bytes_eq, call_under as call_of, closed, closing, current_at, doubts_in, doubts_of, effect_at, entries_with, goes_forward, has_token, heard, is_call, is_open_call, is_phase, is_restore, is_turn_or_opening, is_update, lines_of, list_any, moved, new_call, now_of, on_stack, one_more, option_map_or, pending_of, replied, reply_in, still_open, unmoved, was_answered_at}
+use Rattle.cf_core.proofs.Lemmas.{and_from, and_no, answered_left, any_filtered, any_mapped, any_no_more, any_of, bytes_eq-Decides, doubts_both, either_way, eq-eqb, eqb-true, found_in_more, found_one, found_still, in_changed, in_either, in_end, in_front, in_mapped, in_more, in_one, no_and, some_is, to_mapped}
+use Rattle.cf_core.proofs.AdvSteps.{HasBegunBy, IsAhead, apart, asks, begins_ahead, begun_from, further_of, goes_by, hears, is_ahead, is_other, no_restore, none_kept_of, opens, ready_said, ready_stays, row_only, rows_same, was_open}
+use Rattle.cf_core.proofs.Rows.{answered_row, answered_same}
+use Rattle.cf_core.proofs.{Moving.written_is_to, TidyLedger.row_found, TidyOwn.new_called, TidyOwn.new_open}
 use Rattle.cf_effect.specs.declared.call.Settled.{Settled}
-use Rattle.cf_effect.specs.Event.{lines_of}
-use Rattle.cf_core.proofs.AdvSteps.{HasBegunBy, IsAhead, apart, answered_stays, asks, begins_ahead, begun_from, further_of, goes_by, hears, is_ahead, is_other, no_restore, none_kept_of, opens, ready_said, ready_stays, row_only, rows_same, was_open, with_answer}
-use Rattle.cf_core.proofs.AdvLists.{and_no, any_no_more, no_and, either_way}
-use Rattle.cf_plan.proofs.FailedFound.{doubts_both}
-use Rattle.cf_core.proofs.TidyLedger.{row_found}
-use Rattle.cf_core.proofs.TidyOwn.{new_called, new_open}
-use Rattle.cf_core.proofs.Written.{written_is_to}
-use Rattle.cf_tree.specs.declared.request.Request.TheVariants as request
-use Rattle.cf_entry.specs.declared.entry.Begun.TheVariants as begin
-use Rattle.cf_entry.specs.declared.entry.Entry.TheVariants as entry
-use Rattle.cf_entry.specs.declared.entry.Reply.TheVariants as reply
-use Rattle.cf_effect.specs.declared.call.Settled.TheVariants as settled
+use Rattle.std.specs.Prelude.{cond, is_some}
 
-same_code : (f k : Code) → Some (settled.Failed f) ≡ Some (settled.Failed k) → f ≡ k
+same_code : (f k : Code) → Some (Settled.Failed f) ≡ Some (Settled.Failed k) → f ≡ k
 same_code f k e = cc
 
 -- one more that does not pass comes after the last that does
 after_more : {A : Type 0} (test : A → Bool) (xs : List A) (x : A) → test x ≡ false → after_last test (xs ++ x ∷ []) ≡ after_last test xs ++ x ∷ []
 after_more test [] x e = ap (λ b. cond b [] (x ∷ [])) e
-after_more test (y ∷ ys) x e = ap (λ b. cond b (after_last test (ys ++ x ∷ [])) (cond (test y) (ys ++ x ∷ []) (y ∷ (ys ++ x ∷ [])))) (any_no_more test ys x e)
-    ∙ by (list_any test ys) (test y) (after_more test ys x e) where
-      by : (b c : Bool) → after_last test (ys ++ x ∷ []) ≡ after_last test ys ++ x ∷ []
-          → cond b (after_last test (ys ++ x ∷ [])) (cond c (ys ++ x ∷ []) (y ∷ (ys ++ x ∷ []))) ≡ cond b (after_last test ys) (cond c ys (y ∷ ys)) ++ x ∷ []
-      by true c ih = ih
-      by false true ih = refl
-      by false false ih = refl
+after_more test (y ∷ ys) x e = grind (arith, after_more test ys x e, any_no_more)
 
 -- an answered update at a path, among all rows
 abbrev is_answered_at : ℕ → List ℕ → Call → Bool
@@ -62,8 +47,8 @@ module _ (schemas : List Schema) (x : World) (s : StackState) (source : Source) 
     stays : (token : ℕ) (c : Call) → call_of token s ≡ Some c → (d : Call) × (call_of token t ≡ Some d)
     doubted : (p : Pending) → In p t.tokens → doubts_of p.token t ≤ doubts_in p.token (now_of t)
     once : (p : Pending) → In p t.tokens → is_update p.request ≡ true → was_answered_at p.path t ≡ false
-    refused : (c : Call) (id : List ℕ) (props : List (List ℕ × Data)) (k : Code) → In c t.ledger → c.request ≡ request.Update id props
-        → c.answer ≡ Some (settled.Failed k) → Refused c id props k
+    refused : (c : Call) (id : List ℕ) (props : List (List ℕ × Data)) (k : Code) → In c t.ledger → c.request ≡ Request.Update id props
+        → c.answer ≡ Some (Settled.Failed k) → Refused c id props k
 
   told_next : (e : Entry) → IsToldNext e → IsTold t
   told_next e n = record {
@@ -87,14 +72,11 @@ module _ (schemas : List Schema) (x : World) (s : StackState) (source : Source) 
     };
   } where
     new : (d : Entry) → In d t.entries → In d s.entries ⊎ (d ≡ e)
-    new d i = elim n.entries [
-      | inl q ↦ inl (subst (In d) q i)
-      | inr q ↦ elim (in_either d s.entries (e ∷ []) (subst (In d) q i)) [ inl j ↦ inl j | inr j ↦ inr (in_one d e j) ]
-    ]
+    new d i = grind (arith, in_either, in_one)
 
   -- what was refused before is so still: at its path no update is open
-  refused_still : (e : Entry) → HasMore e s t → (c : Call) (id : List ℕ) (props : List (List ℕ × Data)) (k : Code) → In c s.ledger → c.request ≡ request.Update id props
-      → c.answer ≡ Some (settled.Failed k) → Refused c id props k
+  refused_still : (e : Entry) → HasMore e s t → (c : Call) (id : List ℕ) (props : List (List ℕ × Data)) (k : Code) → In c s.ledger → c.request ≡ Request.Update id props
+      → c.answer ≡ Some (Settled.Failed k) → Refused c id props k
   refused_still e more c id props k i u g =
       let w = told.refused c id props k i u g in ((w.told.0, w.told.1, w.told.2, old_in e s t more _ w.told.3), w.ready, w.asks, by (left c.path)) where
         by : LeftAt s t c.path → current_at c.path t.held ≡ current_at c.path s.held
@@ -107,9 +89,9 @@ module _ (schemas : List Schema) (x : World) (s : StackState) (source : Source) 
 
 -- An opening.
 module _ (schemas : List Schema) (x : World) (s : StackState) (source : Source) (a : IsAdvancing schemas s source) (fits : Fits x s) (told : IsTold s) (place : ℕ) where
-  opened_told : (epoch : ℕ) (lanes : List (List ℕ × List ℕ)) → IsFurther s (effect_at place (entry.Opened epoch lanes) s).stack source
-      → ((q : List ℕ) → LeftAt s (effect_at place (entry.Opened epoch lanes) s).stack q) → IsTold (effect_at place (entry.Opened epoch lanes) s).stack
-  opened_told epoch lanes further left = told_next schemas x s source a fits told t further left (entry.Opened epoch lanes) (record {
+  opened_told : (epoch : ℕ) (lanes : List (List ℕ × List ℕ)) → IsFurther s (effect_at place (Entry.Opened epoch lanes) s).stack source
+      → ((q : List ℕ) → LeftAt s (effect_at place (Entry.Opened epoch lanes) s).stack q) → IsTold (effect_at place (Entry.Opened epoch lanes) s).stack
+  opened_told epoch lanes further left = told_next schemas x s source a fits told t further left (Entry.Opened epoch lanes) (record {
     entries = more s.entries;
     no_phase = refl;
     called = λ r f. let no : ⊥ = cc in absurd no;
@@ -119,13 +101,13 @@ module _ (schemas : List Schema) (x : World) (s : StackState) (source : Source) 
     refused = λ c id props k i u g.
         let m = in_changed anew s.ledger c i in
         subst (λ d. Refused schemas x s source a fits told t further left d id props k) m.same
-        (refused_still schemas x s source a fits told t further left (entry.Opened epoch lanes) (more s.entries) m.one id props k m.of_list (ap (λ d. d.request) m.same ∙ u)
+        (refused_still schemas x s source a fits told t further left (Entry.Opened epoch lanes) (more s.entries) m.one id props k m.of_list (ap (λ d. d.request) m.same ∙ u)
         (ap (λ d. d.answer) m.same ∙ g));
   }) where
     t : StackState
-    t = (effect_at place (entry.Opened epoch lanes) s).stack
+    t = (effect_at place (Entry.Opened epoch lanes) s).stack
 
-    more : (es : List Entry) → (entries_with (entry.Opened epoch lanes) es ≡ es) ⊎ (entries_with (entry.Opened epoch lanes) es ≡ es ++ entry.Opened epoch lanes ∷ [])
+    more : (es : List Entry) → (entries_with (Entry.Opened epoch lanes) es ≡ es) ⊎ (entries_with (Entry.Opened epoch lanes) es ≡ es ++ Entry.Opened epoch lanes ∷ [])
     more [] = inl refl
     more (e ∷ es) = inr refl
 
@@ -138,7 +120,7 @@ module _ (schemas : List Schema) (x : World) (s : StackState) (source : Source) 
     row = new_call number s.status q
 
     abbrev intent : Entry
-    intent = entry.Intent number token lane path r
+    intent = Entry.Intent number token lane path r
 
     abbrev with_call : StackState
     with_call = record s { tokens = s.tokens ++ q ∷ []; ledger = s.ledger ++ row ∷ []; entries = s.entries ++ intent ∷ []; events = lines }
@@ -151,8 +133,7 @@ module _ (schemas : List Schema) (x : World) (s : StackState) (source : Source) 
 
     -- its path was not answered
     answered_once : (k : Request) → r ≡ k → is_update k ≡ true → was_answered_at path s ≡ false
-    answered_once (request.Update id props) e u = (subst (λ k. IntendsIn Forward schemas name x s path k) e may.chosen).3.5
-    answered_once k e u = absurd (true≢false (sym u))
+    answered_once k e u = grind (arith, true≢false)
 
     intent_told : IsFurther s with_call source → ((p : List ℕ) → LeftAt s with_call p) → IsTold with_call
     intent_told further left = told_next schemas x s source a fits told with_call further left intent (record {
@@ -206,33 +187,26 @@ module _ (schemas : List Schema) (x : World) (s : StackState) (source : Source) 
     only c i e = row_only x s fits token p of_tokens named c i e
 
     abbrev outcome : Entry
-    outcome = entry.Outcome number token r before after
+    outcome = Entry.Outcome number token r before after
 
     abbrev t : StackState
-    t = moved s hs ms (still_open token r s.tokens) (map (with_answer token r) s.ledger) (s.entries ++ outcome ∷ []) lines
+    t = moved s hs ms (still_open token r s.tokens) (map (answered_row token r) s.ledger) (s.entries ++ outcome ∷ []) lines
 
-    token_kept : (c : Call) → (with_answer token r c).token ≡ c.token
-    token_kept c = either_way (λ d. d.token ≡ c.token) (is_call token c) (answered_call r c) c (answered_stays r c).token refl
+    token_kept : (c : Call) → (answered_row token r c).token ≡ c.token
+    token_kept c = either_way (λ d. d.token ≡ c.token) (is_call token c) (answered_call r c) c (answered_same r c).token refl
 
     -- the doubts of an open call
     raised : (n : ℕ) → one_more n ≤ n + 1
     raised n = either_way (λ m. m ≤ n + 1) (nat_lt n 3) (n + 1) n (omega arith) (omega arith)
 
     doubted_by : (k : ℕ) (c : Call) → k ≡ c.token → (b : Bool) → is_call token c ≡ b → (y : Reply)
-        → (cond b (answered_call y c) c).doubts ≤ c.doubts + doubts_in k (entry.Outcome number token y before after ∷ [])
-    doubted_by k c e false n y = omega arith
-    doubted_by k c e true n (reply.Success physical attrs) = omega arith
-    doubted_by k c e true n (reply.Failed f) = omega arith
-    doubted_by k c e true n reply.Doubt =
-        let same : (k == token) ≡ true = eq-eqb k token (e ∙ sym (eqb-true token c.token n)) in
-        let one : doubts_in k (entry.Outcome number token reply.Doubt before after ∷ []) ≡ 1 = ap (λ b. 0 + cond (b && true) 1 0) same in
-        let up = raised c.doubts in
-        omega (arith, one, up)
+        → (cond b (answered_call y c) c).doubts ≤ c.doubts + doubts_in k (Entry.Outcome number token y before after ∷ [])
+    doubted_by k c e b n y = grind (arith, eq-eqb, eqb-true)
 
     doubted_now : (k : Pending) → In k s.tokens → doubts_of k.token t ≤ doubts_in k.token (now_of t)
     doubted_now k i =
         let c = fits.rows k i in
-        let now = doubts_found t k.token (with_answer token r c.0) (row_found (with_answer token r) token_kept k.token s.ledger c.0 c.1) in
+        let now = doubts_found t k.token (answered_row token r c.0) (row_found (answered_row token r) token_kept k.token s.ledger c.0 c.1) in
         let was = doubts_found s k.token c.0 c.1 in
         let less = told.doubted k i in
         let more : doubts_in k.token (now_of t) ≡ doubts_in k.token (now_of s) + doubts_in k.token (outcome ∷ []) =
@@ -241,33 +215,33 @@ module _ (schemas : List Schema) (x : World) (s : StackState) (source : Source) 
         omega (arith, now, was, less, more, step)
 
     -- an open update's path
-    once_now : (k : Pending) → In k s.tokens → (k.path ≡ p.path → ⊥) ⊎ (r ≡ reply.Doubt) → is_update k.request ≡ true → was_answered_at k.path t ≡ false
+    once_now : (k : Pending) → In k s.tokens → (k.path ≡ p.path → ⊥) ⊎ (r ≡ Reply.Doubt) → is_update k.request ≡ true → was_answered_at k.path t ≡ false
     once_now k i apart_or u =
         answered_all k.path t ∙ rows_same x s fits token p of_tokens named r (is_answered_at s.operation k.path) (λ c j e w. by c w apart_or)
         ∙ sym (answered_all k.path s) ∙ told.once k i u where
-          by : (c : Call) → IsRowOf p c → (k.path ≡ p.path → ⊥) ⊎ (r ≡ reply.Doubt) → is_answered_at s.operation k.path (answered_call r c) ≡ is_answered_at s.operation k.path c
+          by : (c : Call) → IsRowOf p c → (k.path ≡ p.path → ⊥) ⊎ (r ≡ Reply.Doubt) → is_answered_at s.operation k.path (answered_call r c) ≡ is_answered_at s.operation k.path c
           by c w (inr e) = ap (λ y. is_answered_at s.operation k.path (answered_call y c)) e
           by c w (inl n) =
               let no = apart k.path p.path n in
-              and_no ((answered_call r c).number == s.operation) _ (no_and (bytes_eq k.path (answered_call r c).path) _ (ap (bytes_eq k.path) ((answered_stays r c).path ∙ w.path) ∙ no))
+              and_no ((answered_call r c).number == s.operation) _ (no_and (bytes_eq k.path (answered_call r c).path) _ (ap (bytes_eq k.path) ((answered_same r c).path ∙ w.path) ∙ no))
               ∙ sym (and_no (c.number == s.operation) _ (no_and (bytes_eq k.path c.path) _ (ap (bytes_eq k.path) w.path ∙ no)))
 
-    module _ (further : IsFurther s t source) (left : (q : List ℕ) → LeftAt s t q) (failed : (f : Code) → r ≡ reply.Failed f → hs ≡ s.held) where
+    module _ (further : IsFurther s t source) (left : (q : List ℕ) → LeftAt s t q) (failed : (f : Code) → r ≡ Reply.Failed f → hs ≡ s.held) where
       abbrev Is : Call → List ℕ → List (List ℕ × Data) → Code → Type 0
       Is c id props k = Refused schemas x s source a fits told t further left c id props k
 
       -- what is refused
       refused_row : (d : Call) (id : List ℕ) (props : List (List ℕ × Data)) (k : Code) → d ≡ of_row → token ≡ d.token → (b : Reply) → r ≡ b
-          → (answered_call b d).request ≡ request.Update id props → (answered_call b d).answer ≡ Some (settled.Failed k) → Is (answered_call b d) id props k
-      refused_row d id props k m n (reply.Success physical attrs) e u g = let no : ⊥ = cc in absurd no
-      refused_row d id props k m n reply.Doubt e u g =
-          let some : ◌≡◌ {A = Option Settled} None (Some (settled.Failed k)) = sym (ap (λ (c : Call). c.answer) m ∙ is_row.unanswered) ∙ g in
+          → (answered_call b d).request ≡ Request.Update id props → (answered_call b d).answer ≡ Some (Settled.Failed k) → Is (answered_call b d) id props k
+      refused_row d id props k m n (Reply.Success physical attrs) e u g = let no : ⊥ = cc in absurd no
+      refused_row d id props k m n Reply.Doubt e u g =
+          let some : ◌≡◌ {A = Option Settled} None (Some (Settled.Failed k)) = sym (ap (λ (c : Call). c.answer) m ∙ is_row.unanswered) ∙ g in
           let no : ⊥ = cc in absurd no
-      refused_row d id props k m n (reply.Failed f) e u g =
+      refused_row d id props k m n (Reply.Failed f) e u g =
           let path : d.path ≡ p.path = ap (λ (c : Call). c.path) m ∙ is_row.path in
-          let asks : p.request ≡ request.Update id props = sym (ap (λ (c : Call). c.request) m ∙ is_row.request) ∙ u in
-          let this : outcome ≡ entry.Outcome number d.token (reply.Failed k) before after =
-          λ i. entry.Outcome number (n i) ((e ∙ ap (λ c. reply.Failed c) (same_code f k g)) i) before after in (
+          let asks : p.request ≡ Request.Update id props = sym (ap (λ (c : Call). c.request) m ∙ is_row.request) ∙ u in
+          let this : outcome ≡ Entry.Outcome number d.token (Reply.Failed k) before after =
+          λ i. Entry.Outcome number (n i) ((e ∙ ap (λ c. Reply.Failed c) (same_code f k g)) i) before after in (
             (number, before, after, subst (λ h. In h t.entries) this (in_end outcome s.entries)),
             subst (IsReady s) (sym path) (a.ready p of_tokens),
             subst (λ q. AsksOfNow s q id props) (sym path) (subst (IsAsked s p.path) asks (a.asked p of_tokens)),
@@ -275,7 +249,7 @@ module _ (schemas : List Schema) (x : World) (s : StackState) (source : Source) 
           )
 
       refused_now : (d : Call) (id : List ℕ) (props : List (List ℕ × Data)) (k : Code) → In d s.ledger → (b : Bool) → is_call token d ≡ b
-          → (cond b (answered_call r d) d).request ≡ request.Update id props → (cond b (answered_call r d) d).answer ≡ Some (settled.Failed k)
+          → (cond b (answered_call r d) d).request ≡ Request.Update id props → (cond b (answered_call r d) d).answer ≡ Some (Settled.Failed k)
           → Is (cond b (answered_call r d) d) id props k
       refused_now d id props k i true e u g = refused_row d id props k (only d i e) (eqb-true token d.token e) r refl u g
       refused_now d id props k i false e u g = refused_still schemas x s source a fits told t further left outcome (inr refl) d id props k i u g
@@ -285,11 +259,11 @@ module _ (schemas : List Schema) (x : World) (s : StackState) (source : Source) 
         entries = inr refl;
         no_phase = refl;
         called = λ q f. (of_row, ap (λ (y : Response). call_of y.token s) (sym (some_is (record { token = token; answer = r; before = before; after = after }) q f)) ∙ row_at);
-        stays = λ n c f. (with_answer token r c, row_found (with_answer token r) token_kept n s.ledger c f);
+        stays = λ n c f. (answered_row token r c, row_found (answered_row token r) token_kept n s.ledger c f);
         doubted = λ q i. doubted_now q (was_open x s fits token p of_tokens named r q i).0;
         once = λ q i u. let w = was_open x s fits token p of_tokens named r q i in once_now q w.0 w.1 u;
         refused = λ c id props k i u g.
-            let m = in_changed (with_answer token r) s.ledger c i in
+            let m = in_changed (answered_row token r) s.ledger c i in
             subst (λ d. Is d id props k) m.same
             (refused_now m.one id props k m.of_list (is_call token m.one) refl (ap (λ (d : Call). d.request) m.same ∙ u) (ap (λ (d : Call). d.answer) m.same ∙ g));
       })
@@ -298,22 +272,19 @@ module _ (schemas : List Schema) (x : World) (s : StackState) (source : Source) 
 module _ (schemas : List Schema) (x : World) (out name : List ℕ) (s : StackState) (source : Source) (a : IsAdvancing schemas s source) (fits : Fits x s)
     (told : IsTold s) where
   -- what is held stays where the call of an answer fails
-  held_failed : (restores : Bool) (path : List ℕ) (r : Request) (f : Code) → restores ≡ false → IsAsked s path r → (answered restores path r (reply.Failed f) s).held ≡ s.held
-  held_failed restores path (request.Create k props) f e asked = refl
-  held_failed true path (request.Update id props) f e asked = absurd (true≢false e)
-  held_failed false path (request.Update id props) f e asked = refl
-  held_failed restores path (request.Delete id) f e asked = absurd asked
+  held_failed : (restores : Bool) (path : List ℕ) (r : Request) (f : Code) → restores ≡ false → IsAsked s path r → (answered restores path r (Reply.Failed f) s).held ≡ s.held
+  held_failed restores path r f e asked = grind (arith, true≢false)
 
   abbrev Told : StackState → Type 0
   Told t = IsFurther s t source → ((q : List ℕ) → LeftAt s t q) → IsTold t
 
   answered_told : (number token before after : ℕ) (r : Reply) (o : Option Pending) → pending_of token s ≡ o → is_some o ≡ true
-      → Told (heard (x.place + 1) (entry.Outcome number token r before after) s (on_stack (replied token r o s))).stack
+      → Told (heard (x.place + 1) (Entry.Outcome number token r before after) s (on_stack (replied token r o s))).stack
   answered_told number token before after r None e there = absurd (true≢false (sym there))
   answered_told number token before after r (Some p) e there =
       let f = found_one (has_token token) s.tokens p e in
       let u = answered (is_restore token s) p.path p.request r s in
-      subst (λ v. Told (heard (x.place + 1) (entry.Outcome number token r before after) s (on_stack (closing token r v))).stack)
+      subst (λ v. Told (heard (x.place + 1) (Entry.Outcome number token r before after) s (on_stack (closing token r v))).stack)
       (sym (answered_left (is_restore token s) p.path p.request r s).as_was)
       (λ further left. outcome_told schemas x s source a fits told (x.place + 1) number token before after r p e u.held u.made _ further left
       (λ c g. ap (λ y. (answered (is_restore token s) p.path p.request y s).held) g
@@ -322,7 +293,7 @@ module _ (schemas : List Schema) (x : World) (out name : List ℕ) (s : StackSta
 
   told_by : {e : Entry} {t : StackState} → IsAhead schemas x out name s e t → Told t
   told_by (asks number token lane path r own may) =
-      let e : Entry = entry.Intent number token lane path r in
+      let e : Entry = Entry.Intent number token lane path r in
       let q : Pending = record { token = token; path = path; lane = lane; request = r } in
       let lines : List (List ℕ) = s.events ++ lines_of (x.place + 1) e s in
       subst (λ u. Told (record u { entries = u.entries ++ e ∷ []; events = u.events ++ lines_of (x.place + 1) e s }))
@@ -342,21 +313,12 @@ told_stays schemas x out e name s t source w forward on a told =
 -- As a creation or an update begins, where no call is open, it has the one entry, and no row.
 begun_told : (s t : StackState) (b : Entry) → s.tokens ≡ [] → is_phase b ≡ false → reply_in b ≡ None → t.entries ≡ b ∷ [] → t.tokens ≡ s.tokens
     → t.ledger ≡ map anew (filter (is_open_call s.tokens) s.ledger) → IsTold t
-begun_told s t b none no_phase no_reply entries tokens ledger = record {
-  no_phase = ap (list_any is_phase) entries ∙ ap (λ k. k || false) no_phase;
-  called = λ r i.
-      let m = in_mapped reply_in t.entries r i in
-      let some : ◌≡◌ {A = Option Response} None (Some r) = sym (ap reply_in (in_one m.one b (subst (In m.one) entries m.of_list)) ∙ no_reply) ∙ m.same in
-      let no : ⊥ = cc in absurd no;
-  doubted = λ p i. elim (subst (In p) (tokens ∙ none) i) [ ];
-  once = λ p i u. elim (subst (In p) (tokens ∙ none) i) [ ];
-  refused = λ c id props k i u g. elim (subst (In c) (ledger ∙ none_kept_of s none) i) [ ];
-}
+begun_told s t b none no_phase no_reply entries tokens ledger = grind (arith, in_mapped, in_one, none_kept_of)
 
 pub told_begins : ToldBegins
 told_begins schemas x out e name s t w waits goes none = by (begins_ahead w waits goes) where
   by : HasBegunBy schemas x name s t → IsTold t
-  by (begin.Create from, f, b, q) = subst IsTold q (begun_told s (begun_from x name s (begin.Create from)) _ none refl refl refl refl refl)
-  by (begin.Update from, f, b, q) = subst IsTold q (begun_told s (begun_from x name s (begin.Update from)) _ none refl refl refl refl refl)
-  by (begin.Delete paths, f, b, q) = absurd (true≢false (sym goes ∙ ap (λ (u : StackState). goes_forward u.status) (sym q)))
-  by (begin.Continue paths, f, b, q) = absurd (true≢false (sym goes ∙ ap (λ (u : StackState). goes_forward u.status) (sym q)))
+  by (Begun.Create from, f, b, q) = subst IsTold q (begun_told s (begun_from x name s (Begun.Create from)) _ none refl refl refl refl refl)
+  by (Begun.Update from, f, b, q) = subst IsTold q (begun_told s (begun_from x name s (Begun.Update from)) _ none refl refl refl refl refl)
+  by (Begun.Delete paths, f, b, q) = absurd (true≢false (sym goes ∙ ap (λ (u : StackState). goes_forward u.status) (sym q)))
+  by (Begun.Continue paths, f, b, q) = absurd (true≢false (sym goes ∙ ap (λ (u : StackState). goes_forward u.status) (sym q)))

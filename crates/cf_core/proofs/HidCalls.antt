@@ -1,26 +1,12 @@
 -- Each call that the forward phase intends is hidden by the change set of the operation; what it did not hide stays seen, and properties stay in order.
-use Rattle.std.proofs.Common.{◌≡◌, ◌∙◌, ℕ, List, ◌∷◌, ◌++◌, Bool, true, false, not, Option, Some, None, map, refl, sym, ap, subst, true≢false, ◌⊎◌, inl, inr, ◌+◌, ◌&&◌, filter, find, []}
-use Rattle.cf_core.proofs.Words.{AdvancingStays, AgreeAt, AreDescribed, AreSameThings, Back, BeginsSeen, Begun, Call, Data, Detail, Difference, Entry, Fits, Forward, Found, Held, HeldAt, HeldLeft, HeldStatus, In, InOrder, IntendedIsHidden, IntendsForward, IntendsIn, IsAdvancing, IsAsBefore, IsDone, IsHidden, IsOrdered, IsOwn, IsSameThing, IsTo, Keeps, KeepsRest, Known, LeftAt, MayFollowIn, MayReplace, Member, NoneIsOrdered, OrderStays, Pending, Phase, Replace, Reply, Request, RestBeginsSeen, RestStaysSeen, Right, Row, Same, Schema, Seen, SeenAt, SeesMore, Shape, Source, StackState, Stage, Status, Update, Wanted, WantsNew, WantsUpdate, Why, World, answered, as_before, as_wanted, ascends, at_path, beginning, begins_from, by_create, by_update, bytes_eq, changes_begun, changes_of, changing, closed, closing, completing, current_at, deleting, difference_of, difference_to, effect_at, ending, evaluated_at, first_so, flaws_of, found, found_of, given_root, goes_forward, has_physical, has_token, held_as, held_before_as, held_seen, hides_attrs, hides_id, intending, is_among, is_current_at, is_never, is_on, is_other_kind, is_physical_of, is_property, is_restore, is_right_at, is_update, is_updated, is_wanted_at, keeping, known_of, known_props_from, known_stack, left_in_doubt, left_seen, list_any, made_of, marked, member_at, more as more_same, none as none_same, option_and_then, option_map_or, option_or, own_calls, pending_of, plan_by, plan_in, policy_details, property_details, props_asked, props_at, replied, resource_at, resource_held, resources_in, resources_of, row_for, row_hides_attrs, row_hides_id, row_list, second_so, seen_in, seen_now, settled_in, shape_of, skipped_in, source_for, status_made, stopping, succeeded, terms_at, turned_effect, turning, unmoved, updates, updating, value_at, valued_in, wanted_at, wanted_of, was_updated, where_physical, whole_now, with_status}
-use Rattle.cf_core.proofs.Lemmas.{Valued, and_from, any_of, bytes_eq-Decides, changes_hide, eq-eqb, false_from, find-append, found_in, found_one, in_either, in_filter, in_front, in_kept, in_more, is_found, member_of, members_in, needs_suffice, none_false, shape_is_held, shown, shown_at, some_of}
-use Rattle.std.specs.Prelude.{cond, option_map, ◌==◌, is_some}
+use Rattle.std.proofs.Common.{arith, ◌≡◌, ◌∙◌, ℕ, List, ◌∷◌, ◌++◌, Bool, true, false, not, Option, Some, None, map, refl, sym, ap, subst, true≢false, ◌⊎◌, inl, inr, ◌+◌, ◌&&◌, filter, find, []}
+use Rattle.cf_core.proofs.Words.{AdvancingStays, AgreeAt, AreDescribed, AreSameThings, BeginsSeen, Begun, Call, Code, Data, Detail, Difference, Entry, Fits, Found, Held, HeldAt, HeldLeft, HeldStatus, In, InOrder, IntendedIsHidden, IntendsForward, IntendsIn, IsAdvancing, IsAsBefore, IsDone, IsHidden, IsOrdered, IsOwn, IsSameThing, IsTo, Keeps, KeepsRest, Known, LeftAt, MayFollowIn, MayReplace, Member, NoneIsOrdered, OrderStays, Pending, Phase, Replace, Reply, Request, RestBeginsSeen, RestStaysSeen, Row, Same, Schema, Seen, SeenAt, SeesMore, Shape, Source, StackState, Stage, Status, Update, Wanted, WantsNew, WantsUpdate, Why, World, answered, ascends, at_path, beginning, begins_from, by_create, by_update, bytes_eq, changes_begun, changes_of, changing, closed, closing, completing, cond, current_at, deleting, difference_of, difference_to, effect_at, ending, evaluated_at, first_so, flaws_of, found, found_of, given_root, goes_forward, has_token, held_as, held_before_as, held_seen, hides_attrs, hides_id, intending, is_among, is_current_at, is_never, is_other_kind, is_property, is_restore, is_some, is_update, is_updated, is_wanted_at, keeping, known_of, known_props_from, known_stack, left_seen, list_any, made_of, marked, member_at, more as more_same, none as none_same, option_and_then, option_map_or, option_or, own_calls, pending_of, plan_by, plan_in, policy_details, property_details, props_asked, props_at, replied, resource_held, resources_in, resources_of, row_for, row_hides_attrs, row_hides_id, row_list, second_so, seen_in, seen_now, settled_in, shape_of, skipped_in, source_for, status_made, stopping, succeeded, terms_at, turned_effect, turning, unmoved, updates, updating, value_at, valued_in, wanted_at, wanted_of, was_updated, where_physical, whole_now, with_status, ◌==◌}
+use Rattle.cf_core.proofs.Lemmas.{Becomes, Props, PropsBecome, Valued, and_from, any_of, bytes_eq-Decides, changes_hide, each_map, either_way, eq-eqb, false_from, find-append, find_on, flawless, found_in, found_one, had_before, in_either, in_filter, in_front, in_kept, in_more, is_found, known_is, member_of, members_in, needs_suffice, no_change, no_detail, no_replacement, none_false, shape_is_held, shown, shown_at, some_of, unmapped, valued_become}
 use Rattle.cf_desired.specs.Whole.{Whole}
+use Rattle.std.specs.Prelude.{option_map}
 use Rattle.cf_desired.specs.declared.wanted.Evaluated.TheVariants.{Known as evaluated}
-use Rattle.cf_core.proofs.HidSeen.{rest_itself, compared_rest, same_found, shape_before}
-use Rattle.cf_core.proofs.Written.{written_is_to}
-use Rattle.cf_core.proofs.AdvSteps.{is_ahead, goes_by, none_begins, advancing_goes_on, HasBegunBy, begins_ahead, seen_still}
-use Rattle.cf_core.proofs.Statuses.{intended_way, kept_way}
-use Rattle.cf_core.proofs.HidProps.{said_in_order}
-use Rattle.cf_plan.proofs.PropsStay.{Becomes, Props, PropsBecome, find_on, flawless, had_before, known_is, unmapped, no_change, no_detail, no_replacement, valued_become}
-use Rattle.cf_core.proofs.AdvLists.{either_way, each_map}
-use Rattle.cf_core.proofs.TidyLists.{from_changed}
+use Rattle.cf_core.proofs.{HidSeen.rest_itself, HidSeen.compared_rest, HidSeen.same_found, HidSeen.shape_before, Moving.written_is_to, AdvSteps.is_ahead, AdvSteps.goes_by, AdvSteps.none_begins, AdvSteps.advancing_goes_on, AdvSteps.HasBegunBy, AdvSteps.begins_ahead, AdvSteps.seen_still, Statuses.intended_way, Statuses.kept_way, HidProps.said_in_order, TidyLists.from_changed}
 use Rattle.cf_plan.proofs.RowsFound.{attrs_kept, found_there, hidden_less, id_kept, no_flaw_known, none_first, none_found, not_not, true_from, updates_one}
-use Rattle.cf_tree.specs.declared.request.Request.TheVariants as request
-use Rattle.cf_tree.specs.declared.code.Code.TheVariants as code
-use Rattle.cf_entry.specs.declared.entry.Entry.TheVariants as entry
-use Rattle.cf_entry.specs.declared.entry.Begun.TheVariants as begin
-use Rattle.cf_entry.specs.declared.entry.Reply.TheVariants as reply
-use Rattle.cf_entry.specs.declared.status.Status.TheVariants as status
-use Rattle.cf_entry.specs.declared.turn.Phase.TheVariants as phase
 use Rattle.cf_core.specs.Written as to
 
 -- What the change set of an operation did not hide stays seen, whatever entry is written as it goes forward.
@@ -35,14 +21,7 @@ pub same_at : (path : List ℕ) (bs hs : List Held) → AreSameThings bs hs → 
 same_at path [] [] none_same = tt
 same_at path [] (h ∷ hs) r = elim r [ ]
 same_at path (b ∷ bs) [] r = elim r [ ]
-same_at path (b ∷ bs) (h ∷ hs) (more_same s r) =
-    subst (λ t. SameAt (cond (is_current_at path b) (Some b) (current_at path bs)) (cond t (Some h) (current_at path hs)))
-    (ap (λ p. bytes_eq path p && not b.superseded) (sym s.path) ∙ ap (λ t. bytes_eq path h.path && not t) (sym s.superseded))
-    (either (is_current_at path b) (same_at path bs hs r))
-  where
-    either : (t : Bool) → SameAt (current_at path bs) (current_at path hs) → SameAt (cond t (Some b) (current_at path bs)) (cond t (Some h) (current_at path hs))
-    either true ih = s
-    either false ih = ih
+same_at path (b ∷ bs) (h ∷ hs) (more_same s r) = grind (arith, same_at path bs)
 
 -- what stays seen, over the lists that it is_other on
 abbrev RestOver : List Schema → Source → List Held → List Held → List Held → Type 0
@@ -67,26 +46,13 @@ module _ (schemas : List Schema) (s : StackState) (source : Source) (a : IsAdvan
 
   -- the path of a create, where what was held is hidden, or of an update, whose attributes are hidden
   rest_closed : (p : Pending) (r : Request) → p.request ≡ r → IsHidden rows_of s path r → HeldLeft s t p path → Kept (value_at path (seen_in s.before)) (value_at path (seen_now t))
-  rest_closed p (request.Create kind props) e hid l =
+  rest_closed p (Request.Create kind props) e hid l =
       subst (λ o. Kept o (value_at path (seen_now t))) (sym (shown_at path s.before)) (by (current_at path s.before) (current_at path s.held) (same_at path s.before s.held a.held) refl) where
         by : (b h : Option Held) → SameAt b h → current_at path s.held ≡ h → Kept (option_map shown b) (value_at path (seen_now t))
-        by None h w q = (λ n. tt, λ n. tt)
-        by (Some b) None w q = absurd w
-        by (Some b) (Some h) w q = (λ n. absurd (true≢false (sym (hid h q).0 ∙ n)), λ n. absurd (true≢false (sym (hid h q).1 ∙ n)))
-  rest_closed p (request.Update id props) e hid (by_create n same) = absurd (true≢false (sym (ap is_update e) ∙ n))
-  rest_closed p (request.Update id props) e hid (by_update g h u made was now same) = (
-    λ n. subst (Keeps (physical_of (value_at path (seen_in s.before))))
-        (ap physical_of (seen_by s.made s.held ∙ ap (λ o. option_map shown (option_or (current_at path s.made) o)) was) ∙ one_id_seen (current_at path s.made)
-        ∙ sym (ap physical_of (seen_by t.made t.held ∙ (λ i. option_map shown (option_or (made i) (now i)))))) ((a.rest path).0 n),
-    λ n. absurd (true≢false (sym hid ∙ n)),
-  ) where
-    physical_of : Option SeenAt → Option (List ℕ)
-    physical_of o = option_and_then (λ x. x.physical) o
-
-    one_id_seen : (m : Option Held) → physical_of (option_map shown (option_or m (Some g))) ≡ physical_of (option_map shown (option_or m (Some h)))
-    one_id_seen None = ap (λ i. Some i) (sym same)
-    one_id_seen (Some m) = refl
-  rest_closed p (request.Delete id) e hid l = absurd hid
+        by b h w q = grind arith
+  rest_closed p (Request.Update id props) e hid (by_create n same) = absurd (true≢false (sym (ap is_update e) ∙ n))
+  rest_closed p (Request.Update id props) e hid (by_update g h u made was now same) = grind (arith, seen_by, shown)
+  rest_closed p (Request.Delete id) e hid l = absurd hid
 
   rest_at : LeftAt s t path → Kept (value_at path (seen_in s.before)) (value_at path (seen_now t))
   rest_at (unmoved k) = subst (Kept (value_at path (seen_in s.before))) (sym (seen_still s t path k)) (a.rest path)
@@ -104,14 +70,14 @@ rest_begins schemas x out number stack k name s t w same f = by (begins_ahead w 
   from = subst (λ (u : StackState). begins_from k u.status ≡ true) w.was (subst (λ n. begins_from k (known_stack n x).status ≡ true) same w.may.1)
 
   by : HasBegunBy schemas x name s t → (c : Source) × BeginsSeen schemas t c
-  by (begin.Create c, from, b, q) =
+  by (Begun.Create c, from, b, q) =
       subst (λ u. (d : Source) × BeginsSeen schemas u d) q
       (source_for name (x.operation + 1) c, record { going = refl; no_flaw = b.no_flaw; no_clash = b.same_types; rest = rest_itself _ _ s (seen_in s.held) })
-  by (begin.Update c, from, b, q) =
+  by (Begun.Update c, from, b, q) =
       subst (λ u. (d : Source) × BeginsSeen schemas u d) q
       (source_for name s.number c, record { going = refl; no_flaw = b.no_flaw; no_clash = b.same_types; rest = rest_itself _ _ s (seen_in s.held) })
-  by (begin.Delete paths, from, b, q) = absurd (true≢false (sym f ∙ ap (λ (u : StackState). goes_forward u.status) (sym q)))
-  by (begin.Continue paths, from, b, q) = absurd (true≢false (sym f ∙ ap (λ (u : StackState). goes_forward u.status) (sym q)))
+  by (Begun.Delete paths, from, b, q) = absurd (true≢false (sym f ∙ ap (λ (u : StackState). goes_forward u.status) (sym q)))
+  by (Begun.Continue paths, from, b, q) = absurd (true≢false (sym f ∙ ap (λ (u : StackState). goes_forward u.status) (sym q)))
 
 -- Properties stay in the order of their names, whatever entry is written.
 
@@ -136,14 +102,10 @@ module _ (f : Held → Held) (keeps : (h : Held) → InOrder h → InOrder (f h)
   all_map hs h = each_map InOrder f hs (λ r i. keeps r (h r i))
 
   all_changed : (id : List ℕ) (hs : List Held) → All hs → All (where_physical id f hs)
-  all_changed id hs h r i =
-      let c = from_changed (has_physical id) f hs r i in
-      elim c.2 [ inl e ↦ subst InOrder (sym e) (h c.0 c.1) | inr e ↦ subst InOrder (sym e) (keeps c.0 (h c.0 c.1)) ]
+  all_changed id hs h r i = grind (arith, from_changed)
 
   changing_ordered : (id : List ℕ) (s : StackState) → Ordered s → Ordered (changing id f s)
-  changing_ordered id s o =
-      either_way Ordered (list_any (has_physical id) s.held) (record s { held = where_physical id f s.held }) (record s { made = where_physical id f s.made })
-      (all_changed id s.held o.0, o.1, o.2, o.3) (o.0, o.1, all_changed id s.made o.2, o.3)
+  changing_ordered id s o = grind (arith, either_way, all_changed)
 
 module _ (s : StackState) (o : Ordered s) where
   deleting_ordered : (id : List ℕ) → Ordered (deleting id s)
@@ -161,17 +123,17 @@ module _ (s : StackState) (o : Ordered s) where
   with_status_ordered b id state = either_way Ordered b (with_status id state s) s (changing_ordered (λ h. record h { status = state }) (λ h k. k) id s o) o
 
   answered_ordered : (restores : Bool) (path : List ℕ) (r : Request) → ascends (props_asked r) ≡ true → (a : Reply) → Ordered (answered restores path r a s)
-  answered_ordered b path (request.Create k props) h (reply.Success physical attrs) =
+  answered_ordered b path (Request.Create k props) h (Reply.Success physical attrs) =
       (o.0, o.1, in_more InOrder (made_of (terms_at path s) (status_made (current_at path s.held)) path k props physical attrs) s.made o.2 h, o.3)
-  answered_ordered b path (request.Update id props) h (reply.Success physical attrs) = changing_ordered (updating props attrs) (λ r k. h) id s o
-  answered_ordered b path (request.Update id props) h (reply.Failed c) = with_status_ordered b id _
-  answered_ordered b path (request.Delete id) h (reply.Success physical attrs) = deleting_ordered id
-  answered_ordered b path (request.Delete id) h (reply.Failed code.NotFound) = deleting_ordered id
-  answered_ordered b path (request.Delete id) h (reply.Failed c) = with_status_ordered true id _
+  answered_ordered b path (Request.Update id props) h (Reply.Success physical attrs) = changing_ordered (updating props attrs) (λ r k. h) id s o
+  answered_ordered b path (Request.Update id props) h (Reply.Failed c) = with_status_ordered b id _
+  answered_ordered b path (Request.Delete id) h (Reply.Success physical attrs) = deleting_ordered id
+  answered_ordered b path (Request.Delete id) h (Reply.Failed Code.NotFound) = deleting_ordered id
+  answered_ordered b path (Request.Delete id) h (Reply.Failed c) = with_status_ordered true id _
   answered_ordered b path r h a = o
 
 closing_ordered : (token : ℕ) (a : Reply) (s : StackState) → Ordered s → Ordered (closing token a s)
-closing_ordered token reply.Doubt s o = o
+closing_ordered token Reply.Doubt s o = o
 closing_ordered token a s o = (o.0, o.1, o.2, of_filter _ s.tokens o.3)
 
 replied_ordered : (token : ℕ) (a : Reply) (p : Option Pending) (s : StackState) → pending_of token s ≡ p → Ordered s → Ordered (replied token a p s)
@@ -182,65 +144,50 @@ replied_ordered token a (Some p) s e o =
 
 -- the end of the forward phase, and of an operation
 settled_ordered : (whole : Whole) (s : StackState) (h : Held) → InOrder h → InOrder (settled_in whole s h)
-settled_ordered whole s h k =
-    either_way InOrder (is_physical_of h.physical (resource_at h.path s) && not h.superseded) _ (record h { superseded = true }) (by (find (is_right_at h.path) whole.wanted)) k where
-      by : (o : Option Right) → InOrder (as_wanted o h)
-      by None = k
-      by (Some w) = k
+settled_ordered whole s h k = grind (arith, either_way)
 
 completing_ordered : (whole : Whole) (s : StackState) → Ordered s → Ordered (completing whole s)
 completing_ordered whole s o = (all_map (settled_in whole s) (settled_ordered whole s) (resources_of s) (all_both s.held s.made o.0 o.2), o.1, no_held, o.3)
 
 turned_ordered : (p : Phase) (s : StackState) → Ordered s → Ordered (turned_effect p s).stack
-turned_ordered phase.Clean s o = completing_ordered (whole_now s) (turning phase.Clean s) o
+turned_ordered Phase.Clean s o = completing_ordered (whole_now s) (turning Phase.Clean s) o
 turned_ordered p s o = o
 
 marked_ordered : (ps : List Pending) (h : Held) → InOrder h → InOrder (marked ps h)
-marked_ordered ps h k = by (find (is_on h.physical) ps) where
-  by : (o : Option Pending) → InOrder (left_in_doubt o h)
-  by None = k
-  by (Some p) = k
+marked_ordered ps h k = grind arith
 
 stopping_ordered : (state : Status) (s : StackState) → Ordered s → Ordered (stopping state s)
 stopping_ordered state s o =
     (all_map (marked s.tokens) (marked_ordered s.tokens) s.held o.0, o.1, all_map (marked s.tokens) (marked_ordered s.tokens) s.made o.2, o.3)
 
 ending_ordered : (state : Status) (s : StackState) → Ordered s → Ordered (ending state s).stack
-ending_ordered status.CreateComplete s o = completing_ordered (whole_now s) s o
-ending_ordered status.RollbackFailed s o = (all_both s.held s.made o.0 o.2, o.1, no_held, o.3)
+ending_ordered Status.CreateComplete s o = completing_ordered (whole_now s) s o
+ending_ordered Status.RollbackFailed s o = (all_both s.held s.made o.0 o.2, o.1, no_held, o.3)
 ending_ordered state s o = o
 
 -- a beginning
 skipped_ordered : (paths : List (List ℕ)) (before : List Held) → All before → (h : Held) → InOrder h → InOrder (skipped_in paths before h)
-skipped_ordered paths before o h k = either_way InOrder (is_among h.path paths) _ h (by (find (has_physical h.physical) before) refl) k where
-  by : (q : Option Held) → find (has_physical h.physical) before ≡ q → InOrder (as_before q h)
-  by None e = k
-  by (Some r) e = o r (found_one (has_physical h.physical) before r e).0
+skipped_ordered paths before o h k = grind (arith, either_way, found_one)
 
 begun_ordered : (name : List ℕ) (number : ℕ) (k : Begun) (s : StackState) → Ordered s → Ordered (beginning name number k s)
-begun_ordered name number (begin.Create source) s o = (o.0, o.0, no_held, o.3)
-begun_ordered name number (begin.Update source) s o = (o.0, o.0, no_held, o.3)
-begun_ordered name number (begin.Delete paths) s o = o
-begun_ordered name number (begin.Continue paths) s o =
+begun_ordered name number (Begun.Create source) s o = (o.0, o.0, no_held, o.3)
+begun_ordered name number (Begun.Update source) s o = (o.0, o.0, no_held, o.3)
+begun_ordered name number (Begun.Delete paths) s o = o
+begun_ordered name number (Begun.Continue paths) s o =
     (all_map (skipped_in paths s.before) (skipped_ordered paths s.before o.1) s.held o.0, o.1, o.2, of_filter _ s.tokens o.3)
 
 module _ (schemas : List Schema) (x : World) (out : List ℕ) (name : List ℕ) (s : StackState) (o : Ordered s) where
   -- what a call asks for
   intends_ordered : (path : List ℕ) (stage : Stage) (r : Request) → IntendsIn stage schemas name x s path r → ascends (props_asked r) ≡ true
-  intends_ordered path stage (request.Delete physical) i = refl
-  intends_ordered path Forward (request.Create kind props) i = said_in_order s path kind props i.3.0
-  intends_ordered path Forward (request.Update physical props) i = said_in_order s path i.3.0.kind props i.3.3
-  intends_ordered path Back (request.Create kind props) i = elim i [ inl d ↦ absurd d | inr d ↦ absurd d ]
-  intends_ordered path Back (request.Update physical props) i = elim i [ inl d ↦ absurd d | inr d ↦ ap ascends d.5 ∙ o.1 d.1 d.2.0 ]
-  intends_ordered path stage r i = absurd i
+  intends_ordered path stage r i = grind (arith, said_in_order)
 
   step_ordered : (stage : Stage) (e : Entry) → IsOwn s.operation e → MayFollowIn schemas name x out s stage e → Ordered (effect_at (x.place + 1) e s).stack
-  step_ordered stage (entry.Kept number path physical w) own may = keeping_ordered s o path physical w
-  step_ordered stage (entry.Intent number token lane path r) own may =
+  step_ordered stage (Entry.Kept number path physical w) own may = keeping_ordered s o path physical w
+  step_ordered stage (Entry.Intent number token lane path r) own may =
       intending_ordered s o number (record { token = token; path = path; lane = lane; request = r }) (intends_ordered path stage r may.chosen)
-  step_ordered stage (entry.Outcome number token a before after) own may = replied_ordered token a (pending_of token s) s refl o
-  step_ordered stage (entry.Phase number p c) own may = turned_ordered p s o
-  step_ordered stage (entry.Done number state failed) own may = ending_ordered state (stopping state s) (stopping_ordered state s o)
+  step_ordered stage (Entry.Outcome number token a before after) own may = replied_ordered token a (pending_of token s) s refl o
+  step_ordered stage (Entry.Phase number p c) own may = turned_ordered p s o
+  step_ordered stage (Entry.Done number state failed) own may = ending_ordered state (stopping state s) (stopping_ordered state s o)
   step_ordered stage e own may = absurd own
 
   entry_ordered : (e : Entry) (t : StackState) → IsTo schemas x out name s e t → Ordered t
@@ -423,18 +370,11 @@ module _ (schemas : List Schema) (s : StackState) (source : Source) (a : IsAdvan
       where
         by_schema : (o : Option Schema) → list_any (λ d. not (is_never d.recreation)) (property_details o b.props it.was) ≡ false
             → (option_map_or (λ g. difference_of g b.props props) o Update ≡ Replace) ⊎ (option_map_or (λ g. difference_of g b.props props) o Update ≡ MayReplace) → ⊥
-        by_schema None n (inl d) = let no : ⊥ = cc in no
-        by_schema None n (inr d) = let no : ⊥ = cc in no
-        by_schema (Some g) n d = no_replacement g b.props it.was it.now props it.becomes it.known n d
+        by_schema o n d = grind (arith, no_replacement, it, was)
 
     -- and nothing is to be changed
     none_changed : is_some (found h.kind schemas) ≡ true → ascends b.props ≡ true → ascends props ≡ true → list_any is_property details ≡ false → Differs Same
-    none_changed known old new none =
-        difference_is ∙ by_schema (found it.member.kind schemas) (ap (λ n. is_some (found n schemas)) (sym one_kind) ∙ known) none
-      where
-        by_schema : (o : Option Schema) → is_some o ≡ true → list_any is_property (property_details o b.props it.was) ≡ false → option_map_or (λ g. difference_of g b.props props) o Update ≡ Same
-        by_schema None s n = absurd (true≢false (sym s))
-        by_schema (Some g) s n = no_change g b.props it.was it.now props it.becomes it.known old new n
+    none_changed known old new k = grind (arith, difference_is, it, one_kind, was, no_change)
 
     abbrev replaces : WantsNew schemas s (Some h) props → Differs Replace ⊎ Differs MayReplace
     replaces n = elim n [ inl d ↦ inl d | inr d ↦ inr d.0 ]
@@ -460,10 +400,10 @@ module _ (schemas : List Schema) (s : StackState) (source : Source) (a : IsAdvan
         ap (λ n. is_some (found n schemas)) (sym l.3) ∙ described l.0 l.1
 
     by_request : (r : Request) → IntendsForward schemas s path r → IsHidden rows s path r
-    by_request (request.Create k props) (e, wants) = λ h at. hides_new path k props e undone h at (subst (λ o. WantsNew schemas s o props) at wants)
-    by_request (request.Update physical props) (h, at, same, e, wants, unanswered) =
+    by_request (Request.Create k props) (e, wants) = λ h at. hides_new path k props e undone h at (subst (λ o. WantsNew schemas s o props) at wants)
+    by_request (Request.Update physical props) (h, at, same, e, wants, unanswered) =
         hides_change path h.kind props e undone h at (known_kind h (was_held path h at).in_held) order.before (said_in_order s path h.kind props e) wants
-    by_request (request.Delete physical) none = absurd none
+    by_request (Request.Delete physical) none = absurd none
 
 pub intended_hidden : IntendedIsHidden
 intended_hidden schemas name x out s source token lane path r a fits order described may =

@@ -1,70 +1,35 @@
 -- The properties that a template says of a path stand in the order of their names.
-use Rattle.std.proofs.Common.{◌≡◌, ◌∙◌, ℕ, List, ◌∷◌, ◌++◌, Bool, true, false, Option, Some, None, refl, sym, ap, subst, inl, inr, zero, suc, ◌+◌, Result, Ok, Err, []}
-use Rattle.cf_core.proofs.Words.{Body, Entering, Flaw, IfOk, In, Inside, Known, Laying, Member, Nesting, SaidIsInOrder, Seen, Source, Url, Wanted, ascends, at_path, attrs_seen, barred, body_at, body_bound, body_decided, body_in_order, bytes_eq, codes, course_after, entering_below, first_later, given_root, halted, has_stack_shape, id_seen, inside_of, is_wanted_at, known_of, laid, laid_within, nat_le, nested_before, nesting_of, no_url, option_and_then, option_map_or, plan_by, plan_in, put, resource, resources_along, resources_in as members_in_shape, resources_inside, root_of, seen_in, seen_now, shape_of, shut, step_before, unnamed_at, url, url_of, value_at, valued_in, verdicts_of, wanted_at, wanted_of, work_along, ⊤}
-use Rattle.cf_core.proofs.Lemmas.{Valued, ascends_put, found_in, found_one, in_either, in_first, in_more, is_found, kept_self, member_of as valued_member, members_in}
-use Rattle.std.specs.Prelude.{cond, nat_lt, length}
-use Rattle.serde_json.specs.Data.{Data, object, Members, no_members, member}
-use Rattle.serde_json.specs.Find.{get}
+use Rattle.std.proofs.Common.{arith, ◌≡◌, ◌∙◌, ℕ, List, ◌∷◌, ◌++◌, Bool, true, false, Option, Some, None, refl, sym, ap, subst, inl, inr, zero, suc, ◌+◌, Result, Ok, Err, []}
+use Rattle.cf_core.proofs.Words.{Body, Entering, Flaw, IfOk, In, Inside, Known, Laying, Member, Nesting, SaidIsInOrder, Seen, Source, Url, Wanted, ascends, at_path, attrs_seen, barred, body_at, body_bound, body_decided, body_in_order, bytes_eq, codes, cond, course_after, entering_below, given_root, id_seen, inside_of, is_wanted_at, known_of, laid, laid_within, length, nat_le, nested_before, nesting_of, option_and_then, option_map_or, plan_by, put, resource, resources_along, resources_in as members_in_shape, resources_inside, root_of, shape_of, step_before, unnamed_at, value_at, valued_in, wanted_at, wanted_of, work_along, ⊤}
+use Rattle.cf_core.proofs.Lemmas.{Ordered, Valued, ascends_put, either_way, find_on, found_in, found_one, had_before, in_either, in_first, in_map, in_more, is_found, kept_self, known_is, known_ordered, member_of as valued_member, members_in, unmapped, valued_ordered}
+use Rattle.serde_json.specs.{Data.Data, Data.object, Data.Members, Data.no_members, Data.member, Find.get}
 use Rattle.cf_tree.specs.Forms.{Form}
-use Rattle.cf_tree.specs.declared.template.Param.{Param}
-use Rattle.cf_tree.specs.declared.template.Res.{Res}
-use Rattle.cf_tree.specs.declared.template.Template.{Template}
-use Rattle.cf_eval.specs.Outcome.{got, later, bad, Outcome}
-use Rattle.cf_eval.specs.Scope.{Scope}
-use Rattle.cf_eval.specs.Env.{conditions_of}
-use Rattle.cf_desired.specs.Given.{Given, given_in, settings_for}
-use Rattle.cf_desired.specs.Shape.{Course, member_of}
-use Rattle.cf_desired.specs.Stack.{Scoping, Verdicts, scoping, Settings}
+use Rattle.cf_tree.specs.declared.{template.Param.Param, template.Res.Res, template.Template.Template}
+use Rattle.cf_eval.specs.{Outcome.got, Outcome.later, Outcome.bad, Outcome.Outcome, Scope.Scope, Env.conditions_of}
+use Rattle.cf_desired.specs.{Given.Given, Given.settings_for, Shape.Course, Shape.member_of, Stack.Scoping, Stack.Verdicts, Stack.Settings, Names.pseudo_of, Templates.accepted, Templates.is_stack, Templates.template_named}
 use Rattle.cf_desired.proofs.Keeping.{over}
-use Rattle.cf_desired.specs.Names.{pseudo_of}
-use Rattle.cf_desired.specs.Templates.{accepted, is_stack, template_named}
-use Rattle.cf_template.specs.declared.refusal.TemplateFault.{TemplateFault}
-use Rattle.cf_template.specs.declared.refusal.TemplateFault.TheVariants.{WrongShape, BadName, BadVersion, TooLong}
-use Rattle.cf_template.specs.declared.walk.Region.TheVariants.{Root}
-use Rattle.cf_template.specs.Exprs.{fields_in, form_of, values_of}
-use Rattle.cf_template.specs.Functions.{has_function, stray_object}
-use Rattle.cf_template.specs.Json.{json_of, count}
-use Rattle.cf_template.specs.Places.{member_at}
-use Rattle.cf_template.specs.Refusals.{Reading, after, mapped, provided, unless}
-use Rattle.cf_template.specs.Conds.{conds_in}
-use Rattle.cf_template.specs.Maps.{mappings_in}
-use Rattle.cf_template.specs.Outputs.{outputs_in}
-use Rattle.cf_template.specs.Params.{params_in}
-use Rattle.cf_template.specs.Resources.{deletion_of, names_of, or_none, replace_of, resource_fields, resource_members_fault, resource_of, resources_in}
-use Rattle.cf_template.specs.Shapes.{has, optional, optional_from, plain_text, required, unread}
-use Rattle.cf_template.specs.Walk.{walk_fault}
-use Rattle.cf_template.specs.Whole.{count_fault, empty_fault, is_version, free_section, required_section, section, sections_fault, sections_of, template_from, template_of, value_template}
-use Rattle.cf_template.specs.Words.{is_name}
-use Rattle.cf_graph.specs.Needs.{Tangle, needs_of, resource_named}
-use Rattle.cf_plan.proofs.Listed.{in_map}
-use Rattle.cf_core.proofs.AdvLists.{either_way}
-use Rattle.cf_plan.proofs.PropsStay.{Ordered, find_on, had_before, known_is, known_ordered, unmapped, valued_ordered}
+use Rattle.cf_template.specs.declared.{refusal.TemplateFault.TemplateFault, refusal.TemplateFault.TheVariants.BadName, refusal.TemplateFault.TheVariants.TooLong}
+use Rattle.cf_template.specs.{Exprs.fields_in, Exprs.form_of, Exprs.values_of, Functions.has_function, Functions.stray_object, Json.json_of, Places.member_at, Refusals.Reading, Refusals.after, Refusals.mapped, Refusals.provided, Refusals.unless, Conds.conds_in, Maps.mappings_in, Outputs.outputs_in, Params.params_in, Resources.deletion_of, Resources.names_of, Resources.or_none, Resources.replace_of, Resources.resource_fields, Resources.resource_of, Resources.resources_in, Shapes.optional, Shapes.optional_from, Shapes.plain_text, Shapes.required, Shapes.unread, Whole.free_section, Whole.required_section, Whole.section, Whole.sections_of, Whole.template_from, Whole.template_of, Whole.value_template, Words.is_name}
+use Rattle.cf_graph.specs.Needs.{Tangle, resource_named}
 use Rattle.cf_tree.specs.Datum as tree
-use Rattle.cf_desired.specs.Work as inside
-use Rattle.cf_desired.specs.declared.flaw.Flaw.TheVariants as flaw
 
 -- The properties that a template says of a path stand in the order of their names, as those of its resources do.
 
 -- what was read has it
 after_ok : {A B : Type 0} (P : A → Type 0) (Q : B → Type 0) (r : Reading A) (f : A → Reading B) → ((a : A) → P a → IfOk (f a) Q) → IfOk r P → IfOk (after r f) Q
-after_ok P Q (Ok a) f h p = h a p
-after_ok P Q (Err e) f h p = tt
+after_ok P Q r f h p = grind arith
 
 any_ok : {A B : Type 0} (Q : B → Type 0) (r : Reading A) (f : A → Reading B) → ((a : A) → IfOk (f a) Q) → IfOk (after r f) Q
-any_ok Q (Ok a) f h = h a
-any_ok Q (Err e) f h = tt
+any_ok Q r f h = grind arith
 
 mapped_ok : {A B : Type 0} (P : A → Type 0) (Q : B → Type 0) (f : A → B) (r : Reading A) → ((a : A) → P a → Q (f a)) → IfOk r P → IfOk (mapped f r) Q
-mapped_ok P Q f (Ok a) h p = h a p
-mapped_ok P Q f (Err e) h p = tt
+mapped_ok P Q f r h p = grind arith
 
 provided_ok : {A : Type 0} (Q : A → Type 0) (b : Bool) (e : TemplateFault) (r : Reading A) → IfOk r Q → IfOk (provided b e r) Q
-provided_ok Q true e r h = h
-provided_ok Q false e r h = tt
+provided_ok Q b e r h = grind arith
 
 unless_ok : {A : Type 0} (Q : A → Type 0) (o : Option TemplateFault) (r : Reading A) → IfOk r Q → IfOk (unless o r) Q
-unless_ok Q None r h = h
-unless_ok Q (Some e) r h = tt
+unless_ok Q o r h = grind arith
 
 abbrev Sorted : List (List ℕ × Form) → Type 0
 Sorted fs = ascends fs ≡ true
@@ -94,8 +59,7 @@ in_turn : {A B C D K E : Type 0} (a : Reading A) (b : Reading B) (c : Reading C)
     (f : A → B → C → D → Option (List (List ℕ × Form)) → K → E → Res)
     → ((u : A) (v : B) (w : C) (x : D) (o : Option (List (List ℕ × Form))) (y : K) (z : E) → (f u v w x o y z).props ≡ or_none o) → IfOk p SortedOrNone
     → IfOk (after a (λ u. after b (λ v. after c (λ w. after d (λ x. after p (λ o. after k (λ y. mapped (f u v w x o y) e))))))) HasSorted
-in_turn (Ok u) (Ok v) (Ok w) (Ok x) (Ok o) (Ok y) (Ok z) f h s = ap ascends (h u v w x o y z) ∙ s
-in_turn a b c d p k e f h s = tt
+in_turn a b c d p k e f h s = grind arith
 
 resource_sorted : (ps : List Param) (k : List ℕ) (d : Data) (at : List ℕ) → IfOk (resource_fields ps k d at) HasSorted
 resource_sorted ps k d at =
@@ -114,8 +78,7 @@ resource_sorted ps k d at =
     (λ u v w x o y z. refl) (optional_sorted ps (get (codes "Properties") d) (member_at at (codes "Properties")))
 
 one_sorted : (ps : List Param) (k : List ℕ) (d : Data) (at : List ℕ) → IfOk (resource_of ps k d at) HasSorted
-one_sorted ps k (object ms) at =
-    unless_ok HasSorted (resource_members_fault ms at) _ (provided_ok HasSorted (has (codes "Type") (object ms)) (WrongShape at) (resource_fields ps k (object ms) at) (resource_sorted ps k (object ms) at))
+one_sorted ps k (object ms) at = grind (arith, unless_ok, provided_ok, resource_sorted)
 one_sorted ps k d at = tt
 
 abbrev AllSorted : List Res → Type 0
@@ -129,11 +92,7 @@ all_sorted ps (member k d ms) at found h =
     (λ r s. all_sorted ps ms at (found ++ r ∷ []) (in_more HasSorted r found h s)) (one_sorted ps k d (member_at at k)))
 
 section_sorted : (ps : List Param) (o : Option Data) → IfOk (required_section (resources_in ps) 500 (codes "Resources") o) AllSorted
-section_sorted ps None = tt
-section_sorted ps (Some (object ms)) =
-    unless_ok AllSorted (empty_fault (codes "Resources") (count ms)) _
-    (unless_ok AllSorted (count_fault (codes "Resources") 500 (count ms)) _ (all_sorted ps ms (member_at [] (codes "Resources")) [] (λ r i. elim i [ ])))
-section_sorted ps (Some d) = tt
+section_sorted ps o = grind (arith, unless_ok, all_sorted)
 
 abbrev OfTemplate : Template → Type 0
 OfTemplate t = AllSorted t.resources
@@ -145,8 +104,7 @@ sections_in_turn : {A B M C O : Type 0} (a : Reading A) (b : Reading B) (p : Rea
     → IfOk (after a (λ x. after b (λ y. after p (λ ps. after m (λ u. after (c ps) (λ v. after (r ps) (λ rs. mapped (f ps u v rs) (o ps)))))))) OfTemplate
 sections_in_turn {C = C} {O = O} (Ok x) (Ok y) (Ok ps) (Ok u) c r o f h s = behind (c ps) (r ps) (o ps) (s ps) where
   behind : (v : Reading C) (rs : Reading (List Res)) (w : Reading O) → IfOk rs AllSorted → IfOk (after v (λ t. after rs (λ qs. mapped (f ps u t qs) w))) OfTemplate
-  behind (Ok v) (Ok rs) (Ok w) k = subst AllSorted (sym (h ps u v rs w)) k
-  behind v rs w k = tt
+  behind v rs w k = grind arith
 sections_in_turn a b p m c r o f h s = tt
 
 sections_sorted : (d : Data) → IfOk (sections_of d) OfTemplate
@@ -159,13 +117,11 @@ sections_sorted d =
     (λ ps u v rs w. refl) (λ params. section_sorted params (get (codes "Resources") d))
 
 from_sorted : (d : Data) → IfOk (template_from d) OfTemplate
-from_sorted (object ms) =
-    unless_ok OfTemplate (sections_fault ms) _ (provided_ok OfTemplate (is_version (get (codes "AWSTemplateFormatVersion") (object ms))) BadVersion (sections_of (object ms)) (sections_sorted (object ms)))
+from_sorted (object ms) = grind (arith, unless_ok, provided_ok, sections_sorted)
 from_sorted d = tt
 
 value_sorted : (o : Option Data) → IfOk (value_template o) OfTemplate
-value_sorted None = tt
-value_sorted (Some d) = unless_ok OfTemplate (walk_fault d Root []) (template_from d) (from_sorted d)
+value_sorted o = grind (arith, unless_ok, from_sorted)
 
 template_sorted : (bytes : List ℕ) → IfOk (template_of bytes) OfTemplate
 template_sorted bytes = provided_ok OfTemplate (nat_le (length bytes) 1048576) (TooLong (length bytes)) (value_template (json_of bytes)) (value_sorted (json_of bytes))
@@ -178,12 +134,10 @@ IfSorted (Some t) = AllSorted t.resources
 named_sorted : (name : List ℕ) (source : Source) → IfSorted (template_named name source)
 named_sorted name source = by_text (value_at name source.texts) where
   by_reading : (r : Result Template TemplateFault) → IfOk r OfTemplate → IfSorted (accepted r)
-  by_reading (Ok t) h = h
-  by_reading (Err f) h = tt
+  by_reading r h = grind arith
 
   by_text : (o : Option (List ℕ)) → IfSorted (option_and_then (λ bytes. accepted (template_of bytes)) o)
-  by_text None = tt
-  by_text (Some bytes) = by_reading (template_of bytes) (template_sorted bytes)
+  by_text o = grind (arith, by_reading, template_sorted)
 
 -- the resources of a shape
 abbrev MembersSorted : List Member → Type 0
@@ -202,27 +156,13 @@ LaysSorted (Some lay) = (e : Entering) (g : Given) (t m : ℕ) → AllSorted e.s
 module _ (lay : Option Laying) (source : Source) (seen : Seen) (lays : LaysSorted lay) where
   within_sorted : (l : Option Laying) → LaysSorted l → (path name : List ℕ) (t m : ℕ) (o : Option Template) → IfSorted o → (e : Entering) (n : Nesting) (r : Res) (g : Given)
       → MembersSorted (members_in_shape (laid_within l path name t m o (entering_below e n r) g))
-  within_sorted None h path name t m o s e n r g = none_sorted
-  within_sorted (Some l) h path name t m None s e n r g =
-      either_way (λ b. MembersSorted (members_in_shape b)) (nat_lt 16 (t + 1)) (barred (flaw.TooMany (t + 1))) (barred (flaw.TemplateMissing name)) none_sorted none_sorted
-  within_sorted (Some l) h path name t m (Some u) s e n r g =
-      let inner = l (entering_below e n r u) g (t + 1) (m + length u.resources) in
-      let some = cond (nat_lt 2000 (m + length u.resources)) (barred (flaw.TooMany (m + length u.resources))) inner in
-      either_way (λ b. MembersSorted (members_in_shape b)) (nat_lt 16 (t + 1)) (barred (flaw.TooMany (t + 1))) some none_sorted
-      (either_way (λ b. MembersSorted (members_in_shape b)) (nat_lt 2000 (m + length u.resources)) (barred (flaw.TooMany (m + length u.resources))) inner none_sorted
-      (h (entering_below e n r u) g (t + 1) (m + length u.resources) s))
+  within_sorted l h path name t m o s e n r g = grind (arith, none_sorted, either_way)
 
   at_sorted : (e : Entering) (n : Nesting) (r : Res) (t m : ℕ) (g : Given) (u : Url) → MembersSorted (members_in_shape (body_at lay source e n r t m g u))
-  at_sorted e n r t m g (no_url f) = none_sorted
-  at_sorted e n r t m g (url name) = within_sorted lay lays n.path name t m (template_named name source) (named_sorted name source) e n r g
+  at_sorted e n r t m g u = grind (arith, none_sorted, within_sorted, named_sorted)
 
   inside_sorted : (e : Entering) (s : Scope) (c : Course) (n : Nesting) (r : Res) (o : Option Flaw) → MembersSorted (resources_inside (inside_of lay source e s c n r o))
-  inside_sorted e s c n r (Some f) = none_sorted
-  inside_sorted e s c n r None =
-      let form = value_at (codes "Parameters") r.props in
-      either_way (λ i. MembersSorted (resources_inside i)) (has_stack_shape r)
-      (inside.given_by form (body_at lay source e n r c.templates c.members (given_in s form) (url_of e.stack.path n.path s r))) (shut (flaw.Shape n.path))
-      (at_sorted e n r c.templates c.members (given_in s form) (url_of e.stack.path n.path s r)) none_sorted
+  inside_sorted e s c n r o = grind (arith, none_sorted, either_way, at_sorted)
 
   module _ (e : Entering) (sorted : AllSorted e.stack.template.resources) where
     work_sorted : (conds : Verdicts) (over : Scoping) (order : List (List ℕ × List (List ℕ))) (c : Course) → MembersSorted (resources_along (work_along lay source seen e conds over order c))
@@ -246,17 +186,12 @@ module _ (lay : Option Laying) (source : Source) (seen : Seen) (lays : LaysSorte
       by_name (Some r) q ih = by_kind r (found_one (λ x. bytes_eq m.0 x.name) e.stack.template.resources r q).0 ih (is_stack r)
 
     order_sorted : (bound : Settings) (t m : ℕ) (conds : Verdicts) (r : Result (List (List ℕ × List (List ℕ))) Tangle) → MembersSorted (members_in_shape (body_in_order lay source seen e bound t m conds r))
-    order_sorted bound t m conds (Err x) = none_sorted
-    order_sorted bound t m conds (Ok order) = work_sorted conds (scoping source e.stack conds bound) order _
+    order_sorted bound t m conds r = grind (arith, none_sorted, work_sorted)
 
     decided_sorted : (bound : Settings) (t m : ℕ) (o : Outcome (List (List ℕ × Option Bool))) → MembersSorted (members_in_shape (body_decided lay source seen e bound t m o))
     decided_sorted bound t m (bad s) = none_sorted
     decided_sorted bound t m later = none_sorted
-    decided_sorted bound t m (got conds) = either (first_later conds) where
-      either : (o : Option (List ℕ))
-          → MembersSorted (members_in_shape (option_map_or (λ name. halted e.stack (flaw.DynamicCondition e.stack.path name)) o (body_in_order lay source seen e bound t m (verdicts_of conds) (needs_of e.stack.template (verdicts_of conds)))))
-      either None = order_sorted bound t m (verdicts_of conds) (needs_of e.stack.template (verdicts_of conds))
-      either (Some name) = none_sorted
+    decided_sorted bound t m (got conds) = grind (arith, order_sorted, none_sorted)
 
     bound_sorted : (bound : Settings) (t m : ℕ) → MembersSorted (members_in_shape (body_bound lay source seen e bound t m))
     bound_sorted bound t m = decided_sorted bound t m (conditions_of e.stack.template bound (pseudo_of e.stack.name source.number))
@@ -268,7 +203,7 @@ laid_sorted (suc n) source seen e g t m s = bound_sorted (Some (laid n source se
 shape_sorted : (source : Source) (seen : Seen) → MembersSorted (members_in_shape (shape_of source seen))
 shape_sorted source seen = either (template_named source.root source) (named_sorted source.root source) where
   either : (o : Option Template) → IfSorted o
-      → MembersSorted (members_in_shape (option_map_or (λ t. laid 7 source seen (root_of source t) (given_root source) 1 (length t.resources)) o (barred (flaw.TemplateMissing source.root))))
+      → MembersSorted (members_in_shape (option_map_or (λ t. laid 7 source seen (root_of source t) (given_root source) 1 (length t.resources)) o (barred (Flaw.TemplateMissing source.root))))
   either None h = none_sorted
   either (Some t) h = laid_sorted 7 source seen (root_of source t) (given_root source) 1 (length t.resources) h
 
@@ -287,7 +222,4 @@ by_shape source before seen path k ps e =
     known_ordered xs.0 ps xs.2 (subst Ordered xs.1 (valued_ordered was.one y.0 was.valued sorted))
 
 pub said_in_order : SaidIsInOrder
-said_in_order s path k ps e = by_going s.going e where
-  by_going : (o : Option Source) → found_in (wanted_at path (plan_in o (seen_in s.before) (seen_now s))) ≡ Known k ps → ascends ps ≡ true
-  by_going None g = let no : ⊥ = cc in absurd no
-  by_going (Some source) g = by_shape source (seen_in s.before) (seen_now s) path k ps g
+said_in_order s path k ps e = grind (arith, found_in, by_shape)

@@ -1,47 +1,17 @@
 -- What holds at each moment of a life is kept by every event.
-use Rattle.cf_agree.specs.Laws.{Agree}
-use Rattle.cf_change.specs.Changes.{is_empty}
-use Rattle.cf_core.proofs.BeginEvents.{begun_holds, held_one, kept_holds, set_holds, plain_orderly, alike}
-use Rattle.cf_core.proofs.Entries.{Sends, is_working, sends}
-use Rattle.cf_core.proofs.FitKept.{Found, IsLeftBy, IsSameBut, IsSameCall, after_stacks, begun_known, each_is_written, find_mapped, fits_kept, from_mapped, gone, intends_named, into_mapped, keys_mapped, known_fits, known_steady, left_by, made, may_on, none_open, number_of, one_number, put_by, same, same_where, stack_known}
-use Rattle.cf_core.proofs.Outcomes.{done_moves, done_quiet, phase_moves, phase_quiet}
-use Rattle.cf_core.proofs.RowsWritten.{names_same, origins_kept, settled_new, written_kept}
-use Rattle.cf_core.proofs.Settling.{NamesOwn, intent_keeps_in, lanes_keep, may_again, opened_keeps, repeat_keeps, settle_keeps, start_agrees, fold_more, kept_name, kept_kind}
-use Rattle.cf_core.proofs.Statuses.{intended_way, kept_way, replied_status, turned_goes, turned_status}
-use Rattle.cf_core.specs.AccountOf.{lanes_of, account_of, has_leftover}
-use Rattle.cf_core.specs.{Bridges.account_with, Fits.BecomesBy, Fits.Fits, Fits.IsNew, Fits.IsRowOf, Fits.at_opening, Fits.other, Fits.own}
-use Rattle.cf_core.specs.Fitting.{AllFit, AreSteady, IsOfItsLane, IsSteady}
-use Rattle.cf_core.specs.LifeAgrees.{AgreesIn, IsOrderly, IsSound, lease_of}
-use Rattle.cf_core.specs.SoundLife.{Appends, AreSound, AreWritten, EventKeeps, EventWrites, HaveOrigins, IsSoundLife, StartIsSoundLife, opened, set, begun, granted, settled}
-use Rattle.cf_entry.specs.declared.{entry.Begun.Begun, entry.Entry.Entry, entry.Reply.Reply, status.Status.Status, turn.Cause.Cause}
-use Rattle.cf_entry.specs.declared.{turn.Phase.Phase, turn.Why.Why}
-use Rattle.cf_handler.specs.{Fence.FencedLane, Fence.Left, Fence.late_by, Fence.left_by as lane_left, Fence.raised_to, Name.is_lane_name}
-use Rattle.cf_plan.proofs.{CreatedRight.in_filter, Listed.in_none, RunLists.any_of, RunLists.in_end, RunLists.in_kept, RunLists.is_found_in}
-use Rattle.cf_plan.proofs.CreatedStays.{found_one, found_still, in_more}
-use Rattle.cf_plan.specs.Accept.{creates_from}
-use Rattle.cf_plan.specs.Follow.{IsLegal, MayFollow, begins_from, calls_in_flight, is_in_flight, updates_from}
-use Rattle.cf_plan.specs.{Forward.In, Forward.here, Forward.there, Lanes.AreLanes, Lanes.AreSchemas, Lanes.Lane, Lanes.lane_at}
-use Rattle.cf_plan.specs.Life.{changed, IsGoing, Lease, first_again, lease_for, CallEnd, Life, Event, Opened, ChangeSet, Begin, Grant, Repeat, Settle, Park, Raise, Act, Late, Crash, End, Whole, BrokenWith, BrokenWithout, Answered, IsBegin, IsChangeSet, IsGranted, IsOutcomeOf, appended, granted as granted_by, MayHappen, acted, lease_at, life_after, repeated, replied_to, replying, tokens_out, world_of}
-use Rattle.cf_schema.specs.Kinds.{found}
-use Rattle.cf_schema.specs.declared.described.Schema.{Schema}
-use Rattle.cf_stacks.proofs.Worlds.{found_stands}
-use Rattle.cf_stacks.specs.Apart.{AreApart}
-use Rattle.cf_effect.specs.Calls.{anew, answered_call, call_under as call_of, is_call, is_restore, new_call, where_call}
-use Rattle.cf_effect.specs.{Effect.heard, Effect.on_stack, Fold.effect_at, Fold.fold_of, Fold.is_opening, Fold.stack_for, Fold.world_after}
-use Rattle.cf_effect.specs.{End.turned_effect, Reply.answered, Reply.intending, Reply.keeping, Reply.closing, Reply.keeping_known, Reply.keeping_unknown, Reply.replied}
-use Rattle.cf_effect.specs.Status.{is_in_progress}
-use Rattle.cf_effect.specs.{Words.has_token, Words.pending_of, declared.call.Call.Call, declared.held.Pending.Pending}
-use Rattle.cf_effect.specs.World.{World, StackState, is_going, known_stack, no_stack, stack_at, empty_world}
-use Rattle.cf_tree.proofs.Lookups.{put_here, put_else}
-use Rattle.cf_tree.specs.{Keys.value_at, Named.all_differ}
-use Rattle.cf_tree.specs.declared.request.Request.{Request}
 use Rattle.std.proofs.Common.{arith, ◌≡◌, ℕ, List, [], ◌∷◌, ◌++◌, Bool, true, false, ◌&&◌, Option, Some, None, map, option_map, is_some, refl, ap, ◌∙◌, ◌≢◌, ◌+◌, ◌==◌, ◌||◌, find, sym, subst, true≢false, unwrap_or, ◌⊎◌, inl, inr, not, filter}
-use Rattle.std.proofs.lemmas.{Bool.eq-eqb, Bool.eqb-true, Slice.Eq.bytes_eq-Decides}
-use Rattle.std.specs.{Bool.IsTrue, List.list_all, Option.option_or, Prelude.cond, Str.bytes_eq}
-use Rattle.cf_entry.specs.declared.entry.Entry.TheVariants as entry
-use Rattle.cf_entry.specs.declared.status.Status.TheVariants as status
-use Rattle.cf_entry.specs.declared.turn.Phase.TheVariants as phase
-use Rattle.cf_tree.specs.declared.request.Answer.TheVariants as answer
+use Rattle.cf_core.proofs.Words.{Act, Agree, AgreesIn, AllFit, Appends, AreApart, AreLanes, AreSchemas, AreSound, AreSteady, AreWritten, Begin, Begun, BrokenWith, BrokenWithout, Call, CallEnd, Cause, ChangeSet, Crash, End, Entry, Event, EventKeeps, EventWrites, FencedLane, Fits, Grant, HaveOrigins, In, IsBegin, IsChangeSet, IsGoing, IsGranted, IsLegal, IsNew, IsOfItsLane, IsOrderly, IsOutcomeOf, IsRowOf, IsSound, IsSoundLife, IsSteady, Lane, Late, Lease, Left, Life, MayFollow, MayHappen, Opened, Park, Pending, Phase, Raise, Repeat, Reply, Request, Schema, Settle, StackState, StartIsSoundLife, Status, Whole, Why, World, account_of, account_with, acted, all_differ, anew, answered, answered_call, appended, begins_from, bytes_eq, call_under as call_of, calls_in_flight, changed, closing, creates_from, effect_at, empty_world, first_again, fold_of, found, granted as granted_by, has_leftover, has_token, heard, here, intending, is_call, is_empty, is_going, is_in_flight, is_in_progress, is_lane_name, is_opening, is_restore, keeping, keeping_known, keeping_unknown, known_stack, lanes_of, late_by, lease_at, lease_for, lease_of, left_by as lane_left, life_after, list_all, new_call, no_stack, on_stack, own, pending_of, raised_to, repeated, replied, replied_to, set, settled, stack_at, stack_for, there, tokens_out, turned_effect, updates_from, value_at, where_call, world_after, world_of}
+use Rattle.cf_core.proofs.Lemmas.{answered_left, any_of, bytes_eq-Decides, eq-eqb, eqb-true, find_mapped, found_one, found_stands, found_still, in_end, in_filter, in_kept, in_more, in_none, into_mapped, is_found_in, keys_mapped, put_here}
+use Rattle.cf_core.proofs.FitKept.{IsSameCall, after_stacks, each_is_written, fits_kept, from_mapped, intends_named, known_fits, known_steady, none_open, same_where, stack_known, at_name, of_it, of_another}
+use Rattle.cf_core.proofs.Settling.{NamesOwn, intent_keeps_in, lanes_keep, may_again, opened_keeps, repeat_keeps, settle_keeps, start_agrees, fold_more, kept_name, kept_kind, again_is}
+use Rattle.cf_core.proofs.BeginEvents.{begun_holds, held_one, kept_holds, set_holds, plain_orderly, alike, names_same, origins_kept, settled_new, written_kept}
+use Rattle.cf_core.proofs.Statuses.{intended_way, kept_way, replied_status, turned_goes, turned_status}
+use Rattle.cf_core.proofs.Outcomes.{done_moves, done_quiet, phase_moves, phase_quiet}
+use Rattle.cf_core.proofs.Stacks.{put_by, Sends, is_working, sends, stands_on}
+use Rattle.cf_core.proofs.Moving.{beginning_name, in_stage, numbered_so}
+use Rattle.cf_core.specs.SoundLife.{opened, begun, granted}
+use Rattle.cf_plan.specs.Life.{replying}
+use Rattle.std.specs.{Bool.IsTrue, Prelude.cond}
 
 -- One more entry of a journal, and lanes that change: what stays told of them.
 
@@ -68,10 +38,7 @@ module _ (n : List ℕ) (f : FencedLane → FencedLane) where
   }
 
   pub kinds_kept : (ls : List Lane) (m : List ℕ) → (lanes_of (map (changed n f) ls)).kind m ≡ (lanes_of ls).kind m
-  kinds_kept ls m = ap (option_map (λ (l : Lane). l.kind)) (find_mapped (λ (l : Lane). bytes_eq m l.name) (changed n f) ls (λ l. ap (bytes_eq m) (kept_name n f l))) ∙ by (lane_at m ls) where
-    by : (o : Option Lane) → option_map (λ (l : Lane). l.kind) (option_map (changed n f) o) ≡ option_map (λ (l : Lane). l.kind) o
-    by None = refl
-    by (Some l) = ap Some (kept_kind n f l)
+  kinds_kept ls m = grind (arith, option_map, find_mapped, kept_name, kept_kind)
 
 -- A call that is out has its row in the ledger of a stack whose operation is in progress: each entry keeps that.
 
@@ -106,63 +73,57 @@ module _ (t : ℕ) (c : Call) (s : StackState) (working : is_in_progress s.statu
   heard_row : (u : StackState) (es : List Entry) (lines : List (List ℕ)) → KeepsCall t c s u → KeepsCall t c s (record u { entries = es; events = lines })
   heard_row u es lines k = record { working = k.working; operation = k.operation; call = k.call; found = k.found; lane = k.lane }
 
-  kept_row : (place number : ℕ) (path id : List ℕ) (w : Why) → KeepsCall t c s (effect_at place (entry.Kept number path id w) s).stack
+  kept_row : (place number : ℕ) (path id : List ℕ) (w : Why) → KeepsCall t c s (effect_at place (Entry.Kept number path id w) s).stack
   kept_row place number path id w =
       heard_row (keeping path id w s) _ _ (kept_way (KeepsCall t c s) s (same_row s refl refl refl) path id w
       (same_row (keeping_unknown path w s) refl refl refl) (same_row (keeping_known path id w s) refl refl refl))
 
-  intended_row : (place number token : ℕ) (lane path : List ℕ) (r : Request) → KeepsCall t c s (effect_at place (entry.Intent number token lane path r) s).stack
+  intended_row : (place number token : ℕ) (lane path : List ℕ) (r : Request) → KeepsCall t c s (effect_at place (Entry.Intent number token lane path r) s).stack
   intended_row place number token lane path r =
       let p : Pending = record { token = token; path = path; lane = lane; request = r } in
       heard_row (intending number p s) _ _ (intended_way (KeepsCall t c s) s (same_row s refl refl refl) number p
       (record { working = working; operation = refl; call = c; found = found_still (is_call t) s.ledger (new_call number s.status p ∷ []) c row; lane = refl }))
 
-  same_but : (path : List ℕ) (r : Request) (a : Reply) (u : StackState) → IsLeftBy s path r a u → IsSameBut s u
-  same_but path r a u (same b k) = b
-  same_but path r a u (gone id b n d k) = b
-  same_but path _ _ u (made k id props attrs h b m i j) = b
-
-  answered_row : (place number token : ℕ) (a : Reply) (before after : ℕ) → KeepsCall t c s (effect_at place (entry.Outcome number token a before after) s).stack
+  answered_row : (place number token : ℕ) (a : Reply) (before after : ℕ) → KeepsCall t c s (effect_at place (Entry.Outcome number token a before after) s).stack
   answered_row place number token a before after = by (pending_of token s) refl where
-    by : (o : Option Pending) → pending_of token s ≡ o → KeepsCall t c s (effect_at place (entry.Outcome number token a before after) s).stack
-    by None k = subst (λ o. KeepsCall t c s (heard place (entry.Outcome number token a before after) s (on_stack (replied token a o s))).stack) (sym k) (same_row _ refl refl refl)
+    by : (o : Option Pending) → pending_of token s ≡ o → KeepsCall t c s (effect_at place (Entry.Outcome number token a before after) s).stack
+    by None k = subst (λ o. KeepsCall t c s (heard place (Entry.Outcome number token a before after) s (on_stack (replied token a o s))).stack) (sym k) (same_row _ refl refl refl)
     by (Some p) k =
         let u = answered (is_restore token s) p.path p.request a s in
-        let b = same_but p.path p.request a u (left_by (is_restore token s) p.path p.request a s) in
+        let was = (answered_left (is_restore token s) p.path p.request a s).as_was in
         let at : replied token a (pending_of token s) s ≡ closing token a u = ap (λ o. replied token a o s) k in
-        changed_row (effect_at place (entry.Outcome number token a before after) s).stack (λ d. cond (is_call token d) (answered_call a d) d) (same_where token a)
+        changed_row (effect_at place (Entry.Outcome number token a before after) s).stack (λ d. cond (is_call token d) (answered_call a d) d) (same_where token a)
         (ap is_in_progress (replied_status token a s) ∙ working)
-        (ap (λ (z : StackState). z.operation) at ∙ b.operation) (ap (λ (z : StackState). z.ledger) at ∙ ap (where_call token (answered_call a)) b.ledger)
+        (ap (λ (z : StackState). z.operation) at ∙ ap (λ (z : StackState). z.operation) was) (ap (λ (z : StackState). z.ledger) at ∙ ap (λ (z : StackState). where_call token (answered_call a) z.ledger) was)
 
-  turned_row : (place number : ℕ) (p : Phase) (cause : Option Cause) → KeepsCall t c s (effect_at place (entry.Phase number p cause) s).stack
+  turned_row : (place number : ℕ) (p : Phase) (cause : Option Cause) → KeepsCall t c s (effect_at place (Entry.Phase number p cause) s).stack
   turned_row place number p cause =
-      changed_row (effect_at place (entry.Phase number p cause) s).stack anew (λ d. record { number = refl; token = refl; lane = refl; path = refl; request = refl })
+      changed_row (effect_at place (Entry.Phase number p cause) s).stack anew (λ d. record { number = refl; token = refl; lane = refl; path = refl; request = refl })
       (ap is_in_progress (turned_status place number p s cause) ∙ turned_goes s.status p) (op p) (rows p)
     where
       op : (p : Phase) → (turned_effect p s).stack.operation ≡ s.operation
-      op phase.Clean = refl
+      op Phase.Clean = refl
       op _ = refl
 
       rows : (p : Phase) → (turned_effect p s).stack.ledger ≡ map anew s.ledger
-      rows phase.Clean = refl
+      rows Phase.Clean = refl
       rows _ = refl
 
 module _ (schemas : List Schema) (x : World) (out : List ℕ) (apart : AreApart x) where
   -- a call that is out keeps its row
   keeps_row : (e : Entry) (name : List ℕ) (s : StackState) → stack_for e x ≡ Some (name, s) → MayFollow schemas x out e → (t : ℕ) → is_in_flight out t ≡ true → (c : Call) → is_in_progress s.status ≡ true → call_of t s ≡ Some c
       → KeepsCall t c s (effect_at (x.place + 1) e s).stack
-  keeps_row (entry.Opened epoch lanes) name s mine may t flies c working row = let none : ⊥ = cc in absurd none
-  keeps_row (entry.Begin number n k) name s mine may t flies c working row =
-      absurd (true≢false (sym working ∙ begins_idle k s.status (subst (λ (z : StackState). IsTrue (begins_from k z.status)) (begun_known x number n k name s mine).1 may.1)))
-  keeps_row (entry.ChangeSet number n source rows outputs) name s mine may t flies c working row =
-      let known : known_stack n x ≡ s = ap (λ (o : Found). (unwrap_or o (n, s)).1) mine in
-      absurd (true≢false (sym working ∙ reviews_idle s.status (subst (λ (z : StackState). IsTrue (creates_from z.status || updates_from z.status)) known may.1)))
-  keeps_row (entry.Kept number path id w) name s mine may t flies c working row = kept_row t c s working row (x.place + 1) number path id w
-  keeps_row (entry.Intent number token lane path r) name s mine may t flies c working row = intended_row t c s working row (x.place + 1) number token lane path r
-  keeps_row (entry.Outcome number token a before after) name s mine may t flies c working row = answered_row t c s working row (x.place + 1) number token a before after
-  keeps_row (entry.Phase number p cause) name s mine may t flies c working row = turned_row t c s working row (x.place + 1) number p cause
-  keeps_row (entry.Done number state failed) name s mine may t flies c working row =
-      let (stage, is, m) = may_on schemas x out apart number name s mine (entry.Done number state failed) may in
+  keeps_row (Entry.Opened epoch lanes) name s mine may t flies c working row = let none : ⊥ = cc in absurd none
+  keeps_row (Entry.Begin number n k) name s mine may t flies c working row =
+      let known : known_stack n x ≡ s = ap (λ m. known_stack m x) (beginning_name schemas x out name s number n k mine) ∙ stack_known x apart (Entry.Begin number n k) name s mine in
+      absurd (true≢false (sym working ∙ begins_idle k s.status (subst (λ (z : StackState). IsTrue (begins_from k z.status)) known may.1)))
+  keeps_row (Entry.ChangeSet number n source rows outputs) name s mine may t flies c working row = grind (arith, unwrap_or, true≢false, reviews_idle)
+  keeps_row (Entry.Kept number path id w) name s mine may t flies c working row = kept_row t c s working row (x.place + 1) number path id w
+  keeps_row (Entry.Intent number token lane path r) name s mine may t flies c working row = intended_row t c s working row (x.place + 1) number token lane path r
+  keeps_row (Entry.Outcome number token a before after) name s mine may t flies c working row = answered_row t c s working row (x.place + 1) number token a before after
+  keeps_row (Entry.Phase number p cause) name s mine may t flies c working row = turned_row t c s working row (x.place + 1) number p cause
+  keeps_row (Entry.Done number state failed) name s mine may t flies c working row =
+      let (stage, is, m) = in_stage schemas x out name s (Entry.Done number state failed) number mine may in
       let (i, passed) = found_one (is_call t) s.ledger c row in
       let flying : is_in_flight out c.token ≡ true = ap (is_in_flight out) (sym (eqb-true t c.token passed)) ∙ flies in
       absurd (some_out (calls_in_flight out s) (in_kept (λ (d : Call). is_in_flight out d.token) s.ledger c i flying) m.0)
@@ -171,43 +132,16 @@ module _ (schemas : List Schema) (x : World) (out : List ℕ) (apart : AreApart 
       some_out [] i h = elim i [ ]
       some_out (d ∷ cs) i h = true≢false (sym h)
 
-  -- a stack that is there stays there
-  stays_there : (e : Entry) → is_opening e ≡ false → (name : List ℕ) (s : StackState) → stack_at name x ≡ Some s → (t : StackState) × (stack_at name (world_after x e) ≡ Some t) × BecomesBy x e name s t
-  stays_there e n name s stands =
-      let (t, f, g) = by (stack_for e x) refl in
-      (t, ap (value_at name) (after_stacks x e n) ∙ f, g)
-    where
-      by : (o : Found) → stack_for e x ≡ o → (t : StackState) × (value_at name (put_by x e o) ≡ Some t) × BecomesBy x e name s t
-      by None k = (s, stands, other n (λ t j. (let none : ⊥ = cc in none)))
-      by (Some p) k = at (bytes_eq name p.0) refl where
-        at : (b : Bool) → bytes_eq name p.0 ≡ b → (t : StackState) × (value_at name (put_by x e (Some p)) ≡ Some t) × BecomesBy x e name s t
-        at true q =
-            let is : name ≡ p.0 = (bytes_eq-Decides name p.0).0 q in
-            let known : known_stack name x ≡ p.1 = stack_known x apart e name p.1 (k ∙ ap (λ (m : List ℕ). Some (m, p.1)) (sym is)) in
-            let mine : p.1 ≡ s = sym known ∙ ap (λ (o : Option StackState). unwrap_or o no_stack) stands in (
-              (effect_at (x.place + 1) e s).stack,
-              ap (λ m. value_at m (put_by x e (Some p))) is ∙ put_here p.0 (effect_at (x.place + 1) e p.1).stack x.stacks ∙ ap (λ (z : StackState). Some (effect_at (x.place + 1) e z).stack) mine,
-              own (k ∙ (λ i. Some (sym is i, mine i))),
-            )
-        at false q = (
-          s,
-          put_else name p.0 (effect_at (x.place + 1) e p.1).stack x.stacks q ∙ stands,
-          other n (λ t j. true≢false (sym ((bytes_eq-Decides name p.0).1 (ap (λ (o : Found). (unwrap_or o (name, s)).0) (sym j ∙ k))) ∙ q)),
-        )
-
   pub stays_going : (e : Entry) → is_opening e ≡ false → MayFollow schemas x out e → (l : Lease) → is_in_flight out l.token ≡ true → IsGoing x l → IsGoing (world_after x e) l
-  stays_going e n may l flies g =
-      let t : StackState = (stays_there e n g.name g.stack g.stands).0 in
-      let f : stack_at g.name (world_after x e) ≡ Some t = (stays_there e n g.name g.stack g.stands).1 in
-      let b : BecomesBy x e g.name g.stack t = (stays_there e n g.name g.stack g.stands).2 in
-      by t f b
-    where
-      by : (u : StackState) → stack_at g.name (world_after x e) ≡ Some u → BecomesBy x e g.name g.stack u → IsGoing (world_after x e) l
-      by _ k (own mine) =
-          let c = keeps_row e g.name g.stack mine may l.token flies g.call g.in_progress g.written in
-          record { name = g.name; stack = _; call = c.call; stands = k; in_progress = c.working; number = c.operation ∙ g.number; written = c.found; lane = c.lane ∙ g.lane }
-      by _ k (at_opening o) = absurd (true≢false (sym o ∙ n))
-      by _ k (other m no_one) = record { name = g.name; stack = g.stack; call = g.call; stands = k; in_progress = g.in_progress; number = g.number; written = g.written; lane = g.lane }
+  stays_going e n may l flies g = elim (at_name x e g.name n) [
+    | of_it s mine now ↦
+        let is : s ≡ g.stack = sym (stack_known x apart e g.name s mine) ∙ ap (λ (o : Option StackState). unwrap_or o no_stack) g.stands in
+        let c = keeps_row e g.name g.stack (mine ∙ ap (λ (z : StackState). Some (g.name, z)) is) may l.token flies g.call g.in_progress g.written in
+        let stands : stack_at g.name (world_after x e) ≡ Some (effect_at (x.place + 1) e g.stack).stack = now ∙ ap (λ (z : StackState). Some (effect_at (x.place + 1) e z).stack) is in
+        record { name = g.name; stack = _; call = c.call; stands = stands; in_progress = c.working; number = c.operation ∙ g.number; written = c.found; lane = c.lane ∙ g.lane }
+    | of_another never now ↦
+        record { name = g.name; stack = g.stack; call = g.call; stands = now ∙ g.stands; in_progress = g.in_progress; number = g.number; written = g.written; lane = g.lane }
+  ]
 
 -- a stack that stands is one of all
 pub stands_in : (name : List ℕ) (s : StackState) (ss : List (List ℕ × StackState)) → value_at name ss ≡ Some s → In (name, s) ss
@@ -218,40 +152,29 @@ stands_in name s (q ∷ ss) e = by (bytes_eq name q.0) refl e (stands_in name s 
   by false k g ih = there (ih g)
 
 -- a call that is made again
-pub repeats_as : (token : ℕ) (name : List ℕ) (s : StackState) (p : Pending) (ss : List (List ℕ × StackState)) → value_at name ss ≡ Some s → find (has_token token) s.tokens ≡ Some p
-    → ((q : List ℕ × StackState) → In q ss → q.0 ≢ name → find (has_token token) (q.1).tokens ≡ None) → first_again token ss ≡ Some (lease_for s.operation p)
-repeats_as token name s p [] e f others = absurd (cc)
-repeats_as token name s p (q ∷ ss) e f others = by (bytes_eq name q.0) refl e (λ k. repeats_as token name s p ss k f (λ r i. others r (there i))) where
-  by : (b : Bool) → bytes_eq name q.0 ≡ b → cond b (Some q.1) (value_at name ss) ≡ Some s → (value_at name ss ≡ Some s → first_again token ss ≡ Some (lease_for s.operation p)) → first_again token (q ∷ ss) ≡ Some (lease_for s.operation p)
-  by true k g ih = let same_stack : q.1 ≡ s = cc in
-      ap (λ (z : StackState). option_or (option_map (lease_for z.operation) (find (has_token token) z.tokens)) (first_again token ss)) same_stack ∙ ap (λ o. option_or (option_map (lease_for s.operation) o) (first_again token ss)) f
-  by false k g ih =
-      let other_name : q.0 ≢ name = λ z. true≢false (sym ((bytes_eq-Decides name q.0).1 (sym z)) ∙ k) in
-      ap (λ o. option_or (option_map (lease_for (q.1).operation) o) (first_again token ss)) (others q here other_name) ∙ ih g
-
 pub repeat_going : (x : World) → AllFit x → (name : List ℕ) (s : StackState) (p : Pending) → stack_at name x ≡ Some s → is_in_progress s.status ≡ true → In p s.tokens → IsGoing x (lease_for s.operation p)
 repeat_going x fit name s p stands working i =
     let (c, f, r) = (fit name s stands).rows p i in
     record { name = name; stack = s; call = c; stands = stands; in_progress = working; number = refl; written = f; lane = r.lane }
 
 -- a call that goes out as it is written down
-pub intent_going : (schemas : List Schema) (x : World) (out : List ℕ) → AreApart x → (number token : ℕ) (lane path : List ℕ) (r : Request) → MayFollow schemas x out (entry.Intent number token lane path r) → AllFit x
-    → AllFit (world_after x (entry.Intent number token lane path r)) → IsGoing (world_after x (entry.Intent number token lane path r)) (record { number = number; token = token; lane = lane; request = r; reply = None })
+pub intent_going : (schemas : List Schema) (x : World) (out : List ℕ) → AreApart x → (number token : ℕ) (lane path : List ℕ) (r : Request) → MayFollow schemas x out (Entry.Intent number token lane path r) → AllFit x
+    → AllFit (world_after x (Entry.Intent number token lane path r)) → IsGoing (world_after x (Entry.Intent number token lane path r)) (record { number = number; token = token; lane = lane; request = r; reply = None })
 intent_going schemas x out apart number token lane path r (name, s, stage, at, is, may) fit fits =
     let p : Pending = record { token = token; path = path; lane = lane; request = r } in
-    let s' : StackState = (effect_at (x.place + 1) (entry.Intent number token lane path r) s).stack in
+    let s' : StackState = (effect_at (x.place + 1) (Entry.Intent number token lane path r) s).stack in
     let sent : Sends p s s' = sends (x.place + 1) number p s (none (find (has_token token) s.tokens) refl) in
-    let there_after : stack_at name (world_after x (entry.Intent number token lane path r)) ≡ Some s' =
-    ap (value_at name) (after_stacks x (entry.Intent number token lane path r) refl) ∙ ap (λ o. value_at name (put_by x (entry.Intent number token lane path r) o)) at
-    ∙ put_here name (effect_at (x.place + 1) (entry.Intent number token lane path r) s).stack x.stacks in
+    let there_after : stack_at name (world_after x (Entry.Intent number token lane path r)) ≡ Some s' =
+    ap (value_at name) (after_stacks x (Entry.Intent number token lane path r) refl) ∙ ap (λ o. value_at name (put_by x (Entry.Intent number token lane path r) o)) at
+    ∙ put_here name (effect_at (x.place + 1) (Entry.Intent number token lane path r) s).stack x.stacks in
     let row : (c : Call) × (call_of token s' ≡ Some c) × IsRowOf p c = (fits name s' there_after).rows p (subst (In p) (sym sent.tokens) (in_end p s.tokens)) in
-    let done : IsGoing (world_after x (entry.Intent number token lane path r)) (record { number = number; token = token; lane = lane; request = r; reply = None }) = record {
+    let done : IsGoing (world_after x (Entry.Intent number token lane path r)) (record { number = number; token = token; lane = lane; request = r; reply = None }) = record {
       name = name;
       stack = s';
       call = row.0;
       stands = there_after;
       in_progress = ap is_in_progress sent.status ∙ is_working number x name s at;
-      number = intended_way (λ (u : StackState). u.operation ≡ s.operation) s refl number p refl ∙ number_of schemas x out apart number name s at;
+      number = intended_way (λ (u : StackState). u.operation ≡ s.operation) s refl number p refl ∙ sym (numbered_so schemas x out name s number at);
       written = row.1;
       lane = (row.2).lane;
     } in
@@ -266,8 +189,7 @@ intent_going schemas x out apart number token lane path r (name, s, stage, at, i
 
 -- an entry that is no answer makes nothing new
 plain_new : (x : World) (e : Entry) → IsBegin e ⊎ IsChangeSet e ⊎ IsGranted e → IsNew x e × IsOfItsLane x e
-plain_new x (entry.Outcome number token a before after) h = elim h [ inl z ↦ absurd z | inr z ↦ elim z [ inl u ↦ absurd u | inr u ↦ absurd u ] ]
-plain_new x e h = (tt, tt)
+plain_new x e h = grind arith
 
 -- the calls that are out are among those that count as out
 out_flies : (leases : List Lease) (l : Lease) → In l leases → is_in_flight (map (λ (z : Lease). z.token) leases) l.token ≡ true
@@ -336,10 +258,10 @@ module _ (schemas : List Schema) (es : List Entry) (lanes : List Lane) (leases :
     fewer_sound leases' agrees going = lanes_sound lanes leases' agrees (λ m. refl) h.named h.described going
 
     -- what a call names is held by its stack, at its path
-    names_own : (steady : AreSteady x) (out : List ℕ) (number token : ℕ) (lane path : List ℕ) (r : Request) → MayFollow schemas x out (entry.Intent number token lane path r) → NamesOwn x number path r
+    names_own : (steady : AreSteady x) (out : List ℕ) (number token : ℕ) (lane path : List ℕ) (r : Request) → MayFollow schemas x out (Entry.Intent number token lane path r) → NamesOwn x number path r
     names_own steady out number token lane path r may name s i going n =
-        let (stage, is, m) = may_on schemas x out (h.orderly).apart number name s going (entry.Intent number token lane path r) may in
-        let known = stack_known x (h.orderly).apart (entry.Intent number token lane path r) name s going in
+        let (stage, is, m) = in_stage schemas x out name s (Entry.Intent number token lane path r) number going may in
+        let known = stack_known x (h.orderly).apart (Entry.Intent number token lane path r) name s going in
         let fit : Fits x s = subst (Fits x) known (known_fits x h.fitted name) in
         let (g, j, f, k) = intends_named stage schemas name x s path r i (subst IsSteady known (known_steady x steady name)) m.chosen (names_same r ∙ n) in
         (g, held_one i s g fit.ids j f, k)
@@ -350,10 +272,7 @@ replied_going x token r l g = grind arith
 
 -- an answer is no opening
 pub outcome_new : (lease : Lease) (r : CallEnd) (e : Entry) → IsOutcomeOf lease r e → is_opening e ≡ false
-outcome_new lease (Answered (answer.Success id attrs) before after) e is = ap is_opening is
-outcome_new lease (Answered (answer.Failed c) before after) e is = ap is_opening is
-outcome_new lease (Answered answer.Fault before after) e is = ap is_opening is
-outcome_new lease r e is = absurd is
+outcome_new lease r e is = grind arith
 
 module _ (schemas : List Schema) (life : Life) (steady : AreSteady (world_of life)) (h : IsSoundLife schemas life) where
   sound : IsSound life
@@ -368,42 +287,41 @@ module _ (schemas : List Schema) (life : Life) (steady : AreSteady (world_of lif
       fewer_sound schemas life.entries life.lanes life.leases h [] g.agrees (none_going (world_of life))
   opened_sound epoch lanes end may =
       let g = opened_keeps schemas life epoch lanes end may sound in
-      entry_sound schemas life.entries life.lanes life.leases h steady [] (entry.Opened epoch lanes) may.1 (tt, tt) [] g.agrees g.orderly (none_going (world_after (world_of life) (entry.Opened epoch lanes)))
+      entry_sound schemas life.entries life.lanes life.leases h steady [] (Entry.Opened epoch lanes) may.1 (tt, tt) [] g.agrees g.orderly (none_going (world_after (world_of life) (Entry.Opened epoch lanes)))
 
   -- an entry that hands out nothing, whole or broken
   by_end : (e : Entry) → AreSound schemas (life.entries ++ e ∷ []) (fold_of empty_world (life.entries ++ e ∷ [])) life.lanes life.leases → (end : End) → IsSoundLife schemas (appended end e life)
-  by_end e g BrokenWithout = h
-  by_end e g end = g
+  by_end e g end = grind arith
 
   set_sound : (e : Entry) (end : End) → MayHappen schemas life (ChangeSet e end) → IsSoundLife schemas (life_after life (ChangeSet e end))
-  set_sound (entry.ChangeSet number n source rows outputs) end (closed, is, may) =
-      by_end (entry.ChangeSet number n source rows outputs) (plain_sound schemas life.entries life.lanes life.leases h steady (entry.ChangeSet number n source rows outputs) refl may (tt, tt)
+  set_sound (Entry.ChangeSet number n source rows outputs) end (closed, is, may) =
+      by_end (Entry.ChangeSet number n source rows outputs) (plain_sound schemas life.entries life.lanes life.leases h steady (Entry.ChangeSet number n source rows outputs) refl may (tt, tt)
       (set_holds schemas life.entries (world_of life) life.lanes life.leases h steady [] number n source rows outputs may)) end
   set_sound e end may = absurd may.1
 
   begin_sound : (e : Entry) (end : End) → MayHappen schemas life (Begin e end) → IsSoundLife schemas (life_after life (Begin e end))
-  begin_sound (entry.Begin number n k) end (running, raised, is, may) =
-      by_end (entry.Begin number n k)
-      (plain_sound schemas life.entries life.lanes life.leases h steady (entry.Begin number n k) refl may (tt, tt) (begun_holds schemas life.entries (world_of life) life.lanes life.leases h steady (tokens_out life) number n k may raised))
+  begin_sound (Entry.Begin number n k) end (running, raised, is, may) =
+      by_end (Entry.Begin number n k)
+      (plain_sound schemas life.entries life.lanes life.leases h steady (Entry.Begin number n k) refl may (tt, tt) (begun_holds schemas life.entries (world_of life) life.lanes life.leases h steady (tokens_out life) number n k may raised))
       end
   begin_sound e end may = absurd may.2
 
-  intent_sound : (number token : ℕ) (lane path : List ℕ) (r : Request) (end : End) → MayHappen schemas life (Grant (entry.Intent number token lane path r) end) → IsSoundLife schemas (life_after life (Grant (entry.Intent number token lane path r) end))
+  intent_sound : (number token : ℕ) (lane path : List ℕ) (r : Request) (end : End) → MayHappen schemas life (Grant (Entry.Intent number token lane path r) end) → IsSoundLife schemas (life_after life (Grant (Entry.Intent number token lane path r) end))
   intent_sound number token lane path r end (running, is, may) =
       let own : NamesOwn (world_of life) number path r =
       names_own schemas life.entries life.lanes life.leases h steady (tokens_out life) number token lane path r may in
-      let going : (l : Lease) → In l life.leases → IsGoing (world_after (world_of life) (entry.Intent number token lane path r)) l =
-      still_going schemas life.entries life.lanes life.leases h (entry.Intent number token lane path r) refl may in
-      let fits : AllFit (world_after (world_of life) (entry.Intent number token lane path r)) =
-      fits_kept schemas (world_of life) (tokens_out life) (entry.Intent number token lane path r) may tt tt (h.orderly).apart steady h.fitted in
-      elim end as (λ d. IsSoundLife schemas (life_after life (Grant (entry.Intent number token lane path r) d))) [
+      let going : (l : Lease) → In l life.leases → IsGoing (world_after (world_of life) (Entry.Intent number token lane path r)) l =
+      still_going schemas life.entries life.lanes life.leases h (Entry.Intent number token lane path r) refl may in
+      let fits : AllFit (world_after (world_of life) (Entry.Intent number token lane path r)) =
+      fits_kept schemas (world_of life) (tokens_out life) (Entry.Intent number token lane path r) may tt tt (h.orderly).apart steady h.fitted in
+      elim end as (λ d. IsSoundLife schemas (life_after life (Grant (Entry.Intent number token lane path r) d))) [
         | Whole ↦
             let g = intent_keeps_in schemas life number token lane path r Whole own (running, is, may) sound in
-            entry_sound schemas life.entries life.lanes life.leases h steady (tokens_out life) (entry.Intent number token lane path r) may (tt, tt) _ g.agrees g.orderly
-            (in_more (IsGoing (world_after (world_of life) (entry.Intent number token lane path r))) _ life.leases going (intent_going schemas (world_of life) (tokens_out life) (h.orderly).apart number token lane path r may h.fitted fits))
+            entry_sound schemas life.entries life.lanes life.leases h steady (tokens_out life) (Entry.Intent number token lane path r) may (tt, tt) _ g.agrees g.orderly
+            (in_more (IsGoing (world_after (world_of life) (Entry.Intent number token lane path r))) _ life.leases going (intent_going schemas (world_of life) (tokens_out life) (h.orderly).apart number token lane path r may h.fitted fits))
         | BrokenWith ↦
             let g = intent_keeps_in schemas life number token lane path r BrokenWith own (running, is, may) sound in
-            entry_sound schemas life.entries life.lanes life.leases h steady (tokens_out life) (entry.Intent number token lane path r) may (tt, tt) life.leases g.agrees g.orderly going
+            entry_sound schemas life.entries life.lanes life.leases h steady (tokens_out life) (Entry.Intent number token lane path r) may (tt, tt) life.leases g.agrees g.orderly going
         | BrokenWithout ↦ h
       ]
 
@@ -413,29 +331,30 @@ module _ (schemas : List Schema) (life : Life) (steady : AreSteady (world_of lif
   granted_end e is g end = subst (IsSoundLife schemas) (sym (is end)) (by_end e g end)
 
   same_granted : (e : Entry) → (granted_by Whole e (appended Whole e life) ≡ appended Whole e life) → (end : End) → life_after life (Grant e end) ≡ appended end e life
-  same_granted e k Whole = k
-  same_granted e k _ = refl
+  same_granted e k end = grind arith
+
+  -- one that changes nothing of the account
+  quiet_sound : (e : Entry) → is_opening e ≡ false → MayFollow schemas (world_of life) (tokens_out life) e → account_with e life.entries (world_of life) ≡ account_of life.entries (world_of life)
+      → IsOrderly (world_after (world_of life) e) → granted_by Whole e (appended Whole e life) ≡ appended Whole e life → IsNew (world_of life) e × IsOfItsLane (world_of life) e
+      → (end : End) → IsSoundLife schemas (life_after life (Grant e end))
+  quiet_sound e n may moves orderly whole new =
+      granted_end e (same_granted e whole) (plain_sound schemas life.entries life.lanes life.leases h steady e n may new
+      (subst (λ b. Agree b (lanes_of life.lanes) (map lease_of life.leases)) (sym moves) h.agrees, orderly))
 
   grant_sound : (e : Entry) (end : End) → MayHappen schemas life (Grant e end) → IsSoundLife schemas (life_after life (Grant e end))
-  grant_sound (entry.Intent number token lane path r) end may = intent_sound number token lane path r end may
-  grant_sound (entry.Kept number path physical w) end (running, is, may) =
-      granted_end (entry.Kept number path physical w) (same_granted (entry.Kept number path physical w) refl)
-      (plain_sound schemas life.entries life.lanes life.leases h steady (entry.Kept number path physical w) refl may (tt, tt) (kept_holds schemas life.entries (world_of life) life.lanes life.leases h steady (tokens_out life) number path physical w may))
+  grant_sound (Entry.Intent number token lane path r) end may = intent_sound number token lane path r end may
+  grant_sound (Entry.Kept number path physical w) end (running, is, may) =
+      granted_end (Entry.Kept number path physical w) (same_granted (Entry.Kept number path physical w) refl)
+      (plain_sound schemas life.entries life.lanes life.leases h steady (Entry.Kept number path physical w) refl may (tt, tt) (kept_holds schemas life.entries (world_of life) life.lanes life.leases h steady (tokens_out life) number path physical w may))
       end
-  grant_sound (entry.Phase number p c) end (running, is, may) =
-      granted_end (entry.Phase number p c) (same_granted (entry.Phase number p c) refl)
-      (plain_sound schemas life.entries life.lanes life.leases h steady (entry.Phase number p c) refl may (tt, tt) (
-        subst (λ b. Agree b (lanes_of life.lanes) (map lease_of life.leases)) (sym (phase_moves life.entries (world_of life) may.0 may.1 number p c (h.orderly).own may.3)) h.agrees,
-        plain_orderly schemas (world_of life) (tokens_out life) h.orderly steady (entry.Phase number p c) may.0 may.1 refl may.3 may tt tt (λ i. alike (ap (has_leftover i) (phase_quiet ((world_of life).place + 1) number p c may.1).leftovers)),
-      ))
-      end
-  grant_sound (entry.Done number state failed) end (running, is, may) =
-      granted_end (entry.Done number state failed) (same_granted (entry.Done number state failed) refl)
-      (plain_sound schemas life.entries life.lanes life.leases h steady (entry.Done number state failed) refl may (tt, tt) (
-        subst (λ b. Agree b (lanes_of life.lanes) (map lease_of life.leases)) (sym (done_moves life.entries (world_of life) may.0 may.1 number state failed (h.orderly).own may.3)) h.agrees,
-        plain_orderly schemas (world_of life) (tokens_out life) h.orderly steady (entry.Done number state failed) may.0 may.1 refl may.3 may tt tt (λ i. alike (ap (has_leftover i) (done_quiet ((world_of life).place + 1) number state failed may.1).leftovers)),
-      ))
-      end
+  grant_sound (Entry.Phase number p c) end (running, is, may) =
+      quiet_sound (Entry.Phase number p c) refl may (phase_moves life.entries (world_of life) may.0 may.1 number p c (h.orderly).own may.3)
+      (plain_orderly schemas (world_of life) (tokens_out life) h.orderly steady (Entry.Phase number p c) may.0 may.1 refl may.3 may tt tt
+      (λ i. alike (ap (has_leftover i) (phase_quiet ((world_of life).place + 1) number p c may.1).leftovers))) refl (tt, tt) end
+  grant_sound (Entry.Done number state failed) end (running, is, may) =
+      quiet_sound (Entry.Done number state failed) refl may (done_moves life.entries (world_of life) may.0 may.1 number state failed (h.orderly).own may.3)
+      (plain_orderly schemas (world_of life) (tokens_out life) h.orderly steady (Entry.Done number state failed) may.0 may.1 refl may.3 may tt tt
+      (λ i. alike (ap (has_leftover i) (done_quiet ((world_of life).place + 1) number state failed may.1).leftovers))) refl (tt, tt) end
   grant_sound e end may = absurd may.1
 
   -- a lease that comes back
@@ -461,28 +380,14 @@ module _ (schemas : List Schema) (life : Life) (steady : AreSteady (world_of lif
   -- a call that is made again
   repeat_sound : (token : ℕ) → MayHappen schemas life (Repeat token) → IsSoundLife schemas (life_after life (Repeat token))
   repeat_sound token (running, name, s, stage, p, m) =
-      let found : find (has_token token) s.tokens ≡ Some p =
-      let (q, f) = is_found_in (has_token token) s.tokens p open_ (eq-eqb token p.token (sym m.of_token)) in
-      let (i, k) = found_one (has_token token) s.tokens q f in
-      f ∙ ap Some (one_number (λ (z : Pending). z.token) s.tokens (h.fitted name s m.stands).tokens q p i open_ (sym (eqb-true token q.token k) ∙ sym m.of_token)) in
-      let others : (q : List ℕ × StackState) → In q (world_of life).stacks → q.0 ≢ name → find (has_token token) (q.1).tokens ≡ None =
-      λ q i n. ((h.orderly).own).tokens (name, s) q token p (stands_in name s (world_of life).stacks m.stands) i (λ e. n (sym e)) found in
-      let again : first_again token (world_of life).stacks ≡ Some (lease_for s.operation p) =
-      repeats_as token name s p (world_of life).stacks m.stands found others in
-      ended (first_again token (world_of life).stacks) again (repeat_keeps schemas life token (running, name, s, stage, p, m) sound).agrees
-    where
-      open_ : In p s.tokens
-      open_ = (may_again schemas name (world_of life) (tokens_out life) s stage p m.may).0
-
-      working : is_in_progress s.status ≡ true
-      working = ap is_some m.at_stage
-
-      ended : (o : Option Lease) → o ≡ Some (lease_for s.operation p) → AgreesIn (repeated o life) → IsSoundLife schemas (repeated o life)
-      ended None k g = absurd (cc)
-      ended (Some l) k g =
-          let same : l ≡ lease_for s.operation p = cc in
-          fewer_sound schemas life.entries life.lanes life.leases h (life.leases ++ l ∷ []) g
-          (in_more (IsGoing (world_of life)) l life.leases h.going (subst (IsGoing (world_of life)) (sym same) (repeat_going (world_of life) h.fitted name s p m.stands working open_)))
+      let (q, f) = is_found_in (has_token token) s.tokens p (may_again schemas name (world_of life) (tokens_out life) s stage p m.may).0 (eq-eqb token p.token (sym m.of_token)) in
+      let open_ : In q s.tokens = (found_one (has_token token) s.tokens q f).0 in
+      let again : first_again token (world_of life).stacks ≡ Some (lease_for s.operation q) =
+      again_is (world_of life) name s (stands_on (world_of life) name s (h.orderly).own m.stands) token q f in
+      let going : IsGoing (world_of life) (lease_for s.operation q) = repeat_going (world_of life) h.fitted name s q m.stands (ap is_some m.at_stage) open_ in
+      subst (λ o. AgreesIn (repeated o life) → IsSoundLife schemas (repeated o life)) (sym again)
+      (λ g. fewer_sound schemas life.entries life.lanes life.leases h (life.leases ++ lease_for s.operation q ∷ []) g (in_more (IsGoing (world_of life)) (lease_for s.operation q) life.leases h.going going))
+      (repeat_keeps schemas life token (running, name, s, stage, p, m) sound).agrees
 
   -- a lane that changes
   changed_sound : (n : List ℕ) (f : FencedLane → FencedLane) (leases' : List Lease) → Agree (account_of life.entries (world_of life)) (lanes_of (map (changed n f) life.lanes)) (map lease_of leases')

@@ -15,6 +15,7 @@ pub mod Statuses
 pub mod HidSeen
 pub mod HidProps
 pub mod HidCalls
+pub mod Rows
 pub mod AdvLists
 pub mod AdvSteps
 pub mod BackLists
@@ -26,9 +27,11 @@ pub mod BackLaws
 pub mod BackSkips
 pub mod FitKept
 pub mod Entries
+pub mod Stacks
 pub mod Outcomes
 pub mod Moving
 pub mod WholeKept
+pub mod RowsBooked
 pub mod BlameStays
 pub mod RowsWritten
 pub mod Settling

@@ -1,21 +1,14 @@
 -- What is left over of two stacks has no known id in common.
-use Rattle.std.proofs.Common.{◌≡◌, ◌≢◌, ℕ, List, ◌&&◌, not, Bool, Option, true, false, Some, None, sym, ap, ◌∙◌, true≢false, refl}
-use Rattle.std.specs.{List.list_any, Option.unwrap_or, Str.bytes_eq}
-use Rattle.cf_effect.specs.{Words.unknown_id, World.StackState, World.World, World.known_stack, World.no_stack, World.stack_at}
-use Rattle.cf_effect.specs.{Fold.world_after, declared.held.Held.Held, declared.held.Leftover.Leftover}
-use Rattle.cf_plan.specs.Forward.{In}
-use Rattle.cf_plan.proofs.RunLists.{any_of}
-use Rattle.cf_agree.specs.Account.Role.{Stranger}
+use Rattle.std.proofs.Common.{arith, ◌≡◌, ◌≢◌, ℕ, List, ◌&&◌, not, Bool, Option, true, false, Some, None, sym, ap, ◌∙◌, true≢false, refl}
+use Rattle.cf_core.proofs.Words.{AreOwn, Held, In, IsWritten, LeavesApart, LeavesApartStays, Leftover, StackState, Stranger, World, bytes_eq, has_known_id, has_leftover, held_in, known_stack, list_any, no_stack, role_found, role_on, stack_at, unknown_id, world_after}
+use Rattle.cf_core.proofs.Lemmas.{any_of}
 use Rattle.cf_agree.proofs.Words.{same_bytes}
-use Rattle.cf_core.specs.{AccountOf.has_leftover, AccountOf.held_in, AccountOf.role_found, AccountOf.role_on, OneStack.AreOwn}
-use Rattle.cf_core.specs.{Fits.IsWritten, More.LeavesApart, More.LeavesApartStays, More.has_known_id}
-use Rattle.cf_core.proofs.{Entries.blank_role, Entries.held_role, KeepSound.stands_in, Written.written_is_to}
 use Rattle.cf_core.proofs.MoreStacks.{FromLeft, was, of_held, unknown, from_left, left_move}
+use Rattle.cf_core.proofs.{KeepSound.stands_in, Moving.written_is_to, Stacks.blank_role, Stacks.held_role}
+use Rattle.std.specs.Option.{unwrap_or}
 
 stranger_left : (name : List ℕ) (o : Option Held) (b : Bool) → role_found name o b ≡ Stranger → b ≡ false
-stranger_left name None true e = let no : ⊥ = cc in absurd no
-stranger_left name None false e = refl
-stranger_left name (Some h) b e = let no : ⊥ = cc in absurd no
+stranger_left name o b e = grind arith
 
 module _ (x : World) (own : AreOwn x.stacks) where
   -- what one stack holds is nothing to another one

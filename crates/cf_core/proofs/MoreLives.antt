@@ -1,36 +1,11 @@
 -- In a life no two calls that are out are of one token, and no lane settles a token twice.
-use Rattle.std.proofs.Common.{◌≡◌, inl, inr, ℕ, ◌+◌, ◌≤◌, ◌==◌, List, [], ◌∷◌, ◌++◌, Bool, true, false, not, Option, Some, None, map, filter, find, refl, sym, ap, subst, ◌∙◌, true≢false, cond, arith}
-use Rattle.std.specs.{Option.option_map, Option.option_or, Str.bytes_eq}
-use Rattle.std.proofs.lemmas.Bool.{eq-eqb, eqb-true, ne_eqb}
-use Rattle.cf_tree.specs.{Named.all_differ, declared.request.Answer.Answer, declared.request.Request.Request}
-use Rattle.cf_tree.specs.declared.request.Answer.TheVariants as answer
-use Rattle.cf_handler.specs.declared.{settled.Settled.Settled, settled.Settlement.Settlement}
-use Rattle.cf_handler.specs.declared.settled.Settlement.TheVariants as settlement
-use Rattle.cf_handler.specs.Fence.{CallMove, FencedLane, Flying, LateMove, Left, late_by, left_by, raised_to, settled_late}
-use Rattle.cf_handler.specs.{Lane.LaneState, Lane.settlement_of, Move.LaneMove, Move.SettlesBy}
-use Rattle.cf_entry.specs.declared.entry.Entry.{Entry}
-use Rattle.cf_entry.specs.declared.entry.Entry.TheVariants as entry
-use Rattle.cf_schema.specs.declared.described.Schema.{Schema}
-use Rattle.cf_effect.specs.declared.held.Pending.{Pending}
-use Rattle.cf_effect.specs.{Calls.is_call, Words.has_token}
-use Rattle.cf_plan.specs.{Follow.is_in_flight, Forward.In, Forward.here, Forward.there, Lanes.Lane, Lanes.lane_at}
-use Rattle.cf_plan.specs.Life.{Answered, CallEnd, End, Event, Lease, Life, MayHappen, MayLeave, Stale, Whole, acted, appended, changed, first_again, granted, lease_at, lease_for, life_after, repeated, replied_to, replying, tokens_out, with_lease, world_of}
-use Rattle.cf_plan.specs.Life as life
-use Rattle.cf_plan.proofs.{CreatedEnd.in_changed, CreatedStays.found_one, RunLists.any_of}
+use Rattle.std.proofs.Common.{◌≡◌, inl, inr, ℕ, ◌+◌, ◌≤◌, ◌==◌, List, [], ◌∷◌, ◌++◌, Bool, true, false, not, Option, Some, None, map, filter, refl, sym, ap, subst, ◌∙◌, true≢false, cond, arith}
+use Rattle.cf_core.proofs.Words.{Answer, Answered, CallEnd, CallMove, End, Entry, Event, FencedLane, Flying, In, IsSoundLife, Lane, LaneMove, LaneState, LateMove, Lease, LeasesOnce, LeasesOnceStays, Left, Life, MayHappen, MayLeave, Request, Schema, Settled, Settlement, SettlesBy, SettlesOnce, SettlesOnceStays, Stale, StartIsOnce, Whole, acted, all_differ, appended, bytes_eq, changed, first_again, granted, has_token, here, is_call, is_in_flight, lane_at, late_by, lease_for, left_by, life_after, raised_to, repeated, replied_to, settled_late, settlement_of, there, tokens_out, with_lease, world_of}
+use Rattle.cf_core.proofs.Lemmas.{any_of, differ_end, differ_less, eq-eqb, eqb-true, found_one, in_changed, into_mapped, is_found_in, ne_eqb, one_id}
 use Rattle.cf_agree.proofs.Words.{bytes_same}
-use Rattle.cf_core.specs.{AccountOf.Named, More.LeasesOnce, More.LeasesOnceStays, More.SettlesOnce, More.SettlesOnceStays, More.StartIsOnce}
-use Rattle.cf_core.specs.SoundLife.{IsSoundLife}
-use Rattle.cf_core.proofs.{FitKept.into_mapped, FitKept.one_id, Outcomes.differ_end, Outcomes.differ_less, Outcomes.token_of}
-use Rattle.cf_core.proofs.Settling.{may_again}
-
--- the lease of a call that goes out again is of its token
-again_token : (token : ℕ) (ss : Named) (l : Lease) → first_again token ss ≡ Some l → l.token ≡ token
-again_token token [] l e = let no : ⊥ = cc in absurd no
-again_token token (s ∷ ss) l e = by (find (has_token token) (s.1).tokens) refl e (again_token token ss l) where
-  by : (q : Option Pending) → find (has_token token) (s.1).tokens ≡ q → option_or (option_map (lease_for (s.1).operation) q) (first_again token ss) ≡ Some l
-      → (first_again token ss ≡ Some l → l.token ≡ token) → l.token ≡ token
-  by None k f ih = ih f
-  by (Some p) k f ih = let one : lease_for (s.1).operation p ≡ l = cc in ap (λ (z : Lease). z.token) (sym one) ∙ sym (token_of token (s.1).tokens p k)
+use Rattle.cf_core.proofs.{Outcomes.token_of, Settling.again_is, Settling.may_again, Stacks.stands_on}
+use Rattle.cf_plan.specs.Life.{replying}
+use Rattle.cf_plan.specs.Life as life
 
 tokens_replied : (t : ℕ) (r : CallEnd) (ls : List Lease) → map (λ (l : Lease). l.token) (map (replying t r) ls) ≡ map (λ (l : Lease). l.token) ls
 tokens_replied t r [] = refl
@@ -41,8 +16,7 @@ differ f xs = all_differ ◌==◌ (map f xs)
 
 -- an append changes neither lanes nor leases
 appended_same : (end : End) (e : Entry) (m : Life) → ((appended end e m).leases ≡ m.leases) × ((appended end e m).lanes ≡ m.lanes)
-appended_same Whole e m = (refl, refl)
-appended_same _ e m = (refl, refl)
+appended_same end e m = grind arith
 
 above : (a n : ℕ) → a ≤ n → a ≡ n + 1 → ⊥
 above a n h e = omega arith
@@ -62,32 +36,33 @@ module _ (schemas : List Schema) (l : Life) (h : IsSoundLife schemas l) (once : 
   less token = differ_less ◌==◌ (λ (k : Lease). k.token) (λ (k : Lease). not (token == k.token)) l.leases once
 
   grants : (end : End) (e : Entry) → MayHappen schemas l (life.Grant e end) → LeasesOnce (granted end e (appended end e l))
-  grants Whole (entry.Intent number token lane path r) (running, is, may) =
+  grants Whole (Entry.Intent number token lane path r) (running, is, may) =
       let (n, s, stage, found, at, m) = may in
       one_more (record { number = number; token = token; lane = lane; request = r; reply = None })
       (λ k i same. above k.token (world_of l).token (below k i) (same ∙ m.next))
   grants end e may = once
 
-  repeats : (token : ℕ) → MayHappen schemas l (life.Repeat token) → (o : Option Lease) → first_again token (world_of l).stacks ≡ o → LeasesOnce (repeated o l)
-  repeats token may None e = once
-  repeats token (running, name, s, stage, p, m) (Some lease) e =
-      let home : is_in_flight (tokens_out l) token ≡ false = ap (is_in_flight (tokens_out l)) (sym m.of_token) ∙ (may_again schemas name (world_of l) (tokens_out l) s stage p m.may).1 in
-      let out : (k : Lease) → In k l.leases → token ≡ k.token → is_in_flight (tokens_out l) token ≡ true = λ k i same. any_of (λ t. token == t) (tokens_out l) k.token (into_mapped (λ (z : Lease). z.token) l.leases k i) (eq-eqb token k.token same) in
-      one_more lease (λ k i same. true≢false (sym (out k i (sym (again_token token (world_of l).stacks lease e) ∙ sym same)) ∙ home))
+  repeats : (token : ℕ) → MayHappen schemas l (life.Repeat token) → LeasesOnce (repeated (first_again token (world_of l).stacks) l)
+  repeats token (running, name, s, stage, p, m) =
+      let is = may_again schemas name (world_of l) (tokens_out l) s stage p m.may in
+      let (q, f) = is_found_in (has_token token) s.tokens p is.0 (eq-eqb token p.token (sym m.of_token)) in
+      let home : is_in_flight (tokens_out l) token ≡ false = ap (is_in_flight (tokens_out l)) (sym m.of_token) ∙ is.1 in
+      let none : (k : Lease) → In k l.leases → k.token ≡ q.token → ⊥ =
+      λ k i same. true≢false (sym (any_of (λ t. token == t) (tokens_out l) k.token (into_mapped (λ (z : Lease). z.token) l.leases k i)
+      (eq-eqb token k.token (token_of token s.tokens q f ∙ sym same))) ∙ home) in
+      subst (λ o. LeasesOnce (repeated o l)) (sym (again_is (world_of l) name s (stands_on (world_of l) name s h.orderly.own m.stands) token q f))
+      (one_more (lease_for s.operation q) none)
 
   leases_after : (ev : Event) → MayHappen schemas l ev → LeasesOnce (life_after l ev)
   leases_after (life.Opened epoch lanes end) may =
-      ap (λ ls. differ (λ (k : Lease). k.token) ls) (appended_same end (entry.Opened epoch lanes) (record l { leases = []; is_open = true; has_granted = false; is_stopped = false })).0
+      ap (λ ls. differ (λ (k : Lease). k.token) ls) (appended_same end (Entry.Opened epoch lanes) (record l { leases = []; is_open = true; has_granted = false; is_stopped = false })).0
   leases_after (life.ChangeSet e end) may = ap (λ ls. differ (λ (k : Lease). k.token) ls) (appended_same end e l).0 ∙ once
   leases_after (life.Begin e end) may = ap (λ ls. differ (λ (k : Lease). k.token) ls) (appended_same end e l).0 ∙ once
   leases_after (life.Grant e end) may = grants end e may
   leases_after (life.Settle token e end) may =
       ap (λ ls. differ (λ (k : Lease). k.token) (filter (λ (k : Lease). not (token == k.token)) ls)) (appended_same end e l).0 ∙ less token
-  leases_after (life.Repeat token) may = repeats token may (first_again token (world_of l).stacks) refl
-  leases_after (life.Act token reply left) may = by (lease_at token l) where
-    by : (o : Option Lease) → LeasesOnce (replied_to token reply (acted left o l))
-    by None = ap (all_differ ◌==◌) (tokens_replied token reply l.leases) ∙ once
-    by (Some k) = ap (all_differ ◌==◌) (tokens_replied token reply l.leases) ∙ once
+  leases_after (life.Repeat token) may = repeats token may
+  leases_after (life.Act token reply left) may = grind (arith, tokens_replied)
   leases_after (life.Raise name a moved before counted) may = grind arith
   leases_after (life.Park token) may = less token
   leases_after life.Crash may = refl
@@ -113,21 +88,17 @@ settled_by name a b token r s once (Some earlier) e m = subst Once (sym m.1) onc
 settled_by name a b token r s once None e m = subst Once (sym m.1) (settles_new a (record { token = token; request = r; settlement = s }) once e)
 
 moved_once : (name : List ℕ) (a b : LaneState) (token : ℕ) (r : Request) (x : Answer) → Once a → LaneMove name a b token r x → Once b
-moved_once name a b token r (answer.Success physical attrs) once m = settled_by name a b token r (settlement.Success physical attrs) once (settlement_of token a.settled) refl m
-moved_once name a b token r (answer.Failed code) once m = settled_by name a b token r (settlement.Failed code) once (settlement_of token a.settled) refl m
-moved_once name a b token r answer.Fault once (inl same) = subst Once (sym same) once
-moved_once name a b token r answer.Fault once (inr (s, none, m)) = settled_by name a b token r s once (settlement_of token a.settled) refl m
-moved_once name a b token r answer.NoMemory once m = subst Once (sym m) once
+moved_once name a b token r x once m = grind (arith, settled_by)
 
 abbrev OnceOn : FencedLane → Type 0
 OnceOn f = Once f.state
 
 called_once : (name : List ℕ) (f g : FencedLane) (epoch token : ℕ) (r : Request) (x : Answer) → OnceOn f → CallMove name f g epoch token r x → OnceOn g
-called_once name f g epoch token r (answer.Success physical attrs) once (le, (b, m, e)) = subst OnceOn (sym e) (moved_once name f.state b token r (answer.Success physical attrs) once m)
-called_once name f g epoch token r (answer.Failed code) once (le, (b, m, e)) = subst OnceOn (sym e) (moved_once name f.state b token r (answer.Failed code) once m)
-called_once name f g epoch token r answer.Fault once (le, inl (b, m, e)) = subst OnceOn (sym e) (moved_once name f.state b token r answer.Fault once m)
-called_once name f g epoch token r answer.Fault once (le, inr (none, e)) = subst OnceOn (sym e) once
-called_once name f g epoch token r answer.NoMemory once m = subst OnceOn (sym m) once
+called_once name f g epoch token r (Answer.Success physical attrs) once (le, (b, m, e)) = subst OnceOn (sym e) (moved_once name f.state b token r (Answer.Success physical attrs) once m)
+called_once name f g epoch token r (Answer.Failed code) once (le, (b, m, e)) = subst OnceOn (sym e) (moved_once name f.state b token r (Answer.Failed code) once m)
+called_once name f g epoch token r Answer.Fault once (le, inl (b, m, e)) = subst OnceOn (sym e) (moved_once name f.state b token r Answer.Fault once m)
+called_once name f g epoch token r Answer.Fault once (le, inr (none, e)) = subst OnceOn (sym e) once
+called_once name f g epoch token r Answer.NoMemory once m = subst OnceOn (sym m) once
 
 late_once : (name : List ℕ) (f g : FencedLane) (place : ℕ) (s : Settlement) → OnceOn f → LateMove name f g place s → OnceOn (late_by place s f)
 late_once name f g place s once m =
@@ -166,7 +137,7 @@ module _ (schemas : List Schema) (l : Life) (h : IsSoundLife schemas l) (once : 
 
   settles_after : (ev : Event) → MayHappen schemas l ev → SettlesOnce (life_after l ev)
   settles_after (life.Opened epoch lanes end) may =
-      same_lanes (appended_same end (entry.Opened epoch lanes) (record l { leases = []; is_open = true; has_granted = false; is_stopped = false })).1
+      same_lanes (appended_same end (Entry.Opened epoch lanes) (record l { leases = []; is_open = true; has_granted = false; is_stopped = false })).1
   settles_after (life.ChangeSet e end) may = same_lanes (appended_same end e l).1
   settles_after (life.Begin e end) may = same_lanes (appended_same end e l).1
   settles_after (life.Grant e end) may = grind arith
@@ -186,7 +157,4 @@ pub settles_once_stays : SettlesOnceStays
 settles_once_stays schemas l ev may h once = settles_after schemas l h once ev may
 
 pub start_is_once : StartIsOnce
-start_is_once schemas l s = (
-  ap (λ (ls : List Lease). all_differ ◌==◌ (map (λ (k : Lease). k.token) ls)) s.no_leases,
-  λ k i. ap (λ (ss : List Settled). all_differ ◌==◌ (map (λ (z : Settled). z.token) ss)) (s.untouched k i).0,
-)
+start_is_once schemas l s = grind arith

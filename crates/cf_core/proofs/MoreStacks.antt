@@ -1,29 +1,10 @@
 -- What completed is what was begun, what was given up is listed, and nothing is left over twice.
-use Rattle.std.proofs.Common.{arith, ◌≡◌, ◌⊎◌, inl, inr, ℕ, ◌+◌, List, [], ◌∷◌, ◌++◌, Option, Bool, true, false, not, ◌&&◌, Some, None, refl, sym, ap, subst, ◌∙◌, true≢false, map, filter, cond}
-use Rattle.std.specs.{Cmp.second_so, List.list_any, Str.bytes_eq}
-use Rattle.std.proofs.lemmas.{List.Elements.filter-append, List.append-nil}
-use Rattle.cf_tree.specs.Named.{all_differ}
-use Rattle.cf_entry.specs.declared.{entry.Begun.Begun, entry.Entry.Entry, entry.Reply.Reply, status.Status.Status, turn.Phase.Phase}
-use Rattle.cf_entry.specs.declared.entry.Entry.TheVariants as entry
-use Rattle.cf_entry.specs.declared.entry.Begun.TheVariants as begin
-use Rattle.cf_entry.specs.declared.status.Status.TheVariants as status
-use Rattle.cf_entry.specs.declared.turn.Phase.TheVariants as phase
-use Rattle.cf_entry.specs.declared.turn.Why.{Why}
-use Rattle.cf_schema.specs.declared.described.Schema.{Schema}
-use Rattle.cf_effect.specs.declared.{held.GivenUp.GivenUp, held.Held.Held, held.Leftover.Leftover, held.Pending.Pending}
-use Rattle.cf_effect.specs.World.{StackState, World}
-use Rattle.cf_effect.specs.Words.{has_physical, is_create_at, is_created, pending_of, resources_of, unknown_id}
-use Rattle.cf_effect.specs.{Begin.given_up, Begin.lost_create, Begin.skipped_creates, Calls.is_restore, Fold.effect_of}
-use Rattle.cf_effect.specs.{End.ended_effect, End.turned_effect, Status.Stage, Status.begun, Status.reviewed as reviewed_as, Status.turned}
-use Rattle.cf_effect.specs.Reply.{intending, keeping, keeping_known, keeping_unknown, replied, replying}
-use Rattle.cf_plan.specs.{Follow.EndsAs, Follow.MayFollowIn, Forward.In, Forward.here, Forward.there}
-use Rattle.cf_plan.proofs.{BlameMade.answered_left, CreatedRight.in_filter, Members.in_any}
-use Rattle.cf_plan.proofs.{CreatedEnd.in_changed, RunLists.any_of, RunLists.in_back, RunLists.in_either, RunLists.in_front, RunLists.in_one}
+use Rattle.std.proofs.Common.{arith, ◌≡◌, ◌⊎◌, inl, inr, ℕ, ◌+◌, List, [], ◌∷◌, ◌++◌, Option, Bool, true, false, not, ◌&&◌, Some, refl, sym, ap, subst, ◌∙◌, true≢false, map, filter, cond}
+use Rattle.cf_core.proofs.Words.{Begun, CompletesBegun, CompletesBegunStays, EndsAs, Entry, GivenUp, Held, In, IsOnce, IsTo, LeavesOnce, LeavesOnceStays, Leftover, ListsGivenUp, ListsGivenUpStays, MayFollowIn, Pending, Phase, Reply, Schema, StackState, Stage, Status, Why, World, all_differ, begins, bytes_eq, effect_of, ended_effect, given_up, has_completed, has_known_id, has_physical, held_in, here, intending, is_create_at, is_created, keeping, keeping_known, keeping_unknown, list_any, lost_create, opened, pending_of, replied, replying, resources_of, reviewed as reviewed_as, second_so, skipped_creates, step, there, turned, turned_effect, unknown_id}
+use Rattle.cf_core.proofs.Lemmas.{answered_left, any_of, append-nil, differ_end, filter-append, in_any, in_back, in_changed, in_either, in_filter, in_front, in_one, into_mapped, none_false}
 use Rattle.cf_agree.proofs.Words.{bytes_same, same_bytes}
-use Rattle.cf_core.specs.{AccountOf.held_in, Written.IsTo, Written.begins, Written.opened, Written.other, Written.reviewed, Written.step}
-use Rattle.cf_core.specs.More.{CompletesBegun, CompletesBegunStays, LeavesOnce, LeavesOnceStays, ListsGivenUp, ListsGivenUpStays, has_completed, has_known_id}
-use Rattle.cf_core.specs.OneStack.{IsOnce}
-use Rattle.cf_core.proofs.{BeginEvents.held_of, FitKept.into_mapped, Outcomes.differ_end, Written.written_is_to}
+use Rattle.cf_core.proofs.{BeginEvents.held_of, Moving.written_is_to}
+use Rattle.cf_core.specs.Written.{other, reviewed}
 
 -- What an entry leaves of the lists of what is left over and given up: nothing changes, a resource of the stack is left over, or creates
 -- are given up, each of which is left over under no known id.
@@ -49,12 +30,7 @@ module _ (s : StackState) where
   intended number p = grind arith
 
   replied_rest : (token : ℕ) (a : Reply) (o : Option Pending) → IsRest s (replied token a o s) × LeftBy (replied token a o s)
-  replied_rest token a None = (record { status = refl; source = refl; going = refl }, same refl refl)
-  replied_rest token a (Some p) =
-      let e = (answered_left (is_restore token s) p.path p.request a s).as_was in (
-        record { status = ap (λ (t : StackState). t.status) e; source = ap (λ (t : StackState). t.source) e; going = ap (λ (t : StackState). t.going) e },
-        same (ap (λ (t : StackState). t.leftovers) e) (ap (λ (t : StackState). t.abandoned) e),
-      )
+  replied_rest token a o = grind (arith, answered_left)
 
   kept : (path physical : List ℕ) (w : Why) → IsRest s (keeping path physical w s) × LeftBy (keeping path physical w s)
   kept path physical w = by (bytes_eq physical []) (list_any (is_create_at path) s.tokens) (list_any (has_physical physical) (resources_of s)) refl where
@@ -73,43 +49,37 @@ module _ (s : StackState) where
     by false c false e = (record { status = refl; source = refl; going = refl }, same refl refl)
 
   turned_left : (p : Phase) → LeftBy (turned_effect p s).stack
-  turned_left phase.Clean = same refl refl
-  turned_left _ = same refl refl
+  turned_left p = grind arith
 
   ended_left : (state : Status) → LeftBy (ended_effect state s).stack
-  ended_left status.CreateComplete = same refl refl
-  ended_left state = same refl refl
+  ended_left state = grind arith
 
-  begun_left : (number : ℕ) (name : List ℕ) (k : Begun) → LeftBy (effect_of (entry.Begin number name k) s).stack
-  begun_left number name (begin.Continue paths) =
+  begun_left : (number : ℕ) (name : List ℕ) (k : Begun) → LeftBy (effect_of (Entry.Begin number name k) s).stack
+  begun_left number name (Begun.Continue paths) =
       let ps = skipped_creates paths s.tokens in
       lost (map lost_create ps) ps refl refl (λ p i. (lost_create p, into_mapped lost_create ps p i, refl, refl))
       (λ l i. ap (λ (z : Leftover). z.physical) (sym (in_changed lost_create ps l i).same))
   begun_left number name _ = same refl refl
 
   entry_left : (e : Entry) → LeftBy (effect_of e s).stack
-  entry_left (entry.Begin number n k) = begun_left number n k
-  entry_left (entry.Kept number path physical w) = (kept path physical w).1
-  entry_left (entry.Intent number token lane path r) = (intended number (record { token = token; path = path; lane = lane; request = r })).1
-  entry_left (entry.Outcome number token a before after) = (replied_rest token a (pending_of token s)).1
-  entry_left (entry.Phase number p c) = turned_left p
-  entry_left (entry.Done number state failed) = ended_left state
+  entry_left (Entry.Begin number n k) = begun_left number n k
+  entry_left (Entry.Kept number path physical w) = (kept path physical w).1
+  entry_left (Entry.Intent number token lane path r) = (intended number (record { token = token; path = path; lane = lane; request = r })).1
+  entry_left (Entry.Outcome number token a before after) = (replied_rest token a (pending_of token s)).1
+  entry_left (Entry.Phase number p c) = turned_left p
+  entry_left (Entry.Done number state failed) = ended_left state
   entry_left _ = same refl refl
 
   module _ {schemas : List Schema} {x : World} {out name : List ℕ} where
     pub left_move : {e : Entry} {t : StackState} → IsTo schemas x out name s e t → LeftBy t
     left_move {e} (step stage at is_own may) = entry_left e
     left_move (begins k from by) = begun_left (x.operation + 1) name k
-    left_move (reviewed number source rows outputs from) = same refl refl
-    left_move (opened epoch lanes) = same refl refl
-    left_move other = same refl refl
+    left_move _ = same refl refl
 
   -- what was given up stays listed
   lists : (ls : List Leftover) (gs : List GivenUp) → LeftMove s ls gs → ListsGivenUp s → (g : GivenUp) → In g gs → (l : Leftover) × In l ls × (l.path ≡ g.path) × (l.physical ≡ unknown_id)
   lists ls gs (same a b) h g i = subst (λ ms. (l : Leftover) × In l ms × (l.path ≡ g.path) × (l.physical ≡ unknown_id)) (sym a) (h g (subst (In g) b i))
-  lists ls gs (known m is a b) h g i =
-      let q = h g (subst (In g) b i) in
-      (q.0, subst (In q.0) (sym a) (in_front q.0 s.leftovers (m ∷ []) q.1), q.2, q.3)
+  lists ls gs (known m is a b) h g i = grind (arith, in_front)
   lists ls gs (lost ms ps a b each none) h g i = by (in_either g s.abandoned (map given_up ps) (subst (In g) b i)) where
     by : In g s.abandoned ⊎ In g (map given_up ps) → (l : Leftover) × In l ls × (l.path ≡ g.path) × (l.physical ≡ unknown_id)
     by (inl j) = let q = h g j in (q.0, subst (In q.0) (sym a) (in_front q.0 s.leftovers ms q.1), q.2, q.3)
@@ -149,13 +119,11 @@ none_known (l ∷ ls) h = ap (λ b. cond (not b) (l ∷ filter has_known_id ls) 
 module _ (s : StackState) (once : IsOnce s) (h : LeavesOnce s) where
   -- a resource of the stack is not left over yet
   not_left : (l m : Leftover) → list_any (has_physical l.physical) (resources_of s) ≡ true → has_known_id l ≡ true → In m (filter has_known_id s.leftovers) → bytes_eq m.physical l.physical ≡ false
-  not_left l m held is i = by (bytes_eq m.physical l.physical) refl where
-    by : (b : Bool) → bytes_eq m.physical l.physical ≡ b → b ≡ false
-    by false e = refl
-    by true e =
-        let g = held_by s l.physical held in
-        let j = any_of (λ (z : Leftover). bytes_eq l.physical z.physical) s.leftovers m (in_filter has_known_id s.leftovers m i).0 (same_bytes l.physical m.physical (sym (bytes_same m.physical l.physical e))) in
-        sym (ap (λ b. b && list_any (λ (z : Leftover). bytes_eq l.physical z.physical) s.leftovers) is ∙ j) ∙ once.left l.physical g.0 g.1
+  not_left l m held is i = none_false (bytes_eq m.physical l.physical) (λ e.
+      let g = held_by s l.physical held in
+      let same : l.physical ≡ m.physical = sym (bytes_same m.physical l.physical e) in
+      let j = any_of (λ (z : Leftover). bytes_eq l.physical z.physical) s.leftovers m (in_filter has_known_id s.leftovers m i).0 (same_bytes l.physical m.physical same) in
+      true≢false (sym (ap (λ b. b && list_any (λ (z : Leftover). bytes_eq l.physical z.physical) s.leftovers) is ∙ j) ∙ once.left l.physical g.0 g.1))
 
   one_more : (l : Leftover) (b : Bool) → list_any (has_physical l.physical) (resources_of s) ≡ true → has_known_id l ≡ b
       → all_differ bytes_eq (map (λ (z : Leftover). z.physical) (filter has_known_id s.leftovers ++ cond b (l ∷ []) [])) ≡ true
@@ -169,9 +137,7 @@ module _ (s : StackState) (once : IsOnce s) (h : LeavesOnce s) where
   leaves ls gs (same a b) = ap (λ ms. differ (filter has_known_id ms)) a ∙ h
   leaves ls gs (known l held a b) =
       ap (λ ms. differ (filter has_known_id ms)) a ∙ ap differ (filter-append has_known_id s.leftovers (l ∷ [])) ∙ one_more l (has_known_id l) held refl
-  leaves ls gs (lost ms ps a b each none) =
-      ap (λ ns. differ (filter has_known_id ns)) a ∙ ap differ (filter-append has_known_id s.leftovers ms)
-      ∙ ap (λ ns. differ (filter has_known_id s.leftovers ++ ns)) (none_known ms none) ∙ ap differ (append-nil (filter has_known_id s.leftovers)) ∙ h
+  leaves ls gs (lost ms ps a b each none) = grind (arith, filter-append, none_known, append-nil)
 
 pub leaves_once_stays : LeavesOnceStays
 leaves_once_stays schemas x out e name s t w once h = leaves s once h t.leftovers t.abandoned (left_move s (written_is_to schemas x out e name s t w))
@@ -181,44 +147,31 @@ module _ (schemas : List Schema) (x : World) (out name : List ℕ) (s : StackSta
   rest : (t : StackState) → IsRest s t → CompletesBegun t
   rest t r e = r.source ∙ h (ap has_completed (sym r.status) ∙ e) ∙ sym r.going
 
-  never_back : (a : Status) → (has_completed (turned a phase.Back) ≡ false) × (has_completed (turned a phase.BackClean) ≡ false)
-  never_back status.CreateInProgress = (refl, refl)
-  never_back a = (refl, refl)
+  never_back : (a : Status) → (has_completed (turned a Phase.Back) ≡ false) × (has_completed (turned a Phase.BackClean) ≡ false)
+  never_back a = grind arith
 
   turned_completes : (p : Phase) → CompletesBegun (turned_effect p s).stack
-  turned_completes phase.Clean e = refl
-  turned_completes phase.Back e = absurd (true≢false (sym e ∙ (never_back s.status).0))
-  turned_completes phase.BackClean e = absurd (true≢false (sym e ∙ (never_back s.status).1))
+  turned_completes p e = grind (arith, true≢false)
 
   ended_completes : (a b : Status) → s.status ≡ a → EndsAs schemas name x s a b → CompletesBegun (ended_effect b s).stack
-  ended_completes status.CreateInProgress status.CreateComplete at k e = refl
-  ended_completes status.UpdateCompleteCleanupInProgress status.UpdateComplete at k e = h (ap has_completed at)
-  ended_completes status.RollbackInProgress status.RollbackComplete at k e = absurd (true≢false (sym e))
-  ended_completes status.RollbackInProgress status.RollbackFailed at k e = absurd (true≢false (sym e))
-  ended_completes status.DeleteInProgress status.DeleteComplete at k e = absurd (true≢false (sym e))
-  ended_completes status.DeleteInProgress status.DeleteFailed at k e = absurd (true≢false (sym e))
-  ended_completes status.UpdateRollbackCompleteCleanupInProgress status.UpdateRollbackComplete at k e = absurd (true≢false (sym e))
-  ended_completes status.UpdateRollbackInProgress status.UpdateRollbackFailed at k e = absurd (true≢false (sym e))
-  ended_completes a b at k e = absurd k
+  ended_completes a b at k e = grind (arith, true≢false)
 
-  begun_completes : (number : ℕ) (k : Begun) → CompletesBegun (effect_of (entry.Begin number name k) s).stack
-  begun_completes number (begin.Create source) e = absurd (true≢false (sym e))
-  begun_completes number _ e = absurd (true≢false (sym e))
+  begun_completes : (number : ℕ) (k : Begun) → CompletesBegun (effect_of (Entry.Begin number name k) s).stack
+  begun_completes number k e = grind (arith, true≢false)
 
   reviewed_completes : (a : Status) → has_completed (reviewed_as a) ≡ true → has_completed a ≡ true
-  reviewed_completes status.DeleteComplete e = e
-  reviewed_completes a e = e
+  reviewed_completes a e = grind arith
 
   step_completes : (e : Entry) (stage : Stage) → MayFollowIn schemas name x out s stage e → CompletesBegun (effect_of e s).stack
-  step_completes (entry.Opened epoch lanes) stage may = h
-  step_completes (entry.Begin number n k) stage never = absurd never
-  step_completes (entry.Kept number path physical w) stage may = rest (keeping path physical w s) (kept s path physical w).0
-  step_completes (entry.Intent number token lane path r) stage may =
+  step_completes (Entry.Opened epoch lanes) stage may = h
+  step_completes (Entry.Begin number n k) stage never = absurd never
+  step_completes (Entry.Kept number path physical w) stage may = rest (keeping path physical w s) (kept s path physical w).0
+  step_completes (Entry.Intent number token lane path r) stage may =
       let p : Pending = record { token = token; path = path; lane = lane; request = r } in rest (intending number p s) (intended s number p).0
-  step_completes (entry.Outcome number token a before after) stage may = rest (replying token a s) (replied_rest s token a (pending_of token s)).0
-  step_completes (entry.Phase number p c) stage may = turned_completes p
-  step_completes (entry.Done number state failed) stage may = ended_completes s.status state refl may.2
-  step_completes (entry.ChangeSet number n source rows outputs) stage never = absurd never
+  step_completes (Entry.Outcome number token a before after) stage may = rest (replying token a s) (replied_rest s token a (pending_of token s)).0
+  step_completes (Entry.Phase number p c) stage may = turned_completes p
+  step_completes (Entry.Done number state failed) stage may = ended_completes s.status state refl may.2
+  step_completes (Entry.ChangeSet number n source rows outputs) stage never = absurd never
 
   completes : {e : Entry} {t : StackState} → IsTo schemas x out name s e t → CompletesBegun t
   completes {e} (step stage at is_own may) = step_completes e stage may

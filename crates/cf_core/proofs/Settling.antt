@@ -1,44 +1,20 @@
 -- An outcome that is written down keeps what holds at each moment of a life.
-use Rattle.cf_effect.specs.{Calls.is_restore, World.StackState, World.World, World.empty_world, World.is_going, World.stack_of_operation}
-use Rattle.cf_core.proofs.FitKept.{find_mapped, left_by as answered_left, differ_left}
-use Rattle.cf_agree.proofs.{Effects.gone_names, Effects.set_names, Leases.leased_granted}
-use Rattle.cf_agree.proofs.Calls.{request_of}
+use Rattle.std.proofs.Common.{◌≡◌, ℕ, List, [], ◌∷◌, ◌++◌, map, refl, sym, subst, ◌≢◌, inl, inr, ◌==◌, true, false, not, Option, Some, None, filter, find, ap, ◌∙◌, true≢false, arith, ◌+◌, ◌&&◌}
+use Rattle.cf_core.proofs.Words.{Account, Act, Agree, AgreesIn, Answer, Answered, AreApart, AreHandedIn, AreLeased, AreTied, Books, BrokenWith, BrokenWithout, CallEnd, Called, Close, Crash, End, Entry, FencedLane, FitsLane, Grant, Held, HeldIsLive, In, IsKindFor as IsKindOf, IsLive, IsLocal, IsNext, IsOfLane, IsOrderly, IsOut, IsOutcomeOf, IsSettled, IsSound, IsStart, IsThere, Lane, Lanes, LanesKeep, LanesOnce, Late, Lease as Granted, Life, Live, MayFollow, MayHappen, MayLeave, MayRepeat, Named, OneStack, Open, Opened, OpenedKeeps, Park, Pending, Raise, RepeatKeeps, Replaced, Reply, Request, Resource, Schema, Settle, SettleKeeps, Settlement, StackState, Stage, Stale, Stood, Thing, Ties, Whole, World, account_of, account_with, bytes_eq, called, changed, changed_by, effect_at, empty_world, entry_in, first_again, first_so, fold_of, for_good, good_reply, has_leftover, has_token, heard, held_in, intended, is_at_rest, is_going, is_in_flight, is_lane_name, is_lane_of, is_opened_since, is_restore, lane_at, lane_of, lanes_of, late_by, lease_at, lease_for, lease_of, left_by, life_after, list_all, list_any, live_at, live_of, named_by, named_in, new as is_new, no_lane, on_stack as stays_listed, open_as, open_in, open_on, option_map_or, option_or, pending_of, raised_to, repeated, replied as reply_of, resting_in, returned, role_found, role_in, second_so, settled_reply, settlement_in, stack_of_operation, thing_of, tokens_out, value_at, world_after, world_of}
+use Rattle.cf_core.proofs.Lemmas.{any_of, eq-eqb, find_mapped, found_one, found_stands, if_other, if_same, in_any, is_found_in, not-true, number_or, one_id, one_lane}
 use Rattle.cf_agree.proofs.Keeps.{call_keeps, stale_keeps, late_keeps, fence_keeps, return_keeps, opening_keeps, intent_keeps, answer_keeps}
-use Rattle.cf_agree.proofs.Words.{if_same, if_other, number_or, one_lane, same_bytes, bytes_same, in_cons}
-use Rattle.cf_agree.specs.Account.{Account, Thing, Open, intended, called, answered, Called}
-use Rattle.cf_agree.specs.{Account.Role.Resource, Base.In as InLane, Base.here, Base.lane_of, Base.named_by, Base.there}
-use Rattle.cf_agree.specs.{Lanes.IsThere, Lanes.Lanes, Lanes.Replaced, Lanes.entry_in, Lanes.no_lane, Laws.Agree, Laws.settlement_in}
-use Rattle.cf_agree.specs.Moves.{Lease, replied, returned, MayIntend, granted, IsOut, AreLeased}
-use Rattle.cf_agree.specs.Ties.{AreTied, IsKindFor, IsSettled, Books, Ties}
-use Rattle.cf_core.proofs.Entries.{IsOnOne, intent_moves, is_working, map_none, none_open, on_one, once_here, open_none, open_own, opening_moves, own_kept, role_here, sends, stands_on}
-use Rattle.cf_core.proofs.Outcomes.{answered_stack, differ_once, doubt_local, doubt_moves, held_stands, in_doubt, intent_local, open_found_in, outcome_local, outcome_moves, own_opened, role_found_in, token_of}
-use Rattle.cf_core.specs.AccountOf.{account_of, lanes_of, named_in, role_in, open_in, resting_in, open_as, role_found, has_leftover, held_in, is_at_rest, thing_of, for_good, Named}
-use Rattle.cf_core.specs.{Bridges.account_with, OneStack.IsLocal, OneStack.OneStack}
-use Rattle.cf_core.specs.LifeAgrees.{IsOrderly, IsSound, lease_of, AgreesIn, LanesKeep, OpenedKeeps, LanesOnce, good_reply, SettleKeeps, RepeatKeeps, HeldIsLive}
-use Rattle.cf_entry.specs.declared.{entry.Entry.Entry, entry.Reply.Reply}
-use Rattle.cf_handler.specs.Fence.{Flying, FencedLane, left_by, late_by, raised_to, live_at}
-use Rattle.cf_handler.specs.{Lane.Live, Lane.live_of, Move.IsOfLane, Name.is_lane_name}
-use Rattle.cf_handler.specs.declared.{settled.Settled.Settled, settled.Settlement.Settlement}
-use Rattle.cf_plan.proofs.{CreatedStays.found_one, Members.in_any, RunLists.any_of, RunLists.is_found_in}
-use Rattle.cf_plan.specs.{Ends.IsLive, Forward.In, Lanes.Lane, Lanes.lane_at}
-use Rattle.cf_plan.specs.Follow.{IsKindFor as IsKindOf, FitsLane, is_lane_of, is_opened_since, MayFollow, MayRepeat, is_in_flight}
-use Rattle.cf_plan.specs.Life.{MayLeave, Life, End, Whole, BrokenWith, BrokenWithout, world_of, CallEnd, Answered, Stale, Opened, Grant, Settle, Park, Raise, Act, Late, Close, Crash, life_after, MayHappen, changed, settled_reply, replying as replying_life, settlement_in as settlement_life, lease_at, Lease as Granted, IsStart, AreHandedIn, tokens_out, IsOutcomeOf, first_again, lease_for, repeated}
-use Rattle.cf_schema.specs.declared.described.Schema.{Schema}
-use Rattle.cf_stacks.proofs.{Apart.stay_apart, Worlds.found_stands}
-use Rattle.cf_stacks.specs.Apart.{IsNext, AreApart}
-use Rattle.cf_effect.specs.{Effect.heard, Effect.on_stack as stays_listed, Fold.changed_by, Fold.effect_at, Fold.fold_of, Fold.world_after}
-use Rattle.cf_effect.specs.{Reply.replied as reply_of, Words.has_token, Words.pending_of}
-use Rattle.cf_effect.specs.{Status.Forward, Status.Stage, declared.held.Held.Held, declared.held.Pending.Pending}
-use Rattle.cf_tree.specs.{Keys.value_at, declared.request.Answer.Answer, declared.request.Request.Request}
-use Rattle.std.proofs.Common.{◌≡◌, ℕ, List, [], ◌∷◌, ◌++◌, map, refl, sym, subst, ◌≢◌, inl, inr, ◌==◌, true, false, not, Option, Some, None, filter, find, ap, ◌∙◌, ◌≤◌, true≢false, arith, ◌+◌, ◌&&◌}
-use Rattle.std.proofs.lemmas.Bool.{not-true, eq-eqb}
-use Rattle.std.specs.{Cmp.first_so, Cmp.second_so, Option.option_map, Option.option_map_or, Option.option_or, Prelude.is_some}
-use Rattle.std.specs.{List.list_all, List.list_any, Str.bytes_eq}
-use Rattle.cf_entry.specs.declared.entry.Entry.TheVariants as entry
-use Rattle.cf_entry.specs.declared.entry.Reply.TheVariants as reply
-use Rattle.cf_handler.specs.declared.settled.Settlement.TheVariants as settlement
-use Rattle.cf_tree.specs.declared.request.Answer.TheVariants as answer
-use Rattle.cf_tree.specs.declared.request.Request.TheVariants as request
+use Rattle.cf_agree.proofs.{Effects.gone_names, Effects.set_names, Leases.leased_granted, Words.bytes_same, Words.in_cons, Words.same_bytes}
+use Rattle.cf_agree.proofs.Calls.{request_of}
+use Rattle.cf_agree.specs.{Base.In as InLane, Base.here, Base.there, Moves.Lease, Moves.MayIntend, Moves.granted, Moves.replied}
+use Rattle.cf_agree.specs.{Account.answered, Ties.IsKindFor}
+use Rattle.cf_core.proofs.Outcomes.{answered_stack, doubt_local, doubt_moves, held_stands, in_doubt, intent_local, open_found_in, outcome_local, outcome_moves, own_opened, role_found_in, token_of}
+use Rattle.cf_core.proofs.Stacks.{IsOnOne, intent_moves, is_working, map_none, none_open, on_one, once_here, open_none, open_own, opening_moves, own_kept, role_here, sends, stands_on, or_none}
+use Rattle.cf_core.proofs.FitKept.{left_by as answered_left, differ_left}
+use Rattle.cf_plan.specs.Life.{replying as replying_life, settlement_in as settlement_life}
+use Rattle.cf_stacks.proofs.Apart.{stay_apart}
+use Rattle.std.specs.{Option.option_map, Prelude.is_some}
+use Rattle.cf_core.specs.OneStack.{there as stands_there}
+use Rattle.cf_plan.proofs.Doing.{some_is as some_of}
 
 -- One more entry of a life: what holds of the world that it leaves holds of the life.
 
@@ -124,8 +100,7 @@ returned_same t [] = refl
 returned_same t (l ∷ ls) = grind (arith, returned_same t ls)
 
 same_settlement : (a : Answer) → settlement_life a ≡ settlement_in a
-same_settlement (answer.Success i v) = refl
-same_settlement _ = refl
+same_settlement a = grind arith
 
 -- no lease is out
 pub none_out : (a : Account) (w : Lanes) (ls : List Lease) → Agree a w ls → Agree a w []
@@ -165,9 +140,7 @@ lanes_keep schemas life (Raise n x true before counted) of may h =
     (replaced n (λ l. raised_to l (world_of life).epoch) life.lanes may.2 may.3)
     (subst (λ l. Rattle.cf_handler.specs.Fence.FenceMove l (raised_to may.2.state (world_of life).epoch) (world_of life).epoch x before counted) (sym is.1) may.6)
 lanes_keep schemas life (Raise n x false before counted) of may h = h
-lanes_keep schemas life (Park token) of may h =
-    subst (λ ls. Agree (account_of life.entries (world_of life)) (held_by life) ls) (sym (returned_same token life.leases))
-    (return_keeps (account_of life.entries (world_of life)) (held_by life) (map lease_of life.leases) token h)
+lanes_keep schemas life (Park token) of may h = grind (arith, returned_same, return_keeps)
 lanes_keep schemas life Close of may h = h
 lanes_keep schemas life Crash of may h = none_out (account_of life.entries (world_of life)) (held_by life) (map lease_of life.leases) h
 lanes_keep schemas life e of may h = absurd of
@@ -178,92 +151,72 @@ named_all : (n : List ℕ) (ls : List Lane) (l : Lane) → list_all (λ (l : Lan
 named_all n [] l h e = absurd (cc)
 named_all n (k ∷ ls) l h e = let more = second_so (is_lane_name k.name) _ h in let now = first_so (is_lane_name k.name) _ h in grind (arith, named_all n ls l, bytes_same n k.name)
 
--- nothing was called or is live on it
-record IsBlank (l : FencedLane) : Type 0 where
-  pub settled : l.state.settled ≡ []
-  pub base : l.state.base ≡ []
-  pub flying : l.flying ≡ []
-  pub fence : l.fence ≡ 0
-
-module _ (life : Life) (untouched : (l : Lane) → In l life.lanes → (l.state.state.settled ≡ []) × (l.state.flying ≡ []) × (l.state.fence ≡ 0) × (live_of l.state.state ≡ [])) where
-  blank_by : (n : List ℕ) (o : Option Lane) → lane_at n life.lanes ≡ o → IsBlank (option_map_or (λ (l : Lane). l.state) o no_lane)
-  blank_by n None e = record { settled = refl; base = refl; flying = refl; fence = refl }
-  blank_by n (Some l) e =
+-- nothing was called or is live on any lane
+blank : (life : Life) → ((l : Lane) → In l life.lanes → (l.state.state.settled ≡ []) × (l.state.flying ≡ []) × (l.state.fence ≡ 0) × (live_of l.state.state ≡ []))
+    → (n : List ℕ) → (lanes_of life.lanes).lane n ≡ no_lane
+blank life untouched n = by (lane_at n life.lanes) refl where
+  by : (o : Option Lane) → lane_at n life.lanes ≡ o → option_map_or (λ (l : Lane). l.state) o no_lane ≡ no_lane
+  by None e = refl
+  by (Some l) e =
       let (s, f, g, v) = untouched l (found_one (λ (k : Lane). bytes_eq n k.name) life.lanes l e).0 in
-      record { settled = s; base = sym (ap (λ ss. Rattle.cf_handler.specs.Lane.live_after l.state.state.base ss) s) ∙ v; flying = f; fence = g }
-
-  blank : (n : List ℕ) → IsBlank ((lanes_of life.lanes).lane n)
-  blank n = blank_by n (lane_at n life.lanes) refl
+      let b : l.state.state.base ≡ [] = sym (ap (λ ss. Rattle.cf_handler.specs.Lane.live_after l.state.state.base ss) s) ∙ v in
+      λ k. record { state = record { base = b k; settled = s k }; flying = f k; fence = g k }
 
 pub map_some : (o : Option Lane) (k : List ℕ) → option_map (λ (l : Lane). l.kind) o ≡ Some k → (l : Lane) × (o ≡ Some l)
-map_some None k e = absurd (cc)
-map_some (Some l) k e = (l, refl)
+map_some o k e = grind arith
+
+-- lanes like that agree with the account of no entries
+blank_tied : (kind : List ℕ → Option (List ℕ)) → ((n k : List ℕ) → kind n ≡ Some k → is_lane_name n ≡ true)
+    → AreTied (account_of [] empty_world) (record { kind = kind; lane = λ n. no_lane })
+blank_tied kind names = record {
+  books = record {
+    calls = λ t o e. absurd (cc);
+    numbers = λ t c e. absurd (cc);
+    untold = λ t o e. refl;
+    told_calls = λ t x e. absurd (cc);
+    lost_calls = λ t e. absurd (true≢false (sym e));
+    named = λ t o i e. absurd (cc);
+    home = λ t o i e. absurd (cc);
+    once = λ t u o v e. absurd (cc);
+    homes = λ i r e. absurd (cc);
+    open_homes = λ t o e. absurd (cc);
+  };
+  ties = record {
+    handed = λ n k e. absurd (cc);
+    lane_names = λ n (k, e). names n k e;
+    settled_once = λ n s i. elim i [ ];
+    base_once = λ n. refl;
+    base_named = λ n i e. absurd (true≢false (sym e));
+    created_named = λ n i t s e. absurd (cc);
+    created_once = λ n i t u s r e. absurd (cc);
+    settled_calls = λ n t s e. absurd (cc);
+    flying_calls = λ n f i. elim i [ ];
+    answers = λ t x c e. absurd (cc);
+    flying_open = λ n f i. elim i [ ];
+    flying_epochs = λ n f i. elim i [ ];
+    flying_at_rest = λ n f o i. elim i [ ];
+    fences = λ n. omega arith;
+    known = λ i e. absurd (e refl);
+    gone = λ i r e. absurd (cc);
+    alive = λ i r e. absurd (cc);
+    same = λ i r v e. absurd (cc);
+    changed = λ t o s i p q (e, f). absurd (cc);
+    born = λ t o s i k p q (e, f). absurd (cc);
+    live_named = λ n i v e. absurd (cc);
+    listed = λ n i v e. absurd (cc);
+  };
+}
 
 pub start_agrees : (schemas : List Schema) (life : Life) → IsStart schemas life → AgreesIn life
 start_agrees schemas life h =
-    let tied : AreTied (account_of [] empty_world) w = record {
-      books = record {
-        calls = λ t o e. absurd (cc);
-        numbers = λ t c e. absurd (cc);
-        untold = λ t o e. refl;
-        told_calls = λ t x e. absurd (cc);
-        lost_calls = λ t e. absurd (true≢false (sym e));
-        named = λ t o i e. absurd (cc);
-        home = λ t o i e. absurd (cc);
-        once = λ t u o v e. absurd (cc);
-        homes = λ i r e. absurd (cc);
-        open_homes = λ t o e. absurd (cc);
-      };
-      ties = record {
-        handed = λ n k e. absurd (cc);
-        lane_names = λ n (k, e). let (l, f) = map_some (lane_at n life.lanes) k e in named_all n life.lanes l (h.named).named f;
-        settled_once = λ n s i. no_settled n s i;
-        base_once = λ n. ap (λ vs. Rattle.cf_tree.specs.Named.all_differ bytes_eq (map (λ (v : Live). v.id) vs)) (none n).base;
-        base_named = λ n i e. absurd (true≢false (sym e ∙ ap (λ vs. Rattle.cf_handler.specs.Lane.has_id i vs) (none n).base));
-        created_named = λ n i t s e. no_entry n t s e;
-        created_once = λ n i t u s r e. no_entry n t s e;
-        settled_calls = λ n t s e. no_entry n t s e;
-        flying_calls = λ n f i. no_flying n f i;
-        answers = λ t x c e. absurd (cc);
-        flying_open = λ n f i. no_flying n f i;
-        flying_epochs = λ n f i. no_flying n f i;
-        flying_at_rest = λ n f o i. no_flying n f i;
-        fences = λ n. subst (λ c. c ≤ 0) (sym (none n).fence) (omega arith);
-        known = λ i e. absurd (e refl);
-        gone = λ i r e. absurd (cc);
-        alive = λ i r e. absurd (cc);
-        same = λ i r v e. absurd (cc);
-        changed = λ t o s i p q (e, f). absurd (cc);
-        born = λ t o s i k p q (e, f). absurd (cc);
-        live_named = λ n i v e. no_live n i v e;
-        listed = λ n i v e. no_live n i v e;
-      };
-    } in
-    subst (λ es. Agree (account_of es (fold_of empty_world es)) w (map lease_of life.leases)) (sym h.no_entries)
-    (subst (λ ls. Agree (account_of [] empty_world) w (map lease_of ls)) (sym h.no_leases) (record { tied = tied; leased = record { once = λ l m i. elim i [ ]; out = λ l i. elim i [ ]; replies = λ l x i. elim i [ ] } }))
-  where
-    w : Lanes
-    w = lanes_of life.lanes
-
-    none : (n : List ℕ) → IsBlank (w.lane n)
-    none n = blank life h.untouched n
-
-    no_entry : {A : Type 0} (n : List ℕ) (t : ℕ) (s : Rattle.cf_handler.specs.declared.settled.Settled.Settled) → Rattle.cf_agree.specs.Lanes.entry_in w n t ≡ Some s → A
-    no_entry n t s e = let z = ap (λ ss. Rattle.cf_agree.specs.Base.entry_at t ss) (none n).settled in absurd (cc)
-
-    no_live : {A : Type 0} (n i : List ℕ) (v : Live) → Rattle.cf_agree.specs.Lanes.live_in w n i ≡ Some v → A
-    no_live n i v e =
-        let y = ap (λ ss. find (λ (r : Live). bytes_eq i r.id) (Rattle.cf_handler.specs.Lane.live_after (w.lane n).state.base ss)) (none n).settled in
-        let z = ap (λ bs. find (λ (r : Live). bytes_eq i r.id) bs) (none n).base in absurd (cc)
-
-    none_in : {A B : Type 0} (x : A) (xs : List A) → xs ≡ [] → InLane x xs → B
-    none_in x xs e i = elim (subst (InLane x) e i) [ ]
-
-    no_flying : {A : Type 0} (n : List ℕ) (f : Flying) → InLane f (w.lane n).flying → A
-    no_flying n f i = none_in f (w.lane n).flying (none n).flying i
-
-    no_settled : {A : Type 0} (n : List ℕ) (s : Settled) → InLane s (w.lane n).state.settled → A
-    no_settled n s i = none_in s (w.lane n).state.settled (none n).settled i
+    let kind : List ℕ → Option (List ℕ) = (lanes_of life.lanes).kind in
+    let tied : AreTied (account_of [] empty_world) (record { kind = kind; lane = λ n. no_lane }) =
+    blank_tied kind (λ n k e. let (l, f) = map_some (lane_at n life.lanes) k e in named_all n life.lanes l (h.named).named f) in
+    let none : Agree (account_of [] empty_world) (record { kind = kind; lane = λ n. no_lane }) [] =
+    record { tied = tied; leased = record { once = λ l m i. elim i [ ]; out = λ l i. elim i [ ]; replies = λ l x i. elim i [ ] } } in
+    subst (λ es. Agree (account_of es (fold_of empty_world es)) (lanes_of life.lanes) (map lease_of life.leases)) (sym h.no_entries)
+    (subst (λ ls. Agree (account_of [] empty_world) (lanes_of life.lanes) (map lease_of ls)) (sym h.no_leases)
+    (subst (λ (w : Lanes). Agree (account_of [] empty_world) w []) (λ k. record { kind = kind; lane = λ n. sym (blank life h.untouched n) k }) none))
 
 -- An opening keeps what holds at each moment of a life.
 
@@ -273,6 +226,14 @@ named_found lanes n k e = go (find (λ (l : List ℕ × List ℕ). bytes_eq n l.
   go : (o : Option (List ℕ × List ℕ)) → find (λ (l : List ℕ × List ℕ). bytes_eq n l.0) lanes ≡ o → option_map (λ (l : List ℕ × List ℕ). l.1) o ≡ Some k → (l : List ℕ × List ℕ) × In l lanes × (n ≡ l.0) × (l.1 ≡ k)
   go None f g = absurd (cc)
   go (Some l) f g = let (i, t) = found_one (λ (l : List ℕ × List ℕ). bytes_eq n l.0) lanes l f in (l, i, bytes_same n l.0 t, cc)
+
+-- where no two lanes have one name, each is the one of its name
+names_one : (lanes : List (List ℕ × List ℕ)) → ((l m : List ℕ × List ℕ) → In l lanes → In m lanes → l.0 ≡ m.0 → l ≡ m) → (l : List ℕ × List ℕ) → In l lanes
+    → named_in lanes l.0 ≡ Some l.1
+names_one lanes once l i =
+    let (m, f) = is_found_in (λ (q : List ℕ × List ℕ). bytes_eq l.0 q.0) lanes l i (same_bytes l.0 l.0 refl) in
+    let (j, t) = found_one (λ (q : List ℕ × List ℕ). bytes_eq l.0 q.0) lanes m f in
+    ap (option_map (λ (q : List ℕ × List ℕ). q.1)) (f ∙ ap Some (sym (once l m i j (bytes_same l.0 m.0 t))))
 
 -- lanes that are handed in are named with their types
 module _ (life : Life) (lanes : List (List ℕ × List ℕ)) (handed : AreHandedIn life lanes) where
@@ -285,20 +246,14 @@ module _ (life : Life) (lanes : List (List ℕ × List ℕ)) (handed : AreHanded
   named_there n k e = let (l, i, x, y) = named_found lanes n k e in ap (lanes_of life.lanes).kind x ∙ is_there l i ∙ ap Some y
 
   pub named_of : (l : List ℕ × List ℕ) → In l lanes → named_in lanes l.0 ≡ Some l.1
-  named_of l i =
-      let (m, f) = is_found_in (λ (q : List ℕ × List ℕ). bytes_eq l.0 q.0) lanes l i (same_bytes l.0 l.0 refl) in
-      let (j, t) = found_one (λ (q : List ℕ × List ℕ). bytes_eq l.0 q.0) lanes m f in
-      let same : l.0 ≡ m.0 = bytes_same l.0 m.0 t in
-      let both : Some l.1 ≡ Some m.1 = sym (is_there l i) ∙ ap (lanes_of life.lanes).kind same ∙ is_there m j in
-      ap (option_map (λ (q : List ℕ × List ℕ). q.1)) f ∙ sym both
+  named_of = names_one lanes (one_id (λ (n : List ℕ × List ℕ). n.0) lanes handed.once)
 
 kind_for : (r : Request) (k : List ℕ) → IsKindOf r k → IsKindFor r k
-kind_for (request.Create made props) k e = e
-kind_for _ k e = tt
+kind_for r k e = grind arith
 
 pub opened_keeps : OpenedKeeps
 opened_keeps schemas life epoch lanes end may h =
-    let e : Entry = entry.Opened epoch lanes in
+    let e : Entry = Entry.Opened epoch lanes in
     let name_of : (l : List ℕ × List ℕ) → In l lanes → is_lane_name l.0 ≡ true =
     λ l i. ((h.agrees.tied).ties).lane_names l.0 (l.1, is_there life lanes may.2 l i) in
     let homes : (i : List ℕ) (r : Thing) → role_in (world_of life).stacks i ≡ Resource r → named_in lanes (lane_of i) ≡ Some r.kind = λ i r k.
@@ -313,15 +268,15 @@ opened_keeps schemas life epoch lanes end may h =
     let at = fit.0 in
     let kd = fit.1 in
     (l.1, ap (named_in lanes) (ap (λ (v : Open). v.lane) (sym f.same) ∙ sym at) ∙ named_of life lanes may.2 l il, subst (λ (v : Open). IsKindFor v.request l.1) f.same (kind_for (f.pending).request l.1 kd)) in
-    let agreed : Agree (account_of (life.entries ++ e ∷ []) (world_after (world_of life) (entry.Opened epoch lanes))) (held_by life) [] =
+    let agreed : Agree (account_of (life.entries ++ e ∷ []) (world_after (world_of life) (Entry.Opened epoch lanes))) (held_by life) [] =
     subst (λ b. Agree b (held_by life) []) (sym (opening_moves life.entries (world_of life) epoch lanes may.1.1))
-    (opening_keeps (told_in life) (held_by life) (named_in lanes) (resting_in (world_after (world_of life) (entry.Opened epoch lanes)).stacks) h.agrees.tied (record { handed = named_there life lanes may.2; homes = homes; open_homes = open_homes })) in
-    let apart : AreApart (world_after (world_of life) (entry.Opened epoch lanes)) =
-    stay_apart (world_of life) (entry.Opened epoch lanes) h.orderly.apart tt in
-    let orderly : IsOrderly (world_after (world_of life) (entry.Opened epoch lanes)) = record {
+    (opening_keeps (told_in life) (held_by life) (named_in lanes) (resting_in (world_after (world_of life) (Entry.Opened epoch lanes)).stacks) h.agrees.tied (record { handed = named_there life lanes may.2; homes = homes; open_homes = open_homes })) in
+    let apart : AreApart (world_after (world_of life) (Entry.Opened epoch lanes)) =
+    stay_apart (world_of life) (Entry.Opened epoch lanes) h.orderly.apart tt in
+    let orderly : IsOrderly (world_after (world_of life) (Entry.Opened epoch lanes)) = record {
       apart = apart;
       own = own_opened ((world_of life).place + 1) epoch lanes (world_of life).stacks apart.names h.orderly.own;
-      once = λ l m i j k. differ_once bytes_eq (λ (n : List ℕ × List ℕ). n.0) lanes same_bytes may.2.once l m i j k;
+      once = λ l m i j k. one_id (λ (n : List ℕ × List ℕ). n.0) lanes may.2.once l m i j k;
     } in
     elim end as (λ d. IsSound (life_after life (Opened epoch lanes d))) [
       | BrokenWithout ↦ record { agrees = none_out (told_in life) (held_by life) (map lease_of life.leases) h.agrees; orderly = h.orderly }
@@ -337,11 +292,7 @@ more_leases (k ∷ ls) l = ap (λ xs. lease_of k ∷ xs) (more_leases ls l)
 -- the lanes of the last opening, as the account names them
 module _ (x : World) (once : LanesOnce x) where
   names_lane : (l : List ℕ × List ℕ) → In l x.lanes → named_in x.lanes l.0 ≡ Some l.1
-  names_lane l i =
-      let (m, f) = is_found_in (λ (q : List ℕ × List ℕ). bytes_eq l.0 q.0) x.lanes l i (same_bytes l.0 l.0 refl) in
-      let (j, t) = found_one (λ (q : List ℕ × List ℕ). bytes_eq l.0 q.0) x.lanes m f in
-      let same = once l m i j (bytes_same l.0 m.0 t) in
-      ap (option_map (λ (q : List ℕ × List ℕ). q.1)) f ∙ ap (λ (q : List ℕ × List ℕ). Some q.1) (sym same)
+  names_lane = names_one x.lanes once
 
   by_name : (lane : List ℕ) → list_any (λ (l : List ℕ × List ℕ). bytes_eq lane l.0) x.lanes ≡ true → (k : List ℕ) × (named_in x.lanes lane ≡ Some k)
   by_name lane h =
@@ -349,7 +300,7 @@ module _ (x : World) (once : LanesOnce x) where
       (l.1, ap (named_in x.lanes) (bytes_same lane l.0 t) ∙ names_lane l i)
 
   at_home : (lane : List ℕ) (r : Request) → FitsLane x lane r → (k : List ℕ) × (named_in x.lanes lane ≡ Some k) × IsKindFor r k
-  at_home lane (request.Create k props) h =
+  at_home lane (Request.Create k props) h =
       let (l, i, t) = in_any (is_lane_of lane k) x.lanes h in
       let named = first_so (bytes_eq lane l.0) (bytes_eq k l.1) t in
       let kind = second_so (bytes_eq lane l.0) (bytes_eq k l.1) t in
@@ -357,9 +308,7 @@ module _ (x : World) (once : LanesOnce x) where
   at_home lane _ h = let (k, e) = by_name lane h.1 in (k, e, tt)
 
   of_lane : (lane : List ℕ) (r : Request) (i : List ℕ) → FitsLane x lane r → named_by r ≡ Some i → IsOfLane lane i
-  of_lane lane (request.Create k props) i h e = absurd (cc)
-  of_lane lane (request.Update id props) i h e = let one : id ≡ i = cc in subst (λ j. IsOfLane lane j) one h.0
-  of_lane lane (request.Delete id) i h e = let one : id ≡ i = cc in subst (λ j. IsOfLane lane j) one h.0
+  of_lane lane r i h e = grind arith
 
 -- the call names a resource of the stack that works, at its path
 abbrev pub NamesOwn : World → ℕ → List ℕ → Request → Type 0
@@ -367,15 +316,15 @@ NamesOwn x number path r =
     (name : List ℕ) (s : StackState) (i : List ℕ) → stack_of_operation number x ≡ Some (name, s) → named_by r ≡ Some i → (h : Held) × (held_in i s ≡ Some h) × (h.path ≡ path)
 
 pub intent_keeps_in : (schemas : List Schema) (life : Life) (number token : ℕ) (lane path : List ℕ) (r : Request) (end : End) → NamesOwn (world_of life) number path r
-    → MayHappen schemas life (Grant (entry.Intent number token lane path r) end) → IsSound life → IsSound (life_after life (Grant (entry.Intent number token lane path r) end))
+    → MayHappen schemas life (Grant (Entry.Intent number token lane path r) end) → IsSound life → IsSound (life_after life (Grant (Entry.Intent number token lane path r) end))
 intent_keeps_in schemas life number token lane path r end names (running, granting, (name, s, stage, found, at_stage, may)) h =
     let x : World = fold_of empty_world life.entries in
-    let e : Entry = entry.Intent number token lane path r in
+    let e : Entry = Entry.Intent number token lane path r in
     let o : Open = record { stack = name; path = path; lane = lane; request = r } in
     let p : Pending = record { token = token; path = path; lane = lane; request = r } in
-    let s' : StackState = (effect_at (x.place + 1) (entry.Intent number token lane path r) s).stack in
-    let at : IsOnOne x (changed_by (x.place + 1) (entry.Intent number token lane path r) x) name s s' =
-    on_one (entry.Intent number token lane path r) x name s h.orderly.own refl found in
+    let s' : StackState = (effect_at (x.place + 1) (Entry.Intent number token lane path r) s).stack in
+    let at : IsOnOne x (changed_by (x.place + 1) (Entry.Intent number token lane path r) x) name s s' =
+    on_one (Entry.Intent number token lane path r) x name s h.orderly.own refl found in
     let stands : value_at name x.stacks ≡ Some s =
     found_stands (λ (q : List ℕ × StackState). is_going number q.1) x.stacks (name, s) h.orderly.own.names found in
     let free : (t : ℕ) (v : Open) → (told_in life).open_ t ≡ Some v → v.stack ≡ name → v.path ≢ path = λ t v k n q.
@@ -389,7 +338,7 @@ intent_keeps_in schemas life number token lane path r end names (running, granti
       free = free;
       named = λ i n. let (q, k, l) = names name s i found n in (
         thing_of name q,
-        role_here x.stacks (changed_by (x.place + 1) (entry.Intent number token lane path r) x).stacks name s s' at.one i (thing_of name q) (at.unshared.roles i q k).0 (ap (λ z. role_found name z (has_leftover i s.leftovers)) k),
+        role_here x.stacks (changed_by (x.place + 1) (Entry.Intent number token lane path r) x).stacks name s s' at.one i (thing_of name q) (at.unshared.roles i q k).0 (ap (λ z. role_found name z (has_leftover i s.leftovers)) k),
         refl,
         l,
       );
@@ -405,11 +354,11 @@ intent_keeps_in schemas life number token lane path r end names (running, granti
     λ ls g. agrees_more life e ls (subst (λ b. Agree b (held_by life) ls) (sym (intent_moves life.entries x name s number token lane path r h.orderly.own found may.next (h.agrees.tied).books)) g) in
     let none : open_in x.stacks token ≡ None = ap (open_in x.stacks) may.next ∙ none_open life.entries x (h.agrees.tied).books in
     let none_here : find (has_token token) s.tokens ≡ None =
-    map_none (open_as name) (find (has_token token) s.tokens) (open_none x.stacks (changed_by (x.place + 1) (entry.Intent number token lane path r) x).stacks name s s' at.one token none).1 in
-    let orderly : IsOrderly (world_after x e) = orderly_on x (entry.Intent number token lane path r) name s s' h.orderly tt at.one
-    (intent_local x.stacks name s s' p (once_here x.stacks (changed_by (x.place + 1) (entry.Intent number token lane path r) x).stacks name s s' at.one h.orderly.own) none none_here (sends (x.place + 1) number p s none_here)) at.lanes in
+    map_none (open_as name) (find (has_token token) s.tokens) (open_none x.stacks (changed_by (x.place + 1) (Entry.Intent number token lane path r) x).stacks name s s' at.one token none).1 in
+    let orderly : IsOrderly (world_after x e) = orderly_on x (Entry.Intent number token lane path r) name s s' h.orderly tt at.one
+    (intent_local x.stacks name s s' p (once_here x.stacks (changed_by (x.place + 1) (Entry.Intent number token lane path r) x).stacks name s s' at.one h.orderly.own) none none_here (sends (x.place + 1) number p s none_here)) at.lanes in
     let lease : Granted = record { number = number; token = token; lane = lane; request = r; reply = None } in
-    elim end as (λ d. IsSound (life_after life (Grant (entry.Intent number token lane path r) d))) [
+    elim end as (λ d. IsSound (life_after life (Grant (Entry.Intent number token lane path r) d))) [
       | Whole ↦ record {
         agrees = there_now (map lease_of (life.leases ++ lease ∷ []))
             (subst (λ ls. Agree (intended o (told_in life)) (held_by life) ls) (ap (λ t. granted t lane r (map lease_of life.leases)) (sym may.next) ∙ sym (more_leases life.leases lease)) (both.1 resting));
@@ -418,10 +367,6 @@ intent_keeps_in schemas life number token lane path r end names (running, granti
       | BrokenWith ↦ record { agrees = there_now (map lease_of life.leases) both.0; orderly = orderly_more life e orderly }
       | BrokenWithout ↦ record { agrees = h.agrees; orderly = h.orderly }
     ]
-
-some_of : {A : Type 0} (o : Option A) → is_some o ≡ true → (x : A) × (o ≡ Some x)
-some_of None h = absurd (true≢false (sym h))
-some_of (Some x) h = (x, refl)
 
 module _ (schemas : List Schema) (life : Life) (token : ℕ) (h : IsSound life) (lease : Granted) (found : lease_at token life ≡ Some lease) where
   abbrev ls : List Lease
@@ -444,30 +389,30 @@ module _ (schemas : List Schema) (life : Life) (token : ℕ) (h : IsSound life) 
     orderly = orderly_more life e g.orderly;
   }
 
-  by_doubt : (before after : ℕ) → MayFollow schemas (world_of life) (tokens_out life) (entry.Outcome lease.number lease.token reply.Doubt before after) → IsBack (entry.Outcome lease.number lease.token reply.Doubt before after)
+  by_doubt : (before after : ℕ) → MayFollow schemas (world_of life) (tokens_out life) (Entry.Outcome lease.number lease.token Reply.Doubt before after) → IsBack (Entry.Outcome lease.number lease.token Reply.Doubt before after)
   by_doubt before after (name, s, stage, at_work, at_stage, may) =
       let x : World = fold_of empty_world life.entries in
-      let s' : StackState = (effect_at (x.place + 1) (entry.Outcome lease.number lease.token reply.Doubt before after) s).stack in
-      let at : IsOnOne x (changed_by (x.place + 1) (entry.Outcome lease.number lease.token reply.Doubt before after) x) name s s' =
-      on_one (entry.Outcome lease.number lease.token reply.Doubt before after) x name s h.orderly.own refl at_work in
+      let s' : StackState = (effect_at (x.place + 1) (Entry.Outcome lease.number lease.token Reply.Doubt before after) s).stack in
+      let at : IsOnOne x (changed_by (x.place + 1) (Entry.Outcome lease.number lease.token Reply.Doubt before after) x) name s s' =
+      on_one (Entry.Outcome lease.number lease.token Reply.Doubt before after) x name s h.orderly.own refl at_work in
       record {
         agrees = subst (λ c. Agree c (held_by life) (returned token ls)) (sym (doubt_moves life.entries x name s lease.number lease.token before after h.orderly.own at_work)) (return_keeps (told_in life) (held_by life) ls token h.agrees);
-        orderly = orderly_on x (entry.Outcome lease.number lease.token reply.Doubt before after) name s s' h.orderly tt at.one
-            (doubt_local x.stacks name s s' (once_here x.stacks (changed_by (x.place + 1) (entry.Outcome lease.number lease.token reply.Doubt before after) x).stacks name s s' at.one h.orderly.own) (in_doubt (x.place + 1) lease.number lease.token before after s)) at.lanes;
+        orderly = orderly_on x (Entry.Outcome lease.number lease.token Reply.Doubt before after) name s s' h.orderly tt at.one
+            (doubt_local x.stacks name s s' (once_here x.stacks (changed_by (x.place + 1) (Entry.Outcome lease.number lease.token Reply.Doubt before after) x).stacks name s s' at.one h.orderly.own) (in_doubt (x.place + 1) lease.number lease.token before after s)) at.lanes;
       }
 
   -- the answer is for good
   by_good : (answer_ : Reply) (y : Settlement) (before after : ℕ) → for_good answer_ ≡ Some y → good_reply lease.reply ≡ Some y
-      → MayFollow schemas (world_of life) (tokens_out life) (entry.Outcome lease.number lease.token answer_ before after) → IsBack (entry.Outcome lease.number lease.token answer_ before after)
+      → MayFollow schemas (world_of life) (tokens_out life) (Entry.Outcome lease.number lease.token answer_ before after) → IsBack (Entry.Outcome lease.number lease.token answer_ before after)
   by_good answer_ y before after g k (name, s, stage, at_work, at_stage, (out, is_open, counted)) =
       let x : World = fold_of empty_world life.entries in
-      let z : World = changed_by (x.place + 1) (entry.Outcome lease.number lease.token answer_ before after) x in
-      let at0 : IsOnOne x z name s (effect_at (x.place + 1) (entry.Outcome lease.number lease.token answer_ before after) s).stack =
-      on_one (entry.Outcome lease.number lease.token answer_ before after) x name s h.orderly.own refl at_work in
+      let z : World = changed_by (x.place + 1) (Entry.Outcome lease.number lease.token answer_ before after) x in
+      let at0 : IsOnOne x z name s (effect_at (x.place + 1) (Entry.Outcome lease.number lease.token answer_ before after) s).stack =
+      on_one (Entry.Outcome lease.number lease.token answer_ before after) x name s h.orderly.own refl at_work in
       let (p, pending) = some_of (pending_of lease.token s) is_open in
       let o = open_as name p in
       let sf = answered_stack (x.place + 1) lease.number lease.token answer_ before after p s in
-      let at : IsOnOne x z name s sf = subst (λ q. IsOnOne x z name s (heard (x.place + 1) (entry.Outcome lease.number lease.token answer_ before after) s (stays_listed (reply_of lease.token answer_ q s))).stack) pending at0 in
+      let at : IsOnOne x z name s sf = subst (λ q. IsOnOne x z name s (heard (x.place + 1) (Entry.Outcome lease.number lease.token answer_ before after) s (stays_listed (reply_of lease.token answer_ q s))).stack) pending at0 in
       let (fr, bk) = at.unshared.tokens lease.token p pending in
       let open_ = open_own x.stacks z.stacks name s sf at.one lease.token o fr (ap (option_map (open_as name)) pending) in
       let (r, en, ry) = (h.agrees.leased).replies (lease_of lease) y mine.1 k in
@@ -478,17 +423,17 @@ module _ (schemas : List Schema) (life : Life) (token : ℕ) (h : IsSound life) 
       let kept = answer_keeps (told_in life) (held_by life) ls (lease_of lease) o y h.agrees mine.1 k open_ in
       record {
         agrees = subst (λ c. Agree c (held_by life) (returned token ls)) (sym (moved ∙ ap (λ v. answered lease.token o v (told_in life)) ry)) (subst (λ t. Agree (answered lease.token o y (told_in life)) (held_by life) (returned t ls)) (sym mine.0) kept);
-        orderly = orderly_on x (entry.Outcome lease.number lease.token answer_ before after) name s sf h.orderly tt at.one
+        orderly = orderly_on x (Entry.Outcome lease.number lease.token answer_ before after) name s sf h.orderly tt at.one
             (outcome_local life.entries x z (held_by life) name s p r (x.place + 1) lease.number lease.token answer_ before after h.orderly.own good h.agrees.tied is at
             (differ_left s _ p.path p.request answer_ (answered_left (is_restore lease.token s) p.path p.request answer_ s))) at.lanes;
       }
 
   by_entry : (e : Entry) (r : CallEnd) → lease.reply ≡ Some r → IsOutcomeOf lease r e → MayFollow schemas (world_of life) (tokens_out life) e → IsBack e
-  by_entry e (Answered (answer.Success i v) before after) k is may =
-      subst IsBack (sym is) (by_good (reply.Success i v) (settlement.Success i v) before after refl (ap good_reply k) (subst (λ d. MayFollow schemas (world_of life) (tokens_out life) d) is may))
-  by_entry e (Answered (answer.Failed c) before after) k is may =
-      subst IsBack (sym is) (by_good (reply.Failed c) (settlement.Failed c) before after refl (ap good_reply k) (subst (λ d. MayFollow schemas (world_of life) (tokens_out life) d) is may))
-  by_entry e (Answered answer.Fault before after) k is may =
+  by_entry e (Answered (Answer.Success i v) before after) k is may =
+      subst IsBack (sym is) (by_good (Reply.Success i v) (Settlement.Success i v) before after refl (ap good_reply k) (subst (λ d. MayFollow schemas (world_of life) (tokens_out life) d) is may))
+  by_entry e (Answered (Answer.Failed c) before after) k is may =
+      subst IsBack (sym is) (by_good (Reply.Failed c) (Settlement.Failed c) before after refl (ap good_reply k) (subst (λ d. MayFollow schemas (world_of life) (tokens_out life) d) is may))
+  by_entry e (Answered Answer.Fault before after) k is may =
       subst IsBack (sym is) (by_doubt before after (subst (λ d. MayFollow schemas (world_of life) (tokens_out life) d) is may))
   by_entry e _ k is may = absurd is
 
@@ -497,38 +442,26 @@ settle_keeps schemas life token e end may h = settled_life schemas life token h 
 
 -- A call that is made again keeps what holds at each moment of a life.
 
--- the lease of an open call that is made again
-record Again (ss : Named) (token : ℕ) (o : Open) : Type 0 where
-  pub lease : Granted
-  pub found : first_again token ss ≡ Some lease
-  pub of_token : lease.token ≡ token
-  pub lane : lease.lane ≡ o.lane
-  pub request : lease.request ≡ o.request
-  pub reply : lease.reply ≡ None
+-- the lease of an open call that is made again is that of the stack on which it is open
+again_behind : (t : ℕ) (front back : Named) → open_in front t ≡ None → first_again t (front ++ back) ≡ first_again t back
+again_behind t [] back n = refl
+again_behind t (s ∷ ss) back n =
+    let (here_none, rest_none) = or_none (open_on s.0 s.1 t) (open_in ss t) n in
+    let none : find (has_token t) (s.1).tokens ≡ None = map_none (open_as s.0) (find (has_token t) (s.1).tokens) here_none in
+    ap (λ o. option_or (option_map (lease_for (s.1).operation) o) (first_again t (ss ++ back))) none ∙ again_behind t ss back rest_none
 
-again : (ss : Named) (token : ℕ) (o : Open) → open_in ss token ≡ Some o → Again ss token o
-again [] token o e = absurd (cc)
-again (s ∷ ss) token o e = go (find (has_token token) (s.1).tokens) refl (again ss token o) where
-  go : (q : Option Pending) → find (has_token token) (s.1).tokens ≡ q → (open_in ss token ≡ Some o → Again ss token o) → Again (s ∷ ss) token o
-  go None k ih =
-      let f = ih (sym (ap (λ z. option_or (option_map (open_as s.0) z) (open_in ss token)) k) ∙ e) in
-      record { lease = f.lease; found = ap (λ z. option_or (option_map (lease_for (s.1).operation) z) (first_again token ss)) k ∙ f.found; of_token = f.of_token; lane = f.lane; request = f.request; reply = f.reply }
-  go (Some p) k ih =
-      let z : Some (open_as s.0 p) ≡ Some o = sym (ap (λ z. option_or (option_map (open_as s.0) z) (open_in ss token)) k) ∙ e in
-      let one : open_as s.0 p ≡ o = cc in
-      record {
-        lease = lease_for (s.1).operation p;
-        found = ap (λ z. option_or (option_map (lease_for (s.1).operation) z) (first_again token ss)) k;
-        of_token = sym (token_of token (s.1).tokens p k);
-        lane = ap (λ (v : Open). v.lane) one;
-        request = ap (λ (v : Open). v.request) one;
-        reply = refl;
-      }
+pub again_is : (x : World) (name : List ℕ) (s : StackState) (at : IsOnOne x x name s s) (t : ℕ) (p : Pending) → find (has_token t) s.tokens ≡ Some p
+    → first_again t x.stacks ≡ Some (lease_for s.operation p)
+again_is x name s at t p found = by at.one.was where
+  by : Stood x.stacks at.one.front at.one.back name s → first_again t x.stacks ≡ Some (lease_for s.operation p)
+  by (stands_there e) =
+      ap (first_again t) e ∙ again_behind t at.one.front ((name, s) ∷ at.one.back) (at.unshared.tokens t p found).0
+      ∙ ap (λ o. option_or (option_map (lease_for s.operation) o) (first_again t at.one.back)) found
+  by (is_new e k) = let no : find (has_token t) [] ≡ Some p = sym (ap (λ (q : StackState). find (has_token t) q.tokens) k) ∙ found in absurd (cc)
 
 -- a call that may be made again is open and not out
 pub may_again : (schemas : List Schema) (name : List ℕ) (x : World) (out : List ℕ) (s : StackState) (stage : Stage) (p : Pending) → MayRepeat schemas name x out s stage p → In p s.tokens × (is_in_flight out p.token ≡ false)
-may_again schemas name x out s Forward p m = (m.1, not-true (is_in_flight out p.token) (first_so (not (is_in_flight out p.token)) _ m.2))
-may_again schemas name x out s _ p m = (m.0, not-true (is_in_flight out p.token) (first_so (not (is_in_flight out p.token)) _ m.1))
+may_again schemas name x out s stage p m = grind (arith, not-true)
 
 not_out : (token : ℕ) (ls : List Granted) → is_in_flight (map (λ (l : Granted). l.token) ls) token ≡ false → (l : Lease) → InLane l (map lease_of ls) → l.token ≢ token
 not_out token [] h l i = elim i [ ]
@@ -539,31 +472,32 @@ not_out token (k ∷ ls) h l i = elim (in_cons l (lease_of k) (map lease_of ls) 
 
 pub repeat_keeps : RepeatKeeps
 repeat_keeps schemas life token (running, name, s, stage, p, m) h =
-    let is : In p s.tokens × (is_in_flight (tokens_out life) p.token ≡ false) = may_again schemas name (world_of life) (tokens_out life) s stage p m.may in
+    let x : World = world_of life in
+    let is : In p s.tokens × (is_in_flight (tokens_out life) p.token ≡ false) = may_again schemas name x (tokens_out life) s stage p m.may in
     let (q, pending) = is_found_in (has_token token) s.tokens p is.0 (eq-eqb token p.token (sym m.of_token)) in
     let o : Open = open_as name q in
-    let at : IsOnOne (world_of life) (world_of life) name s s = stands_on (world_of life) name s h.orderly.own m.stands in
-    let open_ : open_in (world_of life).stacks token ≡ Some o =
-    open_own (world_of life).stacks (world_of life).stacks name s s at.one token o (at.unshared.tokens token q pending).0 (ap (option_map (open_as name)) pending) in
+    let at : IsOnOne x x name s s = stands_on x name s h.orderly.own m.stands in
+    let open_ : open_in x.stacks token ≡ Some o =
+    open_own x.stacks x.stacks name s s at.one token o (at.unshared.tokens token q pending).0 (ap (option_map (open_as name)) pending) in
     let written : (told_in life).call token ≡ Some (called o) = (((h.agrees).tied).books).calls token o open_ in
-    let g : Again (world_of life).stacks token o = again (world_of life).stacks token o open_ in
-    let out : IsOut (told_in life) g.lease.lane token g.lease.request = record {
+    let out : IsOut (told_in life) q.lane token q.request = record {
       own = record {
         number = (((h.agrees).tied).books).numbers token (called o) written;
-        written = λ c e. let same : called o ≡ c = cc in (ap (λ (q : Called). q.lane) (sym same) ∙ sym g.lane, ap (λ (q : Called). q.request) (sym same) ∙ sym g.request);
+        written = λ c e. let same : called o ≡ c = cc in (ap (λ (q : Called). q.lane) (sym same), ap (λ (q : Called). q.request) (sym same));
       };
       accounted = inl (o, open_);
       going = λ v e. let same : o ≡ v = cc in
-          ap (λ (q : Open). resting_in (world_of life).stacks q.stack) (sym same) ∙ ap (λ z. option_map_or is_at_rest z false) m.stands ∙ ap (λ c. not c && is_opened_since s) (ap is_some m.at_stage);
+          ap (λ (q : Open). resting_in x.stacks q.stack) (sym same) ∙ ap (λ z. option_map_or is_at_rest z false) m.stands ∙ ap (λ c. not c && is_opened_since s) (ap is_some m.at_stage);
     } in
     let ls : List Lease = map lease_of life.leases in
-    let ends : ls ++ record { token = token; lane = g.lease.lane; request = g.lease.request; reply = None } ∷ [] ≡ map lease_of (life.leases ++ g.lease ∷ []) =
-    ap (λ l. ls ++ l ∷ []) (λ i. record { token = sym g.of_token i; lane = g.lease.lane; request = g.lease.request; reply = sym (ap good_reply g.reply) i }) ∙ sym (more_leases life.leases g.lease) in
-    subst (λ q. IsSound (repeated q life)) (sym g.found) (record {
+    let lease : Granted = lease_for s.operation q in
+    let ends : ls ++ record { token = token; lane = q.lane; request = q.request; reply = None } ∷ [] ≡ map lease_of (life.leases ++ lease ∷ []) =
+    ap (λ t. ls ++ record { token = t; lane = q.lane; request = q.request; reply = None } ∷ []) (token_of token s.tokens q pending) ∙ sym (more_leases life.leases lease) in
+    subst (λ q. IsSound (repeated q life)) (sym (again_is x name s at token q pending)) (record {
       agrees = record {
         tied = (h.agrees).tied;
         leased = subst (AreLeased (told_in life) (lanes_of life.lanes)) ends
-            (leased_granted (told_in life) (told_in life) (lanes_of life.lanes) ls (h.agrees).leased token g.lease.lane g.lease.request (λ l i x. x)
+            (leased_granted (told_in life) (told_in life) (lanes_of life.lanes) ls (h.agrees).leased token q.lane q.request (λ l i x. x)
             (not_out token life.leases (ap (is_in_flight (tokens_out life)) (sym m.of_token) ∙ is.1)) out);
       };
       orderly = h.orderly;

@@ -1,45 +1,16 @@
 -- A deletion of a cleanup goes out, or its resource is kept.
-use Rattle.std.proofs.Common.{◌≡◌, ◌≢◌, ◌⊎◌, inl, inr, ℕ, ◌<◌, ◌==◌, Bool, true, false, not, List, [], ◌∷◌, ◌++◌, Some, None, refl, sym, ap, subst, ◌∙◌, true≢false, find, length, arith}
-use Rattle.std.specs.Prelude.{cond}
-use Rattle.std.specs.List.{list_any}
-use Rattle.std.specs.Option.{option_map_or}
-use Rattle.std.specs.Str.{bytes_eq}
-use Rattle.std.proofs.lemmas.Bool.{and_from, and_left, and_right, eq-eqb}
-use Rattle.std.proofs.lemmas.List.{append-nil}
-use Rattle.std.proofs.lemmas.Slice.Eq.{bytes_eq-Decides}
-use Rattle.cf_tree.specs.declared.request.Request.TheVariants as request
-use Rattle.cf_entry.specs.declared.status.Status.{Status}
-use Rattle.cf_entry.specs.declared.turn.Why.{Why}
-use Rattle.cf_effect.specs.declared.call.Call.{Call}
-use Rattle.cf_effect.specs.declared.held.Held.{Held}
-use Rattle.cf_effect.specs.declared.held.Pending.{Pending}
-use Rattle.cf_effect.specs.World.{StackState, World}
-use Rattle.cf_effect.specs.Status.{Stage}
-use Rattle.cf_effect.specs.Words.{deletes, has_physical, has_token, id_named, is_create, is_create_at, is_on, resources_of}
-use Rattle.cf_effect.specs.Calls.{call_under as call_of, is_call, is_refusal, new_call, was_refused}
-use Rattle.cf_effect.specs.Reply.{keeping, keeping_known, keeping_unknown}
-use Rattle.cf_plan.specs.Follow.{cleaned_in, is_free}
-use Rattle.cf_plan.specs.Forward.{In}
-use Rattle.cf_plan.proofs.CreatedRight.{free_path, in_filter, not_so}
-use Rattle.cf_plan.proofs.CreatedStays.{found_in_more, found_still}
-use Rattle.cf_plan.proofs.RunLists.{in_either, in_end, in_front, in_kept, in_one, none_any}
-use Rattle.cf_core.specs.Course.{IsOpenDeletion, IsOwnCall, IsTried}
-use Rattle.cf_core.specs.Fits.{Fits}
-use Rattle.cf_core.specs.Tidying.{IsCleanup, IsTidying}
-use Rattle.cf_core.proofs.TidyLedger.{is_try, refusals, tried_length, tried_refused, tries, tries_end, try, one_more}
-use Rattle.cf_core.proofs.TidyLists.{bytes_or, one_of_bytes}
-use Rattle.cf_core.proofs.TidyOwn.{new_called, new_open}
-use Rattle.cf_core.proofs.TidySteps.{IsLeftSo, IsOther, carried, cleaned_same, left_deleted, of_stack, quiet, quiet_same, tried_still}
+use Rattle.std.proofs.Common.{◌≡◌, ◌≢◌, ◌⊎◌, inl, inr, ℕ, ◌<◌, ◌==◌, true, false, not, List, [], ◌∷◌, ◌++◌, Some, None, refl, sym, ap, subst, ◌∙◌, true≢false, find, length, arith}
+use Rattle.cf_core.proofs.Words.{Call, Fits, Held, In, IsCleanup, IsOpenDeletion, IsOwnCall, IsTidying, IsTried, Pending, Request, StackState, Stage, Status, Why, World, bytes_eq, call_under as call_of, cleaned_in, cond, deletes, has_token, id_named, is_call, is_create_at, is_free, is_on, is_refusal, keeping, keeping_known, list_any, new_call, option_map_or, was_refused}
+use Rattle.cf_core.proofs.Lemmas.{and_from, and_left, and_right, append-nil, bytes_eq-Decides, bytes_or, eq-eqb, found_in_more, found_still, free_path, in_either, in_end, in_filter, in_front, in_kept, in_one, none_any, not_so, one_id}
+use Rattle.cf_core.proofs.{TidyLedger.is_try, TidyLedger.refusals, TidyLedger.tried_length, TidyLedger.tried_refused, TidyLedger.tries, TidyLedger.tries_end, TidyLedger.try, TidyLedger.one_more, TidyOwn.new_called, TidyOwn.new_open, TidySteps.IsLeftSo, TidySteps.IsOther, TidySteps.carried, TidySteps.cleaned_same, TidySteps.left_deleted, TidySteps.of_stack, TidySteps.quiet, TidySteps.quiet_same, TidySteps.tried_still}
 
 module _ (x : World) (s : StackState) (fits : Fits x s) (stage : Stage) (at : Status) (cleanup : IsCleanup stage at) (h : IsTidying (cleaned_in stage s) s) where
   pub tidy_same : (t : StackState) → IsLeftSo t s → IsTidying (cleaned_in stage t) t
-  tidy_same t l =
-      subst (λ rs. IsTidying rs t) (sym (cleaned_same stage at cleanup s t l.held l.made))
-      (quiet (cleaned_in stage s) s t (quiet_same s t l.tokens l.operation l.ledger) h)
+  tidy_same t l = grind (arith, cleaned_same, quiet, quiet_same)
 
   -- A deletion goes out.
   module _ (q : Pending) (number : ℕ) (state : Status) (of_it : number ≡ s.operation) (new : x.token < q.token) (free : is_free q.path s ≡ true)
-      (r : Held) (is_cleaned : In r (cleaned_in stage s)) (deletes_it : q.request ≡ request.Delete r.physical) (at_path : q.path ≡ r.path) where
+      (r : Held) (is_cleaned : In r (cleaned_in stage s)) (deletes_it : q.request ≡ Request.Delete r.physical) (at_path : q.path ≡ r.path) where
     abbrev row : Call
     row = new_call number state q
 
@@ -50,11 +21,8 @@ module _ (x : World) (s : StackState) (fits : Fits x s) (stage : Stage) (at : St
     with_call = record s { tokens = s.tokens ++ q ∷ []; ledger = s.ledger ++ row ∷ [] }
 
     -- the open deletions of this resource would be at its path
-    not_open : (p : Pending) → In p s.tokens → p.request ≡ request.Delete r.physical → ⊥
-    not_open p i e =
-        let a = fits.named p r.physical i (ap id_named e) in
-        let same = one_of_bytes (λ k. k.physical) (resources_of s) a.0 r fits.ids a.1 (of_stack stage at cleanup s r is_cleaned) a.2 in
-        free_path q.path s.tokens p free i (sym a.3 ∙ ap (λ k. k.path) same ∙ sym at_path)
+    not_open : (p : Pending) → In p s.tokens → p.request ≡ Request.Delete r.physical → ⊥
+    not_open p i e = grind (arith, one_id, of_stack, free_path)
 
     module _ (t : StackState) (l : IsLeftSo t with_call) where
       counts_now : (id : List ℕ) → tries t.operation id t.ledger ≡ tries s.operation id s.ledger ++ try s.operation id row []
@@ -70,10 +38,7 @@ module _ (x : World) (s : StackState) (fits : Fits x s) (stage : Stage) (at : St
       other_tried id n = tried_still s t id (counts_now id ∙ ap (λ b. tries s.operation id s.ledger ++ cond b (was_refused row ∷ []) []) apart ∙ no_more)
           (old_open id) where
             apart : is_try s.operation id row ≡ false
-            apart = and_right (number == s.operation) (deletes id q.request) (ap (deletes id) deletes_it ∙ by (bytes_eq id r.physical) refl) where
-              by : (b : Bool) → bytes_eq id r.physical ≡ b → b ≡ false
-              by true e = absurd (n ((bytes_eq-Decides id r.physical).0 e))
-              by false e = refl
+            apart = grind (arith, and_right, bytes_eq-Decides)
 
             no_more : tries s.operation id s.ledger ++ [] ≡ tries s.operation id s.ledger
             no_more = append-nil (tries s.operation id s.ledger)
@@ -104,7 +69,7 @@ module _ (x : World) (s : StackState) (fits : Fits x s) (stage : Stage) (at : St
         tried =
             λ k i. by k (bytes_or k.physical r.physical) (h.tried k i);
       }) where
-        each : (p : Pending) → In p s.tokens ⊎ In p (q ∷ []) → (k : Held) × In k (cleaned_in stage s) × (p.request ≡ request.Delete k.physical) × (p.path ≡ k.path)
+        each : (p : Pending) → In p s.tokens ⊎ In p (q ∷ []) → (k : Held) × In k (cleaned_in stage s) × (p.request ≡ Request.Delete k.physical) × (p.path ≡ k.path)
         each p (inl i) = h.calls p i
         each p (inr i) = let e = in_one p q i in (r, is_cleaned, ap (λ k. k.request) e ∙ deletes_it, ap (λ k. k.path) e ∙ at_path)
 
@@ -116,9 +81,7 @@ module _ (x : World) (s : StackState) (fits : Fits x s) (stage : Stage) (at : St
   module _ (path physical : List ℕ) (w : Why) where
     -- no create is open
     no_create : list_any (is_create_at path) s.tokens ≡ false
-    no_create = none_any (is_create_at path) s.tokens (λ p i e.
-        let c = h.calls p i in
-        true≢false (sym e ∙ and_left (is_create p.request) (bytes_eq path p.path) (ap is_create c.2)))
+    no_create = grind (arith, none_any, and_left)
 
     kept_known : (t : StackState) → IsLeftSo t (keeping_known path physical w s) → IsTidying (cleaned_in stage t) t
     kept_known t l =
@@ -129,21 +92,11 @@ module _ (x : World) (s : StackState) (fits : Fits x s) (stage : Stage) (at : St
           still : (p : Pending) → In p t.tokens → In p s.tokens × (not (is_on physical p) ≡ true)
           still p i = in_filter (λ k. not (is_on physical k)) s.tokens p (subst (In p) l.tokens i)
 
-          on_it : (p : Pending) (id : List ℕ) → p.request ≡ request.Delete id → id ≡ physical → is_on physical p ≡ true
+          on_it : (p : Pending) (id : List ℕ) → p.request ≡ Request.Delete id → id ≡ physical → is_on physical p ≡ true
           on_it p id e same = ap (λ k. option_map_or (bytes_eq physical) (id_named k) false) e ∙ (bytes_eq-Decides physical id).1 (sym same)
 
-          stays : (p : Pending) (id : List ℕ) → In p s.tokens → p.request ≡ request.Delete id → id ≢ physical → In p t.tokens
-          stays p id i e n = subst (In p) (sym l.tokens) (in_kept (λ k. not (is_on physical k)) s.tokens p i
-              (ap (λ k. not (option_map_or (bytes_eq physical) (id_named k) false)) e ∙ by (bytes_eq physical id) refl)) where
-                by : (b : Bool) → bytes_eq physical id ≡ b → not b ≡ true
-                by true g = absurd (n (sym ((bytes_eq-Decides physical id).0 g)))
-                by false g = refl
+          stays : (p : Pending) (id : List ℕ) → In p s.tokens → p.request ≡ Request.Delete id → id ≢ physical → In p t.tokens
+          stays p id i e n = grind (arith, in_kept, bytes_eq-Decides)
 
     pub tidy_kept : (t : StackState) → IsLeftSo t (keeping path physical w s) → IsTidying (cleaned_in stage t) t
-    tidy_kept t = by (bytes_eq physical []) (list_any (is_create_at path) s.tokens) (list_any (has_physical physical) (resources_of s)) no_create where
-      by : (a b c : Bool) → b ≡ false → IsLeftSo t (cond a (cond b (keeping_unknown path w s) s) (cond c (keeping_known path physical w s) s))
-          → IsTidying (cleaned_in stage t) t
-      by true true c e l = absurd (true≢false e)
-      by true false c e l = tidy_same t l
-      by false b true e l = kept_known t l
-      by false b false e l = tidy_same t l
+    tidy_kept t = grind (arith, no_create, IsLeftSo, tidy_same, kept_known)

@@ -1,47 +1,20 @@
 -- Each entry leaves a cleanup as it has to be.
 use Rattle.std.proofs.Common.{◌≡◌, ℕ, ◌+◌, ◌<◌, List, [], ◌∷◌, ◌++◌, Option, Some, None, refl, sym, ap, subst, ◌∙◌, map, arith}
-use Rattle.std.specs.Prelude.{cond}
-use Rattle.cf_tree.specs.declared.request.Request.{Request}
-use Rattle.cf_tree.specs.declared.request.Request.TheVariants as request
-use Rattle.cf_entry.specs.declared.entry.Entry.{Entry}
-use Rattle.cf_entry.specs.declared.entry.Entry.TheVariants as entry
-use Rattle.cf_entry.specs.declared.entry.Reply.{Reply}
-use Rattle.cf_entry.specs.declared.status.Status.{Status}
-use Rattle.cf_schema.specs.declared.described.Schema.{Schema}
-use Rattle.cf_effect.specs.declared.held.Held.{Held}
-use Rattle.cf_effect.specs.declared.held.Pending.{Pending}
-use Rattle.cf_effect.specs.World.{StackState, World}
-use Rattle.cf_effect.specs.Words.{has_token, pending_of}
-use Rattle.cf_effect.specs.Status.{Stage, stage_of}
-use Rattle.cf_effect.specs.Calls.{anew, is_restore, new_call}
-use Rattle.cf_effect.specs.Reply.{answered, closing, intending, replied}
-use Rattle.cf_effect.specs.Fold.{effect_at}
-use Rattle.cf_plan.specs.Follow.{EndsAs, IntendsIn, MayFollowIn, MayIntend, cleaned_in}
-use Rattle.cf_plan.specs.Run.{IsOwn}
-use Rattle.cf_plan.specs.Forward.{In}
-use Rattle.cf_plan.proofs.Going.{end_status}
-use Rattle.cf_plan.proofs.CreatedStays.{found_one}
-use Rattle.cf_plan.proofs.RunLists.{in_kept}
-use Rattle.cf_core.specs.Fits.{Fits}
-use Rattle.cf_core.specs.Tidying.{IsCleanup, IsTidying, TidyingStays, of_rollback, of_update}
-use Rattle.cf_core.specs.Written.{IsTo, begins, opened, other, reviewed, step}
-use Rattle.cf_core.proofs.TidyAnswers.{tidy_answered}
-use Rattle.cf_core.proofs.TidyCalls.{none_open, tidy_called, tidy_kept, tidy_same}
-use Rattle.cf_core.proofs.TidyOwn.{cleanup_stage, never_begins, never_turns, some_same}
-use Rattle.cf_core.proofs.TidySteps.{IsLeftSo, cleaned_same, quiet, quiet_rows}
-use Rattle.cf_core.proofs.Written.{written_is_to}
+use Rattle.cf_core.proofs.Words.{EndsAs, Entry, Fits, Held, In, IntendsIn, IsCleanup, IsOwn, IsTidying, IsTo, MayFollowIn, MayIntend, Pending, Reply, Request, Schema, StackState, Stage, Status, TidyingStays, World, anew, answered, begins, cleaned_in, closing, cond, effect_at, has_token, intending, is_restore, new_call, of_rollback, of_update, opened, pending_of, replied, stage_of, step}
+use Rattle.cf_core.proofs.Lemmas.{end_status, found_one, in_kept}
+use Rattle.cf_core.specs.Written.{other, reviewed}
+use Rattle.cf_core.proofs.{TidyAnswers.tidy_answered, TidyCalls.none_open, TidyCalls.tidy_called, TidyCalls.tidy_kept, TidyCalls.tidy_same, TidyOwn.cleanup_stage, TidyOwn.never_begins, TidyOwn.never_turns, TidyOwn.some_same, TidySteps.IsLeftSo, TidySteps.cleaned_same, TidySteps.quiet, TidySteps.quiet_rows, Moving.written_is_to}
 
 -- what a cleanup may delete is what it cleans up
 pub deleted_of :
     (schemas : List Schema) (name : List ℕ) (x : World) (s : StackState) (stage : Stage) (at : Status) → IsCleanup stage at → (path : List ℕ) (q : Request)
-    → IntendsIn stage schemas name x s path q → (r : Held) × In r (cleaned_in stage s) × (q ≡ request.Delete r.physical) × (path ≡ r.path)
-deleted_of schemas name x s stage at of_update path (request.Delete physical) (r, may, keeps, p, id) =
-    (r, in_kept (λ k. k.superseded) s.held r may.0 may.1, ap (λ i. request.Delete i) id, p)
-deleted_of schemas name x s stage at of_rollback path (request.Delete physical) (r, may, keeps, p, id) = (r, may.0, ap (λ i. request.Delete i) id, p)
-deleted_of schemas name x s stage at of_update path (request.Create kind props) may = absurd may
-deleted_of schemas name x s stage at of_rollback path (request.Create kind props) may = absurd may
-deleted_of schemas name x s stage at of_update path (request.Update physical props) may = absurd may
-deleted_of schemas name x s stage at of_rollback path (request.Update physical props) may = absurd may
+    → IntendsIn stage schemas name x s path q → (r : Held) × In r (cleaned_in stage s) × (q ≡ Request.Delete r.physical) × (path ≡ r.path)
+deleted_of schemas name x s stage at of_update path (Request.Delete physical) (r, may, keeps, p, id) = grind (arith, in_kept)
+deleted_of schemas name x s stage at of_rollback path (Request.Delete physical) (r, may, keeps, p, id) = (r, may.0, ap (λ i. Request.Delete i) id, p)
+deleted_of schemas name x s stage at of_update path (Request.Create kind props) may = absurd may
+deleted_of schemas name x s stage at of_rollback path (Request.Create kind props) may = absurd may
+deleted_of schemas name x s stage at of_update path (Request.Update physical props) may = absurd may
+deleted_of schemas name x s stage at of_rollback path (Request.Update physical props) may = absurd may
 
 left_so : {t u : StackState} → t.tokens ≡ u.tokens → t.operation ≡ u.operation → t.ledger ≡ u.ledger → t.held ≡ u.held → t.made ≡ u.made → IsLeftSo t u
 left_so a b c d e = record { tokens = a; operation = b; ledger = c; held = d; made = e }
@@ -81,27 +54,26 @@ module _ (schemas : List Schema) (x : World) (out : List ℕ) (name : List ℕ) 
 
   by_own : (place : ℕ) (e : Entry) → IsOwn s.operation e → MayFollowIn schemas name x out s stage e → (effect_at place e s).stack.status ≡ at
       → IsTidying (cleaned_in stage (effect_at place e s).stack) (effect_at place e s).stack
-  by_own place (entry.Kept number path physical w) own may e =
-      tidy_kept x s fits stage at cleanup h path physical w (effect_at place (entry.Kept number path physical w) s).stack (left_so refl refl refl refl refl)
-  by_own place (entry.Intent number token lane path r) own may e =
-      calling (effect_at place (entry.Intent number token lane path r) s).stack number token lane path r own may (left_so refl refl refl refl refl)
-  by_own place (entry.Outcome number token a before after) own may e =
-      answering (effect_at place (entry.Outcome number token a before after) s).stack token a (pending_of token s) refl (left_so refl refl refl refl refl)
-  by_own place (entry.Phase number p c) own may e = absurd (never_turns schemas name x s stage at cleanup is p c may.1)
-  by_own place (entry.Done number state failed) own may e =
+  by_own place (Entry.Kept number path physical w) own may e =
+      tidy_kept x s fits stage at cleanup h path physical w (effect_at place (Entry.Kept number path physical w) s).stack (left_so refl refl refl refl refl)
+  by_own place (Entry.Intent number token lane path r) own may e =
+      calling (effect_at place (Entry.Intent number token lane path r) s).stack number token lane path r own may (left_so refl refl refl refl refl)
+  by_own place (Entry.Outcome number token a before after) own may e =
+      answering (effect_at place (Entry.Outcome number token a before after) s).stack token a (pending_of token s) refl (left_so refl refl refl refl refl)
+  by_own place (Entry.Phase number p c) own may e = absurd (never_turns schemas name x s stage at cleanup is p c may.1)
+  by_own place (Entry.Done number state failed) own may e =
       absurd (never_ends schemas name x s stage at cleanup
       (subst (λ b. EndsAs schemas name x s b at) is (subst (EndsAs schemas name x s s.status) (sym (end_status state s) ∙ e) may.2)))
-  by_own place (entry.Opened epoch lanes) own may e = absurd own
-  by_own place (entry.Begin number n k) own may e = absurd own
-  by_own place (entry.ChangeSet number n source rows outputs) own may e = absurd own
+  by_own place (Entry.Opened epoch lanes) own may e = absurd own
+  by_own place (Entry.Begin number n k) own may e = absurd own
+  by_own place (Entry.ChangeSet number n source rows outputs) own may e = absurd own
 
   to_tidying : {e : Entry} {t : StackState} → IsTo schemas x out name s e t → t.status ≡ at → IsTidying (cleaned_in stage t) t
   to_tidying (step {e = e} g in_g own may) now =
       by_own (x.place + 1) e own (subst (λ k. MayFollowIn schemas name x out s k e) (some_same g stage (sym in_g ∙ at_stage stage at cleanup s is)) may) now
   to_tidying (begins k from by) now = absurd (never_begins stage at cleanup s is k from)
-  to_tidying (reviewed number source rows outputs from) now =
-      tidy_same x s fits stage at cleanup h (effect_at (x.place + 1) (entry.ChangeSet number name source rows outputs) s).stack (left_so refl refl refl refl refl)
-  to_tidying (opened epoch lanes) now = opening (effect_at (x.place + 1) (entry.Opened epoch lanes) s).stack (left_so refl refl refl refl refl)
+  to_tidying (reviewed number source rows outputs from) now = grind (arith, tidy_same, left_so)
+  to_tidying (opened epoch lanes) now = opening (effect_at (x.place + 1) (Entry.Opened epoch lanes) s).stack (left_so refl refl refl refl refl)
   to_tidying other now = h
 
 pub tidying_stays : TidyingStays

@@ -1,17 +1,8 @@
 -- How many deletions of a resource an operation has, and how many of them were refused, as the rows of a ledger change.
 use Rattle.std.proofs.Common.{◌≡◌, ℕ, ◌+◌, ◌≤◌, ◌==◌, Bool, true, false, not, ◌&&◌, List, [], ◌∷◌, ◌++◌, Some, refl, sym, ap, subst, ◌∙◌, map, find, filter, length, arith}
-use Rattle.std.specs.Prelude.{cond}
-use Rattle.std.specs.List.{list_any}
-use Rattle.std.specs.Cmp.{first_so, second_so}
-use Rattle.std.proofs.lemmas.Bool.{eqb-true}
+use Rattle.cf_core.proofs.Words.{Call, In, StackState, all_differ, cond, deletes, deletions_of, here, is_call, list_any, refusals_of, second_so, there, was_refused}
+use Rattle.cf_core.proofs.Lemmas.{eqb-true, none_of, not_so}
 use Rattle.std.proofs.lemmas.List.Sums.{count_by-le-length, length-filter}
-use Rattle.cf_tree.specs.Named.{all_differ}
-use Rattle.cf_effect.specs.declared.call.Call.{Call}
-use Rattle.cf_effect.specs.World.{StackState}
-use Rattle.cf_effect.specs.Words.{deletes}
-use Rattle.cf_effect.specs.Calls.{deletions_of, is_call, refusals_of, was_refused}
-use Rattle.cf_plan.specs.Forward.{In, here, there}
-use Rattle.cf_plan.proofs.CreatedRight.{none_of, not_so}
 use Rattle.cf_plan.proofs.CreatedWhole.{in_map}
 
 -- how many are refused
@@ -34,26 +25,14 @@ module _ (number : ℕ) (id : List ℕ) where
   try c bs = cond (is_try c) (was_refused c ∷ bs) bs
 
   pub tries_more : (c : Call) (cs : List Call) → tries (c ∷ cs) ≡ try c (tries cs)
-  tries_more c cs = by_number (c.number == number) where
-    by_request : (b : Bool) (ds : List Call) → map was_refused (cond b (c ∷ ds) ds) ≡ cond b (was_refused c ∷ map was_refused ds) (map was_refused ds)
-    by_request true ds = refl
-    by_request false ds = refl
-
-    by_number : (b : Bool)
-        → map was_refused (filter (λ d. deletes id d.request) (cond b (c ∷ filter (λ d. d.number == number) cs) (filter (λ d. d.number == number) cs)))
-        ≡ cond (b && deletes id c.request) (was_refused c ∷ tries cs) (tries cs)
-    by_number true = by_request (deletes id c.request) (filter (λ d. deletes id d.request) (filter (λ d. d.number == number) cs))
-    by_number false = refl
+  tries_more c cs = grind arith
 
   -- a row that counts as another does
   abbrev pub CountsAs : Call → Call → Type 0
   CountsAs c d = (is_try d ≡ is_try c) × (is_try c ≡ true → was_refused d ≡ was_refused c)
 
   counts_as : (c d : Call) (bs : List Bool) → CountsAs c d → try d bs ≡ try c bs
-  counts_as c d bs h = ap (λ b. cond b (was_refused d ∷ bs) bs) h.0 ∙ by (is_try c) h.1 where
-    by : (b : Bool) → (b ≡ true → was_refused d ≡ was_refused c) → cond b (was_refused d ∷ bs) bs ≡ cond b (was_refused c ∷ bs) bs
-    by true g = ap (λ r. r ∷ bs) (g refl)
-    by false g = refl
+  counts_as c d bs h = grind arith
 
   pub tries_same : (change : Call → Call) (cs : List Call) → ((c : Call) → In c cs → CountsAs c (change c)) → tries (map change cs) ≡ tries cs
   tries_same change [] h = refl
@@ -63,10 +42,7 @@ module _ (number : ℕ) (id : List ℕ) where
 
   pub tries_end : (cs : List Call) (c : Call) → tries (cs ++ c ∷ []) ≡ tries cs ++ try c []
   tries_end [] c = tries_more c []
-  tries_end (d ∷ cs) c = tries_more d (cs ++ c ∷ []) ∙ ap (try d) (tries_end cs c) ∙ by (is_try d) ∙ ap (λ bs. bs ++ try c []) (sym (tries_more d cs)) where
-    by : (b : Bool) → cond b (was_refused d ∷ (tries cs ++ try c [])) (tries cs ++ try c []) ≡ cond b (was_refused d ∷ tries cs) (tries cs) ++ try c []
-    by true = refl
-    by false = refl
+  tries_end (d ∷ cs) c = grind (arith, tries_end cs, tries_more)
 
   pub tries_none : (cs : List Call) → ((c : Call) → In c cs → is_try c ≡ false) → tries cs ≡ []
   tries_none [] h = refl
@@ -93,36 +69,16 @@ module _ (number : ℕ) (id : List ℕ) where
     tries_refused (e ∷ es) c f d a r b q = by (is_call token e) refl f (λ g. tries_refused es c g
         (second_so (not (list_any (◌==◌ e.token) (map (λ k. k.token) es))) (all_differ ◌==◌ (map (λ k. k.token) es)) d) a r b q) where
           at_head : (g : is_call token e ≡ true) → e ≡ c → IsOneMore (tries (e ∷ es)) (tries (map changed (e ∷ es)))
-          at_head g same =
-              let apart : list_any (◌==◌ token) (map (λ k. k.token) es) ≡ false = ap (λ n. list_any (◌==◌ n) (map (λ k. k.token) es)) (eqb-true token e.token g)
-              ∙ not_so _ (first_so (not (list_any (◌==◌ e.token) (map (λ k. k.token) es))) (all_differ ◌==◌ (map (λ k. k.token) es)) d) in
-              let now : tries (map changed (e ∷ es)) ≡ true ∷ tries es =
-              ap (λ k. tries (cond k (change e) e ∷ map changed es)) g ∙ ap (λ ks. tries (change e ∷ ks)) (not_called es apart) ∙ tries_more (change e) es
-              ∙ ap (λ k. cond k (was_refused (change e) ∷ tries es) (tries es)) (ap (λ k. is_try (change k)) same ∙ b)
-              ∙ ap (λ k. k ∷ tries es) (ap (λ k. was_refused (change k)) same ∙ q) in
-              let was : tries (e ∷ es) ≡ false ∷ tries es =
-              tries_more e es ∙ ap (λ k. cond k (was_refused e ∷ tries es) (tries es)) (ap is_try same ∙ a) ∙ ap (λ k. k ∷ tries es) (ap was_refused same ∙ r) in
-              record {
-                length = ap length now ∙ sym (ap length was);
-                count = let n = ap refusals now in let w = ap refusals was in omega (arith, n, w);
-              }
+          at_head g same = grind (arith, eqb-true, not_so, not_called, tries_more)
 
           later : is_call token e ≡ false → IsOneMore (tries es) (tries (map changed es)) → (k : Bool)
               → IsOneMore (cond k (was_refused e ∷ tries es) (tries es)) (cond k (was_refused e ∷ tries (map changed es)) (tries (map changed es)))
-          later g m true = record { length = let n = m.length in omega (arith, n); count = by_refused (was_refused e) m.count } where
-            by_refused : (w : Bool) → refusals (tries (map changed es)) ≡ refusals (tries es) + 1 → refusals (w ∷ tries (map changed es)) ≡ refusals (w ∷ tries es) + 1
-            by_refused true n = omega (arith, n)
-            by_refused false n = n
-          later g m false = m
+          later g m k = grind arith
 
           by : (k : Bool) → is_call token e ≡ k → cond k (Some e) (find (is_call token) es) ≡ Some c
               → (find (is_call token) es ≡ Some c → IsOneMore (tries es) (tries (map changed es)))
               → IsOneMore (tries (e ∷ es)) (tries (map changed (e ∷ es)))
-          by true g h more = at_head g (cc)
-          by false g h more =
-              subst (λ ks. IsOneMore (tries (e ∷ es)) (tries (ks ∷ map changed es))) (ap (λ k. cond k (change e) e) (sym g))
-              (subst (λ bs. IsOneMore bs (tries (e ∷ map changed es))) (sym (tries_more e es))
-              (subst (IsOneMore (try e (tries es))) (sym (tries_more e (map changed es))) (later g (more h) (is_try e))))
+          by k g h more = grind (arith, at_head, tries_more, later)
 
 -- the same, of a stack
 pub tried_length : (id : List ℕ) (s : StackState) → length (deletions_of id s) ≡ length (tries s.operation id s.ledger)
@@ -135,11 +91,7 @@ pub tried_refused : (id : List ℕ) (s : StackState) → refusals_of id s ≡ re
 tried_refused id s = sym (length-filter was_refused (deletions_of id s)) ∙ by (deletions_of id s) where
   by : (cs : List Call) → length (filter was_refused cs) ≡ refusals (map was_refused cs)
   by [] = refl
-  by (c ∷ cs) = more (was_refused c) (by cs) where
-    more : (b : Bool) → length (filter was_refused cs) ≡ refusals (map was_refused cs)
-        → length (cond b (c ∷ filter was_refused cs) (filter was_refused cs)) ≡ refusals (b ∷ map was_refused cs)
-    more true n = omega (arith, n)
-    more false n = n
+  by (c ∷ cs) = grind (arith, by cs)
 
 pub try_keeps : (number : ℕ) (id : List ℕ) (c d : Call) → d.number ≡ c.number → d.request ≡ c.request → is_try number id d ≡ is_try number id c
 try_keeps number id c d n r = ap (λ m. (m == number) && deletes id d.request) n ∙ ap (λ q. (c.number == number) && deletes id q) r
@@ -148,16 +100,8 @@ try_keeps number id c d n r = ap (λ m. (m == number) && deletes id d.request) n
 pub row_found : (change : Call → Call) → ((c : Call) → (change c).token ≡ c.token) → (token : ℕ) (cs : List Call) (c : Call)
     → find (is_call token) cs ≡ Some c → find (is_call token) (map change cs) ≡ Some (change c)
 row_found change same token [] c f = let no : ⊥ = cc in absurd no
-row_found change same token (d ∷ ds) c f = ap (λ n. cond (token == n) (Some (change d)) (find (is_call token) (map change ds))) (same d)
-    ∙ by (is_call token d) f (row_found change same token ds c) where
-      by : (b : Bool) → cond b (Some d) (find (is_call token) ds) ≡ Some c → (find (is_call token) ds ≡ Some c → find (is_call token) (map change ds) ≡ Some (change c))
-          → cond b (Some (change d)) (find (is_call token) (map change ds)) ≡ Some (change c)
-      by true g more = ap (λ k. Some (change k)) (cc)
-      by false g more = more g
+row_found change same token (d ∷ ds) c f = grind (arith, row_found change same token ds)
 
 pub one_more : (bs : List Bool) → (length (bs ++ false ∷ []) ≡ length bs + 1) × (refusals (bs ++ false ∷ []) ≡ refusals bs)
 one_more [] = (refl, refl)
-one_more (b ∷ bs) = let m = one_more bs in let l = m.0 in (omega (arith, l), by b m.1) where
-  by : (k : Bool) → refusals (bs ++ false ∷ []) ≡ refusals bs → refusals (k ∷ (bs ++ false ∷ [])) ≡ refusals (k ∷ bs)
-  by true n = omega (arith, n)
-  by false n = n
+one_more (b ∷ bs) = grind (arith, one_more bs)

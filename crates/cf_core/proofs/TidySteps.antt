@@ -1,28 +1,10 @@
 -- What a cleanup's stack is as its lists change.
-use Rattle.std.proofs.Common.{◌≡◌, ◌≢◌, inl, inr, ℕ, ◌+◌, Bool, true, false, not, List, refl, sym, ap, subst, ◌∙◌, true≢false, map, filter, find, length}
-use Rattle.std.specs.Prelude.{cond}
-use Rattle.std.specs.List.{list_any}
-use Rattle.std.proofs.lemmas.Slice.Eq.{bytes_eq-Decides}
-use Rattle.cf_tree.specs.declared.request.Request.TheVariants as request
-use Rattle.cf_entry.specs.declared.status.Status.{Status}
-use Rattle.cf_effect.specs.declared.call.Call.{Call}
-use Rattle.cf_effect.specs.declared.held.Held.{Held}
-use Rattle.cf_effect.specs.declared.held.Pending.{Pending}
-use Rattle.cf_effect.specs.World.{StackState}
-use Rattle.cf_effect.specs.Words.{has_physical, where_physical, without, resources_of}
-use Rattle.cf_effect.specs.Calls.{deletions_of, refusals_of, was_refused}
-use Rattle.cf_effect.specs.Reply.{changing}
-use Rattle.cf_effect.specs.Status.{Stage, BackClean, Clean}
-use Rattle.cf_plan.specs.Follow.{cleaned_in}
-use Rattle.cf_plan.specs.Forward.{In}
-use Rattle.cf_plan.proofs.CreatedRight.{in_filter, not_so}
-use Rattle.cf_plan.proofs.RunLists.{in_back, in_front, in_kept}
-use Rattle.cf_core.specs.Course.{IsOpenDeletion, IsOwnCall, IsTried}
-use Rattle.cf_core.specs.Tidying.{IsCleanup, IsTidying, of_rollback, of_update}
-use Rattle.cf_core.proofs.TidyLedger.{row_found, refusals, tried_length, tried_refused, tries, tries_same, try_keeps}
-use Rattle.cf_core.proofs.TidyLists.{IsOf, from_changed, to_changed}
+use Rattle.std.proofs.Common.{arith, ◌≡◌, ◌≢◌, ℕ, true, not, List, refl, sym, ap, subst, ◌∙◌, true≢false, map, filter, find}
+use Rattle.cf_core.proofs.Words.{BackClean, Call, Clean, Held, In, IsCleanup, IsOpenDeletion, IsOwnCall, IsTidying, IsTried, Pending, Request, StackState, Stage, Status, changing, cleaned_in, has_physical, of_rollback, of_update, resources_of, was_refused, where_physical, without}
+use Rattle.cf_core.proofs.Lemmas.{bytes_eq-Decides, in_back, in_filter, in_front, in_kept, not_so}
+use Rattle.cf_core.proofs.{TidyLedger.row_found, TidyLedger.refusals, TidyLedger.tried_length, TidyLedger.tried_refused, TidyLedger.tries, TidyLedger.tries_same, TidyLedger.try_keeps, TidyLists.IsOf, TidyLists.from_changed, TidyLists.to_changed}
 
-pub same_delete : (a b : List ℕ) → request.Delete a ≡ request.Delete b → a ≡ b
+pub same_delete : (a b : List ℕ) → Request.Delete a ≡ Request.Delete b → a ≡ b
 same_delete a b e = cc
 
 -- the stack is left so, but for what a cleanup does not rest on
@@ -40,10 +22,10 @@ pub record AreLeft (Stays : Held → Type 0) (rs left : List Held) : Type 0 wher
 
 pub carried :
     (Stays : Held → Type 0) (rs left : List Held) (s t : StackState) → IsTidying rs s → AreLeft Stays rs left → ((p : Pending) → In p t.tokens → In p s.tokens)
-    → ((p : Pending) → In p t.tokens → (q : Held) → In q rs → p.request ≡ request.Delete q.physical → Stays q)
+    → ((p : Pending) → In p t.tokens → (q : Held) → In q rs → p.request ≡ Request.Delete q.physical → Stays q)
     → ((q : Held) → In q rs → Stays q → IsTried s q.physical → IsTried t q.physical) → IsTidying left t
 carried Stays rs left s t h l less stays tried = record {
-  calls = λ p i. let w = h.calls p (less p i) in let k = l.to w.0 w.1 (stays p i w.0 w.1 w.2) in (k.0, k.1, w.2 ∙ ap (λ id. request.Delete id) (sym k.2), w.3 ∙ sym k.3);
+  calls = λ p i. let w = h.calls p (less p i) in let k = l.to w.0 w.1 (stays p i w.0 w.1 w.2) in (k.0, k.1, w.2 ∙ ap (λ id. Request.Delete id) (sym k.2), w.3 ∙ sym k.3);
   tried = λ r i. let w = l.from r i in subst (IsTried t) w.3 (tried w.0 w.1 w.2 (h.tried w.0 w.1));
 }
 
@@ -51,16 +33,7 @@ carried Stays rs left s t h l less stays tried = record {
 pub tried_still :
     (s t : StackState) (id : List ℕ) → tries t.operation id t.ledger ≡ tries s.operation id s.ledger
     → ((p : Pending) → IsOpenDeletion s id p → IsOpenDeletion t id p) → IsTried s id → IsTried t id
-tried_still s t id e opened = by where
-  lengths : length (deletions_of id t) ≡ length (deletions_of id s)
-  lengths = tried_length id t ∙ ap length e ∙ sym (tried_length id s)
-
-  refused : refusals_of id t ≡ refusals_of id s
-  refused = tried_refused id t ∙ ap refusals e ∙ sym (tried_refused id s)
-
-  by : IsTried s id → IsTried t id
-  by (inl l) = inl (lengths ∙ l ∙ sym refused)
-  by (inr (p, o, l)) = inr (p, opened p o, lengths ∙ l ∙ ap (λ n. n + 1) (sym refused))
+tried_still s t id e opened = grind (arith, tried_length, tried_refused, refusals)
 
 -- the stack's calls are as before, one by one
 pub record IsQuiet (s t : StackState) : Type 0 where
@@ -75,11 +48,7 @@ quiet rs s t q h = record {
 }
 
 pub quiet_same : (s t : StackState) → t.tokens ≡ s.tokens → t.operation ≡ s.operation → t.ledger ≡ s.ledger → IsQuiet s t
-quiet_same s t tokens operation ledger = record {
-  tokens = tokens;
-  counts = λ id. ap (λ n. tries n id t.ledger) operation ∙ ap (tries s.operation id) ledger;
-  rows = λ p o. (o.0, ap (find _) ledger ∙ o.1, o.2 ∙ sym operation);
-}
+quiet_same s t tokens operation ledger = grind (arith, tries)
 
 -- each row changed, but for its token and number
 pub rows_changed :
@@ -122,34 +91,22 @@ abbrev pub IsOther : List ℕ → Held → Type 0
 IsOther id q = q.physical ≢ id
 
 kept_other : (id : List ℕ) (q : Held) → q.physical ≢ id → not (has_physical id q) ≡ true
-kept_other id q n = by (has_physical id q) refl where
-  by : (b : Bool) → has_physical id q ≡ b → not b ≡ true
-  by true e = absurd (n (sym ((bytes_eq-Decides id q.physical).0 e)))
-  by false e = refl
+kept_other id q n = grind (arith, bytes_eq-Decides)
 
 other_kept : (id : List ℕ) (q : Held) → not (has_physical id q) ≡ true → q.physical ≢ id
 other_kept id q e same = true≢false (sym ((bytes_eq-Decides id q.physical).1 (sym same)) ∙ not_so _ e)
 
 left_without : (id : List ℕ) (rs : List Held) → AreLeft (IsOther id) rs (without id rs)
-left_without id rs = record {
-  from = λ r i. let w = in_filter (λ q. not (has_physical id q)) rs r i in (r, w.0, other_kept id r w.1, refl);
-  to = λ q i n. (q, in_kept (λ k. not (has_physical id k)) rs q i (kept_other id q n), refl, refl);
-}
+left_without id rs = grind (arith, in_filter, other_kept, in_kept, kept_other)
 
 -- the superseded ones of a list that is left are what is left of the superseded ones, where it is told alike of each
 left_superseded : (id : List ℕ) (rs : List Held) → AreLeft (IsOther id) (filter (λ r. r.superseded) rs) (filter (λ r. r.superseded) (without id rs))
-left_superseded id rs = record {
-  from = λ r i. let w = in_filter (λ q. q.superseded) (without id rs) r i in let k = in_filter (λ q. not (has_physical id q)) rs r w.0 in
-      (r, in_kept (λ q. q.superseded) rs r k.0 w.1, other_kept id r k.1, refl);
-  to = λ q i n. let w = in_filter (λ k. k.superseded) rs q i in
-      (q, in_kept (λ k. k.superseded) (without id rs) q (in_kept (λ k. not (has_physical id k)) rs q w.0 (kept_other id q n)) w.1, refl, refl);
-}
+left_superseded id rs = grind (arith, in_filter, in_kept, other_kept, kept_other)
 
 pub left_deleted :
     (stage : Stage) (at : Status) → IsCleanup stage at → (s t : StackState) (id : List ℕ) → t.held ≡ without id s.held → t.made ≡ without id s.made
     → AreLeft (IsOther id) (cleaned_in stage s) (cleaned_in stage t)
-left_deleted stage at of_update s t id held made = subst (λ hs. AreLeft (IsOther id) (filter (λ r. r.superseded) s.held) (filter (λ r. r.superseded) hs)) (sym held)
-    (left_superseded id s.held)
+left_deleted stage at of_update s t id held made = grind (arith, left_superseded)
 left_deleted stage at of_rollback s t id held made = subst (AreLeft (IsOther id) s.made) (sym made) (left_without id s.made)
 
 -- one resource changed, but for its path, its id and whether it is superseded
@@ -162,8 +119,7 @@ left_all rs = record { from = λ r i. (r, i, tt, refl); to = λ q i n. (q, i, re
 module _ (change : Held → Held) (keeps : (h : Held) → ((change h).physical ≡ h.physical) × ((change h).path ≡ h.path) × ((change h).superseded ≡ h.superseded))
     (id : List ℕ) where
   kept_by : (q r : Held) → IsOf (has_physical id) change q r → (r.physical ≡ q.physical) × (r.path ≡ q.path) × (r.superseded ≡ q.superseded)
-  kept_by q r (inl e) = (ap (λ h. h.physical) e, ap (λ h. h.path) e, ap (λ h. h.superseded) e)
-  kept_by q r (inr e) = (ap (λ h. h.physical) e ∙ (keeps q).0, ap (λ h. h.path) e ∙ (keeps q).1, ap (λ h. h.superseded) e ∙ (keeps q).2)
+  kept_by q r k = grind arith
 
   left_where : (rs : List Held) → AreLeft IsAny rs (where_physical id change rs)
   left_where rs = record {
@@ -181,15 +137,8 @@ module _ (change : Held → Held) (keeps : (h : Held) → ((change h).physical �
   }
 
   left_changing : (stage : Stage) (at : Status) → IsCleanup stage at → (s : StackState) → AreLeft IsAny (cleaned_in stage s) (cleaned_in stage (changing id change s))
-  left_changing stage at of_update s = by (list_any (has_physical id) s.held) where
-    by : (b : Bool) → AreLeft IsAny (filter (λ r. r.superseded) s.held)
-        (filter (λ r. r.superseded) (cond b (record s { held = where_physical id change s.held }) (record s { made = where_physical id change s.made })).held)
-    by true = superseded_where s.held
-    by false = left_all (filter (λ r. r.superseded) s.held)
-  left_changing stage at of_rollback s = by (list_any (has_physical id) s.held) where
-    by : (b : Bool) → AreLeft IsAny s.made (cond b (record s { held = where_physical id change s.held }) (record s { made = where_physical id change s.made })).made
-    by true = left_all s.made
-    by false = left_where s.made
+  left_changing stage at of_update s = grind (arith, superseded_where, left_all)
+  left_changing stage at of_rollback s = grind (arith, left_all, left_where)
 
   pub left_changed : (stage : Stage) (at : Status) → IsCleanup stage at → (s t : StackState) → t.held ≡ (changing id change s).held → t.made ≡ (changing id change s).made
       → AreLeft IsAny (cleaned_in stage s) (cleaned_in stage t)

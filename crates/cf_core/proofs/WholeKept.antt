@@ -1,32 +1,15 @@
 -- What a completed stack holds is whole: it becomes so, stays so, and keeps what its status promises.
-use Rattle.std.proofs.Common.{◌≡◌, ◌⊎◌, inl, inr, ◌↔◌, ℕ, List, ◌∷◌, Bool, true, false, not, Some, refl, sym, ap, subst, ◌∙◌, true≢false, map, filter, find, ◌++◌, ◌&&◌, Option, None, ◌+◌, []}
-use Rattle.cf_core.proofs.Words.{AllDone, AreSameThings, AreSingle, BecomesBy, Begun, Cause, Clean, DeletesSuperseded, EndsAs, Entry, Export, Fits, HasFailed, Held, HeldStatus, HoldsWhole, In, IsAdvancing, IsAsSaid, IsAtRest, IsDone, IsOnCourse, Known, MayFollow, MayFollowIn, MayFollowOn, MayKeep, MayTurn, Pending, Phase, Reply, Right, Schema, Source, StackState, Status, Why, World, all_differ, answered, at_opening, begins_from, bytes_eq, change_first, current_at, deleting, effect_at, effect_of, evaluated_at, first_so, has_physical, has_token, here, intending, is_current_at, is_made, is_on, is_opening, is_restore, is_right, is_updated, keeping, known_stack, leaving, left_in_doubt, list_any, marked, more as more_same, new_call, none as none_same, option_map_or, option_or, own as is_own, pending_of, plan_now, replied, replying, resources_of, right_at, second_so, seen_as_held, seen_now, settled_in, stack_for, stack_of_operation, stage_of, stopping, turning, where_physical, whole_now, with_status, without, world_after}
-use Rattle.cf_core.proofs.Lemmas.{bytes_same, find-append, found_one, in_changed, in_filter, in_front, in_kept, none_false, none_first, not_so, own_framed, same_bytes, some_is}
-use Rattle.std.specs.Prelude.{◌≢◌}
+use Rattle.std.proofs.Common.{arith, ◌≡◌, ◌⊎◌, inl, inr, ◌↔◌, ℕ, List, ◌∷◌, Bool, true, false, not, Some, refl, sym, ap, subst, ◌∙◌, true≢false, map, filter, find, ◌++◌, ◌&&◌, Option, None, ◌+◌, []}
+use Rattle.cf_core.proofs.Words.{AllDone, AreSameThings, AreSingle, BackIsRestored, BecomesBy, Begun, Cause, Clean, CleanupKeepsWhole, ClearedIsRestored, Code, CourseKeepsPromise, CreationIsWhole, DeletesSuperseded, EndsAs, Entry, Export, ExportsSame, Fits, HasFailed, Held, HeldIsFound, HeldStatus, HoldsWhole, In, IsAdvancing, IsAsItWas, IsAsSaid, IsAtRest, IsDone, IsNoBegin, IsOnCourse, Known, MayFollow, MayFollowIn, MayFollowOn, MayKeep, MayTurn, Pending, Phase, Promised, Reply, Request, RestKeepsWhole, Right, Schema, ShapeIsKept, Source, StackState, Status, StaysAtRest, UpdateEndsAtRest, UpdateIsWhole, WholeIsComplete, Why, World, all_differ, answered, at_opening, begins_from, bytes_eq, change_first, current_at, deleting, effect_at, effect_of, evaluated_at, first_so, has_physical, has_token, here, intending, is_current_at, is_made, is_on, is_opening, is_restore, is_right, is_updated, keeping, known_stack, left_in_doubt, list_any, marked, more as more_same, new_call, none as none_same, option_or, other as of_another, own as is_own, pending_of, plan_now, replied, replying, resources_of, right_at, second_so, seen_as_held, seen_now, settled_in, stack_for, stack_of_operation, stopping, turning, where_physical, whole_now, with_status, without, world_after}
+use Rattle.cf_core.proofs.Lemmas.{bytes_same, either_way, find-append, found_one, in_changed, in_filter, in_front, in_kept, in_map, none_false, none_first, not_so, one_id, own_framed, same_bytes, some_is}
+use Rattle.cf_core.proofs.{BackLists.is_of, BackLists.own_front, BackLists.was_of, TidyLists.from_changed, TidyLists.to_changed}
+use Rattle.cf_core.proofs.{FitKept.after_exports, Moving.beginning_name, Moving.in_stage, Statuses.intended_way, Statuses.kept_way}
+use Rattle.cf_core.proofs.Stacks.{exports_by}
 use Rattle.cf_effect.specs.Listed.{export_by, reexported, exports_after}
-use Rattle.cf_plan.proofs.Listed.{in_map}
-use Rattle.cf_plan.specs.Created.{IsHeldAs}
-use Rattle.cf_plan.specs.Promise.{Promised}
-use Rattle.cf_core.specs.Completing.{ShapeIsKept, CreationIsWhole, UpdateIsWhole, ExportsSame, CleanupKeepsWhole, IsAsItWas, IsNoBegin, RestKeepsWhole, StaysAtRest, UpdateEndsAtRest, BackIsRestored, ClearedIsRestored, CourseKeepsPromise, HeldIsFound, WholeIsComplete}
-use Rattle.cf_core.specs.Fits.{other as of_another}
-use Rattle.cf_core.proofs.FitKept.{one_id}
-use Rattle.cf_core.proofs.Moving.{in_stage}
-use Rattle.cf_core.proofs.TidyLists.{from_changed, to_changed}
-use Rattle.cf_core.proofs.BackLists.{own_front, is_of, was_of}
-use Rattle.cf_core.proofs.AdvLists.{either_way}
-use Rattle.cf_core.proofs.Statuses.{kept_way, intended_way}
-use Rattle.cf_core.proofs.Written.{beginning_name}
 use Rattle.cf_export.specs.declared.Output.{Output}
 use Rattle.cf_plan.proofs.WholeFound.{IsFinished, IsWholeIn, current_is, evaluated, found_only, none_marked, other_exports, own_exports, stays_current, whole_left}
-use Rattle.cf_tree.specs.declared.code.Code.TheVariants as code
-use Rattle.cf_tree.specs.declared.request.Request.TheVariants as request
-use Rattle.cf_effect.specs.declared.held.HeldStatus.TheVariants as held
-use Rattle.cf_entry.specs.declared.entry.Entry.TheVariants as entry
-use Rattle.cf_entry.specs.declared.status.Status.TheVariants as status
-use Rattle.cf_entry.specs.declared.turn.Phase.TheVariants as phase
-use Rattle.cf_entry.specs.declared.entry.Reply.TheVariants as reply
-use Rattle.cf_entry.specs.declared.entry.Begun.TheVariants as begin
-use Rattle.cf_entry.specs.declared.turn.Why.TheVariants as why
+use Rattle.cf_plan.specs.Created.{IsHeldAs}
+use Rattle.std.specs.Prelude.{◌≢◌}
 
 module _ (schemas : List Schema) (s : StackState) (source : Source) (a : IsAdvancing schemas s source) where
   done_at :
@@ -97,7 +80,7 @@ update_is_whole schemas x out number why name s t source w differs a shape =
     subst (λ (v : StackState). HoldsWhole name y v × (s.tokens ≡ []) × (v.tokens ≡ [])) to_it.1
     (by why (in_stage schemas x out name s e number to_it.0 w.may).2.1) where
       e : Entry
-      e = entry.Phase number phase.Clean why
+      e = Entry.Phase number Phase.Clean why
 
       y : World
       y = world_after x e
@@ -105,16 +88,16 @@ update_is_whole schemas x out number why name s t source w differs a shape =
       to_it : (stack_for e x ≡ Some (name, s)) × ((effect_at (x.place + 1) e s).stack ≡ t)
       to_it = becomes_own x e name s t differs refl w.becomes
 
-      turned : IsFinished s source → IsFinished (turning phase.Clean s) source
+      turned : IsFinished s source → IsFinished (turning Phase.Clean s) source
       turned f = record { going = f.going; shape = f.shape; no_flaw = f.no_flaw; each = f.each; ids = f.ids }
 
       by :
-          (c : Option Cause) → MayTurn schemas name x s phase.Clean c
+          (c : Option Cause) → MayTurn schemas name x s Phase.Clean c
           → HoldsWhole name y (effect_at (x.place + 1) e s).stack × (s.tokens ≡ []) × ((effect_at (x.place + 1) e s).stack.tokens ≡ [])
       by (Some c) may = absurd may
       by None (now, well, done) =
           let quiet = none_open schemas s source a done in (
-            holds (turning phase.Clean s) source (turned (finished schemas s source a name x shape w.fits well done)) name x y (effect_at (x.place + 1) e s).stack
+            holds (turning Phase.Clean s) source (turned (finished schemas s source a name x shape w.fits well done)) name x y (effect_at (x.place + 1) e s).stack
                 refl refl refl refl (own_framed number name x s to_it.0 e refl).exports,
             quiet,
             quiet,
@@ -125,60 +108,38 @@ nothing_held bs hs none_same e = refl
 nothing_held bs hs (more_same one rest) e = let no : ⊥ = cc in absurd no
 
 completes :
-    (schemas : List Schema) (name : List ℕ) (x : World) (s : StackState) (state : Status) → EndsAs schemas name x s state status.CreateComplete
+    (schemas : List Schema) (name : List ℕ) (x : World) (s : StackState) (state : Status) → EndsAs schemas name x s state Status.CreateComplete
     → ¬ HasFailed schemas name x s × AllDone s
-completes schemas name x s status.CreateInProgress e = e
-completes schemas name x s _ e = absurd e
+completes schemas name x s state e = grind arith
 
 pub creation_is_whole : CreationIsWhole
 creation_is_whole schemas x out number failed name s t source w differs a shape none_before =
-    subst (λ (v : StackState). HoldsWhole name y v × IsAtRest v) to_it.1 (whole_so, record { none_open = quiet; none_made = refl; single = single }) where
-      e : Entry
-      e = entry.Done number status.CreateComplete failed
-
-      y : World
-      y = world_after x e
-
-      to_it : (stack_for e x ≡ Some (name, s)) × ((effect_at (x.place + 1) e s).stack ≡ t)
-      to_it = becomes_own x e name s t differs refl w.becomes
-
-      u : StackState
-      u = stopping status.CreateComplete s
-
-      ends : ¬ HasFailed schemas name x s × AllDone s
-      ends = completes schemas name x s s.status (in_stage schemas x out name s e number to_it.0 w.may).2.2
-
-      quiet : s.tokens ≡ []
-      quiet = none_open schemas s source a ends.1
-
-      made_same : s.made ≡ u.made
-      made_same = none_marked s.tokens s.made quiet
-
-      f : IsFinished u source
-      f =
-          let g = finished schemas s source a name x shape w.fits ends.0 ends.1 in
-          subst (λ ms. IsFinished (record s { status = status.CreateComplete; held = map (marked s.tokens) s.held; made = ms }) source) made_same
-          (subst (λ hs. IsFinished (record s { status = status.CreateComplete; held = hs }) source) (none_marked s.tokens s.held quiet)
-          (record { going = g.going; shape = g.shape; no_flaw = g.no_flaw; each = g.each; ids = g.ids }))
-
-      left : StackState
-      left = (effect_at (x.place + 1) e s).stack
-
-      whole_so : HoldsWhole name y left
-      whole_so = holds u source f name x y left refl refl refl refl (own_framed number name x s to_it.0 e refl).exports
-
-      -- all that it held was made
-      of_made : (h : Held) → In h (resources_of u) → In h s.made
-      of_made h i =
-          subst (In h) (ap (λ hs. hs ++ u.made) (sym (none_marked s.tokens s.held quiet) ∙ nothing_held s.before s.held a.held none_before) ∙ sym made_same) i
-
-      single : (r : Held) → In r left.held → current_at r.path left.held ≡ Some r
-      single r i =
-          let m = in_changed (settled_in (whole_now u) u) (resources_of u) r i in
-          let j = of_made m.one m.of_list in
-          let at = ap (λ ms. option_or (current_at m.one.path ms) (current_at m.one.path u.held)) (sym made_same) ∙ ap (λ o. option_or o (current_at m.one.path u.held)) (a.single_made m.one j) in
-          (whole_left u source f).single r i
-          (ap (λ (z : Held). z.superseded) (sym m.same) ∙ stays_current u source f m.one at (a.made m.one j).ready.0)
+    let e : Entry = Entry.Done number Status.CreateComplete failed in
+    let y : World = world_after x e in
+    let to_it : (stack_for e x ≡ Some (name, s)) × ((effect_at (x.place + 1) e s).stack ≡ t) = becomes_own x e name s t differs refl w.becomes in
+    let u : StackState = stopping Status.CreateComplete s in
+    let ends : ¬ HasFailed schemas name x s × AllDone s =
+    completes schemas name x s s.status (in_stage schemas x out name s e number to_it.0 w.may).2.2 in
+    let quiet : s.tokens ≡ [] = none_open schemas s source a ends.1 in
+    let made_same : s.made ≡ u.made = none_marked s.tokens s.made quiet in
+    let f : IsFinished u source =
+    let g = finished schemas s source a name x shape w.fits ends.0 ends.1 in
+    subst (λ ms. IsFinished (record s { status = Status.CreateComplete; held = map (marked s.tokens) s.held; made = ms }) source) made_same
+    (subst (λ hs. IsFinished (record s { status = Status.CreateComplete; held = hs }) source) (none_marked s.tokens s.held quiet)
+    (record { going = g.going; shape = g.shape; no_flaw = g.no_flaw; each = g.each; ids = g.ids })) in
+    let left : StackState = (effect_at (x.place + 1) e s).stack in
+    let whole_so : HoldsWhole name y left =
+    holds u source f name x y left refl refl refl refl (own_framed number name x s to_it.0 e refl).exports in
+    -- all that it held was made
+    let of_made : (h : Held) → In h (resources_of u) → In h s.made = λ h i.
+    subst (In h) (ap (λ hs. hs ++ u.made) (sym (none_marked s.tokens s.held quiet) ∙ nothing_held s.before s.held a.held none_before) ∙ sym made_same) i in
+    let single : (r : Held) → In r left.held → current_at r.path left.held ≡ Some r = λ r i.
+    let m = in_changed (settled_in (whole_now u) u) (resources_of u) r i in
+    let j = of_made m.one m.of_list in
+    let at = ap (λ ms. option_or (current_at m.one.path ms) (current_at m.one.path u.held)) (sym made_same) ∙ ap (λ o. option_or o (current_at m.one.path u.held)) (a.single_made m.one j) in
+    (whole_left u source f).single r i
+    (ap (λ (z : Held). z.superseded) (sym m.same) ∙ stays_current u source f m.one at (a.made m.one j).ready.0) in
+    subst (λ (v : StackState). HoldsWhole name y v × IsAtRest v) to_it.1 (whole_so, record { none_open = quiet; none_made = refl; single = single })
 
 -- What a stack that is whole may lose or change of what it holds, and what an entry leaves of a stack's exports.
 
@@ -267,11 +228,11 @@ module _ (x : World) (s : StackState) (fits : Fits x s) (none_made : s.made ≡ 
       (record { held = same_held s.held s.held refl; none_made = ap (where_physical id change) none_made; source_same = refl; outputs_same = refl })
 
   -- its deletion is answered
-  answered_so : (restores : Bool) (path id : List ℕ) → IsGone id → (answer : Reply) → StaysWhole s (answered restores path (request.Delete id) answer s)
-  answered_so restores path id g (reply.Success physical attrs) = deleted id g
-  answered_so restores path id g (reply.Failed code.NotFound) = deleted id g
-  answered_so restores path id g (reply.Failed c) = restated id held.DeleteFailed
-  answered_so restores path id g reply.Doubt = unchanged
+  answered_so : (restores : Bool) (path id : List ℕ) → IsGone id → (answer : Reply) → StaysWhole s (answered restores path (Request.Delete id) answer s)
+  answered_so restores path id g (Reply.Success physical attrs) = deleted id g
+  answered_so restores path id g (Reply.Failed Code.NotFound) = deleted id g
+  answered_so restores path id g (Reply.Failed c) = restated id HeldStatus.DeleteFailed
+  answered_so restores path id g Reply.Doubt = unchanged
 
   replied_so : ((p : Pending) → In p s.tokens → DeletesSuperseded s p) → (token : ℕ) (answer : Reply) → StaysWhole s (replying token answer s)
   replied_so deletes token answer = by (pending_of token s) refl
@@ -346,19 +307,6 @@ module _ (name : List ℕ) (x y : World) (s t : StackState) (fits : Fits y t) (h
   )
 
 -- what an entry that is no opening leaves of all exports: its stack's alone may change
-abbrev exports_by : World → Entry → Option (List ℕ × StackState) → List Export
-exports_by x e o = option_map_or (λ (p : List ℕ × StackState). exports_after p.0 (effect_of e p.1).exports x.exports) o x.exports
-
-put_by :
-    (x : World) (e : Entry) (o : Option (List ℕ × StackState))
-    → (option_map_or (λ (p : List ℕ × StackState). leaving p.0 (effect_at (x.place + 1) e p.1) x) o x).exports ≡ exports_by x e o
-put_by x e None = refl
-put_by x e (Some p) = refl
-
-exports_are : (x : World) (e : Entry) → is_opening e ≡ false → (world_after x e).exports ≡ exports_by x e (stack_for e x)
-exports_are x (entry.Opened epoch lanes) n = absurd (true≢false n)
-exports_are x e n = put_by x e (stack_for e x)
-
 module _ (x : World) (e : Entry) (name : List ℕ) (n : is_opening e ≡ false) where
   abbrev ofs : List Export → Export → Type 0
   ofs es f = In f (filter (λ (z : Export). bytes_eq name z.stack) es)
@@ -374,21 +322,20 @@ module _ (x : World) (e : Entry) (name : List ℕ) (n : is_opening e ≡ false) 
       changed other differs (Some es) f = other_exports other es x.exports f name differs
 
       by : (o : Option (List ℕ × StackState)) → stack_for e x ≡ o → ExportsSame name x (world_after x e)
-      by None q = same_from x.exports (exports_are x e n ∙ ap (exports_by x e) q) (λ f. (λ i. i, λ i. i))
+      by None q = same_from x.exports (after_exports x e n ∙ ap (exports_by x e) q) (λ f. (λ i. i, λ i. i))
       by (Some (other, u)) q =
-          same_from (exports_after other (effect_of e u).exports x.exports) (exports_are x e n ∙ ap (exports_by x e) q)
+          same_from (exports_after other (effect_of e u).exports x.exports) (after_exports x e n ∙ ap (exports_by x e) q)
           (changed other (λ same. never u (q ∙ ap (λ (k : List ℕ). Some (k, u)) same)) (effect_of e u).exports)
 
   pub exports_own : (s : StackState) → stack_for e x ≡ Some (name, s) → (effect_of e s).exports ≡ None → ExportsSame name x (world_after x e)
   exports_own s q none =
-      same_from x.exports (exports_are x e n ∙ ap (exports_by x e) q ∙ ap (λ o. exports_after name o x.exports) none) (λ f. (λ i. i, λ i. i))
+      same_from x.exports (after_exports x e n ∙ ap (exports_by x e) q ∙ ap (λ o. exports_after name o x.exports) none) (λ f. (λ i. i, λ i. i))
 
 -- What is whole stays so while its stack cleans up, as that ends, and at rest.
 
 -- no operation begins while one is in progress
-none_begins : (k : Begun) → begins_from k status.UpdateCompleteCleanupInProgress ≡ true → ⊥
-none_begins (begin.Create source) e = true≢false (sym e)
-none_begins k e = true≢false (sym e)
+none_begins : (k : Begun) → begins_from k Status.UpdateCompleteCleanupInProgress ≡ true → ⊥
+none_begins k e = grind (arith, true≢false)
 
 module _ (schemas : List Schema) (x : World) (out : List ℕ) (name : List ℕ) (s : StackState) (was : known_stack name x ≡ s) where
   abbrev after : Entry → StackState
@@ -398,34 +345,23 @@ module _ (schemas : List Schema) (x : World) (out : List ℕ) (name : List ℕ) 
   abbrev Goes : Entry → Type 0
   Goes e = StaysWhole s (after e) × ((effect_of e s).exports ≡ None)
 
-  module _ (fits : Fits x s) (none_made : s.made ≡ []) (cleans : s.status ≡ status.UpdateCompleteCleanupInProgress)
+  module _ (fits : Fits x s) (none_made : s.made ≡ []) (cleans : s.status ≡ Status.UpdateCompleteCleanupInProgress)
       (deletes : (p : Pending) → In p s.tokens → DeletesSuperseded s p) where
     stays : (t : StackState) → t.held ≡ s.held → t.made ≡ s.made → t.source ≡ s.source → t.outputs ≡ s.outputs → StaysWhole s t
     stays t held made source outputs = record { held = same_held s.held t.held held; none_made = made ∙ none_made; source_same = source; outputs_same = outputs }
 
     -- the stage is that of the cleanup
     cleaning : (e : Entry) (number : ℕ) → stack_of_operation number x ≡ Some (name, s) → MayFollowOn schemas number x out e → MayFollowIn schemas name x out s Clean e
-    cleaning e number going may =
-        let o = in_stage schemas x out name s e number going may in
-        subst (λ g. MayFollowIn schemas name x out s g e) (some_is o.0 Clean (sym o.1 ∙ ap stage_of cleans)) o.2
+    cleaning e number going may = grind (arith, in_stage, some_is)
 
     kept : (path physical : List ℕ) (w : Why) → MayKeep Clean out s path physical w → (r : Held) × In r s.held × (r.superseded ≡ true) × (physical ≡ r.physical)
-    kept path physical why.Retained (inl may) = (may.0, may.1.0, may.1.1, may.5)
-    kept path physical why.Retained (inr may) = let no : ⊥ = cc in absurd no
-    kept path physical w may = let k = may.0 in let f = in_filter (λ r. r.superseded) s.held k.0 k.1 in (k.0, f.0, f.1, k.3)
+    kept path physical w may = grind (arith, in_filter)
 
     never_turns : (p : Phase) (c : Option Cause) → MayTurn schemas name x s p c → ⊥
-    never_turns phase.Clean None may = let no : ⊥ = cc (sym cleans ∙ may.0) in no
-    never_turns phase.Back (Some c) may = let no : ⊥ = cc (sym (ap stage_of cleans) ∙ may.0) in no
-    never_turns phase.BackClean None may = let no : ⊥ = cc (sym cleans ∙ may.0) in no
-    never_turns p c may = may
+    never_turns p c may = grind arith
 
-    ended : (number : ℕ) (failed : List (List ℕ)) (state : Status) → EndsAs schemas name x s status.UpdateCompleteCleanupInProgress state → Goes (entry.Done number state failed)
-    ended number failed status.UpdateComplete ends = (
-      record { held = marked_held s.tokens s.held; none_made = ap (map (marked s.tokens)) none_made; source_same = refl; outputs_same = refl },
-      refl,
-    )
-    ended number failed _ ends = absurd ends
+    ended : (number : ℕ) (failed : List (List ℕ)) (state : Status) → EndsAs schemas name x s Status.UpdateCompleteCleanupInProgress state → Goes (Entry.Done number state failed)
+    ended number failed state ends = grind (arith, marked_held)
 
     intended : (p : Pending) (number : ℕ) → StaysWhole s (intending number p s)
     intended p number =
@@ -433,32 +369,27 @@ module _ (schemas : List Schema) (x : World) (out : List ℕ) (name : List ℕ) 
         (stays (record s { tokens = s.tokens ++ p ∷ []; ledger = s.ledger ++ new_call number s.status p ∷ [] }) refl refl refl refl)
 
     goes : (e : Entry) → stack_for e x ≡ Some (name, s) → MayFollow schemas x out e → Goes e
-    goes (entry.Opened epoch lanes) q may = let no : ⊥ = cc in absurd no
-    goes (entry.Begin number n k) q may =
+    goes (Entry.Opened epoch lanes) q may = let no : ⊥ = cc in absurd no
+    goes (Entry.Begin number n k) q may =
         absurd (none_begins k (ap (begins_from k) (sym (ap (λ m. (known_stack m x).status) (beginning_name schemas x out name s number n k q) ∙ ap (λ (u : StackState). u.status) was ∙ cleans)) ∙ may.1))
-    goes (entry.Kept number path physical w) q may =
-        (kept_so x s fits none_made path physical w (kept path physical w (cleaning (entry.Kept number path physical w) number q may)), refl)
-    goes (entry.Intent number token lane path r) q may =
+    goes (Entry.Kept number path physical w) q may =
+        (kept_so x s fits none_made path physical w (kept path physical w (cleaning (Entry.Kept number path physical w) number q may)), refl)
+    goes (Entry.Intent number token lane path r) q may =
         (intended (record { token = token; path = path; lane = lane; request = r }) number, refl)
-    goes (entry.Outcome number token answer low high) q may =
+    goes (Entry.Outcome number token answer low high) q may =
         (replied_so x s fits none_made deletes token answer, refl)
-    goes (entry.Phase number p c) q may = absurd (never_turns p c (cleaning (entry.Phase number p c) number q may).1)
-    goes (entry.Done number state failed) q may =
-        ended number failed state (subst (λ a. EndsAs schemas name x s a state) cleans (cleaning (entry.Done number state failed) number q may).2)
-    goes (entry.ChangeSet number n source rows outputs) q may = (stays (after (entry.ChangeSet number n source rows outputs)) refl refl refl refl, refl)
+    goes (Entry.Phase number p c) q may = absurd (never_turns p c (cleaning (Entry.Phase number p c) number q may).1)
+    goes (Entry.Done number state failed) q may =
+        ended number failed state (subst (λ a. EndsAs schemas name x s a state) cleans (cleaning (Entry.Done number state failed) number q may).2)
+    goes (Entry.ChangeSet number n source rows outputs) q may = (stays (after (Entry.ChangeSet number n source rows outputs)) refl refl refl refl, refl)
 
 -- an entry of one stack is no opening
 no_opening : (x : World) (e : Entry) (p : List ℕ × StackState) → stack_for e x ≡ Some p → is_opening e ≡ false
-no_opening x (entry.Opened epoch lanes) p q = let no : ⊥ = cc in absurd no
-no_opening x _ p q = refl
+no_opening x e p q = grind arith
 
 -- an opening leaves what a stack holds
 at_all : (x : World) (e : Entry) (name : List ℕ) (s : StackState) → is_opening e ≡ true → IsAsItWas s (effect_at (x.place + 1) e s).stack × ExportsSame name x (world_after x e)
-at_all x (entry.Opened epoch lanes) name s o = (
-  record { status = inl refl; held = refl; before = refl; made = refl; tokens = refl; source = refl; outputs = refl },
-  λ f. (λ i. i, λ i. i),
-)
-at_all x _ name s o = absurd (true≢false (sym o))
+at_all x e name s o = grind (arith, true≢false)
 
 as_was : (s : StackState) → IsAsItWas s s
 as_was s = record { status = inl refl; held = refl; before = refl; made = refl; tokens = refl; source = refl; outputs = refl }
@@ -480,10 +411,9 @@ cleanup_keeps_whole schemas x out e name s t w cleans deletes h = by t w.becomes
         let a = at_all x e name s o in whole_still name x y s (effect_at (x.place + 1) e s).stack f h (was_whole s (effect_at (x.place + 1) e s).stack h.none_made a.0) a.1
     by u (of_another n never) f = whole_still name x y s s f h (was_whole s s h.none_made (as_was s)) (exports_other x e name n never)
 
-ends_from : (schemas : List Schema) (name : List ℕ) (x : World) (s : StackState) (state : Status) → EndsAs schemas name x s state status.UpdateComplete
-    → state ≡ status.UpdateCompleteCleanupInProgress
-ends_from schemas name x s status.UpdateCompleteCleanupInProgress e = refl
-ends_from schemas name x s _ e = absurd e
+ends_from : (schemas : List Schema) (name : List ℕ) (x : World) (s : StackState) (state : Status) → EndsAs schemas name x s state Status.UpdateComplete
+    → state ≡ Status.UpdateCompleteCleanupInProgress
+ends_from schemas name x s state e = grind arith
 
 pub update_ends_at_rest : UpdateEndsAtRest
 update_ends_at_rest schemas x out number failed name s t w differs h none quiet = (
@@ -495,12 +425,12 @@ update_ends_at_rest schemas x out number failed name s t w differs h none quiet 
   },
 ) where
   e : Entry
-  e = entry.Done number status.UpdateComplete failed
+  e = Entry.Done number Status.UpdateComplete failed
 
   to_it : (stack_for e x ≡ Some (name, s)) × ((effect_at (x.place + 1) e s).stack ≡ t)
   to_it = becomes_own x e name s t differs refl w.becomes
 
-  from : s.status ≡ status.UpdateCompleteCleanupInProgress
+  from : s.status ≡ Status.UpdateCompleteCleanupInProgress
   from = ends_from schemas name x s s.status (in_stage schemas x out name s e number to_it.0 w.may).2.2
 
   nothing : (ps : List Pending) → ps ≡ [] → (p : Pending) → In p ps → DeletesSuperseded s p
@@ -522,9 +452,9 @@ stays_at_rest schemas x out e name s t w rests begins = by t w.becomes
     never_steps d number going may = let o = in_stage schemas x out name s d number going may in let never : None ≡ Some o.0 = sym rests ∙ o.1 in cc
 
     rest : (d : Entry) → stack_for d x ≡ Some (name, s) → MayFollow schemas x out d → IsNoBegin name d → IsAsItWas s (effect_at (x.place + 1) d s).stack × ((effect_of d s).exports ≡ None)
-    rest (entry.Opened epoch lanes) q may n = let never : ⊥ = cc in absurd never
-    rest (entry.Begin number m k) q may n = absurd (n (beginning_name schemas x out name s number m k q))
-    rest (entry.ChangeSet number m source rows outputs) q may n =
+    rest (Entry.Opened epoch lanes) q may n = let never : ⊥ = cc in absurd never
+    rest (Entry.Begin number m k) q may n = absurd (n (beginning_name schemas x out name s number m k q))
+    rest (Entry.ChangeSet number m source rows outputs) q may n =
         (record { status = inr refl; held = refl; before = refl; made = refl; tokens = refl; source = refl; outputs = refl }, refl)
     rest d q may n = absurd (never_steps d _ q may)
 
@@ -592,26 +522,19 @@ back_is_restored x s lanes fits back rest live = record {
 }
 
 pub cleared_is_restored : ClearedIsRestored
-cleared_is_restored s lanes c e = record {
-  settled = c.settled;
-  held = λ b i. absurd (not_in b s.before e i);
-  nothing_else = λ r i. absurd (not_in r s.held c.none_held i);
-  live = λ b r i j q. absurd (not_in b s.before e i);
-} where
-  not_in : (a : Held) (hs : List Held) → hs ≡ [] → In a hs → ⊥
-  not_in a hs empty i = elim (subst (In a) empty i) [ ]
+cleared_is_restored s lanes c e = grind arith
 
 pub course_keeps_promise : CourseKeepsPromise
 course_keeps_promise schemas name x s lanes fits course live = by s.status course
   where
     by : (state : Status) → IsOnCourse schemas name x s state → Promised state name x s lanes
-    by status.CreateComplete c = whole_is_complete name x s lanes c.0 c.1 (live c.1.none_open)
-    by status.UpdateComplete c = whole_is_complete name x s lanes c.0 c.1 (live c.1.none_open)
-    by status.UpdateRollbackComplete c = back_is_restored x s lanes fits c.0 c.1 (live c.1.none_open)
-    by status.RollbackComplete c = (cleared_is_restored s lanes c.0 c.1, c.1)
-    by status.UpdateRollbackFailed c = c.1
-    by status.RollbackFailed c = c
-    by status.DeleteFailed c = c
-    by status.DeleteComplete c = c
-    by status.ReviewInProgress c = c
+    by Status.CreateComplete c = whole_is_complete name x s lanes c.0 c.1 (live c.1.none_open)
+    by Status.UpdateComplete c = whole_is_complete name x s lanes c.0 c.1 (live c.1.none_open)
+    by Status.UpdateRollbackComplete c = back_is_restored x s lanes fits c.0 c.1 (live c.1.none_open)
+    by Status.RollbackComplete c = (cleared_is_restored s lanes c.0 c.1, c.1)
+    by Status.UpdateRollbackFailed c = c.1
+    by Status.RollbackFailed c = c
+    by Status.DeleteFailed c = c
+    by Status.DeleteComplete c = c
+    by Status.ReviewInProgress c = c
     by _ c = tt

@@ -15,9 +15,8 @@ use Rattle.cf_param.specs.Binding.{bound_to}
 use Rattle.cf_param.specs.declared.offered.Piece.{Piece}
 use Rattle.cf_param.specs.declared.offered.Piece.TheVariants as piece
 use Rattle.cf_desired.specs.Names.{path_in}
-use Rattle.cf_desired.specs.Seeing.{Seen, is_output_made, seen_as, own_ids, unmade_sights, first_sights, unnamed_output, export_wanted, export_stop, output_stop, text_in, text_known, broken_at, output_sight, output_seen, sights_after, outputs_inside, outputs_of, by_names}
+use Rattle.cf_desired.specs.Seeing.{SeenAt, Seen, is_output_made, seen_as, own_ids, unmade_sights, first_sights, unnamed_output, export_wanted, export_stop, output_stop, text_in, text_known, broken_at, output_sight, output_seen, sights_after, outputs_inside, outputs_of, by_names}
 use Rattle.cf_desired.specs.Stays.{SeesMore}
-use Rattle.cf_desired.specs.declared.seen.SeenAt.{SeenAt}
 use Rattle.cf_desired.proofs.Puts.{value_put, kept_self, value_names}
 use Rattle.cf_desired.specs.Given.{Given, Offered, Offers, offers_in, node_offers, offers_of, offered_fields, map_wanted, given_in, given_by, pieces_of, with_piece, piece_text, or_unknown, settings_for, setting_given}
 use Rattle.cf_eval.specs.Outcome.{Outcome, Stop, fault, undecided, below, got, later, bad, on_got}

@@ -26,9 +26,9 @@ use Rattle.cf_desired.specs.declared.shape.Shape as kept_shape
 use Rattle.cf_desired.specs.declared.shape.Turn as kept_turn
 use Rattle.cf_desired.specs.declared.shape.Turn.TheVariants.{Closed}
 use Rattle.cf_desired.specs.Given.{Given, unknown}
-use Rattle.cf_desired.specs.Kept.{IsContents, IsJoined, IsLaid, IsShape, IsWithin, WayLaid, course_in, decision_in, nesting_in, turn_in, way_in}
+use Rattle.cf_desired.specs.Kept.{IsContents, IsJoined, IsLaid, IsLaidAlong, IsShape, IsWithin, WayLaid, course_in, decision_in, nesting_in, turn_in, way_in}
 use Rattle.cf_desired.specs.Laying.{Path, begun, below, decision_of, few, nesting_by, step_by, way_by, with_nested}
-use Rattle.cf_desired.specs.Listed.{settings_by}
+use Rattle.cf_desired.specs.Listed.{Made, made_by, settings_by}
 use Rattle.cf_desired.specs.Names.{pseudo_of}
 use Rattle.cf_desired.specs.Seeing.{Seen}
 use Rattle.cf_desired.specs.Shape.{Entering, given_root, laid, own_in, root_of, shape_of, unnamed_at}
@@ -64,25 +64,27 @@ module _ (n : ℕ) (source : Source) (seen : Seen) (e : Entering) (en : Entry) (
     behind = fold (step_by (below n source seen) source seen e conds scopes) (begun seen e.stack conds (own_in e.stack.template order) c.templates c.members) order
 
     pub opened_by : {E : Type 0} (t : kept_turn.Turn) (k : Contents) (r : Result Laid E) → IsContents e.stack conds scopes (own_in e.stack.template order) behind k
-        → turn_in t ≡ an_opened en e.stack conds k.own
+        → turn_in t ≡ an_opened en e.stack conds k.made
         → IfOk r (λ l. l.turns ≡ t ∷ (k.laid.turns ++ Closed ∷ [])) → IfOk r (λ l. l.outputs ≡ k.laid.outputs) → IfOk r (λ l. l.paths ≡ k.laid.paths) → IfOk r (λ l. l.count ≡ k.laid.count)
         → IfOk r IsLaidHere
     opened_by t k (Err x) is h lt lo lp lc = tt
     opened_by t k (Ok l) is h lt lo lp lc =
         opened_laid n source seen e en g c bound pseudo conds order behind l ordered binds told decided refl
-        (ap (map turn_in) lt ∙ (λ j. (h ∙ ap (λ (x : List (List ℕ)). an_opened en e.stack conds x) is.own) j ∷ (map-append turn_in k.laid.turns (Closed ∷ []) ∙ ap (λ (x : List Turn). x ++ a_closed ∷ []) is.laid.turns) j))
+        (ap (map turn_in) lt ∙ (λ j. (h ∙ ap (λ (x : Made). an_opened en e.stack conds x) is.made) j ∷ (map-append turn_in k.laid.turns (Closed ∷ []) ∙ ap (λ (x : List Turn). x ++ a_closed ∷ []) is.laid.turns) j))
         (lo ∙ is.laid.outputs) (lp ∙ is.laid.paths)
         (ap (λ (x : Count). x.templates) lc ∙ is.laid.templates) (ap (λ (x : Count). x.members) lc ∙ is.laid.members)
 
 -- where the work behind what was begun came to this
-pub contents_by : {E : Type 0} (t : Stack) (conds : Verdicts) (over : Scoping) (step : Path → Row → Path) (begin : List (List ℕ) → Path) (order : List Row) (first course : kept_course.Course)
-    (own ids : List (List ℕ)) (r : Result Contents E) → own ≡ ids → course_in first ≡ begin own → course_in course ≡ fold step (course_in first) order
-    → IfOk r (IsContents t conds over own (course_in course)) → IfOk r (IsContents t conds over ids (fold step (begin ids) order))
-contents_by t conds over step begin order first course own ids (Err x) owned begins works h = tt
-contents_by t conds over step begin order first course own ids (Ok k) owned begins works h =
+pub contents_by : (t : Stack) (conds : Verdicts) (over : Scoping) (step : Path → Row → Path) (begin : List (List ℕ) → Path) (order : List Row) (first course : kept_course.Course)
+    (own ids : List (List ℕ)) (made : Made) (laid : Laid) → own ≡ ids → made ≡ made_by conds t.template own → course_in first ≡ begin own → course_in course ≡ fold step (course_in first) order
+    → IsLaidAlong t conds over own (course_in course) laid → IsContents t conds over ids (fold step (begin ids) order) (record { made = made; laid = laid })
+contents_by t conds over step begin order first course own ids made laid owned makes begins works h =
     let so : course_in course ≡ fold step (begin ids) order =
     works ∙ ap (λ (p : Path). fold step p order) (begins ∙ ap begin owned) in
-    subst (λ (x : List (List ℕ)). IsContents t conds over x (fold step (begin ids) order) k) owned (subst (λ (p : Path). IsContents t conds over own p k) so h)
+    record {
+      made = makes ∙ ap (made_by conds t.template) owned;
+      laid = subst (λ (x : List (List ℕ)). IsLaidAlong t conds over x (fold step (begin ids) order) laid) owned (subst (λ (p : Path). IsLaidAlong t conds over own p laid) so h);
+    }
 
 -- a nested stack that has come
 pub nested_by : {U E : Type 0} (left : ℕ) (source : Source) (seen : Seen) (e : Entering) (conds : Verdicts) (over : Scoping) (old : kept_course.Course) (ids : List (List ℕ)) (r : Res)

@@ -29,7 +29,7 @@ use Rattle.cf_desired.specs.declared.laying.Course as kept_course
 use Rattle.cf_desired.specs.declared.laying.Laid.{Laid}
 use Rattle.cf_desired.specs.Kept.{IsJoined, IsLaid, IsWithin, WayLaid, course_in, turn_in}
 use Rattle.cf_desired.specs.Laying.{IsWay, Path, Way, begun, below, few, decision_of, by_order, ordered_of, entered_by, entered_way, url_way, way_by, way_shut, inside_by, member_by, nesting_by, step_by, step_with, with_inside, with_member, with_nested}
-use Rattle.cf_desired.specs.Listed.{settings_by}
+use Rattle.cf_desired.specs.Listed.{made_by, settings_by}
 use Rattle.cf_desired.specs.Names.{path_in, pseudo_of}
 use Rattle.cf_desired.specs.Seeing.{Seen, by_names, first_sights, nested_sight, output_sights, outputs_inside, outputs_of, own_ids, seen_nested, sights_after}
 use Rattle.cf_desired.specs.Shape.{Course, Entering, Laying, StandsFor, Url, url, no_url, body_at, body_bound, body_decided, course_after, entering_below, first_later, first_stands, given_root, has_stack_shape, in_order, inside_of, laid, laid_within, maybe_text, member_of, members_below, members_in, members_inside, needed_by, nested_before, nesting_of, own_id, own_in, paths_below, paths_in, paths_inside, root_of, shape_of, step_before, stood_for, templates_below, templates_in, templates_inside, those, unnamed_at, url_from, url_of, verdicts_of, work_along}
@@ -299,8 +299,8 @@ module _ (lay : Option Laying) (source : Source) (seen : Seen) (e : Entering) wh
       owned : own_ids work ≡ own
       owned = own_same lay source seen e conds over order first
 
-      pub opened_turns : (en : Entry) → an_opened en e.stack conds own ∷ (behind.turns ++ a_closed ∷ []) ≡ turns_in en (opened e.stack conds work)
-      opened_turns en = λ j. an_opened en e.stack conds (sym owned j) ∷ (goes.turns j ++ a_closed ∷ [])
+      pub opened_turns : (en : Entry) → an_opened en e.stack conds (made_by conds e.stack.template own) ∷ (behind.turns ++ a_closed ∷ []) ≡ turns_in en (opened e.stack conds work)
+      opened_turns en = λ j. an_opened en e.stack conds (made_by conds e.stack.template (sym owned j)) ∷ (goes.turns j ++ a_closed ∷ [])
 
       pub opened_outputs : (g : Given) → settings ≡ settings_for e.stack.template.params g → output_sights e.stack conds (kept behind.sights) ≡ outputs_of source seen g (opened e.stack conds work)
       opened_outputs g is =
@@ -495,7 +495,7 @@ pub opened_laid : (n : ℕ) (source : Source) (seen : Seen) (e : Entering) (en :
     → AreOrdered e.stack.template.resources → bound ≡ settings_by e.stack.template.params g → pseudo ≡ pseudo_of e.stack.name source.number
     → Ok (conds, order) ≡ decision_of e.stack (conditions_of e.stack.template bound pseudo)
     → k ≡ fold (step_by (below n source seen) source seen e conds (λ sights. resource_scope e.stack.template bound conds pseudo sights source.imports)) (begun seen e.stack conds (own_in e.stack.template order) c.templates c.members) order
-    → map turn_in l.turns ≡ an_opened en e.stack conds (own_in e.stack.template order) ∷ (k.turns ++ a_closed ∷ [])
+    → map turn_in l.turns ≡ an_opened en e.stack conds (made_by conds e.stack.template (own_in e.stack.template order)) ∷ (k.turns ++ a_closed ∷ [])
     → l.outputs ≡ by_names (output_sights e.stack conds (resource_scope e.stack.template bound conds pseudo k.sights source.imports))
     → l.paths ≡ map (path_in e.stack.path) (own_in e.stack.template order) ++ k.paths → l.count.templates ≡ k.templates → l.count.members ≡ k.members
     → IsLaid source seen en g c (laid n source seen e g (c.templates + 1) (c.members + length e.stack.template.resources)) l
@@ -508,7 +508,7 @@ opened_laid n source seen e en g c bound pseudo conds order k l ordered b p d kk
     laid_so n source seen e g (c.templates + 1) (c.members + length e.stack.template.resources) bound pseudo b p (Ok (conds, order)) d in
     subst (λ x. IsLaid source seen en g c x l) (sym same)
     (record {
-      turns = ts ∙ ap (λ (x : Path). an_opened en e.stack conds (own_in e.stack.template order) ∷ (x.turns ++ a_closed ∷ [])) kk ∙ opened_turns lay source seen e conds bound settings pseudo binds p c.templates c.members order needs en;
+      turns = ts ∙ ap (λ (x : Path). an_opened en e.stack conds (made_by conds e.stack.template (own_in e.stack.template order)) ∷ (x.turns ++ a_closed ∷ [])) kk ∙ opened_turns lay source seen e conds bound settings pseudo binds p c.templates c.members order needs en;
       outputs =
           os ∙ ap (λ (x : Path). by_names (output_sights e.stack conds (resource_scope e.stack.template bound conds pseudo x.sights source.imports))) kk
           ∙ ap by_names (opened_outputs lay source seen e conds bound settings pseudo binds p c.templates c.members order needs g refl);

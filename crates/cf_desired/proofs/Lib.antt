@@ -4,6 +4,7 @@ pub mod Mentions
 pub mod OutputRest
 pub mod Covers
 pub mod NeedsMatter
+mod Nested
 pub mod StackNeeds
 pub mod Keeping
 pub mod KnownStays

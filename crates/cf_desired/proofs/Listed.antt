@@ -1,5 +1,5 @@
 -- What stands under a name where each is put in its place is what the definitions list.
-use Rattle.std.proofs.Common.{◌≡◌, ℕ, List, [], ◌∷◌, ◌++◌, Bool, true, false, not, ◌||◌, Option, Some, None, refl, sym, ap, ◌∙◌, true≢false, filter, fold, map, append-nil}
+use Rattle.std.proofs.Common.{◌≡◌, ℕ, List, [], ◌∷◌, ◌++◌, Bool, true, false, not, ◌||◌, Option, Some, None, refl, sym, ap, ◌∙◌, true≢false, filter, fold, map, option_map, append-nil}
 use Rattle.std.specs.Prelude.{⊤, cond, is_some}
 use Rattle.std.specs.Str.{bytes_eq}
 use Rattle.std.proofs.lemmas.Slice.Eq.{bytes_eq-Decides}
@@ -12,12 +12,13 @@ use Rattle.cf_eval.specs.declared.env.Sight.{Sight}
 use Rattle.cf_eval.specs.declared.env.Sight.TheVariants as sight
 use Rattle.cf_graph.specs.Needs.{is_made}
 use Rattle.cf_desired.specs.Given.{Given, setting_given, settings_for}
-use Rattle.cf_desired.specs.Listed.{not_made_by, put_setting, settings_by, sights_by, stands_by}
+use Rattle.cf_desired.specs.Listed.{made_by, not_made_by, put_setting, settings_by, sights_by, stands_by}
 use Rattle.cf_desired.specs.Names.{path_in}
 use Rattle.cf_desired.specs.Seeing.{Seen, first_sights, seen_as, unmade_sights}
 use Rattle.cf_desired.specs.Shape.{first_stands}
 use Rattle.cf_desired.specs.Stack.{Stack, Verdicts, Settings}
 use Rattle.cf_desired.proofs.Puts.{value_put}
+use Rattle.cf_eval.proofs.Looking.{seen_under, sight_by}
 
 -- what stands under a name, where what stands under each rests on its name alone
 module _ {A : Type 0} {X : Type 0} (key : A → List ℕ) (val : A → X) (f : List ℕ → X) where
@@ -102,26 +103,37 @@ module _ (t : Stack) (conds : Verdicts) (seen : Seen) where
   abbrev seen_of : List ℕ → Sight
   seen_of id = seen_as (value_at (path_in t.path id) seen)
 
-  abbrev not_there : List ℕ → Sight
-  not_there id = sight.NotMade
-
-  unmade_give : (rs : List Res) → AllGive (λ (r : Res). r.name) (λ (r : Res). sight.NotMade) not_there rs
-  unmade_give [] = tt
-  unmade_give (r ∷ rs) = (refl, unmade_give rs)
+  all_unmade : {X : Type 0} (x : X) (rs : List Res) → AllGive (λ (r : Res). r.name) (λ (r : Res). x) (λ id. x) rs
+  all_unmade x [] = tt
+  all_unmade x (r ∷ rs) = (refl, all_unmade x rs)
 
   abbrev unmade : List Res
   unmade = filter (λ r. not (is_made conds r)) t.template.resources
 
-  unmade_at : (q : List ℕ) → value_at q (not_made_by conds t.template) ≡ value_at q (unmade_sights t conds)
-  unmade_at q =
-      put_all (λ (r : Res). r.name) (λ (r : Res). sight.NotMade) not_there q unmade [] (unmade_give unmade)
-      ∙ sym (ap (value_at q) (sym (append-nil (unmade_sights t conds))) ∙ listed_all (λ (r : Res). r.name) (λ (r : Res). sight.NotMade) not_there q unmade [] (unmade_give unmade))
+  abbrev is_unmade : List ℕ → Bool
+  is_unmade q = is_among q (map (λ (r : Res). r.name) unmade)
+
+  made_at : (ids : List (List ℕ)) (q : List ℕ) → value_at q (made_by conds t.template ids) ≡ cond (is_among q (map itself ids)) (Some true) (cond (is_unmade q) (Some false) None)
+  made_at ids q =
+      put_all itself (λ id. true) (λ id. true) q ids (not_made_by conds t.template) (names_give (λ id. true) ids)
+      ∙ ap (λ (o : Option Bool). cond (is_among q (map itself ids)) (Some true) o) (put_all (λ (r : Res). r.name) (λ (r : Res). false) (λ id. false) q unmade [] (all_unmade false unmade))
+
+  listed_at : (ids : List (List ℕ)) (q : List ℕ)
+      → value_at q (first_sights t conds seen ids) ≡ cond (is_among q (map itself ids)) (Some (seen_of q)) (cond (is_unmade q) (Some sight.NotMade) None)
+  listed_at ids q =
+      listed_all itself seen_of seen_of q ids (unmade_sights t conds) (names_give seen_of ids)
+      ∙ ap (λ (o : Option Sight). cond (is_among q (map itself ids)) (Some (seen_of q)) o)
+      (ap (value_at q) (sym (append-nil (unmade_sights t conds))) ∙ listed_all (λ (r : Res). r.name) (λ (r : Res). sight.NotMade) (λ id. sight.NotMade) q unmade [] (all_unmade sight.NotMade unmade))
+
+  seen_by : (q : List ℕ) (a b : Bool) → option_map (sight_by t.path seen q) (cond a (Some true) (cond b (Some false) None)) ≡ cond a (Some (seen_of q)) (cond b (Some sight.NotMade) None)
+  seen_by q true b = refl
+  seen_by q false true = refl
+  seen_by q false false = refl
 
   pub sights_listed : (ids : List (List ℕ)) (q : List ℕ) → value_at q (sights_by t conds seen ids) ≡ value_at q (first_sights t conds seen ids)
   sights_listed ids q =
-      put_all itself seen_of seen_of q ids (not_made_by conds t.template) (names_give seen_of ids)
-      ∙ ap (λ (o : Option Sight). cond (is_among q (map itself ids)) (Some (seen_of q)) o) (unmade_at q)
-      ∙ sym (listed_all itself seen_of seen_of q ids (unmade_sights t conds) (names_give seen_of ids))
+      seen_under t.path seen q (made_by conds t.template ids) ∙ ap (option_map (sight_by t.path seen q)) (made_at ids q)
+      ∙ seen_by q (is_among q (map itself ids)) (is_unmade q) ∙ sym (listed_at ids q)
 
 -- what ids stand for
 module _ (t : Stack) where

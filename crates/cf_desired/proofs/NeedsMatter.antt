@@ -20,10 +20,9 @@ use Rattle.cf_graph.specs.Mentions.{Mention, by_ref, by_attribute, mentions_of, 
 use Rattle.cf_graph.specs.Needs.{is_true, holds_in}
 use Rattle.cf_tree.specs.Lists.{is_among}
 use Rattle.cf_desired.specs.Names.{path_in, pseudo_of, stack_id}
-use Rattle.cf_desired.specs.Seeing.{Seen, is_output_made, seen_as, own_ids, first_sights, unnamed_output, export_wanted, export_stop, output_stop, text_in, text_known, broken_at, output_sight, output_seen, output_sights, sights_after, outputs_inside, outputs_of, by_names}
+use Rattle.cf_desired.specs.Seeing.{Seen, SeenAt, is_output_made, seen_as, own_ids, first_sights, unnamed_output, export_wanted, export_stop, output_stop, text_in, text_known, broken_at, output_sight, output_seen, output_sights, sights_after, outputs_inside, outputs_of, by_names}
 use Rattle.cf_desired.specs.Valued.{unless_flaw, evaluated_at, resources_along, resources_inside, resources_in, valued_along, valued_inside, valued_in}
 use Rattle.cf_desired.specs.Stays.{AgreeAt}
-use Rattle.cf_desired.specs.declared.seen.SeenAt.{SeenAt}
 use Rattle.cf_desired.specs.declared.wanted.Evaluated.{Evaluated}
 use Rattle.cf_desired.proofs.OrderNeeds.{among_first, among_second}
 use Rattle.cf_desired.proofs.Puts.{value_put}

@@ -7,21 +7,13 @@ use Rattle.std.specs.Str.{bytes_eq}
 use Rattle.std.proofs.lemmas.Slice.Eq.{bytes_eq-Decides}
 use Rattle.cf_tree.specs.Keys.{value_at, put}
 use Rattle.cf_tree.specs.Lists.{is_among}
-use Rattle.cf_tree.proofs.Lookups.{put_here, put_else}
+pub use Rattle.cf_eval.proofs.Looking.{value_put}
 use Rattle.cf_eval.specs.Knows.{Keeps}
 use Rattle.cf_desired.specs.Seeing.{by_names}
 
 pub kept_self : {A : Type 0} (o : Option A) → Keeps o o
 kept_self None = tt
 kept_self (Some a) = refl
-
-module _ {X : Type 0} (q k : List ℕ) (v : X) (ps : List (List ℕ × X)) where
-  put_by : (b : Bool) → bytes_eq q k ≡ b → value_at q (put k v ps) ≡ cond b (Some v) (value_at q ps)
-  put_by true e = ap (λ (n : List ℕ). value_at n (put k v ps)) ((bytes_eq-Decides q k).0 e) ∙ put_here k v ps
-  put_by false e = put_else q k v ps e
-
-  pub value_put : value_at q (put k v ps) ≡ cond (bytes_eq q k) (Some v) (value_at q ps)
-  value_put = put_by (bytes_eq q k) refl
 
 -- of pairs of one name the first counts
 pub value_names : {X : Type 0} (q : List ℕ) (ps : List (List ℕ × X)) → value_at q (by_names ps) ≡ value_at q ps

@@ -29,7 +29,7 @@ use Rattle.cf_param.specs.declared.constraints.Breach.{Breach}
 use Rattle.cf_param.specs.declared.offered.Piece.{Piece}
 use Rattle.cf_param.specs.declared.offered.Piece.TheVariants as piece
 use Rattle.cf_desired.specs.Names.{path_in, stack_id}
-use Rattle.cf_desired.specs.Seeing.{Seen, is_output_made, seen_as, own_ids, unmade_sight, first_sights, unnamed_output, export_wanted, export_stop, output_stop, text_in, text_known, broken_at, output_sight, output_seen, nested_sight, sights_after, outputs_inside, outputs_of, by_names}
+use Rattle.cf_desired.specs.Seeing.{SeenAt, Seen, is_output_made, seen_as, own_ids, unmade_sight, first_sights, unnamed_output, export_wanted, export_stop, output_stop, text_in, text_known, broken_at, output_sight, output_seen, nested_sight, sights_after, outputs_inside, outputs_of, by_names}
 use Rattle.cf_desired.specs.Valued.{unless_flaw, evaluated_at, resources_in, valued_along, valued_inside, valued_in}
 use Rattle.cf_desired.specs.Met.{flaws_of, Met, an_output, a_flaw, flaw_met, met_along, met_inside, met_in, offers_flaw, bind_flaw, exporting_as, exporting_in, output_at, outputs_met, scope_after}
 use Rattle.cf_desired.specs.Plan.{output_flaws, exported, exported_as, export_of, wanted_of, outputs_in}
@@ -39,7 +39,6 @@ use Rattle.cf_desired.specs.declared.flaw.Flaw.{Flaw}
 use Rattle.cf_desired.specs.declared.flaw.Flaw.TheVariants as flaw
 use Rattle.cf_desired.specs.declared.wanted.Exporting.{Exporting}
 use Rattle.cf_desired.specs.declared.wanted.Exporting.TheVariants as exporting
-use Rattle.cf_desired.specs.declared.seen.SeenAt.{SeenAt}
 use Rattle.cf_desired.specs.declared.wanted.Evaluated.{Evaluated}
 use Rattle.cf_desired.specs.declared.wanted.Evaluated.TheVariants.{Flawed as flawed, Known as evaluated}
 use Rattle.cf_graph.specs.Needs.{is_made}

@@ -48,6 +48,7 @@ use Rattle.cf_desired.specs.declared.urls.Url as kept_url
 use Rattle.cf_desired.specs.declared.urls.Url.TheVariants as named
 use Rattle.cf_desired.specs.Names.{path_in}
 use Rattle.cf_desired.specs.Given.{Given, Offers, given_by, kind_stop, offers_stop, pieces, unknown, with_piece}
+use Rattle.cf_desired.specs.Listed.{made_by}
 use Rattle.cf_desired.specs.Laying.{Path, Way, way_shut, way_barred, way_entered}
 use Rattle.cf_desired.specs.declared.laying.Way as kept_way
 use Rattle.cf_desired.specs.declared.laying.Way.TheVariants as way
@@ -142,7 +143,7 @@ turn_in (turn.Resource m) = a_resource (member_in m)
 turn_in (turn.Shut n f) = a_shut (nesting_in n) f
 turn_in (turn.Barred e f) = a_barred (entry_in e) f
 turn_in (turn.Halted e t f) = a_halted (entry_in e) (stack_in t) f
-turn_in (turn.Opened e t conds own) = an_opened (entry_in e) (stack_in t) conds own
+turn_in (turn.Opened e t conds made) = an_opened (entry_in e) (stack_in t) conds made
 turn_in turn.Closed = a_closed
 
 -- the shape is that of the definitions
@@ -204,9 +205,13 @@ IsWithin source seen s n c i l =
     IsLaidAs (turns_inside n i) (by_names (outputs_inside source seen s i)) (paths_inside i) (c.templates + templates_inside i) (c.members + members_inside i) l
 
 -- what is in a template that was opened, where its work came to this
+abbrev pub IsLaidAlong : Stack → Verdicts → Scoping → List (List ℕ) → Path → Laid → Type 0
+IsLaidAlong t conds over ids p l =
+    IsLaidAs p.turns (by_names (output_sights t conds (over p.sights))) (map (path_in t.path) ids ++ p.paths) p.templates p.members l
+
 pub record IsContents (t : Stack) (conds : Verdicts) (over : Scoping) (ids : List (List ℕ)) (p : Path) (k : Contents) : Type 0 where
-  pub own : k.own ≡ ids
-  pub laid : IsLaidAs p.turns (by_names (output_sights t conds (over p.sights))) (map (path_in t.path) ids ++ p.paths) p.templates p.members k.laid
+  pub made : k.made ≡ made_by conds t.template ids
+  pub laid : IsLaidAlong t conds over ids p k.laid
 
 -- the course behind a nested stack that was laid out
 pub record IsJoined (source : Source) (n : Nesting) (l : Laid) (old new : kept_course.Course) : Type 0 where

@@ -1,15 +1,15 @@
 -- What is bound, seen and stood for in a template, each name once, in byte order, where the definitions list all (this
 -- project's own).
-use Rattle.std.specs.Prelude.{ℕ, List, [], ◌∷◌, filter, fold, not, is_some, if◌then◌else◌}
+use Rattle.std.specs.Prelude.{ℕ, Bool, true, false, List, [], ◌∷◌, filter, fold, not, is_some, if◌then◌else◌}
 use Rattle.cf_tree.specs.Keys.{value_at, put}
 use Rattle.cf_tree.specs.declared.template.Param.{Param}
 use Rattle.cf_tree.specs.declared.template.Res.{Res}
 use Rattle.cf_tree.specs.declared.template.Template.{Template}
-use Rattle.cf_eval.specs.declared.env.Sight.TheVariants as sight
+use Rattle.cf_eval.specs.Sights.{seen_through}
 use Rattle.cf_graph.specs.Needs.{is_made}
 use Rattle.cf_desired.specs.Given.{Given, setting_given}
 use Rattle.cf_desired.specs.Names.{path_in}
-use Rattle.cf_desired.specs.Seeing.{Seen, seen_as}
+use Rattle.cf_desired.specs.Seeing.{Seen}
 use Rattle.cf_desired.specs.Shape.{StandsFor}
 use Rattle.cf_desired.specs.Stack.{Stack, Verdicts, Settings, Sights}
 
@@ -20,18 +20,24 @@ put_setting g bound p = if is_some (value_at p.name bound) then bound else put p
 abbrev pub settings_by : List Param → Given → Settings
 settings_by params g = fold (put_setting g) [] params
 
--- what is seen of resources, those that are not made first
-abbrev pub put_unmade : Sights → Res → Sights
-put_unmade sights r = put r.name sight.NotMade sights
+-- whether each resource is made, those that are not first, and what is seen of them
+abbrev pub Made : Type 0
+Made = List (List ℕ × Bool)
 
-abbrev pub not_made_by : Verdicts → Template → Sights
+abbrev pub put_unmade : Made → Res → Made
+put_unmade made r = put r.name false made
+
+abbrev pub not_made_by : Verdicts → Template → Made
 not_made_by conds t = fold put_unmade [] (filter (λ r. not (is_made conds r)) t.resources)
 
-abbrev pub put_made : Stack → Seen → Sights → List ℕ → Sights
-put_made t seen sights id = put id (seen_as (value_at (path_in t.path id) seen)) sights
+abbrev pub put_made : Made → List ℕ → Made
+put_made made id = put id true made
+
+abbrev pub made_by : Verdicts → Template → List (List ℕ) → Made
+made_by conds t ids = fold put_made (not_made_by conds t) ids
 
 abbrev pub sights_by : Stack → Verdicts → Seen → List (List ℕ) → Sights
-sights_by t conds seen ids = fold (put_made t seen) (not_made_by conds t.template) ids
+sights_by t conds seen ids = seen_through t.path seen (made_by conds t.template ids)
 
 -- the paths that a template's own resources stand for
 abbrev pub put_own : Stack → StandsFor → List ℕ → StandsFor

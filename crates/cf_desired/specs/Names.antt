@@ -2,11 +2,8 @@
 -- names of nested stacks are this project's own).
 use Rattle.std.specs.Prelude.{ℕ, List, [], ◌∷◌, ◌++◌, codes, decimal}
 use Rattle.cf_tree.specs.Datum.{Data, text, list, no_items}
-
--- a resource's path: its stack's path and its logical id
-abbrev pub path_in : List ℕ → List ℕ → List ℕ
-path_in [] id = id
-path_in (b ∷ bs) id = (b ∷ bs) ++ codes "/" ++ id
+-- a resource's path
+pub use Rattle.cf_eval.specs.Sights.{path_in}
 
 -- a nested stack's name: the name of the stack around it, a hyphen and its logical id
 abbrev pub name_in : List ℕ → List ℕ → List ℕ

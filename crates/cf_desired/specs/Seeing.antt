@@ -10,7 +10,6 @@ use Rattle.cf_tree.specs.declared.template.Res.{Res}
 use Rattle.cf_eval.specs.declared.fault.EvalWhy.TheVariants.{UnknownName, WrongKind}
 use Rattle.cf_graph.specs.Needs.{is_false, is_made}
 use Rattle.cf_desired.specs.Names.{path_in, stack_id}
-use Rattle.cf_desired.specs.declared.seen.SeenAt.{SeenAt}
 use Rattle.cf_desired.specs.Given.{Given, given_in, settings_for}
 use Rattle.cf_eval.specs.Outcome.{Outcome, Stop, got, later, bad, fault, undecided, below}
 use Rattle.cf_eval.specs.declared.env.OutputSight.{OutputSight}
@@ -22,15 +21,13 @@ use Rattle.cf_desired.specs.Stack.{Stack, Verdicts, Sights, Scoping, scoping, va
 use Rattle.cf_eval.specs.Texts.{as_text}
 use Rattle.cf_desired.specs.Work.{Member, Nesting, Work, Inside, Body, no_work, resource, nested, shut, barred, halted, opened}
 use Rattle.cf_desired.specs.Work as inside
+-- what is known of a resource, and how it is seen
+pub use Rattle.cf_eval.specs.declared.sights.SeenAt.{SeenAt}
+pub use Rattle.cf_eval.specs.Sights.{seen_as}
 
 -- what is seen of resources, by path
 abbrev pub Seen : Type 0
 Seen = List (List ℕ × SeenAt)
-
--- a resource that is made, by what is seen at its path
-abbrev pub seen_as : Option SeenAt → Sight
-seen_as None = sight.Made None None
-seen_as (Some s) = sight.Made s.physical s.attrs
 
 -- All resources of a template that come in its work are seen at once, but for nested stacks: an order of work brings what is needed
 -- first, so it makes no difference that later ones are seen too.

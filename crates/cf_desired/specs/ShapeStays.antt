@@ -2,9 +2,8 @@
 use Rattle.std.specs.Prelude.{◌≡◌, ℕ, List, Bool, false, None, map, if◌then◌else◌, [], ◌∷◌, ⊤}
 use Rattle.cf_tree.specs.declared.source.Source.{Source}
 use Rattle.cf_eval.specs.Knows.{Keeps}
-use Rattle.cf_desired.specs.Seeing.{Seen}
+use Rattle.cf_desired.specs.Seeing.{SeenAt, Seen}
 use Rattle.cf_desired.specs.Stays.{SeesMore, id_seen, attrs_seen}
-use Rattle.cf_desired.specs.declared.seen.SeenAt.{SeenAt}
 use Rattle.cf_desired.specs.Plan.{plan_by}
 use Rattle.cf_desired.specs.Shape.{shape_of}
 use Rattle.cf_desired.specs.Work.{Member, Nesting, Work, Inside, Body, Shape, no_work, resource, nested, shut, barred, halted, opened}

@@ -1,6 +1,6 @@
 -- A shape as a list of turns, one after another in the order of work, and what taking them gives: which templates are open, and
 -- the plan (this project's own).
-use Rattle.std.specs.Prelude.{ℕ, List, [], ◌∷◌, ◌++◌, Option, Some, None, find, flat_map, map, not, filter, option_map}
+use Rattle.std.specs.Prelude.{ℕ, Bool, true, false, List, [], ◌∷◌, ◌++◌, Option, Some, None, find, flat_map, map, not, filter, option_map}
 use Rattle.std.specs.Option.{option_or}
 use Rattle.std.specs.Str.{bytes_eq}
 use Rattle.cf_tree.specs.Datum.{Data}
@@ -15,7 +15,8 @@ use Rattle.cf_desired.specs.declared.wanted.Evaluated.TheVariants.{Flawed as fla
 use Rattle.cf_desired.specs.declared.wanted.Plan.{Plan}
 use Rattle.cf_desired.specs.declared.wanted.WantedOutput.{WantedOutput}
 use Rattle.cf_desired.specs.Given.{Given, given_in, unknown}
-use Rattle.cf_desired.specs.Listed.{settings_by, sights_by}
+use Rattle.cf_eval.specs.Sights.{seen_through}
+use Rattle.cf_desired.specs.Listed.{Made, made_by, settings_by}
 use Rattle.cf_desired.specs.Met.{bind_flaw, offers_flaw, outputs_wanted}
 use Rattle.cf_desired.specs.Names.{pseudo_of}
 use Rattle.cf_desired.specs.Plan.{exported, output_flaws, wanted_of}
@@ -32,13 +33,13 @@ pub data Entry : Type 0 where
   through : Nesting → Option Form → Entry
 
 -- A resource; a nested stack with a flaw; a template that can't be entered, or that can't be worked on; a template that is opened,
--- with the ids of its own resources; and the end of the template that was opened last.
+-- with its own resources, each with whether it is made; and the end of the template that was opened last.
 pub data Turn : Type 0 where
   a_resource : Member → Turn
   a_shut : Nesting → Flaw → Turn
   a_barred : Entry → Flaw → Turn
   a_halted : Entry → Stack → Flaw → Turn
-  an_opened : Entry → Stack → Verdicts → List (List ℕ) → Turn
+  an_opened : Entry → Stack → Verdicts → Made → Turn
   a_closed : Turn
 
 -- the turns of a shape
@@ -55,7 +56,19 @@ abbrev mutual
   pub turns_in : Entry → Body → List Turn
   turns_in e (barred f) = a_barred e f ∷ []
   turns_in e (halted t f) = a_halted e t f ∷ []
-  turns_in e (opened t conds w) = an_opened e t conds (own_ids w) ∷ (turns_along w ++ a_closed ∷ [])
+  turns_in e (opened t conds w) = an_opened e t conds (made_by conds t.template (own_ids w)) ∷ (turns_along w ++ a_closed ∷ [])
+
+-- a turn of a nested stack
+abbrev pub is_below : Entry → Bool
+is_below the_root = false
+is_below (through n form) = true
+
+abbrev pub is_nested : Turn → Bool
+is_nested (a_shut n f) = true
+is_nested (a_barred e f) = is_below e
+is_nested (a_halted e t f) = is_below e
+is_nested (an_opened e t conds made) = is_below e
+is_nested _ = false
 
 -- the resources among turns, and what is asked of a path
 abbrev pub member_on : Turn → List Member
@@ -86,14 +99,14 @@ pub record Frame : Type 0 where
 abbrev pub scope_on : Source → Frame → Scope
 scope_on source f = resource_scope f.stack.template f.bound f.conds f.pseudo f.sights source.imports
 
-abbrev pub frame_of : Source → Seen → Given → Entry → Stack → Verdicts → List (List ℕ) → Frame
-frame_of source seen g e t conds own = record {
+abbrev pub frame_of : Source → Seen → Given → Entry → Stack → Verdicts → Made → Frame
+frame_of source seen g e t conds made = record {
   entry = e;
   stack = t;
   conds = conds;
   bound = settings_by t.template.params g;
   pseudo = pseudo_of t.name source.number;
-  sights = sights_by t conds seen own;
+  sights = seen_through t.path seen made;
 }
 
 -- what a template is given that a turn enters, in the one that was opened last; and the flaw of that
@@ -110,7 +123,7 @@ flaw_through source (f ∷ fs) (through n form) = offers_flaw f.stack.path (scop
 abbrev pub given_at : Source → List Frame → Turn → Given
 given_at source fs (a_barred e f) = given_through source fs e
 given_at source fs (a_halted e t f) = given_through source fs e
-given_at source fs (an_opened e t conds own) = given_through source fs e
+given_at source fs (an_opened e t conds made) = given_through source fs e
 given_at source fs (a_resource m) = unknown
 given_at source fs (a_shut n f) = unknown
 given_at source fs a_closed = unknown
@@ -118,7 +131,7 @@ given_at source fs a_closed = unknown
 abbrev pub flaw_at_turn : Source → List Frame → Turn → Option Flaw
 flaw_at_turn source fs (a_barred e f) = flaw_through source fs e
 flaw_at_turn source fs (a_halted e t f) = flaw_through source fs e
-flaw_at_turn source fs (an_opened e t conds own) = flaw_through source fs e
+flaw_at_turn source fs (an_opened e t conds made) = flaw_through source fs e
 flaw_at_turn source fs (a_resource m) = None
 flaw_at_turn source fs (a_shut n f) = None
 flaw_at_turn source fs a_closed = None
@@ -142,7 +155,7 @@ frames_after source seen g fs (a_resource m) = fs
 frames_after source seen g fs (a_shut n f) = come source n [] fs
 frames_after source seen g fs (a_barred e f) = come_through source e [] fs
 frames_after source seen g fs (a_halted e t f) = come_through source e [] fs
-frames_after source seen g fs (an_opened e t conds own) = frame_of source seen g e t conds own ∷ fs
+frames_after source seen g fs (an_opened e t conds made) = frame_of source seen g e t conds made ∷ fs
 frames_after source seen g fs a_closed = close source fs
 
 abbrev pub frames_behind : Source → Seen → List Frame → Turn → List Frame
@@ -153,6 +166,11 @@ abbrev pub valued_at : Source → List Frame → Turn → List (Member × Evalua
 valued_at source [] turn = []
 valued_at source (f ∷ fs) (a_resource m) = (m, evaluated_at f.stack.path (scope_on source f) m) ∷ []
 valued_at source (f ∷ fs) _ = []
+
+-- a resource at another path
+abbrev pub is_beside : List ℕ → Turn → Bool
+is_beside path (a_resource m) = not (bytes_eq path m.path)
+is_beside path _ = false
 
 -- the plan with a flaw, a nested stack, a template that was entered, a resource, and outputs
 abbrev pub with_flaw : Plan → Flaw → Plan
@@ -206,7 +224,7 @@ plan_after source g o (f ∷ fs) p (a_resource m) = with_resource p m (evaluated
 plan_after source g o fs p (a_shut n f) = with_flaw (with_stack p n None) f
 plan_after source g o fs p (a_barred e f) = with_flaw (entered p e o None) f
 plan_after source g o fs p (a_halted e t f) = with_flaw (entered p e o (bind_flaw t g)) f
-plan_after source g o fs p (an_opened e t conds own) = with_unmade (entered p e o (bind_flaw t g)) e t conds
+plan_after source g o fs p (an_opened e t conds made) = with_unmade (entered p e o (bind_flaw t g)) e t conds
 plan_after source g o [] p a_closed = p
 plan_after source g o (f ∷ fs) p a_closed = outputs_on source p f
 

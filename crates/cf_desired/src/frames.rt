@@ -11,10 +11,10 @@ use crate::outputs::output_sights;
 use crate::pseudo::pseudo_of;
 use crate::seen::Seen;
 use crate::shape::{Entry, Nesting, Stack, Turn};
-use crate::sights::{add_nested, first_sights};
+use crate::sights::add_nested;
 use crate::urls::offered_to;
-use cf_eval::{Env, OutputSight, Sight};
-use cf_tree::{Bound, ByName, CondMap, Dict, Names, Source};
+use cf_eval::{Env, OutputSight, Sights};
+use cf_tree::{Bound, ByName, CondMap, Dict, Source};
 use std::alloc::{AllocError, Global};
 
 /// A template that is open: what its parameters are bound to, and what is seen of its resources.
@@ -25,7 +25,7 @@ pub(crate) struct Frame<'a> {
     pub conds: &'a CondMap,
     pub bound: Bound,
     pub pseudo: Dict,
-    pub sights: ByName<Sight>,
+    pub sights: Sights<'a>,
 }
 
 /// What the resources and outputs of an open template are evaluated over.
@@ -65,7 +65,7 @@ pub(crate) fn offered_at(
             entry,
             stack: _,
             conds: _,
-            own: _,
+            made: _,
         } => offered_through(alloc, source, frames, entry),
         Turn::Resource { member: _ } => Ok(nothing_known()),
         Turn::Shut {
@@ -119,7 +119,7 @@ fn offered_through(
 pub(crate) fn take_turn<'a>(
     alloc: Global,
     source: &Source,
-    seen: &Seen,
+    seen: &'a Seen,
     frames: &mut Vec<Frame<'a>>,
     given: &Offer,
     turn: &'a Turn,
@@ -143,9 +143,9 @@ pub(crate) fn take_turn<'a>(
             entry,
             stack,
             conds,
-            own,
+            made,
         } => {
-            let frame = frame_of(alloc, source, seen, given, entry, stack, conds, own)?;
+            let frame = frame_of(alloc, source, seen, given, entry, stack, conds, made)?;
             Ok(frames.push(frame)?)
         }
         Turn::Closed => close_last(alloc, source, frames),
@@ -156,14 +156,14 @@ pub(crate) fn take_turn<'a>(
 fn frame_of<'a>(
     alloc: Global,
     source: &Source,
-    seen: &Seen,
+    seen: &'a Seen,
     given: &Offer,
     entry: &'a Entry,
     stack: &'a Stack,
     conds: &'a CondMap,
-    own: &Names,
+    made: &'a ByName<bool>,
 ) -> Result<Frame<'a>, AllocError>
-    ensures { IfOk result (λ f. frame_in f ≡ frame_of source.now seen.now (offer_in given.now) (entry_in entry.now) (stack_in stack.now) conds.now own.now) }
+    ensures { IfOk result (λ f. frame_in f ≡ frame_of source.now seen.now (offer_in given.now) (entry_in entry.now) (stack_in stack.now) conds.now made.now) }
 {
     Ok(Frame {
         entry,
@@ -171,7 +171,7 @@ fn frame_of<'a>(
         conds,
         bound: settings(alloc, &stack.template.params, given)?,
         pseudo: pseudo_of(alloc, &stack.name, source.number)?,
-        sights: first_sights(alloc, stack, conds, seen, own)?,
+        sights: Sights::new(alloc, made, &stack.path, seen),
     })
 }
 

@@ -4,8 +4,8 @@ ghost use Rattle.cf_eval.specs.Env.{scope_in};
 ghost use Rattle.cf_desired.specs.Kept.{scope_by};
 
 use crate::shape::Stack;
-use cf_eval::{Env, Sight};
-use cf_tree::{Bound, ByName, CondMap, Dict, Source};
+use cf_eval::{Env, Sights};
+use cf_tree::{Bound, CondMap, Dict, Source};
 
 /// What the resources and outputs of a stack are evaluated over, but for what is seen of its resources.
 #[derive(Drop)]
@@ -18,7 +18,7 @@ pub(crate) struct Ground<'a> {
 }
 
 /// What expressions are evaluated over, where this is seen of the resources.
-pub(crate) fn env_over<'a>(ground: &'a Ground, sights: &'a ByName<Sight>) -> Env<'a>
+pub(crate) fn env_over<'a>(ground: &'a Ground, sights: &'a Sights<'a>) -> Env<'a>
     ensures scope { scope_in result ≡ scope_by ground.now sights.now }
     ensures stack { result.stack.now ≡ ground.now.stack.now.path }
 {

@@ -2,9 +2,9 @@
 ghost use Rattle.std.specs.Prelude.{◌≡◌, ◌+◌, [], ◌∷◌, ◌++◌, IfOk, codes, fold, length, map};
 ghost use Rattle.cf_eval.specs.Env.{scope_in};
 ghost use Rattle.cf_template.proofs.Ordered.{AreOrdered};
-ghost use Rattle.cf_desired.specs.Kept.{IsContents, IsJoined, IsLaid, IsShape, IsWithin, WayLaid, course_in, entering_in, entry_in, nesting_in, offer_in, scope_by, stack_in, way_in};
+ghost use Rattle.cf_desired.specs.Kept.{IsContents, IsJoined, IsLaid, IsLaidAlong, IsShape, IsWithin, WayLaid, course_in, entering_in, entry_in, nesting_in, offer_in, scope_by, stack_in, way_in};
 ghost use Rattle.cf_desired.specs.Laying.{IsWay, begun, below, entered_by, entered_way, few, step_by, way_by, with_member, with_nested};
-ghost use Rattle.cf_desired.specs.Listed.{settings_by, stands_by};
+ghost use Rattle.cf_desired.specs.Listed.{made_by, settings_by, stands_by};
 ghost use Rattle.cf_desired.specs.Given.{Given, given_in};
 ghost use Rattle.cf_desired.specs.Seeing.{Seen, by_names, output_sights};
 ghost use Rattle.cf_tree.specs.Keys.{value_at};
@@ -13,6 +13,7 @@ ghost use Rattle.cf_tree.specs.declared.source.Source.{Source};
 ghost use Rattle.cf_desired.specs.Shape.{entering_below, given_root, laid, own_in, root_of, shape_of};
 ghost use Rattle.cf_desired.specs.Templates.{template_named, templates_of};
 ghost use Rattle.cf_desired.specs.Names.{path_in};
+ghost use Rattle.cf_desired.specs.Stack.{Verdicts};
 ghost use Rattle.cf_desired.specs.Turns.{the_root, through};
 ghost use Rattle.cf_desired.specs.declared.shape.Turn.TheVariants.{Closed};
 ghost use Rattle.cf_desired.specs.Work.{barred, halted, shut};
@@ -23,17 +24,16 @@ use crate::decision::{Decision, decide};
 use crate::flaw::Flaw;
 use crate::ground::{Ground, env_over};
 use crate::members::{member_by, nesting_by, unnamed};
-use crate::names::path_in;
 use crate::offers::Offer;
 use crate::outputs::output_sights;
 use crate::pseudo::pseudo_of;
 use crate::seen::Seen;
 use crate::shape::{Entry, Nesting, Shape, Stack, Turn};
 use crate::shared::{Shared, SharedRes, shared_res};
-use crate::sights::{add_nested, first_sights};
+use crate::sights::{add_nested, made_by};
 use crate::templates::{Templates, is_stack, template_named};
 use crate::urls::{Url, has_shape, offered_to, url_wanted};
-use cf_eval::{Env, OutputSight, Sight};
+use cf_eval::{Env, OutputSight, Sights, path_in};
 use cf_graph::Needs;
 use cf_tree::{
     Bound, ByName, CondMap, Deletion, Listing, Names, Replace, Source, Template, TryClone, Txt,
@@ -85,18 +85,18 @@ pub(crate) struct Laid {
 /// What is known along the order of work in a template: what is seen of its resources, the paths that logical ids stand for, and
 /// those of its nested stacks.
 #[derive(Drop)]
-pub(crate) struct Course {
+pub(crate) struct Course<'a> {
     pub turns: Listing<Turn>,
-    pub sights: ByName<Sight>,
+    pub sights: Sights<'a>,
     pub stands: ByName<Names>,
     pub paths: Names,
     pub count: Count,
 }
 
-/// What is in a template that was opened: the logical ids of its own resources, and what was laid out along the order of work.
+/// What is in a template that was opened: whether each of its resources is made, and what was laid out along the order of work.
 #[derive(Drop)]
 pub(crate) struct Contents {
-    pub own: Names,
+    pub made: ByName<bool>,
     pub laid: Laid,
 }
 
@@ -231,7 +231,7 @@ fn lay(
                 entry,
                 stack: entering.stack,
                 conds,
-                own: contents.own,
+                made: contents.made,
             };
             opened(alloc, turn, contents.laid)
         }
@@ -260,31 +260,25 @@ fn contents_of(
     ensures few { IfOk result (λ k. few k.laid.count.templates k.laid.count.members) }
 {
     let own = own_on(alloc, ground.stack, order)?;
-    let mut course = begun(alloc, laying.seen, ground, &own, count)?;
+    let made = made_on(alloc, ground, &own)?;
+    let mut course = begun(alloc, laying.seen, ground.stack, &own, &made, count)?;
     work(alloc, laying, entering, ground, order, left, &mut course)?;
-    gathered(alloc, ground, own, course)
+    let laid = gathered(alloc, ground, &own, course)?;
+    Ok(Contents { made, laid })
 }
 
 /// What a course came to, with what is seen of the outputs behind it and with the paths of the template's own resources.
-fn gathered(
-    alloc: Global,
-    ground: &Ground,
-    own: Names,
-    course: Course,
-) -> Result<Contents, AllocError>
-    ensures contents { IfOk result (IsContents (stack_in ground.now.stack.now) ground.now.conds.now (scope_by ground.now) own (course_in course)) }
-    ensures count { IfOk result (λ k. k.laid.count ≡ course.count) }
+fn gathered(alloc: Global, ground: &Ground, own: &Names, course: Course) -> Result<Laid, AllocError>
+    ensures laid { IfOk result (IsLaidAlong (stack_in ground.now.stack.now) ground.now.conds.now (scope_by ground.now) own.now (course_in course.entry)) }
+    ensures count { IfOk result (λ l. l.count ≡ course.entry.count) }
 {
     let outputs = outputs_behind(alloc, ground, &course.sights)?;
-    let paths = all_paths(alloc, ground.stack, &own, &course.paths)?;
-    Ok(Contents {
-        own,
-        laid: Laid {
-            turns: course.turns,
-            outputs,
-            paths,
-            count: course.count,
-        },
+    let paths = all_paths(alloc, ground.stack, own, &course.paths)?;
+    Ok(Laid {
+        turns: course.turns,
+        outputs,
+        paths,
+        count: course.count,
     })
 }
 
@@ -318,7 +312,7 @@ fn halted(
 fn outputs_behind(
     alloc: Global,
     ground: &Ground,
-    sights: &ByName<Sight>,
+    sights: &Sights,
 ) -> Result<ByName<OutputSight>, AllocError>
     ensures { IfOk result (λ os. os ≡ by_names (output_sights (stack_in ground.now.stack.now) ground.now.conds.now (scope_by ground.now sights.now))) }
 {
@@ -373,6 +367,13 @@ fn own_on(alloc: Global, stack: &Stack, order: &Needs) -> Result<Names, AllocErr
     own_ids(alloc, &stack.template, order)
 }
 
+/// Whether each resource of a stack's template is made, where these are the logical ids of its own that are.
+fn made_on(alloc: Global, ground: &Ground, own: &Names) -> Result<ByName<bool>, AllocError>
+    ensures { IfOk result (λ made. made ≡ made_by ground.now.conds.now ground.now.stack.now.template own.now) }
+{
+    made_by(alloc, &ground.stack.template, ground.conds, own)
+}
+
 /// What the parameters of a stack's template are bound to.
 fn settings_on(alloc: Global, stack: &Stack, given: &Offer) -> Result<Bound, AllocError>
     ensures { IfOk result (λ b. b ≡ settings_by stack.now.template.params (offer_in given.now)) }
@@ -381,20 +382,20 @@ fn settings_on(alloc: Global, stack: &Stack, given: &Offer) -> Result<Bound, All
 }
 
 /// What is known before the first resource of a template comes.
-fn begun(
+fn begun<'a>(
     alloc: Global,
-    seen: &Seen,
-    ground: &Ground,
+    seen: &'a Seen,
+    stack: &'a Stack,
     own: &Names,
+    made: &'a ByName<bool>,
     count: Count,
-) -> Result<Course, AllocError>
-    requires few { few (count.templates + 1) (count.members + length ground.now.stack.now.template.resources) }
-    ensures { IfOk result (λ c. course_in c ≡ begun seen.now (stack_in ground.now.stack.now) ground.now.conds.now own.now count.templates count.members) }
+) -> Result<Course<'a>, AllocError>
+    requires few { few (count.templates + 1) (count.members + length stack.now.template.resources) }
+    ensures { IfOk result (λ c. (conds : Verdicts) → made.now ≡ made_by conds stack.now.template own.now → course_in c ≡ begun seen.now (stack_in stack.now) conds own.now count.templates count.members) }
 {
-    let stack = ground.stack;
     Ok(Course {
         turns: Listing::new(alloc),
-        sights: first_sights(alloc, stack, ground.conds, seen, own)?,
+        sights: Sights::new(alloc, made, &stack.path, seen),
         stands: first_stands(alloc, stack, own)?,
         paths: Names::new(alloc),
         count: Count {
@@ -411,7 +412,7 @@ fn first_stands(alloc: Global, stack: &Stack, own: &Names) -> Result<ByName<Name
     let mut stands = ByName::new(alloc);
     for id in own.as_slice() {
         let mut paths = Names::new(alloc);
-        paths.push(path_in(alloc, &stack.path, id)?)?;
+        paths.push(path_in(alloc, &stack.path, id.as_str())?)?;
         stands.insert(id.try_clone(alloc)?, paths)?;
     }
     Ok(stands)
@@ -423,7 +424,7 @@ fn all_paths(alloc: Global, stack: &Stack, own: &Names, below: &Names) -> Result
 {
     let mut paths = Names::new(alloc);
     for id in own.as_slice() {
-        paths.push(path_in(alloc, &stack.path, id)?)?;
+        paths.push(path_in(alloc, &stack.path, id.as_str())?)?;
     }
     add_all(alloc, &mut paths, below)?;
     Ok(paths)

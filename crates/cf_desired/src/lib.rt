@@ -40,7 +40,7 @@ pub use laying::shape_of;
 pub use props::{Prop, Props};
 pub use refusal::{Desired, DesiredFault, desired};
 pub use seen::{Seen, SeenAt};
-pub use shape::{Shape, Terms, all_terms, terms_at};
+pub use shape::{Shape, Terms, all_terms, has_nested, terms_at};
 pub use shared::Shared;
 pub use templates::{Templates, templates_of};
 pub use text::plan_text;

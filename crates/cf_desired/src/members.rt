@@ -8,10 +8,10 @@ ghost use Rattle.cf_desired.specs.Laying.{member_by, nesting_by};
 
 use crate::flaw::Flaw;
 use crate::laying::Entering;
-use crate::names::{name_in, path_in, resource_place};
+use crate::names::{name_in, resource_place};
 use crate::shape::{Member, Nesting, Stack};
 use crate::shared::SharedRes;
-use cf_eval::EvalWhy;
+use cf_eval::{EvalWhy, path_in};
 use cf_tree::{ByName, CondMap, Deletion, Names, Replace, Txt};
 use std::alloc::{AllocError, Global};
 
@@ -27,7 +27,7 @@ pub(crate) fn member_by(
     ensures { IfOk result (λ m. member_in m ≡ member_by (entering_in entering.now) conds.now stands.now ids.now resource) }
 {
     Ok(Member {
-        path: path_in(alloc, &entering.stack.path, &resource.name)?,
+        path: path_in(alloc, &entering.stack.path, resource.name.as_str())?,
         deletion: resource
             .deletion
             .or(entering.deletion)
@@ -53,7 +53,7 @@ pub(crate) fn nesting_by(
     ensures { IfOk result (λ n. nesting_in n ≡ nesting_by (entering_in entering.now) stands.now ids.now resource.now) }
 {
     Ok(Nesting {
-        path: path_in(alloc, &entering.stack.path, &resource.name)?,
+        path: path_in(alloc, &entering.stack.path, resource.name.as_str())?,
         id: resource.name.try_clone(alloc)?,
         name: name_in(alloc, &entering.stack.name, &resource.name)?,
         needs: needed_paths(alloc, ids, stands, &entering.needs)?,

@@ -1,26 +1,11 @@
-//! The names of stacks and paths, and places in templates.
+//! The names of stacks, and places in templates.
 ghost use Rattle.std.specs.Prelude.{◌≡◌, IfOk};
-ghost use Rattle.cf_desired.specs.Names.{name_in, path_in};
+ghost use Rattle.cf_desired.specs.Names.{name_in};
 ghost use Rattle.cf_desired.specs.Seeing.{output_attribute, output_place};
 ghost use Rattle.cf_desired.specs.Shape.{resource_place};
 
 use cf_tree::Txt;
 use std::alloc::{AllocError, Global};
-
-/// A resource's path: its stack's path and its logical id.
-#[tactic(auto, using(crate::proofs::Joined::nested_path))]
-pub(crate) fn path_in(alloc: Global, path: &Txt, id: &Txt) -> Result<Txt, AllocError>
-    ensures { IfOk result (λ p. p ≡ path_in path.now id.now) }
-{
-    let path = path.as_str();
-    if path.is_empty() {
-        return id.try_clone(alloc);
-    }
-    let mut text = String::from_str(alloc, path)?;
-    text.push_str("/")?;
-    text.push_str(id.as_str())?;
-    Ok(Txt::new(text))
-}
 
 /// A nested stack's name: the name of the stack around it, a hyphen and its logical id.
 pub(crate) fn name_in(alloc: Global, stack: &Txt, id: &Txt) -> Result<Txt, AllocError>

@@ -1,15 +1,16 @@
 //! The shape of what a source wants: its resources in the order of work, with what is asked of them and what they need, and its
 //! nested stacks. No value is in it.
-ghost use Rattle.std.specs.Prelude.{◌≡◌, IfOk, map, option_map};
-ghost use Rattle.cf_desired.specs.Kept.{IsShape, member_in, nesting_in, turn_in};
+ghost use Rattle.std.specs.Prelude.{◌≡◌, [], false, IfOk, map, option_map};
+ghost use Rattle.std.specs.List.{list_any};
+ghost use Rattle.cf_desired.specs.Kept.{IsShape, entry_in, member_in, nesting_in, turn_in};
 ghost use Rattle.cf_desired.specs.Plan.{member_at};
-ghost use Rattle.cf_desired.specs.Turns.{all_terms, pathed, terms_among, terms_of};
-ghost use Rattle.cf_desired.specs.Valued.{resources_in};
+ghost use Rattle.cf_desired.specs.Turns.{all_terms, is_below, is_nested, pathed, terms_among, terms_of};
+ghost use Rattle.cf_desired.specs.Valued.{nestings_in, resources_in};
 ghost use Rattle.cf_desired.specs.Work.{Body};
 
 use crate::flaw::Flaw;
 use crate::shared::{Shared, SharedRes};
-use cf_tree::{CondMap, Deletion, Listing, Names, Replace, Template, Txt};
+use cf_tree::{ByName, CondMap, Deletion, Listing, Names, Replace, Template, Txt};
 use std::alloc::{AllocError, Global};
 
 /// A template that is entered as a stack.
@@ -96,12 +97,12 @@ pub(crate) enum Turn {
         stack: Stack,
         flaw: Flaw,
     },
-    /// A template is opened: what its conditions come to, and the logical ids of its resources in the order of work.
+    /// A template is opened: what its conditions come to, and whether each of its resources is made.
     Opened {
         entry: Entry,
         stack: Stack,
         conds: CondMap,
-        own: Names,
+        made: ByName<bool>,
     },
     /// All of the template that was opened last has come.
     Closed,
@@ -124,6 +125,60 @@ pub struct Terms {
     pub needs: Names,
     pub deletion: Deletion,
     pub replace: Replace,
+}
+
+/// Whether a template is entered as a nested stack.
+fn is_below(entry: &Entry) -> bool
+    ensures { result ≡ is_below (entry_in entry.now) }
+{
+    match entry {
+        Entry::Root => false,
+        Entry::Nested {
+            nesting: _,
+            resource: _,
+        } => true,
+    }
+}
+
+/// Whether a turn is of a nested stack.
+fn is_nested(turn: &Turn) -> bool
+    ensures { result ≡ is_nested (turn_in turn.now) }
+{
+    match turn {
+        Turn::Resource { member: _ } => false,
+        Turn::Shut {
+            nesting: _,
+            flaw: _,
+        } => true,
+        Turn::Barred { entry, flaw: _ } => is_below(entry),
+        Turn::Halted {
+            entry,
+            stack: _,
+            flaw: _,
+        } => is_below(entry),
+        Turn::Opened {
+            entry,
+            stack: _,
+            conds: _,
+            made: _,
+        } => is_below(entry),
+        Turn::Closed => false,
+    }
+}
+
+/// Whether one of these turns is of a nested stack.
+fn has_nested_turn(turns: &[Turn]) -> bool
+    ensures { result ≡ list_any (λ t. is_nested (turn_in t)) turns.now }
+{
+    turns.iter().any(is_nested)
+}
+
+/// Whether a stack may be nested in the one that a shape is of; it takes a few instructions a turn.
+#[tactic(auto, using(crate::proofs::Nested::none_nested))]
+pub fn has_nested(shape: &Shape) -> bool
+    ensures { (b : Body) → IsShape shape.now b → result ≡ false → nestings_in b ≡ [] }
+{
+    has_nested_turn(shape.turns.as_slice())
 }
 
 /// What a shape has at a path; `None` where it has no resource there. No property is evaluated.

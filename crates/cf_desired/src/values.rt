@@ -7,7 +7,7 @@ ghost use Rattle.cf_desired.specs.Kept.{IsShape, entry_in, frame_in, frames_in, 
 ghost use Rattle.cf_desired.specs.Met.{bind_flaw};
 ghost use Rattle.cf_desired.specs.Plan.{at_path, no_plan, output_flaws, plan_by, plan_of, props_at, wanted_of};
 ghost use Rattle.cf_desired.specs.Templates.{templates_of};
-ghost use Rattle.cf_desired.specs.Turns.{entered, frames_behind, outputs_on, plan_after, plan_behind, valued_at, with_exports, with_flaw, with_flaw_of, with_resource, with_roots, with_some_flaw, with_stack, with_unmade};
+ghost use Rattle.cf_desired.specs.Turns.{entered, frames_behind, is_beside, outputs_on, plan_after, plan_behind, valued_at, with_exports, with_flaw, with_flaw_of, with_resource, with_roots, with_some_flaw, with_stack, with_unmade};
 ghost use Rattle.cf_desired.specs.Valued.{evaluated_at};
 ghost use Rattle.cf_desired.specs.Work.{Body};
 
@@ -72,7 +72,7 @@ pub fn plan_by(
 fn pass<'a>(
     alloc: Global,
     source: &Source,
-    seen: &Seen,
+    seen: &'a Seen,
     frames: &mut Vec<Frame<'a>>,
     plan: &mut Plan,
     turn: &'a Turn,
@@ -87,7 +87,8 @@ fn pass<'a>(
 }
 
 /// What the properties of one path come to, over what is seen now; `None` where the shape has no resource there. Besides, only
-/// what the nested stacks before it are given, and their outputs, are evaluated.
+/// what the nested stacks before it are given, and their outputs, are evaluated. Of what is seen only that is looked up which an
+/// expression mentions, so a call costs the same where much is seen and where little is.
 ///
 /// # Errors
 ///
@@ -104,6 +105,9 @@ pub fn props_at(
 {
     let mut frames = Vec::new(alloc);
     for turn in shape.turns.as_slice() {
+        if is_beside(turn, path) {
+            continue;
+        }
         if let Some(found) = value_at(alloc, source, frames.as_slice(), turn, path)? {
             return Ok(Some(found));
         }
@@ -111,6 +115,16 @@ pub fn props_at(
         take_turn(alloc, source, seen, &mut frames, &offered.given, turn)?;
     }
     Ok(None)
+}
+
+/// Whether a turn is a resource at another path.
+fn is_beside(turn: &Turn, path: &Txt) -> bool
+    ensures { result ≡ is_beside path.now (turn_in turn.now) }
+{
+    match turn {
+        Turn::Resource { member } => !member.path.is(path.as_str()),
+        _ => false,
+    }
 }
 
 /// What the properties of a path come to, where a turn is its resource.
@@ -185,7 +199,7 @@ fn add_turn(
             entry,
             stack,
             conds,
-            own: _,
+            made: _,
         } => {
             add_bound(alloc, plan, entry, stack, offered)?;
             add_unmade(alloc, plan, entry, stack, conds)

@@ -5,3 +5,9 @@ pub mod Kept
 pub mod Openings
 pub mod Spares
 pub mod Termed
+pub mod Places
+pub mod Laid
+pub mod Rowed
+pub mod Shown
+pub mod Sought
+pub mod Noted

@@ -87,3 +87,7 @@ pub all_given : {E : Type 0} (shape : laid.Shape) (ts : List (List ℕ × desire
 all_given shape ts (Err x) put all = tt
 all_given shape ts (Ok terms) put all =
     λ source seen is path. ap (λ (qs : List (List ℕ × Terms)). given_terms (value_at path qs)) put ∙ terms_given source seen shape ts is all path
+
+pub terms_known : {E : Type 0} (r : Result Terms E) {v w : Terms} → IfOk r (λ t. t ≡ v) → v ≡ w → IfOk r (λ t. t ≡ w)
+terms_known (Err e) h is = tt
+terms_known (Ok t) h is = h ∙ is

@@ -15,3 +15,7 @@ pub mod Outset
 pub mod State
 pub mod Bounds
 pub mod Reserve
+pub mod Layout
+pub mod Findings
+pub mod Laying
+pub mod Following

@@ -7,8 +7,11 @@ mod copies;
 mod effect;
 mod end;
 mod events;
+mod findings;
+mod following;
 mod heard;
 mod held;
+mod layout;
 mod ledger;
 mod lines;
 mod listed;
@@ -26,11 +29,14 @@ pub use call::{Call, Ledger, Settled, new_call};
 pub use cf_export::{Output, Outputs};
 pub use effect::effect_at;
 pub use events::intent_line;
+pub use findings::{Findings, Found, find_at, findings_of, layout_of, look};
+pub use following::follow;
 pub use heard::{HeardEntries, HeardEntry};
 pub use held::{
     Abandoned, GivenUp, Held, HeldStatus, Helds, KeptSet, KeptSets, Leftover, Leftovers, Pending,
     Pendings, open_call,
 };
+pub use layout::{Layout, Placed};
 pub use ledger::call_with;
 pub use lines::{growing_line, line_in_room};
 pub use listed::{Listed, Lists, listed_exports, listed_pins};

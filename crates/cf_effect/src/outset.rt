@@ -1,17 +1,21 @@
 //! What a create or an update set out with.
 ghost use Rattle.std.specs.Prelude.{◌≡◌, [], IfOk, Some, fold, option_copied};
+ghost use Rattle.cf_tree.specs.Keys.{value_at};
 ghost use Rattle.cf_desired.specs.Kept.{IsShape};
 ghost use Rattle.cf_desired.specs.Plan.{plan_of};
 ghost use Rattle.cf_desired.specs.Shape.{shape_of};
 ghost use Rattle.cf_desired.specs.Templates.{templates_of};
+ghost use Rattle.cf_desired.specs.Valued.{resources_in};
 ghost use Rattle.cf_desired.specs.Whole.{export_names_of, wanted_at};
 ghost use Rattle.cf_effect.specs.Begin.{seen_in};
 ghost use Rattle.cf_effect.specs.End.{empty_whole, whole_over};
-ghost use Rattle.cf_effect.specs.Outset.{HaveTerms, IsGround, IsReading, outset_of, put_terms};
+ghost use Rattle.cf_effect.specs.Layout.{AreRows};
+ghost use Rattle.cf_effect.specs.Outset.{HaveTerms, given_terms, IsGround, IsLaidBy, IsReading, outset_of, put_terms};
 ghost use Rattle.cf_effect.specs.Reply.{terms_of, wanted_in};
 ghost use Rattle.cf_effect.specs.State.{before_in, source_in};
 
 use crate::held::{Held, Helds};
+use crate::layout::{Layout, lay_out};
 use crate::seen::seen_in;
 use crate::terms::Terms;
 use cf_desired::{
@@ -32,12 +36,14 @@ struct Ground {
     read: Reading,
 }
 
-/// What is read of a source once: its templates, and over what was held its shape with the policies and needs of each path.
+/// What is read of a source once: its templates, and over what was held its shape with the policies and needs of each path and
+/// its layout.
 #[derive(Drop)]
 struct Reading {
     templates: Templates,
     shape: Shape,
     terms: ByName<Terms>,
+    layout: Layout,
 }
 
 /// What a create or an update set out with: what its stack held as it began, and its source. What is
@@ -110,6 +116,24 @@ fn terms_by(alloc: Global, shape: &Shape) -> Result<ByName<Terms>, AllocError>
     by_path(alloc, all_terms(alloc, shape)?)
 }
 
+/// The layout of a source, by its shape.
+fn layout_by(alloc: Global, shape: &Shape) -> Result<Layout, AllocError>
+    ensures { IfOk result (IsLaidBy shape.now) }
+{
+    let all = all_terms(alloc, shape)?;
+    lay_out(alloc, all.as_slice())
+}
+
+/// The policies and needs that are given a path, or else the defaults.
+fn given_terms(alloc: Global, terms: &ByName<Terms>, path: &Txt) -> Result<Terms, AllocError>
+    ensures { IfOk result (λ given. given ≡ given_terms (value_at path.now terms.now)) }
+{
+    match terms.get(path.as_str()) {
+        Some(terms) => terms.try_clone(alloc),
+        None => Ok(Terms::usual(alloc)),
+    }
+}
+
 /// The shape of a source over what was held.
 fn shape_before(
     alloc: Global,
@@ -143,15 +167,25 @@ fn read_on(
             return Err(failed);
         }
     };
-    match terms_by(alloc, &shape) {
-        Ok(terms) => Ok(Reading {
+    let terms = match terms_by(alloc, &shape) {
+        Ok(terms) => terms,
+        Err(failed) => {
+            drop(templates);
+            drop(shape);
+            return Err(failed);
+        }
+    };
+    match layout_by(alloc, &shape) {
+        Ok(layout) => Ok(Reading {
             templates,
             shape,
             terms,
+            layout,
         }),
         Err(failed) => {
             drop(templates);
             drop(shape);
+            drop(terms);
             Err(failed)
         }
     }
@@ -237,6 +271,13 @@ impl Outset {
         &self.ground.read.shape
     }
 
+    /// The layout of the source, over what was held.
+    pub fn layout(&self) -> &Layout
+        ensures { AreRows (resources_in (shape_of self.now.source (seen_in self.now.before))) result.now }
+    {
+        &self.ground.read.layout
+    }
+
     /// The policies and needs that the source gives a path, over what was held.
     ///
     /// # Errors
@@ -245,9 +286,16 @@ impl Outset {
     pub fn terms(&self, alloc: Global, path: &Txt) -> Result<Terms, AllocError>
         ensures { IfOk result (λ terms. terms ≡ terms_of (wanted_at path.now (plan_of self.now.source (seen_in self.now.before)))) }
     {
+        given_terms(alloc, &self.ground.read.terms, path)
+    }
+
+    /// The paths that the source says a path needs, over what was held.
+    pub fn needs(&self, path: &Txt) -> &[Txt]
+        ensures { result.now ≡ (terms_of (wanted_at path.now (plan_of self.now.source (seen_in self.now.before)))).needs }
+    {
         match self.ground.read.terms.get(path.as_str()) {
-            Some(terms) => terms.try_clone(alloc),
-            None => Ok(Terms::usual(alloc)),
+            Some(terms) => terms.needs.as_slice(),
+            None => &[],
         }
     }
 
@@ -308,6 +356,16 @@ pub(crate) fn terms_in(
     match outset {
         Some(outset) => outset.terms(alloc, path),
         None => Ok(Terms::usual(alloc)),
+    }
+}
+
+/// The paths that its source says a path needs, over what was held.
+pub(crate) fn needs_in<'a>(outset: &'a Option<Outset>, path: &Txt) -> &'a [Txt]
+    ensures { result.now ≡ (terms_of (wanted_in (source_in outset.now) (seen_in (before_in outset.now)) path.now)).needs }
+{
+    match outset {
+        Some(outset) => outset.needs(path),
+        None => &[],
     }
 }
 

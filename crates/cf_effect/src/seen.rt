@@ -23,7 +23,7 @@ fn shown(alloc: Global, held: &Held) -> Result<SeenAt, AllocError>
 
 /// Adds what a resource shows of its path, unless another one shows it already. After an error
 /// nothing is said of what is seen.
-fn see(alloc: Global, seen: &mut Seen, held: &Held) -> Result<(), AllocError>
+pub(crate) fn see(alloc: Global, seen: &mut Seen, held: &Held) -> Result<(), AllocError>
     ensures { IfOk result (λ _. seen.new ≡ put_seen seen.old held.now) }
 {
     if seen.get(held.path.as_str()).is_some() {

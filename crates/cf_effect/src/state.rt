@@ -12,7 +12,7 @@ use crate::copies::{copy_into, copy_list};
 use crate::heard::HeardEntries;
 use crate::held::{Abandoned, Held, HeldStatus, Helds, KeptSets, Leftovers, Pendings};
 use crate::ledger::count_anew;
-use crate::outset::{Outset, before_in, source_in, terms_in, whole_in};
+use crate::outset::{Outset, before_in, needs_in, source_in, terms_in, whole_in};
 use crate::resources::{has_physical, mark, remove, set_status};
 use crate::seen::seen_in_both;
 use crate::statuses::turned;
@@ -184,6 +184,13 @@ impl State {
         ensures { IfOk result (λ terms. terms ≡ terms_at path.now (state_of self.now)) }
     {
         terms_in(alloc, &self.outset, path)
+    }
+
+    /// The paths that the source of the operation says a path needs, over what was held before.
+    pub fn needs_at(&self, path: &Txt) -> &[Txt]
+        ensures { result.now ≡ (terms_at path.now (state_of self.now)).needs }
+    {
+        needs_in(&self.outset, path)
     }
 
     /// The policies and needs of what a call is to make, if it is to make something.

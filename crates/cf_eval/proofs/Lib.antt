@@ -1,5 +1,6 @@
 pub mod Wholes
 pub mod Each
+pub mod Looking
 pub mod Lists
 pub mod Gots
 pub mod Tells

@@ -8,5 +8,6 @@ pub mod Env
 pub mod Knows
 pub mod ScopeOf
 pub mod Gives
+pub mod Sights
 pub mod Memory
 pub mod Deciding

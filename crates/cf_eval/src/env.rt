@@ -1,5 +1,6 @@
 //! What an expression is evaluated over.
 use crate::fault::EvalWhy;
+use crate::sights::Sights;
 use cf_tree::{Bound, ByName, CondMap, Dict, Mappings, Pairs, Txt};
 
 /// What is seen of a resource of the template.
@@ -43,7 +44,7 @@ pub struct Env<'a> {
     /// What each condition of the template is.
     pub conds: &'a CondMap,
     /// What is seen of each resource of the template.
-    pub seen: &'a ByName<Sight>,
+    pub seen: &'a Sights<'a>,
     /// The values of the exports of other stacks, by their names.
     pub imports: &'a Pairs,
     /// The pseudo parameters but `AWS::NoValue`.

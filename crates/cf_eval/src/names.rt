@@ -5,11 +5,13 @@ ghost use Rattle.cf_eval.specs.Outcome.{bad, fault};
 ghost use Rattle.cf_eval.specs.declared.fault.EvalWhy.TheVariants.{UnknownAttribute};
 ghost use Rattle.cf_eval.specs.Gives.{found_of, Gives};
 ghost use Rattle.cf_eval.specs.ScopeOf.{scope_of, beyond_of};
+ghost use Rattle.cf_eval.specs.Sights.{sight_shown};
 
-use crate::env::{OutputSight, Sight};
+use crate::env::OutputSight;
 use crate::fault::{EvalWhy, Stop};
 use crate::got::Got;
 use crate::scope::{Beyond, Scope};
+use crate::sights::Shown;
 use crate::texts::{as_text, wanted_text};
 use cf_funcs::cut;
 use cf_tree::{ByName, Dict, Names, Setting, Txt, Val};
@@ -42,8 +44,8 @@ fn resource(alloc: Global, beyond: &Beyond, at: &Txt, name: &Txt) -> Result<Got,
     ensures { Gives (resource_ref (beyond_of beyond.now) at.now name.now) result }
 {
     match beyond {
-        Beyond::Open { seen, imports: _ } => match seen.get(name.as_str()) {
-            Some(sight) => id_of(alloc, at, sight),
+        Beyond::Open { seen, imports: _ } => match seen.get(alloc, name.as_str())? {
+            Some(shown) => id_of(alloc, at, &shown),
             None => Err(Stop::Bad {
                 why: EvalWhy::UnknownName,
                 at: at.try_clone(alloc)?,
@@ -68,23 +70,23 @@ fn barred(resources: &Names, name: &Txt) -> EvalWhy
 }
 
 /// The physical id of a resource, or the stack id of a nested stack.
-fn id_of(alloc: Global, at: &Txt, sight: &Sight) -> Result<Got, Stop>
-    ensures { Gives (id_of at.now sight.now) result }
+fn id_of(alloc: Global, at: &Txt, shown: &Shown) -> Result<Got, Stop>
+    ensures { Gives (id_of at.now (sight_shown shown.now)) result }
 {
-    match sight {
-        Sight::NotMade => Err(Stop::Bad {
+    match shown {
+        Shown::NotMade => Err(Stop::Bad {
             why: EvalWhy::NotMade,
             at: at.try_clone(alloc)?,
         }),
-        Sight::Made {
+        Shown::Made {
             physical: Some(id),
             attrs: _,
         } => Ok(Got::Value(Val::Text(id.try_clone(alloc)?))),
-        Sight::Made {
+        Shown::Made {
             physical: None,
             attrs: _,
         } => Ok(Got::Later),
-        Sight::Nested { id, outputs: _ } => Ok(Got::Value(Val::Text(id.try_clone(alloc)?))),
+        Shown::Nested { id, outputs: _ } => Ok(Got::Value(Val::Text(id.try_clone(alloc)?))),
     }
 }
 
@@ -108,8 +110,8 @@ fn attribute(alloc: Global, beyond: &Beyond, at: &Txt, id: &str, name: &str) -> 
     ensures { Gives (attribute_in (beyond_of beyond.now) at.now id.now name.now) result }
 {
     match beyond {
-        Beyond::Open { seen, imports: _ } => match seen.get(id) {
-            Some(sight) => attribute_of(alloc, at, sight, name),
+        Beyond::Open { seen, imports: _ } => match seen.get(alloc, id)? {
+            Some(shown) => attribute_of(alloc, at, &shown, name),
             None => Err(Stop::Bad {
                 why: EvalWhy::UnknownName,
                 at: at.try_clone(alloc)?,
@@ -123,26 +125,26 @@ fn attribute(alloc: Global, beyond: &Beyond, at: &Txt, id: &str, name: &str) -> 
 }
 
 /// An attribute of a resource, or an output of a nested stack.
-fn attribute_of(alloc: Global, at: &Txt, sight: &Sight, name: &str) -> Result<Got, Stop>
-    ensures { Gives (attribute_of at.now sight.now name.now) result }
+fn attribute_of(alloc: Global, at: &Txt, shown: &Shown, name: &str) -> Result<Got, Stop>
+    ensures { Gives (attribute_of at.now (sight_shown shown.now) name.now) result }
 {
-    match sight {
-        Sight::NotMade => Err(Stop::Bad {
+    match shown {
+        Shown::NotMade => Err(Stop::Bad {
             why: EvalWhy::NotMade,
             at: at.try_clone(alloc)?,
         }),
-        Sight::Made {
+        Shown::Made {
             physical: _,
             attrs: Some(attrs),
         } => match attrs.get(name) {
             Some(value) => Ok(Got::Value(value.try_clone(alloc)?)),
             None => unknown_attribute(alloc, at),
         },
-        Sight::Made {
+        Shown::Made {
             physical: _,
             attrs: None,
         } => Ok(Got::Later),
-        Sight::Nested { id: _, outputs } => match outputs.get(name) {
+        Shown::Nested { id: _, outputs } => match outputs.get(name) {
             Some(output) => output_found(alloc, at, output),
             None => unknown_attribute(alloc, at),
         },

@@ -1,13 +1,13 @@
 //! What the evaluator looks things up in.
-use crate::env::Sight;
-use cf_tree::{Bound, ByName, CondMap, Dict, Mappings, Names, Pairs};
+use crate::sights::Sights;
+use cf_tree::{Bound, CondMap, Dict, Mappings, Names, Pairs};
 
 /// What lies beyond parameters, mappings and conditions.
 #[derive(Drop)]
 pub(crate) enum Beyond<'a> {
     /// In a resource or an output: the resources and the exports of other stacks.
     Open {
-        seen: &'a ByName<Sight>,
+        seen: &'a Sights<'a>,
         imports: &'a Pairs,
     },
     /// In a condition, which may refer to none of the resources with these names.

@@ -1,4 +1,4 @@
-mod Moments
+pub mod Moments
 mod Bodies
 mod Pieces
 mod Appending

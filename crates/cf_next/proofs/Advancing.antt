@@ -13,7 +13,7 @@ use Rattle.cf_entry.specs.declared.turn.Why.TheVariants as why
 use Rattle.cf_effect.specs.declared.held.Pending.{Pending}
 use Rattle.cf_effect.specs.Status.{Back, Forward, Gone, stage_of}
 use Rattle.cf_effect.specs.World.{StackState, World}
-use Rattle.cf_plan.specs.declared.stepping.Start.{Start}
+use Rattle.cf_plan.specs.Start.{Start}
 use Rattle.cf_plan.specs.Forward.{In, AllDone, HasFailed, IsCause}
 use Rattle.cf_plan.specs.Follow.{MayKeep, MayTurn}
 use Rattle.cf_plan.specs.Starts.{AreOpen}

@@ -20,7 +20,7 @@ use Rattle.cf_plan.proofs.Members.{any_in, in_any, is_so, not_so}
 use Rattle.cf_plan.proofs.OfLane.{of_lane_is}
 use Rattle.cf_next.specs.declared.offer.Keeping.{Keeping}
 use Rattle.cf_next.specs.declared.offer.Offer.{Offer}
-use Rattle.cf_plan.specs.declared.stepping.Start.{Start}
+use Rattle.cf_plan.specs.Start.{Start}
 use Rattle.cf_next.specs.declared.step.Next.{Next}
 use Rattle.cf_next.specs.declared.step.Next.TheVariants as next
 use Rattle.cf_next.specs.Offer.{IsOffer, MayBeginAt}
@@ -146,7 +146,7 @@ module _ (x : World) (out : List ℕ) where
     abbrev Begins : List ℕ → Request → Type 0
     Begins path r = MayBeginAt schemas name x out s stage path r
 
-    intent : (path lane : List ℕ) (r : Request) → Begins path r → IsHome lane r → MayIntend schemas name x out s stage (x.token + 1) lane path r
+    pub intent : (path lane : List ℕ) (r : Request) → Begins path r → IsHome lane r → MayIntend schemas name x out s stage (x.token + 1) lane path r
     intent path lane r w home = record { next = refl; free = w.0; home = home.1; fits = home.0; no_repeat = w.1; chosen = w.2 }
 
     -- a call that is found is due where it may begin
@@ -162,7 +162,7 @@ module _ (x : World) (out : List ℕ) where
     call_due path (request.Delete id) w n c = on_due path (request.Delete id) n c (λ lane home. intent path lane (request.Delete id) w home)
 
     -- a call that is due may begin, and is found
-    begins : (path lane : List ℕ) (token : ℕ) (r : Request) → MayIntend schemas name x out s stage token lane path r → Begins path r
+    pub begins : (path lane : List ℕ) (token : ℕ) (r : Request) → MayIntend schemas name x out s stage token lane path r → Begins path r
     begins path lane token r w = (w.free, w.no_repeat, w.chosen)
 
     on_found : (path lane : List ℕ) (token : ℕ) (r : Request) → MayIntend schemas name x out s stage token lane path r

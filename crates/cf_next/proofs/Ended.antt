@@ -19,7 +19,7 @@ use Rattle.cf_plan.specs.Follow.{AreFailed, EndsAs, FitsLane, IsAtEnd, MayStep, 
 use Rattle.cf_plan.proofs.Members.{any_in, false_from, in_any, in_none, not_both}
 use Rattle.cf_next.specs.declared.offer.Keeping.{Keeping}
 use Rattle.cf_next.specs.declared.offer.Offer.{Offer}
-use Rattle.cf_plan.specs.declared.stepping.Start.{Start}
+use Rattle.cf_plan.specs.Start.{Start}
 use Rattle.cf_next.specs.declared.offer.Turn.{Turn}
 use Rattle.cf_next.specs.declared.step.Next.{Next}
 use Rattle.cf_next.specs.declared.step.Next.TheVariants as next

@@ -1,11 +1,16 @@
 pub mod Advancing
 mod AllDue
+pub mod Asking
 mod Calls
 mod Ended
 pub mod FactsTold
 mod FailedOnce
+pub mod FirstBegun
+mod Firsts
 mod Followed
+mod GoingForward
 mod InOrder
+pub mod Lending
 pub mod LookingUp
 pub mod Marked
 pub mod Needing
@@ -18,5 +23,4 @@ pub mod Repeating
 pub mod Restored
 pub mod Retaining
 mod Same
-mod Taken
 pub mod Tallying

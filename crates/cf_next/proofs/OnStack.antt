@@ -83,22 +83,27 @@ module _ (schemas : List Schema) (x : World) (out : List ℕ) (number : ℕ) whe
       dues_from t.0 t.1 stage going (subst (λ (u : List ℕ × StackState). stage_of u.1.status ≡ Some stage) same in_stage) dues
       (are stage (subst (λ (u : List ℕ × StackState). stage_of u.1.status ≡ Some stage) same in_stage))
 
-  -- What is taken of all that is due.
-  module _ (dues : List Next) (are : AreDue schemas x out number dues) (going : IsInProgress x number) where
-    pub next_is : (r : Result Next NextFault) → Chooses out x dues r → IfOk r (λ n. IsNext schemas x out number n)
-    next_is (Ok n) w =
-        let (name, s, stage, on, in_stage) = going in (name, s, stage, on, in_stage, w schemas name s stage (dues_in name s stage on in_stage dues are))
+  -- What is taken on the stack of the operation is taken in it.
+  module _ (t : List ℕ × StackState) (on : stack_of_operation number x ≡ Some t) (going : IsInProgress x number) where
+    stage_there : (stage : Stage) × (stage_of t.1.status ≡ Some stage)
+    stage_there =
+        let (name, s, stage, on', in_stage) = going in
+        let same : ◌≡◌ {A = List ℕ × StackState} (name, s) t = some_is (name, s) t (sym on' ∙ on) in
+        (stage, subst (λ (u : List ℕ × StackState). stage_of u.1.status ≡ Some stage) same in_stage)
+
+    pub next_is : (r : Result Next NextFault) → Chooses schemas t.0 x out t.1 r → IfOk r (λ n. IsNext schemas x out number n)
+    next_is (Ok n) w = let (stage, in_stage) = stage_there in (t.0, t.1, stage, on, in_stage, w stage in_stage)
     next_is (Err fault) w = tt
 
-    pub next_may : (r : Result Next NextFault) → Chooses out x dues r
-        → IfOk r (λ n. (e : Entry) → entry_of number n ≡ Some e → MayFollow schemas x out e)
-    next_may (Ok n) w = λ e q. next_follows schemas x out number n e (next_is (Ok n) w) q
-    next_may (Err fault) w = tt
-
-    none_may : Chooses out x dues (Err NoStep) → HasNoStep schemas x out number
+    none_may : Chooses schemas t.0 x out t.1 (Err NoStep) → HasNoStep schemas x out number
     none_may (idle, none) =
-        let (name, s, stage, on, in_stage) = going in
-        record { idle = idle; none = λ n w. none schemas name s stage (dues_in name s stage on in_stage dues are) n (starts_from name s stage on in_stage n w) }
+        let (stage, in_stage) = stage_there in
+        record { idle = idle; none = λ n w. none stage in_stage n (starts_from t.0 t.1 stage on in_stage n w) }
 
-    pub no_step : (r : Result Next NextFault) → Chooses out x dues r → r ≡ Err NoStep → HasNoStep schemas x out number
-    no_step r w e = none_may (subst (Chooses out x dues) e w)
+    pub no_step : (r : Result Next NextFault) → Chooses schemas t.0 x out t.1 r → r ≡ Err NoStep → HasNoStep schemas x out number
+    no_step r w e = none_may (subst (Chooses schemas t.0 x out t.1) e w)
+
+  pub next_may : (r : Result Next NextFault) → IfOk r (λ n. IsNext schemas x out number n)
+      → IfOk r (λ n. (e : Entry) → entry_of number n ≡ Some e → MayFollow schemas x out e)
+  next_may (Ok n) w = λ e q. next_follows schemas x out number n e w q
+  next_may (Err fault) w = tt

@@ -1,7 +1,12 @@
 -- Paths with physical ids are in order, and so are the places of steps.
-use Rattle.std.proofs.Common.{◌≡◌, ◌⊎◌, inl, inr, ℕ, ◌<◌, ◌==◌, Bool, true, false, ◌&&◌, ◌||◌, nat_lt, List, arith, refl, sym, ◌∙◌, subst}
+use Rattle.std.proofs.Common.{◌≡◌, ◌⊎◌, inl, inr, ℕ, ◌<◌, ◌==◌, Bool, true, false, ◌&&◌, ◌||◌, nat_lt, List, arith, refl, ap, sym, ◌∙◌, subst}
 use Rattle.std.specs.Cmp.{first_so, second_so}
+use Rattle.std.specs.Ordering.{is_lt, nat_cmp, ordering_reverse}
+use Rattle.std.specs.declared.cmp.Ordering.{Ordering}
+use Rattle.std.specs.declared.cmp.Ordering.TheVariants.{Less, Equal, Greater}
+use Rattle.std.specs.Cmp.Lexicographic.{nat_list_cmp_total, slice_cmp}
 use Rattle.std.specs.Str.{bytes_eq}
+use Rattle.std.proofs.lemmas.Map.Lookups.{exact_bytes}
 use Rattle.std.proofs.lemmas.Bool.{ltb-true, lt-ltb, eqb-true, eq-eqb, or_cases, and_from}
 use Rattle.std.proofs.lemmas.Slice.Eq.{bytes_eq-Decides}
 use Rattle.cf_tree.specs.Keys.{bytes_lt}
@@ -45,11 +50,35 @@ precedes_on a b c (inl l) (inr m) = inl (subst (λ (k : List ℕ). bytes_lt a.0 
 precedes_on a b c (inr l) (inl m) = inl (subst (λ (k : List ℕ). bytes_lt k c.0 ≡ true) (sym l.0) m)
 precedes_on a b c (inr l) (inr m) = inr (l.0 ∙ m.0, lower a.1 b.1 c.1 l.1 m.1)
 
-precedes_in_order : IsOrder precedes
+pub precedes_in_order : IsOrder precedes
 precedes_in_order = record {
   not_itself = λ a. precedes_not_itself a.0 a.1;
   goes_on = λ a b c l m. to_so a c (precedes_on a b c (is_so a b l) (is_so b c m));
 }
+
+-- of two places one precedes the other, or they are the same
+names_compared : (k l : List ℕ) → (bytes_lt k l ≡ true) ⊎ ((k ≡ l) ⊎ (bytes_lt l k ≡ true))
+names_compared k l = by (slice_cmp nat_cmp k l) refl
+  where
+    by : (o : Ordering) → slice_cmp nat_cmp k l ≡ o → (bytes_lt k l ≡ true) ⊎ ((k ≡ l) ⊎ (bytes_lt l k ≡ true))
+    by Less e = inl (ap is_lt e)
+    by Equal e = inr (inl (exact_bytes k l e))
+    by Greater e = inr (inr (ap is_lt (nat_list_cmp_total.antisymm l k ∙ ap ordering_reverse e)))
+
+pub compared : (a b : List ℕ × List ℕ) → (precedes a b ≡ true) ⊎ ((a ≡ b) ⊎ (precedes b a ≡ true))
+compared a b = elim (names_compared a.0 b.0) [
+  | inl l ↦ inl (to_so a b (inl l))
+  | inr w ↦ elim w [
+    | inl same ↦ elim (names_compared a.1 b.1) [
+      | inl l ↦ inl (to_so a b (inr (same, l)))
+      | inr v ↦ elim v [
+        | inl alike ↦ inr (inl (λ i. (same i, alike i)))
+        | inr l ↦ inr (inr (to_so b a (inr (sym same, l))))
+      ]
+    ]
+    | inr l ↦ inr (inr (to_so b a (inl l)))
+  ]
+]
 
 -- by a number, and where that is the same by what comes next
 abbrev by_number : ℕ → ℕ → Bool → Bool

@@ -31,7 +31,7 @@ use Rattle.cf_plan.proofs.Listed.{bytes_same, in_cons, in_none, same_bytes}
 use Rattle.cf_next.specs.declared.deletions.Removals.{Removals}
 use Rattle.cf_next.specs.declared.facts.Facts.{Facts}
 use Rattle.cf_next.specs.declared.offer.Keeping.{Keeping}
-use Rattle.cf_plan.specs.declared.stepping.Start.{Start}
+use Rattle.cf_plan.specs.Start.{Start}
 use Rattle.cf_next.specs.declared.tallies.Tally.{Tally}
 use Rattle.cf_next.specs.declared.unmaking.Unmaking.{Unmaking}
 use Rattle.cf_next.specs.declared.unmaking.Unmaking.TheVariants as unmaking

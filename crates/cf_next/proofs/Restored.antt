@@ -28,7 +28,7 @@ use Rattle.cf_plan.proofs.CreatedRight.{in_filter}
 use Rattle.cf_plan.proofs.Listed.{in_map, in_none}
 use Rattle.cf_plan.proofs.RunLists.{in_kept}
 use Rattle.cf_plan.proofs.Told.{any_filtered}
-use Rattle.cf_plan.specs.declared.stepping.Start.{Start}
+use Rattle.cf_plan.specs.Start.{Start}
 use Rattle.cf_next.specs.declared.offer.Turn.{Turn}
 use Rattle.cf_next.specs.Offer.{AreKeepings, AreRepeats, AreStarts, IsOffer, IsTurn, MayBeginAt}
 use Rattle.cf_next.specs.Restoring.{is_restored, is_to_restore, may_restore, restore_of, restores, restores_out, turn_restored}

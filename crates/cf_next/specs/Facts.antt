@@ -15,7 +15,7 @@ use Rattle.cf_effect.specs.World.{StackState}
 use Rattle.cf_plan.specs.Follow.{is_free, is_retained, is_retained_or_excepted}
 use Rattle.cf_next.specs.declared.facts.Facts.{Facts}
 use Rattle.cf_next.specs.declared.offer.Keeping.{Keeping}
-use Rattle.cf_plan.specs.declared.stepping.Start.{Start}
+use Rattle.cf_plan.specs.Start.{Start}
 use Rattle.cf_next.specs.declared.tallies.Tally.{Tally}
 use Rattle.cf_next.specs.declared.unmaking.Unmaking.{Unmaking}
 use Rattle.cf_next.specs.declared.unmaking.Unmaking.TheVariants as unmaking

@@ -20,7 +20,7 @@ use Rattle.cf_plan.specs.Homes.{is_of_lane}
 use Rattle.cf_plan.specs.Follow.{AreFailed, EndsAs, IsAtEnd, MayTurn, is_lane_leased}
 use Rattle.cf_next.specs.declared.offer.Keeping.{Keeping}
 use Rattle.cf_next.specs.declared.offer.Offer.{Offer}
-use Rattle.cf_plan.specs.declared.stepping.Start.{Start}
+use Rattle.cf_plan.specs.Start.{Start}
 use Rattle.cf_next.specs.declared.step.Next.{Next}
 use Rattle.cf_next.specs.declared.step.Next.TheVariants as next
 use Rattle.cf_next.specs.Due.{is_step_before}

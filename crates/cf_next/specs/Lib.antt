@@ -1,6 +1,7 @@
 pub mod Chosen
 pub mod Due
 pub mod Facts
+pub mod First
 pub mod Forward
 pub mod Joining
 pub mod Lookups

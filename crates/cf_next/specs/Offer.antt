@@ -13,7 +13,7 @@ use Rattle.cf_plan.specs.Forward.{In, AllDone, HasFailed}
 use Rattle.cf_plan.specs.Follow.{IntendsIn, MayKeep, MayRepeat, MayTurn, is_free, waits_for_repeats}
 use Rattle.cf_next.specs.declared.offer.Keeping.{Keeping}
 use Rattle.cf_next.specs.declared.offer.Offer.{Offer}
-use Rattle.cf_plan.specs.declared.stepping.Start.{Start}
+use Rattle.cf_plan.specs.Start.{Start}
 use Rattle.cf_next.specs.declared.offer.Turn.{Turn}
 
 -- these are just the open calls that may be made again

@@ -13,7 +13,7 @@ use Rattle.cf_next.specs.declared.deletions.Removals.{Removals}
 use Rattle.cf_next.specs.declared.facts.Facts.{Facts}
 use Rattle.cf_next.specs.declared.offer.Keeping.{Keeping}
 use Rattle.cf_next.specs.declared.offer.Offer.{Offer}
-use Rattle.cf_plan.specs.declared.stepping.Start.{Start}
+use Rattle.cf_plan.specs.Start.{Start}
 use Rattle.cf_next.specs.declared.unmaking.Unmaking.{Unmaking}
 use Rattle.cf_next.specs.Facts.{given_up, keepings_by, starts_by}
 use Rattle.cf_next.specs.Offer.{AreStarts, IsOffer}

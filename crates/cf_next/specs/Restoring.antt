@@ -12,7 +12,7 @@ use Rattle.cf_effect.specs.Operation.{was_skipped}
 use Rattle.cf_effect.specs.Status.{Back, goes_back, goes_forward}
 use Rattle.cf_effect.specs.World.{StackState}
 use Rattle.cf_plan.specs.Follow.{has_refused_restore, has_restore, is_free, waits_for_repeats}
-use Rattle.cf_plan.specs.declared.stepping.Start.{Start}
+use Rattle.cf_plan.specs.Start.{Start}
 use Rattle.cf_next.specs.declared.offer.Turn.{Turn}
 use Rattle.cf_next.specs.declared.past.Past.{Past}
 

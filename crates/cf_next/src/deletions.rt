@@ -8,6 +8,7 @@ ghost use Rattle.cf_next.specs.Removals.{AreRemovals, IsOfferIn, IsOfferWith, Is
 ghost use Rattle.cf_next.specs.Unmaking.{stage_in, status_in};
 
 use crate::facts::{Facts, facts_of};
+use crate::lookups::Lents;
 use crate::offer::{Keepings, Offer};
 use crate::removals::{add_all_given_up, add_resources};
 use crate::repeats::repeats_in;
@@ -15,13 +16,13 @@ use crate::retained::retained_in;
 use crate::unmaking::{Unmaking, held_for, is_cleanup, made_for};
 use cf_plan::{Starts, is_repeat_in_flight};
 use cf_stacks::{Pending, StackState};
-use cf_tree::{Listing, Names};
+use cf_tree::Listing;
 use std::alloc::{AllocError, Global};
 
 /// What comes of the resources of a stack.
 #[derive(Drop)]
-struct Removals {
-    starts: Starts,
+struct Removals<'a> {
+    starts: Starts<'a>,
     keepings: Keepings,
 }
 
@@ -34,12 +35,12 @@ fn waits(stage: Unmaking, stack: &StackState, out: &[u64], repeats: &Listing<Pen
 }
 
 /// What comes of the resources that a stage looks at.
-fn all_removals(
+fn all_removals<'a>(
     alloc: Global,
     stage: Unmaking,
-    stack: &StackState,
+    stack: &'a StackState,
     facts: &Facts,
-) -> Result<Removals, AllocError>
+) -> Result<Removals<'a>, AllocError>
     ensures { IfOk result (λ r. IsWalked stage stack.now.stack facts.now r) }
 {
     let mut starts = Starts::new(alloc);
@@ -52,13 +53,13 @@ fn all_removals(
 }
 
 /// What may begin of a stage that waits for no repeat, and what it may keep of its resources.
-fn removals_now(
+fn removals_now<'a>(
     alloc: Global,
     stage: Unmaking,
-    stack: &StackState,
+    stack: &'a StackState,
     out: &[u64],
-    retained: &Names,
-) -> Result<Removals, AllocError>
+    retained: &Lents<'a>,
+) -> Result<Removals<'a>, AllocError>
     requires status { status_in stage ≡ stack.now.stack.status }
     requires retained { retained.now ≡ retained_in (stage_in stage) stack.now.stack }
     requires idle { waits_for_repeats (stage_in stage) out.now stack.now.stack ≡ false }
@@ -71,14 +72,14 @@ fn removals_now(
 }
 
 /// What may begin, and what of its resources a stage may keep, whether it waits for repeats or not.
-fn removals_in(
+fn removals_in<'a>(
     alloc: Global,
     stage: Unmaking,
-    stack: &StackState,
+    stack: &'a StackState,
     out: &[u64],
-    retained: &Names,
+    retained: &Lents<'a>,
     repeats: &Listing<Pending>,
-) -> Result<Removals, AllocError>
+) -> Result<Removals<'a>, AllocError>
     requires status { status_in stage ≡ stack.now.stack.status }
     requires retained { retained.now ≡ retained_in (stage_in stage) stack.now.stack }
     requires repeats { AreRepeatsBut (retained_in (stage_in stage) stack.now.stack) out.now stack.now.stack repeats.now }
@@ -95,20 +96,25 @@ fn removals_in(
 }
 
 /// What may be kept, the open creates of retained paths with it. After an error nothing is said of it.
-fn offer_of(
+fn offer_of<'a>(
     alloc: Global,
     stack: &StackState,
-    retained: &Names,
+    retained: &Lents,
     repeats: Listing<Pending>,
-    removals: Removals,
-) -> Result<Offer, AllocError>
-    ensures { IfOk result (λ o. IsOfferWith retained.now stack.now.stack repeats removals o) }
+    removals: Removals<'a>,
+) -> Result<Offer<'a>, AllocError>
+    ensures { IfOk result (λ o. IsOfferWith retained.now stack.now.stack repeats removals.entry o) }
 {
     let Removals {
         starts,
         mut keepings,
     } = removals;
-    add_all_given_up(alloc, &mut keepings, retained, stack.tokens().as_slice())?;
+    add_all_given_up(
+        alloc,
+        &mut keepings,
+        retained.as_slice(),
+        stack.tokens().as_slice(),
+    )?;
     Ok(Offer {
         repeats,
         starts,
@@ -119,17 +125,17 @@ fn offer_of(
 }
 
 /// What an operation has to offer in a stage that deletes.
-fn offer_unmaking(
+fn offer_unmaking<'a>(
     alloc: Global,
     stage: Unmaking,
-    stack: &StackState,
+    stack: &'a StackState,
     out: &[u64],
-) -> Result<Offer, AllocError>
+) -> Result<Offer<'a>, AllocError>
     requires { status_in stage ≡ stack.now.stack.status }
     ensures { IfOk result (λ o. IsOfferIn (stage_in stage) out.now stack.now.stack o) }
 {
     let retained = retained_in(alloc, stage, stack)?;
-    let repeats = repeats_in(alloc, stack, out, &retained)?;
+    let repeats = repeats_in(alloc, stack, out, retained.as_slice())?;
     let removals = removals_in(alloc, stage, stack, out, &retained, &repeats)?;
     offer_of(alloc, stack, &retained, repeats, removals)
 }
@@ -139,11 +145,11 @@ fn offer_unmaking(
 /// # Errors
 ///
 /// Only for want of memory.
-pub(crate) fn offer_rolling_back(
+pub(crate) fn offer_rolling_back<'a>(
     alloc: Global,
-    stack: &StackState,
+    stack: &'a StackState,
     out: &[u64],
-) -> Result<Offer, AllocError>
+) -> Result<Offer<'a>, AllocError>
     requires { stack.now.stack.status ≡ status.RollbackInProgress }
     ensures { IfOk result (λ o. IsOfferIn Back out.now stack.now.stack o) }
 {
@@ -155,11 +161,11 @@ pub(crate) fn offer_rolling_back(
 /// # Errors
 ///
 /// Only for want of memory.
-pub(crate) fn offer_clean(
+pub(crate) fn offer_clean<'a>(
     alloc: Global,
-    stack: &StackState,
+    stack: &'a StackState,
     out: &[u64],
-) -> Result<Offer, AllocError>
+) -> Result<Offer<'a>, AllocError>
     requires { stack.now.stack.status ≡ status.UpdateCompleteCleanupInProgress }
     ensures { IfOk result (λ o. IsOfferIn Clean out.now stack.now.stack o) }
 {
@@ -171,11 +177,11 @@ pub(crate) fn offer_clean(
 /// # Errors
 ///
 /// Only for want of memory.
-pub(crate) fn offer_back_clean(
+pub(crate) fn offer_back_clean<'a>(
     alloc: Global,
-    stack: &StackState,
+    stack: &'a StackState,
     out: &[u64],
-) -> Result<Offer, AllocError>
+) -> Result<Offer<'a>, AllocError>
     requires { stack.now.stack.status ≡ status.UpdateRollbackCompleteCleanupInProgress }
     ensures { IfOk result (λ o. IsOfferIn BackClean out.now stack.now.stack o) }
 {
@@ -188,11 +194,11 @@ pub(crate) fn offer_back_clean(
 /// # Errors
 ///
 /// Only for want of memory.
-pub(crate) fn offer_gone(
+pub(crate) fn offer_gone<'a>(
     alloc: Global,
-    stack: &StackState,
+    stack: &'a StackState,
     out: &[u64],
-) -> Result<Offer, AllocError>
+) -> Result<Offer<'a>, AllocError>
     requires { stack.now.stack.status ≡ status.DeleteInProgress }
     ensures { IfOk result (λ o. IsOfferIn Gone out.now stack.now.stack o) }
 {

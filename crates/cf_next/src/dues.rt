@@ -2,13 +2,15 @@
 ghost use Rattle.std.specs.Prelude.{◌≡◌, ◌≤◌, ◌+◌, [], Some, false, fold, length, insert, IfOk};
 ghost use Rattle.std.specs.List.{list_any};
 ghost use Rattle.cf_tree.specs.Lists.{insert_by};
+ghost use Rattle.cf_effect.specs.Words.{is_create};
+ghost use Rattle.cf_plan.specs.Asked.{request_of};
 ghost use Rattle.cf_next.specs.declared.step.Next.TheVariants as next;
 ghost use Rattle.cf_next.specs.Joining.{begun_by, goes_last, is_same_step, stays, with_new_call, with_call_on, with_calls_on, with_create, with_due, with_keeping, with_last, with_repeat, with_offered, with_step};
 
 use crate::home::{has_home, is_home_for};
 use crate::offer::{Keeping, Offer};
 use crate::step::{Next, is_same_step, is_step_before};
-use cf_plan::Start;
+use cf_plan::{Ask, Start};
 use cf_stacks::{Pending, World};
 use cf_tree::{Listing, Request, TryClone, Txt};
 use std::alloc::{AllocError, Global};
@@ -83,33 +85,46 @@ fn step(
     path: &Txt,
     lane: &str,
     token: u64,
-    request: &Request,
+    request: Request,
     repeated: bool,
 ) -> Result<Next, AllocError>
-    ensures { IfOk result (λ n. n ≡ next.Step path.now lane.now token request.now repeated) }
+    ensures { IfOk result (λ n. n ≡ next.Step path.now lane.now token request repeated) }
+{
+    match named(alloc, path, lane) {
+        Ok((path, lane)) => Ok(Next::Step {
+            path,
+            lane,
+            token,
+            request,
+            repeated,
+        }),
+        Err(failed) => {
+            drop(request);
+            Err(failed)
+        }
+    }
+}
+
+/// A path and a lane.
+fn named(alloc: Global, path: &Txt, lane: &str) -> Result<(Txt, Txt), AllocError>
+    ensures { IfOk result (λ both. both ≡ (path.now, lane.now)) }
 {
     let path = path.try_clone(alloc)?;
     let lane = Txt::from_str(alloc, lane)?;
-    let request = request.try_clone(alloc)?;
-    Ok(Next::Step {
-        path,
-        lane,
-        token,
-        request,
-        repeated,
-    })
+    Ok((path, lane))
 }
 
 /// Adds the call of an open token, once more. After an error nothing is said of the steps.
 fn add_repeat(alloc: Global, dues: &mut Dues, pending: &Pending) -> Result<(), AllocError>
     ensures { IfOk result (λ _. dues.new ≡ with_repeat dues.old pending.now) }
 {
+    let request = pending.request.try_clone(alloc)?;
     let due = step(
         alloc,
         &pending.path,
         pending.lane.as_str(),
         pending.token,
-        &pending.request,
+        request,
         true,
     )?;
     add_due(dues, due)
@@ -126,19 +141,14 @@ fn add_repeats(alloc: Global, dues: &mut Dues, repeats: &[Pending]) -> Result<()
 }
 
 /// A new call, under the next token. Where no token is left, this is an error too.
-fn call(
-    alloc: Global,
-    world: &World,
-    path: &Txt,
-    lane: &str,
-    request: &Request,
-) -> Result<Next, AllocError>
-    ensures { IfOk result (λ n. n ≡ next.Step path.now lane.now (world.now.world.token + 1) request.now false) }
+fn call(alloc: Global, world: &World, start: &Start, lane: &str) -> Result<Next, AllocError>
+    ensures { IfOk result (λ n. n ≡ next.Step start.now.path lane.now (world.now.world.token + 1) start.now.request false) }
 {
     let Some(token) = world.token().checked_add(1) else {
         return Err(AllocError);
     };
-    step(alloc, path, lane, token, request, false)
+    let request = start.request(alloc)?;
+    step(alloc, start.path(), lane, token, request, false)
 }
 
 /// Adds a call on one lane, where that is at home and fits. After an error nothing is said of the
@@ -148,14 +158,13 @@ fn add_call_on(
     dues: &mut Dues,
     out: &[u64],
     world: &World,
-    path: &Txt,
-    request: &Request,
+    start: &Start,
     lane: &(Txt, Txt),
 ) -> Result<(), AllocError>
-    ensures { IfOk result (λ _. dues.new ≡ with_call_on out.now world.now.world path.now request.now dues.old lane.now) }
+    ensures { IfOk result (λ _. dues.new ≡ with_call_on out.now world.now.world start.now.path start.now.request dues.old lane.now) }
 {
-    if is_home_for(out, world, request, lane) {
-        let due = call(alloc, world, path, lane.0.as_str(), request)?;
+    if is_home_for(out, world, start, lane) {
+        let due = call(alloc, world, start, lane.0.as_str())?;
         add_due(dues, due)
     } else {
         Ok(())
@@ -169,14 +178,13 @@ fn add_calls_on_each(
     dues: &mut Dues,
     out: &[u64],
     world: &World,
-    path: &Txt,
-    request: &Request,
+    start: &Start,
     lanes: &[(Txt, Txt)],
 ) -> Result<(), AllocError>
-    ensures { IfOk result (λ _. dues.new ≡ fold (with_call_on out.now world.now.world path.now request.now) dues.old lanes.now) }
+    ensures { IfOk result (λ _. dues.new ≡ fold (with_call_on out.now world.now.world start.now.path start.now.request) dues.old lanes.now) }
 {
     for lane in lanes {
-        add_call_on(alloc, dues, out, world, path, request, lane)?;
+        add_call_on(alloc, dues, out, world, start, lane)?;
     }
     Ok(())
 }
@@ -187,13 +195,12 @@ fn add_calls_on(
     dues: &mut Dues,
     out: &[u64],
     world: &World,
-    path: &Txt,
-    request: &Request,
+    start: &Start,
 ) -> Result<(), AllocError>
-    ensures { IfOk result (λ _. dues.new ≡ with_calls_on out.now world.now.world path.now request.now dues.old) }
+    ensures { IfOk result (λ _. dues.new ≡ with_calls_on out.now world.now.world start.now.path start.now.request dues.old) }
 {
     let lanes = world.lanes().as_slice();
-    add_calls_on_each(alloc, dues, out, world, path, request, lanes)
+    add_calls_on_each(alloc, dues, out, world, start, lanes)
 }
 
 /// Adds a create, where a lane at home fits. After an error nothing is said of the steps.
@@ -202,20 +209,34 @@ fn add_create(
     dues: &mut Dues,
     out: &[u64],
     world: &World,
-    path: &Txt,
-    request: &Request,
+    start: &Start,
 ) -> Result<(), AllocError>
-    ensures { IfOk result (λ _. dues.new ≡ with_create out.now world.now.world path.now request.now dues.old) }
+    ensures { IfOk result (λ _. dues.new ≡ with_create out.now world.now.world start.now.path start.now.request dues.old) }
 {
-    if has_home(out, world, request) {
-        let due = call(alloc, world, path, "", request)?;
+    if has_home(out, world, start) {
+        let due = call(alloc, world, start, "")?;
         add_due(dues, due)
     } else {
         Ok(())
     }
 }
 
+/// Whether a call creates a resource.
+fn creates(ask: &Ask) -> bool
+    ensures { result ≡ is_create (request_of ask.now) }
+{
+    match ask {
+        Ask::Create { kind: _, props: _ } => true,
+        Ask::Update {
+            physical: _,
+            props: _,
+        } => false,
+        Ask::Delete { physical: _ } => false,
+    }
+}
+
 /// Adds a new call, where a lane at home can take it. After an error nothing is said of the steps.
+#[tactic(auto, using(crate::proofs::Asking::offered_create, crate::proofs::Asking::offered_other))]
 fn add_start(
     alloc: Global,
     dues: &mut Dues,
@@ -225,18 +246,10 @@ fn add_start(
 ) -> Result<(), AllocError>
     ensures { IfOk result (λ _. dues.new ≡ with_offered out.now world.now.world dues.old start.now) }
 {
-    let request = &start.request;
-    match request {
-        Request::Create { kind: _, props: _ } => {
-            add_create(alloc, dues, out, world, &start.path, request)
-        }
-        Request::Update {
-            physical: _,
-            props: _,
-        } => add_calls_on(alloc, dues, out, world, &start.path, request),
-        Request::Delete { physical: _ } => {
-            add_calls_on(alloc, dues, out, world, &start.path, request)
-        }
+    if creates(start.ask()) {
+        add_create(alloc, dues, out, world, start)
+    } else {
+        add_calls_on(alloc, dues, out, world, start)
     }
 }
 

@@ -2,6 +2,7 @@
 ghost use Rattle.std.specs.Prelude.{◌≡◌, ◌↔◌, ◌&&◌, Some, IfOk, IsTrue};
 ghost use Rattle.cf_effect.specs.Status.{stage_of, Forward};
 ghost use Rattle.cf_plan.specs.Forward.{AllDone, HasFailed};
+ghost use Rattle.cf_plan.specs.Overview.{IsOverview};
 ghost use Rattle.cf_plan.specs.Starts.{AreOpen};
 ghost use Rattle.cf_next.specs.Forward.{failed_offer, is_updating, turn_made};
 ghost use Rattle.cf_next.specs.Offer.{IsOffer};
@@ -9,14 +10,14 @@ ghost use Rattle.cf_next.specs.Offer.{IsOffer};
 use crate::offer::{Keepings, Offer, Turn};
 use crate::repeats::repeats;
 use cf_entry::{Cause, Phase, Status};
-use cf_plan::{Progress, Starts, progress_of};
+use cf_plan::{Overview, Progress, Starts, progress_of};
 use cf_schema::Schemas;
 use cf_stacks::{StackState, World};
 use cf_tree::{Listing, Txt};
 use std::alloc::{AllocError, Global};
 
 /// What is offered where the phase has failed: it turns back.
-fn failed_offer(alloc: Global, cause: Cause) -> Offer
+fn failed_offer<'a>(alloc: Global, cause: Cause) -> Offer<'a>
     ensures { result ≡ failed_offer cause }
 {
     Offer {
@@ -53,16 +54,16 @@ fn turn_made(status: Status, is_done: bool) -> Option<Turn>
 }
 
 /// What is offered while the phase has not failed, with the calls that may begin.
-fn offer_going(
+fn offer_going<'a>(
     alloc: Global,
     schemas: &Schemas,
     name: &Txt,
     world: &World,
     stack: &StackState,
     out: &[u64],
-    starts: Starts,
+    starts: Starts<'a>,
     is_done: bool,
-) -> Result<Offer, AllocError>
+) -> Result<Offer<'a>, AllocError>
     requires forward { stage_of stack.now.stack.status ≡ Some Forward }
     requires going { ¬ HasFailed schemas.now name.now world.now.world stack.now.stack }
     requires may_begin { AreOpen schemas.now stack.now.stack starts }
@@ -81,18 +82,20 @@ fn offer_going(
 
 /// What the forward phase of a create or an update offers: repeats and the calls of each path that is ready while it has not
 /// failed; the rollback, with its cause, where it has; and the cleanup where an update has made all that its template says.
-pub(crate) fn offer_forward(
+pub(crate) fn offer_forward<'a>(
     alloc: Global,
     schemas: &Schemas,
     name: &Txt,
     world: &World,
-    stack: &StackState,
+    stack: &'a StackState,
     out: &[u64],
-) -> Result<Offer, AllocError>
-    requires { stage_of stack.now.stack.status ≡ Some Forward }
+    overview: &'a Overview<'a>,
+) -> Result<Offer<'a>, AllocError>
+    requires forward { stage_of stack.now.stack.status ≡ Some Forward }
+    requires overview { IsOverview schemas.now stack.now.stack overview.now }
     ensures { IfOk result (λ o. IsOffer schemas.now name.now world.now.world out.now stack.now.stack Forward o) }
 {
-    match progress_of(alloc, schemas, name, world, stack)? {
+    match progress_of(alloc, schemas, name, world, stack, overview)? {
         Progress::Failed { cause } => Ok(failed_offer(alloc, cause)),
         Progress::Going { starts, is_done } => offer_going(
             alloc, schemas, name, world, stack, out, starts, is_done,

@@ -1,13 +1,14 @@
 //! The lanes that a step may take.
 ghost use Rattle.std.specs.Prelude.{◌≡◌, ◌++◌, [], IfOk};
 ghost use Rattle.std.specs.List.{cons_option, list_any};
+ghost use Rattle.cf_plan.specs.Asked.{request_of};
 ghost use Rattle.cf_next.specs.Chosen.{leases_of, schemas_of};
 ghost use Rattle.cf_next.specs.Joining.{fits, has_lane, is_home_for};
 
-use cf_plan::{Start, is_lane_leased, is_of_lane};
+use cf_plan::{Ask, Start, is_lane_leased, is_of_lane};
 use cf_schema::{Schema, Schemas};
 use cf_stacks::World;
-use cf_tree::{Listing, Request, Txt};
+use cf_tree::{Listing, Txt};
 use std::alloc::{AllocError, Global};
 
 /// A lane of the opening.
@@ -59,49 +60,56 @@ pub fn schemas_of(alloc: Global, homes: &Homes) -> Result<Schemas, AllocError>
 }
 
 /// Whether a lane of the last opening fits a request: by its type, or as the one that the id names.
-fn fits(request: &Request, lane: &(Txt, Txt)) -> bool
-    ensures { result ≡ fits request.now lane.now }
+fn is_fit(ask: &Ask, lane: &(Txt, Txt)) -> bool
+    ensures { result ≡ fits (request_of ask.now) lane.now }
 {
-    match request {
-        Request::Create { kind, props: _ } => *kind == lane.1,
-        Request::Update { physical, props: _ } => is_of_lane(&lane.0, physical),
-        Request::Delete { physical } => is_of_lane(&lane.0, physical),
+    match ask {
+        Ask::Create { kind, props: _ } => **kind == lane.1,
+        Ask::Update { physical, props: _ } => is_of_lane(&lane.0, physical),
+        Ask::Delete { physical } => is_of_lane(&lane.0, physical),
     }
 }
 
-/// Whether a lane of the last opening fits a request and is at home.
-pub(crate) fn is_home_for(out: &[u64], world: &World, request: &Request, lane: &(Txt, Txt)) -> bool
-    ensures { result ≡ is_home_for out.now world.now.world request.now lane.now }
+/// Whether a lane of the last opening fits a new call.
+pub(crate) fn fits(start: &Start, lane: &(Txt, Txt)) -> bool
+    ensures { result ≡ fits start.now.request lane.now }
 {
-    fits(request, lane) && !is_lane_leased(out, world, &lane.0)
+    is_fit(start.ask(), lane)
 }
 
-/// Whether one of these lanes fits a request and is at home.
-fn has_home_among(out: &[u64], world: &World, request: &Request, lanes: &[(Txt, Txt)]) -> bool
-    ensures { result ≡ list_any (is_home_for out.now world.now.world request.now) lanes.now }
+/// Whether a lane of the last opening fits a new call and is at home.
+pub(crate) fn is_home_for(out: &[u64], world: &World, start: &Start, lane: &(Txt, Txt)) -> bool
+    ensures { result ≡ is_home_for out.now world.now.world start.now.request lane.now }
+{
+    fits(start, lane) && !is_lane_leased(out, world, &lane.0)
+}
+
+/// Whether one of these lanes fits a new call and is at home.
+fn has_home_among(out: &[u64], world: &World, start: &Start, lanes: &[(Txt, Txt)]) -> bool
+    ensures { result ≡ list_any (is_home_for out.now world.now.world start.now.request) lanes.now }
 {
     lanes
         .iter()
-        .any(|lane| is_home_for(out, world, request, lane))
+        .any(|lane| is_home_for(out, world, start, lane))
 }
 
-/// Whether a lane at home fits a request.
-pub(crate) fn has_home(out: &[u64], world: &World, request: &Request) -> bool
-    ensures { result ≡ list_any (is_home_for out.now world.now.world request.now) world.now.world.lanes }
+/// Whether a lane at home fits a new call.
+pub(crate) fn has_home(out: &[u64], world: &World, start: &Start) -> bool
+    ensures { result ≡ list_any (is_home_for out.now world.now.world start.now.request) world.now.world.lanes }
 {
-    has_home_among(out, world, request, world.lanes().as_slice())
+    has_home_among(out, world, start, world.lanes().as_slice())
 }
 
-/// Whether one of these lanes fits a request.
-fn has_fitting(request: &Request, lanes: &[(Txt, Txt)]) -> bool
-    ensures { result ≡ list_any (fits request.now) lanes.now }
+/// Whether one of these lanes fits a new call.
+fn has_fitting(start: &Start, lanes: &[(Txt, Txt)]) -> bool
+    ensures { result ≡ list_any (fits start.now.request) lanes.now }
 {
-    lanes.iter().any(|lane| fits(request, lane))
+    lanes.iter().any(|lane| fits(start, lane))
 }
 
-/// Whether a lane of the last opening fits a call that may begin.
+/// Whether a lane of the last opening fits a new call.
 pub(crate) fn has_lane(world: &World, start: &Start) -> bool
     ensures { result ≡ has_lane world.now.world start.now }
 {
-    has_fitting(&start.request, world.lanes().as_slice())
+    has_fitting(start, world.lanes().as_slice())
 }

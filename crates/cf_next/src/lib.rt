@@ -5,6 +5,7 @@ mod chosen;
 mod deletions;
 mod dues;
 mod facts;
+mod first;
 mod forward;
 mod home;
 mod last;
@@ -22,7 +23,7 @@ mod step;
 mod tallies;
 mod unmaking;
 
-pub use cf_plan::{Start, Starts};
+pub use cf_plan::{Ask, Start, Starts};
 pub use chosen::{NextFault, next};
 pub use dues::Dues;
 pub use home::{Home, Homes, leases_of, schemas_of};

@@ -25,11 +25,11 @@ pub struct Turn {
 
 /// What an operation may begin in its stage.
 #[derive(Drop)]
-pub struct Offer {
+pub struct Offer<'a> {
     /// Open calls that may be made again.
     pub repeats: Listing<Pending>,
     /// Calls that may begin.
-    pub starts: Starts,
+    pub starts: Starts<'a>,
     pub keepings: Keepings,
     pub turn: Option<Turn>,
     /// Going forward: it has made all that its template says, and has not failed.

@@ -15,17 +15,17 @@ use std::alloc::{AllocError, Global};
 
 /// What is known of resources, to be looked up by name.
 #[derive(Drop)]
-pub(crate) struct Past {
+pub(crate) struct Past<'a> {
     /// The ids of those that were updated in place since the update began.
-    pub(crate) updated: Marks,
+    pub(crate) updated: Marks<'a>,
     /// The ids of those that were given back what they had.
-    pub(crate) restored: Marks,
+    pub(crate) restored: Marks<'a>,
     /// The ids of those of which the operation called to give back what they had.
-    pub(crate) tried: Marks,
+    pub(crate) tried: Marks<'a>,
     /// The paths that a continued rollback skips.
-    pub(crate) skipped: Marks,
+    pub(crate) skipped: Marks<'a>,
     /// The paths at which a call is open.
-    pub(crate) called: Marks,
+    pub(crate) called: Marks<'a>,
 }
 
 /// Whether a stack that has this status goes forward.
@@ -54,45 +54,44 @@ fn succeeded(call: &Call) -> bool
 
 /// Marks what a call tells of the resource that it updates. After an error nothing is said of the
 /// marks.
-fn note_update(
-    alloc: Global,
-    past: &mut Past,
+fn note_update<'a>(
+    past: &mut Past<'a>,
     number: u64,
     call: &Call,
-    physical: &Txt,
+    physical: &'a Txt,
 ) -> Result<(), AllocError>
     ensures { IfOk result (λ _. past.new ≡ with_update number past.old call.now physical.now) }
 {
     let updated = goes_forward(call.status) && succeeded(call);
     let restored = goes_back(call.status) && succeeded(call);
     let tried = call.number == number && goes_back(call.status);
-    mark(alloc, &mut past.updated, updated, physical)?;
-    mark(alloc, &mut past.restored, restored, physical)?;
-    mark(alloc, &mut past.tried, tried, physical)
+    mark(&mut past.updated, updated, physical)?;
+    mark(&mut past.restored, restored, physical)?;
+    mark(&mut past.tried, tried, physical)
 }
 
 /// Marks what a call tells. After an error nothing is said of the marks.
-fn note(alloc: Global, past: &mut Past, number: u64, call: &Call) -> Result<(), AllocError>
+fn note<'a>(past: &mut Past<'a>, number: u64, call: &'a Call) -> Result<(), AllocError>
     ensures { IfOk result (λ _. past.new ≡ told_by number past.old call.now) }
 {
     match &call.request {
-        Request::Update { physical, props: _ } => note_update(alloc, past, number, call, physical),
+        Request::Update { physical, props: _ } => note_update(past, number, call, physical),
         _ => Ok(()),
     }
 }
 
 /// Marks what these calls tell. After an error nothing is said of the marks.
-fn note_all(alloc: Global, past: &mut Past, number: u64, calls: &[Call]) -> Result<(), AllocError>
+fn note_all<'a>(past: &mut Past<'a>, number: u64, calls: &'a [Call]) -> Result<(), AllocError>
     ensures { IfOk result (λ _. past.new ≡ fold (told_by number) past.old calls.now) }
 {
     for call in calls {
-        note(alloc, past, number, call)?;
+        note(past, number, call)?;
     }
     Ok(())
 }
 
 /// Marks the paths that an entry names. After an error nothing is said of the marks.
-fn mark_named(alloc: Global, marks: &mut Marks, entry: &Entry) -> Result<(), AllocError>
+fn mark_named<'a>(marks: &mut Marks<'a>, entry: &'a Entry) -> Result<(), AllocError>
     ensures { IfOk result (λ _. marks.new ≡ with_marks (named_in entry.now) marks.old) }
 {
     match entry {
@@ -100,60 +99,60 @@ fn mark_named(alloc: Global, marks: &mut Marks, entry: &Entry) -> Result<(), All
             number: _,
             stack: _,
             kind: Begun::Delete { paths } | Begun::Continue { paths },
-        } => mark_all(alloc, marks, paths),
+        } => mark_all(marks, paths),
         _ => Ok(()),
     }
 }
 
 /// Marks the paths that an entry as the stack keeps it names. After an error nothing is said of the
 /// marks.
-fn mark_heard(alloc: Global, marks: &mut Marks, heard: &HeardEntry) -> Result<(), AllocError>
+fn mark_heard<'a>(marks: &mut Marks<'a>, heard: &'a HeardEntry) -> Result<(), AllocError>
     ensures { IfOk result (λ _. marks.new ≡ with_marks (named_in heard.now) marks.old) }
 {
     match heard.as_entry() {
-        Some(entry) => mark_named(alloc, marks, entry),
+        Some(entry) => mark_named(marks, entry),
         None => Ok(()),
     }
 }
 
 /// The paths that these entries name.
-fn named_by(alloc: Global, entries: &[HeardEntry]) -> Result<Marks, AllocError>
+fn named_by<'a>(alloc: Global, entries: &'a [HeardEntry]) -> Result<Marks<'a>, AllocError>
     ensures { IfOk result (λ marks. marks ≡ fold (λ ms e. with_marks (named_in e) ms) [] entries.now) }
 {
     let mut marks = Marks::new(alloc);
     for heard in entries {
-        mark_heard(alloc, &mut marks, heard)?;
+        mark_heard(&mut marks, heard)?;
     }
     Ok(marks)
 }
 
 /// The paths that a continued rollback skips.
-fn skipped_paths(alloc: Global, stack: &StackState) -> Result<Marks, AllocError>
+fn skipped_paths<'a>(alloc: Global, stack: &'a StackState) -> Result<Marks<'a>, AllocError>
     ensures { IfOk result (λ marks. (path : List ℕ) → is_marked path marks ≡ was_skipped path stack.now.stack) }
 {
     named_by(alloc, stack.entries().as_slice())
 }
 
 /// The paths of these open calls.
-fn paths_of(alloc: Global, tokens: &[Pending]) -> Result<Marks, AllocError>
+fn paths_of<'a>(alloc: Global, tokens: &'a [Pending]) -> Result<Marks<'a>, AllocError>
     ensures { IfOk result (λ marks. marks ≡ fold (λ ms (p : Open). with_mark true p.path ms) [] tokens.now) }
 {
     let mut marks = Marks::new(alloc);
     for pending in tokens {
-        mark(alloc, &mut marks, true, &pending.path)?;
+        mark(&mut marks, true, &pending.path)?;
     }
     Ok(marks)
 }
 
 /// The paths at which a call is open.
-fn called_paths(alloc: Global, stack: &StackState) -> Result<Marks, AllocError>
+fn called_paths<'a>(alloc: Global, stack: &'a StackState) -> Result<Marks<'a>, AllocError>
     ensures { IfOk result (λ marks. (path : List ℕ) → not (is_marked path marks) ≡ is_free path stack.now.stack) }
 {
     paths_of(alloc, stack.tokens().as_slice())
 }
 
 /// What is known of the resources of a stack.
-pub(crate) fn past_of(alloc: Global, stack: &StackState) -> Result<Past, AllocError>
+pub(crate) fn past_of<'a>(alloc: Global, stack: &'a StackState) -> Result<Past<'a>, AllocError>
     ensures { IfOk result (λ past. IsPast stack.now.stack past) }
 {
     let skipped = skipped_paths(alloc, stack)?;
@@ -165,11 +164,6 @@ pub(crate) fn past_of(alloc: Global, stack: &StackState) -> Result<Past, AllocEr
         skipped,
         called,
     };
-    note_all(
-        alloc,
-        &mut past,
-        stack.operation(),
-        stack.ledger().as_slice(),
-    )?;
+    note_all(&mut past, stack.operation(), stack.ledger().as_slice())?;
     Ok(past)
 }

@@ -9,14 +9,14 @@ ghost use Rattle.cf_next.specs.Facts.{may_delete, refused_by, retention_of, unde
 ghost use Rattle.cf_next.specs.Unmaking.{is_kept_by};
 
 use crate::facts::Facts;
-use crate::lookups::has;
+use crate::lookups::{Lent, is_among};
 use crate::offer::{Keeping, Keepings};
 use crate::tallies::tally_under;
 use crate::unmaking::{Unmaking, has_try_left, is_cleanup, is_in_view};
 use cf_entry::Why;
-use cf_plan::{Start, Starts};
+use cf_plan::{Ask, Start, Starts};
 use cf_stacks::{Held, Pending};
-use cf_tree::{Deletion, Names, Replace, Request, TryClone, Txt};
+use cf_tree::{Deletion, Replace, Request, TryClone, Txt};
 use std::alloc::{AllocError, Global};
 
 /// Whether a stage may delete a resource, or keeps it instead.
@@ -24,7 +24,7 @@ fn may_delete(stage: Unmaking, facts: &Facts, held: &Held) -> bool
     ensures { result ≡ may_delete stage facts.now held.now }
 {
     is_in_view(stage, held)
-        && !has(&facts.needed, &held.physical)
+        && !facts.needed.has(&held.physical)
         && has_try_left(stage, tally_under(&facts.tallies, &held.physical))
 }
 
@@ -43,32 +43,27 @@ fn is_kept(stage: Unmaking, facts: &Facts, held: &Held) -> bool
     ensures { result ≡ is_kept stage facts.now held.now }
 {
     match stage {
-        Unmaking::Clean => is_kept_by(facts.policies.get(held.path.as_str()), held),
+        Unmaking::Clean => is_kept_by(facts.policies.get(&held.path), held),
         Unmaking::Back | Unmaking::BackClean => matches!(held.deletion, Deletion::Retain),
         Unmaking::Gone => {
-            !matches!(held.deletion, Deletion::Delete) || has(&facts.retained, &held.path)
+            !matches!(held.deletion, Deletion::Delete) || facts.retained.has(&held.path)
         }
     }
 }
 
 /// Adds the deletion of a resource, where no call at its path is open. After an error nothing is said of the list.
-fn add_deletion(
-    alloc: Global,
-    starts: &mut Starts,
+fn add_deletion<'a>(
+    starts: &mut Starts<'a>,
     facts: &Facts,
-    held: &Held,
+    held: &'a Held,
 ) -> Result<(), AllocError>
     ensures { IfOk result (λ _. starts.new ≡ starts.old ++ deletion_of facts.now held.now) }
 {
-    if has(&facts.busy, &held.path) {
+    if facts.busy.has(&held.path) {
         return Ok(());
     }
-    let path = held.path.try_clone(alloc)?;
-    let physical = held.physical.try_clone(alloc)?;
-    starts.push(Start {
-        path,
-        request: Request::Delete { physical },
-    })
+    let physical = &held.physical;
+    starts.push(Start::new(&held.path, Ask::Delete { physical }))
 }
 
 /// Adds a resource that is kept. After an error the list is as it was.
@@ -99,7 +94,7 @@ fn add_retention(
 ) -> Result<(), AllocError>
     ensures { IfOk result (λ _. keepings.new ≡ keepings.old ++ retention_of facts.now held.now) }
 {
-    if has(&facts.busy, &held.path) && !has(&facts.retained, &held.path) {
+    if facts.busy.has(&held.path) && !facts.retained.has(&held.path) {
         Ok(())
     } else {
         add_keeping(alloc, keepings, held, Why::Retained)
@@ -107,13 +102,13 @@ fn add_retention(
 }
 
 /// Adds a resource, where it may be deleted: its deletion, or that it is retained. After an error nothing is said of the lists.
-fn add_removal(
+fn add_removal<'a>(
     alloc: Global,
-    starts: &mut Starts,
+    starts: &mut Starts<'a>,
     keepings: &mut Keepings,
     stage: Unmaking,
     facts: &Facts,
-    held: &Held,
+    held: &'a Held,
 ) -> Result<(), AllocError>
     ensures { IfOk result (λ _. IsRemovalAdded stage facts.now held.now starts.old starts.new keepings.old keepings.new) }
 {
@@ -123,7 +118,7 @@ fn add_removal(
     if is_kept(stage, facts, held) {
         add_retention(alloc, keepings, facts, held)
     } else {
-        add_deletion(alloc, starts, facts, held)
+        add_deletion(starts, facts, held)
     }
 }
 
@@ -152,7 +147,7 @@ fn add_doubted(
 ) -> Result<(), AllocError>
     ensures { IfOk result (λ _. keepings.new ≡ keepings.old ++ doubted_by facts.now held.now) }
 {
-    if has(&facts.doubted, &held.physical) {
+    if facts.doubted.has(&held.physical) {
         add_keeping(alloc, keepings, held, Why::Doubt)
     } else {
         Ok(())
@@ -178,13 +173,13 @@ fn add_undeleted(
 }
 
 /// Adds what comes of a resource. After an error nothing is said of the lists.
-fn add_resource(
+fn add_resource<'a>(
     alloc: Global,
-    starts: &mut Starts,
+    starts: &mut Starts<'a>,
     keepings: &mut Keepings,
     stage: Unmaking,
     facts: &Facts,
-    held: &Held,
+    held: &'a Held,
 ) -> Result<(), AllocError>
     ensures { IfOk result (λ _. IsAdded stage facts.now held.now starts.old starts.new keepings.old keepings.new) }
 {
@@ -193,13 +188,13 @@ fn add_resource(
 }
 
 /// Adds what comes of these resources. After an error nothing is said of the lists.
-pub(crate) fn add_resources(
+pub(crate) fn add_resources<'a>(
     alloc: Global,
-    starts: &mut Starts,
+    starts: &mut Starts<'a>,
     keepings: &mut Keepings,
     stage: Unmaking,
     facts: &Facts,
-    helds: &[Held],
+    helds: &'a [Held],
 ) -> Result<(), AllocError>
     ensures { IfOk result (λ _. AreAdded stage facts.now helds.now starts.old starts.new keepings.old keepings.new) }
 {
@@ -210,18 +205,18 @@ pub(crate) fn add_resources(
 }
 
 /// Whether an open call creates a resource at one of these paths.
-fn is_given_up(retained: &Names, pending: &Pending) -> bool
+fn is_given_up(retained: &[Lent], pending: &Pending) -> bool
     ensures { result ≡ (is_create pending.now.request && is_among pending.now.path retained.now) }
 {
     matches!(pending.request, Request::Create { kind: _, props: _ })
-        && retained.contains(&pending.path)
+        && is_among(retained, &pending.path)
 }
 
 /// Adds an open create of a path that is to be retained: it is given up. After an error nothing is said of the list.
 fn add_given_up(
     alloc: Global,
     keepings: &mut Keepings,
-    retained: &Names,
+    retained: &[Lent],
     pending: &Pending,
 ) -> Result<(), AllocError>
     ensures { IfOk result (λ _. keepings.new ≡ keepings.old ++ given_up retained.now pending.now) }
@@ -243,7 +238,7 @@ fn add_given_up(
 pub(crate) fn add_all_given_up(
     alloc: Global,
     keepings: &mut Keepings,
-    retained: &Names,
+    retained: &[Lent],
     tokens: &[Pending],
 ) -> Result<(), AllocError>
     ensures { IfOk result (λ _. keepings.new ≡ keepings.old ++ flat_map (given_up retained.now) tokens.now) }

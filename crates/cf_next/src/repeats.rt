@@ -4,16 +4,17 @@ ghost use Rattle.cf_tree.specs.Lists.{is_among};
 ghost use Rattle.cf_plan.specs.Follow.{may_repeat};
 ghost use Rattle.cf_next.specs.Repeats.{AreRepeatsBut, can_repeat};
 
+use crate::lookups::{Lent, is_among};
 use cf_plan::may_repeat;
 use cf_stacks::{Pending, StackState};
-use cf_tree::{Listing, Names, TryClone};
+use cf_tree::{Listing, TryClone};
 use std::alloc::{AllocError, Global};
 
 /// Whether the call of an open token may be made again where these paths are retained, whatever has failed.
-fn can_repeat(out: &[u64], stack: &StackState, retained: &Names, pending: &Pending) -> bool
+fn can_repeat(out: &[u64], stack: &StackState, retained: &[Lent], pending: &Pending) -> bool
     ensures { result ≡ can_repeat retained.now out.now stack.now.stack pending.now }
 {
-    may_repeat(out, stack, pending) && !retained.contains(&pending.path)
+    may_repeat(out, stack, pending) && !is_among(retained, &pending.path)
 }
 
 /// These open calls, but for those that may not be made again.
@@ -21,7 +22,7 @@ fn repeats_of(
     alloc: Global,
     out: &[u64],
     stack: &StackState,
-    retained: &Names,
+    retained: &[Lent],
     tokens: &[Pending],
 ) -> Result<Listing<Pending>, AllocError>
     ensures { IfOk result (λ repeats. repeats ≡ filter (can_repeat retained.now out.now stack.now.stack) tokens.now) }
@@ -45,7 +46,7 @@ pub(crate) fn repeats_in(
     alloc: Global,
     stack: &StackState,
     out: &[u64],
-    retained: &Names,
+    retained: &[Lent],
 ) -> Result<Listing<Pending>, AllocError>
     ensures { IfOk result (λ repeats. AreRepeatsBut retained.now out.now stack.now.stack repeats) }
 {
@@ -64,6 +65,5 @@ pub(crate) fn repeats(
 ) -> Result<Listing<Pending>, AllocError>
     ensures { IfOk result (λ repeats. AreRepeatsBut [] out.now stack.now.stack repeats) }
 {
-    let none = Names::new(alloc);
-    repeats_in(alloc, stack, out, &none)
+    repeats_in(alloc, stack, out, &[])
 }

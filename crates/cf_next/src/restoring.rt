@@ -16,7 +16,7 @@ use crate::offer::{Keepings, Offer, Turn};
 use crate::past::{Past, goes_back, past_of};
 use crate::repeats::repeats;
 use cf_entry::Phase;
-use cf_plan::{Start, Starts, waits_for_repeats};
+use cf_plan::{Ask, Start, Starts, waits_for_repeats};
 use cf_stacks::{Call, Held, Settled, StackState};
 use cf_tree::Request;
 use std::alloc::{AllocError, Global};
@@ -42,49 +42,46 @@ fn may_restore(stack: &StackState, past: &Past, held: &Held) -> bool
 }
 
 /// The call that gives a resource back what it had.
-fn restore_of(alloc: Global, held: &Held) -> Result<Start, AllocError>
-    ensures { IfOk result (λ start. start ≡ restore_of held.now) }
+fn restore_of(held: &Held) -> Start<'_>
+    ensures { result ≡ restore_of held.now }
 {
-    let path = held.path.try_clone(alloc)?;
-    let physical = held.physical.try_clone(alloc)?;
-    let props = held.props.try_clone(alloc)?;
-    let request = Request::Update { physical, props };
-    Ok(Start { path, request })
+    let physical = &held.physical;
+    let props = &held.props;
+    Start::new(&held.path, Ask::Update { physical, props })
 }
 
 /// Adds the calls that may begin of these resources of before. After an error nothing is said of the
 /// list.
-fn add_restores(
-    alloc: Global,
+fn add_restores<'a>(
     stack: &StackState,
     past: &Past,
-    starts: &mut Starts,
-    helds: &[Held],
+    starts: &mut Starts<'a>,
+    helds: &'a [Held],
 ) -> Result<(), AllocError>
     requires { IsPast stack.now.stack past.now }
     ensures { IfOk result (λ _. starts.new ≡ starts.old ++ restores stack.now.stack helds.now) }
 {
     for held in helds {
         if may_restore(stack, past, held) {
-            starts.push(restore_of(alloc, held)?)?;
+            starts.push(restore_of(held))?;
         }
     }
     Ok(())
 }
 
 /// The calls that may begin, none while a repeat is waited for.
-fn restores_out(
+fn restores_out<'a>(
     alloc: Global,
-    stack: &StackState,
+    stack: &'a StackState,
     past: &Past,
     out: &[u64],
-) -> Result<Starts, AllocError>
+) -> Result<Starts<'a>, AllocError>
     requires { IsPast stack.now.stack past.now }
     ensures { IfOk result (λ starts. starts ≡ restores_out out.now stack.now.stack) }
 {
     let mut starts = Starts::new(alloc);
     if !waits_for_repeats(out, stack) {
-        add_restores(alloc, stack, past, &mut starts, stack.before())?;
+        add_restores(stack, past, &mut starts, stack.before())?;
     }
     Ok(starts)
 }
@@ -155,11 +152,11 @@ fn turn_restored(over: bool) -> Option<Turn>
 
 /// What the rollback of an update offers: repeats; each resource that the update changed in place is given back what it had; and,
 /// where all is given back and nothing was refused, the deletion of what was made.
-pub(crate) fn offer_restoring(
+pub(crate) fn offer_restoring<'a>(
     alloc: Global,
-    stack: &StackState,
+    stack: &'a StackState,
     out: &[u64],
-) -> Result<Offer, AllocError>
+) -> Result<Offer<'a>, AllocError>
     requires { stack.now.stack.status ≡ status.UpdateRollbackInProgress }
     ensures { IfOk result (λ o. (schemas : List Schema) (name : List ℕ) (x : World)
         → IsOffer schemas name x out.now stack.now.stack Back o) }

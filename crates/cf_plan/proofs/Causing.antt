@@ -47,7 +47,7 @@ in_cons_option : {A : Type 0} (y : A) (o : Option A) (ys : List A) → In y (con
 in_cons_option y None ys i = inr i
 in_cons_option y (Some z) ys i = elim (in_cons i) [ inl e ↦ inl (ap (λ c. Some c) e) | inr j ↦ inr j ]
 
-in_mapped : {A B : Type 0} (f : A → Option B) (y : B) (xs : List A) → In y (filter_map f xs) → (x : A) × In x xs × (f x ≡ Some y)
+pub in_mapped : {A B : Type 0} (f : A → Option B) (y : B) (xs : List A) → In y (filter_map f xs) → (x : A) × In x xs × (f x ≡ Some y)
 in_mapped f y [] i = absurd (in_none i)
 in_mapped f y (x ∷ xs) i = elim (in_cons_option y (f x) (filter_map f xs) i) [
   | inl e ↦ (x, here, e)
@@ -58,7 +58,7 @@ skips : {A : Type 0} (y : A) (o : Option A) (ys : List A) → In y ys → In y (
 skips y None ys i = i
 skips y (Some z) ys i = there i
 
-mapped_in : {A B : Type 0} (f : A → Option B) (y : B) (x : A) (xs : List A) → In x xs → f x ≡ Some y → In y (filter_map f xs)
+pub mapped_in : {A B : Type 0} (f : A → Option B) (y : B) (x : A) (xs : List A) → In x xs → f x ≡ Some y → In y (filter_map f xs)
 mapped_in f y x [] i e = absurd (in_none i)
 mapped_in f y x (z ∷ zs) i e = elim (in_cons i) [
   | inl k ↦ subst (λ o. In y (cons_option o (filter_map f zs))) (sym (ap f k ∙ e)) here
@@ -99,15 +99,15 @@ flaw_of None f = (λ e. absurd (none-some f e), λ e. absurd (later_bad f e))
 flaw_of (Some w) f = flaw_finding w.kind w.props f
 
 -- what is found where a test holds
-abbrev where_met : Bool → List ℕ → Option Flaw → Option (List ℕ × Flaw)
+abbrev pub where_met : Bool → List ℕ → Option Flaw → Option (List ℕ × Flaw)
 where_met b p o = if b then option_map (λ (f : Flaw). (p, f)) o else None
 
-test_found : (b : Bool) (p : List ℕ) (o : Option Flaw) (a : List ℕ × Flaw) → where_met b p o ≡ Some a → (b ≡ true) × (p ≡ a.0) × (o ≡ Some a.1)
+pub test_found : (b : Bool) (p : List ℕ) (o : Option Flaw) (a : List ℕ × Flaw) → where_met b p o ≡ Some a → (b ≡ true) × (p ≡ a.0) × (o ≡ Some a.1)
 test_found true p None a e = absurd (none-some a e)
 test_found true p (Some f) a e = let same : (p, f) ≡ a = same_Some (p, f) a e in (refl, ap (λ (c : List ℕ × Flaw). c.0) same, ap (λ (c : List ℕ × Flaw). Some c.1) same)
 test_found false p o a e = absurd (none-some a e)
 
-found_test : (b : Bool) (p : List ℕ) (o : Option Flaw) (f : Flaw) → b ≡ true → o ≡ Some f → where_met b p o ≡ Some (p, f)
+pub found_test : (b : Bool) (p : List ℕ) (o : Option Flaw) (f : Flaw) → b ≡ true → o ≡ Some f → where_met b p o ≡ Some (p, f)
 found_test b p o f e g = ap (λ c. where_met c p o) e ∙ ap (λ c. where_met true p c) g
 
 first_found : {A : Type 0} (test : A → Bool) (xs : List A) → first_in (filter test xs) ≡ find test xs
@@ -127,6 +127,13 @@ all_are (w ∷ ws) done e p i =
 pub are_all : (ws : List Wanted) (done : List (List ℕ)) → ((p : List ℕ) → In p (map (λ w. w.path) ws) → is_among p done ≡ true) → list_all (λ w. is_among w.path done) ws ≡ true
 are_all [] done h = refl
 are_all (w ∷ ws) done h = and_from (is_among w.path done) (list_all (λ v. is_among v.path done) ws) (h w.path here) (are_all ws done (λ p i. h p (there i)))
+
+-- a call that fails the phase has its row, and so a path
+pub call_failed :
+    (schemas : List Schema) (name : List ℕ) (x : World) (s : StackState) (a : ℕ × Reason) (o : Option (List ℕ)) → first_failing schemas s ≡ Some a
+    → path_of_token a.0 s ≡ o → IsFailureOf schemas name x s (failure_of_call o a.1)
+call_failed schemas name x s a (Some path) f k = (inl (a, f), (a.0, f, k))
+call_failed schemas name x s a None f k = absurd (true≢false (sym (failing_called schemas s a f) ∙ ap is_some k))
 
 module _ (schemas : List Schema) (name : List ℕ) (x : World) (s : StackState) (done : List (List ℕ)) (are : AreDone s done) (terms : Plan) (terms_are : HasTerms s terms) where
   abbrev flaws : List (List ℕ × Flaw)
@@ -204,12 +211,8 @@ module _ (schemas : List Schema) (name : List ℕ) (x : World) (s : StackState) 
       (inr (inl (a.0, a.1, bad)), (a.1, refl, f, inl (a.0, bad, λ q other b. least_low flaws a k (q, other) (from_bad q other b))))
   by_path None k f = by_all (are_all_done terms done) refl f (λ q other b. least_none flaws k (q, other) (from_bad q other b))
 
-  by_call : (a : ℕ × Reason) (o : Option (List ℕ)) → first_failing schemas s ≡ Some a → path_of_token a.0 s ≡ o → IsFailureOf schemas name x s (failure_of_call o a.1)
-  by_call a (Some path) f k = (inl (a, f), (a.0, f, k))
-  by_call a None f k = absurd (true≢false (sym (failing_called schemas s a f) ∙ ap is_some k))
-
   pub tells : (o : Option (ℕ × Reason)) → first_failing schemas s ≡ o → IsFailureOf schemas name x s (or_call o s (plan_failure name x terms (plan_now s) done))
-  tells (Some a) f = by_call a (path_of_token a.0 s) f refl
+  tells (Some a) f = call_failed schemas name x s a (path_of_token a.0 s) f refl
   tells None f = by_path (least flaws) refl f
 
 pub tells_by :

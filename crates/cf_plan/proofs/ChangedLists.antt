@@ -1,5 +1,5 @@
 -- Lists in which the first that passes a test is changed, or each is, or one more stands at the end.
-use Rattle.std.proofs.Common.{ℕ, not, ◌≡◌, ◌⊎◌, inl, inr, List, ◌∷◌, ◌++◌, Bool, true, false, ◌&&◌, Option, Some, None, refl, sym, ap, subst, ◌∙◌, true≢false, find, map, []}
+use Rattle.std.proofs.Common.{ℕ, ◌≡◌, ◌⊎◌, inl, inr, List, ◌∷◌, ◌++◌, Bool, true, false, ◌&&◌, Option, Some, None, refl, sym, ap, subst, ◌∙◌, true≢false, find, filter, option_map, map, [], arith}
 use Rattle.cf_plan.specs.Forward.{In, here, there}
 use Rattle.cf_effect.specs.Words.{change_first}
 use Rattle.cf_tree.specs.Lists.{insert_by}
@@ -11,13 +11,6 @@ use Rattle.cf_plan.proofs.CreatedStays.{found_one}
 use Rattle.cf_plan.proofs.CreatedEnd.{in_changed as from_map}
 use Rattle.cf_plan.proofs.Listed.{in_cons}
 use Rattle.std.specs.Prelude.{◌||◌, cond, fold, ◌↔◌}
-use Rattle.std.specs.Str.{bytes_eq}
-use Rattle.std.specs.Cmp.{first_so, second_so}
-use Rattle.std.proofs.lemmas.Slice.Eq.{bytes_eq-Decides}
-use Rattle.cf_tree.specs.Named.{all_differ}
-use Rattle.cf_plan.proofs.RunLists.{any_of}
-use Rattle.cf_plan.proofs.CreatedWhole.{in_map}
-use Rattle.cf_plan.proofs.CreatedRight.{not_so}
 
 -- of two, whichever it is
 pub either_way : {A : Type 0} (P : A → Type 0) (b : Bool) (x y : A) → P x → P y → P (cond b x y)
@@ -139,15 +132,16 @@ module _ {A : Type 0} (test : A → A → Bool) (e : A) where
         ],
       )
 
--- of those whose ids differ, what has one id is one
-module _ {A : Type 0} (key : A → List ℕ) where
-  no_other : (z : A) (xs : List A) (y : A) → not (list_any (bytes_eq (key z)) (map key xs)) ≡ true → In y xs → key z ≡ key y → ⊥
-  no_other z xs y n i e =
-      true≢false (sym (any_of (bytes_eq (key z)) (map key xs) (key y) (in_map key y xs i) ((bytes_eq-Decides (key z) (key y)).1 e)) ∙ not_so _ n)
+-- where each is changed: what is found by a test that the change keeps, and the keys
+pub find_mapped : {A : Type 0} (test : A → Bool) (f : A → A) (xs : List A) → ((x : A) → test (f x) ≡ test x) → find test (map f xs) ≡ option_map f (find test xs)
+find_mapped test f [] h = refl
+find_mapped test f (x ∷ xs) h = grind (arith, h x, find_mapped test f xs h)
 
-  pub one_id : (xs : List A) → all_differ bytes_eq (map key xs) ≡ true → (x y : A) → In x xs → In y xs → key x ≡ key y → x ≡ y
-  one_id (z ∷ xs) d x y here here e = refl
-  one_id (z ∷ xs) d x y here (there j) e = absurd (no_other z xs y (first_so (not (list_any (bytes_eq (key z)) (map key xs))) _ d) j e)
-  one_id (z ∷ xs) d x y (there i) here e = absurd (no_other z xs x (first_so (not (list_any (bytes_eq (key z)) (map key xs))) _ d) i (sym e))
-  one_id (z ∷ xs) d x y (there i) (there j) e = one_id xs (second_so (not (list_any (bytes_eq (key z)) (map key xs))) _ d) x y i j e
-  one_id [] d x y i j e = elim i [ ]
+pub keys_mapped : {A B K : Type 0} (f : A → B) (key : B → K) (key' : A → K) (xs : List A) → ((x : A) → key (f x) ≡ key' x) → map key (map f xs) ≡ map key' xs
+keys_mapped f key key' [] h = refl
+keys_mapped f key key' (x ∷ xs) h = ap (λ k. k ∷ map key (map f xs)) (h x) ∙ ap (λ ks. key' x ∷ ks) (keys_mapped f key key' xs h)
+
+-- what is found stays found among those that a test leaves, where it passes
+pub find_left : {A : Type 0} (test left : A → Bool) (xs : List A) (x : A) → find test xs ≡ Some x → left x ≡ true → find test (filter left xs) ≡ Some x
+find_left test left [] x e l = e
+find_left test left (y ∷ xs) x e l = grind (arith, find_left test left xs x)

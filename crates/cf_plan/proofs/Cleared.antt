@@ -131,11 +131,11 @@ turn_status phase.Back s = refl
 turn_status phase.BackClean s = refl
 
 -- The last entry of an operation: where it leaves a stack from which a creation may begin, nothing is left on it.
-empty_list : {A : Type 0} (xs : List A) → is_empty xs ≡ true → xs ≡ []
+pub empty_list : {A : Type 0} (xs : List A) → is_empty xs ≡ true → xs ≡ []
 empty_list [] e = refl
 empty_list (y ∷ ys) e = absurd (true≢false (sym e))
 
-empty_parts : {A : Type 0} (xs ys : List A) → is_empty (xs ++ ys) ≡ true → (xs ≡ []) × (ys ≡ [])
+pub empty_parts : {A : Type 0} (xs ys : List A) → is_empty (xs ++ ys) ≡ true → (xs ≡ []) × (ys ≡ [])
 empty_parts [] ys e = (refl, empty_list ys e)
 empty_parts (y ∷ xs) ys e = absurd (true≢false (sym e))
 

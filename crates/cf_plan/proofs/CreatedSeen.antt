@@ -10,7 +10,7 @@ use Rattle.cf_effect.specs.declared.held.Held.{Held}
 use Rattle.cf_effect.specs.Words.{current_at, is_current_at}
 use Rattle.cf_effect.specs.Begin.{seen_in, put_seen, seen_as_held}
 use Rattle.cf_desired.proofs.Puts.{value_put}
-use Rattle.cf_desired.specs.declared.seen.SeenAt.{SeenAt}
+use Rattle.cf_desired.specs.Seeing.{SeenAt}
 use Rattle.cf_desired.specs.Seeing.{Seen}
 use Rattle.cf_desired.specs.Stays.{SeesMore}
 

@@ -18,7 +18,7 @@ use Rattle.cf_effect.specs.Begin.{seen_in}
 use Rattle.cf_effect.specs.End.{seen_now, is_right_at}
 use Rattle.cf_desired.specs.declared.wanted.Plan.{Plan}
 use Rattle.cf_desired.specs.declared.wanted.Wanted.{Wanted}
-use Rattle.cf_desired.specs.declared.seen.SeenAt.{SeenAt}
+use Rattle.cf_desired.specs.Seeing.{SeenAt}
 use Rattle.cf_desired.specs.Seeing.{Seen}
 use Rattle.cf_desired.specs.Plan.{plan_by, plan_of}
 use Rattle.cf_desired.specs.Shape.{shape_of}

@@ -26,7 +26,7 @@ made_among : (p : List ℕ) (hs : List Held) → is_among p (map (λ r. r.path) 
 made_among p [] = refl
 made_among p (h ∷ hs) = made_by (bytes_eq p h.path) h.superseded p p h hs refl refl (made_among p hs)
 
-some_is : {A : Type 0} (o : Option A) → is_some o ≡ true → (a : A) × (o ≡ Some a)
+pub some_is : {A : Type 0} (o : Option A) → is_some o ≡ true → (a : A) × (o ≡ Some a)
 some_is None e = absurd (true≢false (sym e))
 some_is (Some a) e = (a, refl)
 

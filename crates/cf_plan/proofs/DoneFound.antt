@@ -31,14 +31,14 @@ use Rattle.cf_schema.proofs.Equal.{same_equal, equal_same}
 use Rattle.cf_desired.specs.Stays.{is_settled}
 use Rattle.cf_desired.specs.declared.wanted.Evaluated.{Evaluated}
 use Rattle.cf_desired.specs.declared.wanted.Evaluated.TheVariants.{Flawed as flawed, Known as evaluated}
-use Rattle.cf_desired.specs.declared.seen.SeenAt.{SeenAt}
+use Rattle.cf_desired.specs.Seeing.{SeenAt}
 use Rattle.cf_tree.specs.Named.{all_differ}
 use Rattle.std.specs.List.{list_all, list_any}
 use Rattle.cf_tree.specs.Keys.{value_at}
 use Rattle.cf_plan.proofs.CreatedStays.{found_one}
 use Rattle.cf_plan.proofs.RunLists.{is_found_in}
 use Rattle.cf_desired.specs.declared.wanted.Inner.{Inner}
-use Rattle.cf_plan.proofs.ChangedLists.{one_id}
+use Rattle.cf_plan.proofs.Differ.{one_id}
 
 is_known : (f : Finding) (k : List ℕ) (ps : List (List ℕ × Data)) → (f ≡ Known k ps) ⊎ (f ≢ Known k ps)
 is_known (Bad b) k ps = inr (λ e. cc)

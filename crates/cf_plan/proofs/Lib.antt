@@ -1,5 +1,9 @@
 pub mod OneShape
 pub mod PlanTerms
+pub mod StatesDone
+mod StatesRead
+mod StatesOpen
+mod NoneNested
 pub mod CreatedSeen
 pub mod CreatedStays
 pub mod CreatedRight
@@ -50,6 +54,7 @@ pub mod Frame
 mod Owned
 mod Successes
 pub mod ChangedLists
+pub mod Differ
 pub mod DoneFound
 pub mod FailedFound
 pub mod PropsStay

@@ -14,7 +14,7 @@ use Rattle.cf_tree.specs.declared.request.Request.{Request}
 use Rattle.cf_tree.specs.declared.row.Row.{Row}
 use Rattle.cf_schema.specs.declared.described.Schema.{Schema}
 use Rattle.cf_desired.specs.Seeing.{Seen}
-use Rattle.cf_desired.specs.declared.seen.SeenAt.{SeenAt}
+use Rattle.cf_desired.specs.Seeing.{SeenAt}
 use Rattle.cf_tree.specs.declared.source.Source.{Source}
 use Rattle.cf_desired.specs.declared.wanted.Wanted.{Wanted}
 use Rattle.cf_tree.specs.Named.{all_differ}

@@ -9,14 +9,14 @@ use Rattle.cf_tree.specs.declared.request.Request.{Request}
 use Rattle.cf_schema.specs.declared.described.Schema.{Schema}
 use Rattle.cf_effect.specs.World.{StackState}
 use Rattle.cf_plan.specs.declared.forward.Wants.{Wants}
-use Rattle.cf_plan.specs.declared.stepping.Start.{Start}
+use Rattle.cf_plan.specs.Start.{Start}
 use Rattle.cf_plan.specs.Forward.{In, here}
 use Rattle.cf_plan.specs.Starts.{AreOpen, AreStarts, IsOneOf, start_of, starts_at, starts_in}
 use Rattle.cf_plan.proofs.Members.{not_both, in_none}
 use Rattle.cf_plan.proofs.Listed.{in_cons}
 use Rattle.cf_plan.proofs.Causing.{in_left, in_right, in_either}
 
-abbrev start : List ℕ → Request → Start
+abbrev pub start : List ℕ → Request → Start
 start path r = record { path = path; request = r }
 
 in_start : (path : List ℕ) (r : Request) (o : Option Request) → o ≡ Some r → In (start path r) (start_of path o)
@@ -29,11 +29,11 @@ of_start path key r (Some q) i = elim (in_cons i) [
   | inr j ↦ absurd (in_none j)
 ]
 
-at_path : (path : List ℕ) (r : Request) (w : Wants) → (w.create ≡ Some r) ⊎ (w.update ≡ Some r) → In (start path r) (starts_at (path, w))
+pub at_path : (path : List ℕ) (r : Request) (w : Wants) → (w.create ≡ Some r) ⊎ (w.update ≡ Some r) → In (start path r) (starts_at (path, w))
 at_path path r w (inl e) = in_left (start path r) (start_of path w.create) (start_of path w.update) (in_start path r w.create e)
 at_path path r w (inr e) = in_right (start path r) (start_of path w.create) (start_of path w.update) (in_start path r w.update e)
 
-of_path : (path : List ℕ) (r : Request) (e : List ℕ × Wants) → In (start path r) (starts_at e) → (path ≡ e.0) × ((e.1.create ≡ Some r) ⊎ (e.1.update ≡ Some r))
+pub of_path : (path : List ℕ) (r : Request) (e : List ℕ × Wants) → In (start path r) (starts_at e) → (path ≡ e.0) × ((e.1.create ≡ Some r) ⊎ (e.1.update ≡ Some r))
 of_path path r e i = elim (in_either (start path r) (start_of e.0 e.1.create) (start_of e.0 e.1.update) i) [
   | inl j ↦ (let w = of_start path e.0 r e.1.create j in (w.0, inl w.1))
   | inr j ↦ (let w = of_start path e.0 r e.1.update j in (w.0, inr w.1))

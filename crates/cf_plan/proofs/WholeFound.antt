@@ -38,7 +38,8 @@ use Rattle.cf_effect.specs.Listed.{export_by, is_export_before, not_export_of, r
 use Rattle.cf_plan.specs.Created.{IsHeldAs}
 use Rattle.cf_desired.proofs.AllKnown.{known_whole}
 use Rattle.cf_plan.proofs.CreatedWhole.{all_seen, found_before, right_with, rights_at}
-use Rattle.cf_plan.proofs.ChangedLists.{all_inserted, one_id}
+use Rattle.cf_plan.proofs.ChangedLists.{all_inserted}
+use Rattle.cf_plan.proofs.Differ.{one_id}
 
 -- What alone passes a test, and the exports that a stack has anew.
 

@@ -4,6 +4,11 @@ pub mod Forward
 pub mod Accept
 pub mod Follow
 pub mod Done
+pub mod Start
+pub mod Asked
+pub mod PathStates
+pub mod StatesKept
+pub mod Overview
 pub mod Index
 pub mod Failed
 pub mod Causes

@@ -17,7 +17,7 @@ use Rattle.cf_plan.specs.Done.{are_met, finding_by}
 use Rattle.cf_plan.specs.Forward.{Finding, In, Known, IsDone, IsReady, difference_to, is_conditional, was_answered_at}
 use Rattle.cf_plan.specs.Follow.{IntendsForward, is_free, was_not_updatable}
 use Rattle.cf_plan.specs.declared.forward.Wants.{Wants}
-use Rattle.cf_plan.specs.declared.stepping.Start.{Start}
+use Rattle.cf_plan.specs.Start.{Start}
 
 abbrev pub is_replacing : Difference → Bool
 is_replacing ToReplace = true

@@ -88,7 +88,10 @@ fn lesser<'a>(first: Option<BadAt<'a>>, second: BadAt<'a>) -> BadAt<'a>
 }
 
 /// Of two paths, of which there may be none, the one that comes first in byte order, the first of them where they are the same.
-fn lesser_of<'a>(first: Option<BadAt<'a>>, second: Option<BadAt<'a>>) -> Option<BadAt<'a>>
+pub(crate) fn lesser_of<'a>(
+    first: Option<BadAt<'a>>,
+    second: Option<BadAt<'a>>,
+) -> Option<BadAt<'a>>
     ensures { option_map bad_of result ≡ lesser_of (option_map bad_of first.entry) (option_map bad_of second.entry) }
 {
     match second {

@@ -76,11 +76,18 @@ pub(crate) fn is_good_update(call: &Call) -> bool
     is_update(&call.request) && matches!(call.answer, Some(Settled::Success))
 }
 
+/// Whether a call is an update that was answered for good.
+pub(crate) fn is_answered_update(call: &Call) -> bool
+    ensures { result ≡ (is_update call.now.request && is_some call.now.answer) }
+{
+    is_update(&call.request) && call.answer.is_some()
+}
+
 /// Whether a call is an update of a path that was answered for good.
 fn is_answered_at(path: &Txt, call: &Call) -> bool
     ensures { result ≡ (bytes_eq path.now call.now.path && (is_update call.now.request && is_some call.now.answer)) }
 {
-    *path == call.path && is_update(&call.request) && call.answer.is_some()
+    *path == call.path && is_answered_update(call)
 }
 
 /// Whether one of these calls, of an operation, is an update of a path that was answered for good.

@@ -88,7 +88,7 @@ fn are_done(before: &Plan, done: &NameIndex) -> bool
 }
 
 /// The failure that a call makes, which has its row in the ledger.
-fn failure_of_call(
+pub(crate) fn failure_of_call(
     alloc: Global,
     stack: &StackState,
     token: u64,
@@ -110,7 +110,7 @@ fn failure_of_call(
 }
 
 /// The failure that a flaw makes.
-fn failure_of_flaw(alloc: Global, flaw: &Flaw) -> Result<Failure, AllocError>
+pub(crate) fn failure_of_flaw(alloc: Global, flaw: &Flaw) -> Result<Failure, AllocError>
     ensures { IfOk result (λ failure. failure ≡ failed.Because (told.Plan (flaw_text flaw.now))) }
 {
     let fault = plan_text(alloc, flaw)?;

@@ -40,7 +40,7 @@ fn has_token_at(tokens: &[Pending], path: &Txt) -> bool
 }
 
 /// Whether other properties want a new resource in place of the held one.
-fn wants_new(schemas: &Schemas, stack: &StackState, held: &Held, props: &Dict) -> bool
+pub(crate) fn wants_new(schemas: &Schemas, stack: &StackState, held: &Held, props: &Dict) -> bool
     ensures { result ≡ wants_new schemas.now stack.now.stack held.now props.now }
 {
     match difference_to(schemas, held, props) {
@@ -52,7 +52,7 @@ fn wants_new(schemas: &Schemas, stack: &StackState, held: &Held, props: &Dict) -
 }
 
 /// Whether other properties want an update of the held resource.
-fn wants_update(schemas: &Schemas, held: &Held, props: &Dict) -> bool
+pub(crate) fn wants_update(schemas: &Schemas, held: &Held, props: &Dict) -> bool
     ensures { result ≡ wants_update schemas.now held.now props.now }
 {
     match difference_to(schemas, held, props) {

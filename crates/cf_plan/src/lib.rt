@@ -12,9 +12,15 @@ mod found;
 mod index;
 mod lanes;
 mod laws;
+mod overview;
+mod path_flaws;
+mod path_starts;
+mod path_state;
 mod progress;
 mod repeats;
+mod start;
 mod starts;
+mod states;
 mod stepping;
 
 pub use calls::{call_of, doubts_in, path_of_token, was_answered_at, was_not_updatable};
@@ -32,9 +38,11 @@ pub use laws::{
     creation_keeps_promise, creation_starts, flawless_has_one_shape, intent_opens,
     intent_stays_right, opening_stays_right, outcome_stays_right,
 };
+pub use overview::{Overview, overview_of};
 pub use progress::{Progress, progress_of};
 pub use repeats::{
     doubts_of, is_in_flight, is_repeat_in_flight, may_repeat, none_in_flight, waits_for_repeats,
 };
+pub use start::{Ask, Start, Starts};
 pub use starts::starts_of;
-pub use stepping::{Start, Starts, plan_before, plan_now};
+pub use stepping::{plan_before, plan_now};

@@ -77,12 +77,12 @@ fn starts_by(
 
 /// What the forward phase may begin with, by any plan with the paths and the needs of the operation's source, by what that says over
 /// the resources of now, and by the paths that are done.
-pub(crate) fn starts_over(
+pub(crate) fn starts_over<'a>(
     alloc: Global,
     schemas: &Schemas,
     stack: &StackState,
-    terms: &PlanIndex,
-    now: &PlanIndex,
+    terms: &PlanIndex<'a>,
+    now: &PlanIndex<'a>,
     held: &HeldIndex,
     done: &NameIndex,
 ) -> Result<ByName<Wants>, AllocError>

@@ -16,7 +16,7 @@ use Rattle.cf_desired.specs.Plan.{outputs_in, plan_by, plan_from, plan_of, props
 use Rattle.cf_desired.specs.Seeing.{Seen, first_sights, made_sight, nested_sight, output_sights, outputs_inside, outputs_of, own_ids, seen_as, sights_after, unmade_sights}
 use Rattle.cf_desired.specs.Shape.{given_root, shape_of}
 use Rattle.cf_desired.specs.Stays.{SeesMore, attrs_seen, id_seen}
-use Rattle.cf_desired.specs.declared.seen.SeenAt.{SeenAt}
+use Rattle.cf_desired.specs.Seeing.{SeenAt}
 use Rattle.cf_desired.specs.Stack.{Sights, Scoping, Stack, Verdicts, scoping}
 use Rattle.cf_desired.specs.Valued.{evaluated_at, resources_in, valued_along, valued_inside, valued_in}
 use Rattle.cf_desired.specs.Work.{Member, Work, Inside, Body, Shape, no_work, resource, nested, shut, barred, halted, opened}

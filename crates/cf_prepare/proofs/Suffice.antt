@@ -15,7 +15,7 @@ use Rattle.cf_schema.specs.declared.described.Schema.{Schema}
 use Rattle.cf_desired.specs.declared.wanted.Evaluated.{Evaluated}
 use Rattle.cf_desired.specs.declared.wanted.Plan.{Plan}
 use Rattle.cf_desired.specs.declared.wanted.Wanted.{Wanted}
-use Rattle.cf_desired.specs.declared.seen.SeenAt.{SeenAt}
+use Rattle.cf_desired.specs.Seeing.{SeenAt}
 use Rattle.cf_desired.specs.ComeFirst.{ComeFirst}
 use Rattle.cf_desired.specs.Plan.{at_path, member_at, plan_by, plan_of, props_at, wanted_of}
 use Rattle.cf_desired.specs.Seeing.{Seen}

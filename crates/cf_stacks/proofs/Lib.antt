@@ -15,3 +15,4 @@ pub mod Stepped
 pub mod Stood
 pub mod Totals
 pub mod Worlds
+pub mod Kept

@@ -467,6 +467,16 @@ fn await_on(alloc: Global, pairs: &mut Vec<(Txt, StackState)>, token: u64) -> Re
     }
 }
 
+/// Looks at the stack of an operation.
+fn look_at(alloc: Global, pairs: &mut Vec<(Txt, StackState)>, number: u64) -> Result<(), AllocError>
+    ensures { pairs.new.items ≡ pairs.old.items }
+{
+    match going_at(pairs.as_slice(), number) {
+        Some(at) => pairs[at].1.look(alloc),
+        None => Ok(()),
+    }
+}
+
 impl Fields {
     /// Prepares an opening. After an error the fields are as they were, but for memory.
     fn prepare_opening(&mut self, alloc: Global, entry: &Entry) -> Result<Work, AllocError>
@@ -569,6 +579,16 @@ impl Fields {
         let awaited = await_on(alloc, &mut pairs, token);
         self.stacks = Stacks::from_vec(pairs);
         awaited
+    }
+
+    /// Looks at the stack on which the operation of a number is in progress.
+    pub(crate) fn look(&mut self, alloc: Global, number: u64) -> Result<(), AllocError>
+        ensures { self.new ≡ self.old }
+    {
+        let mut pairs = mem::replace(&mut self.stacks, Stacks::new(alloc)).into_vec();
+        let looked = look_at(alloc, &mut pairs, number);
+        self.stacks = Stacks::from_vec(pairs);
+        looked
     }
 
     /// Steps over a short outcome of a call that is awaited; it takes no memory.

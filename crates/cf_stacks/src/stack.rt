@@ -1,8 +1,11 @@
 //! A stack, as a journal's entries leave it.
-ghost use Rattle.std.specs.Prelude.{◌≡◌, ◌≤◌, ◌+◌, ◌-◌, ◌∷◌, ◌++◌, [], List, ℕ, IfOk, OnErr, OnOk, is_some, length, map, option_copied, true};
+ghost use Rattle.std.specs.Prelude.{◌≡◌, ◌≤◌, ◌+◌, ◌-◌, ◌∷◌, ◌++◌, [], List, ℕ, IfOk, IfSome, None, OnErr, OnOk, Some, is_some, length, map, option_copied, slice_get, true};
+ghost use Rattle.cf_desired.specs.Work.{Member};
 ghost use Rattle.cf_effect.specs.Calls.{new_call};
 ghost use Rattle.cf_effect.specs.Effect.{on_stack};
+ghost use Rattle.cf_effect.specs.Findings.{AreFindings, FindsAt};
 ghost use Rattle.cf_effect.specs.Fold.{effect_at, is_opening};
+ghost use Rattle.cf_effect.specs.Layout.{IsLayoutOf, members_of};
 ghost use Rattle.cf_effect.specs.End.{seen_now};
 ghost use Rattle.cf_effect.specs.Reply.{intending, terms_at};
 ghost use Rattle.cf_effect.specs.Bounds.{IsShortOutcomeOf};
@@ -20,8 +23,9 @@ use crate::room::{
 };
 use cf_desired::Seen;
 use cf_effect::{
-    Abandoned, Call, HeardEntries, HeardEntry, Held, Helds, KeptSets, Ledger, Leftovers, Lines,
-    Outset, Pending, Pendings, State, Terms, is_open,
+    Abandoned, Call, Findings, Found, HeardEntries, HeardEntry, Held, Helds, KeptSets, Layout,
+    Ledger, Leftovers, Lines, Outset, Pending, Pendings, State, Terms, find_at, findings_of,
+    follow, is_open, layout_of, look,
 };
 use cf_entry::{Entry, Status};
 use cf_export::Outputs;
@@ -37,6 +41,8 @@ pub struct StackState {
     state: State,
     rooms: Vec<CallRoom>,
     spare: usize,
+    /// What is kept of the paths of its operation's source, where that was looked at.
+    findings: Option<Findings>,
 }
 
 impl Model for StackState {
@@ -69,6 +75,13 @@ pub(crate) struct CallParts {
     pub(crate) room: CallRoom,
 }
 
+/// Lets findings go that may be right no longer.
+fn lose(findings: &mut Option<Findings>)
+    ensures { findings.new ≡ None }
+{
+    drop(mem::replace(findings, None));
+}
+
 impl StackState {
     /// The stack with these numbers and lists; it takes no memory.
     pub(crate) fn of(alloc: Global, state: State) -> StackState
@@ -80,6 +93,7 @@ impl StackState {
             state,
             rooms: Vec::new(alloc),
             spare: 0,
+            findings: None,
         }
     }
 
@@ -152,6 +166,7 @@ impl StackState {
     {
         drop(mem::replace(&mut self.state, state));
         self.spare = 0;
+        lose(&mut self.findings);
     }
 
     /// Leaves the stack so, with none of its calls awaited any more; it takes no memory.
@@ -163,6 +178,7 @@ impl StackState {
         self.rooms.clear();
         drop(mem::replace(&mut self.state, state));
         self.spare = 0;
+        lose(&mut self.findings);
     }
 
     /// A call is awaited no more.
@@ -220,6 +236,7 @@ impl StackState {
     {
         self.state.open(place, entry);
         self.spare -= 1;
+        lose(&mut self.findings);
     }
 
     /// A call goes out, of which the stack hears; it takes no memory.
@@ -255,7 +272,10 @@ impl StackState {
         } }
     {
         match take_room(&mut self.rooms, token) {
-            Some(room) => take_outcome(&mut self.state, place, entry, room),
+            Some(room) => {
+                follow(&self.state, &entry, &mut self.findings);
+                take_outcome(&mut self.state, place, entry, room);
+            }
             None => unreachable!(),
         }
     }
@@ -357,6 +377,13 @@ impl StackState {
         self.state.terms_at(alloc, path)
     }
 
+    /// The paths that the source of its last create or update says a path needs, over what was held before.
+    pub fn needs_at(&self, path: &Txt) -> &[Txt]
+        ensures { result.now ≡ (terms_at path.now self.now.stack).needs }
+    {
+        self.state.needs_at(path)
+    }
+
     /// What its resources show: those that its operation made before those that it holds.
     ///
     /// # Errors
@@ -366,6 +393,58 @@ impl StackState {
         ensures { IfOk result (λ seen. seen ≡ seen_now self.now.stack) }
     {
         self.state.seen_now(alloc)
+    }
+
+    /// The layout of the source of its last create or update, where there was one.
+    pub fn layout(&self) -> Option<&Layout>
+        ensures { IsLayoutOf self.now.stack (option_copied result) }
+    {
+        layout_of(&self.state)
+    }
+
+    /// What is kept of the paths of that source, where that was looked at.
+    pub fn findings(&self) -> Option<&Findings>
+        ensures { IfSome (option_copied result) (AreFindings self.now.stack) }
+    {
+        self.findings.as_ref()
+    }
+
+    /// Findings of it, of which nothing is worked out yet.
+    ///
+    /// # Errors
+    ///
+    /// Only for want of memory.
+    pub fn findings_anew(&self, alloc: Global) -> Result<Findings, AllocError>
+        ensures { IfOk result (AreFindings self.now.stack) }
+    {
+        findings_of(alloc, &self.state)
+    }
+
+    /// What the properties at a place come to over the resources of now; only what they need is looked
+    /// at.
+    ///
+    /// # Errors
+    ///
+    /// Only for want of memory.
+    pub fn find_at(
+        &self,
+        alloc: Global,
+        findings: &Findings,
+        at: usize,
+    ) -> Result<Option<Found>, AllocError>
+        requires { AreFindings self.now.stack findings.now }
+        ensures { IfOk result (λ found. (m : Member) → slice_get (members_of self.now.stack) at ≡ Some m
+            → FindsAt self.now.stack m.path found) }
+    {
+        find_at(alloc, &self.state, findings, at)
+    }
+
+    /// Works out what the properties of each path come to all of whose needs have a resource, where
+    /// that is not known yet. After an error some of it may be worked out.
+    pub(crate) fn look(&mut self, alloc: Global) -> Result<(), AllocError>
+        ensures { self.new ≡ self.old }
+    {
+        look(alloc, &self.state, &mut self.findings)
     }
 
     /// Its outputs.

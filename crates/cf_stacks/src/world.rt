@@ -151,6 +151,20 @@ impl World {
         self.fields.token
     }
 
+    /// Works out, for the stack on which the operation of a number is in progress, what the properties
+    /// of each path come to all of whose needs have a resource: each once, and again only where
+    /// something that it needs has changed. The world stays as it is; after an error some of that may
+    /// be worked out.
+    ///
+    /// # Errors
+    ///
+    /// Only for want of memory.
+    pub fn look(&mut self, alloc: Global, number: u64) -> Result<(), AllocError>
+        ensures { self.new ≡ self.old }
+    {
+        self.fields.look(alloc, number)
+    }
+
     /// Gives up the room for an entry.
     fn give_up(&mut self)
         ensures { self.new ≡ record self.old { ready = None } }

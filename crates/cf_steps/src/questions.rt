@@ -148,7 +148,7 @@ fn add_of_stack(line: &mut Line, words: &mut Words, asked: &Asked, world: &World
 }
 
 /// Adds the answer to the question of a line.
-fn add_answer(line: &mut Line, words: &mut Words, asked: &Asked, world: &World) {
+fn add_answer(line: &mut Line, words: &mut Words, asked: &Asked, world: &mut World) {
     match words.word() {
         "stacks" => add_stacks(line, world),
         "numbers" => add_numbers(line, world),
@@ -165,7 +165,13 @@ fn add_answer(line: &mut Line, words: &mut Words, asked: &Asked, world: &World) 
 }
 
 /// Adds the answer to a question about the last operation, or about a stack.
-fn add_of_operation(line: &mut Line, words: &mut Words, asked: &Asked, world: &World, word: &str) {
+fn add_of_operation(
+    line: &mut Line,
+    words: &mut Words,
+    asked: &Asked,
+    world: &mut World,
+    word: &str,
+) {
     match word {
         "next" | "due" => {
             let number = number_asked(words, asked.journal);
@@ -179,7 +185,12 @@ fn add_of_operation(line: &mut Line, words: &mut Words, asked: &Asked, world: &W
 }
 
 /// The answer to a question over a world.
-fn over(alloc: Global, asked: &Asked, world: &World, question: &str) -> Result<String, AllocError> {
+fn over(
+    alloc: Global,
+    asked: &Asked,
+    world: &mut World,
+    question: &str,
+) -> Result<String, AllocError> {
     let mut words = Words::new(alloc, question);
     let mut line = Line::new(alloc);
     add_answer(&mut line, &mut words, asked, world);
@@ -197,11 +208,11 @@ fn over_folded(
     folded: &mut Option<World>,
     question: &str,
 ) -> Result<String, AllocError> {
-    let world = match folded.take() {
+    let mut world = match folded.take() {
         Some(world) => world,
         None => fold(alloc, asked.journal.try_clone(alloc)?)?,
     };
-    let text = over(alloc, asked, &world, question);
+    let text = over(alloc, asked, &mut world, question);
     drop(mem::replace(folded, Some(world)));
     text
 }

@@ -127,11 +127,11 @@ fn add_next(
     line: &mut Line,
     words: &mut Words,
     library: &Library,
-    world: &World,
+    world: &mut World,
     number: u64,
     out: &[u64],
 )
-    requires { IsInProgress world.now.world number }
+    requires { IsInProgress world.old.world number }
 {
     let homes = homes_of(words, library, world, out);
     match next(line.alloc, world, number, &homes) {
@@ -150,11 +150,11 @@ fn add_due(
     line: &mut Line,
     words: &mut Words,
     library: &Library,
-    world: &World,
+    world: &mut World,
     number: u64,
     out: &[u64],
 )
-    requires { IsInProgress world.now.world number }
+    requires { IsInProgress world.old.world number }
 {
     let schemas = schemas_in(words, library, world);
     match due(line.alloc, world, number, out, &schemas) {
@@ -201,7 +201,7 @@ pub fn add_coming(
     line: &mut Line,
     words: &mut Words,
     library: &Library,
-    world: &World,
+    world: &mut World,
     word: &str,
     number: u64,
 ) {

@@ -21,8 +21,8 @@ impl Stepped {
     }
 
     /// The world.
-    pub fn world(&self) -> &World {
-        &self.world
+    pub fn world(&mut self) -> &mut World {
+        &mut self.world
     }
 
     /// Steps over an entry that is written.

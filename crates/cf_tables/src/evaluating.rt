@@ -5,7 +5,9 @@ use crate::fault::eval_fault;
 use crate::heading::Kind;
 use crate::json::{push_object, push_value};
 use crate::told::Told;
-use cf_eval::{Env, EvalFault, Got, OutputSight, Sight, conditions, eval, eval_props};
+use cf_eval::{
+    Env, EvalFault, Got, OutputSight, SeenAt, Sight, Sights, conditions, eval, eval_props,
+};
 use cf_rows::Memory;
 use cf_template::read_template;
 use cf_tree::{
@@ -14,36 +16,54 @@ use cf_tree::{
 };
 use std::alloc::Global;
 
-/// What an evaluation looks into.
+/// A root of which no resource is seen.
 #[derive(Drop)]
-struct World {
-    conds: CondMap,
-    seen: ByName<Sight>,
-    imports: Pairs,
-    pseudo: Dict,
+struct Blank {
+    made: ByName<bool>,
+    seen: ByName<SeenAt>,
     stack: Txt,
 }
 
-impl World {
-    fn new(memory: &mut Memory, conds: CondMap) -> World {
-        World {
-            conds,
+impl Blank {
+    fn new(memory: &mut Memory) -> Blank {
+        Blank {
+            made: ByName::new(memory.alloc),
             seen: ByName::new(memory.alloc),
-            imports: Pairs::new(memory.alloc),
-            pseudo: pseudo(memory),
             stack: memory.text(""),
         }
     }
+}
 
-    fn env<'a>(&'a self, bound: &'a Bound, mappings: &'a Mappings) -> Env<'a> {
+/// What an evaluation looks into.
+#[derive(Drop)]
+struct World<'a> {
+    conds: CondMap,
+    sights: Sights<'a>,
+    imports: Pairs,
+    pseudo: Dict,
+    stack: &'a Txt,
+}
+
+impl<'a> World<'a> {
+    fn new(memory: &mut Memory, conds: CondMap, blank: &'a Blank) -> World<'a> {
+        World {
+            conds,
+            sights: Sights::new(memory.alloc, &blank.made, &blank.stack, &blank.seen),
+            imports: Pairs::new(memory.alloc),
+            pseudo: pseudo(memory),
+            stack: &blank.stack,
+        }
+    }
+
+    fn env<'b>(&'b self, bound: &'b Bound, mappings: &'b Mappings) -> Env<'b> {
         Env {
             bound,
             mappings,
             conds: &self.conds,
-            seen: &self.seen,
+            seen: &self.sights,
             imports: &self.imports,
             pseudo: &self.pseudo,
-            stack: &self.stack,
+            stack: self.stack,
         }
     }
 }
@@ -92,9 +112,11 @@ pub fn verdicts(
 pub fn evaluated(told: &mut Told, kind: Kind, template: &Template, bound: &Bound) {
     match verdicts(&mut told.memory, template, bound) {
         Ok(conds) => {
-            let mut world = World::new(&mut told.memory, conds);
+            let blank = Blank::new(&mut told.memory);
+            let mut world = World::new(&mut told.memory, conds, &blank);
             told_over(told, kind, template, bound, &mut world);
             drop(world);
+            drop(blank);
         }
         Err(fault) => {
             eval_fault(told, &fault);
@@ -177,7 +199,8 @@ fn worths(told: &mut Told, props: &ExprDict, env: &Env) {
 /// Puts what the resources show into the world. They themselves see nothing.
 fn see(memory: &mut Memory, template: &Template, bound: &Bound, world: &mut World) {
     let conds = CondMap::new(memory.alloc);
-    let dark = World::new(memory, conds);
+    let blank = Blank::new(memory);
+    let dark = World::new(memory, conds, &blank);
     see_all(
         memory,
         template,
@@ -185,6 +208,7 @@ fn see(memory: &mut Memory, template: &Template, bound: &Bound, world: &mut Worl
         &dark.env(bound, &template.mappings),
     );
     drop(dark);
+    drop(blank);
 }
 
 fn see_all(memory: &mut Memory, template: &Template, world: &mut World, env: &Env) {
@@ -201,7 +225,7 @@ fn see_one(memory: &mut Memory, resource: &Res, world: &mut World, env: &Env) {
     } else {
         let name = memory.text(resource.name.as_str());
         let sight = sight(memory, resource, &world.conds, env);
-        memory.note(world.seen.insert(name, sight).is_err());
+        memory.note(world.sights.put(name, sight).is_err());
     }
 }
 
@@ -310,10 +334,12 @@ pub fn object_of(memory: &mut Memory, text: &str) -> Dict {
 fn object_in(memory: &mut Memory, template: &Template) -> Dict {
     let bound = Bound::new(memory.alloc);
     let conds = CondMap::new(memory.alloc);
-    let world = World::new(memory, conds);
+    let blank = Blank::new(memory);
+    let world = World::new(memory, conds, &blank);
     let env = world.env(&bound, &template.mappings);
     let object = object_over(memory.alloc, template, &env);
     drop(world);
+    drop(blank);
     object
 }
 

@@ -1,5 +1,5 @@
 -- What a deployment comes to, from what its parts came to.
-use Rattle.std.proofs.Common.{◌≡◌, inl, inr, ℕ, ◌+◌, List, Some, None, Result, Ok, Err, refl, sym, subst}
+use Rattle.std.proofs.Common.{◌≡◌, inl, inr, ℕ, ◌+◌, List, [], Some, None, Result, Ok, Err, refl, sym, subst}
 use Rattle.cf_tree.specs.Counts.{HasRisen}
 use Rattle.cf_tree.specs.declared.source.Source.{Source}
 use Rattle.cf_schema.specs.declared.described.Schema.{Schema}
@@ -16,6 +16,8 @@ use Rattle.cf_face.specs.declared.exit.StackFault.TheVariants.{WrongStatus}
 use Rattle.cf_top.specs.declared.book.Halt.{Halt}
 use Rattle.cf_top.specs.Book.{world_of}
 use Rattle.cf_top.specs.Scene.{Scene}
+use Rattle.cf_plan.specs.Follow.{MayFollow}
+use Rattle.cf_top.specs.Crash.{Follows}
 use Rattle.cf_top.specs.Creating.{Begins, CreateTells, next_number}
 use Rattle.cf_top.specs.Opening.{exit_of}
 use Rattle.cf_top.specs.Deployment.{DeploysAs, FetchesAs, IsApart, IsBegunBy, IsFound, IsQuiet, IsRefusedFor, IsUnasked, Shelf, barring}
@@ -95,6 +97,12 @@ module _ (o : Shelf) (schemas : List Schema) (s : Scene) (name : List ℕ) (choi
   -- what was found begins the creation
   pub found_begins : (begun : Entry) → FetchesAs o schemas x name choice (Ok begun) → Begins (next_number s.entries) name begun
   found_begins begun f = begins_it o s.schemas (world_of s.entries) name choice begun (fetched_now (Ok begun) f)
+
+  -- which may follow
+  pub found_follows : (begun : Entry) → FetchesAs o schemas x name choice (Ok begun) → Follows s.entries begun
+  found_follows begun f =
+      let now = fetched_now (Ok begun) f in
+      (s.schemas, [], subst (λ (e : Entry). MayFollow s.schemas (world_of s.entries) [] e) (sym now.3.2) now.3.1.follows)
 
   pub new_deployed : (begun : Entry) → barring name (world_of s.entries) ≡ None → FetchesAs o schemas x name choice (Ok begun) → CreateTells s begun (Ok tt) → IsApart s → DeploysAs o s name choice (Ok tt)
   new_deployed begun free f t l = deployed o s name choice free begun (fetched_now (Ok begun) f) t l

@@ -47,7 +47,7 @@ token_is number token x p is_open = by_stack (stack_of_operation number x) is_op
   by_stack None e = let no : ⊥ = cc in absurd no
   by_stack (Some s) e = sym (eqb-true token p.token (found_passes (has_token token) s.1.tokens p e))
 
-counted_as : (r : Reply) (before after : ℕ) → HasCause before after (answer_as r) → IsCounted r before after
+pub counted_as : (r : Reply) (before after : ℕ) → HasCause before after (answer_as r) → IsCounted r before after
 counted_as (reply.Success physical attrs) before after h = h.0
 counted_as (reply.Failed code) before after h = h
 counted_as reply.Doubt before after h = h
@@ -58,7 +58,7 @@ pub concluded :
     (x : Result (Unit {0}) Halt) → answer_as r ≡ a → AppendTells tells bytes room faults faults' es more (entry.Outcome number token r before after) x
     → ConcludeTells tells bytes room faults faults' es more number token a before after x
 concluded tells bytes room faults faults' es more number token a r before after (Ok done) e t = (r, e, t)
-concluded tells bytes room faults faults' es more number token a r before after (Err h) e t = inr (r, e, t.1)
+concluded tells bytes room faults faults' es more number token a r before after (Err h) e t = (t.0, inr (r, e, t.1))
 
 -- a call that was made
 module _ (follows : AnswerFollows) (s : Scene) (number token : ℕ) (p : Pending) (k : ℕ) (a : Answer) (before after : ℕ) (is_open : open_call number token (world_of s.entries) ≡ Some p)
@@ -86,8 +86,9 @@ module _ (follows : AnswerFollows) (s : Scene) (number token : ℕ) (p : Pending
       (x : Result (Unit {0}) Halt) → ConcludeTells s.tells s.bytes' s.room s.faults s.faults' s.entries s.entries' number token a before after x
       → CallEnds s number token x
   called (Ok done) (r, e, w) = (r, before, after, is_done r e, w)
-  called (Err h) (inl c) = inr (token, p, before, after, a, is_open, asked a refl, inl c)
-  called (Err h) (inr (r, e, at)) = inr (token, p, before, after, a, is_open, asked a refl, inr (entry.Outcome number token r before after, is_done r e, refl, at))
+  called (Err h) (kept, inl c) = (kept, inr (token, p, before, after, a, is_open, asked a refl, inl c))
+  called (Err h) (kept, inr (r, e, at)) =
+      (kept, inr (token, p, before, after, a, is_open, asked a refl, inr (entry.Outcome number token r before after, is_done r e, refl, at)))
 
 -- entries of two parts
 all_of_both : (P : Entry → Type 0) (es fs : List Entry) → ((e : Entry) → In e es → P e) → ((e : Entry) → In e fs → P e) → (e : Entry) → In e (es ++ fs) → P e
@@ -145,11 +146,12 @@ cut_here s number h c = record {
 
 -- it halts later than it began
 pub later_halts : (s : Scene) (faults_now number : ℕ) (h : Halt) → s.faults ≤ faults_now → Halts (record s { faults = faults_now }) number h → Halts s number h
-later_halts s faults_now number h k (inl (t, c, inl z)) = inl (t, c, inl z)
-later_halts s faults_now number h k (inl (t, c, inr (e, m, o, at))) = inl (t, c, inr (e, m, o, halts_since s.tells s.bytes' s.room s.faults faults_now s.faults' s.entries e h k at))
-later_halts s faults_now number h k (inr (token, p, b, d, a, is_open, asked, inl z)) = inr (token, p, b, d, a, is_open, asked, inl z)
-later_halts s faults_now number h k (inr (token, p, b, d, a, is_open, asked, inr (e, m, o, at))) =
-    inr (token, p, b, d, a, is_open, asked, inr (e, m, o, halts_since s.tells s.bytes' s.room s.faults faults_now s.faults' s.entries e h k at))
+later_halts s faults_now number h k (q, inl (t, c, inl z)) = (q, inl (t, c, inl z))
+later_halts s faults_now number h k (q, inl (t, c, inr (e, m, o, at))) =
+    (q, inl (t, c, inr (e, m, o, halts_since s.tells s.bytes' s.room s.faults faults_now s.faults' s.entries e h k at)))
+later_halts s faults_now number h k (q, inr (token, p, b, d, a, is_open, asked, inl z)) = (q, inr (token, p, b, d, a, is_open, asked, inl z))
+later_halts s faults_now number h k (q, inr (token, p, b, d, a, is_open, asked, inr (e, m, o, at))) =
+    (q, inr (token, p, b, d, a, is_open, asked, inr (e, m, o, halts_since s.tells s.bytes' s.room s.faults faults_now s.faults' s.entries e h k at)))
 
 halts_as :
     (s : Scene) (es : List Entry) (room_now faults_now number : ℕ) (h : Halt) → es ≡ s.entries → room_now ≡ s.room → s.faults ≤ faults_now
@@ -315,7 +317,7 @@ module _ (laws : Laws) (s : Scene) (number : ℕ) (goes : GoesOn number (world_o
   note_halts n h c told counts t = by_entry (entry_of number n) refl t where
     by_entry : (o : Option Entry) → entry_of number n ≡ o → NoteTells s.tells s.bytes' s.room s.faults s.faults' s.entries s.entries' o (Err h) → WasCutShort s number h
     by_entry None q f = absurd f
-    by_entry (Some e) q f = cut_here s number h (inl (told, counts, inr (e, may n e c q, note_own n e c (subst (λ o. In e (noted o)) (sym q) here), f.1)))
+    by_entry (Some e) q f = cut_here s number h (f.0, inl (told, counts, inr (e, may n e c q, note_own n e c (subst (λ o. In e (noted o)) (sym q) here), f.1)))
 
   module _ (n : Next) (es : List Entry) (room_now faults_now : ℕ) (c : Comes n) (e : es ≡ s.entries ++ note_of n) where
     abbrev behind_note : Scene
@@ -458,5 +460,7 @@ module _ (s : Scene) (number : ℕ) (labels : List (List ℕ)) (told_now : Told)
       }
 
 -- for want of memory nothing more is done
-pub no_memory : (s : Scene) (number : ℕ) → s.told' ≡ s.told → s.counts' ≡ s.counts → Holds s.tells s.bytes' s.entries → WasCutShort s number halt.NoMemory
-no_memory s number told counts holds = cut_here s number halt.NoMemory (inl (told, counts, inl (refl, holds)))
+pub no_memory :
+    (s : Scene) (number : ℕ) → s.told' ≡ s.told → s.counts' ≡ s.counts → s.entries' ≡ s.entries → Holds s.tells s.bytes' s.entries
+    → WasCutShort s number halt.NoMemory
+no_memory s number told counts kept holds = cut_here s number halt.NoMemory (kept, inl (told, counts, inl (refl, holds)))

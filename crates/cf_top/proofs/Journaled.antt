@@ -120,6 +120,15 @@ own_more number [] e h o x (there i) = elim i [ ]
 own_more number (f ∷ es) e h o x here = h f here
 own_more number (f ∷ es) e h o x (there i) = own_more number es e (λ y j. h y (there j)) o x i
 
+-- sound is a journal with its opening, where no lane was called
+pub opening_sound : (m : Meeting) (old : List Entry) → AreAsMany m → MayOpen m old → AreQuiet m → IsSound old m.told → IsSound (open_over m old) m.told'
+opening_sound m old k may q sound =
+    subst (IsSound (open_over m old)) (sym q.0) (record {
+      legal = opened_legal m old k.0 may sound.legal;
+      tell = sound.tell;
+      fresh = opened_fresh m old m.told sound.fresh;
+    })
+
 module _ (laws : Laws) (m : Meeting) (as_many : AreAsMany m) (name : List ℕ) (choice : Choice) (source : Source) (old now : List Entry) (faults : ℕ)
     (was : Holds m.tells m.bytes old) (may : MayOpen m old) (named : IsTrue (list_all is_lane_name m.names))
     (found : IsFound m.shelf (opened m old faults now) name choice source) where
@@ -239,7 +248,7 @@ module _ (laws : Laws) (m : Meeting) (as_many : AreAsMany m) (name : List ℕ) (
       ]
 
   cut_short : (h : Halt) → WasCutShort s number h → HasRun m name choice
-  cut_short h c = elim c.halts [ inl b ↦ cut_before c.es c.told c.counts h c.wrote b | inr b ↦ cut_in_call c.es c.told c.counts h c.wrote b ]
+  cut_short h c = elim c.halts.1 [ inl b ↦ cut_before c.es c.told c.counts h c.wrote b | inr b ↦ cut_in_call c.es c.told c.counts h c.wrote b ]
 
   -- before the beginning
   at_begin : (h : Halt) → AreQuiet m → HaltsAt m.tells m.bytes' m.room faults m.faults' (open_over m old) (begun_in m old name source) h → HasOpened m ⊎ HasRun m name choice
@@ -253,6 +262,34 @@ module _ (laws : Laws) (m : Meeting) (as_many : AreAsMany m) (name : List ℕ) (
             inr (has_run [] m.told m.counts none (subst (Holds m.tells m.bytes') (sym (append-nil s.entries)) h)
             (λ sound. subst (IsSound (s.entries ++ [])) (sym q.0) (sound_run [] m.told m.counts none sound)))
       ]
+
+  -- what was acknowledged is sound with the lanes as they are given back, wherever the run halts
+  cut_known : (h : Halt) → WasCutShort s number h → IsSound old m.told → IsSound now m.told'
+  cut_known h c sound =
+      let es = c.es in
+      let kept : now ≡ s.entries ++ es = c.halts.0 in
+      subst (λ (l : List Entry). IsSound l m.told') (sym kept)
+      (elim c.halts.1 [
+        | inl b ↦ subst (IsSound (s.entries ++ es)) (sym b.0) (sound_run es c.told c.counts c.wrote sound)
+        | inr b ↦
+            elim b.7 [
+              | inl x ↦
+                  subst (IsSound (s.entries ++ es)) (sym (unmoved m.names c.told m.told' c.counts m.counts' b.1 b.4 b.2 b.3 x.0 b.6))
+                  (sound_run es c.told c.counts c.wrote sound)
+              | inr x ↦ sound_call es c.told m.told' c.counts m.counts' x.0 c.wrote x.1 x.2 sound
+            ]
+      ])
+
+  pub halted_known : (h : Halt) → CreatesBy (opened m old faults now) name source (Err h) → IsSound old m.told → IsSound now m.told'
+  halted_known h (inl t) sound =
+      let kept : now ≡ open_over m old = t.3 in
+      subst (λ (l : List Entry). IsSound l m.told') (sym kept) (opening_sound m old as_many may (t.0, t.1) sound)
+  halted_known h (inr t) sound = cut_known h t sound
+
+  pub whole_known : CreatesBy (opened m old faults now) name source (Ok tt) → IsSound old m.told → IsSound now m.told'
+  whole_known t sound =
+      let kept : now ≡ s.entries ++ t.0 = t.3 in
+      subst (λ (l : List Entry). IsSound l m.told') (sym kept) (sound_run t.0 m.told' m.counts' t.1 sound)
 
   pub halted : (h : Halt) → CreatesBy (opened m old faults now) name source (Err h) → HasOpened m ⊎ HasRun m name choice
   halted h (inl t) = at_begin h (t.0, t.1) t.2
@@ -286,10 +323,10 @@ journals laws m k words stack outcome (inr (inr (choice, s, r))) =
     elim (came laws m k words stack choice outcome r) [ inl kept ↦ inl kept | inr x ↦ inr (stack, choice, s, x) ]
 
 -- sound they stay
-only_old : {old old' : List Entry} {r : Result (List Entry) ℕ} → r ≡ Ok old → r ≡ Ok old' → old' ≡ old
+pub only_old : {old old' : List Entry} {r : Result (List Entry) ℕ} → r ≡ Ok old → r ≡ Ok old' → old' ≡ old
 only_old q r = cc
 
-told_stays : (m : Meeting) (es : List Entry) → AreQuiet m → IsSound es m.told → IsSound es m.told'
+pub told_stays : (m : Meeting) (es : List Entry) → AreQuiet m → IsSound es m.told → IsSound es m.told'
 told_stays m es q sound = subst (IsSound es) (sym q.0) sound
 
 sound_opened : (m : Meeting) → AreAsMany m → HasOpened m → StaySound m
@@ -298,15 +335,7 @@ sound_opened m k h tells old was sound =
     let before : IsSound h.old m.told = subst (λ (es : List Entry). IsSound es m.told) (sym same) sound in
     elim h.stays [
       | inl x ↦ (h.old, x tells, told_stays m h.old h.quiet before)
-      | inr x ↦ (
-        open_over m h.old,
-        x.1 tells,
-        told_stays m (open_over m h.old) h.quiet (record {
-          legal = opened_legal m h.old k.0 x.0 before.legal;
-          tell = before.tell;
-          fresh = opened_fresh m h.old m.told before.fresh;
-        }),
-      )
+      | inr x ↦ (open_over m h.old, x.1 tells, opening_sound m h.old k x.0 h.quiet before)
     ]
 
 pub stay_sound : (m : Meeting) (words : List (List ℕ)) → AreAsMany m → Journals m words → StaySound m

@@ -22,3 +22,6 @@ pub mod Lines
 pub mod Over
 pub mod Driven
 pub mod Created
+pub mod Crashes
+pub mod Doubted
+pub mod Surviving

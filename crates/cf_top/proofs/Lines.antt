@@ -195,7 +195,7 @@ library_rose m p name choice (inr (inr w)) c = elim w.1.came [ inl x ↦ c.libra
 -- a run that halted at the disk's fault
 cut_rose : (s : Scene) (number : ℕ) → WasCutShort s number halt.DiskFault → HasFaulted s.faults s.faults'
 cut_rose s number w =
-    elim w.halts [
+    elim w.halts.1 [
       | inl b ↦ elim b.2 [ inl x ↦ (let no : ⊥ = cc in absurd no) | inr x ↦ x.3.0 ]
       | inr b ↦ elim b.7 [ inl x ↦ (let no : ⊥ = cc in absurd no) | inr x ↦ x.3.0 ]
     ]

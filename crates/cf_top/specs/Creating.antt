@@ -37,7 +37,9 @@ behind s begun = record s { entries = s.entries ++ begun ∷ [] }
 
 -- the beginning was not written, and no lane was called
 abbrev pub WasNotBegun : Scene → Entry → Halt → Type 0
-WasNotBegun s begun h = (s.told' ≡ s.told) × (s.counts' ≡ s.counts) × HaltsAt s.tells s.bytes' s.room s.faults s.faults' s.entries begun h
+WasNotBegun s begun h =
+    (s.told' ≡ s.told) × (s.counts' ≡ s.counts)
+    × HaltsAt s.tells s.bytes' s.room s.faults s.faults' s.entries begun h × (s.entries' ≡ s.entries)
 
 -- the operation was begun by this entry and driven to its end; or its beginning was not written, or it was cut short behind it
 abbrev pub CreateTells : Scene → Entry → Result (Unit {0}) Halt → Type 0

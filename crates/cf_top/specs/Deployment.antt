@@ -70,7 +70,7 @@ barring name x = option_and_then (λ st. barred st.status) (stack_at name x)
 
 -- the lanes and the journal are as they were
 abbrev pub IsQuiet : Scene → Type 0
-IsQuiet s = (s.told' ≡ s.told) × (s.counts' ≡ s.counts) × Holds s.tells s.bytes' s.entries
+IsQuiet s = (s.told' ≡ s.told) × (s.counts' ≡ s.counts) × Holds s.tells s.bytes' s.entries × (s.entries' ≡ s.entries)
 
 -- No stack of the name bars it, and the template was found there and is not refused; its creation begins with this source.
 pub record IsFound (o : Shelf) (s : Scene) (name : List ℕ) (choice : Choice) (source : Source) : Type 0 where

@@ -46,8 +46,9 @@ HaltsInCall s number h =
     ⊎ ((e : Entry) × IsDone s.schemas s.names (world_of s.entries) s.told s.told' s.counts s.counts' e × IsOwn number e
     × HaltsAt s.tells s.bytes' s.room s.faults s.faults' s.entries e h))
 
+-- it halts at one of these, and the entries are those that were acknowledged
 abbrev pub Halts : Scene → ℕ → Halt → Type 0
-Halts s number h = HaltsBefore s number h ⊎ HaltsInCall s number h
+Halts s number h = (s.entries' ≡ s.entries) × (HaltsBefore s number h ⊎ HaltsInCall s number h)
 
 -- the run was cut short: some entries were written, and it halted
 pub record WasCutShort (s : Scene) (number : ℕ) (h : Halt) : Type 0 where
@@ -99,13 +100,18 @@ abbrev pub RepliesAs : Answer → Option Reply → Type 0
 RepliesAs a (Some r) = answer_as r ≡ a
 RepliesAs a None = a ≡ answer.NoMemory
 
+-- the entry is the outcome of an answer
+abbrev pub IsOutcome : ℕ → ℕ → Answer → ℕ → ℕ → Entry → Type 0
+IsOutcome number token a before after e = (r : Reply) × (answer_as r ≡ a) × (e ≡ entry.Outcome number token r before after)
+
 -- the outcome of an answer is written; or the run halts before it, and of want of memory nothing is written
 abbrev pub ConcludeTells : Bool → List ℕ → ℕ → ℕ → ℕ → List Entry → List Entry → ℕ → ℕ → Answer → ℕ → ℕ → Result (Unit {0}) Halt → Type 0
 ConcludeTells tells bytes room faults faults' es es' number token a before after (Ok done) =
     (r : Reply) × (answer_as r ≡ a) × (es' ≡ es ++ entry.Outcome number token r before after ∷ [])
 ConcludeTells tells bytes room faults faults' es es' number token a before after (Err h) =
-    ((a ≡ answer.NoMemory) × (h ≡ halt.NoMemory) × Holds tells bytes es)
-    ⊎ ((r : Reply) × (answer_as r ≡ a) × HaltsAt tells bytes room faults faults' es (entry.Outcome number token r before after) h)
+    (es' ≡ es)
+    × (((a ≡ answer.NoMemory) × (h ≡ halt.NoMemory) × Holds tells bytes es)
+    ⊎ ((r : Reply) × (answer_as r ≡ a) × HaltsAt tells bytes room faults faults' es (entry.Outcome number token r before after) h))
 
 -- the call of an open token was made, and its outcome written; or the run halted there
 abbrev pub CallEnds : Scene → ℕ → ℕ → Result (Unit {0}) Halt → Type 0

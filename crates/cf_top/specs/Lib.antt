@@ -12,3 +12,5 @@ pub mod Deployment
 pub mod Meeting
 pub mod Alone
 pub mod Answer
+pub mod Crash
+pub mod Surviving

@@ -5,6 +5,7 @@ ghost use Rattle.cf_entry.specs.Entry.{IsProper, spelling_of};
 ghost use Rattle.cf_stacks.specs.Room.{HasRoom};
 ghost use Rattle.cf_journal.specs.Record.{Stands, is_broken, journal_length, spare_of};
 ghost use Rattle.cf_top.specs.Book.{IsOpen, Holds, AppendTells, world_of};
+ghost use Rattle.cf_top.specs.Crash.{Passes};
 
 use cf_disk::Disk;
 use cf_entry::{Entry, entry_size};
@@ -36,7 +37,8 @@ pub enum Halt {
 /// Appends an entry to the journal of the disk and to the book's entries, and steps the world over it.
 ///
 /// After `Full` and `NoMemory` the disk has its old entries. After `DiskFault` it has the entry or not, and the journal
-/// must be recovered again. After each of these nothing is said of the world.
+/// must be recovered again: a crash now leaves the old entries, with the new one or without it (`passes`). After each of
+/// these the book has its old entries, and nothing is said of the world.
 pub fn append<D: Disk>(
     alloc: Global,
     book: &mut Book,
@@ -48,6 +50,9 @@ pub fn append<D: Disk>(
     ensures open { OnOk result (IsOpen D.tells D.seen D.may_leave D.room_of book.new disk.new) }
     ensures room { D.room_of disk.new ≡ D.room_of disk.old }
     ensures count { D.count disk.old ≤ D.count disk.new }
+    ensures passes { Passes D.tells D.may_leave D.moment D.left_since disk.old disk.new
+        book.old.entries.items book.new.entries.items
+        (λ e. e ≡ entry) result }
     ensures tells { AppendTells D.tells (D.seen disk.new) (D.room_of disk.old) (D.count disk.old) (D.count disk.new)
         book.old.entries.items book.new.entries.items entry result }
 {
@@ -92,6 +97,9 @@ fn write<D: Disk>(book: &mut Book, disk: &mut D, entry: Entry, copy: Entry) -> R
     ensures open { OnOk result (IsOpen D.tells D.seen D.may_leave D.room_of book.new disk.new) }
     ensures room { D.room_of disk.new ≡ D.room_of disk.old }
     ensures count { D.count disk.old ≤ D.count disk.new }
+    ensures passes { Passes D.tells D.may_leave D.moment D.left_since disk.old disk.new
+        book.old.entries.items book.new.entries.items
+        (λ e. e ≡ entry) result }
     ensures tells { AppendTells D.tells (D.seen disk.new) (D.room_of disk.old) (D.count disk.old) (D.count disk.new)
         book.old.entries.items book.new.entries.items entry result }
 {

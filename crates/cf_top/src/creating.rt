@@ -4,6 +4,7 @@ ghost use Rattle.cf_stacks.specs.Apart.{AreApart};
 ghost use Rattle.cf_plan.specs.Going.{IsOver};
 ghost use Rattle.cf_top.specs.Book.{IsOpen, world_of};
 ghost use Rattle.cf_top.specs.Lanes.{one_of_each};
+ghost use Rattle.cf_top.specs.Crash.{Follows, Passes};
 ghost use Rattle.cf_top.specs.Creating.{Begins, CreateTells, next_number};
 
 use crate::apart::is_apart;
@@ -48,11 +49,15 @@ pub fn create<D: Disk, H: Handler>(
 ) -> Result<(), Halt>
     requires open { IsOpen D.tells D.seen D.may_leave D.room_of book.old disk.old }
     requires begins { (name : List ℕ) × Begins (next_number book.old.entries.items) name begun }
+    requires follows { Follows book.old.entries.items begun }
     ensures names { map H.label lanes.new.items ≡ map H.label lanes.old.items }
     ensures schemas { map H.schema_of lanes.new.items ≡ map H.schema_of lanes.old.items }
     ensures open { OnOk result (IsOpen D.tells D.seen D.may_leave D.room_of book.new disk.new) }
     ensures room { D.room_of disk.new ≡ D.room_of disk.old }
     ensures count { D.count disk.old ≤ D.count disk.new }
+    ensures passes { Passes D.tells D.may_leave D.moment D.left_since disk.old disk.new
+        book.old.entries.items book.new.entries.items
+        (Follows book.new.entries.items) result }
     ensures tells { CreateTells (record {
       names = map H.label lanes.old.items;
       schemas = one_of_each (map H.schema_of lanes.old.items);

@@ -5,6 +5,7 @@ ghost use Rattle.cf_face.specs.declared.exit.StackFault.TheVariants.{WrongStatus
 ghost use Rattle.cf_plan.specs.Going.{IsOver};
 ghost use Rattle.cf_top.specs.Book.{IsOpen, world_of};
 ghost use Rattle.cf_top.specs.Lanes.{one_of_each};
+ghost use Rattle.cf_top.specs.Crash.{Follows, PassesTo};
 ghost use Rattle.cf_top.specs.Creating.{next_number};
 ghost use Rattle.cf_top.specs.Deployment.{DeploysAs, FetchesAs, barred, barring};
 
@@ -94,6 +95,9 @@ fn deploy_new<L: Library, D: Disk, H: Handler>(
     ensures open { OnOk result (IsOpen D.tells D.seen D.may_leave D.room_of book.new disk.new) }
     ensures over { OnOk result (IsOver (next_number book.old.entries.items) stack.now (world_of book.new.entries.items)) }
     ensures count { D.count disk.old ≤ D.count disk.new }
+    ensures passes { PassesTo D.tells D.may_leave D.moment D.left_since disk.old disk.new
+        book.old.entries.items book.new.entries.items
+        (Follows book.new.entries.items) result }
     ensures tells { DeploysAs (record {
       texts = L.texts library.old;
       faults = L.count library.old;
@@ -166,6 +170,9 @@ pub fn deploy_in<L: Library, D: Disk, H: Handler>(
     ensures open { OnOk result (IsOpen D.tells D.seen D.may_leave D.room_of book.new disk.new) }
     ensures over { OnOk result (IsOver (next_number book.old.entries.items) stack.now (world_of book.new.entries.items)) }
     ensures count { D.count disk.old ≤ D.count disk.new }
+    ensures passes { PassesTo D.tells D.may_leave D.moment D.left_since disk.old disk.new
+        book.old.entries.items book.new.entries.items
+        (Follows book.new.entries.items) result }
     ensures tells { DeploysAs (record {
       texts = L.texts library.old;
       faults = L.count library.old;

@@ -7,16 +7,17 @@ ghost use Rattle.cf_plan.specs.Follow.{MayFollow};
 ghost use Rattle.cf_effect.specs.declared.held.Pending.{Pending};
 ghost use Rattle.cf_plan.specs.Run.{MovesAt, open_call};
 ghost use Rattle.cf_effect.specs.Words.{has_token};
-ghost use Rattle.cf_next.specs.Chosen.{IsNext, entry_of, leases_of, schemas_of};
+ghost use Rattle.cf_next.specs.Chosen.{IsInProgress, IsNext, entry_of, leases_of, schemas_of};
 ghost use Rattle.cf_top.specs.Book.{IsOpen, world_of};
 ghost use Rattle.cf_top.specs.Lanes.{homes_of};
-ghost use Rattle.cf_top.specs.Driving.{CallEnds, CallsEnd, ConcludeTells, DriveTells, GoesOn, NoteTells, RepliesAs, TakeTells, called_by, taken_by};
+ghost use Rattle.cf_top.specs.Crash.{Follows, Passes};
+ghost use Rattle.cf_top.specs.Driving.{CallEnds, CallsEnd, ConcludeTells, DriveTells, GoesOn, IsOutcome, NoteTells, RepliesAs, TakeTells, called_by, taken_by};
 
 use crate::book::{Book, Halt, append};
 use cf_disk::Disk;
 use cf_entry::{Entry, Reply};
 use cf_handler::Handler;
-use cf_next::{Home, Homes, Next, next};
+use cf_next::{Home, Homes, Next, NextFault, next};
 use cf_plan::{answer_follows, creation_goes_on, creation_is_proper, intent_opens};
 use cf_schema::Schema;
 use cf_stacks::{Pending, World};
@@ -147,6 +148,9 @@ fn conclude<D: Disk>(
     ensures open { OnOk result (IsOpen D.tells D.seen D.may_leave D.room_of book.new disk.new) }
     ensures room { D.room_of disk.new ≡ D.room_of disk.old }
     ensures count { D.count disk.old ≤ D.count disk.new }
+    ensures passes { Passes D.tells D.may_leave D.moment D.left_since disk.old disk.new
+        book.old.entries.items book.new.entries.items
+        (IsOutcome number token told.answer told.before told.after) result }
     ensures tells { ConcludeTells D.tells (D.seen disk.new) (D.room_of disk.old) (D.count disk.old) (D.count disk.new)
         book.old.entries.items book.new.entries.items
         number token told.answer told.before told.after result }
@@ -207,6 +211,9 @@ fn call<D: Disk, H: Handler>(
     ensures open { OnOk result (IsOpen D.tells D.seen D.may_leave D.room_of book.new disk.new) }
     ensures room { D.room_of disk.new ≡ D.room_of disk.old }
     ensures count { D.count disk.old ≤ D.count disk.new }
+    ensures passes { Passes D.tells D.may_leave D.moment D.left_since disk.old disk.new
+        book.old.entries.items book.new.entries.items
+        (Follows book.new.entries.items) result }
     ensures tells { (schemas : List Schema) → CallEnds (record {
       names = map H.label lanes.old.items;
       schemas = schemas;
@@ -253,6 +260,9 @@ fn call_if_any<D: Disk, H: Handler>(
     ensures open { OnOk result (IsOpen D.tells D.seen D.may_leave D.room_of book.new disk.new) }
     ensures room { D.room_of disk.new ≡ D.room_of disk.old }
     ensures count { D.count disk.old ≤ D.count disk.new }
+    ensures passes { Passes D.tells D.may_leave D.moment D.left_since disk.old disk.new
+        book.old.entries.items book.new.entries.items
+        (Follows book.new.entries.items) result }
     ensures tells { (schemas : List Schema) → CallsEnd (record {
       names = map H.label lanes.old.items;
       schemas = schemas;
@@ -361,6 +371,9 @@ fn note<D: Disk>(
     ensures open { OnOk result (IsOpen D.tells D.seen D.may_leave D.room_of book.new disk.new) }
     ensures room { D.room_of disk.new ≡ D.room_of disk.old }
     ensures count { D.count disk.old ≤ D.count disk.new }
+    ensures passes { Passes D.tells D.may_leave D.moment D.left_since disk.old disk.new
+        book.old.entries.items book.new.entries.items
+        (λ e. entry ≡ Some e) result }
     ensures tells { NoteTells D.tells (D.seen disk.new) (D.room_of disk.old) (D.count disk.old) (D.count disk.new) book.old.entries.items
         book.new.entries.items entry result }
 {
@@ -389,6 +402,9 @@ fn take_step<D: Disk, H: Handler>(
     ensures open { OnOk result (IsOpen D.tells D.seen D.may_leave D.room_of book.new disk.new) }
     ensures room { D.room_of disk.new ≡ D.room_of disk.old }
     ensures count { D.count disk.old ≤ D.count disk.new }
+    ensures passes { Passes D.tells D.may_leave D.moment D.left_since disk.old disk.new
+        book.old.entries.items book.new.entries.items
+        (Follows book.new.entries.items) result }
     ensures tells { TakeTells (record {
       names = map H.label lanes.old.items;
       schemas = schemas_of homes.now;
@@ -419,6 +435,17 @@ fn take_step<D: Disk, H: Handler>(
     }
 }
 
+/// The step that comes next in the operation of a number; the book stays as it is.
+fn coming(alloc: Global, book: &mut Book, number: u64, homes: &Homes) -> Result<Next, NextFault>
+    requires { IsInProgress book.old.world.world number }
+    ensures stays { book.new ≡ book.old }
+    ensures chosen { IfOk result (λ n. IsNext (schemas_of homes.now) book.old.world.world (leases_of homes.now) number n) }
+    ensures may_follow { IfOk result (λ n. (e : Entry) → entry_of number n ≡ Some e
+        → MayFollow (schemas_of homes.now) book.old.world.world (leases_of homes.now) e) }
+{
+    next(alloc, &mut book.world, number, homes)
+}
+
 /// Takes the step of the operation that comes next.
 fn take<D: Disk, H: Handler>(
     alloc: Global,
@@ -436,6 +463,9 @@ fn take<D: Disk, H: Handler>(
     ensures open { OnOk result (IsOpen D.tells D.seen D.may_leave D.room_of book.new disk.new) }
     ensures room { D.room_of disk.new ≡ D.room_of disk.old }
     ensures count { D.count disk.old ≤ D.count disk.new }
+    ensures passes { Passes D.tells D.may_leave D.moment D.left_since disk.old disk.new
+        book.old.entries.items book.new.entries.items
+        (Follows book.new.entries.items) result }
     ensures tells { TakeTells (record {
       names = map H.label lanes.old.items;
       schemas = schemas_of homes.now;
@@ -452,7 +482,7 @@ fn take<D: Disk, H: Handler>(
       entries' = book.new.entries.items;
     }) number result }
 {
-    match next(alloc, &book.world, number, homes) {
+    match coming(alloc, book, number, homes) {
         Ok(next) => take_step(alloc, book, disk, lanes, homes, number, next),
         // A creation that has no step is none that this engine began: what a halt can say of it is this.
         Err(_) => Err(Halt::NoMemory),
@@ -482,6 +512,9 @@ pub fn drive<D: Disk, H: Handler>(
     ensures open { OnOk result (IsOpen D.tells D.seen D.may_leave D.room_of book.new disk.new) }
     ensures room { D.room_of disk.new ≡ D.room_of disk.old }
     ensures count { D.count disk.old ≤ D.count disk.new }
+    ensures passes { Passes D.tells D.may_leave D.moment D.left_since disk.old disk.new
+        book.old.entries.items book.new.entries.items
+        (Follows book.new.entries.items) result }
     ensures tells { DriveTells (record {
       names = map H.label lanes.old.items;
       schemas = schemas_of homes.now;

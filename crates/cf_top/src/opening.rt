@@ -1,10 +1,12 @@
 //! The opening of a journal over lanes.
-ghost use Rattle.std.specs.Prelude.{◌≡◌, ◌≤◌, ◌^◌, ◌++◌, [], fold, map, IfOk, IfErr, OnOk, IsTrue, None};
+ghost use Rattle.std.specs.Prelude.{◌≡◌, ◌≤◌, ◌^◌, ◌++◌, [], fold, map, IfOk, IfErr, OnOk, OnErr, IsTrue, None};
 ghost use Rattle.std.specs.List.{list_all};
 ghost use Rattle.cf_tree.specs.Lists.{is_among};
 ghost use Rattle.cf_handler.specs.Name.{is_lane_name};
-ghost use Rattle.cf_journal.specs.Record.{Keeps};
+ghost use Rattle.cf_disk.specs.Disk.{LeavesOnly};
+ghost use Rattle.cf_journal.specs.Record.{IsOldOrKept, Keeps};
 ghost use Rattle.cf_top.specs.Book.{IsOpen, Holds, world_of};
+ghost use Rattle.cf_top.specs.Crash.{MayEnter, PassesTo};
 ghost use Rattle.cf_top.specs.Lanes.{kinds_of, lane_pairs};
 ghost use Rattle.cf_top.specs.Opening.{EnterTells, HasOpenCause, exit_of, has_lane, lane_of, lower, missing, missing_in, number_named, opening, or_missing_call, or_missing_held, serves_call, serves_held, twice};
 
@@ -49,6 +51,8 @@ pub fn open<D: Disk>(alloc: Global, disk: &mut D) -> Result<Book, Exit>
     ensures cause { IfErr result (HasOpenCause D.tells (D.seen disk.old) (D.count disk.old) (D.count disk.new)) }
     ensures room { D.room_of disk.new ≡ D.room_of disk.old }
     ensures count { D.count disk.old ≤ D.count disk.new }
+    ensures any_moment { IsTrue D.tells → LeavesOnly D.moment D.left_since disk.old disk.new
+        (IsOldOrKept (D.may_leave disk.old) (D.seen disk.old)) }
 {
     match recover(alloc, disk) {
         Ok((journal, entries)) => match folded(alloc, entries) {
@@ -350,6 +354,10 @@ pub fn enter<D: Disk, H: Handler>(
     ensures open { OnOk result (IsOpen D.tells D.seen D.may_leave D.room_of book.new disk.new) }
     ensures room { D.room_of disk.new ≡ D.room_of disk.old }
     ensures count { D.count disk.old ≤ D.count disk.new }
+    ensures same { OnErr result (book.new.entries.items ≡ book.old.entries.items) }
+    ensures passes { PassesTo D.tells D.may_leave D.moment D.left_since disk.old disk.new
+        book.old.entries.items book.new.entries.items
+        (MayEnter (map H.label lanes.now) (kinds_of (map H.schema_of lanes.now)) book.old.entries.items) result }
     ensures tells { EnterTells D.tells (D.seen disk.new) (D.room_of disk.old) (D.count disk.old) (D.count disk.new)
         (map H.label lanes.now) (kinds_of (map H.schema_of lanes.now))
         book.old.entries.items book.new.entries.items result }
@@ -374,6 +382,10 @@ fn enter_apart<D: Disk, H: Handler>(
     ensures open { OnOk result (IsOpen D.tells D.seen D.may_leave D.room_of book.new disk.new) }
     ensures room { D.room_of disk.new ≡ D.room_of disk.old }
     ensures count { D.count disk.old ≤ D.count disk.new }
+    ensures same { OnErr result (book.new.entries.items ≡ book.old.entries.items) }
+    ensures passes { PassesTo D.tells D.may_leave D.moment D.left_since disk.old disk.new
+        book.old.entries.items book.new.entries.items
+        (MayEnter (map H.label lanes.now) (kinds_of (map H.schema_of lanes.now)) book.old.entries.items) result }
     ensures tells { EnterTells D.tells (D.seen disk.new) (D.room_of disk.old) (D.count disk.old) (D.count disk.new)
         (map H.label lanes.now) (kinds_of (map H.schema_of lanes.now))
         book.old.entries.items book.new.entries.items result }
@@ -399,6 +411,10 @@ fn write_opening<D: Disk, H: Handler>(
     ensures open { OnOk result (IsOpen D.tells D.seen D.may_leave D.room_of book.new disk.new) }
     ensures room { D.room_of disk.new ≡ D.room_of disk.old }
     ensures count { D.count disk.old ≤ D.count disk.new }
+    ensures same { OnErr result (book.new.entries.items ≡ book.old.entries.items) }
+    ensures passes { PassesTo D.tells D.may_leave D.moment D.left_since disk.old disk.new
+        book.old.entries.items book.new.entries.items
+        (MayEnter (map H.label lanes.now) (kinds_of (map H.schema_of lanes.now)) book.old.entries.items) result }
     ensures tells { EnterTells D.tells (D.seen disk.new) (D.room_of disk.old) (D.count disk.old) (D.count disk.new)
         (map H.label lanes.now) (kinds_of (map H.schema_of lanes.now))
         book.old.entries.items book.new.entries.items result }

@@ -1,9 +1,12 @@
 //! The top calls.
-ghost use Rattle.std.specs.Prelude.{◌≡◌, ◌≤◌, ◌^◌, IfOk, IsTrue, map, false};
-ghost use Rattle.cf_journal.specs.Record.{Keeps};
+ghost use Rattle.std.specs.Prelude.{◌≡◌, ◌≤◌, ◌^◌, ℕ, List, IfOk, IsTrue, map, false};
+ghost use Rattle.cf_disk.specs.Disk.{LeavesOnly};
+ghost use Rattle.cf_journal.specs.Record.{IsOldOrKept, Keeps};
 ghost use Rattle.cf_top.specs.Alone.{AloneTells, IsAnswered, LastsWhereOver, deploy_words};
 ghost use Rattle.cf_face.specs.Words.{command_of};
 ghost use Rattle.cf_top.specs.Answer.{AnswerTells, is_asking, RanAs};
+ghost use Rattle.cf_top.specs.Crash.{IsOldOrAlong};
+ghost use Rattle.cf_top.specs.Surviving.{EachSound, LeavesAs};
 
 use crate::meeting::deploy_on;
 use crate::opening::open;
@@ -61,6 +64,30 @@ fn run_words<L: Library, K: Sink, D: Disk, H: Handler>(
     ensures schemas { map H.schema_of lanes.new.items ≡ map H.schema_of lanes.old.items }
     ensures room { D.room_of disk.new ≡ D.room_of disk.old }
     ensures lasts { LastsWhereOver result D.tells (D.seen disk.new) (D.may_leave disk.new) }
+    ensures any_moment { IsTrue D.tells → LeavesOnly D.moment D.left_since disk.old disk.new
+        (IsOldOrAlong (D.may_leave disk.old) (D.seen disk.old) (D.seen disk.new)) }
+    ensures leaves { IsTrue D.tells → LeavesAs (record {
+      shelf = record {
+        texts = L.texts library.old;
+        faults = L.count library.old;
+        faults' = L.count library.new;
+        misses = L.missed library.old;
+        misses' = L.missed library.new;
+      };
+      names = map H.label lanes.old.items;
+      schemas = map H.schema_of lanes.old.items;
+      told = map H.told lanes.old.items;
+      told' = map H.told lanes.new.items;
+      counts = map H.count lanes.old.items;
+      counts' = map H.count lanes.new.items;
+      tells = D.tells;
+      bytes = D.seen disk.old;
+      bytes' = D.seen disk.new;
+      room = D.room_of disk.old;
+      faults = D.count disk.old;
+      faults' = D.count disk.new;
+    })
+        (D.may_leave disk.old) (D.may_leave disk.new) result }
     ensures tells { AloneTells (record {
       shelf = record {
         texts = L.texts library.old;
@@ -127,8 +154,13 @@ fn run_words<L: Library, K: Sink, D: Disk, H: Handler>(
 /// those of the operation, of which each may follow where it stands. The lanes keep their names and types, the library its
 /// texts and the disk its room.
 ///
-/// After `Done`, `RolledBack` and `Failed` a crash leaves the journal as it is. The room of the disk is from 16 to
-/// 4,294,967,296 bytes.
+/// After `Done`, `RolledBack` and `Failed` a crash leaves the journal as it is (`lasts`). After each answer it leaves the
+/// entries that were acknowledged, or, where the disk failed, these and the one entry whose append failed; where no entry
+/// was written, what it might have left before the command, or the same record (`leaves`). Where each file that a crash
+/// might have left before is sound with the lanes as they were handed in, each that it may leave after is so with the
+/// lanes as they are given back, so each call that a lane has settled has its intent there (`sound_left`). At each moment
+/// of the command a crash leaves what it might have left before, or the old entries and a first part of the new ones
+/// (`any_moment`). The room of the disk is from 16 to 4,294,967,296 bytes.
 pub fn alone<L: Library, K: Sink, D: Disk, H: Handler>(
     alloc: Global,
     words: &[Txt],
@@ -144,6 +176,32 @@ pub fn alone<L: Library, K: Sink, D: Disk, H: Handler>(
     ensures schemas { map H.schema_of result.lanes.items ≡ map H.schema_of lanes.items }
     ensures room { D.room_of result.disk ≡ D.room_of disk }
     ensures lasts { LastsWhereOver result.exit D.tells (D.seen result.disk) (D.may_leave result.disk) }
+    ensures any_moment { IsTrue D.tells → LeavesOnly D.moment D.left_since disk result.disk
+        (IsOldOrAlong (D.may_leave disk) (D.seen disk) (D.seen result.disk)) }
+    ensures leaves { IsTrue D.tells → LeavesAs (record {
+      shelf = record {
+        texts = L.texts library.old;
+        faults = L.count library.old;
+        faults' = L.count library.new;
+        misses = L.missed library.old;
+        misses' = L.missed library.new;
+      };
+      names = map H.label lanes.items;
+      schemas = map H.schema_of lanes.items;
+      told = map H.told lanes.items;
+      told' = map H.told result.lanes.items;
+      counts = map H.count lanes.items;
+      counts' = map H.count result.lanes.items;
+      tells = D.tells;
+      bytes = D.seen disk;
+      bytes' = D.seen result.disk;
+      room = D.room_of disk;
+      faults = D.count disk;
+      faults' = D.count result.disk;
+    })
+        (D.may_leave disk) (D.may_leave result.disk) result.exit }
+    ensures sound_left { IsTrue D.tells → EachSound (D.may_leave disk) (map H.told lanes.items)
+        → EachSound (D.may_leave result.disk) (map H.told result.lanes.items) }
     ensures answered { IsAnswered (record {
       shelf = record {
         texts = L.texts library.old;
@@ -188,7 +246,8 @@ pub fn alone<L: Library, K: Sink, D: Disk, H: Handler>(
 /// `BadWords` comes where the words are no such command. Of a description then come `DiskFault` and `NotAJournal` as the disk
 /// is read, and `NoStack` where no stack has the name; of a validation `LibraryFault`, and `TemplateRefused` where
 /// the library holds none or it can't be read. No entry is written: after each answer the disk has the entries that it
-/// had, and bytes that are no journal are as they were. The room of the disk is from 16 to 4,294,967,296 bytes.
+/// had, and bytes that are no journal are as they were. At each moment and after it a crash leaves what it might have left
+/// before, or the same record (`any_moment`, `leaves`). The room of the disk is from 16 to 4,294,967,296 bytes.
 pub fn answer<L: Library, K: Sink, D: Disk>(
     alloc: Global,
     words: &[Txt],
@@ -202,6 +261,10 @@ pub fn answer<L: Library, K: Sink, D: Disk>(
     ensures same { L.texts library.new ≡ L.texts library.old }
     ensures room { D.room_of disk.new ≡ D.room_of disk.old }
     ensures kept { IsTrue D.tells → Keeps (D.seen disk.old) (D.seen disk.new) }
+    ensures any_moment { IsTrue D.tells → LeavesOnly D.moment D.left_since disk.old disk.new
+        (IsOldOrKept (D.may_leave disk.old) (D.seen disk.old)) }
+    ensures leaves { IsTrue D.tells → (file : List ℕ) → D.may_leave disk.new file
+        → IsOldOrKept (D.may_leave disk.old) (D.seen disk.old) file }
     ensures answered { AnswerTells (record {
       texts = L.texts library.old;
       faults = L.count library.old;
@@ -256,7 +319,8 @@ fn is_asking(alloc: Global, words: &[Txt]) -> Result<bool, NoMemory>
 }
 
 /// Does what the words say: a command that drives handlers goes to `alone`, whatever the number of workers, and one that
-/// doesn't to `answer`, with the lanes' schemas. The conditions and answers are theirs.
+/// doesn't to `answer`, with the lanes' schemas. The conditions and answers are theirs, and what a crash may leave after
+/// each answer (`leaves`, `sound_left`) and at each moment (`any_moment`).
 pub fn cfstack<L: Library, K: Sink, D: Disk + Send, H: Handler + Send>(
     alloc: Global,
     words: &[Txt],
@@ -274,6 +338,32 @@ pub fn cfstack<L: Library, K: Sink, D: Disk + Send, H: Handler + Send>(
     ensures room { D.room_of result.disk ≡ D.room_of disk }
     ensures lasts { is_asking (command_of words.now) ≡ false → LastsWhereOver result.exit D.tells (D.seen result.disk)
         (D.may_leave result.disk) }
+    ensures any_moment { IsTrue D.tells → LeavesOnly D.moment D.left_since disk result.disk
+        (IsOldOrAlong (D.may_leave disk) (D.seen disk) (D.seen result.disk)) }
+    ensures leaves { IsTrue D.tells → LeavesAs (record {
+      shelf = record {
+        texts = L.texts library.old;
+        faults = L.count library.old;
+        faults' = L.count library.new;
+        misses = L.missed library.old;
+        misses' = L.missed library.new;
+      };
+      names = map H.label lanes.items;
+      schemas = map H.schema_of lanes.items;
+      told = map H.told lanes.items;
+      told' = map H.told result.lanes.items;
+      counts = map H.count lanes.items;
+      counts' = map H.count result.lanes.items;
+      tells = D.tells;
+      bytes = D.seen disk;
+      bytes' = D.seen result.disk;
+      room = D.room_of disk;
+      faults = D.count disk;
+      faults' = D.count result.disk;
+    })
+        (D.may_leave disk) (D.may_leave result.disk) result.exit }
+    ensures sound_left { IsTrue D.tells → EachSound (D.may_leave disk) (map H.told lanes.items)
+        → EachSound (D.may_leave result.disk) (map H.told result.lanes.items) }
     ensures answered { RanAs (record {
       shelf = record {
         texts = L.texts library.old;

@@ -1,5 +1,4 @@
-use Rattle.cf_agree.proofs.Keeps.{answer_keeps}
-use Rattle.cf_agree.proofs.laws.answer_keeps.Goals as goal
+use Rattle.cf_agree.proofs.{Keeps.answer_keeps, laws.answer_keeps.Goals.returns as goal}
 
-pub returns : goal.returns
+pub returns : goal
 returns c = answer_keeps

@@ -1,5 +1,4 @@
-use Rattle.cf_agree.proofs.Keeps.{call_keeps}
-use Rattle.cf_agree.proofs.laws.call_keeps.Goals as goal
+use Rattle.cf_agree.proofs.{Keeps.call_keeps, laws.call_keeps.Goals.returns as goal}
 
-pub returns : goal.returns
+pub returns : goal
 returns c = call_keeps

@@ -1,5 +1,4 @@
-use Rattle.cf_agree.proofs.Keeps.{drop_keeps}
-use Rattle.cf_agree.proofs.laws.drop_keeps.Goals as goal
+use Rattle.cf_agree.proofs.{Keeps.drop_keeps, laws.drop_keeps.Goals.returns as goal}
 
-pub returns : goal.returns
+pub returns : goal
 returns c = drop_keeps

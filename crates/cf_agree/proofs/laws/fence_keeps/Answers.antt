@@ -1,5 +1,4 @@
-use Rattle.cf_agree.proofs.Keeps.{fence_keeps}
-use Rattle.cf_agree.proofs.laws.fence_keeps.Goals as goal
+use Rattle.cf_agree.proofs.{Keeps.fence_keeps, laws.fence_keeps.Goals.returns as goal}
 
-pub returns : goal.returns
+pub returns : goal
 returns c = fence_keeps

@@ -1,5 +1,4 @@
-use Rattle.cf_agree.proofs.Keeps.{intent_keeps}
-use Rattle.cf_agree.proofs.laws.intent_keeps.Goals as goal
+use Rattle.cf_agree.proofs.{Keeps.intent_keeps, laws.intent_keeps.Goals.returns as goal}
 
-pub returns : goal.returns
+pub returns : goal
 returns c = intent_keeps

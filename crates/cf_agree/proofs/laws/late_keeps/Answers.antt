@@ -1,5 +1,4 @@
-use Rattle.cf_agree.proofs.Keeps.{late_keeps}
-use Rattle.cf_agree.proofs.laws.late_keeps.Goals as goal
+use Rattle.cf_agree.proofs.{Keeps.late_keeps, laws.late_keeps.Goals.returns as goal}
 
-pub returns : goal.returns
+pub returns : goal
 returns c = late_keeps

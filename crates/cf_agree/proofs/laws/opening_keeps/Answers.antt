@@ -1,5 +1,4 @@
-use Rattle.cf_agree.proofs.Keeps.{opening_keeps}
-use Rattle.cf_agree.proofs.laws.opening_keeps.Goals as goal
+use Rattle.cf_agree.proofs.{Keeps.opening_keeps, laws.opening_keeps.Goals.returns as goal}
 
-pub returns : goal.returns
+pub returns : goal
 returns c = opening_keeps

@@ -1,5 +1,4 @@
-use Rattle.cf_agree.proofs.Keeps.{rest_keeps}
-use Rattle.cf_agree.proofs.laws.rest_keeps.Goals as goal
+use Rattle.cf_agree.proofs.{Keeps.rest_keeps, laws.rest_keeps.Goals.returns as goal}
 
-pub returns : goal.returns
+pub returns : goal
 returns c = rest_keeps

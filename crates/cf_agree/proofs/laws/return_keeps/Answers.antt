@@ -1,5 +1,4 @@
-use Rattle.cf_agree.proofs.Keeps.{return_keeps}
-use Rattle.cf_agree.proofs.laws.return_keeps.Goals as goal
+use Rattle.cf_agree.proofs.{Keeps.return_keeps, laws.return_keeps.Goals.returns as goal}
 
-pub returns : goal.returns
+pub returns : goal
 returns c = return_keeps

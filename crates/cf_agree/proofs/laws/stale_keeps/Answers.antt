@@ -1,5 +1,4 @@
-use Rattle.cf_agree.proofs.Keeps.{stale_keeps}
-use Rattle.cf_agree.proofs.laws.stale_keeps.Goals as goal
+use Rattle.cf_agree.proofs.{Keeps.stale_keeps, laws.stale_keeps.Goals.returns as goal}
 
-pub returns : goal.returns
+pub returns : goal
 returns c = stale_keeps

@@ -1,5 +1,2 @@
-use Rattle.cf_core.proofs.AdvSteps as shown
-use Rattle.cf_core.proofs.advancing.advancing_begins.Goals as goal
-
-pub returns : goal.returns
-returns c = shown.advancing_begins
+pub returns : Rattle.cf_core.proofs.advancing.advancing_begins.Goals.returns
+returns c = Rattle.cf_core.proofs.AdvSteps.advancing_begins

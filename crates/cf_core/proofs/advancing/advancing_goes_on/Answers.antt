@@ -1,5 +1,2 @@
-use Rattle.cf_core.proofs.AdvSteps as shown
-use Rattle.cf_core.proofs.advancing.advancing_goes_on.Goals as goal
-
-pub returns : goal.returns
-returns c = shown.advancing_goes_on
+pub returns : Rattle.cf_core.proofs.advancing.advancing_goes_on.Goals.returns
+returns c = Rattle.cf_core.proofs.AdvSteps.advancing_goes_on

@@ -1,5 +1,2 @@
-use Rattle.cf_core.proofs.HidCalls as shown
-use Rattle.cf_core.proofs.advancing.advancing_stays.Goals as goal
-
-pub returns : goal.returns
-returns c = shown.advancing_stays
+pub returns : Rattle.cf_core.proofs.advancing.advancing_stays.Goals.returns
+returns c = Rattle.cf_core.proofs.HidCalls.advancing_stays

@@ -1,5 +1,2 @@
-use Rattle.cf_core.proofs.KeepSound.{event_keeps}
-use Rattle.cf_core.proofs.beginnings.event_keeps.Goals as goal
-
-pub returns : goal.returns
-returns c = event_keeps
+pub returns : Rattle.cf_core.proofs.beginnings.event_keeps.Goals.returns
+returns c = Rattle.cf_core.proofs.KeepSound.event_keeps

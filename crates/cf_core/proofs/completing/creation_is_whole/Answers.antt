@@ -1,5 +1,2 @@
-use Rattle.cf_core.proofs.WholeKept as whole
-use Rattle.cf_core.proofs.completing.creation_is_whole.Goals as goal
-
-pub returns : goal.returns
-returns c = whole.creation_is_whole
+pub returns : Rattle.cf_core.proofs.completing.creation_is_whole.Goals.returns
+returns c = Rattle.cf_core.proofs.WholeKept.creation_is_whole

@@ -1,5 +1,2 @@
-use Rattle.cf_core.proofs.Settling.{held_is_live}
-use Rattle.cf_core.proofs.events.held_is_live.Goals as goal
-
-pub returns : goal.returns
-returns c = held_is_live
+pub returns : Rattle.cf_core.proofs.events.held_is_live.Goals.returns
+returns c = Rattle.cf_core.proofs.Settling.held_is_live

@@ -1,5 +1,2 @@
-use Rattle.cf_core.proofs.HidCalls.{order_stays}
-use Rattle.cf_core.proofs.hiding.order_stays.Goals as goal
-
-pub returns : goal.returns
-returns c = order_stays
+pub returns : Rattle.cf_core.proofs.hiding.order_stays.Goals.returns
+returns c = Rattle.cf_core.proofs.HidCalls.order_stays

@@ -1,5 +1,2 @@
-use Rattle.cf_core.proofs.Always.{start_described}
-use Rattle.cf_core.proofs.hiding.start_is_described.Goals as goal
-
-pub returns : goal.returns
-returns c = start_described
+pub returns : Rattle.cf_core.proofs.hiding.start_is_described.Goals.returns
+returns c = Rattle.cf_core.proofs.Always.start_described

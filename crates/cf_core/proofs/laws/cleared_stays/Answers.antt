@@ -1,5 +1,2 @@
-use Rattle.cf_core.proofs.Always as unmade
-use Rattle.cf_core.proofs.laws.cleared_stays.Goals as goal
-
-pub returns : goal.returns
-returns c = unmade.cleared_stays
+pub returns : Rattle.cf_core.proofs.laws.cleared_stays.Goals.returns
+returns c = Rattle.cf_core.proofs.Always.cleared_stays

@@ -1,5 +1,2 @@
-use Rattle.cf_core.proofs.Always as unmade
-use Rattle.cf_core.proofs.laws.unmaking_begins.Goals as goal
-
-pub returns : goal.returns
-returns c = unmade.unmaking_begins
+pub returns : Rattle.cf_core.proofs.laws.unmaking_begins.Goals.returns
+returns c = Rattle.cf_core.proofs.Always.unmaking_begins

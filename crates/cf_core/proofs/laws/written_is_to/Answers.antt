@@ -1,5 +1,2 @@
-use Rattle.cf_core.proofs.Written as written
-use Rattle.cf_core.proofs.laws.written_is_to.Goals as goal
-
-pub returns : goal.returns
-returns c = written.written_is_to
+pub returns : Rattle.cf_core.proofs.laws.written_is_to.Goals.returns
+returns c = Rattle.cf_core.proofs.Written.written_is_to

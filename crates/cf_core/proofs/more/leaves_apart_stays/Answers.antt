@@ -1,5 +1,2 @@
-use Rattle.cf_core.proofs.MoreApart as proved
-use Rattle.cf_core.proofs.more.leaves_apart_stays.Goals as goal
-
-pub returns : goal.returns
-returns c = proved.leaves_apart_stays
+pub returns : Rattle.cf_core.proofs.more.leaves_apart_stays.Goals.returns
+returns c = Rattle.cf_core.proofs.MoreApart.leaves_apart_stays

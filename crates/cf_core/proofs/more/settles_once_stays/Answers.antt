@@ -1,5 +1,2 @@
-use Rattle.cf_core.proofs.MoreLives as proved
-use Rattle.cf_core.proofs.more.settles_once_stays.Goals as goal
-
-pub returns : goal.returns
-returns c = proved.settles_once_stays
+pub returns : Rattle.cf_core.proofs.more.settles_once_stays.Goals.returns
+returns c = Rattle.cf_core.proofs.MoreLives.settles_once_stays

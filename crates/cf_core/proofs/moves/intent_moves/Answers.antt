@@ -1,5 +1,2 @@
-use Rattle.cf_core.proofs.Entries.{intent_moves}
-use Rattle.cf_core.proofs.moves.intent_moves.Goals as goal
-
-pub returns : goal.returns
-returns c = intent_moves
+pub returns : Rattle.cf_core.proofs.moves.intent_moves.Goals.returns
+returns c = Rattle.cf_core.proofs.Stacks.intent_moves

@@ -1,5 +1,2 @@
-use Rattle.cf_core.proofs.Entries.{one_is_put}
-use Rattle.cf_core.proofs.moves.one_is_put.Goals as goal
-
-pub returns : goal.returns
-returns c = one_is_put
+pub returns : Rattle.cf_core.proofs.moves.one_is_put.Goals.returns
+returns c = Rattle.cf_core.proofs.Stacks.one_is_put

@@ -1,5 +1,2 @@
-use Rattle.cf_core.proofs.Entries.{own_kept}
-use Rattle.cf_core.proofs.moves.own_kept.Goals as goal
-
-pub returns : goal.returns
-returns c = own_kept
+pub returns : Rattle.cf_core.proofs.moves.own_kept.Goals.returns
+returns c = Rattle.cf_core.proofs.Stacks.own_kept

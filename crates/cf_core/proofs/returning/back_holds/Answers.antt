@@ -1,5 +1,2 @@
-use Rattle.cf_core.proofs.BackLaws.{back_holds}
-use Rattle.cf_core.proofs.returning.back_holds.Goals as goal
-
-pub returns : goal.returns
-returns c = back_holds
+pub returns : Rattle.cf_core.proofs.returning.back_holds.Goals.returns
+returns c = Rattle.cf_core.proofs.BackLaws.back_holds

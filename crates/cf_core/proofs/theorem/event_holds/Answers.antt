@@ -1,5 +1,2 @@
-use Rattle.cf_core.proofs.Always as proved
-use Rattle.cf_core.proofs.theorem.event_holds.Goals as goal
-
-pub returns : goal.returns
-returns c = proved.event_holds
+pub returns : Rattle.cf_core.proofs.theorem.event_holds.Goals.returns
+returns c = Rattle.cf_core.proofs.Always.event_holds

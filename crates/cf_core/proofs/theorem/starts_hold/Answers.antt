@@ -1,5 +1,2 @@
-use Rattle.cf_core.proofs.Always as proved
-use Rattle.cf_core.proofs.theorem.starts_hold.Goals as goal
-
-pub returns : goal.returns
-returns c = proved.starts_hold
+pub returns : Rattle.cf_core.proofs.theorem.starts_hold.Goals.returns
+returns c = Rattle.cf_core.proofs.Always.starts_hold

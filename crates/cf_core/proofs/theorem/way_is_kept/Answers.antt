@@ -1,5 +1,2 @@
-use Rattle.cf_core.proofs.Always as proved
-use Rattle.cf_core.proofs.theorem.way_is_kept.Goals as goal
-
-pub returns : goal.returns
-returns c = proved.way_kept
+pub returns : Rattle.cf_core.proofs.theorem.way_is_kept.Goals.returns
+returns c = Rattle.cf_core.proofs.Always.way_kept

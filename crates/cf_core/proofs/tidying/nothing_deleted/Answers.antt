@@ -1,5 +1,2 @@
-use Rattle.cf_core.proofs.TidyBegins as proved
-use Rattle.cf_core.proofs.tidying.nothing_deleted.Goals as goal
-
-pub returns : goal.returns
-returns c = proved.nothing_deleted
+pub returns : Rattle.cf_core.proofs.tidying.nothing_deleted.Goals.returns
+returns c = Rattle.cf_core.proofs.TidyBegins.nothing_deleted

@@ -1,5 +1,2 @@
-use Rattle.cf_core.proofs.GoingBack as proved
-use Rattle.cf_core.proofs.tidying.rollback_goes_on.Goals as goal
-
-pub returns : goal.returns
-returns c = proved.rollback_goes_on
+pub returns : Rattle.cf_core.proofs.tidying.rollback_goes_on.Goals.returns
+returns c = Rattle.cf_core.proofs.GoingBack.rollback_goes_on

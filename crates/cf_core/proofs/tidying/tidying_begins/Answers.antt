@@ -1,5 +1,2 @@
-use Rattle.cf_core.proofs.TidyBegins as proved
-use Rattle.cf_core.proofs.tidying.tidying_begins.Goals as goal
-
-pub returns : goal.returns
-returns c = proved.tidying_begins
+pub returns : Rattle.cf_core.proofs.tidying.tidying_begins.Goals.returns
+returns c = Rattle.cf_core.proofs.TidyBegins.tidying_begins

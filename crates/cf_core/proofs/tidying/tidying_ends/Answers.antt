@@ -1,5 +1,2 @@
-use Rattle.cf_core.proofs.TidyEnds as proved
-use Rattle.cf_core.proofs.tidying.tidying_ends.Goals as goal
-
-pub returns : goal.returns
-returns c = proved.tidying_ends
+pub returns : Rattle.cf_core.proofs.tidying.tidying_ends.Goals.returns
+returns c = Rattle.cf_core.proofs.TidyEnds.tidying_ends

@@ -1,5 +1,2 @@
-use Rattle.cf_core.proofs.TidyLaws as proved
-use Rattle.cf_core.proofs.tidying.tidying_stays.Goals as goal
-
-pub returns : goal.returns
-returns c = proved.tidying_stays
+pub returns : Rattle.cf_core.proofs.tidying.tidying_stays.Goals.returns
+returns c = Rattle.cf_core.proofs.TidyLaws.tidying_stays

@@ -1,5 +1,2 @@
-use Rattle.cf_core.proofs.GoingTold as proved
-use Rattle.cf_core.proofs.tidying.told_begins.Goals as goal
-
-pub returns : goal.returns
-returns c = proved.told_begins
+pub returns : Rattle.cf_core.proofs.tidying.told_begins.Goals.returns
+returns c = Rattle.cf_core.proofs.GoingTold.told_begins

@@ -1,5 +1,2 @@
-use Rattle.cf_core.proofs.GoingTold as proved
-use Rattle.cf_core.proofs.tidying.told_stays.Goals as goal
-
-pub returns : goal.returns
-returns c = proved.told_stays
+pub returns : Rattle.cf_core.proofs.tidying.told_stays.Goals.returns
+returns c = Rattle.cf_core.proofs.GoingTold.told_stays

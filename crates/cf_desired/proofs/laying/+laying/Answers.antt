@@ -21,7 +21,7 @@ lay-returns-clause-laid t c =
     opened_by c.args.left c.args.laying.now.source.now c.args.laying.now.seen.now (entering_in c.args.entering) (entry_in c.args.entry) (offer_in c.args.given.now) c.args.count
     c.in_ok-bound.bound c.in_ok-pseudo.pseudo c.in_ok-bound.ensures c.in_ok-pseudo.ensures
     c.in-Opened.conds c.in-Opened.order.entries c.requires.ordered (sym (ap decision_in c.in-Opened.is) ∙ c.in_ok-flaw.ensures)
-    (turn.Opened c.args.entry c.args.entering.stack c.in-Opened.conds c.in_ok-contents-in-Opened.contents.own) c.in_ok-contents-in-Opened.contents c.opened.result
+    (turn.Opened c.args.entry c.args.entering.stack c.in-Opened.conds c.in_ok-contents-in-Opened.contents.made) c.in_ok-contents-in-Opened.contents c.opened.result
     c.in_ok-contents-in-Opened.ensures.contents refl
     c.opened.ensures.turns c.opened.ensures.outputs c.opened.ensures.paths c.opened.ensures.count
 
@@ -33,7 +33,8 @@ contents_of-returns-clause-contents t c =
     let conds = c.args.ground.now.conds.now in
     contents_by stack conds (scope_by c.args.ground.now) (step_by (below c.args.left source seen) source seen (entering_in c.args.entering.now) conds (scope_by c.args.ground.now))
     (λ ids. begun seen stack conds ids c.args.count.templates c.args.count.members) c.args.order.now.entries c.in_ok-course.course c.work.new.course
-    c.in_ok-own.own (own_in stack.template c.args.order.now.entries) c.gathered.result c.in_ok-own.ensures c.in_ok-course.ensures c.in_ok-work.ensures.course c.gathered.ensures.contents
+    c.in_ok-own.own (own_in stack.template c.args.order.now.entries) c.in_ok-made.made c.in_ok-laid.laid c.in_ok-own.ensures c.in_ok-made.ensures
+    (c.in_ok-course.ensures conds c.in_ok-made.ensures) c.in_ok-work.ensures.course c.in_ok-laid.ensures.laid
 
 pub nest-returns-clause-course : goal.nest-returns-clause-course
 nest-returns-clause-course t c =

@@ -5,4 +5,4 @@ use Rattle.cf_desired.specs.Listed.{put_unmade}
 use Rattle.cf_desired.proofs.sights.not_made.Given as goal
 
 abbrev pub invariant-loop-resource : goal.invariant-loop-resource
-invariant-loop-resource l = l.sights ≡ fold put_unmade [] (filter (λ r. not (is_made l.conds r)) (take l.resource-index l.resource-items))
+invariant-loop-resource l = l.made ≡ fold put_unmade [] (filter (λ r. not (is_made l.conds r)) (take l.resource-index l.resource-items))

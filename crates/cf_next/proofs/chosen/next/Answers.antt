@@ -1,40 +1,19 @@
-use Rattle.std.proofs.Common.{◌≡◌, List, ℕ, ◌∙◌, subst}
+use Rattle.std.proofs.Common.{◌∙◌, ℕ, List, IfOk, ap, subst}
 use Rattle.cf_schema.specs.declared.described.Schema.{Schema}
-use Rattle.cf_next.specs.Chosen.{leases_of, schemas_of}
-use Rattle.cf_next.specs.Due.{AreDue}
-use Rattle.cf_next.specs.Taking.{Chooses}
-use Rattle.cf_next.proofs.OnStack.{next_is, next_may, no_step}
+use Rattle.cf_effect.specs.World.{World}
+use Rattle.cf_next.specs.Chosen.{IsNext, leases_of, schemas_of}
+use Rattle.cf_next.proofs.OnStack.{next_may}
 use Rattle.cf_next.proofs.chosen.next.Goals as goal
-
-pub returns-clause-chosen : goal.returns-clause-chosen
-returns-clause-chosen c =
-    let x = c.args.world.now.world in
-    let ts : c.as_slice.result.now ≡ leases_of c.args.homes.now = c.as_slice.ensures.value ∙ c.in_ok-out.ensures in
-    let us : c.as_slice-2.result.now ≡ leases_of c.args.homes.now = c.as_slice-2.ensures.value ∙ c.in_ok-out.ensures in
-    let are : AreDue (schemas_of c.args.homes.now) x (leases_of c.args.homes.now) c.args.number c.in_ok-dues.dues =
-    subst (λ (ss : List Schema). AreDue ss x (leases_of c.args.homes.now) c.args.number c.in_ok-dues.dues) c.in_ok-schemas.ensures
-    (subst (λ (out : List ℕ). AreDue c.in_ok-schemas.schemas x out c.args.number c.in_ok-dues.dues) ts c.in_ok-dues.ensures) in
-    next_is (schemas_of c.args.homes.now) x (leases_of c.args.homes.now) c.args.number c.in_ok-dues.dues are c.requires c.chosen_of.result
-    (subst (λ (out : List ℕ). Chooses out x c.in_ok-dues.dues c.chosen_of.result) us c.chosen_of.ensures)
 
 pub returns-clause-may_follow : goal.returns-clause-may_follow
 returns-clause-may_follow c =
+    let r = c.next_in-next.result in
+    let number = c.args.number in
     let x = c.args.world.now.world in
-    let ts : c.as_slice.result.now ≡ leases_of c.args.homes.now = c.as_slice.ensures.value ∙ c.in_ok-out.ensures in
-    let us : c.as_slice-2.result.now ≡ leases_of c.args.homes.now = c.as_slice-2.ensures.value ∙ c.in_ok-out.ensures in
-    let are : AreDue (schemas_of c.args.homes.now) x (leases_of c.args.homes.now) c.args.number c.in_ok-dues.dues =
-    subst (λ (ss : List Schema). AreDue ss x (leases_of c.args.homes.now) c.args.number c.in_ok-dues.dues) c.in_ok-schemas.ensures
-    (subst (λ (out : List ℕ). AreDue c.in_ok-schemas.schemas x out c.args.number c.in_ok-dues.dues) ts c.in_ok-dues.ensures) in
-    next_may (schemas_of c.args.homes.now) x (leases_of c.args.homes.now) c.args.number c.in_ok-dues.dues are c.requires c.chosen_of.result
-    (subst (λ (out : List ℕ). Chooses out x c.in_ok-dues.dues c.chosen_of.result) us c.chosen_of.ensures)
-
-pub returns-clause-no_step : goal.returns-clause-no_step
-returns-clause-no_step c =
-    let x = c.args.world.now.world in
-    let ts : c.as_slice.result.now ≡ leases_of c.args.homes.now = c.as_slice.ensures.value ∙ c.in_ok-out.ensures in
-    let us : c.as_slice-2.result.now ≡ leases_of c.args.homes.now = c.as_slice-2.ensures.value ∙ c.in_ok-out.ensures in
-    let are : AreDue (schemas_of c.args.homes.now) x (leases_of c.args.homes.now) c.args.number c.in_ok-dues.dues =
-    subst (λ (ss : List Schema). AreDue ss x (leases_of c.args.homes.now) c.args.number c.in_ok-dues.dues) c.in_ok-schemas.ensures
-    (subst (λ (out : List ℕ). AreDue c.in_ok-schemas.schemas x out c.args.number c.in_ok-dues.dues) ts c.in_ok-dues.ensures) in
-    no_step (schemas_of c.args.homes.now) x (leases_of c.args.homes.now) c.args.number c.in_ok-dues.dues are c.requires c.chosen_of.result
-    (subst (λ (out : List ℕ). Chooses out x c.in_ok-dues.dues c.chosen_of.result) us c.chosen_of.ensures)
+    let out = leases_of c.args.homes.now in
+    let stays = ap (λ w. w.world) c.look_ahead.ensures in
+    let leased = c.as_slice.ensures.value ∙ c.in_ok-out.ensures in
+    let on_world = subst (λ (y : World). IfOk r (λ n. IsNext c.in_ok-schemas.schemas y c.as_slice.result.now number n)) stays c.next_in-next.ensures.chosen in
+    let on_leases = subst (λ (ts : List ℕ). IfOk r (λ n. IsNext c.in_ok-schemas.schemas x ts number n)) leased on_world in
+    let chosen = subst (λ (ss : List Schema). IfOk r (λ n. IsNext ss x out number n)) c.in_ok-schemas.ensures on_leases in
+    next_may (schemas_of c.args.homes.now) x out number r chosen

@@ -11,7 +11,7 @@ returns-then-not-none_in_flight c = λ stage in_stage.
     let x = c.args.world.now.world in
     let s = c.args.stack.now.stack in
     subst (AreDueIn c.args.schemas.now c.args.name.now x c.args.out.now s stage) (sym c.in_ok-begun.ensures)
-    (running_due c.args.schemas.now c.args.name.now x c.args.out.now s stage c.args.offer.now (c.requires stage in_stage)
+    (running_due c.args.schemas.now c.args.name.now x c.args.out.now s stage c.args.offer.now (c.requires.offer stage in_stage)
     (sym c.none_in_flight.ensures ∙ c.if-not-none_in_flight.true))
 
 pub returns : goal.returns
@@ -22,6 +22,6 @@ returns c =
     (λ dues e stage in_stage.
     subst (AreDueIn c.args.schemas.now c.args.name.now x c.args.out.now s stage)
     (sym (e ∙ ap (λ (ns : List Next). with_last ns c.in_ok-last.last) c.in_ok-begun.ensures))
-    (idle_due c.args.schemas.now c.args.name.now x c.args.out.now s stage c.args.offer.now (c.requires stage in_stage)
+    (idle_due c.args.schemas.now c.args.name.now x c.args.out.now s stage c.args.offer.now (c.requires.offer stage in_stage)
     (sym c.none_in_flight.ensures ∙ c.if-not-none_in_flight.false) c.in_ok-last.last (c.in_ok-last.ensures stage in_stage)))
     c.with_last.ensures

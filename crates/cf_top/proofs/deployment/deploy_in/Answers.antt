@@ -2,6 +2,8 @@ use Rattle.std.proofs.Common.{◌≡◌, map, None, refl, sym, subst}
 use Rattle.cf_top.specs.Deployment.{barring}
 use Rattle.cf_top.specs.Lanes.{one_of_each}
 use Rattle.cf_top.proofs.Deployed.{barred_so}
+use Rattle.cf_top.proofs.Crashes.{untouched}
+use Rattle.cf_top.specs.Crash.{Follows}
 use Rattle.cf_top.proofs.deployment.deploy_in.Goals as goal
 
 pub deploy_new-requires-clause-free : goal.deploy_new-requires-clause-free
@@ -29,4 +31,7 @@ returns-in-Some-clause-tells g c =
       faults' = g.D.Disk.count c.args.disk.now;
       entries = c.args.book.now.entries.items;
       entries' = c.args.book.now.entries.items;
-    }) c.args.stack.now c.args.choice.now c.args.book.now.world.world c.in-Some.status c.wrong_status.result c.wrong_status.ensures c.requires.open.world (sym c.in-Some.ensures) (refl, refl) (refl, refl, c.requires.open.holds)
+    }) c.args.stack.now c.args.choice.now c.args.book.now.world.world c.in-Some.status c.wrong_status.result c.wrong_status.ensures c.requires.open.world (sym c.in-Some.ensures) (refl, refl) (refl, refl, c.requires.open.holds, refl)
+
+pub returns-in-Some-clause-passes : goal.returns-in-Some-clause-passes
+returns-in-Some-clause-passes g c = untouched g.D.Disk.tells g.D.Disk.may_leave g.D.Disk.moment g.D.Disk.left_since g.D.Disk.seen g.D.Disk.room_of (λ d f told left. g.met.D.Disk.only_now d f told left) c.args.book.now c.args.disk.now c.args.book.now.entries.items (Follows c.args.book.now.entries.items) c.wrong_status.result c.requires.open refl

@@ -1,5 +1,6 @@
 use Rattle.std.proofs.Common.{map, subst, sym}
 use Rattle.cf_top.specs.Driving.{CallsEnd}
+use Rattle.cf_top.proofs.Crashes.{unmoved}
 use Rattle.cf_top.proofs.drive.call_if_any.Goals as goal
 
 pub returns-in-Some-clause-tells : goal.returns-in-Some-clause-tells
@@ -19,3 +20,9 @@ returns-in-Some-clause-tells g c schemas =
       entries = c.args.book.now.entries.items;
       entries' = c.call.new.book.entries.items;
     }) c.args.number o c.call.result) (sym c.in-Some.is) (c.call.ensures.tells schemas)
+
+pub returns-in-None-clause-passes : goal.returns-in-None-clause-passes
+returns-in-None-clause-passes g c = unmoved g.D.Disk.tells g.D.Disk.may_leave g.D.Disk.moment g.D.Disk.left_since g.D.Disk.seen g.D.Disk.room_of (λ d f told left. g.met.D.Disk.only_now d f told left) c.args.book.now c.args.disk.now c.requires.open
+
+pub returns-in-Some-clause-passes : goal.returns-in-Some-clause-passes
+returns-in-Some-clause-passes g c = c.call.ensures.passes

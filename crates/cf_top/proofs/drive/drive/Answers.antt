@@ -2,6 +2,10 @@ use Rattle.std.proofs.Common.{map, arith, refl, ◌∙◌}
 use Rattle.cf_next.specs.Chosen.{schemas_of}
 use Rattle.cf_top.specs.declared.book.Halt.TheVariants as halt
 use Rattle.cf_top.proofs.Driven.{so_far, goes_further, is_driven, cut_later, no_memory}
+use Rattle.cf_top.proofs.Crashes.{breaks_on, grows_on, unmoved, untouched}
+use Rattle.cf_face.specs.declared.exit.Exit.TheVariants.{NoMemory}
+use Rattle.cf_top.specs.Crash.{Follows}
+use Rattle.cf_top.specs.Opening.{exit_of}
 use Rattle.cf_top.proofs.drive.drive.Goals as goal
 
 pub loop-init : goal.loop-init
@@ -11,6 +15,7 @@ loop-init g c = record {
   names = refl;
   schemas = refl;
   room = refl;
+  passes = unmoved g.D.Disk.tells g.D.Disk.may_leave g.D.Disk.moment g.D.Disk.left_since g.D.Disk.seen g.D.Disk.room_of (λ d f told left. g.met.D.Disk.only_now d f told left) c.args.book.now c.args.disk.now c.requires.open;
   faults = omega arith;
 }
 
@@ -41,6 +46,7 @@ loop-preserved g c = record {
   names = c.in-Ok-Moved.ensures.names ∙ c.loop.invariant.names;
   schemas = c.in-Ok-Moved.ensures.schemas ∙ c.loop.invariant.schemas;
   room = c.in-Ok-Moved.ensures.room ∙ c.loop.invariant.room;
+  passes = λ told. grows_on g.D.Disk.may_leave g.D.Disk.moment g.D.Disk.left_since c.args.disk.now c.loop.disk c.take.new.disk c.args.book.now.entries.items c.loop.book.entries.items c.take.new.book.entries.items (c.loop.invariant.passes told) (c.in-Ok-Moved.ensures.passes told);
   faults = omega (arith, c.in-Ok-Moved.ensures.count, c.loop.invariant.faults);
 }
 
@@ -115,4 +121,19 @@ returns-clause-tells g c =
       entries = c.loop.book.entries.items;
       entries' = c.loop.book.entries.items;
     })
-    c.args.number refl refl c.loop.invariant.still_open.holds)
+    c.args.number refl refl refl c.loop.invariant.still_open.holds)
+
+pub returns-in-Ok-Over-clause-passes : goal.returns-in-Ok-Over-clause-passes
+returns-in-Ok-Over-clause-passes g c told =
+    grows_on g.D.Disk.may_leave g.D.Disk.moment g.D.Disk.left_since c.args.disk.now c.loop.disk c.take.new.disk c.args.book.now.entries.items c.loop.book.entries.items c.take.new.book.entries.items (c.loop.invariant.passes told) (c.in-Ok-Over.ensures.passes told)
+
+pub returns-in-Err-clause-passes : goal.returns-in-Err-clause-passes
+returns-in-Err-clause-passes g c told =
+    breaks_on g.D.Disk.may_leave g.D.Disk.moment g.D.Disk.left_since c.args.disk.now c.loop.disk c.take.new.disk c.args.book.now.entries.items c.loop.book.entries.items c.take.new.book.entries.items
+    (Follows c.take.new.book.entries.items) (exit_of c.in-Err.halt) (c.loop.invariant.passes told) (c.in-Err.ensures.passes told)
+
+pub returns-clause-passes : goal.returns-clause-passes
+returns-clause-passes g c told =
+    breaks_on g.D.Disk.may_leave g.D.Disk.moment g.D.Disk.left_since c.args.disk.now c.loop.disk c.loop.disk c.args.book.now.entries.items c.loop.book.entries.items c.loop.book.entries.items
+    (Follows c.loop.book.entries.items) NoMemory (c.loop.invariant.passes told)
+    (untouched g.D.Disk.tells g.D.Disk.may_leave g.D.Disk.moment g.D.Disk.left_since g.D.Disk.seen g.D.Disk.room_of (λ d f told left. g.met.D.Disk.only_now d f told left) c.loop.book c.loop.disk c.loop.book.entries.items (Follows c.loop.book.entries.items) NoMemory c.loop.invariant.still_open refl told)

@@ -1,4 +1,4 @@
-use Rattle.std.proofs.Common.{◌≡◌, map, Some, refl, sym, subst}
+use Rattle.std.proofs.Common.{◌≡◌, ◌∙◌, map, Some, refl, sym, subst}
 use Rattle.std.specs.Prelude.{IfSome, Ok, Err}
 use Rattle.cf_entry.specs.Entry.{IsProper}
 use Rattle.cf_effect.specs.declared.held.Pending.{Pending}
@@ -8,6 +8,10 @@ use Rattle.cf_next.specs.Chosen.{schemas_of}
 use Rattle.cf_top.specs.Book.{world_of}
 use Rattle.cf_top.specs.Driving.{CallsEnd, NoteTells, TakeTells}
 use Rattle.cf_top.proofs.Driven.{call_halts, is_taken, note_halts, note_opens, note_proper, noted_is}
+use Rattle.cf_top.proofs.Crashes.{breaks_as, breaks_on, grows_on}
+use Rattle.cf_top.specs.Crash.{Follows}
+use Rattle.cf_top.specs.Opening.{exit_of}
+use Rattle.cf_top.proofs.Doubted.{note_doubted}
 use Rattle.cf_top.proofs.drive.take_step.Goals as goal
 
 pub note-requires-clause-proper : goal.note-requires-clause-proper
@@ -165,3 +169,23 @@ returns-in-Err-clause-tells g c =
     c.args.number c.requires.goes_on c.args.next c.in-Err.halt (c.requires.comes, c.requires.may) refl refl
     (subst (λ o. NoteTells g.D.Disk.tells (g.D.Disk.seen c.note.new.disk) (g.D.Disk.room_of c.args.disk.now) (g.D.Disk.count c.args.disk.now) (g.D.Disk.count c.note.new.disk)
     c.args.book.now.entries.items c.note.new.book.entries.items o (Err c.in-Err.halt)) c.entry_of.ensures c.in-Err.ensures.tells)
+
+pub returns-in-Ok-call_if_any-clause-passes : goal.returns-in-Ok-call_if_any-clause-passes
+returns-in-Ok-call_if_any-clause-passes g c told =
+    grows_on g.D.Disk.may_leave g.D.Disk.moment g.D.Disk.left_since c.args.disk.now c.note.new.disk c.call_if_any.new.disk
+    c.args.book.now.entries.items c.note.new.book.entries.items c.call_if_any.new.book.entries.items (c.in-Ok.ensures.passes told) (c.in-Ok-call_if_any.ensures.passes told)
+
+pub returns-in-Err-call_if_any-clause-passes : goal.returns-in-Err-call_if_any-clause-passes
+returns-in-Err-call_if_any-clause-passes g c told =
+    breaks_on g.D.Disk.may_leave g.D.Disk.moment g.D.Disk.left_since c.args.disk.now c.note.new.disk c.call_if_any.new.disk
+    c.args.book.now.entries.items c.note.new.book.entries.items c.call_if_any.new.book.entries.items (Follows c.call_if_any.new.book.entries.items) (exit_of c.in-Err-call_if_any.halt)
+    (c.in-Ok.ensures.passes told) (c.in-Err-call_if_any.ensures.passes told)
+
+pub returns-in-Err-clause-passes : goal.returns-in-Err-clause-passes
+returns-in-Err-clause-passes g c told =
+    breaks_as g.D.Disk.may_leave g.D.Disk.moment g.D.Disk.left_since c.args.disk.now c.note.new.disk c.args.book.now.entries.items c.note.new.book.entries.items
+    (λ e. c.entry_of.result ≡ Some e) (Follows c.note.new.book.entries.items) (exit_of c.in-Err.halt)
+    (λ e q. note_doubted g.D.Disk.tells (g.D.Disk.seen c.note.new.disk) (g.D.Disk.room_of c.args.disk.now) (g.D.Disk.count c.args.disk.now) (g.D.Disk.count c.note.new.disk)
+    c.args.book.now.entries.items c.note.new.book.entries.items c.entry_of.result (schemas_of c.args.homes.now) c.in-Err.halt e c.in-Err.ensures.tells q
+    (c.requires.may e (sym c.entry_of.ensures ∙ q)))
+    (c.in-Err.ensures.passes told)

@@ -4,6 +4,8 @@ use Rattle.cf_face.specs.Words.{command_of}
 use Rattle.cf_face.specs.declared.exit.Exit.TheVariants as exit
 use Rattle.cf_effect.specs.World.{stack_at}
 use Rattle.cf_top.specs.Answer.{DescribesIn, is_asking}
+use Rattle.cf_journal.specs.Record.{IsOldOrKept}
+use Rattle.cf_journal.proofs.Moments.{started}
 use Rattle.cf_top.proofs.top.answer.Goals as goal
 
 pub returns-in-Ok-Some-Deploy-clause-answered : goal.returns-in-Ok-Some-Deploy-clause-answered
@@ -44,3 +46,39 @@ returns-in-Ok-Some-Describe-clause-answered g c =
       c.in-Err-open.ensures.kept,
       inr (c.in-Err-open.exit, c.in-Err-open.ensures.cause, c.print_exit-in-Err-open.ensures.tells),
     ))
+
+pub returns-in-Ok-Some-Validate-clause-any_moment : goal.returns-in-Ok-Some-Validate-clause-any_moment
+returns-in-Ok-Some-Validate-clause-any_moment g c told =
+    started g.D.Disk.moment g.D.Disk.left_since c.args.disk.now (IsOldOrKept (g.D.Disk.may_leave c.args.disk.now) (g.D.Disk.seen c.args.disk.now)) (λ file left. inl (g.met.D.Disk.only_now c.args.disk.now file told left))
+
+pub returns-in-Ok-Some-Validate-clause-leaves : goal.returns-in-Ok-Some-Validate-clause-leaves
+returns-in-Ok-Some-Validate-clause-leaves g c told = λ file left. inl left
+
+pub returns-in-Ok-Some-Deploy-clause-any_moment : goal.returns-in-Ok-Some-Deploy-clause-any_moment
+returns-in-Ok-Some-Deploy-clause-any_moment g c told =
+    started g.D.Disk.moment g.D.Disk.left_since c.args.disk.now (IsOldOrKept (g.D.Disk.may_leave c.args.disk.now) (g.D.Disk.seen c.args.disk.now)) (λ file left. inl (g.met.D.Disk.only_now c.args.disk.now file told left))
+
+pub returns-in-Ok-Some-Deploy-clause-leaves : goal.returns-in-Ok-Some-Deploy-clause-leaves
+returns-in-Ok-Some-Deploy-clause-leaves g c told = λ file left. inl left
+
+pub returns-in-Ok-None-clause-any_moment : goal.returns-in-Ok-None-clause-any_moment
+returns-in-Ok-None-clause-any_moment g c told =
+    started g.D.Disk.moment g.D.Disk.left_since c.args.disk.now (IsOldOrKept (g.D.Disk.may_leave c.args.disk.now) (g.D.Disk.seen c.args.disk.now)) (λ file left. inl (g.met.D.Disk.only_now c.args.disk.now file told left))
+
+pub returns-in-Ok-None-clause-leaves : goal.returns-in-Ok-None-clause-leaves
+returns-in-Ok-None-clause-leaves g c told = λ file left. inl left
+
+pub returns-clause-any_moment : goal.returns-clause-any_moment
+returns-clause-any_moment g c told =
+    started g.D.Disk.moment g.D.Disk.left_since c.args.disk.now (IsOldOrKept (g.D.Disk.may_leave c.args.disk.now) (g.D.Disk.seen c.args.disk.now)) (λ file left. inl (g.met.D.Disk.only_now c.args.disk.now file told left))
+
+pub returns-clause-leaves : goal.returns-clause-leaves
+returns-clause-leaves g c told = λ file left. inl left
+
+pub returns-in-Ok-clause-leaves : goal.returns-in-Ok-clause-leaves
+returns-in-Ok-clause-leaves g c told =
+    let all = c.open.ensures.any_moment told in λ file left. all.each file (g.met.D.Disk.counts_now c.open.new.disk (g.D.Disk.moment c.args.disk.now) file told all.later left)
+
+pub returns-in-Ok-Some-Describe-clause-leaves : goal.returns-in-Ok-Some-Describe-clause-leaves
+returns-in-Ok-Some-Describe-clause-leaves g c told =
+    let all = c.open.ensures.any_moment told in λ file left. all.each file (g.met.D.Disk.counts_now c.open.new.disk (g.D.Disk.moment c.args.disk.now) file told all.later left)

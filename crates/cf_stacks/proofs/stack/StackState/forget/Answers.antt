@@ -13,6 +13,7 @@ invariant_of-self c = record {
   room = omega (arith, c.self.invariant.room, c.forget.ensures.len, c.forget.ensures.capacity);
   rooms = rw c.forget.ensures.items (rooms_left (state_of c.self.inside.state) c.args.token c.self.inside.rooms.items c.self.invariant.rooms);
   apart = c.self.invariant.apart;
+  findings = c.self.invariant.findings;
 }
 
 pub returns : goal.returns

@@ -20,4 +20,5 @@ invariant_of-self c =
       room = omega (arith, c.self.invariant.room);
       rooms = rooms_keep (state_of c.self.inside.state) (state_of c.args.state) c.self.inside.rooms.items keeps c.self.invariant.rooms;
       apart = c.requires.apart apart;
+      findings = rw c.lose.ensures tt;
     })

@@ -10,4 +10,5 @@ invariant_of-self-in_err-reserve-2 c = record {
   room = omega (arith, c.self.invariant.room, c.reserve.ensures.len, c.reserve.ensures.capacity);
   rooms = rw (c.reserve-2.ensures.same, c.reserve.ensures.items) c.self.invariant.rooms;
   apart = subst HaveOwnTokens (sym (ap (λ (s : StackState). s.tokens) c.reserve-2.ensures.same)) c.self.invariant.apart;
+  findings = rw c.reserve-2.ensures.same c.self.invariant.findings;
 }

@@ -1,0 +1,64 @@
+-- How findings are worked out, and how they follow what an outcome changes (this project's own).
+use Rattle.std.specs.Prelude.{◌≡◌, ℕ, zero, suc, false, List, [], ◌∷◌, Option, Some, None, fold, length, slice_get}
+use Rattle.std.specs.List.{filter_map}
+use Rattle.std.specs.Option.{option_and_then, option_or}
+use Rattle.cf_tree.specs.Lists.{is_among}
+use Rattle.cf_desired.specs.declared.wanted.Evaluated.{Evaluated}
+use Rattle.cf_desired.specs.Seeing.{Seen}
+use Rattle.cf_desired.specs.Whole.{known_of}
+use Rattle.cf_desired.specs.Work.{Member}
+use Rattle.cf_effect.specs.declared.findings.Found.{Found}
+use Rattle.cf_effect.specs.declared.held.Held.{Held}
+use Rattle.cf_effect.specs.Begin.{put_seen}
+use Rattle.cf_effect.specs.Layout.{is_place, members_of}
+use Rattle.cf_effect.specs.Words.{resource_at}
+use Rattle.cf_effect.specs.World.{StackState}
+
+-- what is kept at a place
+abbrev pub kept_at : List (Option ℕ) → ℕ → Option ℕ
+kept_at places at = option_and_then (λ (place : Option ℕ). place) (slice_get places at)
+
+-- the resource of the path at a place, and what the resources at some places show
+abbrev pub resource_in : StackState → ℕ → Option Held
+resource_in s at = option_and_then (λ m. resource_at m.path s) (slice_get (members_of s) at)
+
+abbrev pub seen_of_places : StackState → List ℕ → Seen
+seen_of_places s places = fold put_seen [] (filter_map (resource_in s) places)
+
+-- nothing is found
+abbrev pub IsNothing : List (Option Found) → Type 0
+IsNothing found = (at : ℕ) (e : Found) → slice_get found at ≡ Some (Some e) → ⊥
+
+-- what properties come to, with the properties themselves where all are known
+abbrev pub IsFoundBy : Option Evaluated → Option Found → Type 0
+IsFoundBy v None = v ≡ None
+IsFoundBy v (Some e) = (v ≡ Some e.evaluated) × (e.known ≡ known_of e.evaluated)
+
+-- what was found at some places is taken off
+pub record AreTaken (places : List ℕ) (old new : List (Option Found)) : Type 0 where
+  pub count : length new ≡ length old
+  pub kept : (at : ℕ) (e : Found) → slice_get new at ≡ Some (Some e) → slice_get old at ≡ Some (Some e)
+  pub other : (at : ℕ) (e : Found) → slice_get new at ≡ Some (Some e) → is_place at places ≡ false
+
+-- nothing is left of what was found of a path that needs this one
+pub record Forgets (s : StackState) (path : List ℕ) (old new : List (Option Found)) : Type 0 where
+  pub count : length new ≡ length old
+  pub kept : (at : ℕ) (e : Found) → slice_get new at ≡ Some (Some e) → slice_get old at ≡ Some (Some e)
+  pub other : (at : ℕ) (m : Member) (e : Found) → slice_get (members_of s) at ≡ Some m → slice_get new at ≡ Some (Some e)
+      → is_among path m.needs ≡ false
+
+-- the path stands at this place
+abbrev pub IsPlaceOf : StackState → List ℕ → ℕ → Type 0
+IsPlaceOf s path at = (m : Member) × (slice_get (members_of s) at ≡ Some m) × (m.path ≡ path)
+
+-- a place is put in, where there is none yet
+abbrev pub with_place : ℕ → ℕ → List (Option ℕ) → List (Option ℕ)
+with_place at place [] = []
+with_place zero place (o ∷ os) = option_or o (Some place) ∷ os
+with_place (suc at) place (o ∷ os) = o ∷ with_place at place os
+
+-- a change of a resource that leaves it the resource of its path, or of none
+pub record KeepsPath (change : Held → Held) : Type 0 where
+  pub path : (h : Held) → (change h).path ≡ h.path
+  pub physical : (h : Held) → (change h).physical ≡ h.physical
+  pub superseded : (h : Held) → (change h).superseded ≡ h.superseded

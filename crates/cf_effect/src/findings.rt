@@ -1,0 +1,333 @@
+//! What is kept of the paths of an operation's source beside the record of its stack.
+ghost use Rattle.std.specs.Prelude.{◌≡◌, ℕ, IfOk, IfSome, None, Some, map, option_copied, length, set, slice_get};
+ghost use Rattle.std.specs.Option.{option_and_then};
+ghost use Rattle.cf_desired.specs.Plan.{props_at};
+ghost use Rattle.cf_desired.specs.Shape.{shape_of};
+ghost use Rattle.cf_desired.specs.Whole.{known_of};
+ghost use Rattle.cf_desired.specs.Work.{Member};
+ghost use Rattle.cf_effect.specs.Begin.{seen_in};
+ghost use Rattle.cf_effect.specs.Findings.{AreFindings, FindsAt, place_among};
+ghost use Rattle.cf_effect.specs.Following.{IsFoundBy, IsNothing, kept_at, resource_in, seen_of_places};
+ghost use Rattle.cf_effect.specs.Layout.{IsLayoutOf, members_of};
+ghost use Rattle.cf_effect.specs.State.{state_of};
+
+use crate::held::Held;
+use crate::layout::{Layout, Placed};
+use crate::outset::Outset;
+use crate::seen::see;
+use crate::state::State;
+use cf_desired::{Evaluated, Seen, props_at};
+use cf_tree::{Dict, Txt};
+use std::alloc::{AllocError, Global};
+
+/// What the properties of a path come to, with the properties themselves where all are known.
+#[derive(Drop)]
+pub struct Found {
+    pub evaluated: Evaluated,
+    pub known: Option<Dict>,
+}
+
+/// What is kept of each path of the operation's source, by its place in the order of work.
+#[derive(Drop)]
+pub struct Findings {
+    /// Where its resource stands among those that the operation made.
+    pub made: Vec<Option<usize>>,
+    /// Where its resource stands among those that are held.
+    pub held: Vec<Option<usize>>,
+    /// What its properties come to, where that is worked out.
+    pub found: Vec<Option<Found>>,
+}
+
+/// The layout of the source of a stack's last create or update, where there was one.
+#[tactic(auto, using(crate::proofs::Sought::layout_there, crate::proofs::Sought::layout_nowhere))]
+pub fn layout_of(state: &State) -> Option<&Layout>
+    ensures { IsLayoutOf (state_of state.now) (option_copied result) }
+{
+    match &state.outset {
+        Some(outset) => Some(outset.layout()),
+        None => None,
+    }
+}
+
+/// The rows of its source.
+fn rows_of(state: &State) -> &[Placed]
+    ensures { map (λ r. r.path) result.now ≡ map (λ m. m.path) (members_of (state_of state.now)) }
+{
+    match layout_of(state) {
+        Some(layout) => layout.rows.as_slice(),
+        None => &[],
+    }
+}
+
+/// The place in a list of the resource that it holds at a path.
+fn place_among(path: &Txt, helds: &[Held]) -> Option<usize>
+    ensures { result ≡ place_among path.now helds.now }
+{
+    helds
+        .iter()
+        .position(|held| *path == held.path && !held.superseded)
+}
+
+/// The places in a list of the resources that it holds at the paths of these rows.
+fn places_among(
+    alloc: Global,
+    rows: &[Placed],
+    helds: &[Held],
+) -> Result<Vec<Option<usize>>, AllocError>
+    ensures { IfOk result (λ places. places.items ≡ map (λ r. place_among r.path helds.now) rows.now) }
+{
+    let mut places = Vec::new(alloc);
+    for row in rows {
+        places.push(place_among(&row.path, helds))?;
+    }
+    Ok(places)
+}
+
+/// Nothing is worked out of so many paths.
+#[tactic(auto, using(crate::proofs::Sought::nothing_more))]
+fn nothing_found(alloc: Global, count: usize) -> Result<Vec<Option<Found>>, AllocError>
+    ensures count { IfOk result (λ found. length found.items ≡ count) }
+    ensures none { IfOk result (λ found. IsNothing found.items) }
+{
+    let mut found = Vec::new(alloc);
+    'places: while found.len() < count {
+        found.push(None)?;
+    }
+    Ok(found)
+}
+
+/// Findings of a stack, of which nothing is worked out yet.
+///
+/// # Errors
+///
+/// Only for want of memory.
+#[tactic(auto, using(crate::proofs::Sought::findings_first))]
+pub fn findings_of(alloc: Global, state: &State) -> Result<Findings, AllocError>
+    ensures { IfOk result (AreFindings (state_of state.now)) }
+{
+    let rows = rows_of(state);
+    let made = places_among(alloc, rows, state.made.as_slice())?;
+    let held = places_among(alloc, rows, state.held.as_slice())?;
+    let found = nothing_found(alloc, rows.len())?;
+    Ok(Findings { made, held, found })
+}
+
+/// The place that is kept of a path, where there is one.
+pub(crate) fn place_at(places: &[Option<usize>], at: usize) -> Option<usize>
+    ensures { result ≡ kept_at places.now at }
+{
+    match places.get(at) {
+        Some(place) => *place,
+        None => None,
+    }
+}
+
+/// The resource at a place of a list, where there is one.
+fn held_at(helds: &[Held], place: Option<usize>) -> Option<&Held>
+    ensures { option_copied result ≡ option_and_then (slice_get helds.now) place }
+{
+    match place {
+        Some(place) => helds.get(place),
+        None => None,
+    }
+}
+
+/// The resource of the path at a place: the one that the operation made, or else the held one.
+#[tactic(auto, using(crate::proofs::Sought::resource_there))]
+fn resource_of<'a>(state: &'a State, findings: &Findings, at: usize) -> Option<&'a Held>
+    requires { AreFindings (state_of state.now) findings.now }
+    ensures { option_copied result ≡ resource_in (state_of state.now) at }
+{
+    match held_at(
+        state.made.as_slice(),
+        place_at(findings.made.as_slice(), at),
+    ) {
+        Some(held) => Some(held),
+        None => held_at(
+            state.held.as_slice(),
+            place_at(findings.held.as_slice(), at),
+        ),
+    }
+}
+
+/// What the resources of these paths show.
+fn seen_at(
+    alloc: Global,
+    state: &State,
+    findings: &Findings,
+    needs: &[usize],
+) -> Result<Seen, AllocError>
+    requires { AreFindings (state_of state.now) findings.now }
+    ensures { IfOk result (λ seen. seen ≡ seen_of_places (state_of state.now) needs.now) }
+{
+    let mut seen = Seen::new(alloc);
+    for at in needs {
+        if let Some(held) = resource_of(state, findings, *at) {
+            see(alloc, &mut seen, held)?;
+        }
+    }
+    Ok(seen)
+}
+
+/// What the properties of a row come to over the resources of what it needs.
+fn evaluate(
+    alloc: Global,
+    state: &State,
+    outset: &Outset,
+    findings: &Findings,
+    row: &Placed,
+) -> Result<Option<Evaluated>, AllocError>
+    requires { AreFindings (state_of state.now) findings.now }
+    ensures { IfOk result (λ v. v
+        ≡ props_at outset.now.source (shape_of outset.now.source (seen_in outset.now.before)) (seen_of_places (state_of state.now) row.now.needs.items) row.now.path) }
+{
+    let seen = seen_at(alloc, state, findings, row.needs.as_slice())?;
+    let found = props_at(alloc, outset.source(), outset.shape(), &seen, &row.path);
+    drop(seen);
+    found
+}
+
+/// What properties come to, with the properties themselves where all are known.
+fn found_of(alloc: Global, evaluated: Evaluated) -> Result<Found, AllocError>
+    ensures evaluated { IfOk result (λ found. found.evaluated ≡ evaluated) }
+    ensures known { IfOk result (λ found. found.known ≡ known_of evaluated) }
+{
+    match known_in(alloc, &evaluated) {
+        Ok(known) => Ok(Found { evaluated, known }),
+        Err(failed) => {
+            drop(evaluated);
+            Err(failed)
+        }
+    }
+}
+
+/// The properties themselves, where all are known.
+fn known_in(alloc: Global, evaluated: &Evaluated) -> Result<Option<Dict>, AllocError>
+    ensures { IfOk result (λ known. known ≡ known_of evaluated.now) }
+{
+    match evaluated {
+        Evaluated::Flawed { flaw: _ } => Ok(None),
+        Evaluated::Known { props } => props.known(alloc),
+    }
+}
+
+/// What the properties of a row come to.
+fn find_row(
+    alloc: Global,
+    state: &State,
+    outset: &Outset,
+    findings: &Findings,
+    row: &Placed,
+) -> Result<Option<Found>, AllocError>
+    requires { AreFindings (state_of state.now) findings.now }
+    ensures { IfOk result (IsFoundBy
+        (props_at outset.now.source (shape_of outset.now.source (seen_in outset.now.before)) (seen_of_places (state_of state.now) row.now.needs.items) row.now.path)) }
+{
+    match evaluate(alloc, state, outset, findings, row)? {
+        Some(evaluated) => Ok(Some(found_of(alloc, evaluated)?)),
+        None => Ok(None),
+    }
+}
+
+/// What the properties at a place come to over the resources of now; only what they need is looked at.
+///
+/// # Errors
+///
+/// Only for want of memory.
+#[tactic(auto, using(crate::proofs::Sought::found_at, crate::proofs::Sought::none_at, crate::proofs::Sought::none_without))]
+pub fn find_at(
+    alloc: Global,
+    state: &State,
+    findings: &Findings,
+    at: usize,
+) -> Result<Option<Found>, AllocError>
+    requires { AreFindings (state_of state.now) findings.now }
+    ensures { IfOk result (λ found. (m : Member) → slice_get (members_of (state_of state.now)) at ≡ Some m
+        → FindsAt (state_of state.now) m.path found) }
+{
+    match &state.outset {
+        Some(outset) => match outset.layout().row_at(at) {
+            Some(row) => find_row(alloc, state, outset, findings, row),
+            None => Ok(None),
+        },
+        None => Ok(None),
+    }
+}
+
+/// Whether a path has a resource.
+fn is_there(findings: &Findings, at: usize) -> bool {
+    place_at(findings.made.as_slice(), at).is_some()
+        || place_at(findings.held.as_slice(), at).is_some()
+}
+
+/// Whether nothing is worked out at a place, and all that it needs has a resource.
+fn is_due(rows: &[Placed], findings: &Findings, at: usize) -> bool {
+    match (findings.found.get(at), rows.get(at)) {
+        (Some(None), Some(row)) => row.needs.iter().all(|need| is_there(findings, *need)),
+        _ => false,
+    }
+}
+
+/// Puts in what the properties at a place come to.
+fn put_found(findings: &mut Findings, at: usize, found: Found)
+    ensures made { findings.new.made ≡ findings.old.made }
+    ensures held { findings.new.held ≡ findings.old.held }
+    ensures found { findings.new.found.items ≡ set findings.old.found.items at (Some found) }
+{
+    if at < findings.found.len() {
+        findings.found[at] = Some(found);
+    }
+}
+
+/// Works out what the properties at a place come to.
+#[tactic(auto, using(crate::proofs::Sought::found_more))]
+fn find_one(
+    alloc: Global,
+    state: &State,
+    findings: &mut Findings,
+    at: usize,
+) -> Result<(), AllocError>
+    requires { AreFindings (state_of state.now) findings.old }
+    ensures { AreFindings (state_of state.now) findings.new }
+{
+    if let Some(found) = find_at(alloc, state, findings, at)? {
+        put_found(findings, at, found);
+    }
+    Ok(())
+}
+
+/// Works out what the properties of each path come to all of whose needs are made or held, where that is not known yet. After
+/// an error some of it may be worked out.
+fn find_more(alloc: Global, state: &State, findings: &mut Findings) -> Result<(), AllocError>
+    requires { AreFindings (state_of state.now) findings.old }
+    ensures { AreFindings (state_of state.now) findings.new }
+{
+    let rows = rows_of(state);
+    for at in 0..rows.len() {
+        if is_due(rows, findings, at) {
+            find_one(alloc, state, findings, at)?;
+        }
+    }
+    Ok(())
+}
+
+/// Works out what the properties of each path come to all of whose needs are made or held, where that is not known yet; the
+/// findings are laid out first, where there are none. After an error some of it may be worked out.
+///
+/// # Errors
+///
+/// Only for want of memory.
+pub fn look(alloc: Global, state: &State, findings: &mut Option<Findings>) -> Result<(), AllocError>
+    requires { IfSome findings.old (AreFindings (state_of state.now)) }
+    ensures { IfSome findings.new (AreFindings (state_of state.now)) }
+{
+    match findings {
+        Some(findings) => find_more(alloc, state, findings),
+        None => {
+            let mut first = findings_of(alloc, state)?;
+            let found = find_more(alloc, state, &mut first);
+            *findings = Some(first);
+            found
+        }
+    }
+}
