@@ -1,13 +1,14 @@
 -- A call, a late effect and a raised fence keep agreement, whatever they come to.
 use Rattle.cf_agree.proofs.Effects.{Does, does, makes, sets, takes, keeps, with_props, gone_names, gone_request, set_names, set_request, made_success}
 use Rattle.cf_agree.proofs.Words.{bytes_or, in_either, entry_now, entry_others, live_more, used_still, unused, number_or, one_lane, used_born, unsettled, in_got, in_removed, some_or}
-use Rattle.cf_agree.specs.{Account.Account, Account.Called, Account.Open, Account.Role, Account.Thing, Account.called, Moves.IsOut}
+use Rattle.cf_agree.specs.{Account.Account, Account.Called, Account.Open, Account.Role, Account.Thing, Account.called_of, Moves.IsOut}
 use Rattle.cf_agree.specs.Account.Role.{Stranger, Resource}
-use Rattle.cf_agree.specs.Base.{In, entry_at, lane_of, Dict, Made, Set, named_by, gone_by, effect_of}
-use Rattle.cf_agree.specs.Lanes.{Lanes, live_in, used_in, entry_in, Replaced, IsThere}
-use Rattle.cf_agree.specs.Ties.{Fits, IsAccounted, IsSettled, Ties, Books, IsMade, IsGone, IsChanged, IsBorn, IsLost}
+use Rattle.cf_agree.specs.Base.{settled_at, lane_of, Dict, Made, Set, named_by, gone_by, change_of}
+use Rattle.cf_tree.specs.Lists.{In}
+use Rattle.cf_agree.specs.Lanes.{Lanes, live_in, used_in, settled_under, Replaced, IsThere}
+use Rattle.cf_agree.specs.Ties.{FitsCall, IsAccounted, IsSettledCall, Ties, Books, IsMade, IsGone, IsChanged, IsBorn, IsLost}
 use Rattle.cf_handler.specs.Fence.{FencedLane, Flying, live_at, CallMove, IsStale, LateMove, settled_late, FenceMove, FenceAnswer, Raised, Ahead, Broken, with_flying, raised_to}
-use Rattle.cf_handler.specs.Lane.{LaneState, live_of, is_used, changed_by, Live, has_id, settlement_of}
+use Rattle.cf_handler.specs.Lane.{LaneState, live_of, is_used, live_changed, Live, has_id, settlement_of}
 use Rattle.cf_handler.specs.{Move.IsOfLane, Move.LaneMove, Move.MaySettle, Move.SettlesBy, Move.with_settled, Name.is_lane_name}
 use Rattle.cf_handler.specs.declared.{settled.Settled.Settled, settled.Settlement.Settlement}
 use Rattle.cf_handler.specs.declared.settled.Settlement.TheVariants.{Success, Failed}
@@ -22,8 +23,8 @@ use Rattle.cf_tree.specs.declared.request.Answer.TheVariants as answer
 -- w' is w with one more settled call on the lane n
 pub record Settling (n : List ℕ) (s : Settled) (w w' : Lanes) : Type 0 where
   pub kinds : (m : List ℕ) → w'.kind m ≡ w.kind m
-  pub at : entry_in w' n s.token ≡ Some s
-  pub at_others : (m : List ℕ) (t : ℕ) → ((m ≢ n) ⊎ (t ≢ s.token)) → entry_in w' m t ≡ entry_in w m t
+  pub at : settled_under w' n s.token ≡ Some s
+  pub at_others : (m : List ℕ) (t : ℕ) → ((m ≢ n) ⊎ (t ≢ s.token)) → settled_under w' m t ≡ settled_under w m t
   pub members : (m : List ℕ) (r : Settled) → In r (w'.lane m).state.settled → In r (w.lane m).state.settled ⊎ ((m ≡ n) × (r ≡ s))
   pub bases : (m : List ℕ) → (w'.lane m).state.base ≡ (w.lane m).state.base
   pub flies : (m : List ℕ) (f : Flying) → In f (w'.lane m).flying → In f (w.lane m).flying
@@ -48,14 +49,14 @@ each_lane n l w w' rep P replaced others m = elim (bytes_or m n) [
 ]
 
 pub settling :
-    (n : List ℕ) (s : Settled) (l' : FencedLane) (w w' : Lanes) → Replaced n l' w w' → MoreSettled s (w.lane n) l' → entry_in w n s.token ≡ None
+    (n : List ℕ) (s : Settled) (l' : FencedLane) (w w' : Lanes) → Replaced n l' w w' → MoreSettled s (w.lane n) l' → settled_under w n s.token ≡ None
     → MaySettle n (w.lane n).state s.request s.settlement → Settling n s w w'
 settling n s l' w w' rep more new fits = record {
   kinds = rep.kinds;
-  at = ap (λ (l : LaneState). entry_at s.token l.settled) state ∙ entry_now s.token (w.lane n).state.settled s refl new;
-  at_others = each_lane n l' w w' rep (λ m l k. (t : ℕ) → ((m ≢ n) ⊎ (t ≢ s.token)) → entry_at t k.state.settled ≡ entry_at t l.state.settled) (λ t h. elim h [
+  at = ap (λ (l : LaneState). settled_at s.token l.settled) state ∙ entry_now s.token (w.lane n).state.settled s refl new;
+  at_others = each_lane n l' w w' rep (λ m l k. (t : ℕ) → ((m ≢ n) ⊎ (t ≢ s.token)) → settled_at t k.state.settled ≡ settled_at t l.state.settled) (λ t h. elim h [
     | inl k ↦ absurd (k refl)
-    | inr k ↦ ap (λ (l : LaneState). entry_at t l.settled) more.state ∙ entry_others t (w.lane n).state.settled s k
+    | inr k ↦ ap (λ (l : LaneState). settled_at t l.settled) more.state ∙ entry_others t (w.lane n).state.settled s k
   ]) (λ m l t h. refl);
   members = each_lane n l' w w' rep (λ m l k. (r : Settled) → In r k.state.settled → In r l.state.settled ⊎ ((m ≡ n) × (r ≡ s)))
       (λ r i. elim (in_either r (w.lane n).state.settled s (subst (λ (l : LaneState). In r l.settled) more.state i)) [ inl j ↦ inl j | inr j ↦ inr (refl, j) ])
@@ -72,7 +73,7 @@ settling n s l' w w' rep more new fits = record {
     state : (w'.lane n).state ≡ with_settled (w.lane n).state s
     state = ap (λ (l : FencedLane). l.state) rep.at ∙ more.state
 
-    lives : (i : List ℕ) → live_in w' n i ≡ find (λ r. bytes_eq i r.id) (changed_by s.request s.settlement (live_of (w.lane n).state))
+    lives : (i : List ℕ) → live_in w' n i ≡ find (λ r. bytes_eq i r.id) (live_changed s.request s.settlement (live_of (w.lane n).state))
     lives i = ap (λ (l : LaneState). find (λ r. bytes_eq i r.id) (live_of l)) state ∙ ap (λ l. find (λ r. bytes_eq i r.id) l) (live_more (w.lane n).state.base (w.lane n).state.settled s)
 
 -- A lane that is called and left as it was, a call that flies on, and a raised fence keep agreement.
@@ -85,15 +86,15 @@ pub record Alike (w w' : Lanes) : Type 0 where
 -- what flies there is accounted for, and no fence is ahead
 pub record Flies (a : Account) (w w' : Lanes) : Type 0 where
   pub fences : (m : List ℕ) → (w'.lane m).fence ≤ a.epoch
-  pub calls : (m : List ℕ) (f : Flying) → In f (w'.lane m).flying → Fits a m f.token f.request
-  pub opens : (m : List ℕ) (f : Flying) → In f (w'.lane m).flying → entry_in w m f.token ≡ None → (w'.lane m).fence ≤ f.epoch → IsAccounted a f.token f.request
+  pub calls : (m : List ℕ) (f : Flying) → In f (w'.lane m).flying → FitsCall a m f.token f.request
+  pub opens : (m : List ℕ) (f : Flying) → In f (w'.lane m).flying → settled_under w m f.token ≡ None → (w'.lane m).fence ≤ f.epoch → IsAccounted a f.token f.request
   pub epochs : (m : List ℕ) (f : Flying) → In f (w'.lane m).flying → f.epoch ≤ a.epoch
-  pub at_rest : (m : List ℕ) (f : Flying) (o : Open) → In f (w'.lane m).flying → entry_in w m f.token ≡ None → a.open_ f.token ≡ Some o → a.resting o.stack ≡ true → f.epoch < a.epoch
+  pub at_rest : (m : List ℕ) (f : Flying) (o : Open) → In f (w'.lane m).flying → settled_under w m f.token ≡ None → a.open_ f.token ≡ Some o → a.resting o.stack ≡ true → f.epoch < a.epoch
 
 -- An account that tells the same of ids, over lanes that agree on all but what flies and the fences.
 module _ (a x : Account) (w w' : Lanes) (h : Ties a w) (al : Alike w w') where
-  entries : (m : List ℕ) (t : ℕ) → entry_in w' m t ≡ entry_in w m t
-  entries m t = ap (λ (l : LaneState). entry_at t l.settled) (al.states m)
+  entries : (m : List ℕ) (t : ℕ) → settled_under w' m t ≡ settled_under w m t
+  entries m t = ap (λ (l : LaneState). settled_at t l.settled) (al.states m)
 
   lives : (m i : List ℕ) → live_in w' m i ≡ live_in w m i
   lives m i = ap (λ (l : LaneState). find (λ r. bytes_eq i r.id) (live_of l)) (al.states m)
@@ -106,8 +107,8 @@ module _ (a x : Account) (w w' : Lanes) (h : Ties a w) (al : Alike w w') where
   telling = record x { role = a.role; lost = a.lost }
 
   pub ties_alike :
-      ((n : List ℕ) (t : ℕ) (r : Request) → Fits a n t r → Fits telling n t r)
-      → ((t : ℕ) (o : Open) (s : Settled) → entry_in w o.lane t ≡ Some s → (x.open_ t ≡ Some o) ↔ (a.open_ t ≡ Some o))
+      ((n : List ℕ) (t : ℕ) (r : Request) → FitsCall a n t r → FitsCall telling n t r)
+      → ((t : ℕ) (o : Open) (s : Settled) → settled_under w o.lane t ≡ Some s → (x.open_ t ≡ Some o) ↔ (a.open_ t ≡ Some o))
       → ((n k : List ℕ) → x.named n ≡ Some k → w.kind n ≡ Some k)
       → ((t : ℕ) (y : Settlement) (c : Called) → x.told t ≡ Some y → x.call t ≡ Some c → (a.told t ≡ Some y) × (a.call t ≡ Some c))
       → Flies telling w w' → Ties telling w'
@@ -143,10 +144,10 @@ module _ (a x : Account) (w w' : Lanes) (h : Ties a w) (al : Alike w w') where
     ];
   }
     where
-      back : (t : ℕ) (o : Open) (s : Settled) → IsSettled telling w' t o s → IsSettled a w t o s
+      back : (t : ℕ) (o : Open) (s : Settled) → IsSettledCall telling w' t o s → IsSettledCall a w t o s
       back t o s (y, z) = let e = sym (entries o.lane t) ∙ z in ((opens t o s e).0 y, e)
 
-      forth : (t : ℕ) (o : Open) (s : Settled) → IsSettled a w t o s → IsSettled telling w' t o s
+      forth : (t : ℕ) (o : Open) (s : Settled) → IsSettledCall a w t o s → IsSettledCall telling w' t o s
       forth t o s (y, z) = ((opens t o s z).1 y, entries o.lane t ∙ z)
 
 -- the same account
@@ -180,7 +181,7 @@ module _ (a : Account) (n : List ℕ) (l : FencedLane) (w w' : Lanes) (h : Ties 
     fences = λ m. subst (λ c. c ≤ a.epoch) (sym (fence m)) (h.fences m);
     calls = λ m g i. elim (flown_or m g i) [
       | inl j ↦ h.flying_calls m g j
-      | inr j ↦ subst (λ k. Fits a k g.token g.request) (sym j.0) (subst (λ (x : Flying). Fits a n x.token x.request) (sym j.1) out.own)
+      | inr j ↦ subst (λ k. FitsCall a k g.token g.request) (sym j.0) (subst (λ (x : Flying). FitsCall a n x.token x.request) (sym j.1) out.own)
     ];
     opens = λ m g i e k. elim (flown_or m g i) [
       | inl j ↦ h.flying_open m g j e (subst (λ c. c ≤ g.epoch) (fence m) k)
@@ -204,7 +205,7 @@ module _ (a : Account) (n : List ℕ) (l : FencedLane) (w w' : Lanes) (h : Ties 
 
 -- what may settle as made is new, and of its lane
 pub may_make :
-    (n : List ℕ) (l : LaneState) (r : Request) (x : Settlement) (i k : List ℕ) (p t : Dict) → MaySettle n l r x → effect_of r x ≡ Made i k p t
+    (n : List ℕ) (l : LaneState) (r : Request) (x : Settlement) (i k : List ℕ) (p t : Dict) → MaySettle n l r x → change_of r x ≡ Made i k p t
     → IsOfLane n i × (is_used i l ≡ false)
 may_make n l (Create k' p') (Success j t') i k p t m e = let z : j ≡ i = cc in (subst (λ q. IsOfLane n q) z m.0, subst (λ q. is_used q l ≡ false) z m.2)
 may_make n l r x i k p t m e = let (a, b) = made_success r x i k p t e in absurd (grind arith)
@@ -216,23 +217,23 @@ pub one_call :
 one_call a b t u o v i e k x y = grind arith
 
 -- an open call that is settled was settled with its own request
-pub request_of : (a : Account) (w : Lanes) → Books a → Ties a w → (t : ℕ) (o : Open) (s : Settled) → IsSettled a w t o s → o.request ≡ s.request
-request_of a w b h t o s (y, z) = ((h.settled_calls o.lane t s z).written (called o) (b.calls t o y)).1
+pub request_of : (a : Account) (w : Lanes) → Books a → Ties a w → (t : ℕ) (o : Open) (s : Settled) → IsSettledCall a w t o s → o.request ≡ s.request
+request_of a w b h t o s (y, z) = ((h.settled_calls o.lane t s z).written (called_of o) (b.calls t o y)).1
 
 module _
     (a : Account) (n : List ℕ) (s : Settled) (w w' : Lanes) (b : Books a) (h : Ties a w) (f : Settling n s w w')
-    (new : entry_in w n s.token ≡ None) (fits : MaySettle n (w.lane n).state s.request s.settlement) (there : IsThere w n)
-    (own : Fits a n s.token s.request) (mine : IsAccounted a s.token s.request) where
-  old_or_new : (m : List ℕ) (t : ℕ) (r : Settled) → entry_in w' m t ≡ Some r → (entry_in w m t ≡ Some r) ⊎ ((m ≡ n) × (t ≡ s.token) × (r ≡ s))
+    (new : settled_under w n s.token ≡ None) (fits : MaySettle n (w.lane n).state s.request s.settlement) (there : IsThere w n)
+    (own : FitsCall a n s.token s.request) (mine : IsAccounted a s.token s.request) where
+  old_or_new : (m : List ℕ) (t : ℕ) (r : Settled) → settled_under w' m t ≡ Some r → (settled_under w m t ≡ Some r) ⊎ ((m ≡ n) × (t ≡ s.token) × (r ≡ s))
   old_or_new m t r e = go (bytes_or m n) (number_or t s.token) where
-    go : (m ≡ n) ⊎ (m ≢ n) → (t ≡ s.token) ⊎ (t ≢ s.token) → (entry_in w m t ≡ Some r) ⊎ ((m ≡ n) × (t ≡ s.token) × (r ≡ s))
+    go : (m ≡ n) ⊎ (m ≢ n) → (t ≡ s.token) ⊎ (t ≢ s.token) → (settled_under w m t ≡ Some r) ⊎ ((m ≡ n) × (t ≡ s.token) × (r ≡ s))
     go v0 y = grind arith
 
-  kept : (m : List ℕ) (t : ℕ) (r : Settled) → entry_in w m t ≡ Some r → entry_in w' m t ≡ Some r
+  kept : (m : List ℕ) (t : ℕ) (r : Settled) → settled_under w m t ≡ Some r → settled_under w' m t ≡ Some r
   kept m t r e = grind arith
 
-  unsettled' : (m : List ℕ) (t : ℕ) → entry_in w' m t ≡ None → entry_in w m t ≡ None
-  unsettled' m t e = elim (some_or (entry_in w m t)) [ inl k ↦ k | inr k ↦ (let g = kept m t k.0 k.1 in absurd (cc)) ]
+  unsettled' : (m : List ℕ) (t : ℕ) → settled_under w' m t ≡ None → settled_under w m t ≡ None
+  unsettled' m t e = elim (some_or (settled_under w m t)) [ inl k ↦ k | inr k ↦ (let g = kept m t k.0 k.1 in absurd (cc)) ]
 
   gone_kept : (i : List ℕ) → IsGone a w i → IsGone a w' i
   gone_kept i (t, o, r, (p, q), d) = (t, o, r, (p, kept o.lane t r q), d)
@@ -249,7 +250,7 @@ module _
   -- what the call left of what is live under an id of a lane
   data Leaving (m i : List ℕ) : Type 0 where
     born_there : m ≡ n → IsMade s i → Leaving m i
-    set_there : (p t : Dict) (v : Live) → effect_of s.request s.settlement ≡ Set i p t → live_in w m i ≡ Some v
+    set_there : (p t : Dict) (v : Live) → change_of s.request s.settlement ≡ Set i p t → live_in w m i ≡ Some v
         → live_in w' m i ≡ Some (with_props v p t) → Leaving m i
     gone_there : gone_by s.request s.settlement ≡ Some i → live_in w' m i ≡ None → Leaving m i
     left_there : (m ≡ n → gone_by s.request s.settlement ≢ Some i) → live_in w' m i ≡ live_in w m i → Leaving m i
@@ -286,24 +287,24 @@ module _
   resource_used i r e = h.known i (λ k. absurd (cc)) (resource_there i r e)
 
   fit_open : (o : Open) → a.open_ s.token ≡ Some o → (o.lane ≡ n) × (o.request ≡ s.request)
-  fit_open o e = own.written (called o) (b.calls s.token o e)
+  fit_open o e = own.written (called_of o) (b.calls s.token o e)
 
   -- a settled request that names a resource is that of an open call
   named_open : (i : List ℕ) (r : Thing) → a.role i ≡ Resource r → named_by s.request ≡ Some i → (o : Open) × (a.open_ s.token ≡ Some o) × (lane_of i ≡ n)
   named_open i r e d = grind arith
 
-  settled_now : (o : Open) → a.open_ s.token ≡ Some o → IsSettled a w' s.token o s
-  settled_now o x = (x, subst (λ m. entry_in w' m s.token ≡ Some s) (sym (fit_open o x).0) f.at)
+  settled_now : (o : Open) → a.open_ s.token ≡ Some o → IsSettledCall a w' s.token o s
+  settled_now o x = (x, subst (λ m. settled_under w' m s.token ≡ Some s) (sym (fit_open o x).0) f.at)
 
   is_gone : (i : List ℕ) (r : Thing) → a.role i ≡ Resource r → gone_by s.request s.settlement ≡ Some i → IsGone a w' i
   is_gone i r e d = let o = named_open i r e (gone_names s.request s.settlement i d) in (s.token, o.0, s, settled_now o.0 o.1, d)
 
-  is_changed : (i : List ℕ) (r : Thing) (p t : Dict) → a.role i ≡ Resource r → effect_of s.request s.settlement ≡ Set i p t → IsChanged a w' i
+  is_changed : (i : List ℕ) (r : Thing) (p t : Dict) → a.role i ≡ Resource r → change_of s.request s.settlement ≡ Set i p t → IsChanged a w' i
   is_changed i r p t e d = let o = named_open i r e (set_names s.request s.settlement i p t d) in (s.token, o.0, s, p, t, settled_now o.0 o.1, d)
 
   gone : (i : List ℕ) (r : Thing) → a.role i ≡ Resource r → IsGone a w' i → live_in w' (lane_of i) i ≡ None
   gone i r e (t, o, q, (y, z), d) = go (leaving (lane_of i) i) (old_or_new o.lane t q z) where
-    go : Leaving (lane_of i) i → (entry_in w o.lane t ≡ Some q) ⊎ ((o.lane ≡ n) × (t ≡ s.token) × (q ≡ s)) → live_in w' (lane_of i) i ≡ None
+    go : Leaving (lane_of i) i → (settled_under w o.lane t ≡ Some q) ⊎ ((o.lane ≡ n) × (t ≡ s.token) × (q ≡ s)) → live_in w' (lane_of i) i ≡ None
     go (born_there at m) x = absurd (not_made i (resource_used i r e) m)
     go (set_there p t' v c l l') (inl k) = let g = h.gone i r e (t, o, q, (y, k), d) in absurd (cc)
     go (set_there p t' v c l l') (inr k) = grind (arith, gone_request, set_request)
@@ -329,15 +330,15 @@ module _
   untouched i u ns = grind (arith, leaving, not_made, set_names, gone_names)
 
   -- what was settled before isn't the new call's token
-  apart : (t : ℕ) (o : Open) (r : Settled) → IsSettled a w t o r → t ≢ s.token
+  apart : (t : ℕ) (o : Open) (r : Settled) → IsSettledCall a w t o r → t ≢ s.token
   apart t o r (y, z) e = grind arith
 
-  changed : (t : ℕ) (o : Open) (q : Settled) (i : List ℕ) (p u : Dict) → IsSettled a w' t o q → effect_of q.request q.settlement ≡ Set i p u → (v : Live) × (live_in w' o.lane i ≡ Some v) × (v.props ≡ p) × (v.attrs ≡ u)
+  changed : (t : ℕ) (o : Open) (q : Settled) (i : List ℕ) (p u : Dict) → IsSettledCall a w' t o q → change_of q.request q.settlement ≡ Set i p u → (v : Live) × (live_in w' o.lane i ≡ Some v) × (v.props ≡ p) × (v.attrs ≡ u)
   changed t o q i p u (y, z) d = go (old_or_new o.lane t q z) where
-    on_new : effect_of s.request s.settlement ≡ Set i p u → Does s.request s.settlement i (live_in w n i) (live_in w' n i) → (v : Live) × (live_in w' n i ≡ Some v) × (v.props ≡ p) × (v.attrs ≡ u)
+    on_new : change_of s.request s.settlement ≡ Set i p u → Does s.request s.settlement i (live_in w n i) (live_in w' n i) → (v : Live) × (live_in w' n i ≡ Some v) × (v.props ≡ p) × (v.attrs ≡ u)
     on_new e v1 = grind (arith, with_props, gone_request, set_request)
 
-    on_old : entry_in w o.lane t ≡ Some q → (v : Live) × (live_in w' o.lane i ≡ Some v) × (v.props ≡ p) × (v.attrs ≡ u)
+    on_old : settled_under w o.lane t ≡ Some q → (v : Live) × (live_in w' o.lane i ≡ Some v) × (v.props ≡ p) × (v.attrs ≡ u)
     on_old k =
         let nm : named_by o.request ≡ Some i = ap named_by (request_of a w b h t o q (y, k)) ∙ set_names q.request q.settlement i p u d in
         let (r, e, x, z) = b.named t o i y nm in
@@ -347,10 +348,10 @@ module _
         let was = h.changed t o q i p u (y, k) d in
         (was.0, subst (λ m. live_in w' m i ≡ live_in w m i) (b.home t o i y nm) (untouched i (resource_used i r e) ns) ∙ was.1, was.2, was.3)
 
-    go : (entry_in w o.lane t ≡ Some q) ⊎ ((o.lane ≡ n) × (t ≡ s.token) × (q ≡ s)) → (v : Live) × (live_in w' o.lane i ≡ Some v) × (v.props ≡ p) × (v.attrs ≡ u)
+    go : (settled_under w o.lane t ≡ Some q) ⊎ ((o.lane ≡ n) × (t ≡ s.token) × (q ≡ s)) → (v : Live) × (live_in w' o.lane i ≡ Some v) × (v.props ≡ p) × (v.attrs ≡ u)
     go (inl k) = on_old k
     go (inr k) =
-        let v = on_new (subst (λ (x : Settled). effect_of x.request x.settlement ≡ Set i p u) k.2 d) (f.does i) in
+        let v = on_new (subst (λ (x : Settled). change_of x.request x.settlement ≡ Set i p u) k.2 d) (f.does i) in
         (v.0, ap (λ m. live_in w' m i) k.0 ∙ v.1, v.2, v.3)
 
   role_or : (r : Role) → (r ≡ Stranger) ⊎ (r ≢ Stranger)
@@ -362,28 +363,28 @@ module _
   not_named : (i : List ℕ) → a.role i ≡ Stranger → named_by s.request ≡ Some i → ⊥
   not_named i x e = grind arith
 
-  entry_used : (m : List ℕ) (t : ℕ) (q : Settled) (i : List ℕ) → entry_in w m t ≡ Some q → IsMade q i → used_in w (lane_of i) i ≡ true
+  entry_used : (m : List ℕ) (t : ℕ) (q : Settled) (i : List ℕ) → settled_under w m t ≡ Some q → IsMade q i → used_in w (lane_of i) i ≡ true
   entry_used m t q i e (k, p, u, d) =
       subst (λ j. used_in w j i ≡ true) (sym (h.created_named m i t q e (k, p, u, d)).0)
       (used_born t i u (w.lane m).state q e (made_success q.request q.settlement i k p u d).0)
 
   born :
-      (t : ℕ) (o : Open) (q : Settled) (i k : List ℕ) (p u : Dict) → IsSettled a w' t o q → effect_of q.request q.settlement ≡ Made i k p u
+      (t : ℕ) (o : Open) (q : Settled) (i k : List ℕ) (p u : Dict) → IsSettledCall a w' t o q → change_of q.request q.settlement ≡ Made i k p u
       → (live_in w' o.lane i ≡ Some (record { id = i; kind = k; props = p; attrs = u })) × (a.role i ≡ Stranger)
   born t o q i k p u (y, z) d = go (old_or_new o.lane t q z) where
-    on_new : effect_of s.request s.settlement ≡ Made i k p u → Does s.request s.settlement i (live_in w n i) (live_in w' n i) → live_in w' n i ≡ Some (record { id = i; kind = k; props = p; attrs = u })
+    on_new : change_of s.request s.settlement ≡ Made i k p u → Does s.request s.settlement i (live_in w n i) (live_in w' n i) → live_in w' n i ≡ Some (record { id = i; kind = k; props = p; attrs = u })
     on_new e v1 = grind (arith, gone_request, made_success)
 
-    go : (entry_in w o.lane t ≡ Some q) ⊎ ((o.lane ≡ n) × (t ≡ s.token) × (q ≡ s)) → (live_in w' o.lane i ≡ Some (record { id = i; kind = k; props = p; attrs = u })) × (a.role i ≡ Stranger)
+    go : (settled_under w o.lane t ≡ Some q) ⊎ ((o.lane ≡ n) × (t ≡ s.token) × (q ≡ s)) → (live_in w' o.lane i ≡ Some (record { id = i; kind = k; props = p; attrs = u })) × (a.role i ≡ Stranger)
     go (inl e) =
         let was = h.born t o q i k p u (y, e) d in
         let hm = (h.created_named o.lane i t q e (k, p, u, d)).0 in
         (subst (λ m. live_in w' m i ≡ live_in w m i) hm (untouched i (entry_used o.lane t q i e (k, p, u, d)) (λ x. not_named i was.1 x)) ∙ was.0, was.1)
     go (inr e) = grind (arith, on_new, does, stranger_if_made)
 
-  created_once : (m i : List ℕ) (t u : ℕ) (r q : Settled) → entry_in w' m t ≡ Some r → entry_in w' m u ≡ Some q → IsMade r i → IsMade q i → t ≡ u
+  created_once : (m i : List ℕ) (t u : ℕ) (r q : Settled) → settled_under w' m t ≡ Some r → settled_under w' m u ≡ Some q → IsMade r i → IsMade q i → t ≡ u
   created_once m i t u r q e e' d d' = go (old_or_new m t r e) (old_or_new m u q e') where
-    go : (entry_in w m t ≡ Some r) ⊎ ((m ≡ n) × (t ≡ s.token) × (r ≡ s)) → (entry_in w m u ≡ Some q) ⊎ ((m ≡ n) × (u ≡ s.token) × (q ≡ s)) → t ≡ u
+    go : (settled_under w m t ≡ Some r) ⊎ ((m ≡ n) × (t ≡ s.token) × (r ≡ s)) → (settled_under w m u ≡ Some q) ⊎ ((m ≡ n) × (u ≡ s.token) × (q ≡ s)) → t ≡ u
     go (inl k) (inl k') = h.created_once m i t u r q k k' d d'
     go (inr k) (inr k') = k.1 ∙ sym k'.1
     go (inl k) (inr k') = absurd (not_made i (entry_used m t r i k d) (subst (λ (x : Settled). IsMade x i) k'.2 d'))
@@ -420,7 +421,7 @@ module _
     lane_names = λ m e. h.lane_names m (there_before m e);
     settled_once = λ m r i. elim (f.members m r i) [
       | inl j ↦ kept m r.token r (h.settled_once m r j)
-      | inr j ↦ subst (λ k. entry_in w' k r.token ≡ Some r) (sym j.0) (subst (λ (q : Settled). entry_in w' n q.token ≡ Some q) (sym j.1) f.at)
+      | inr j ↦ subst (λ k. settled_under w' k r.token ≡ Some r) (sym j.0) (subst (λ (q : Settled). settled_under w' n q.token ≡ Some q) (sym j.1) f.at)
     ];
     base_once = λ m. subst (λ vs. all_differ bytes_eq (map (λ (v : Live). v.id) vs) ≡ true) (sym (f.bases m)) (h.base_once m);
     base_named = λ m i e. h.base_named m i (subst (λ vs. has_id i vs ≡ true) (f.bases m) e);
@@ -431,7 +432,7 @@ module _
     created_once = created_once;
     settled_calls = λ m t r e. elim (old_or_new m t r e) [
       | inl k ↦ h.settled_calls m t r k
-      | inr k ↦ subst (λ j. Fits a j t r.request) (sym k.0) (subst (λ j. Fits a n j r.request) (sym k.1) (subst (λ (x : Settled). Fits a n s.token x.request) (sym k.2) own))
+      | inr k ↦ subst (λ j. FitsCall a j t r.request) (sym k.0) (subst (λ j. FitsCall a n j r.request) (sym k.1) (subst (λ (x : Settled). FitsCall a n s.token x.request) (sym k.2) own))
     ];
     flying_calls = λ m g i. h.flying_calls m g (f.flies m g i);
     answers = λ t x c e k z. let (r, y, q) = h.answers t x c e k (there_before c.lane z) in (r, kept c.lane t r y, q);
@@ -452,8 +453,8 @@ module _
 -- what a call leaves of its lane: the lane itself, one more settled call, or one more that flies
 pub data Leaves (n : List ℕ) (l l' : FencedLane) (e t : ℕ) (r : Request) : Type 0 where
   alone : l' ≡ l → Leaves n l l' e t r
-  settled : (x : Settlement) → entry_at t l.state.settled ≡ None → MaySettle n l.state r x → l' ≡ record l { state = with_settled l.state (record { token = t; request = r; settlement = x }) } → Leaves n l l' e t r
-  flown : entry_at t l.state.settled ≡ None → l' ≡ with_flying l (record { epoch = e; token = t; request = r }) → Leaves n l l' e t r
+  settled : (x : Settlement) → settled_at t l.state.settled ≡ None → MaySettle n l.state r x → l' ≡ record l { state = with_settled l.state (record { token = t; request = r; settlement = x }) } → Leaves n l l' e t r
+  flown : settled_at t l.state.settled ≡ None → l' ≡ with_flying l (record { epoch = e; token = t; request = r }) → Leaves n l l' e t r
 
 module _ (n : List ℕ) (l l' : FencedLane) (e t : ℕ) (r : Request) where
   by_settling : (x : Settlement) (o : Option Settlement) (st : LaneState) → settlement_of t l.state.settled ≡ o → SettlesBy o n l.state st t r x → l' ≡ record l { state = st } → Leaves n l l' e t r
@@ -531,7 +532,7 @@ module _ (a : Account) (n : List ℕ) (w w' : Lanes) (b : Books a) (h : Ties a w
       flies : In m.flying (w.lane n).flying
       flies = in_got m.flying (w.lane n).flying place m.stands
 
-      new : entry_at (m.flying).token (w.lane n).state.settled ≡ None
+      new : settled_at (m.flying).token (w.lane n).state.settled ≡ None
       new = unsettled (m.flying).token (w.lane n).state.settled m.is_new
 
       left : l' ≡ settled_late place x (w.lane n) (Some m.flying)

@@ -6,9 +6,9 @@ use Rattle.cf_tree.specs.declared.request.Request.TheVariants.{Create, Update, D
 use Rattle.cf_tree.specs.declared.code.Code.TheVariants as code
 use Rattle.cf_handler.specs.declared.settled.Settlement.{Settlement}
 use Rattle.cf_handler.specs.declared.settled.Settlement.TheVariants.{Success, Failed}
-use Rattle.cf_handler.specs.Lane.{LaneState, Live, live_of, changed_by, updated, has_id, is_used}
+use Rattle.cf_handler.specs.Lane.{LaneState, Live, live_of, live_changed, updated, has_id, is_used}
 use Rattle.cf_handler.specs.Move.{MaySettle}
-use Rattle.cf_agree.specs.Base.{Dict, Made, Set, named_by, gone_by, effect_of}
+use Rattle.cf_agree.specs.Base.{Dict, Made, Set, named_by, gone_by, change_of}
 use Rattle.cf_agree.proofs.Words.{bytes_same, bytes_or, if_same, if_other, has_found, has_none}
 
 -- the live resource with other properties and attributes
@@ -17,10 +17,10 @@ with_props v props attrs = record { id = v.id; kind = v.kind; props = props; att
 
 -- what is found under an id before and after: the call made it, set it, took it away, or left it
 pub data Does (r : Request) (x : Settlement) (i : List ℕ) (before after : Option Live) : Type 0 where
-  makes : (kind : List ℕ) (props attrs : Dict) → effect_of r x ≡ Made i kind props attrs → after ≡ Some (record { id = i; kind = kind; props = props; attrs = attrs }) → Does r x i before after
-  sets : (props attrs : Dict) (v : Live) → effect_of r x ≡ Set i props attrs → before ≡ Some v → after ≡ Some (with_props v props attrs) → Does r x i before after
+  makes : (kind : List ℕ) (props attrs : Dict) → change_of r x ≡ Made i kind props attrs → after ≡ Some (record { id = i; kind = kind; props = props; attrs = attrs }) → Does r x i before after
+  sets : (props attrs : Dict) (v : Live) → change_of r x ≡ Set i props attrs → before ≡ Some v → after ≡ Some (with_props v props attrs) → Does r x i before after
   takes : gone_by r x ≡ Some i → after ≡ None → Does r x i before after
-  keeps : ((k : List ℕ) (p t : Dict) → effect_of r x ≢ Made i k p t) → ((p t : Dict) → effect_of r x ≢ Set i p t) → gone_by r x ≢ Some i → after ≡ before → Does r x i before after
+  keeps : ((k : List ℕ) (p t : Dict) → change_of r x ≢ Made i k p t) → ((p t : Dict) → change_of r x ≢ Set i p t) → gone_by r x ≢ Some i → after ≡ before → Does r x i before after
 
 abbrev under : List ℕ → List Live → Option Live
 under i live = find (λ r. bytes_eq i r.id) live
@@ -55,7 +55,7 @@ other_left i j [] n = refl
 other_left i j (r ∷ live) n = grind (arith, other_left i j live n, bytes_same i r.id, bytes_same j r.id)
 
 -- what may settle, on what is live there
-pub does : (n : List ℕ) (l : LaneState) (r : Request) (x : Settlement) (i : List ℕ) → MaySettle n l r x → (is_used i l ≡ false → under i (live_of l) ≡ None) → Does r x i (under i (live_of l)) (under i (changed_by r x (live_of l)))
+pub does : (n : List ℕ) (l : LaneState) (r : Request) (x : Settlement) (i : List ℕ) → MaySettle n l r x → (is_used i l ≡ false → under i (live_of l) ≡ None) → Does r x i (under i (live_of l)) (under i (live_changed r x (live_of l)))
 does n l (Create k p) (Success j t) i m u = elim (bytes_or i j) [
   | inl e ↦ makes k p t (ap (λ q. Made q k p t) (sym e)) (found_last i (live_of l) (record { id = j; kind = k; props = p; attrs = t }) (u (subst (λ q. is_used q l ≡ false) (sym e) m.2)) e ∙ ap (λ q. Some (record { id = q; kind = k; props = p; attrs = t })) (sym e))
   | inr e ↦ keeps (λ k' p' t' c. let z : j ≡ i = cc in e (sym z)) (λ p' t' c. absurd (cc)) (λ c. absurd (cc)) (not_last i (live_of l) (record { id = j; kind = k; props = p; attrs = t }) e)
@@ -82,11 +82,11 @@ gone_request r x i e = grind arith
 pub gone_names : (r : Request) (x : Settlement) (i : List ℕ) → gone_by r x ≡ Some i → named_by r ≡ Some i
 gone_names r x i e = ap named_by (gone_request r x i e)
 
-pub set_request : (r : Request) (x : Settlement) (i : List ℕ) (p t : Dict) → effect_of r x ≡ Set i p t → r ≡ Update i p
+pub set_request : (r : Request) (x : Settlement) (i : List ℕ) (p t : Dict) → change_of r x ≡ Set i p t → r ≡ Update i p
 set_request r x i p t e = grind arith
 
-pub set_names : (r : Request) (x : Settlement) (i : List ℕ) (p t : Dict) → effect_of r x ≡ Set i p t → named_by r ≡ Some i
+pub set_names : (r : Request) (x : Settlement) (i : List ℕ) (p t : Dict) → change_of r x ≡ Set i p t → named_by r ≡ Some i
 set_names r x i p t e = ap named_by (set_request r x i p t e)
 
-pub made_success : (r : Request) (x : Settlement) (i k : List ℕ) (p t : Dict) → effect_of r x ≡ Made i k p t → (x ≡ Success i t) × (r ≡ Create k p)
+pub made_success : (r : Request) (x : Settlement) (i k : List ℕ) (p t : Dict) → change_of r x ≡ Made i k p t → (x ≡ Success i t) × (r ≡ Create k p)
 made_success r x i k p t e = grind arith

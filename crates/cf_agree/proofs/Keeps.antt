@@ -3,13 +3,15 @@ use Rattle.cf_agree.proofs.Calls.{each_lane, Leaves, leaves as call_leaves, sett
 use Rattle.cf_agree.proofs.Effects.{gone_names, set_names, made_success}
 use Rattle.cf_agree.proofs.Leases.{Stays, leased_still, leased_replied, leased_by, leased_returned, leased_granted}
 use Rattle.cf_agree.proofs.Words.{bytes_or, if_same, if_other, number_or, at_same, at_other, used_born, settled_as, entry_now, entry_still, unsettled}
-use Rattle.cf_agree.specs.Account.{Thing, Role, Open, Account, made_thing, set_thing, role_after, creates, Called, called, intended, answered, dropped, is_create}
+use Rattle.cf_agree.specs.Account.{Thing, Role, Open, Account, made_thing, set_thing, role_after, creates, Called, called_of, intended, answered, dropped, is_open_create}
 use Rattle.cf_agree.specs.Account.Role.{Stranger, Resource, Leftover}
-use Rattle.cf_agree.specs.Base.{Dict, Made, Set, named_by, gone_by, effect_of, lane_of, In, entry_at}
-use Rattle.cf_agree.specs.Lanes.{Lanes, entry_in, IsThere, live_in, used_in, Replaced}
-use Rattle.cf_agree.specs.Laws.{Agree, settlement_in, CallKeeps, StaleKeeps, LateKeeps, FenceKeeps, OpeningKeeps, RestKeeps, IntentKeeps, AnswerKeeps, ReturnKeeps, DropKeeps}
-use Rattle.cf_agree.specs.Moves.{MayIntend, stays, leaves, doubted, MayDrop, IsOut, Lease, returned}
-use Rattle.cf_agree.specs.Ties.{Books, Ties, Fits, IsSettled, IsAccounted, IsMade, IsGone, IsChanged, IsBorn, IsLost, AreTied}
+use Rattle.cf_agree.specs.Base.{Dict, Made, Set, named_by, gone_by, change_of, lane_of, settled_at}
+use Rattle.cf_tree.specs.Lists.{In}
+use Rattle.cf_agree.specs.Lanes.{Lanes, settled_under, IsThere, live_in, used_in, Replaced}
+use Rattle.cf_agree.specs.Laws.{Agrees, CallKeeps, StaleKeeps, LateKeeps, FenceKeeps, OpeningKeeps, RestKeeps, IntentKeeps, AnswerKeeps, ReturnKeeps, DropKeeps}
+use Rattle.cf_handler.specs.Answered.{settlement_in}
+use Rattle.cf_agree.specs.Moves.{MayBeWritten, stays, leaves, doubted, MayDrop, IsOut, CallOut, returned}
+use Rattle.cf_agree.specs.Ties.{Books, Ties, FitsCall, IsSettledCall, IsAccounted, IsMade, IsGone, IsChanged, IsBorn, IsLost, AreTied}
 use Rattle.cf_handler.specs.Fence.{Flying, FencedLane, CallMove, FenceMove, FenceAnswer, Raised, Ahead, Broken, settled_late}
 use Rattle.cf_handler.specs.{Lane.LaneState, Lane.Live, Lane.settlement_of, Move.IsOfLane, Move.SettlesBy, Move.with_settled}
 use Rattle.cf_handler.specs.declared.{settled.Settled.Settled, settled.Settlement.Settlement}
@@ -25,10 +27,10 @@ use Rattle.cf_tree.specs.declared.request.Answer.TheVariants as answer
 
 -- an answer made the id, set it, took it away, or left it
 pub data Turns (o : Open) (r : Request) (x : Settlement) (role : List ℕ → Role) (i : List ℕ) : Type 0 where
-  makes : (k : List ℕ) (p t : Dict) → effect_of r x ≡ Made i k p t → role_after o r x role i ≡ Resource (made_thing o k p t) → Turns o r x role i
-  sets : (p t : Dict) → effect_of r x ≡ Set i p t → role_after o r x role i ≡ set_thing p t (role i) → Turns o r x role i
+  makes : (k : List ℕ) (p t : Dict) → change_of r x ≡ Made i k p t → role_after o r x role i ≡ Resource (made_thing o k p t) → Turns o r x role i
+  sets : (p t : Dict) → change_of r x ≡ Set i p t → role_after o r x role i ≡ set_thing p t (role i) → Turns o r x role i
   takes : gone_by r x ≡ Some i → role_after o r x role i ≡ Stranger → Turns o r x role i
-  keeps : ((k : List ℕ) (p t : Dict) → effect_of r x ≢ Made i k p t) → ((p t : Dict) → effect_of r x ≢ Set i p t) → gone_by r x ≢ Some i → role_after o r x role i ≡ role i → Turns o r x role i
+  keeps : ((k : List ℕ) (p t : Dict) → change_of r x ≢ Made i k p t) → ((p t : Dict) → change_of r x ≢ Set i p t) → gone_by r x ≢ Some i → role_after o r x role i ≡ role i → Turns o r x role i
 
 pub turns : (o : Open) (r : Request) (x : Settlement) (role : List ℕ → Role) (i : List ℕ) → Turns o r x role i
 turns o (Create k p) (Success j t) role i = elim (bytes_or i j) [
@@ -58,7 +60,7 @@ names_none r e = grind arith
 -- An opening, a stack that begins or ends its work, and a call that is written down keep agreement.
 
 -- a call fits where the last token and the calls that were written down are the same
-pub fits_as : (a : Account) (x : Account) (n : List ℕ) (t : ℕ) (r : Request) → Fits a n t r → Fits (record x { last = a.last; call = a.call }) n t r
+pub fits_as : (a : Account) (x : Account) (n : List ℕ) (t : ℕ) (r : Request) → FitsCall a n t r → FitsCall (record x { last = a.last; call = a.call }) n t r
 fits_as a x n t r f = record { number = f.number; written = f.written }
 
 alone_alike : (w : Lanes) → Alike w w
@@ -66,7 +68,7 @@ alone_alike w = record { kinds = λ m. refl; states = λ m. refl }
 
 module _ (a : Account) (w : Lanes) (b : Books a) (h : Ties a w) (o : Open) where
   low : (t : ℕ) (v : Open) → a.open_ t ≡ Some v → t ≤ a.last
-  low t v e = b.numbers t (called v) (b.calls t v e)
+  low t v e = b.numbers t (called_of v) (b.calls t v e)
 
   pub old : (t : ℕ) (v : Open) → t ≤ a.last → (intended o a).open_ t ≡ Some v → a.open_ t ≡ Some v
   old t v l e = sym (at_other t (a.last + 1) (Some o) (a.open_ t) (λ z. omega arith)) ∙ e
@@ -78,9 +80,9 @@ module _ (a : Account) (w : Lanes) (b : Books a) (h : Ties a w) (o : Open) where
   more t v e = let l = low t v e in at_other t (a.last + 1) (Some o) (a.open_ t) (λ z. omega arith) ∙ e
 
   call_more : (t : ℕ) (c : Called) → a.call t ≡ Some c → (intended o a).call t ≡ Some c
-  call_more t c e = let l = b.numbers t c e in at_other t (a.last + 1) (Some (called o)) (a.call t) (λ z. omega arith) ∙ e
+  call_more t c e = let l = b.numbers t c e in at_other t (a.last + 1) (Some (called_of o)) (a.call t) (λ z. omega arith) ∙ e
 
-  pub fits_more : (n : List ℕ) (t : ℕ) (r : Request) → Fits a n t r → Fits (intended o a) n t r
+  pub fits_more : (n : List ℕ) (t : ℕ) (r : Request) → FitsCall a n t r → FitsCall (intended o a) n t r
   fits_more n t r f = grind arith
 
   pub ties_intended : Ties (intended o a) w
@@ -94,12 +96,12 @@ module _ (a : Account) (w : Lanes) (b : Books a) (h : Ties a w) (o : Open) where
         at_rest = λ n f v i e k z. h.flying_at_rest n f v i e (old f.token v (h.flying_calls n f i).number k) z;
       })
 
-  pub books_intended : MayIntend a o → Books (intended o a)
+  pub books_intended : MayBeWritten a o → Books (intended o a)
   books_intended may = grind arith
 
 -- An open call that is answered for good keeps agreement.
 
-module _ (a : Account) (w : Lanes) (b : Books a) (h : Ties a w) (t : ℕ) (o : Open) (s : Settled) (is : IsSettled a w t o s) where
+module _ (a : Account) (w : Lanes) (b : Books a) (h : Ties a w) (t : ℕ) (o : Open) (s : Settled) (is : IsSettledCall a w t o s) where
   abbrev after : Account
   after = answered t o s.settlement a
 
@@ -112,11 +114,11 @@ module _ (a : Account) (w : Lanes) (b : Books a) (h : Ties a w) (t : ℕ) (o : O
   request_is : o.request ≡ s.request
   request_is = request_of a w b h t o s is
 
-  was : (u : ℕ) (v : Open) (r : Settled) → IsSettled after w u v r → IsSettled a w u v r
+  was : (u : ℕ) (v : Open) (r : Settled) → IsSettledCall after w u v r → IsSettledCall a w u v r
   was u v r (x, y) = ((open_old u v x).1, y)
 
   -- what was settled and open is it still, or is this call
-  still : (u : ℕ) (v : Open) (r : Settled) → IsSettled a w u v r → IsSettled after w u v r ⊎ (r ≡ s)
+  still : (u : ℕ) (v : Open) (r : Settled) → IsSettledCall a w u v r → IsSettledCall after w u v r ⊎ (r ≡ s)
   still u v r (x, y) = grind arith
 
   turn : (i : List ℕ) → Turns o s.request s.settlement a.role i
@@ -126,13 +128,13 @@ module _ (a : Account) (w : Lanes) (b : Books a) (h : Ties a w) (t : ℕ) (o : O
   role_is i = ap (λ r. role_after o r s.settlement a.role i) request_is
 
   -- the id that the answer made was a stranger, and is live; one that it set is a resource of its stack
-  made_was : (i k : List ℕ) (p u : Dict) → effect_of s.request s.settlement ≡ Made i k p u → a.role i ≡ Stranger
+  made_was : (i k : List ℕ) (p u : Dict) → change_of s.request s.settlement ≡ Made i k p u → a.role i ≡ Stranger
   made_was i k p u d = (h.born t o s i k p u is d).1
 
-  set_was : (i : List ℕ) (p u : Dict) → effect_of s.request s.settlement ≡ Set i p u → (r : Thing) × (a.role i ≡ Resource r) × (r.stack ≡ o.stack) × (r.path ≡ o.path)
+  set_was : (i : List ℕ) (p u : Dict) → change_of s.request s.settlement ≡ Set i p u → (r : Thing) × (a.role i ≡ Resource r) × (r.stack ≡ o.stack) × (r.path ≡ o.path)
   set_was i p u d = b.named t o i is.0 (ap named_by request_is ∙ set_names s.request s.settlement i p u d)
 
-  set_home : (i : List ℕ) (p u : Dict) → effect_of s.request s.settlement ≡ Set i p u → lane_of i ≡ o.lane
+  set_home : (i : List ℕ) (p u : Dict) → change_of s.request s.settlement ≡ Set i p u → lane_of i ≡ o.lane
   set_home i p u d = b.home t o i is.0 (ap named_by request_is ∙ set_names s.request s.settlement i p u d)
 
   gone_was : (i : List ℕ) → gone_by s.request s.settlement ≡ Some i → (r : Thing) × (a.role i ≡ Resource r)
@@ -176,7 +178,7 @@ module _ (a : Account) (w : Lanes) (b : Books a) (h : Ties a w) (t : ℕ) (o : O
     numbers = b.numbers;
     untold = λ u v e. let x = open_old u v e in at_other u t (Some s.settlement) (a.told u) x.0 ∙ b.untold u v x.1;
     told_calls = λ u x e. elim (number_or u t) [
-      | inl k ↦ (called o, subst (λ c. a.call c ≡ Some (called o)) (sym k) (b.calls t o is.0))
+      | inl k ↦ (called_of o, subst (λ c. a.call c ≡ Some (called_of o)) (sym k) (b.calls t o is.0))
       | inr k ↦ b.told_calls u x (sym (at_other u t (Some s.settlement) (a.told u) k) ∙ e)
     ];
     lost_calls = λ u e. let (x, c, y) = b.lost_calls u e in
@@ -219,11 +221,11 @@ module _ (a : Account) (w : Lanes) (b : Books a) (h : Ties a w) (t : ℕ) (o : O
     go (keeps c c' c'' q) =
         h.same i r v (sym q ∙ sym (role_is i) ∙ e) su (λ (u, v', q', p, c0, x', d'). elim (still u v' q' x') [
           | inl n ↦ g (u, v', q', p, c0, n, d')
-          | inr n ↦ c' p c0 (subst (λ (m : Settled). effect_of m.request m.settlement ≡ Set i p c0) n d')
+          | inr n ↦ c' p c0 (subst (λ (m : Settled). change_of m.request m.settlement ≡ Set i p c0) n d')
         ]) l
 
   born :
-      (u : ℕ) (v : Open) (q : Settled) (i k : List ℕ) (p c : Dict) → IsSettled after w u v q → effect_of q.request q.settlement ≡ Made i k p c
+      (u : ℕ) (v : Open) (q : Settled) (i k : List ℕ) (p c : Dict) → IsSettledCall after w u v q → change_of q.request q.settlement ≡ Made i k p c
       → (live_in w v.lane i ≡ Some (record { id = i; kind = k; props = p; attrs = c })) × (after.role i ≡ Stranger)
   born u v q i k p c x d = (before.0, go (turn i)) where
     before : (live_in w v.lane i ≡ Some (record { id = i; kind = k; props = p; attrs = c })) × (a.role i ≡ Stranger)
@@ -233,7 +235,7 @@ module _ (a : Account) (w : Lanes) (b : Books a) (h : Ties a w) (t : ℕ) (o : O
     go (makes k' p' c' d' m) =
         let y = (h.created_named v.lane i u q x.1 (k, p, c, d)).0 in
         let z = (h.created_named o.lane i t s is.1 (k', p', c', d')).0 in
-        let e : entry_in w o.lane u ≡ Some q = subst (λ n. entry_in w n u ≡ Some q) (sym y ∙ z) x.1 in
+        let e : settled_under w o.lane u ≡ Some q = subst (λ n. settled_under w n u ≡ Some q) (sym y ∙ z) x.1 in
         absurd ((open_old u v x.0).0 (h.created_once o.lane i u t q s e is.1 (k, p, c, d) (k', p', c', d')))
     go (sets p' c' d' m) = let y = (set_was i p' c' d').1 in let z = before.1 in absurd (cc)
     go (takes d' m) = role_is i ∙ m
@@ -270,7 +272,7 @@ module _ (a : Account) (w : Lanes) (b : Books a) (h : Ties a w) (t : ℕ) (o : O
   pub leftover_stays : (i : List ℕ) → a.role i ≡ Leftover → after.role i ≡ Leftover
   leftover_stays i y = grind (arith, role_is, turn, made_was, set_was, gone_was)
 
-  flying_open : (n : List ℕ) (f : Flying) → In f (w.lane n).flying → entry_in w n f.token ≡ None → (w.lane n).fence ≤ f.epoch → IsAccounted after f.token f.request
+  flying_open : (n : List ℕ) (f : Flying) → In f (w.lane n).flying → settled_under w n f.token ≡ None → (w.lane n).fence ≤ f.epoch → IsAccounted after f.token f.request
   flying_open n f m e k = elim (h.flying_open n f m e k) [
     | inl (v, x) ↦ inl (v, open_kept f.token v (apart v x) x)
     | inr z ↦ elim z [ inl (i, x, y) ↦ inr (inl (i, x, leftover_stays i y)) | inr y ↦ inr (inr y) ]
@@ -279,14 +281,14 @@ module _ (a : Account) (w : Lanes) (b : Books a) (h : Ties a w) (t : ℕ) (o : O
       apart : (v : Open) → a.open_ f.token ≡ Some v → f.token ≢ t
       apart v x c = grind arith
 
-  answers : (u : ℕ) (x : Settlement) (c : Called) → after.told u ≡ Some x → a.call u ≡ Some c → IsThere w c.lane → (r : Settled) × (entry_in w c.lane u ≡ Some r) × (r.settlement ≡ x)
+  answers : (u : ℕ) (x : Settlement) (c : Called) → after.told u ≡ Some x → a.call u ≡ Some c → IsThere w c.lane → (r : Settled) × (settled_under w c.lane u ≡ Some r) × (r.settlement ≡ x)
   answers u x c e k th = grind arith
 
   pub ties_answered : Ties after w
   ties_answered =
-      let fits : (n : List ℕ) (u : ℕ) (r : Request) → Fits a n u r → Fits after n u r = fits_as a after in
+      let fits : (n : List ℕ) (u : ℕ) (r : Request) → FitsCall a n u r → FitsCall after n u r = fits_as a after in
       let rests : (u : ℕ) (v : Open) → after.open_ u ≡ Some v → a.open_ u ≡ Some v = λ u v e. (open_old u v e).1 in
-      let changed = λ (u : ℕ) (v : Open) (q : Settled) (i : List ℕ) (p c : Dict) (x : IsSettled after w u v q). h.changed u v q i p c (was u v q x) in
+      let changed = λ (u : ℕ) (v : Open) (q : Settled) (i : List ℕ) (p c : Dict) (x : IsSettledCall after w u v q). h.changed u v q i p c (was u v q x) in
       search (answers, flying_open, known, gone, alive, same, born, listed, changed, h.settled_calls, h.flying_calls, h.flying_at_rest, rests, fits)
 
 -- Open calls that are given up, with what becomes of their resources, keep agreement: a resource that is kept, an abandoned create, a skipped update.
@@ -305,12 +307,12 @@ module _ (a : Account) (w : Lanes) (b : Books a) (h : Ties a w) (drop : ℕ → 
   open_kept_dropped u v k e = ap (λ c. cond c None (a.open_ u)) k ∙ e
 
   pub lost_more : (u : ℕ) → a.lost u ≡ true → after_dropped.lost u ≡ true
-  lost_more u e = ap (λ c. c || (drop u && is_create (a.open_ u))) e
+  lost_more u e = ap (λ c. c || (drop u && is_open_create (a.open_ u))) e
 
   pub lost_now : (u : ℕ) (v : Open) → a.open_ u ≡ Some v → drop u ≡ true → named_by v.request ≡ None → after_dropped.lost u ≡ true
   lost_now u v e k c = let n = names_none v.request c in grind arith
 
-  was_dropped : (u : ℕ) (v : Open) (r : Settled) → IsSettled after_dropped w u v r → IsSettled a w u v r
+  was_dropped : (u : ℕ) (v : Open) (r : Settled) → IsSettledCall after_dropped w u v r → IsSettledCall a w u v r
   was_dropped u v r (x, y) = ((open_old_dropped u v x).0, y)
 
   stranger_back : (i : List ℕ) → role i ≡ Stranger → a.role i ≡ Stranger
@@ -330,8 +332,8 @@ module _ (a : Account) (w : Lanes) (b : Books a) (h : Ties a w) (drop : ℕ → 
   books_dropped = grind arith
 
   -- a settled call of a resource that is still_dropped one is open still_dropped, or was_dropped an update of what isn't known any more
-  still_dropped : (u : ℕ) (v : Open) (q : Settled) (i : List ℕ) (r : Thing) → IsSettled a w u v q → named_by v.request ≡ Some i → role i ≡ Resource r
-      → IsSettled after_dropped w u v q ⊎ ((r.sure ≡ false) × (gone_by q.request q.settlement ≢ Some i))
+  still_dropped : (u : ℕ) (v : Open) (q : Settled) (i : List ℕ) (r : Thing) → IsSettledCall a w u v q → named_by v.request ≡ Some i → role i ≡ Resource r
+      → IsSettledCall after_dropped w u v q ⊎ ((r.sure ≡ false) × (gone_by q.request q.settlement ≢ Some i))
   still_dropped u v q i r (x, y) n e = grind arith
 
   alive_dropped : (i : List ℕ) (r : Thing) → role i ≡ Resource r → IsThere w (lane_of i) → (IsGone after_dropped w i → ⊥) → (v : Live) × (live_in w (lane_of i) i ≡ Some v) × (v.kind ≡ r.kind)
@@ -345,38 +347,38 @@ module _ (a : Account) (w : Lanes) (b : Books a) (h : Ties a w) (drop : ℕ → 
 
   -- what a call can still change is known after it, where one in doubt can't act any more
   pub accounted_dropped :
-      (n : List ℕ) (t : ℕ) (r : Request) → Fits a n t r → ((v : Open) → a.open_ t ≡ Some v → a.resting v.stack ≡ true → (w.lane n).fence ≡ a.epoch → ⊥)
+      (n : List ℕ) (t : ℕ) (r : Request) → FitsCall a n t r → ((v : Open) → a.open_ t ≡ Some v → a.resting v.stack ≡ true → (w.lane n).fence ≡ a.epoch → ⊥)
       → IsAccounted a t r → IsAccounted after_dropped t r
   accounted_dropped n t r fits never v5 = grind (arith, leftover_on, lost_more, bool_or, open_kept_dropped, lost_now)
 
-  flying_open_dropped : (n : List ℕ) (f : Flying) → In f (w.lane n).flying → entry_in w n f.token ≡ None → (w.lane n).fence ≤ f.epoch → IsAccounted after_dropped f.token f.request
+  flying_open_dropped : (n : List ℕ) (f : Flying) → In f (w.lane n).flying → settled_under w n f.token ≡ None → (w.lane n).fence ≤ f.epoch → IsAccounted after_dropped f.token f.request
   flying_open_dropped n f m e k = grind (arith, accounted_dropped, flying_open)
 
   pub ties_dropped : Ties after_dropped w
   ties_dropped =
-      let fits : (n : List ℕ) (u : ℕ) (r : Request) → Fits a n u r → Fits after_dropped n u r = fits_as a after_dropped in
+      let fits : (n : List ℕ) (u : ℕ) (r : Request) → FitsCall a n u r → FitsCall after_dropped n u r = fits_as a after_dropped in
       let rests : (u : ℕ) (v : Open) → after_dropped.open_ u ≡ Some v → a.open_ u ≡ Some v = λ u v e. (open_old_dropped u v e).0 in
-      let changed = λ (u : ℕ) (v : Open) (q : Settled) (i : List ℕ) (p c : Dict) (x : IsSettled after_dropped w u v q). h.changed u v q i p c (was_dropped u v q x) in
+      let changed = λ (u : ℕ) (v : Open) (q : Settled) (i : List ℕ) (p c : Dict) (x : IsSettledCall after_dropped w u v q). h.changed u v q i p c (was_dropped u v q x) in
       let known = λ (i : List ℕ) (e : role i ≢ Stranger). h.known i (λ k. e (stranger_on i k)) in
       let gone : (i : List ℕ) (r : Thing) → role i ≡ Resource r → IsGone after_dropped w i → live_in w (lane_of i) i ≡ None
       = λ i r e (u, v, q, x, d). let (q', y, z, m) = resource_back i r e in h.gone i q' y (u, v, q, was_dropped u v q x, d) in
       search (flying_open_dropped, alive_dropped, same_dropped, born_dropped, listed_dropped, known, gone, changed, h.settled_calls, h.flying_calls, h.flying_at_rest, rests, fits)
     where
       born_dropped :
-          (u : ℕ) (v : Open) (q : Settled) (i k : List ℕ) (p c : Dict) → IsSettled after_dropped w u v q → effect_of q.request q.settlement ≡ Made i k p c
+          (u : ℕ) (v : Open) (q : Settled) (i k : List ℕ) (p c : Dict) → IsSettledCall after_dropped w u v q → change_of q.request q.settlement ≡ Made i k p c
           → (live_in w v.lane i ≡ Some (record { id = i; kind = k; props = p; attrs = c })) × (role i ≡ Stranger)
       born_dropped u v q i k p c x d = let z = h.born u v q i k p c (was_dropped u v q x) d in (z.0, stranger_on i z.1)
 
 -- settled entries stay where a lane is replaced by one that keeps them
 module _ (n : List ℕ) (l : FencedLane) (w w' : Lanes) (rep : Replaced n l w w') where
-  stays_with : ((t : ℕ) (s : Settled) → entry_in w n t ≡ Some s → entry_at t l.state.settled ≡ Some s) → Stays w w'
-  stays_with keep = record { entries = each_lane n l w w' rep (λ m k x. (t : ℕ) (s : Settled) → entry_at t k.state.settled ≡ Some s → entry_at t x.state.settled ≡ Some s) keep (λ m k t s e. e) }
+  stays_with : ((t : ℕ) (s : Settled) → settled_under w n t ≡ Some s → settled_at t l.state.settled ≡ Some s) → Stays w w'
+  stays_with keep = record { entries = each_lane n l w w' rep (λ m k x. (t : ℕ) (s : Settled) → settled_at t k.state.settled ≡ Some s → settled_at t x.state.settled ≡ Some s) keep (λ m k t s e. e) }
 
   as_before : l.state ≡ (w.lane n).state → Stays w w'
-  as_before e = stays_with (λ t s k. ap (λ (x : LaneState). entry_at t x.settled) e ∙ k)
+  as_before e = stays_with (λ t s k. ap (λ (x : LaneState). settled_at t x.settled) e ∙ k)
 
   one_more : (s : Settled) → l.state ≡ with_settled (w.lane n).state s → Stays w w'
-  one_more s e = stays_with (λ t r k. ap (λ (x : LaneState). entry_at t x.settled) e ∙ entry_still t (w.lane n).state.settled s r k)
+  one_more s e = stays_with (λ t r k. ap (λ (x : LaneState). settled_at t x.settled) e ∙ entry_still t (w.lane n).state.settled s r k)
 
   by_leaving : (e t : ℕ) (r : Request) → Leaves n (w.lane n) l e t r → Stays w w'
   by_leaving e t r v3 = grind (arith, as_before, one_more)
@@ -384,26 +386,26 @@ module _ (n : List ℕ) (l : FencedLane) (w w' : Lanes) (rep : Replaced n l w w'
 -- an answer for good is the settled one
 module _ (n : List ℕ) (l l' : FencedLane) (e t : ℕ) (r : Request) where
   by_settling : (x : Settlement) (o : Option Settlement) (st : LaneState) → settlement_of t l.state.settled ≡ o → SettlesBy o n l.state st t r x → l' ≡ record l { state = st }
-      → (s : Settled) × (entry_at t l'.state.settled ≡ Some s) × (s.settlement ≡ x)
+      → (s : Settled) × (settled_at t l'.state.settled ≡ Some s) × (s.settlement ≡ x)
   by_settling x (Some earlier) st h m k =
       let (s, p, q) = settled_as t l.state.settled earlier h in
-      (s, ap (λ (y : FencedLane). entry_at t y.state.settled) k ∙ ap (λ (y : LaneState). entry_at t y.settled) m.1 ∙ p, q ∙ sym m.0)
+      (s, ap (λ (y : FencedLane). settled_at t y.state.settled) k ∙ ap (λ (y : LaneState). settled_at t y.settled) m.1 ∙ p, q ∙ sym m.0)
   by_settling x None st h m k =
       let s : Settled = record { token = t; request = r; settlement = x } in (
         s,
-        ap (λ (y : FencedLane). entry_at t y.state.settled) k ∙ ap (λ (y : LaneState). entry_at t y.settled) m.1
+        ap (λ (y : FencedLane). settled_at t y.state.settled) k ∙ ap (λ (y : LaneState). settled_at t y.settled) m.1
             ∙ entry_now t l.state.settled s refl (unsettled t l.state.settled h),
         refl,
       )
 
-  answer_settled : (x : Answer) (y : Settlement) → CallMove n l l' e t r x → settlement_in x ≡ Some y → (s : Settled) × (entry_at t l'.state.settled ≡ Some s) × (s.settlement ≡ y)
+  answer_settled : (x : Answer) (y : Settlement) → CallMove n l l' e t r x → settlement_in x ≡ Some y → (s : Settled) × (settled_at t l'.state.settled ≡ Some s) × (s.settlement ≡ y)
   answer_settled x y m k = grind (arith, by_settling)
 
 pub call_keeps : CallKeeps
 call_keeps a w w' ls l after x h mine there rep m = record {
   tied = record { books = b; ties = ties_called a l.lane w w' b (h.tied).ties there after rep l.token l.request ((h.leased).out l mine) x m };
   leased = leased_replied a w w' ls h.leased (by_leaving l.lane after w w' rep a.epoch l.token l.request (call_leaves l.lane (w.lane l.lane) after a.epoch l.token l.request x m)) l (settlement_in x) mine
-      (λ y e. let (s, p, q) = answer_settled l.lane (w.lane l.lane) after a.epoch l.token l.request x y m e in (s, ap (λ (z : FencedLane). entry_at l.token z.state.settled) rep.at ∙ p, q));
+      (λ y e. let (s, p, q) = answer_settled l.lane (w.lane l.lane) after a.epoch l.token l.request x y m e in (s, ap (λ (z : FencedLane). settled_at l.token z.state.settled) rep.at ∙ p, q));
 }
   where
     b : Books a
@@ -446,15 +448,15 @@ intent_keeps a w ls o h may = (
     tied : AreTied (intended o a) w
     tied = record { books = books_intended a w (h.tied).books (h.tied).ties o may; ties = ties_intended a w (h.tied).books (h.tied).ties o }
 
-    keep : (l : Lease) → IsOut a l.lane l.token l.request → IsOut (intended o a) l.lane l.token l.request
+    keep : (l : CallOut) → IsOut a l.lane l.token l.request → IsOut (intended o a) l.lane l.token l.request
     keep l x = grind arith
 
     -- the new call is the one that is open under the new token
     open_now : (intended o a).open_ (a.last + 1) ≡ Some o
     open_now = Rattle.cf_agree.proofs.Words.at_same (a.last + 1) (a.last + 1) (Some o) (a.open_ (a.last + 1)) refl
 
-    call_now : (intended o a).call (a.last + 1) ≡ Some (called o)
-    call_now = Rattle.cf_agree.proofs.Words.at_same (a.last + 1) (a.last + 1) (Some (called o)) (a.call (a.last + 1)) refl
+    call_now : (intended o a).call (a.last + 1) ≡ Some (called_of o)
+    call_now = Rattle.cf_agree.proofs.Words.at_same (a.last + 1) (a.last + 1) (Some (called_of o)) (a.call (a.last + 1)) refl
 
     new : a.resting o.stack ≡ false → IsOut (intended o a) o.lane (a.last + 1) o.request
     new going = grind (arith, call_now, open_now)
@@ -466,10 +468,10 @@ answer_keeps a w ls l o x h mine re op = by_entry ((h.leased).replies l x mine r
     b = (h.tied).books
 
     fit : (o.lane ≡ l.lane) × (o.request ≡ l.request)
-    fit = (((h.leased).out l mine).own).written (called o) (b.calls l.token o op)
+    fit = (((h.leased).out l mine).own).written (called_of o) (b.calls l.token o op)
 
-    by_entry : (s : Settled) × (entry_in w l.lane l.token ≡ Some s) × (s.settlement ≡ x) → Agree (answered l.token o x a) w (returned l.token ls)
-    by_entry (s, e, y) = subst (λ z. Agree (answered l.token o z a) w (returned l.token ls)) y (record {
+    by_entry : (s : Settled) × (settled_under w l.lane l.token ≡ Some s) × (s.settlement ≡ x) → Agrees (answered l.token o x a) w (returned l.token ls)
+    by_entry (s, e, y) = subst (λ z. Agrees (answered l.token o z a) w (returned l.token ls)) y (record {
       tied = record { books = books_answered a w b (h.tied).ties l.token o s is; ties = ties_answered a w b (h.tied).ties l.token o s is };
       leased = leased_returned a (answered l.token o s.settlement a) w ls h.leased l.token (λ m i n out. record {
         own = record { number = (out.own).number; written = (out.own).written };
@@ -481,8 +483,8 @@ answer_keeps a w ls l o x h mine re op = by_entry ((h.leased).replies l x mine r
       });
     })
       where
-        is : IsSettled a w l.token o s
-        is = (op, subst (λ n. entry_in w n l.token ≡ Some s) (sym fit.0) e)
+        is : IsSettledCall a w l.token o s
+        is = (op, subst (λ n. settled_under w n l.token ≡ Some s) (sym fit.0) e)
 
 pub return_keeps : ReturnKeeps
 return_keeps a w ls t h = record { tied = h.tied; leased = leased_returned a a w ls h.leased t (λ l i n o. o) }

@@ -6,9 +6,12 @@ use Rattle.cf_tree.specs.Datum.{Data}
 use Rattle.cf_tree.specs.declared.request.Request.{Request}
 use Rattle.cf_handler.specs.declared.{settled.Settled.Settled, settled.Settlement.Settlement}
 use Rattle.cf_handler.specs.declared.settled.Settlement.TheVariants.{Success}
-use Rattle.cf_handler.specs.Lane.{LaneState, Live, live_of, live_after, changed_by, updated, has_id, is_used, succeeded_with, settlement_of}
+use Rattle.cf_handler.specs.Lane.{LaneState, Live, live_of, live_after, live_changed, updated, has_id, is_used, succeeded_with, settlement_of}
 use Rattle.cf_handler.specs.{Move.IsOfLane, Move.with_settled, Name.is_lane_name, Name.is_name_byte}
-use Rattle.cf_agree.specs.Base.{In, here, there, lane_of, entry_at}
+use Rattle.cf_agree.specs.Base.{lane_of, settled_at}
+use Rattle.cf_tree.specs.Lists.{there}
+use Rattle.cf_tree.specs.Lists.{here}
+use Rattle.cf_tree.specs.Lists.{In}
 
 pub same_bytes : (a b : List ℕ) → a ≡ b → bytes_eq a b ≡ true
 same_bytes a b e = (bytes_eq-Decides a b).1 e
@@ -61,43 +64,43 @@ in_either x (z ∷ xs) y i = elim (in_cons x z (xs ++ y ∷ []) i) [
 ]
 
 -- the settled entry of a token: it stays, and one more is that of its own token alone
-pub entry_still : (t : ℕ) (ss : List Settled) (s r : Settled) → entry_at t ss ≡ Some r → entry_at t (ss ++ s ∷ []) ≡ Some r
+pub entry_still : (t : ℕ) (ss : List Settled) (s r : Settled) → settled_at t ss ≡ Some r → settled_at t (ss ++ s ∷ []) ≡ Some r
 entry_still t [] s r h = absurd (cc)
 entry_still t (q ∷ ss) s r h = grind (arith, entry_still t ss s r)
 
-pub entry_now : (t : ℕ) (ss : List Settled) (s : Settled) → t ≡ s.token → entry_at t ss ≡ None → entry_at t (ss ++ s ∷ []) ≡ Some s
+pub entry_now : (t : ℕ) (ss : List Settled) (s : Settled) → t ≡ s.token → settled_at t ss ≡ None → settled_at t (ss ++ s ∷ []) ≡ Some s
 entry_now t [] s e h = at_same t s.token (Some s) None e
 entry_now t (q ∷ ss) s e h = grind (arith, entry_now t ss s e)
 
-pub entry_others : (t : ℕ) (ss : List Settled) (s : Settled) → t ≢ s.token → entry_at t (ss ++ s ∷ []) ≡ entry_at t ss
+pub entry_others : (t : ℕ) (ss : List Settled) (s : Settled) → t ≢ s.token → settled_at t (ss ++ s ∷ []) ≡ settled_at t ss
 entry_others t [] s n = at_other t s.token (Some s) None n
 entry_others t (q ∷ ss) s n = ap (λ o. cond (t == q.token) (Some q) o) (entry_others t ss s n)
 
-pub entry_token : (t : ℕ) (ss : List Settled) (s : Settled) → entry_at t ss ≡ Some s → s.token ≡ t
+pub entry_token : (t : ℕ) (ss : List Settled) (s : Settled) → settled_at t ss ≡ Some s → s.token ≡ t
 entry_token t [] s h = absurd (cc)
 entry_token t (q ∷ ss) s h = grind (arith, entry_token t ss s)
 
 -- no settlement, no entry
-pub unsettled : (t : ℕ) (ss : List Settled) → settlement_of t ss ≡ None → entry_at t ss ≡ None
+pub unsettled : (t : ℕ) (ss : List Settled) → settlement_of t ss ≡ None → settled_at t ss ≡ None
 unsettled t [] h = refl
 unsettled t (q ∷ ss) h = grind (arith, unsettled t ss)
 
-pub settled_as : (t : ℕ) (ss : List Settled) (x : Settlement) → settlement_of t ss ≡ Some x → (s : Settled) × (entry_at t ss ≡ Some s) × (s.settlement ≡ x)
+pub settled_as : (t : ℕ) (ss : List Settled) (x : Settlement) → settlement_of t ss ≡ Some x → (s : Settled) × (settled_at t ss ≡ Some s) × (s.settlement ≡ x)
 settled_as t [] x h = absurd (cc)
 settled_as t (q ∷ ss) x h = grind (arith, settled_as t ss x)
 
 -- what is live after one more call
-pub live_more : (live : List Live) (ss : List Settled) (s : Settled) → live_after live (ss ++ s ∷ []) ≡ changed_by s.request s.settlement (live_after live ss)
+pub live_more : (live : List Live) (ss : List Settled) (s : Settled) → live_after live (ss ++ s ∷ []) ≡ live_changed s.request s.settlement (live_after live ss)
 live_more live [] s = refl
-live_more live (t ∷ ss) s = live_more (changed_by t.request t.settlement live) ss s
+live_more live (t ∷ ss) s = live_more (live_changed t.request t.settlement live) ss s
 
 -- an id that was used stays so, and that of a success was
 pub used_still : (id : List ℕ) (lane : LaneState) (s : Settled) → is_used id lane ≡ true → is_used id (with_settled lane s) ≡ true
 used_still id lane s h = grind (arith, list_any-append)
 
-pub used_born : (token : ℕ) (id : List ℕ) (attrs : List (List ℕ × Data)) (lane : LaneState) (s : Settled) → entry_at token lane.settled ≡ Some s → s.settlement ≡ Success id attrs → is_used id lane ≡ true
+pub used_born : (token : ℕ) (id : List ℕ) (attrs : List (List ℕ × Data)) (lane : LaneState) (s : Settled) → settled_at token lane.settled ≡ Some s → s.settlement ≡ Success id attrs → is_used id lane ≡ true
 used_born token id attrs lane s h e = or_right (has_id id lane.base) _ (among lane.settled h) where
-  among : (ss : List Settled) → entry_at token ss ≡ Some s → list_any (λ t. succeeded_with id t.settlement) ss ≡ true
+  among : (ss : List Settled) → settled_at token ss ≡ Some s → list_any (λ t. succeeded_with id t.settlement) ss ≡ true
   among [] k = absurd (cc)
   among (q ∷ ss) k = grind (arith, among ss, number_or, or_left, same_bytes, or_right, at_other)
 
@@ -140,7 +143,7 @@ none_updated : (id other : List ℕ) (p t : List (List ℕ × Data)) (live : Lis
 none_updated id other p t [] h = refl
 none_updated id other p t (r ∷ live) h = grind (arith, none_updated id other p t live, or_from, first_not, second_not)
 
-none_changed : (id : List ℕ) (r : Request) (s : Settlement) (live : List Live) → succeeded_with id s ≡ false → has_id id live ≡ false → has_id id (changed_by r s live) ≡ false
+none_changed : (id : List ℕ) (r : Request) (s : Settlement) (live : List Live) → succeeded_with id s ≡ false → has_id id live ≡ false → has_id id (live_changed r s live) ≡ false
 none_changed id r s live u h = grind (arith, list_any-append, or_from, none_updated, none_left)
 
 none_after : (id : List ℕ) (ss : List Settled) (live : List Live) → has_id id live ≡ false → list_any (λ t. succeeded_with id t.settlement) ss ≡ false → has_id id (live_after live ss) ≡ false

@@ -1,4 +1,4 @@
--- What the agreement of journal and lanes reads of a world and its entries, and the few ways in which it changes.
+-- What the agreement of journal and lanes reads of a world and its entries, and the few ways in which it changes (this project's own).
 use Rattle.std.specs.Prelude.{ℕ, ◌+◌, ◌==◌, Bool, true, false, ◌||◌, ◌&&◌, List, Option, Some, None, if◌then◌else◌}
 use Rattle.std.specs.Str.{bytes_eq}
 use Rattle.cf_tree.specs.declared.request.Request.{Request}
@@ -36,8 +36,8 @@ pub record Open : Type 0 where
   pub lane : List ℕ
   pub request : Request
 
-abbrev pub called : Open → Called
-called o = record { path = o.path; lane = o.lane; request = o.request }
+abbrev pub called_of : Open → Called
+called_of o = record { path = o.path; lane = o.lane; request = o.request }
 
 pub record Account : Type 0 where
   -- by physical id
@@ -67,7 +67,7 @@ rested resting a = record a { resting = resting }
 abbrev pub intended : Open → Account → Account
 intended o a = record a {
   open_ = λ t. if t == a.last + 1 then Some o else a.open_ t;
-  call = λ t. if t == a.last + 1 then Some (called o) else a.call t;
+  call = λ t. if t == a.last + 1 then Some (called_of o) else a.call t;
   last = a.last + 1;
 }
 
@@ -101,13 +101,13 @@ creates (request.Create kind props) = true
 creates (request.Update id props) = false
 creates (request.Delete id) = false
 
-abbrev pub is_create : Option Open → Bool
-is_create None = false
-is_create (Some o) = creates o.request
+abbrev pub is_open_create : Option Open → Bool
+is_open_create None = false
+is_open_create (Some o) = creates o.request
 
 abbrev pub dropped : (ℕ → Bool) → (List ℕ → Role) → Account → Account
 dropped drop role a = record a {
   role = role;
   open_ = λ t. if drop t then None else a.open_ t;
-  lost = λ t. a.lost t || (drop t && is_create (a.open_ t));
+  lost = λ t. a.lost t || (drop t && is_open_create (a.open_ t));
 }

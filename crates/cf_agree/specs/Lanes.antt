@@ -1,9 +1,9 @@
--- All lanes, as functions of a lane's name: which are there, and what each holds.
+-- All lanes, as functions of a lane's name: which are there, and what each holds (this project's own).
 use Rattle.std.specs.Prelude.{◌≡◌, ◌≢◌, ℕ, Bool, List, [], Option, Some}
 use Rattle.cf_handler.specs.declared.settled.Settled.{Settled}
 use Rattle.cf_handler.specs.Lane.{Live, is_used}
 use Rattle.cf_handler.specs.Fence.{FencedLane, live_at}
-use Rattle.cf_agree.specs.Base.{entry_at}
+use Rattle.cf_agree.specs.Base.{settled_at}
 
 -- a lane on which nothing was ever called or is live
 abbrev pub no_lane : FencedLane
@@ -24,8 +24,8 @@ live_in w n i = live_at i (w.lane n)
 abbrev pub used_in : Lanes → List ℕ → List ℕ → Bool
 used_in w n i = is_used i (w.lane n).state
 
-abbrev pub entry_in : Lanes → List ℕ → ℕ → Option Settled
-entry_in w n t = entry_at t (w.lane n).state.settled
+abbrev pub settled_under : Lanes → List ℕ → ℕ → Option Settled
+settled_under w n t = settled_at t (w.lane n).state.settled
 
 -- the lanes with another one under this name, where there is one of it
 pub record Replaced (n : List ℕ) (l : FencedLane) (w w' : Lanes) : Type 0 where

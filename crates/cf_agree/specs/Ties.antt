@@ -1,4 +1,4 @@
--- The account and the lanes agree: what the lanes hold fits what the journal says of them.
+-- The account and the lanes agree: what the lanes hold fits what the journal says of them (this project's own).
 use Rattle.std.specs.Prelude.{◌≡◌, ◌≢◌, ◌⊎◌, ℕ, ◌<◌, ◌≤◌, true, List, Some, None, map}
 use Rattle.std.specs.Str.{bytes_eq}
 use Rattle.cf_tree.specs.Named.{all_differ}
@@ -8,23 +8,18 @@ use Rattle.cf_handler.specs.declared.settled.Settlement.{Settlement}
 use Rattle.cf_handler.specs.declared.settled.Settled.{Settled}
 use Rattle.cf_handler.specs.Lane.{Live, has_id}
 use Rattle.cf_handler.specs.Fence.{Flying}
-use Rattle.cf_handler.specs.Move.{IsOfLane}
+use Rattle.cf_handler.specs.Move.{IsKindFor, IsOfLane}
 use Rattle.cf_handler.specs.Name.{is_lane_name}
-use Rattle.cf_agree.specs.Base.{In, Dict, Made, Set, lane_of, named_by, gone_by, effect_of}
-use Rattle.cf_agree.specs.Lanes.{Lanes, IsThere, live_in, used_in, entry_in}
-use Rattle.cf_agree.specs.Account.{Thing, Called, Open, Account, called}
+use Rattle.cf_agree.specs.Base.{Dict, Made, Set, lane_of, named_by, gone_by, change_of}
+use Rattle.cf_tree.specs.Lists.{In}
+use Rattle.cf_agree.specs.Lanes.{Lanes, IsThere, live_in, used_in, settled_under}
+use Rattle.cf_agree.specs.Account.{Thing, Called, Open, Account, called_of}
 use Rattle.cf_agree.specs.Account.Role.{Stranger, Resource, Leftover}
-
--- a lane of this type may take the request
-abbrev pub IsKindFor : Request → List ℕ → Type 0
-IsKindFor (request.Create made props) kind = kind ≡ made
-IsKindFor (request.Update id props) kind = Unit {0}
-IsKindFor (request.Delete id) kind = Unit {0}
 
 -- what the journal says of its own calls and resources
 pub record Books (a : Account) : Type 0 where
   -- tokens: an open call is the one that was written down and has no answer for good, and none is above the last
-  pub calls : (t : ℕ) (o : Open) → a.open_ t ≡ Some o → a.call t ≡ Some (called o)
+  pub calls : (t : ℕ) (o : Open) → a.open_ t ≡ Some o → a.call t ≡ Some (called_of o)
   pub numbers : (t : ℕ) (c : Called) → a.call t ≡ Some c → t ≤ a.last
   pub untold : (t : ℕ) (o : Open) → a.open_ t ≡ Some o → a.told t ≡ None
   pub told_calls : (t : ℕ) (x : Settlement) → a.told t ≡ Some x → (c : Called) × (a.call t ≡ Some c)
@@ -40,7 +35,7 @@ pub record Books (a : Account) : Type 0 where
   pub open_homes : (t : ℕ) (o : Open) → a.open_ t ≡ Some o → (k : List ℕ) × (a.named o.lane ≡ Some k) × IsKindFor o.request k
 
 -- a call of this token is the one that the journal has
-pub record Fits (a : Account) (lane : List ℕ) (token : ℕ) (r : Request) : Type 0 where
+pub record FitsCall (a : Account) (lane : List ℕ) (token : ℕ) (r : Request) : Type 0 where
   pub number : token ≤ a.last
   pub written : (c : Called) → a.call token ≡ Some c → (c.lane ≡ lane) × (c.request ≡ r)
 
@@ -51,54 +46,54 @@ IsAccounted a t r =
     ⊎ ((named_by r ≡ None) × (a.lost t ≡ true))
 
 -- an open call that is settled on its lane
-abbrev pub IsSettled : Account → Lanes → ℕ → Open → Settled → Type 0
-IsSettled a w t o s = (a.open_ t ≡ Some o) × (entry_in w o.lane t ≡ Some s)
+abbrev pub IsSettledCall : Account → Lanes → ℕ → Open → Settled → Type 0
+IsSettledCall a w t o s = (a.open_ t ≡ Some o) × (settled_under w o.lane t ≡ Some s)
 
 -- the settled call made this id
 abbrev pub IsMade : Settled → List ℕ → Type 0
-IsMade s i = (kind : List ℕ) × (props : Dict) × (attrs : Dict) × (effect_of s.request s.settlement ≡ Made i kind props attrs)
+IsMade s i = (kind : List ℕ) × (props : Dict) × (attrs : Dict) × (change_of s.request s.settlement ≡ Made i kind props attrs)
 
 -- an open deletion of the id was answered, and it is gone
 abbrev pub IsGone : Account → Lanes → List ℕ → Type 0
-IsGone a w i = (t : ℕ) × (o : Open) × (s : Settled) × IsSettled a w t o s × (gone_by s.request s.settlement ≡ Some i)
+IsGone a w i = (t : ℕ) × (o : Open) × (s : Settled) × IsSettledCall a w t o s × (gone_by s.request s.settlement ≡ Some i)
 
 -- an open update of it was answered with success
 abbrev pub IsChanged : Account → Lanes → List ℕ → Type 0
 IsChanged a w i =
-    (t : ℕ) × (o : Open) × (s : Settled) × (props : Dict) × (attrs : Dict) × IsSettled a w t o s
-    × (effect_of s.request s.settlement ≡ Set i props attrs)
+    (t : ℕ) × (o : Open) × (s : Settled) × (props : Dict) × (attrs : Dict) × IsSettledCall a w t o s
+    × (change_of s.request s.settlement ≡ Set i props attrs)
 
 -- an open create was answered with it
 abbrev pub IsBorn : Account → Lanes → List ℕ → Type 0
-IsBorn a w i = (t : ℕ) × (o : Open) × (s : Settled) × IsSettled a w t o s × IsMade s i
+IsBorn a w i = (t : ℕ) × (o : Open) × (s : Settled) × IsSettledCall a w t o s × IsMade s i
 
 -- a create that was given up made it
 abbrev pub IsLost : Account → Lanes → List ℕ → Type 0
-IsLost a w i = (t : ℕ) × (n : List ℕ) × (s : Settled) × (a.lost t ≡ true) × (entry_in w n t ≡ Some s) × IsMade s i
+IsLost a w i = (t : ℕ) × (n : List ℕ) × (s : Settled) × (a.lost t ≡ true) × (settled_under w n t ≡ Some s) × IsMade s i
 
 pub record Ties (a : Account) (w : Lanes) : Type 0 where
   -- the lanes that the last opening names are there, and have lane names
   pub handed : (n k : List ℕ) → a.named n ≡ Some k → w.kind n ≡ Some k
   pub lane_names : (n : List ℕ) → IsThere w n → is_lane_name n ≡ true
   -- a lane settles each token once, and what was live before has ids of the lane, no two the same
-  pub settled_once : (n : List ℕ) (s : Settled) → In s (w.lane n).state.settled → entry_in w n s.token ≡ Some s
+  pub settled_once : (n : List ℕ) (s : Settled) → In s (w.lane n).state.settled → settled_under w n s.token ≡ Some s
   pub base_once : (n : List ℕ) → all_differ bytes_eq (map (λ v. v.id) (w.lane n).state.base) ≡ true
   pub base_named : (n i : List ℕ) → has_id i (w.lane n).state.base ≡ true → lane_of i ≡ n
   -- what was made since has ids of the lane too, and no two calls made one
-  pub created_named : (n i : List ℕ) (t : ℕ) (s : Settled) → entry_in w n t ≡ Some s → IsMade s i → (lane_of i ≡ n) × IsOfLane n i
-  pub created_once : (n i : List ℕ) (t u : ℕ) (s r : Settled) → entry_in w n t ≡ Some s → entry_in w n u ≡ Some r → IsMade s i
+  pub created_named : (n i : List ℕ) (t : ℕ) (s : Settled) → settled_under w n t ≡ Some s → IsMade s i → (lane_of i ≡ n) × IsOfLane n i
+  pub created_once : (n i : List ℕ) (t u : ℕ) (s r : Settled) → settled_under w n t ≡ Some s → settled_under w n u ≡ Some r → IsMade s i
       → IsMade r i → t ≡ u
   -- each token is one of the journal's, on its lane and with its request
-  pub settled_calls : (n : List ℕ) (t : ℕ) (s : Settled) → entry_in w n t ≡ Some s → Fits a n t s.request
-  pub flying_calls : (n : List ℕ) (f : Flying) → In f (w.lane n).flying → Fits a n f.token f.request
+  pub settled_calls : (n : List ℕ) (t : ℕ) (s : Settled) → settled_under w n t ≡ Some s → FitsCall a n t s.request
+  pub flying_calls : (n : List ℕ) (f : Flying) → In f (w.lane n).flying → FitsCall a n f.token f.request
   -- what the journal says was answered
   pub answers : (t : ℕ) (x : Settlement) (c : Called) → a.told t ≡ Some x → a.call t ≡ Some c → IsThere w c.lane
-      → (s : Settled) × (entry_in w c.lane t ≡ Some s) × (s.settlement ≡ x)
+      → (s : Settled) × (settled_under w c.lane t ≡ Some s) × (s.settlement ≡ x)
   -- what may act later is accounted for, and is of no later opening
-  pub flying_open : (n : List ℕ) (f : Flying) → In f (w.lane n).flying → entry_in w n f.token ≡ None → (w.lane n).fence ≤ f.epoch
+  pub flying_open : (n : List ℕ) (f : Flying) → In f (w.lane n).flying → settled_under w n f.token ≡ None → (w.lane n).fence ≤ f.epoch
       → IsAccounted a f.token f.request
   pub flying_epochs : (n : List ℕ) (f : Flying) → In f (w.lane n).flying → f.epoch ≤ a.epoch
-  pub flying_at_rest : (n : List ℕ) (f : Flying) (o : Open) → In f (w.lane n).flying → entry_in w n f.token ≡ None
+  pub flying_at_rest : (n : List ℕ) (f : Flying) (o : Open) → In f (w.lane n).flying → settled_under w n f.token ≡ None
       → a.open_ f.token ≡ Some o → a.resting o.stack ≡ true → f.epoch < a.epoch
   -- no lane is ahead of the journal
   pub fences : (n : List ℕ) → (w.lane n).fence ≤ a.epoch
@@ -109,11 +104,11 @@ pub record Ties (a : Account) (w : Lanes) : Type 0 where
       → (v : Live) × (live_in w (lane_of i) i ≡ Some v) × (v.kind ≡ r.kind)
   pub same : (i : List ℕ) (r : Thing) (v : Live) → a.role i ≡ Resource r → r.sure ≡ true → (IsChanged a w i → ⊥)
       → live_in w (lane_of i) i ≡ Some v → (v.props ≡ r.props) × (v.attrs ≡ r.attrs)
-  pub changed : (t : ℕ) (o : Open) (s : Settled) (i : List ℕ) (props attrs : Dict) → IsSettled a w t o s
-      → effect_of s.request s.settlement ≡ Set i props attrs → (v : Live) × (live_in w o.lane i ≡ Some v) × (v.props ≡ props)
+  pub changed : (t : ℕ) (o : Open) (s : Settled) (i : List ℕ) (props attrs : Dict) → IsSettledCall a w t o s
+      → change_of s.request s.settlement ≡ Set i props attrs → (v : Live) × (live_in w o.lane i ≡ Some v) × (v.props ≡ props)
       × (v.attrs ≡ attrs)
-  pub born : (t : ℕ) (o : Open) (s : Settled) (i kind : List ℕ) (props attrs : Dict) → IsSettled a w t o s
-      → effect_of s.request s.settlement ≡ Made i kind props attrs
+  pub born : (t : ℕ) (o : Open) (s : Settled) (i kind : List ℕ) (props attrs : Dict) → IsSettledCall a w t o s
+      → change_of s.request s.settlement ≡ Made i kind props attrs
       → (live_in w o.lane i ≡ Some (record { id = i; kind = kind; props = props; attrs = attrs })) × (a.role i ≡ Stranger)
   -- what is live is on the lane that its id names, and nothing is live that the journal does not list
   pub live_named : (n i : List ℕ) (v : Live) → live_in w n i ≡ Some v → lane_of i ≡ n

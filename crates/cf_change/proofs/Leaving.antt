@@ -15,7 +15,7 @@ use Rattle.cf_tree.specs.declared.row.Action.TheVariants as action
 use Rattle.cf_tree.specs.declared.row.Detail.{Detail}
 use Rattle.cf_tree.specs.declared.row.Row.{Row}
 use Rattle.cf_tree.specs.declared.source.Source.{Source}
-use Rattle.cf_eval.specs.Knows.{Keeps}
+use Rattle.cf_eval.specs.Knows.{StaysKnown}
 use Rattle.cf_schema.specs.declared.described.Schema.{Schema}
 use Rattle.cf_desired.specs.Seeing.{SeenAt}
 use Rattle.cf_desired.specs.declared.wanted.Evaluated.{Evaluated}
@@ -33,7 +33,7 @@ use Rattle.cf_desired.proofs.Hiding.{hiding_serves}
 use Rattle.cf_desired.proofs.Puts.{kept_self, value_put}
 use Rattle.cf_desired.proofs.ShapeStays.{shape_stays}
 use Rattle.cf_desired.proofs.Termed.{Valued, member_of, members_in}
-use Rattle.cf_change.specs.Changes.{Found, HeldAt, details_for, found_next, found_of, found_with, held_seen, is_empty, is_other_kind, is_property, is_row_before, keeps_id, modify_row, removed_row, removed_rows, replacement_of, resource_held, row_for, row_list, seen_after, seen_held}
+use Rattle.cf_change.specs.Changes.{RowsFound, HeldAt, details_for, found_next, found_of, found_with, held_seen, is_empty, is_other_kind, is_property, is_row_before, keeps_id, modify_row, removed_row, removed_rows, replacement_of, resource_held, row_for, row_list, seen_after, seen_held}
 use Rattle.cf_change.specs.Hidden.{ChangesHide, ShapeStaysForward, hides_attrs, hides_id, left_seen, row_hides_attrs, row_hides_id}
 use Rattle.cf_change.proofs.Shown.{held_there}
 
@@ -113,7 +113,7 @@ props_there source shape seen path h =
     (subst (λ (ms : List Member). is_among path (map (λ m. m.path) ms) ≡ true) (sym (members_in source seen (given_root source) shape)) h)
 
 -- of a path: what is seen, and what rows hide
-pub record IsFresh (path : List ℕ) (f : Found) : Type 0 where
+pub record IsFresh (path : List ℕ) (f : RowsFound) : Type 0 where
   pub seen : value_at path f.seen ≡ None
   pub id : hides_id f.rows path ≡ false
   pub attrs : hides_attrs f.rows path ≡ false
@@ -124,17 +124,17 @@ held_id o = option_map (λ h. h.physical) o
 abbrev held_attrs : Option HeldAt → Option (List (List ℕ × Data))
 held_attrs o = option_map (λ h. h.attrs) o
 
-pub record IsLeft (held : List HeldAt) (path : List ℕ) (f : Found) : Type 0 where
+pub record IsLeft (held : List HeldAt) (path : List ℕ) (f : RowsFound) : Type 0 where
   pub id : id_seen path f.seen ≡ cond (hides_id f.rows path) None (held_id (resource_held path held))
   pub attrs : attrs_seen path f.seen ≡ cond (hides_attrs f.rows path) None (held_attrs (resource_held path held))
 
 -- a row of another path hides nothing here
-pub record IsUntouched (path : List ℕ) (f g : Found) : Type 0 where
+pub record IsUntouched (path : List ℕ) (f g : RowsFound) : Type 0 where
   pub seen : value_at path g.seen ≡ value_at path f.seen
   pub id : hides_id g.rows path ≡ hides_id f.rows path
   pub attrs : hides_attrs g.rows path ≡ hides_attrs f.rows path
 
-untouched_on : (path : List ℕ) (f g h : Found) → IsUntouched path f g → IsUntouched path g h → IsUntouched path f h
+untouched_on : (path : List ℕ) (f g h : RowsFound) → IsUntouched path f g → IsUntouched path g h → IsUntouched path f h
 untouched_on path f g h x y = record { seen = y.seen ∙ x.seen; id = y.id ∙ x.id; attrs = y.attrs ∙ x.attrs }
 
 same_path : (path : List ℕ) → bytes_eq path path ≡ true
@@ -203,19 +203,19 @@ added_attrs : (rows more : List Row) (path : List ℕ) → hides_attrs (rows ++ 
 added_attrs rows more path = list_any-append (λ r. bytes_eq path r.path && row_hides_attrs r) rows more
 
 module _ (schemas : List Schema) (held : List HeldAt) where
-  abbrev kind_known : Found → Wanted → Found
+  abbrev kind_known : RowsFound → Wanted → RowsFound
   kind_known f w = record f {
     rows = f.rows ++ row_list (row_for schemas (resource_held w.path held) w);
     seen = put w.path (seen_after (resource_held w.path held) (row_for schemas (resource_held w.path held) w)) f.seen;
   }
 
-  abbrev kind_other : Found → Wanted → Found
+  abbrev kind_other : RowsFound → Wanted → RowsFound
   kind_other f w = record f { clash = f.clash ++ w.path ∷ []; seen = put w.path (seen_after (resource_held w.path held) None) f.seen }
 
   put_past : (path at : List ℕ) (v : SeenAt) (seen : Seen) → bytes_eq path at ≡ false → value_at path (put at v seen) ≡ value_at path seen
   put_past path at v seen e = value_put path at v seen ∙ ap (λ b. cond b (Some v) (value_at path seen)) e
 
-  past_with : (path : List ℕ) (f : Found) (w : Wanted) → bytes_eq path w.path ≡ false → IsUntouched path f (found_with schemas held f w)
+  past_with : (path : List ℕ) (f : RowsFound) (w : Wanted) → bytes_eq path w.path ≡ false → IsUntouched path f (found_with schemas held f w)
   past_with path f w e = either (is_other_kind (resource_held w.path held) w) where
     either : (b : Bool) → IsUntouched path f (cond b (kind_other f w) (kind_known f w))
     either true = record { seen = put_past path w.path (seen_after (resource_held w.path held) None) f.seen e; id = refl; attrs = refl }
@@ -229,7 +229,7 @@ module _ (schemas : List Schema) (held : List HeldAt) where
           ∙ ap (λ b. hides_attrs f.rows path || b) (other_attrs path w.path (row_for schemas (resource_held w.path held) w) (row_of schemas (resource_held w.path held) w) e) ∙ either_last (hides_attrs f.rows path) false;
     }
 
-  here_with : (f : Found) (w : Wanted) → IsFresh w.path f → (found_with schemas held f w).clash ≡ [] → IsLeft held w.path (found_with schemas held f w)
+  here_with : (f : RowsFound) (w : Wanted) → IsFresh w.path f → (found_with schemas held f w).clash ≡ [] → IsLeft held w.path (found_with schemas held f w)
   here_with f w new = either (is_other_kind (resource_held w.path held) w) where
     leaves : Leaves w.path (resource_held w.path held) (row_for schemas (resource_held w.path held) w)
     leaves = row_leaves schemas (resource_held w.path held) w
@@ -256,7 +256,7 @@ module _ (schemas : List Schema) (held : List HeldAt) where
           (sym (added_attrs f.rows (row_list (row_for schemas (resource_held w.path held) w)) w.path ∙ ap (λ b. b || hides_attrs (row_list (row_for schemas (resource_held w.path held) w)) w.path) new.attrs));
     }
 
-  clash_with : (f : Found) (w : Wanted) → (found_with schemas held f w).clash ≡ [] → f.clash ≡ []
+  clash_with : (f : RowsFound) (w : Wanted) → (found_with schemas held f w).clash ≡ [] → f.clash ≡ []
   clash_with f w = either (is_other_kind (resource_held w.path held) w) where
     none_before : (paths more : List (List ℕ)) → paths ++ more ≡ [] → paths ≡ []
     none_before [] more h = refl
@@ -267,33 +267,33 @@ module _ (schemas : List Schema) (held : List HeldAt) where
     either false h = h
 
   module _ (source : Source) (shape : Shape) where
-    abbrev step : Found → Member → Found
+    abbrev step : RowsFound → Member → RowsFound
     step f m = found_next schemas held source shape f m
 
-    past_next : (path : List ℕ) (f : Found) (m : Member) → bytes_eq path m.path ≡ false → IsUntouched path f (step f m)
+    past_next : (path : List ℕ) (f : RowsFound) (m : Member) → bytes_eq path m.path ≡ false → IsUntouched path f (step f m)
     past_next path f m e = either (props_at source shape f.seen m.path) where
       either : (o : Option Evaluated) → IsUntouched path f (option_map_or (λ v. found_with schemas held f (wanted_of (m, v))) o f)
       either None = record { seen = refl; id = refl; attrs = refl }
       either (Some v) = past_with path f (wanted_of (m, v)) e
 
-    here_next : (f : Found) (m : Member) → is_among m.path (map (λ x. x.path) (resources_in shape)) ≡ true → IsFresh m.path f → (step f m).clash ≡ [] → IsLeft held m.path (step f m)
+    here_next : (f : RowsFound) (m : Member) → is_among m.path (map (λ x. x.path) (resources_in shape)) ≡ true → IsFresh m.path f → (step f m).clash ≡ [] → IsLeft held m.path (step f m)
     here_next f m there new = either (props_at source shape f.seen m.path) (props_there source shape f.seen m.path there) where
       either : (o : Option Evaluated) → is_some o ≡ true → (option_map_or (λ v. found_with schemas held f (wanted_of (m, v))) o f).clash ≡ []
           → IsLeft held m.path (option_map_or (λ v. found_with schemas held f (wanted_of (m, v))) o f)
       either None h none = absurd (true≢false (sym h))
       either (Some v) h none = here_with f (wanted_of (m, v)) new none
 
-    clash_next : (f : Found) (m : Member) → (step f m).clash ≡ [] → f.clash ≡ []
+    clash_next : (f : RowsFound) (m : Member) → (step f m).clash ≡ [] → f.clash ≡ []
     clash_next f m = either (props_at source shape f.seen m.path) where
       either : (o : Option Evaluated) → (option_map_or (λ v. found_with schemas held f (wanted_of (m, v))) o f).clash ≡ [] → f.clash ≡ []
       either None h = h
       either (Some v) h = clash_with f (wanted_of (m, v)) h
 
-    clash_along : (f : Found) (ms : List Member) → (fold step f ms).clash ≡ [] → f.clash ≡ []
+    clash_along : (f : RowsFound) (ms : List Member) → (fold step f ms).clash ≡ [] → f.clash ≡ []
     clash_along f [] h = h
     clash_along f (m ∷ ms) h = clash_next f m (clash_along (step f m) ms h)
 
-    past_along : (path : List ℕ) (f : Found) (ms : List Member) → is_among path (map (λ x. x.path) ms) ≡ false → IsUntouched path f (fold step f ms)
+    past_along : (path : List ℕ) (f : RowsFound) (ms : List Member) → is_among path (map (λ x. x.path) ms) ≡ false → IsUntouched path f (fold step f ms)
     past_along path f [] h = record { seen = refl; id = refl; attrs = refl }
     past_along path f (m ∷ ms) h =
         let apart = neither_so (bytes_eq path m.path) (is_among path (map (λ x. x.path) ms)) h in
@@ -302,16 +302,16 @@ module _ (schemas : List Schema) (held : List HeldAt) where
           neither_so true b g = absurd (true≢false g)
           neither_so false b g = (refl, g)
 
-    left_on : (path : List ℕ) (f g : Found) → IsUntouched path f g → IsLeft held path f → IsLeft held path g
+    left_on : (path : List ℕ) (f g : RowsFound) → IsUntouched path f g → IsLeft held path f → IsLeft held path g
     left_on path f g u h = record {
       id = ap (option_and_then (λ s. s.physical)) u.seen ∙ h.id ∙ ap (λ b. cond b None (held_id (resource_held path held))) (sym u.id);
       attrs = ap (option_and_then (λ s. s.attrs)) u.seen ∙ h.attrs ∙ ap (λ b. cond b None (held_attrs (resource_held path held))) (sym u.attrs);
     }
 
-    fresh_on : (path : List ℕ) (f g : Found) → IsUntouched path f g → IsFresh path f → IsFresh path g
+    fresh_on : (path : List ℕ) (f g : RowsFound) → IsUntouched path f g → IsFresh path f → IsFresh path g
     fresh_on path f g u h = record { seen = u.seen ∙ h.seen; id = u.id ∙ h.id; attrs = u.attrs ∙ h.attrs }
 
-    left_along : (path : List ℕ) (f : Found) (ms : List Member) → ((q : List ℕ) → is_among q (map (λ x. x.path) ms) ≡ true → is_among q (map (λ x. x.path) (resources_in shape)) ≡ true)
+    left_along : (path : List ℕ) (f : RowsFound) (ms : List Member) → ((q : List ℕ) → is_among q (map (λ x. x.path) ms) ≡ true → is_among q (map (λ x. x.path) (resources_in shape)) ≡ true)
         → all_differ bytes_eq (map (λ x. x.path) ms) ≡ true → IsFresh path f → (fold step f ms).clash ≡ [] → is_among path (map (λ x. x.path) ms) ≡ true → IsLeft held path (fold step f ms)
     left_along path f [] all d new none i = absurd (true≢false (sym i))
     left_along path f (m ∷ ms) all d new none i =
@@ -370,7 +370,7 @@ shown_attrs None = refl
 shown_attrs (Some h) = refl
 
 module _ (schemas : List Schema) (held : List HeldAt) (source : Source) (none : (found_of schemas held source).clash ≡ []) where
-  abbrev f : Found
+  abbrev f : RowsFound
   f = found_of schemas held source
 
   abbrev shape : Shape
@@ -382,7 +382,7 @@ module _ (schemas : List Schema) (held : List HeldAt) (source : Source) (none : 
   abbrev rows : List Row
   rows = all_rows f.rows held f.seen
 
-  abbrev first : Found
+  abbrev first : RowsFound
   first = record { rows = []; seen = []; clash = [] }
 
   left_at : (path : List ℕ) → is_among path paths ≡ true → IsLeft held path f
@@ -406,15 +406,15 @@ module _ (schemas : List Schema) (held : List HeldAt) (source : Source) (none : 
   more : SeesMore f.seen (left_seen rows held)
   more path = either (is_among path paths) refl where
     either : (b : Bool) → is_among path paths ≡ b
-        → Keeps (id_seen path f.seen) (id_seen path (left_seen rows held)) × Keeps (attrs_seen path f.seen) (attrs_seen path (left_seen rows held))
+        → StaysKnown (id_seen path f.seen) (id_seen path (left_seen rows held)) × StaysKnown (attrs_seen path f.seen) (attrs_seen path (left_seen rows held))
     either true i = (
-      subst (λ o. Keeps (id_seen path f.seen) o) (sym (id_same path i)) (kept_self (id_seen path f.seen)),
-      subst (λ o. Keeps (attrs_seen path f.seen) o) (sym (attrs_same path i)) (kept_self (attrs_seen path f.seen)),
+      subst (λ o. StaysKnown (id_seen path f.seen) o) (sym (id_same path i)) (kept_self (id_seen path f.seen)),
+      subst (λ o. StaysKnown (attrs_seen path f.seen) o) (sym (attrs_same path i)) (kept_self (attrs_seen path f.seen)),
     )
     either false i =
         let past = (past_along schemas held source shape path first (resources_in shape) i).seen in (
-          subst (λ o. Keeps (option_and_then (λ s. s.physical) o) (id_seen path (left_seen rows held))) (sym past) tt,
-          subst (λ o. Keeps (option_and_then (λ s. s.attrs) o) (attrs_seen path (left_seen rows held))) (sym past) tt,
+          subst (λ o. StaysKnown (option_and_then (λ s. s.physical) o) (id_seen path (left_seen rows held))) (sym past) tt,
+          subst (λ o. StaysKnown (option_and_then (λ s. s.attrs) o) (attrs_seen path (left_seen rows held))) (sym past) tt,
         )
 
 pub changes_hide : ChangesHide

@@ -21,7 +21,7 @@ use Rattle.cf_desired.specs.Work.{Member, Shape}
 use Rattle.cf_desired.proofs.Flawless.{flawless_clear}
 use Rattle.cf_desired.proofs.Puts.{kept_self, value_names, value_put}
 use Rattle.cf_desired.proofs.ShapeStays.{shape_stays}
-use Rattle.cf_change.specs.Changes.{Found, HeldAt, found_next, found_of, found_with, held_at, held_seen, is_other_kind, is_property, keeps_id, resource_held, row_for, row_list, seen_after, seen_held}
+use Rattle.cf_change.specs.Changes.{RowsFound, HeldAt, found_next, found_of, found_with, held_at, held_seen, is_other_kind, is_property, keeps_id, resource_held, row_for, row_list, seen_after, seen_held}
 use Rattle.cf_change.specs.Hidden.{HeldShowsMore, ShapeIsHeld}
 
 -- nothing is seen, or what is held
@@ -79,7 +79,7 @@ module _ (held : List HeldAt) where
     by_name false e = h q
 
   module _ (schemas : List Schema) (source : Source) (shape : Shape) where
-    shown_with : (f : Found) (w : Wanted) → ShowsLess f.seen (held_seen held) → ShowsLess (found_with schemas held f w).seen (held_seen held)
+    shown_with : (f : RowsFound) (w : Wanted) → ShowsLess f.seen (held_seen held) → ShowsLess (found_with schemas held f w).seen (held_seen held)
     shown_with f w h = by_kind (is_other_kind (resource_held w.path held) w) where
       by_kind : (b : Bool) → ShowsLess (cond b
           (record f { clash = f.clash ++ w.path ∷ []; seen = put w.path (seen_after (resource_held w.path held) None) f.seen })
@@ -87,13 +87,13 @@ module _ (held : List HeldAt) where
       by_kind true = shown_put w.path None f.seen h
       by_kind false = shown_put w.path (row_for schemas (resource_held w.path held) w) f.seen h
 
-    shown_next : (f : Found) (m : Member) → ShowsLess f.seen (held_seen held) → ShowsLess (found_next schemas held source shape f m).seen (held_seen held)
+    shown_next : (f : RowsFound) (m : Member) → ShowsLess f.seen (held_seen held) → ShowsLess (found_next schemas held source shape f m).seen (held_seen held)
     shown_next f m h = by_value (props_at source shape f.seen m.path) where
       by_value : (o : Option Evaluated) → ShowsLess (option_map_or (λ v. found_with schemas held f (wanted_of (m, v))) o f).seen (held_seen held)
       by_value None = h
       by_value (Some v) = shown_with f (wanted_of (m, v)) h
 
-    shown_along : (f : Found) (ms : List Member) → ShowsLess f.seen (held_seen held) → ShowsLess (fold (found_next schemas held source shape) f ms).seen (held_seen held)
+    shown_along : (f : RowsFound) (ms : List Member) → ShowsLess f.seen (held_seen held) → ShowsLess (fold (found_next schemas held source shape) f ms).seen (held_seen held)
     shown_along f [] h = h
     shown_along f (m ∷ ms) h = shown_along (found_next schemas held source shape f m) ms (shown_next f m h)
 

@@ -81,11 +81,11 @@ property_detail g old new name =
     (differs (value_at name old) (value_at name new)) []
 
 -- the names on either side, each once, in byte order
-abbrev pub names_of : List (List ℕ × Data) → List (List ℕ × Option Data) → List (List ℕ)
-names_of old new = in_order (map (λ p. p.0) old ++ map (λ p. p.0) new)
+abbrev pub names_on_either : List (List ℕ × Data) → List (List ℕ × Option Data) → List (List ℕ)
+names_on_either old new = in_order (map (λ p. p.0) old ++ map (λ p. p.0) new)
 
 abbrev pub property_details : Option Schema → List (List ℕ × Data) → List (List ℕ × Option Data) → List Detail
-property_details g old new = flat_map (property_detail g old new) (names_of old new)
+property_details g old new = flat_map (property_detail g old new) (names_on_either old new)
 
 -- a changed policy is a detail that never replaces
 abbrev pub same_deletion : Deletion → Deletion → Bool
@@ -107,7 +107,8 @@ policy_details h w =
     else record { attribute = attribute.UpdateReplacePolicy; name = []; recreation = recreation.Never; evaluation = evaluation.Static }
     ∷ [])
 
--- Replacement: True where a create-only property has a Static detail; else Conditional where one has a Dynamic detail or a conditional one has any; else False.
+-- Replacement: True where a create-only property has a Static detail; else Conditional where one has a Dynamic detail or a conditional one
+-- has any; else False.
 abbrev pub is_always_static : Recreation → Evaluation → Bool
 is_always_static recreation.Always evaluation.Static = true
 is_always_static _ _ = false
@@ -134,13 +135,21 @@ is_empty (a ∷ rest) = false
 abbrev pub modify_row : HeldAt → Wanted → List Detail → Option Row
 modify_row h w ds =
     if is_empty ds && not h.unsure then None
-    else Some (record { action = action.Modify; path = w.path; kind = w.kind; replacement = Some (replacement_of ds); unsure = h.unsure; details = ds })
+    else Some (record {
+      action = action.Modify;
+      path = w.path;
+      kind = w.kind;
+      replacement = Some (replacement_of ds);
+      unsure = h.unsure;
+      details = ds;
+    })
 
 abbrev pub details_for : List Schema → HeldAt → Wanted → List Detail
 details_for schemas h w = property_details (found w.kind schemas) h.props (props_or_none w.props) ++ policy_details h w
 
 abbrev pub row_for : List Schema → Option HeldAt → Wanted → Option Row
-row_for schemas None w = Some (record { action = action.Add; path = w.path; kind = w.kind; replacement = None; unsure = false; details = [] })
+row_for schemas None w =
+    Some (record { action = action.Add; path = w.path; kind = w.kind; replacement = None; unsure = false; details = [] })
 row_for schemas (Some h) w = modify_row h w (details_for schemas h w)
 
 -- What of a resource is seen by those that need it: unknown are the id of one that is added or may be replaced, and the
@@ -169,8 +178,8 @@ seen_after (Some h) row = seen_held h row
 
 -- The rows are found along the needs: each path is evaluated over what is seen of the paths before it. Where the shape over what
 -- is seen at the end has no flaw it is the shape over what is held (a law: ShapeIsHeld).
-abbrev pub Found : Type 0
-Found = kept_found.Found
+abbrev pub RowsFound : Type 0
+RowsFound = kept_found.Found
 
 abbrev pub row_list : Option Row → List Row
 row_list None = []
@@ -180,7 +189,7 @@ abbrev pub is_other_kind : Option HeldAt → Wanted → Bool
 is_other_kind None w = false
 is_other_kind (Some h) w = not (bytes_eq h.kind w.kind)
 
-abbrev pub found_with : List Schema → List HeldAt → Found → Wanted → Found
+abbrev pub found_with : List Schema → List HeldAt → RowsFound → Wanted → RowsFound
 found_with schemas held f w =
     if is_other_kind (resource_held w.path held) w
     then record f { clash = f.clash ++ w.path ∷ []; seen = put w.path (seen_after (resource_held w.path held) None) f.seen }
@@ -190,12 +199,13 @@ found_with schemas held f w =
     }
 
 -- a resource of the shape, over what is seen of those before it
-abbrev pub found_next : List Schema → List HeldAt → Source → Shape → Found → Member → Found
+abbrev pub found_next : List Schema → List HeldAt → Source → Shape → RowsFound → Member → RowsFound
 found_next schemas held source shape f m =
     option_map_or (λ v. found_with schemas held f (wanted_of (m, v))) (props_at source shape f.seen m.path) f
 
-abbrev pub found_by : List Schema → List HeldAt → Source → Shape → Found
-found_by schemas held source shape = fold (found_next schemas held source shape) (record { rows = []; seen = []; clash = [] }) (resources_in shape)
+abbrev pub found_by : List Schema → List HeldAt → Source → Shape → RowsFound
+found_by schemas held source shape =
+    fold (found_next schemas held source shape) (record { rows = []; seen = []; clash = [] }) (resources_in shape)
 
 -- what is seen of what is held: of two resources at one path the first one
 abbrev pub held_at : HeldAt → List ℕ × SeenAt
@@ -205,7 +215,7 @@ abbrev pub held_seen : List HeldAt → Seen
 held_seen held = by_names (map held_at held)
 
 -- along the shape that the source has over what is held
-abbrev pub found_of : List Schema → List HeldAt → Source → Found
+abbrev pub found_of : List Schema → List HeldAt → Source → RowsFound
 found_of schemas held source = found_by schemas held source (shape_of source (held_seen held))
 
 -- what is held and not wanted any more is removed
@@ -253,7 +263,7 @@ pub record Changes : Type 0 where
   pub clash : List (List ℕ)
   pub flaws : List Flaw
 
-abbrev pub changes_by : List HeldAt → List Output → List (List ℕ × List ℕ) → Found → Plan → Changes
+abbrev pub changes_by : List HeldAt → List Output → List (List ℕ × List ℕ) → RowsFound → Plan → Changes
 changes_by held outputs exports f p = record {
   rows = fold (insert_by is_row_before) [] (f.rows ++ removed_rows held f.seen);
   outputs_differ = not (are_same_outputs outputs p.outputs && are_same_exports exports p.exports);

@@ -18,9 +18,11 @@ use Rattle.cf_change.specs.Changes.{HeldAt, changes_of, found_of, held_seen, is_
 
 -- what is held shows all that is seen with the rows
 abbrev pub HeldShowsMore : Type 0
-HeldShowsMore = (schemas : List Schema) (held : List HeldAt) (source : Source) → SeesMore (found_of schemas held source).seen (held_seen held)
+HeldShowsMore =
+    (schemas : List Schema) (held : List HeldAt) (source : Source) → SeesMore (found_of schemas held source).seen (held_seen held)
 
--- where the source has no flaw over what is seen with the rows, its shape over that is the one over what is held, along which the rows were found
+-- where the source has no flaw over what is seen with the rows, its shape over that is the one over what is held, along which the rows
+-- were found
 abbrev pub ShapeIsHeld : Type 0
 ShapeIsHeld =
     (schemas : List Schema) (held : List HeldAt) (source : Source) → (plan_of source (found_of schemas held source).seen).flaws ≡ []
@@ -52,7 +54,8 @@ left_seen rows held = hidden_of (hides_id rows) (hides_attrs rows) (held_seen he
 -- Where a change set is not refused for a flaw or for a type, what is seen with its rows is, at each path that is wanted, what
 -- they leave of what is held; and that suffices to open every template.
 pub record LeavesSeen (schemas : List Schema) (held : List HeldAt) (source : Source) (rows : List Row) : Type 0 where
-  pub same : AgreeAt (map (λ m. m.path) (resources_in (shape_of source (held_seen held)))) (found_of schemas held source).seen (left_seen rows held)
+  pub same : AgreeAt (map (λ m. m.path) (resources_in (shape_of source (held_seen held)))) (found_of schemas held source).seen
+      (left_seen rows held)
   pub clear : IsClear (shape_of source (left_seen rows held))
 
 abbrev pub ChangesHide : Type 0
@@ -66,5 +69,6 @@ abbrev pub ShapeStaysForward : Type 0
 ShapeStaysForward =
     (schemas : List Schema) (held : List HeldAt) (outputs : List Output) (exports : List (List ℕ × List ℕ)) (source : Source) (now : Seen)
     → (changes_of schemas held outputs exports source).flaws ≡ [] → (changes_of schemas held outputs exports source).clash ≡ []
-    → KeepsRest (hides_id (changes_of schemas held outputs exports source).rows) (hides_attrs (changes_of schemas held outputs exports source).rows) (held_seen held) now
+    → KeepsRest (hides_id (changes_of schemas held outputs exports source).rows)
+    (hides_attrs (changes_of schemas held outputs exports source).rows) (held_seen held) now
     → shape_of source now ≡ shape_of source (held_seen held)

@@ -5,7 +5,7 @@ ghost use Rattle.std.specs.Option.{option_copied};
 ghost use Rattle.cf_tree.specs.Keys.{value_at};
 ghost use Rattle.cf_tree.specs.Value.{datum_of, pairs_of};
 ghost use Rattle.cf_desired.specs.Props.{prop_of};
-ghost use Rattle.cf_change.specs.Changes.{details_for, differs, is_always_static, is_never, names_of, policy_details, property_details, props_or_none, recreation_of, replacement_of};
+ghost use Rattle.cf_change.specs.Changes.{details_for, differs, is_always_static, is_never, names_on_either, policy_details, property_details, props_or_none, recreation_of, replacement_of};
 ghost use Rattle.cf_tree.specs.declared.row.Evaluation.TheVariants as evaluation;
 ghost use Rattle.cf_tree.specs.declared.row.Recreation.TheVariants as recreation;
 ghost use Rattle.cf_desired.specs.Shape.{put_name};
@@ -71,7 +71,7 @@ fn property_details(
 
 /// The names of properties on either side, each once, in byte order.
 fn names_of(alloc: Global, old: &Dict, new: &[Prop]) -> Result<ByName<bool>, AllocError>
-    ensures { IfOk result (λ names. map (λ p. p.0) names ≡ names_of old.now (map prop_of new.now)) }
+    ensures { IfOk result (λ names. map (λ p. p.0) names ≡ names_on_either old.now (map prop_of new.now)) }
 {
     let mut names = ByName::new(alloc);
     add_old(alloc, &mut names, old.as_slice())?;

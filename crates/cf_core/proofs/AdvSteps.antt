@@ -1,6 +1,6 @@
 -- The forward phase begins, and goes on behind each entry that is written.
 use Rattle.std.proofs.Common.{arith, ◌≡◌, ℕ, List, ◌++◌, Option, Some, None, refl, sym, ap, subst, ◌∙◌, map, option_map, ◌==◌, Bool, true, false, ◌&&◌, not, true≢false, ◌∷◌, inl, inr, ◌+◌, ◌||◌, IsTrue, is_some, filter, [], ◌⊎◌}
-use Rattle.cf_core.proofs.Words.{AdvancingBegins, AdvancingGoesOn, AgreeAt, AreAhead, AreSameThings, AreSingle, BeginsBy, Begun, Call, CourseIsFree, Data, EndsAs, Entry, Fits, Forward, GoesOn, HasBegun, Held, HeldLeft, In, IntendsForward, IsAccepted, IsAdvancing, IsAsSaid, IsAsked, IsCleared, IsDone, IsFreeToBegin, IsFurther, IsHidden, IsMove, IsMoved, IsOnCourse, IsOpenAhead, IsOwn, IsReady, IsRowOf, IsSameThing, IsStill, IsTo, IsWritten, KeepsRest, Known, Later, LeftAt, MayFollowIn, MayIntend, MayKeep, Member, Pending, Phase, Reply, Request, RestIsSeen, Row, Schema, Seen, Source, StackState, Status, Wanted, Why, World, anew, answered, answered_call, begins_from, by_create, by_update, bytes_eq, change_first, changes_begun, closed, closing, cond, creates_from, current_at, effect_at, evaluated_at, finding, first_so, goes_forward, has_physical, has_token, heard, hides_attrs, hides_id, is_call, is_current_at, is_in_progress, is_made, is_open_call, is_restore, is_right, is_success, is_update, is_updated, list_any, made_of, member_at, moved, needs_at, new_call, on_stack, option_map_or, pending_of, plan_by, plan_in, props_at, replied, resources_of, reviewed, seen_in, seen_now, settled_by, shape_of, source_for, status_made, still_open, succeeded, terms_at, terms_of, turned, unmoved, updates, updates_from, updating, value_at, wanted_at, wanted_from, wanted_in, wanted_paths, was_updated, was_updated_at, where_call, where_physical, without_token}
+use Rattle.cf_core.proofs.Words.{AdvancingBegins, AdvancingGoesOn, AgreeAt, AreAhead, AreSameThings, AreSingle, BeginsBy, Begun, Call, CourseIsFree, Data, EndsAs, Entry, Fits, Forward, StaysForward, HasBegunForward, Held, HeldLeft, In, IntendsForward, IsAccepted, IsAdvancing, IsAsSaid, AsksForNow, IsCleared, IsDone, IsFreeToBegin, IsFurther, IsHidden, IsMove, IsMoved, IsOnCourse, IsOpenAhead, IsOwn, IsReady, IsRowOf, IsSameThing, IsStill, IsTo, IsWritten, KeepsRest, Known, Later, LeftAt, MayFollowIn, MayIntend, MayKeep, Member, Pending, Phase, Reply, Request, RestIsSeen, Row, Schema, Seen, Source, StackState, Status, Wanted, Why, World, anew, answered, answered_call, begins_from, by_create, by_update, bytes_eq, change_first, changes_begun, closed, closing, cond, creates_from, current_at, effect_at, evaluated_at, finding, first_so, goes_forward, has_physical, has_token, heard, hides_attrs, hides_id, is_call, is_current_at, is_in_progress, is_made, is_open_call, is_restore, is_right, is_success, is_update, is_updated, list_any, made_of, member_at, moved, needs_at, new_call, on_stack, option_map_or, pending_of, plan_by, plan_in, props_at, replied, resources_of, reviewed, seen_in, seen_now, settled_by, shape_of, source_for, status_made, still_open, succeeded, terms_at, terms_of, turned, unmoved, updates, updates_from, updating, value_at, wanted_at, wanted_from, wanted_in, wanted_paths, was_updated, was_updated_at, where_call, where_physical, without_token}
 use Rattle.cf_core.proofs.Lemmas.{and_no, any_filtered, any_mapped, any_no_more, any_of, by_paths, bytes_eq-Decides, bytes_same, cases_Bool, each_map, eqb-true, false_from, find-append, found_changed, found_else, found_in_more, found_no_more, found_one, found_still, in_any, in_filter, in_front, in_more, kept_self, needs_suffice, no_and, none_if, none_kept, not_so, one_id, one_number, or_right, same_bytes, same_in, shown, shown_at, some_is, some_of, terms_by, wanted_terms}
 use Rattle.cf_core.proofs.{Rows.answered_same, Rows.answered_row, Rows.answered_row_same, Statuses.ended_status, Statuses.turned_status, Moving.written_is_to, Moving.written_moves, BackLists.is_of, BackLists.same_things}
 use Rattle.std.specs.Option.{option_and_then}
@@ -91,7 +91,7 @@ module _ (s t : StackState) (source : Source) (h : IsFurther s t source) where
 
 -- A stack that goes forward and moves so goes forward.
 
-asked_stays : (s t : StackState) (source : Source) → IsFurther s t source → (path : List ℕ) (r : Request) → IsReady s path → IsStill s t path → IsAsked s path r → IsAsked t path r
+asked_stays : (s t : StackState) (source : Source) → IsFurther s t source → (path : List ℕ) (r : Request) → IsReady s path → IsStill s t path → AsksForNow s path r → AsksForNow t path r
 asked_stays s t source f path (Request.Create kind props) ready still a = ready_said s t source f path ready ∙ a
 asked_stays s t source f path (Request.Update physical props) ready still (h, e, id, said) = (h, still.held ∙ e, id, ready_said s t source f path ready ∙ said)
 asked_stays s t source f path (Request.Delete physical) ready still a = a
@@ -422,7 +422,7 @@ pub record Goes (schemas : List Schema) (x : World) (out name : List ℕ) (s : S
   pub before : t.before ≡ s.before
   pub left : (q : List ℕ) → LeftAt s t q
   pub goes : ((token : ℕ) (lane path : List ℕ) (r : Request) → MayIntend schemas name x out s Forward token lane path r
-      → IsHidden (changes_begun schemas s source).rows s path r) → RestIsSeen schemas t source → GoesOn schemas s t source
+      → IsHidden (changes_begun schemas s source).rows s path r) → RestIsSeen schemas t source → StaysForward schemas s t source
 
 module _ (schemas : List Schema) (x : World) (out name : List ℕ) (s : StackState) (source : Source) (h : IsAdvancing schemas s source) (fits : Fits x s) (place : ℕ) where
   abbrev On : StackState → Type 0
@@ -438,7 +438,7 @@ module _ (schemas : List Schema) (x : World) (out name : List ℕ) (s : StackSta
     heard_by a t = (heard place (Entry.Outcome number token a before after) s (on_stack (closing token a t))).stack
 
     by_held : (id : List ℕ) (props : List (List ℕ × Data)) (physical : List ℕ) (attrs : List (List ℕ × Data)) → p.request ≡ Request.Update id props
-        → IsAsked s p.path (Request.Update id props) → (b : Bool) → list_any (has_physical id) s.held ≡ b
+        → AsksForNow s p.path (Request.Update id props) → (b : Bool) → list_any (has_physical id) s.held ≡ b
         → On (heard_by (Reply.Success physical attrs) (cond b (record s { held = where_physical id (updating props attrs) s.held })
         (record s { made = where_physical id (updating props attrs) s.made })))
     by_held id props physical attrs of_call (g, at, named_so, said) true e =
@@ -449,7 +449,7 @@ module _ (schemas : List Schema) (x : World) (out name : List ℕ) (s : StackSta
     changes_nothing : (a : Reply) → (is_update p.request && is_success (settled_by a)) ≡ false → On (heard_by a s)
     changes_nothing a none = let m = quiet schemas x s source h fits token p i named _ _ a none in on refl refl refl m.0 m.1
 
-    by_request : (r : Request) (restores : Bool) (a : Reply) → p.request ≡ r → restores ≡ false → IsAsked s p.path r → On (heard_by a (answered restores p.path r a s))
+    by_request : (r : Request) (restores : Bool) (a : Reply) → p.request ≡ r → restores ≡ false → AsksForNow s p.path r → On (heard_by a (answered restores p.path r a s))
     by_request (Request.Create k props) restores (Reply.Success physical attrs) e none asked =
         let m = makes schemas x s source h fits token p i named _ _ physical attrs
         (made_of (terms_at p.path s) (status_made (current_at p.path s.held)) p.path k props physical attrs) refl refl
@@ -483,7 +483,7 @@ module _ (schemas : List Schema) (x : World) (out name : List ℕ) (s : StackSta
       on refl refl refl m.0 m.1
 
   -- a call that goes out
-  asked_by : (path : List ℕ) (r : Request) → IntendsForward schemas s path r → IsAsked s path r
+  asked_by : (path : List ℕ) (r : Request) → IntendsForward schemas s path r → AsksForNow s path r
   asked_by path r f = grind arith
 
   at_its_path : (path : List ℕ) (r : Request) → IntendsForward schemas s path r → (b : Held) → In b s.before → IsTrue (updates b.physical r) → path ≡ b.path
@@ -668,7 +668,7 @@ differ e = let no : ⊥ = cc in no
 by_begun :
     (schemas : List Schema) (x : World) (place number : ℕ) (name : List ℕ) (k : Begun) (s : StackState) → Fits x s → IsTrue (begins_from k s.status)
     → BeginsBy schemas name x number s k → goes_forward (effect_at place (Entry.Begin number name k) s).stack.status ≡ true → IsFreeToBegin s
-    → (source : Source) × HasBegun schemas s (effect_at place (Entry.Begin number name k) s).stack source
+    → (source : Source) × HasBegunForward schemas s (effect_at place (Entry.Begin number name k) s).stack source
 by_begun schemas x place number name (Begun.Create source) s fits from by on free =
     let f = free (ap (λ b. b || updates_from s.status) from) in
     let goes = begins_so schemas x s fits f.0 f.1 _ _ _ _ _ (source_for name number source) _ name by in
@@ -684,9 +684,9 @@ advancing_begins schemas x out e name s t w rests on free = by (begins_ahead w (
   none_forward : (z : Status) → is_in_progress z ≡ false → goes_forward z ≡ true → ⊥
   none_forward z n f = only_forward (λ v. is_in_progress v ≡ false → ⊥) true≢false true≢false z f n
 
-  by : HasBegunBy schemas x name s t → (source : Source) × HasBegun schemas s t source
+  by : HasBegunBy schemas x name s t → (source : Source) × HasBegunForward schemas s t source
   by (k, from, b, q) =
-      subst (λ u. goes_forward u.status ≡ true → (source : Source) × HasBegun schemas s u source) q
+      subst (λ u. goes_forward u.status ≡ true → (source : Source) × HasBegunForward schemas s u source) q
       (λ g. by_begun schemas x (x.place + 1) (x.operation + 1) name k s w.fits from b g free) on
 
 -- a stack at rest, and one of which nothing is left, are free to begin

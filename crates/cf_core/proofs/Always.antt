@@ -1,6 +1,6 @@
 -- Whatever happens in the life of an engine, each stack stays on its course, and keeps what its status promises.
 use Rattle.std.proofs.Common.{◌⊎◌, inl, inr, arith, ◌≡◌, ◌∙◌, ℕ, ◌+◌, List, [], true, false, Option, Some, None, refl, sym, ap, subst, true≢false, ◌∷◌, ◌++◌, ◌||◌, ◌≢◌, Bool, filter}
-use Rattle.cf_core.proofs.Words.{Act, Appends, AreDescribed, AreKept, AreSameThings, AreSchemas, AreSteady, BackClean, BecomesBy, Begin, Begun, Cause, ChangeSet, Clean, DescribedIsKept, End, EndsAs, Entry, Event, Fits, Forward, GoesOn, Grant, HasBegun, HasNext, Held, HoldsWhole, In, IsAdvancing, IsBegin, IsBlamed, IsChangeSet, IsCleaning, IsCleared, IsGivenUpIn, IsGranted, IsLife, IsMove, IsNoBegin, IsOnCourse, IsOnce, IsSteady, IsTidying, IsTo, IsTold, IsUnmaking, IsWritten, Lane, Lease, LeavesApart, Left, Life, MayBegin, MayHappen, MayTurn, Opened, Pending, Phase, Raise, Repeat, Request, Schema, Settle, Source, StackState, StartIsDescribed, Status, World, acted, appended, at_opening, begins_from, begun, bytes_eq, cleaned_in, continues_from, creates_from, deletes_from, deletes_nothing, effect_at, empty_world, ends, failed_of, first_again, fold_of, found, goes_forward, granted, is_cleared, is_failed_status, is_going, is_in_progress, is_opening, known_stack, lease_at, life_after, more as more_same, no_stack, none as none_same, of_rollback, of_update, other as another, own as is_own, repeated, reviewed as review, stack_at, stack_for, stack_of_operation, stage_of, stays as goes_on, tokens_out, turned, turns, updates_from, world_after, world_of}
+use Rattle.cf_core.proofs.Words.{Act, Appends, AreDescribed, AreKept, AreSameThings, AreSchemas, AreSteady, BackClean, BecomesBy, Begin, Begun, Cause, ChangeSet, Clean, DescribedIsKept, End, EndsAs, Entry, Event, Fits, Forward, StaysForward, Grant, HasBegunForward, HasNext, Held, HoldsWhole, In, IsAdvancing, IsBegin, IsBlamed, IsChangeSet, IsCleaning, IsCleared, IsGivenUpIn, IsGranted, IsLife, IsMove, IsNoBegin, IsOnCourse, IsOnce, IsSteady, IsTidying, IsTo, IsTold, IsUnmaking, IsWritten, Lane, Lease, LeavesApart, Left, Life, MayBegin, Happens, MayTurn, Opened, Pending, Phase, Raise, Repeat, Request, Schema, Settle, Source, StackState, StartIsDescribed, Status, World, lane_acted, appended, at_opening, begins_from, begun, bytes_eq, cleaned_in, continues_from, creates_from, deletes_from, deletes_nothing, effect_at, empty_world, ends, failed_of, first_again, fold_of, found, goes_forward, granted, is_cleared, is_failed_status, is_going, is_in_progress, is_opening, known_stack, lease_at, life_after, more as more_same, no_stack, none as none_same, of_rollback, of_update, other as another, own as is_own, repeated, reviewed as review, stack_at, stack_for, stack_of_operation, stage_of, stays as goes_on, tokens_out, turned, turns, updates_from, world_after, world_of}
 use Rattle.cf_core.proofs.Lemmas.{all_in, empty_list, empty_parts, found_one, found_stands, in_filter, in_kept, none_false, or_left, or_right}
 use Rattle.cf_core.proofs.WholeKept.{creation_is_whole, update_is_whole, cleanup_keeps_whole, rest_keeps_whole, update_ends_at_rest, course_keeps_promise, held_is_found}
 use Rattle.cf_core.proofs.BackLaws.{back_holds, cleanup_stays, failed_stay, rest_stays, updates_back, updates_turn}
@@ -38,7 +38,7 @@ granted_entries end e life = grind arith
 repeated_entries : (o : Option Lease) (life : Life) → (repeated o life).entries ≡ life.entries
 repeated_entries o life = grind arith
 
-acted_entries : (left : Left) (o : Option Lease) (life : Life) → (acted left o life).entries ≡ life.entries
+acted_entries : (left : Left) (o : Option Lease) (life : Life) → (lane_acted left o life).entries ≡ life.entries
 acted_entries left o life = grind arith
 
 -- What is so of the entries of a life, and of those with one more that an event appends, is so of those after the event.
@@ -62,7 +62,7 @@ module _ (schemas : List Schema) (life : Life) (d : AreDescribed schemas (world_
   described_by : (e : Entry) → is_opening e ≡ false → AreDescribed schemas (world_after (world_of life) e)
   described_by e h l i = d l (subst (In l) (after_lanes (world_of life) e h) i)
 
-  described_more : AreSchemas schemas life.lanes → {ev : Event} {e : Entry} {out : List ℕ} → Appends life ev e out → MayHappen schemas life ev
+  described_more : AreSchemas schemas life.lanes → {ev : Event} {e : Entry} {out : List ℕ} → Appends life ev e out → Happens schemas life ev
       → AreDescribed schemas (world_after (world_of life) e)
   described_more s sound.opened may = λ l i.
       let of_life = may.2.there_are l i in
@@ -304,7 +304,7 @@ module _ (schemas : List Schema) (x : World) (out : List ℕ) (e : Entry) (name 
   abbrev Now : Status → Type 0
   Now a = IsOnCourse schemas name x s a
 
-  forward : (a : Status) → s.status ≡ a → t.status ≡ a → IsTrue (goes_forward a) → (source : Source) → IsAdvancing schemas s source → GoesOn schemas s t source
+  forward : (a : Status) → s.status ≡ a → t.status ≡ a → IsTrue (goes_forward a) → (source : Source) → IsAdvancing schemas s source → StaysForward schemas s t source
   forward a was now goes source h = advancing_stays schemas x out e name s t source w (ap goes_forward was ∙ goes) (ap goes_forward now ∙ goes) h supported.ordered described
 
   differ : (a b : Status) → s.status ≡ a → t.status ≡ b → a ≢ b → s.status ≢ t.status
@@ -334,7 +334,7 @@ module _ (schemas : List Schema) (x : World) (out : List ℕ) (e : Entry) (name 
   still Status.DeleteInProgress was now c = tt
 
   -- an operation begins
-  begun_source : (a b : Status) → s.status ≡ a → t.status ≡ b → is_in_progress a ≡ false → IsTrue (goes_forward b) → Now a → (source : Source) × HasBegun schemas s t source
+  begun_source : (a b : Status) → s.status ≡ a → t.status ≡ b → is_in_progress a ≡ false → IsTrue (goes_forward b) → Now a → (source : Source) × HasBegunForward schemas s t source
   begun_source a b was now rests goes c =
       advancing_begins schemas x out e name s t w (ap is_in_progress was ∙ rests) (ap goes_forward now ∙ goes)
       (course_is_free schemas name x s (subst (IsOnCourse schemas name x s) (sym was) c))
@@ -452,7 +452,7 @@ module _ (schemas : List Schema) (l : Life) (h : HoldsAlways schemas l) where
       (λ s e. once_here (world_of l).stacks (world_of l).stacks name s s (stands_on (world_of l) name s h.sound.orderly.own e).one h.sound.orderly.own)
 
   -- one more entry
-  ways_more : (ev : Event) (e : Entry) (out : List ℕ) → Appends l ev e out → MayHappen schemas l ev → AreOnWay schemas (fold_of empty_world (l.entries ++ e ∷ []))
+  ways_more : (ev : Event) (e : Entry) (out : List ℕ) → Appends l ev e out → Happens schemas l ev → AreOnWay schemas (fold_of empty_world (l.entries ++ e ∷ []))
   ways_more ev e out appends may = subst (AreOnWay schemas) (sym (fold_more empty_world l.entries e)) now
     where
       now : AreOnWay schemas (world_after (world_of l) e)
@@ -460,15 +460,15 @@ module _ (schemas : List Schema) (l : Life) (h : HoldsAlways schemas l) where
           way_kept schemas (world_of l) out e name (known_stack name (world_of l)) t
           (event_writes schemas l ev e out appends may are_steady h.sound name t there) h.described (known_once name) (known_on_way schemas (world_of l) h.way name)
 
-  ways : (ev : Event) → MayHappen schemas l ev → AreOnWay schemas (world_of (life_after l ev))
+  ways : (ev : Event) → Happens schemas l ev → AreOnWay schemas (world_of (life_after l ev))
   ways ev may = entries_after l (λ es. AreOnWay schemas (fold_of empty_world es)) h.way ev (λ e out appends. ways_more ev e out appends may)
 
-  apart : (ev : Event) → MayHappen schemas l ev → LeavesApart (world_of (life_after l ev))
+  apart : (ev : Event) → Happens schemas l ev → LeavesApart (world_of (life_after l ev))
   apart ev may = entries_after l (λ es. LeavesApart (fold_of empty_world es)) h.leaves ev (λ e out appends.
       subst LeavesApart (sym (fold_more empty_world l.entries e))
       (leaves_apart_stays schemas (world_of l) out e (event_writes schemas l ev e out appends may are_steady h.sound) h.sound.orderly.own h.leaves))
 
-  holds_after : (ev : Event) → MayHappen schemas l ev → HoldsAlways schemas (life_after l ev)
+  holds_after : (ev : Event) → Happens schemas l ev → HoldsAlways schemas (life_after l ev)
   holds_after ev may = record {
     sound = event_keeps schemas l ev may are_steady h.sound;
     described = described_kept schemas l ev may h.sound.described h.described;

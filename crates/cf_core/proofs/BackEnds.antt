@@ -1,6 +1,6 @@
 -- How an update begins to go back, fails to, is continued, and has given all back; and its cleanup and rest.
 use Rattle.std.proofs.Common.{arith, ◌≡◌, inl, inr, ℕ, List, [], ◌∷◌, ◌++◌, Bool, true, false, not, ◌||◌, Option, Some, None, refl, sym, ap, subst, ◌∙◌, true≢false, find, map, cond}
-use Rattle.cf_core.proofs.Words.{AreSameThings, Begun, Code, DeletesMade, Entry, Fits, Held, HeldStatus, In, IsAdvancing, IsAsked, IsAtRest, IsBack, IsBackAll, IsForwardCall, IsGoingBack, IsOpenInBack, IsSameThing, IsToRestore, Pending, Reply, Request, Schema, SkipsNone, Source, StackState, Status, Why, World, all_differ, anew, answered, as_before, beginning, bytes_eq, current_at, deleting, first_so, goes_back, goes_forward, has_physical, has_token, is_among, is_call, is_current_at, is_made, is_on, is_restore, keeping, left_in_doubt, marked, pending_of, replied, replying, skipped_in, stopping, was_restored, was_skipped, with_status}
+use Rattle.cf_core.proofs.Words.{AreSameThings, Begun, Code, DeletesMade, Entry, Fits, Held, HeldStatus, In, IsAdvancing, AsksForNow, IsHeldAtRest, IsBack, IsBackAll, IsForwardCall, IsGoingBack, IsOpenInBack, IsSameThing, IsToRestore, Pending, Reply, Request, Schema, SkipsNone, Source, StackState, Status, Why, World, all_differ, anew, answered, as_before, beginning, bytes_eq, current_at, deleting, first_so, goes_back, goes_forward, has_physical, has_token, is_among, is_call, is_current_at, is_made, is_on, is_restore, keeping, left_in_doubt, marked, pending_of, replied, replying, skipped_in, stopping, was_restored, was_skipped, with_status}
 use Rattle.cf_core.proofs.Lemmas.{append-nil, flat_map-append, found_one, in_filter, list_any-append, none_any, none_false, not_so, or_true}
 use Rattle.cf_plan.proofs.RunLanes.{bytes_same}
 use Rattle.cf_core.proofs.{BackLists.HaveOwnIds, BackLists.from_map, BackLists.none_along, BackLists.not_in_both, BackLists.one_of, BackLists.own_back, BackLists.own_before, BackLists.own_front, BackLists.same_ids, BackLists.same_mapped, BackLists.same_thing, BackLists.same_things, BackLists.single_along, BackLists.was_of, BackLists.without_none, BackCalls.anew_did, BackCalls.anew_rows, BackCalls.none_did, BackGoing.Plain, BackGoing.goes_on, BackGoing.keeps_rows, BackGoing.open_stays, BackGoing.plain, BackGoing.plainly}
@@ -121,7 +121,7 @@ module _ (schemas : List Schema) (x : World) (s : StackState) (source : Source) 
       let d = anew_rows s.ledger p.token row.0 row.1 in
       (d.0, d.1, ap goes_forward d.2 ∙ (a.calls row.0 (found_one (is_call p.token) s.ledger row.0 row.1).0).1)
 
-  opens : (p : Pending) → In p s.tokens → (r : Request) → IsAsked s p.path r → IsOpenInBack turned p r
+  opens : (p : Pending) → In p s.tokens → (r : Request) → AsksForNow s p.path r → IsOpenInBack turned p r
   opens p i (Request.Create kind props) asked = (is_forward p i, by (current_at p.path s.made) refl)
     where
       by : (o : Option Held) → current_at p.path s.made ≡ o → o ≡ None
@@ -162,7 +162,7 @@ all_back s t before held b = grind arith
 pub stopped_all : (s : StackState) (st : Status) → IsBackAll s → IsBackAll (stopping st s)
 stopped_all s st b = grind (arith, same_mapped, marked_same, from_map, doubt_props, doubt_unsure)
 
-pub stopped_rests : (x : World) (s : StackState) (st : Status) → Fits x s → IsBackAll s → s.tokens ≡ [] → s.made ≡ [] → IsAtRest (stopping st s)
+pub stopped_rests : (x : World) (s : StackState) (st : Status) → Fits x s → IsBackAll s → s.tokens ≡ [] → s.made ≡ [] → IsHeldAtRest (stopping st s)
 stopped_rests x s st fits b tokens made = record {
   none_open = tokens;
   none_made = ap (map (marked s.tokens)) made;

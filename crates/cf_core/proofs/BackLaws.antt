@@ -1,6 +1,6 @@
 -- The rollback of an update gives everything back, by the entries that may be written in each of its statuses.
 use Rattle.std.proofs.Common.{arith, ◌≡◌, inl, inr, ℕ, ◌+◌, List, true, false, ◌||◌, Option, Some, None, refl, sym, ap, subst, ◌∙◌, true≢false}
-use Rattle.cf_core.proofs.Words.{Back, BackClean, BackHolds, BackStaysAtRest, BackStaysInCleanup, Begun, Cause, DeletesMade, EndsAs, Entry, FailedRollbacksStay, Fits, Forward, Gone, In, IntendsIn, IsAdvancing, IsAfterBack, IsAfterBackClean, IsAfterFailed, IsAfterReturn, IsAtRest, IsBackAll, IsGoingBack, IsMove, IsOpenInBack, IsTo, MayFollowIn, MayKeep, MayTurn, Pending, Phase, Request, Schema, SkipsNone, Source, StackState, Stage, Status, UpdatesGoBack, UpdatesTurnBack, Why, World, begins, begins_from, continues_from, creates_from, deletes_from, effect_at, effect_of, intending, keeping, opened, replying, stage_of, step, stopping, updates_from}
+use Rattle.cf_core.proofs.Words.{Back, BackClean, BackHolds, BackStaysAtRest, BackStaysInCleanup, Begun, Cause, DeletesMade, EndsAs, Entry, FailedRollbacksStay, Fits, Forward, Gone, In, IntendsIn, IsAdvancing, IsAfterBack, IsAfterBackClean, IsAfterFailed, IsAfterReturn, IsHeldAtRest, IsBackAll, IsGoingBack, IsMove, IsOpenInBack, IsTo, MayFollowIn, MayKeep, MayTurn, Pending, Phase, Request, Schema, SkipsNone, Source, StackState, Stage, Status, UpdatesGoBack, UpdatesTurnBack, Why, World, begins, begins_from, continues_from, creates_from, deletes_from, effect_at, effect_of, intending, keeping, opened, replying, stage_of, step, stopping, updates_from}
 use Rattle.cf_core.specs.Written.{reviewed, other}
 use Rattle.cf_core.proofs.{Statuses.intended_status, Statuses.kept_status, Statuses.replied_status, Moving.written_is_to, Moving.written_moves, BackLists.is_of, BackGoing.anew_back, BackGoing.intended_back, BackGoing.heard_of, BackAnswered.replied_back, BackEnds.all_back, BackEnds.continued_back, BackEnds.given_back, BackEnds.kept_still, BackEnds.replied_still, BackEnds.stopped_all, BackEnds.stopped_back, BackEnds.stopped_rests, BackEnds.turned_back}
 use Rattle.cf_core.specs.Moving as move
@@ -155,7 +155,7 @@ pub cleanup_stays : BackStaysInCleanup
 cleanup_stays schemas x out e name s t w st b calls = stays_cleaned schemas x out name s w.fits st b calls e t (written_is_to schemas x out e name s t w)
 
 -- At rest.
-module _ (schemas : List Schema) (x : World) (out : List ℕ) (name : List ℕ) (s : StackState) (fits : Fits x s) (st : s.status ≡ Status.UpdateRollbackComplete) (b : IsBackAll s) (r : IsAtRest s) where
+module _ (schemas : List Schema) (x : World) (out : List ℕ) (name : List ℕ) (s : StackState) (fits : Fits x s) (st : s.status ≡ Status.UpdateRollbackComplete) (b : IsBackAll s) (r : IsHeldAtRest s) where
   rests_after : (t : StackState) → t.status ≡ Status.UpdateRollbackComplete → t.before ≡ s.before → t.held ≡ s.held → t.tokens ≡ s.tokens → t.made ≡ s.made → IsAfterReturn t t.status
   rests_after t e before held tokens made = grind (arith, all_back)
 

@@ -1,10 +1,11 @@
 -- Each row is the call that the journal has, and each resource was made by a create that was answered: each entry keeps that.
 use Rattle.std.proofs.Common.{◌≡◌, ◌⊎◌, inl, inr, ℕ, ◌+◌, List, [], ◌∷◌, ◌++◌, Bool, true, false, Option, Some, None, refl, sym, ap, subst, ◌∙◌, true≢false, find, unwrap_or, arith, map, ◌==◌, not, ◌&&◌, ◌||◌, filter}
-use Rattle.cf_core.proofs.Words.{Account, Agree, Answer, Answered, AreApart, AreOwn, AreSound, AreSteady, AreWritten, BecomesBy, Begun, Books, Call, CallEnd, Called, Data, Dict, Entry, GivenUp as LostCall, HaveOrigins, Held, In, IsGivenUpIn, IsLocal, IsMade, IsMadeBy, IsNew, IsNext, IsOfItsLane, IsOfLane, IsOnce, IsOrderly, IsOutcomeOf, IsSteady, Lane, Lanes, Lease, Leftover as Left, MayDrop, MayFollow, MayKeep, Named, OneStack, Open, Pending, Reply, Request, Resource, Response, Role, RoleMove, Row, Schema, Settled, Settlement, Source, StackState, Stage, Stale, Status, Stranger, Thing, Ties, Why, World, account_of, account_with, all_differ, answered, answered_call, as_before, at_opening, begins_from, bytes_eq, call_in, called, called_as, called_by, changed_by, cleaned_in, closing, cond, continues_from, creates_from, doubted, dropped, effect_at, entry_in, for_good, given_up, good_reply, has_leftover, has_physical, has_token, heard, held_in, here, id_named, is_among, is_at_rest, is_create, is_create_at, is_created, is_in_progress, is_opened_since, is_opening, is_restore, keeping_unknown, kept_role, known_stack, lane_of, lanes_of, lease_of, list_any, lost_create, lost_on, named_by, named_in, named_lane, of_create, of_doubted, on_stack, open_as, open_in, option_map, option_or, other as is_other, own as is_own, pending_of, put, replied, reply_in, resources_of, rested, resting_in, reviewed, role_found, role_in, role_on, skipped_creates, skipped_in, stack_at, stack_for, stack_of_operation, there, thing_of, told_in, unknown_id, updates_from, where_call, world_after}
+use Rattle.cf_core.proofs.Words.{Account, Agrees, Answer, Answered, AreApart, AreOwn, AreSound, AreSteady, AreWritten, BecomesBy, Begun, Books, Call, CallEnd, Called, Data, Dict, Entry, GivenUp as LostCall, HaveOrigins, Held, In, IsGivenUpIn, IsLocal, IsMade, IsMadeBy, IsNew, HasNextNumber, IsOfItsLane, IsOfLane, IsOnce, IsOrderly, IsOutcomeOf, IsSteady, Lane, Lanes, Lease, Leftover as Left, MayDrop, MayFollow, MayKeep, StacksByName, OneStack, Open, Pending, Reply, Request, Resource, Response, Role, RoleMove, Row, Schema, Settled, Settlement, Source, StackState, Stage, Stale, Status, Stranger, Thing, Ties, Why, World, account_of, account_with, all_differ, answered, answered_call, as_before, at_opening, begins_from, bytes_eq, call_in, called_of, called_as, called_by, changed_by, cleaned_in, closing, cond, continues_from, creates_from, doubted, dropped, effect_at, settled_under, for_good, given_up, good_reply, has_leftover, has_physical, has_token, heard, held_in, here, id_named, is_among, is_at_rest, is_create, is_create_at, is_created, is_in_progress, is_opened_since, is_opening, is_restore, keeping_unknown, kept_role, known_stack, lane_of, lanes_of, lease_of, list_any, lost_create, lost_on, named_by, lane_types, named_lane, of_create, of_doubted, on_stack, open_as, open_in, option_map, option_or, other as is_other, own as is_own, pending_of, put, replied, reply_in, resources_of, rested, resting_in, reviewed, role_found, role_in, role_on, skipped_creates, skipped_in, stack_at, stack_for, stack_of_operation, there, thing_of, told_in, unknown_id, updates_from, where_call, world_after}
 use Rattle.cf_core.proofs.Lemmas.{any_of, bytes_eq-Decides, bytes_or, eq-eqb, eqb-true, find-append, find_mapped, found_one, in_back, in_either, in_filter, in_front, in_kept, in_more, into_mapped, is_found_in, list_any-append, one_id, one_number, or_left, or_right, other_bytes, put_else, put_here, some_of}
 use Rattle.cf_agree.specs.Moves.{GivenUp, stays}
 use Rattle.cf_core.proofs.{Stacks.call_more, Stacks.on_one, Stacks.open_own, Stacks.told_more, Stacks.IsOnOne, Stacks.is_working, Stacks.not_resting, Stacks.once_here, Stacks.resting_same, Stacks.role_here, Stacks.role_now, Stacks.role_same, Stacks.told_same, Stacks.one_is_put, Stacks.on_bool, Stacks.on_option, Outcomes.gone_without, Outcomes.keeps_known, Outcomes.kept_may, Outcomes.kept_moves, Outcomes.kept_stack, Outcomes.found_none, Outcomes.quiet_moves, Outcomes.alike_quiet, Outcomes.dropped_moves, Outcomes.passes, Outcomes.gives, Outcomes.left_more, Statuses.intended_way, FitKept.IsLeftBy, FitKept.IsLess, FitKept.IsSameBut, FitKept.IsSameCall, FitKept.Key, FitKept.Stands, FitKept.fitting_lane, FitKept.gone as is_gone, FitKept.has_other, FitKept.in_keyed, FitKept.intends_named, FitKept.key_of, FitKept.keys_of, FitKept.known_steady, FitKept.left_by, FitKept.less_self, FitKept.made as is_made, FitKept.opening_less, FitKept.own_less, FitKept.rows_answered, FitKept.same as is_same, FitKept.same_call, FitKept.stack_known, FitKept.stands_by, FitKept.with_key, FitKept.at_known, FitKept.after_stacks, FitKept.differ_keyed, FitKept.from_mapped, FitKept.keeps_skipped, FitKept.put_by, FitKept.after_lanes, FitKept.IsPlain, Settling.found_name, Settling.map_some, Settling.orderly_on, Settling.there_is, Settling.named_found, BlameStays.deleted_listed}
-use Rattle.cf_plan.specs.Agrees.{written_in, call_at}
+use Rattle.cf_plan.specs.Lanes.{written_in}
+use Rattle.cf_plan.specs.Lanes.{call_at}
 use Rattle.cf_agree.proofs.{Keeps.drop_keeps, Keeps.rest_keeps, Words.same_bytes, Words.bytes_same}
 use Rattle.std.specs.Bool.{IsTrue}
 use Rattle.cf_agree.specs.Base as base
@@ -149,7 +150,7 @@ module _ (es : List Entry) (x : World) where
       open_own x.stacks (changed_by (x.place + 1) e x).stacks name s (effect_at (x.place + 1) e s).stack at.one t (open_as name p) ((at.unshared).tokens t p k).0 (ap (option_map (open_as name)) k)
 
 -- the types of the lanes of the last opening
-pub named_there : (lanes : List (List ℕ × List ℕ)) (l : List ℕ × List ℕ) → In l lanes → (k : List ℕ) × (named_in lanes l.0 ≡ Some k)
+pub named_there : (lanes : List (List ℕ × List ℕ)) (l : List ℕ × List ℕ) → In l lanes → (k : List ℕ) × (lane_types lanes l.0 ≡ Some k)
 named_there lanes l i =
     let (m, f) = is_found_in (λ (q : List ℕ × List ℕ). bytes_eq l.0 q.0) lanes l i ((bytes_eq-Decides l.0 l.0).1 refl) in
     (m.1, ap (option_map (λ (q : List ℕ × List ℕ). q.1)) f)
@@ -163,7 +164,7 @@ module _ (schemas : List Schema) (es : List Entry) (x : World) (lanes : List Lan
   record IsKnownCall (p : Pending) : Type 0 where
     pub next : p.token ≡ x.token + 1
     pub named : (id : List ℕ) → named_by p.request ≡ Some id → IsMadeBy es id
-    pub lane : (k : List ℕ) × (named_in x.lanes p.lane ≡ Some k)
+    pub lane : (k : List ℕ) × (lane_types x.lanes p.lane ≡ Some k)
 
   intent_known : (number token : ℕ) (lane path : List ℕ) (r : Request) → MayFollow schemas x out (Entry.Intent number token lane path r) → IsKnownCall (record { token = token; path = path; lane = lane; request = r })
   intent_known number token lane path r (name, s, stage, at, is, m) =
@@ -176,7 +177,7 @@ module _ (schemas : List Schema) (es : List Entry) (x : World) (lanes : List Lan
             subst (IsMadeBy es) f (known_made es x lanes origins name s known q i);
         lane =
             let (l, i, (f, g)) = fitting_lane x p r refl m.fits in
-            let (k, h) = named_there x.lanes l i in (k, ap (named_in x.lanes) (sym f) ∙ h);
+            let (k, h) = named_there x.lanes l i in (k, ap (lane_types x.lanes) (sym f) ∙ h);
       }
 
   known_call : (d : Entry) → MayFollow schemas x out d → (p : Pending) → written_in d ≡ Some p → IsKnownCall p
@@ -193,8 +194,8 @@ module _ (schemas : List Schema) (es : List Entry) (x : World) (lanes : List Lan
       let f : Stands x e name t = stands_by x apart e name t g in
       elim ((comes_from schemas x out apart e name t may steady f).rows c i) [
         | inl (b, j, s) ↦ (
-            let called : called_by b ≡ called_by c = λ k. record { path = sym s.path k; lane = sym s.lane k; request = sym s.request k } in
-            ap (call_in (es ++ e ∷ [])) s.token ∙ call_kept es e b.token (called_by b) (known_written es x h name f.stack f.known b j) ∙ ap Some called
+            let called_of : called_by b ≡ called_by c = λ k. record { path = sym s.path k; lane = sym s.lane k; request = sym s.request k } in
+            ap (call_in (es ++ e ∷ [])) s.token ∙ call_kept es e b.token (called_by b) (known_written es x h name f.stack f.known b j) ∙ ap Some called_of
             )
         | inr (p, w, k, s) ↦ ap (call_in (es ++ e ∷ [])) k ∙ call_new es e p w (none_called p.token (known_call e may p w).next) ∙ ap Some (sym s)
       ]
@@ -208,10 +209,10 @@ module _ (schemas : List Schema) (es : List Entry) (x : World) (lanes : List Lan
           let open_ = open_there es x own e (no_opening e n.answer n.told) name f.stack n.mine token n.pending n.open_ in
           let call = books.calls token (open_as name n.pending) open_ in (
             token,
-            called (open_as name n.pending),
+            called_of (open_as name n.pending),
             n.attrs,
             told_new es e n.answer (Settlement.Success r.physical n.attrs) n.told (ap for_good n.success) (books.untold token (open_as name n.pending) open_),
-            call_kept es e token (called (open_as name n.pending)) call,
+            call_kept es e token (called_of (open_as name n.pending)) call,
             n.create,
           )
           )
@@ -234,14 +235,14 @@ made_create (Request.Delete i) attrs id n q a b = absurd (cc)
 
 -- What an open create made is new to its stack, and has an id of its lane.
 module _ (es : List Entry) (x : World) (lanes : List Lane) (books : Books (account_of es x)) (ties : Ties (account_of es x) (lanes_of lanes)) (origins : HaveOrigins es x lanes) where
-  module _ (t : ℕ) (o : Open) (y : Settled) (id : List ℕ) (open_ : open_in x.stacks t ≡ Some o) (settled : entry_in (lanes_of lanes) o.lane t ≡ Some y) (made : IsMade y id) where
+  module _ (t : ℕ) (o : Open) (y : Settled) (id : List ℕ) (open_ : open_in x.stacks t ≡ Some o) (settled : settled_under (lanes_of lanes) o.lane t ≡ Some y) (made : IsMade y id) where
     pub never_made : IsMadeBy es id → ⊥
     never_made (u, c, attrs, told, call, create) =
         let (s, at, is) = ties.answers u (Settlement.Success id attrs) c told call (origins.there u c call) in
         let request = ((ties.settled_calls c.lane u s at).written c call).1 in
         let also = made_create c.request attrs id create s (sym request) is in
         let lane : c.lane ≡ o.lane = sym (ties.created_named c.lane id u s at also).0 ∙ (ties.created_named o.lane id t y settled made).0 in
-        let same : u ≡ t = ties.created_once o.lane id u t s y (subst (λ n. entry_in (lanes_of lanes) n u ≡ Some s) lane at) settled also made in
+        let same : u ≡ t = ties.created_once o.lane id u t s y (subst (λ n. settled_under (lanes_of lanes) n u ≡ Some s) lane at) settled also made in
         let none = books.untold t o open_ in
         let some : told_in es t ≡ Some (Settlement.Success id attrs) = ap (told_in es) (sym same) ∙ told in
         cc
@@ -249,10 +250,10 @@ module _ (es : List Entry) (x : World) (lanes : List Lane) (books : Books (accou
 -- What a create that is answered made is new to its stack, and has an id of its lane.
 
 -- a member of a list is one of what it is mapped to, as agreement has its lists
-pub agreed_in : {A B : Type 0} (f : A → B) (xs : List A) (x : A) → In x xs → base.In (f x) (map f xs)
+pub agreed_in : {A B : Type 0} (f : A → B) (xs : List A) (x : A) → In x xs → In (f x) (map f xs)
 agreed_in f [] x i = elim i [ ]
-agreed_in f (y ∷ xs) _ here = base.here
-agreed_in f (y ∷ xs) x (there i) = base.there (agreed_in f xs x i)
+agreed_in f (y ∷ xs) _ here = here
+agreed_in f (y ∷ xs) x (there i) = there (agreed_in f xs x i)
 
 module _ (schemas : List Schema) (es : List Entry) (x : World) (lanes : List Lane) (leases : List Lease) (h : AreSound schemas es x lanes leases) (lease : Lease) (out : In lease leases) where
   module _ (id : List ℕ) (attrs : List (List ℕ × Data)) (before after : ℕ) (replied : good_reply lease.reply ≡ Some (Settlement.Success id attrs)) where
@@ -262,7 +263,7 @@ module _ (schemas : List Schema) (es : List Entry) (x : World) (lanes : List Lan
     record IsAnswer (name : List ℕ) (s : StackState) (p : Pending) : Type 0 where
       pub open_ : open_in x.stacks lease.token ≡ Some (open_as name p)
       pub settled : Settled
-      pub at : entry_in (lanes_of lanes) p.lane lease.token ≡ Some settled
+      pub at : settled_under (lanes_of lanes) p.lane lease.token ≡ Some settled
       pub made : IsMade settled id
 
     is_answer : (name : List ℕ) (s : StackState) (p : Pending) → stack_of_operation lease.number x ≡ Some (name, s) → pending_of lease.token s ≡ Some p → id_named p.request ≡ None → IsAnswer name s p
@@ -274,9 +275,9 @@ module _ (schemas : List Schema) (es : List Entry) (x : World) (lanes : List Lan
         let (y, at, is) = leased.replies (lease_of lease) (Settlement.Success id attrs) member replied in
         let open_ = open_there es x (h.orderly).own outcome refl name s going lease.token p pending in
         let call = books.calls lease.token (open_as name p) open_ in
-        let (lane, request) = ((leased.out (lease_of lease) member).own).written (called (open_as name p)) call in
-        let settled_here = subst (λ n. entry_in (lanes_of lanes) n lease.token ≡ Some y) (sym lane) at in
-        let asked = ((ties.settled_calls p.lane lease.token y settled_here).written (called (open_as name p)) call).1 in
+        let (lane, request) = ((leased.out (lease_of lease) member).own).written (called_of (open_as name p)) call in
+        let settled_here = subst (λ n. settled_under (lanes_of lanes) n lease.token ≡ Some y) (sym lane) at in
+        let asked = ((ties.settled_calls p.lane lease.token y settled_here).written (called_of (open_as name p)) call).1 in
         record { open_ = open_; settled = y; at = settled_here; made = made_create p.request attrs id (sym (names_same p.request) ∙ create) y (sym asked) is }
 
     is_new : IsNew x outcome
@@ -307,7 +308,7 @@ module _ (schemas : List Schema) (es : List Entry) (x : World) (lanes : List Lan
 -- How what begins, a change set, and calls that are given up move the account.
 
 -- no stack rests that did not, where the one that changes doesn't
-pub rests_less : (ss : Named) (name : List ℕ) (t : StackState) → is_at_rest t ≡ false → (n : List ℕ) → resting_in (put name t ss) n ≡ true → resting_in ss n ≡ true
+pub rests_less : (ss : StacksByName) (name : List ℕ) (t : StackState) → is_at_rest t ≡ false → (n : List ℕ) → resting_in (put name t ss) n ≡ true → resting_in ss n ≡ true
 rests_less ss name t off n h = grind (arith, bytes_or, put_here, put_else, other_bytes)
 
 -- A change of a stack that takes nothing of another, where no call and no resource is new.
@@ -334,7 +335,7 @@ pub data IsLeftAlike (s s' : StackState) (i : List ℕ) : Type 0 where
   alike : has_leftover i s'.leftovers ≡ has_leftover i s.leftovers → IsLeftAlike s s' i
   taken : (h : Held) → held_in i s ≡ Some h → held_in i s' ≡ None → IsLeftAlike s s' i
 
-module _ (ss : Named) (name : List ℕ) (s s' : StackState) (once : IsOnce s) (d : IsLess s s') (left : (i : List ℕ) → IsLeftAlike s s' i) where
+module _ (ss : StacksByName) (name : List ℕ) (s s' : StackState) (once : IsOnce s) (d : IsLess s s') (left : (i : List ℕ) → IsLeftAlike s s' i) where
   was_held : (i : List ℕ) (h : Held) → held_in i s' ≡ Some h → (g : Held) × (held_in i s ≡ Some g)
   was_held i h e =
       let (j, t) = found_one (has_physical i) (resources_of s') h (sym (held_is i s') ∙ e) in
@@ -356,7 +357,7 @@ module _ (ss : Named) (name : List ℕ) (s s' : StackState) (once : IsOnce s) (d
 
 -- so it is with an entry that is no opening, no Intent and no outcome
 pub plain_orderly : (schemas : List Schema) (x : World) (out : List ℕ) (o : IsOrderly x) → AreSteady x → (e : Entry) (name : List ℕ) (s : StackState) → is_opening e ≡ false → stack_for e x ≡ Some (name, s)
-    → MayFollow schemas x out e → IsPlain schemas x out o.apart e → IsNext e x → ((i : List ℕ) → IsLeftAlike s (effect_at (x.place + 1) e s).stack i) → IsOrderly (world_after x e)
+    → MayFollow schemas x out e → IsPlain schemas x out o.apart e → HasNextNumber e x → ((i : List ℕ) → IsLeftAlike s (effect_at (x.place + 1) e s).stack i) → IsOrderly (world_after x e)
 plain_orderly schemas x out o steady e name s n mine may plain next left =
     let s' : StackState = (effect_at (x.place + 1) e s).stack in
     let known : known_stack name x ≡ s = stack_known x o.apart e name s mine in
@@ -546,9 +547,9 @@ module _ (schemas : List Schema) (es : List Entry) (x : World) (lanes : List Lan
   once = once_here x.stacks y.stacks name s s' at.one (h.orderly).own
 
   -- a resource
-  known_holds : (r : Held) → held_in physical s ≡ Some r → Agree (account_with (Entry.Kept number path physical w) es x) (lanes_of lanes) (map lease_of leases) × IsOrderly (world_after x (Entry.Kept number path physical w))
+  known_holds : (r : Held) → held_in physical s ≡ Some r → Agrees (account_with (Entry.Kept number path physical w) es x) (lanes_of lanes) (map lease_of leases) × IsOrderly (world_after x (Entry.Kept number path physical w))
   known_holds r held = (
-    subst (λ a. Agree a (lanes_of lanes) (map lease_of leases)) (sym (kept_moves es x name s r number path physical w (h.orderly).own going held ((h.agrees).tied).books))
+    subst (λ a. Agrees a (lanes_of lanes) (map lease_of leases)) (sym (kept_moves es x name s r number path physical w (h.orderly).own going held ((h.agrees).tied).books))
         (drop_keeps (account_of es x) (lanes_of lanes) (map lease_of leases) _ (kept_role physical (role_in x.stacks)) h.agrees
         (kept_may (account_of es x) (lanes_of lanes) physical (thing_of name r) ((h.agrees).tied).books role)),
     plain_orderly schemas x out h.orderly steady (Entry.Kept number path physical w) name s refl going may tt tt (λ i. subst (λ z. IsLeftAlike s z i) (sym (keeps_known (x.place + 1) number path physical w s r held (lane_of physical) of_lane)) (left i (bytes_eq i physical) refl)),
@@ -570,9 +571,9 @@ module _ (schemas : List Schema) (es : List Entry) (x : World) (lanes : List Lan
 module _ (schemas : List Schema) (es : List Entry) (x : World) (lanes : List Lane) (leases : List Lease) (h : AreSound schemas es x lanes leases) (steady : AreSteady x) (out : List ℕ)
     (number : ℕ) (path : List ℕ) (w : Why) (name : List ℕ) (s : StackState) (going : stack_of_operation number x ≡ Some (name, s)) (may : MayFollow schemas x out (Entry.Kept number path [] w))
     (create : list_any (is_create_at path) s.tokens ≡ true) where
-  unknown_holds : Agree (account_with (Entry.Kept number path [] w) es x) (lanes_of lanes) (map lease_of leases) × IsOrderly (world_after x (Entry.Kept number path [] w))
+  unknown_holds : Agrees (account_with (Entry.Kept number path [] w) es x) (lanes_of lanes) (map lease_of leases) × IsOrderly (world_after x (Entry.Kept number path [] w))
   unknown_holds = (
-    subst (λ a. Agree a (lanes_of lanes) (map lease_of leases)) (sym moved)
+    subst (λ a. Agrees a (lanes_of lanes) (map lease_of leases)) (sym moved)
         (rest_keeps _ (lanes_of lanes) (map lease_of leases) (resting_in y1.stacks)
         (drop_keeps (account_of es x) (lanes_of lanes) (map lease_of leases) _ (role_in y1.stacks) h.agrees
         (may_drop_creates (account_of es x) (lanes_of lanes) _ (role_in y1.stacks) ((h.agrees).tied).books roles (dropped_creates x y1 name s t on path)))
@@ -608,14 +609,14 @@ module _ (schemas : List Schema) (es : List Entry) (x : World) (lanes : List Lan
     moved = dropped_moves es x y1 (Entry.Kept number path [] w) name s t on refl (λ u. told_same es (Entry.Kept number path [] w) u refl) (is_create_at path) once1.tokens refl lost
 
 pub kept_holds : (schemas : List Schema) (es : List Entry) (x : World) (lanes : List Lane) (leases : List Lease) → AreSound schemas es x lanes leases → AreSteady x → (out : List ℕ) (number : ℕ) (path physical : List ℕ) (w : Why)
-    → MayFollow schemas x out (Entry.Kept number path physical w) → Agree (account_with (Entry.Kept number path physical w) es x) (lanes_of lanes) (map lease_of leases) × IsOrderly (world_after x (Entry.Kept number path physical w))
+    → MayFollow schemas x out (Entry.Kept number path physical w) → Agrees (account_with (Entry.Kept number path physical w) es x) (lanes_of lanes) (map lease_of leases) × IsOrderly (world_after x (Entry.Kept number path physical w))
 kept_holds schemas es x lanes leases h steady out number path physical w (name, s, stage, going, is, m) = by physical m (kept_which stage out s path physical w m) where
-  by : (id : List ℕ) → MayKeep stage out s path id w → IsKeptIn s path id → Agree (account_with (Entry.Kept number path id w) es x) (lanes_of lanes) (map lease_of leases) × IsOrderly (world_after x (Entry.Kept number path id w))
+  by : (id : List ℕ) → MayKeep stage out s path id w → IsKeptIn s path id → Agrees (account_with (Entry.Kept number path id w) es x) (lanes_of lanes) (map lease_of leases) × IsOrderly (world_after x (Entry.Kept number path id w))
   by id k (inl (r, i, e)) =
       let (g, f) = held_of id s r i e in
       known_holds schemas es x lanes leases h steady out number path id w name s going (name, s, stage, going, is, k) g f
   by id k (inr (none, create)) =
-      subst (λ j. MayKeep stage out s path j w → Agree (account_with (Entry.Kept number path j w) es x) (lanes_of lanes) (map lease_of leases) × IsOrderly (world_after x (Entry.Kept number path j w))) (sym none)
+      subst (λ j. MayKeep stage out s path j w → Agrees (account_with (Entry.Kept number path j w) es x) (lanes_of lanes) (map lease_of leases) × IsOrderly (world_after x (Entry.Kept number path j w))) (sym none)
       (λ z. unknown_holds schemas es x lanes leases h steady out number path w name s going (name, s, stage, going, is, z) create) k
 
 -- a beginning is of the known stack of its name
@@ -634,7 +635,7 @@ rests_now x n c o = grind (arith, continues_in)
 
 module _ (schemas : List Schema) (es : List Entry) (x : World) (lanes : List Lane) (leases : List Lease) (h : AreSound schemas es x lanes leases) (steady : AreSteady x) (out : List ℕ) where
   abbrev Holds : Entry → Type 0
-  Holds e = Agree (account_with e es x) (lanes_of lanes) (map lease_of leases) × IsOrderly (world_after x e)
+  Holds e = Agrees (account_with e es x) (lanes_of lanes) (map lease_of leases) × IsOrderly (world_after x e)
 
   -- the lanes of the open calls are raised
   raised : ((l : Lane) → In l lanes → In (named_lane l) x.lanes → l.state.fence ≡ x.epoch) → (t : ℕ) (o : Open) → (account_of es x).open_ t ≡ Some o → ((lanes_of lanes).lane o.lane).fence ≡ x.epoch
@@ -675,7 +676,7 @@ module _ (schemas : List Schema) (es : List Entry) (x : World) (lanes : List Lan
 
     begun_agrees : is_at_rest begun_stack ≡ false → begun_stack.held ≡ s.held → begun_stack.made ≡ s.made → begun_stack.leftovers ≡ s.leftovers → begun_stack.tokens ≡ s.tokens → begun_stack.abandoned ≡ s.abandoned → Holds (Entry.Begin number n k)
     begun_agrees off held made leftovers tokens abandoned = (
-      subst (λ a. Agree a (lanes_of lanes) (map lease_of leases)) (sym (quiet_moves es x begun_world (Entry.Begin number n k) n s begun_stack begun_at refl (λ u. told_same es (Entry.Begin number n k) u refl) (alike_quiet s begun_stack held made leftovers tokens abandoned)))
+      subst (λ a. Agrees a (lanes_of lanes) (map lease_of leases)) (sym (quiet_moves es x begun_world (Entry.Begin number n k) n s begun_stack begun_at refl (λ u. told_same es (Entry.Begin number n k) u refl) (alike_quiet s begun_stack held made leftovers tokens abandoned)))
           (rest_keeps (account_of es x) (lanes_of lanes) (map lease_of leases) (resting_in begun_world.stacks) h.agrees (rests off)),
       begun_orderly (λ i. alike (ap (has_leftover i) leftovers)),
     )
@@ -697,13 +698,13 @@ module _ (schemas : List Schema) (es : List Entry) (x : World) (lanes : List Lan
       let moved = dropped_moves es x begun_world e n s begun_stack on refl (λ u. told_same es e u refl) skipped once_.tokens refl lost in
       let skips = drop_keeps (account_of es x) (lanes_of lanes) (map lease_of leases) _ (role_in begun_world.stacks) h.agrees
       (may_skip x begun_world n s begun_stack on paths refl refl left es (lanes_of lanes) ((h.agrees).tied).books once_.ids ((known_steady x steady n).gives_up (continues_in s.status may.1)) (rests_now x n may.1 may.2.2) (raised all)) in (
-        subst (λ a. Agree a (lanes_of lanes) (map lease_of leases)) (sym moved)
+        subst (λ a. Agrees a (lanes_of lanes) (map lease_of leases)) (sym moved)
             (rest_keeps _ (lanes_of lanes) (map lease_of leases) (resting_in begun_world.stacks) skips (rests number n (Begun.Continue paths) may refl)),
         begun_orderly number n (Begun.Continue paths) may (λ i. alike (left i)),
       )
 
   pub begun_holds : (number : ℕ) (n : List ℕ) (k : Begun) → MayFollow schemas x out (Entry.Begin number n k) → ((l : Lane) → In l lanes → In (named_lane l) x.lanes → l.state.fence ≡ x.epoch)
-      → Agree (account_with (Entry.Begin number n k) es x) (lanes_of lanes) (map lease_of leases) × IsOrderly (world_after x (Entry.Begin number n k))
+      → Agrees (account_with (Entry.Begin number n k) es x) (lanes_of lanes) (map lease_of leases) × IsOrderly (world_after x (Entry.Begin number n k))
   begun_holds number n (Begun.Create source) may all =
       begun_agrees number n (Begun.Create source) may refl refl (sym ((known_steady x steady n).rests (or_left (creates_from (known_stack n x).status) (updates_from (known_stack n x).status) may.1)).1) refl refl refl
   begun_holds number n (Begun.Update source) may all =
@@ -716,7 +717,7 @@ module _ (schemas : List Schema) (es : List Entry) (x : World) (lanes : List Lan
   reviewed_idle st = grind arith
 
   pub set_holds : (number : ℕ) (n : List ℕ) (source : Source) (rows : List Row) (outputs : Bool) → MayFollow schemas x out (Entry.ChangeSet number n source rows outputs)
-      → Agree (account_with (Entry.ChangeSet number n source rows outputs) es x) (lanes_of lanes) (map lease_of leases) × IsOrderly (world_after x (Entry.ChangeSet number n source rows outputs))
+      → Agrees (account_with (Entry.ChangeSet number n source rows outputs) es x) (lanes_of lanes) (map lease_of leases) × IsOrderly (world_after x (Entry.ChangeSet number n source rows outputs))
   set_holds number n source rows outputs may =
       let s : StackState = known_stack n x in
       let e : Entry = Entry.ChangeSet number n source rows outputs in
@@ -724,7 +725,7 @@ module _ (schemas : List Schema) (es : List Entry) (x : World) (lanes : List Lan
       let begun_world : World = changed_by (x.place + 1) (Entry.ChangeSet number n source rows outputs) x in
       let on = on_one (Entry.ChangeSet number n source rows outputs) x n (known_stack n x) (h.orderly).own refl refl in
       let rest : is_at_rest begun_stack ≡ is_at_rest s = ap (λ b. not b && is_opened_since s) (reviewed_idle s.status) in (
-        subst (λ a. Agree a (lanes_of lanes) (map lease_of leases)) (sym (quiet_moves es x begun_world e n s begun_stack on refl (λ u. told_same es e u refl) (alike_quiet s begun_stack refl refl refl refl refl)))
+        subst (λ a. Agrees a (lanes_of lanes) (map lease_of leases)) (sym (quiet_moves es x begun_world e n s begun_stack on refl (λ u. told_same es e u refl) (alike_quiet s begun_stack refl refl refl refl refl)))
             (rest_keeps (account_of es x) (lanes_of lanes) (map lease_of leases) (resting_in begun_world.stacks) h.agrees (λ m r. sym (resting_same x.stacks begun_world.stacks n s begun_stack on.one m rest) ∙ r)),
         plain_orderly schemas x out h.orderly steady (Entry.ChangeSet number n source rows outputs) n s refl refl may tt tt (λ i. alike refl),
       )

@@ -4,7 +4,7 @@ use Rattle.cf_core.proofs.Words.{AreApart, AreBooked, AreRanked, AreRestoring, A
 use Rattle.cf_core.proofs.Lemmas.{answered_left, any_of, append-nil, bytes_eq-Decides, differ_apart, differ_one, each_map as each_mapped, eq-eqb, eqb-true, filter-append, filter_map-append, flat_map-append, found_one, in_back, in_either, in_filter, in_front, in_kept, in_more, nat_tests, none_any, none_false, not_so, second_not, some_is, some_of}
 use Rattle.cf_core.proofs.{Rows.answered_row, Rows.answered_row_same, Stacks.is_working, Stacks.on_option, Moving.in_stage, Moving.numbered_so, RowsBooked.IsLike, RowsBooked.IsLeftBy, RowsBooked.booked_begun, RowsBooked.restoring_begun, RowsBooked.booked_anew, RowsBooked.restoring_anew, RowsBooked.booked_fewer, RowsBooked.booked_called, RowsBooked.restoring_called, RowsBooked.booked_answered, RowsBooked.restoring_answered}
 use Rattle.cf_desired.specs.Whole.{Whole}
-use Rattle.cf_core.specs.Books.{call_in}
+use Rattle.cf_core.specs.Books.{row_in}
 use Rattle.cf_effect.specs.Operation.{named_in}
 use Rattle.cf_plan.proofs.BlameOrder.{needed_before, place_of}
 use Rattle.cf_effect.specs.declared.held.KeptSet.{KeptSet}
@@ -430,8 +430,8 @@ module _ (name : List ℕ) (x : World) (s : StackState) (fits : Fits x s) (h : I
         | more g held made path needs create attrs is ↦ alike_itself s.held r (subst (In r) held i)
       ]
 
-      its : (c : Call) × (call_in token s.ledger ≡ Some c)
-      its = let k = fits.rows p of_list in (k.0, ap (λ t. call_in t s.ledger) named ∙ k.1)
+      its : (c : Call) × (row_in token s.ledger ≡ Some c)
+      its = let k = fits.rows p of_list in (k.0, ap (λ t. row_in t s.ledger) named ∙ k.1)
 
       closed_left : Leaves s outcome closed_then
       closed_left = record {

@@ -1,6 +1,6 @@
 -- What a forward phase's entries and ledger say of each other is kept by each of its entries.
 use Rattle.std.proofs.Common.{◌≡◌, ◌⊎◌, inl, inr, ℕ, ◌+◌, ◌<◌, ◌≤◌, ◌==◌, Bool, true, false, ◌&&◌, nat_lt, List, ◌∷◌, ◌++◌, Option, Some, None, refl, sym, ap, subst, ◌∙◌, true≢false, map, filter, arith, []}
-use Rattle.cf_core.proofs.Words.{AsksOfNow, Begun, Call, Code, Data, Entry, Fits, Forward, Held, In, IsAdvancing, IsAsked, IsFurther, IsReady, IsRefusedIn, IsRowOf, IsTold, LeftAt, MayIntend, Pending, Reply, Request, Response, Schema, Source, StackState, ToldBegins, ToldStays, World, after_last, anew, answered, answered_call, by_create, by_update, bytes_eq, call_under as call_of, closed, closing, current_at, doubts_in, doubts_of, effect_at, entries_with, goes_forward, has_token, heard, is_call, is_open_call, is_phase, is_restore, is_turn_or_opening, is_update, lines_of, list_any, moved, new_call, now_of, on_stack, one_more, option_map_or, pending_of, replied, reply_in, still_open, unmoved, was_answered_at}
+use Rattle.cf_core.proofs.Words.{AsksOfNow, Begun, Call, Code, Data, Entry, Fits, Forward, Held, In, IsAdvancing, AsksForNow, IsFurther, IsReady, IsRefusedIn, IsRowOf, IsTold, LeftAt, MayIntend, Pending, Reply, Request, Response, Schema, Source, StackState, ToldBegins, ToldStays, World, after_last, anew, answered, answered_call, by_create, by_update, bytes_eq, call_under as call_of, closed, closing, current_at, doubts_in, doubts_of, effect_at, entries_with, goes_forward, has_token, heard, is_call, is_open_call, is_phase, is_restore, is_turn_or_opening, is_update, lines_of, list_any, moved, new_call, now_of, on_stack, one_more, option_map_or, pending_of, replied, reply_in, still_open, unmoved, was_answered_at}
 use Rattle.cf_core.proofs.Lemmas.{and_from, and_no, answered_left, any_filtered, any_mapped, any_no_more, any_of, bytes_eq-Decides, doubts_both, either_way, eq-eqb, eqb-true, found_in_more, found_one, found_still, in_changed, in_either, in_end, in_front, in_mapped, in_more, in_one, no_and, some_is, to_mapped}
 use Rattle.cf_core.proofs.AdvSteps.{HasBegunBy, IsAhead, apart, asks, begins_ahead, begun_from, further_of, goes_by, hears, is_ahead, is_other, no_restore, none_kept_of, opens, ready_said, ready_stays, row_only, rows_same, was_open}
 use Rattle.cf_core.proofs.Rows.{answered_row, answered_same}
@@ -244,7 +244,7 @@ module _ (schemas : List Schema) (x : World) (s : StackState) (source : Source) 
           λ i. Entry.Outcome number (n i) ((e ∙ ap (λ c. Reply.Failed c) (same_code f k g)) i) before after in (
             (number, before, after, subst (λ h. In h t.entries) this (in_end outcome s.entries)),
             subst (IsReady s) (sym path) (a.ready p of_tokens),
-            subst (λ q. AsksOfNow s q id props) (sym path) (subst (IsAsked s p.path) asks (a.asked p of_tokens)),
+            subst (λ q. AsksOfNow s q id props) (sym path) (subst (AsksForNow s p.path) asks (a.asked p of_tokens)),
             ap (current_at d.path) (failed f e),
           )
 
@@ -272,7 +272,7 @@ module _ (schemas : List Schema) (x : World) (s : StackState) (source : Source) 
 module _ (schemas : List Schema) (x : World) (out name : List ℕ) (s : StackState) (source : Source) (a : IsAdvancing schemas s source) (fits : Fits x s)
     (told : IsTold s) where
   -- what is held stays where the call of an answer fails
-  held_failed : (restores : Bool) (path : List ℕ) (r : Request) (f : Code) → restores ≡ false → IsAsked s path r → (answered restores path r (Reply.Failed f) s).held ≡ s.held
+  held_failed : (restores : Bool) (path : List ℕ) (r : Request) (f : Code) → restores ≡ false → AsksForNow s path r → (answered restores path r (Reply.Failed f) s).held ≡ s.held
   held_failed restores path r f e asked = grind (arith, true≢false)
 
   abbrev Told : StackState → Type 0

@@ -1,6 +1,6 @@
 -- Each call that the forward phase intends is hidden by the change set of the operation; what it did not hide stays seen, and properties stay in order.
 use Rattle.std.proofs.Common.{arith, ◌≡◌, ◌∙◌, ℕ, List, ◌∷◌, ◌++◌, Bool, true, false, not, Option, Some, None, map, refl, sym, ap, subst, true≢false, ◌⊎◌, inl, inr, ◌+◌, ◌&&◌, filter, find, []}
-use Rattle.cf_core.proofs.Words.{AdvancingStays, AgreeAt, AreDescribed, AreSameThings, BeginsSeen, Begun, Call, Code, Data, Detail, Difference, Entry, Fits, Found, Held, HeldAt, HeldLeft, HeldStatus, In, InOrder, IntendedIsHidden, IntendsForward, IntendsIn, IsAdvancing, IsAsBefore, IsDone, IsHidden, IsOrdered, IsOwn, IsSameThing, IsTo, Keeps, KeepsRest, Known, LeftAt, MayFollowIn, MayReplace, Member, NoneIsOrdered, OrderStays, Pending, Phase, Replace, Reply, Request, RestBeginsSeen, RestStaysSeen, Row, Same, Schema, Seen, SeenAt, SeesMore, Shape, Source, StackState, Stage, Status, Update, Wanted, WantsNew, WantsUpdate, Why, World, answered, ascends, at_path, beginning, begins_from, by_create, by_update, bytes_eq, changes_begun, changes_of, changing, closed, closing, completing, cond, current_at, deleting, difference_of, difference_to, effect_at, ending, evaluated_at, first_so, flaws_of, found, found_of, given_root, goes_forward, has_token, held_as, held_before_as, held_seen, hides_attrs, hides_id, intending, is_among, is_current_at, is_never, is_other_kind, is_property, is_restore, is_some, is_update, is_updated, is_wanted_at, keeping, known_of, known_props_from, known_stack, left_seen, list_any, made_of, marked, member_at, more as more_same, none as none_same, option_and_then, option_map_or, option_or, own_calls, pending_of, plan_by, plan_in, policy_details, property_details, props_asked, props_at, replied, resource_held, resources_in, resources_of, row_for, row_hides_attrs, row_hides_id, row_list, second_so, seen_in, seen_now, settled_in, shape_of, skipped_in, source_for, status_made, stopping, succeeded, terms_at, turned_effect, turning, unmoved, updates, updating, value_at, valued_in, wanted_at, wanted_of, was_updated, where_physical, whole_now, with_status, ◌==◌}
+use Rattle.cf_core.proofs.Words.{AdvancingStays, AgreeAt, AreDescribed, AreSameThings, BeginsSeen, Begun, Call, Code, Data, Detail, Difference, Entry, Fits, RowsFound, Held, HeldAt, HeldLeft, HeldStatus, In, InOrder, IntendedIsHidden, IntendsForward, IntendsIn, IsAdvancing, IsAsBefore, IsDone, IsHidden, IsOrdered, IsOwn, IsSameThing, IsTo, StaysKnown, KeepsRest, Known, LeftAt, MayFollowIn, MayReplace, Member, NoneIsOrdered, OrderStays, Pending, Phase, Replace, Reply, Request, RestBeginsSeen, RestStaysSeen, Row, Same, Schema, Seen, SeenAt, SeesMore, Shape, Source, StackState, Stage, Status, Update, Wanted, WantsNew, WantsUpdate, Why, World, answered, ascends, at_path, beginning, begins_from, by_create, by_update, bytes_eq, changes_begun, changes_of, changing, closed, closing, completing, cond, current_at, deleting, difference_of, difference_to, effect_at, ending, evaluated_at, first_so, flaws_of, found, found_of, given_root, goes_forward, has_token, held_as, held_before_as, held_seen, hides_attrs, hides_id, intending, is_among, is_current_at, is_never, is_other_kind, is_property, is_restore, is_some, is_update, is_updated, is_wanted_at, keeping, known_of, known_props_from, known_stack, left_seen, list_any, made_of, marked, member_at, more as more_same, none as none_same, option_and_then, option_map_or, option_or, own_calls, pending_of, plan_by, plan_in, policy_details, property_details, props_asked, props_at, replied, resource_held, resources_in, resources_of, row_for, row_hides_attrs, row_hides_id, row_list, second_so, seen_in, seen_now, settled_in, shape_of, skipped_in, source_for, status_made, stopping, succeeded, terms_at, turned_effect, turning, unmoved, updates, updating, value_at, valued_in, wanted_at, wanted_of, was_updated, where_physical, whole_now, with_status, ◌==◌}
 use Rattle.cf_core.proofs.Lemmas.{Becomes, Props, PropsBecome, Valued, and_from, any_of, bytes_eq-Decides, changes_hide, each_map, either_way, eq-eqb, false_from, find-append, find_on, flawless, found_in, found_one, had_before, in_either, in_filter, in_front, in_kept, in_more, is_found, known_is, member_of, members_in, needs_suffice, no_change, no_detail, no_replacement, none_false, shape_is_held, shown, shown_at, some_of, unmapped, valued_become}
 use Rattle.cf_desired.specs.Whole.{Whole}
 use Rattle.std.specs.Prelude.{option_map}
@@ -31,7 +31,7 @@ RestOver schemas source before made held =
 
 -- what is shown at a path, by its resource
 abbrev KeptAt : Bool → Bool → Option SeenAt → Option SeenAt → Type 0
-KeptAt i a o p = (i ≡ false → Keeps (option_and_then (λ x. x.physical) o) (option_and_then (λ x. x.physical) p)) × (a ≡ false → Keeps (option_and_then (λ x. x.attrs) o) (option_and_then (λ x. x.attrs) p))
+KeptAt i a o p = (i ≡ false → StaysKnown (option_and_then (λ x. x.physical) o) (option_and_then (λ x. x.physical) p)) × (a ≡ false → StaysKnown (option_and_then (λ x. x.attrs) o) (option_and_then (λ x. x.attrs) p))
 
 module _ (schemas : List Schema) (s : StackState) (source : Source) (a : IsAdvancing schemas s source) (t : StackState) (path : List ℕ) where
   abbrev rows_of : List Row
@@ -211,7 +211,7 @@ module _ (schemas : List Schema) (s : StackState) (source : Source) (a : IsAdvan
   abbrev held : List HeldAt
   held = held_before_as s
 
-  abbrev f : Found
+  abbrev f : RowsFound
   f = found_of schemas held source
 
   abbrev shape : Shape

@@ -1,16 +1,16 @@
 -- The properties that a template says of a path stand in the order of their names.
 use Rattle.std.proofs.Common.{arith, ◌≡◌, ◌∙◌, ℕ, List, ◌∷◌, ◌++◌, Bool, true, false, Option, Some, None, refl, sym, ap, subst, inl, inr, zero, suc, ◌+◌, Result, Ok, Err, []}
-use Rattle.cf_core.proofs.Words.{Body, Entering, Flaw, IfOk, In, Inside, Known, Laying, Member, Nesting, SaidIsInOrder, Seen, Source, Url, Wanted, ascends, at_path, attrs_seen, barred, body_at, body_bound, body_decided, body_in_order, bytes_eq, codes, cond, course_after, entering_below, given_root, id_seen, inside_of, is_wanted_at, known_of, laid, laid_within, length, nat_le, nested_before, nesting_of, option_and_then, option_map_or, plan_by, put, resource, resources_along, resources_in as members_in_shape, resources_inside, root_of, shape_of, step_before, unnamed_at, value_at, valued_in, wanted_at, wanted_of, work_along, ⊤}
+use Rattle.cf_core.proofs.Words.{Body, Entering, Flaw, IfOk, In, Inside, Known, Laying, Member, Nesting, SaidIsInOrder, Seen, Source, Url, Wanted, ascends, at_path, attrs_seen, barred, body_at, body_bound, body_decided, body_in_order, bytes_eq, codes, cond, progress_after, entering_below, given_root, id_seen, inside_of, is_wanted_at, known_of, laid, laid_within, length, nat_le, nested_before, nesting_of, option_and_then, option_map_or, plan_by, put, resource, resources_along, resources_in as members_in_shape, resources_inside, root_of, shape_of, step_before, unnamed_at, value_at, valued_in, wanted_at, wanted_of, work_along, ⊤}
 use Rattle.cf_core.proofs.Lemmas.{Ordered, Valued, ascends_put, either_way, find_on, found_in, found_one, had_before, in_either, in_first, in_map, in_more, is_found, kept_self, known_is, known_ordered, member_of as valued_member, members_in, unmapped, valued_ordered}
 use Rattle.serde_json.specs.{Data.Data, Data.object, Data.Members, Data.no_members, Data.member, Find.get}
 use Rattle.cf_tree.specs.Forms.{Form}
 use Rattle.cf_tree.specs.declared.{template.Param.Param, template.Res.Res, template.Template.Template}
 use Rattle.cf_eval.specs.{Outcome.got, Outcome.later, Outcome.bad, Outcome.Outcome, Scope.Scope, Env.conditions_of}
-use Rattle.cf_desired.specs.{Given.Given, Given.settings_for, Shape.Course, Shape.member_of, Stack.Scoping, Stack.Verdicts, Stack.Settings, Names.pseudo_of, Templates.accepted, Templates.is_stack, Templates.template_named}
+use Rattle.cf_desired.specs.{Given.Given, Given.settings_for, Shape.PlanInProgress, Shape.member_of, Stack.Scoping, Stack.Verdicts, Stack.Settings, Names.pseudo_of, Templates.accepted, Templates.is_stack, Templates.template_named}
 use Rattle.cf_desired.proofs.Keeping.{over}
 use Rattle.cf_template.specs.declared.{refusal.TemplateFault.TemplateFault, refusal.TemplateFault.TheVariants.BadName, refusal.TemplateFault.TheVariants.TooLong}
-use Rattle.cf_template.specs.{Exprs.fields_in, Exprs.form_of, Exprs.values_of, Functions.has_function, Functions.stray_object, Json.json_of, Places.member_at, Refusals.Reading, Refusals.after, Refusals.mapped, Refusals.provided, Refusals.unless, Conds.conds_in, Maps.mappings_in, Outputs.outputs_in, Params.params_in, Resources.deletion_of, Resources.names_of, Resources.or_none, Resources.replace_of, Resources.resource_fields, Resources.resource_of, Resources.resources_in, Shapes.optional, Shapes.optional_from, Shapes.plain_text, Shapes.required, Shapes.unread, Whole.free_section, Whole.required_section, Whole.section, Whole.sections_of, Whole.template_from, Whole.template_of, Whole.value_template, Words.is_name}
-use Rattle.cf_graph.specs.Needs.{Tangle, resource_named}
+use Rattle.cf_template.specs.{Exprs.fields_in, Exprs.form_of, Exprs.values_of, Functions.has_function, Functions.stray_object, Json.json_of, Places.member_place, Refusals.Reading, Refusals.after, Refusals.mapped, Refusals.provided, Refusals.unless, Conds.conds_in, Maps.mappings_in, Outputs.outputs_form, Params.params_in, Resources.deletion_form, Resources.depends_form, Resources.or_none, Resources.replace_of, Resources.resource_fields, Resources.resource_of, Resources.resources_in, Shapes.optional, Shapes.optional_from, Shapes.plain_text, Shapes.required, Shapes.unread, Whole.free_section, Whole.required_section, Whole.section, Whole.sections_of, Whole.template_from, Whole.template_of, Whole.value_template, Words.is_name}
+use Rattle.cf_graph.specs.Needs.{OrderFault, resource_named}
 use Rattle.cf_tree.specs.Datum as tree
 
 -- The properties that a template says of a path stand in the order of their names, as those of its resources do.
@@ -37,7 +37,7 @@ Sorted fs = ascends fs ≡ true
 fields_sorted : (ps : List Param) (ms : Members) (at : List ℕ) (found : List (List ℕ × Form)) → Sorted found → IfOk (fields_in ps ms at found) Sorted
 fields_sorted ps no_members at found h = h
 fields_sorted ps (member k d ms) at found h =
-    any_ok Sorted (form_of ps d (member_at at k)) (λ f. fields_in ps ms at (put k f found)) (λ f. fields_sorted ps ms at (put k f found) (ascends_put k f found h))
+    any_ok Sorted (form_of ps d (member_place at k)) (λ f. fields_in ps ms at (put k f found)) (λ f. fields_sorted ps ms at (put k f found) (ascends_put k f found h))
 
 values_sorted : (ps : List Param) (d : Data) (at : List ℕ) → IfOk (values_of ps d at) Sorted
 values_sorted ps (object ms) at =
@@ -63,7 +63,7 @@ in_turn a b c d p k e f h s = grind arith
 
 resource_sorted : (ps : List Param) (k : List ℕ) (d : Data) (at : List ℕ) → IfOk (resource_fields ps k d at) HasSorted
 resource_sorted ps k d at =
-    in_turn (optional plain_text (codes "Condition") d at) (optional deletion_of (codes "DeletionPolicy") d at) (optional names_of (codes "DependsOn") d at)
+    in_turn (optional plain_text (codes "Condition") d at) (optional deletion_form (codes "DeletionPolicy") d at) (optional depends_form (codes "DependsOn") d at)
     (optional unread (codes "Metadata") d at) (optional (values_of ps) (codes "Properties") d at) (required plain_text (codes "Type") d at)
     (optional replace_of (codes "UpdateReplacePolicy") d at)
     (λ condition deletion depends metadata props kind replace. record {
@@ -75,7 +75,7 @@ resource_sorted ps k d at =
       deletion = deletion;
       replace = replace;
     })
-    (λ u v w x o y z. refl) (optional_sorted ps (get (codes "Properties") d) (member_at at (codes "Properties")))
+    (λ u v w x o y z. refl) (optional_sorted ps (get (codes "Properties") d) (member_place at (codes "Properties")))
 
 one_sorted : (ps : List Param) (k : List ℕ) (d : Data) (at : List ℕ) → IfOk (resource_of ps k d at) HasSorted
 one_sorted ps k (object ms) at = grind (arith, unless_ok, provided_ok, resource_sorted)
@@ -87,9 +87,9 @@ AllSorted rs = (r : Res) → In r rs → HasSorted r
 all_sorted : (ps : List Param) (ms : Members) (at : List ℕ) (found : List Res) → AllSorted found → IfOk (resources_in ps ms at found) AllSorted
 all_sorted ps no_members at found h = h
 all_sorted ps (member k d ms) at found h =
-    provided_ok AllSorted (is_name k) (BadName (member_at at k)) (after (resource_of ps k d (member_at at k)) (λ r. resources_in ps ms at (found ++ r ∷ [])))
-    (after_ok HasSorted AllSorted (resource_of ps k d (member_at at k)) (λ r. resources_in ps ms at (found ++ r ∷ []))
-    (λ r s. all_sorted ps ms at (found ++ r ∷ []) (in_more HasSorted r found h s)) (one_sorted ps k d (member_at at k)))
+    provided_ok AllSorted (is_name k) (BadName (member_place at k)) (after (resource_of ps k d (member_place at k)) (λ r. resources_in ps ms at (found ++ r ∷ [])))
+    (after_ok HasSorted AllSorted (resource_of ps k d (member_place at k)) (λ r. resources_in ps ms at (found ++ r ∷ []))
+    (λ r s. all_sorted ps ms at (found ++ r ∷ []) (in_more HasSorted r found h s)) (one_sorted ps k d (member_place at k)))
 
 section_sorted : (ps : List Param) (o : Option Data) → IfOk (required_section (resources_in ps) 500 (codes "Resources") o) AllSorted
 section_sorted ps o = grind (arith, unless_ok, all_sorted)
@@ -112,7 +112,7 @@ sections_sorted d =
     sections_in_turn (optional plain_text (codes "Description") d []) (optional unread (codes "Metadata") d []) (section params_in 200 (codes "Parameters") (get (codes "Parameters") d))
     (section mappings_in 200 (codes "Mappings") (get (codes "Mappings") d)) (λ params. free_section (conds_in params) (codes "Conditions") (get (codes "Conditions") d))
     (λ params. required_section (resources_in params) 500 (codes "Resources") (get (codes "Resources") d))
-    (λ params. section (outputs_in params) 200 (codes "Outputs") (get (codes "Outputs") d))
+    (λ params. section (outputs_form params) 200 (codes "Outputs") (get (codes "Outputs") d))
     (λ params mappings conds resources outputs. record { params = params; mappings = mappings; conds = conds; resources = resources; outputs = outputs })
     (λ ps u v rs w. refl) (λ params. section_sorted params (get (codes "Resources") d))
 
@@ -161,14 +161,14 @@ module _ (lay : Option Laying) (source : Source) (seen : Seen) (lays : LaysSorte
   at_sorted : (e : Entering) (n : Nesting) (r : Res) (t m : ℕ) (g : Given) (u : Url) → MembersSorted (members_in_shape (body_at lay source e n r t m g u))
   at_sorted e n r t m g u = grind (arith, none_sorted, within_sorted, named_sorted)
 
-  inside_sorted : (e : Entering) (s : Scope) (c : Course) (n : Nesting) (r : Res) (o : Option Flaw) → MembersSorted (resources_inside (inside_of lay source e s c n r o))
+  inside_sorted : (e : Entering) (s : Scope) (c : PlanInProgress) (n : Nesting) (r : Res) (o : Option Flaw) → MembersSorted (resources_inside (inside_of lay source e s c n r o))
   inside_sorted e s c n r o = grind (arith, none_sorted, either_way, at_sorted)
 
   module _ (e : Entering) (sorted : AllSorted e.stack.template.resources) where
-    work_sorted : (conds : Verdicts) (over : Scoping) (order : List (List ℕ × List (List ℕ))) (c : Course) → MembersSorted (resources_along (work_along lay source seen e conds over order c))
+    work_sorted : (conds : Verdicts) (over : Scoping) (order : List (List ℕ × List (List ℕ))) (c : PlanInProgress) → MembersSorted (resources_along (work_along lay source seen e conds over order c))
     work_sorted conds over [] c = none_sorted
     work_sorted conds over (m ∷ order) c = by_name (resource_named m.0 e.stack.template) refl (λ d. work_sorted conds over order d) where
-      by_kind : (r : Res) → In r e.stack.template.resources → ((d : Course) → MembersSorted (resources_along (work_along lay source seen e conds over order d))) → (b : Bool)
+      by_kind : (r : Res) → In r e.stack.template.resources → ((d : PlanInProgress) → MembersSorted (resources_along (work_along lay source seen e conds over order d))) → (b : Bool)
           → MembersSorted (resources_along (cond b
           (nested_before source seen (over c.sights) c (nesting_of e conds c.stands r)
           (inside_of lay source e (over c.sights) c (nesting_of e conds c.stands r) r (unnamed_at e.stack.path conds r)) (work_along lay source seen e conds over order))
@@ -176,16 +176,16 @@ module _ (lay : Option Laying) (source : Source) (seen : Seen) (lays : LaysSorte
       by_kind r i ih true =
           let n = nesting_of e conds c.stands r in
           let w : Inside = inside_of lay source e (over c.sights) c n r (unnamed_at e.stack.path conds r) in
-          both_sorted (resources_inside w) (resources_along (work_along lay source seen e conds over order (course_after source seen (over c.sights) c n w)))
-          (inside_sorted e (over c.sights) c n r (unnamed_at e.stack.path conds r)) (ih (course_after source seen (over c.sights) c n w))
+          both_sorted (resources_inside w) (resources_along (work_along lay source seen e conds over order (progress_after source seen (over c.sights) c n w)))
+          (inside_sorted e (over c.sights) c n r (unnamed_at e.stack.path conds r)) (ih (progress_after source seen (over c.sights) c n w))
       by_kind r i ih false = in_first (λ x. Sorted x.props) (member_of e conds c.stands r) (resources_along (work_along lay source seen e conds over order c)) (sorted r i) (ih c)
 
-      by_name : (o : Option Res) → resource_named m.0 e.stack.template ≡ o → ((d : Course) → MembersSorted (resources_along (work_along lay source seen e conds over order d)))
+      by_name : (o : Option Res) → resource_named m.0 e.stack.template ≡ o → ((d : PlanInProgress) → MembersSorted (resources_along (work_along lay source seen e conds over order d)))
           → MembersSorted (resources_along (option_map_or (λ r. step_before lay source seen e conds over c r (work_along lay source seen e conds over order)) o (work_along lay source seen e conds over order c)))
       by_name None q ih = ih c
       by_name (Some r) q ih = by_kind r (found_one (λ x. bytes_eq m.0 x.name) e.stack.template.resources r q).0 ih (is_stack r)
 
-    order_sorted : (bound : Settings) (t m : ℕ) (conds : Verdicts) (r : Result (List (List ℕ × List (List ℕ))) Tangle) → MembersSorted (members_in_shape (body_in_order lay source seen e bound t m conds r))
+    order_sorted : (bound : Settings) (t m : ℕ) (conds : Verdicts) (r : Result (List (List ℕ × List (List ℕ))) OrderFault) → MembersSorted (members_in_shape (body_in_order lay source seen e bound t m conds r))
     order_sorted bound t m conds r = grind (arith, none_sorted, work_sorted)
 
     decided_sorted : (bound : Settings) (t m : ℕ) (o : Outcome (List (List ℕ × Option Bool))) → MembersSorted (members_in_shape (body_decided lay source seen e bound t m o))

@@ -1,6 +1,6 @@
 -- What holds at each moment of a life is kept by every event.
 use Rattle.std.proofs.Common.{arith, ◌≡◌, ℕ, List, [], ◌∷◌, ◌++◌, Bool, true, false, ◌&&◌, Option, Some, None, map, option_map, is_some, refl, ap, ◌∙◌, ◌≢◌, ◌+◌, ◌==◌, ◌||◌, find, sym, subst, true≢false, unwrap_or, ◌⊎◌, inl, inr, not, filter}
-use Rattle.cf_core.proofs.Words.{Act, Agree, AgreesIn, AllFit, Appends, AreApart, AreLanes, AreSchemas, AreSound, AreSteady, AreWritten, Begin, Begun, BrokenWith, BrokenWithout, Call, CallEnd, Cause, ChangeSet, Crash, End, Entry, Event, EventKeeps, EventWrites, FencedLane, Fits, Grant, HaveOrigins, In, IsBegin, IsChangeSet, IsGoing, IsGranted, IsLegal, IsNew, IsOfItsLane, IsOrderly, IsOutcomeOf, IsRowOf, IsSound, IsSoundLife, IsSteady, Lane, Late, Lease, Left, Life, MayFollow, MayHappen, Opened, Park, Pending, Phase, Raise, Repeat, Reply, Request, Schema, Settle, StackState, StartIsSoundLife, Status, Whole, Why, World, account_of, account_with, acted, all_differ, anew, answered, answered_call, appended, begins_from, bytes_eq, call_under as call_of, calls_in_flight, changed, closing, creates_from, effect_at, empty_world, first_again, fold_of, found, granted as granted_by, has_leftover, has_token, heard, here, intending, is_call, is_empty, is_going, is_in_flight, is_in_progress, is_lane_name, is_opening, is_restore, keeping, keeping_known, keeping_unknown, known_stack, lanes_of, late_by, lease_at, lease_for, lease_of, left_by as lane_left, life_after, list_all, new_call, no_stack, on_stack, own, pending_of, raised_to, repeated, replied, replied_to, set, settled, stack_at, stack_for, there, tokens_out, turned_effect, updates_from, value_at, where_call, world_after, world_of}
+use Rattle.cf_core.proofs.Words.{Act, Agrees, AgreesIn, AllFit, Appends, AreApart, AreLanes, AreSchemas, AreSound, AreSteady, AreWritten, Begin, Begun, BrokenWith, BrokenWithout, Call, CallEnd, Cause, ChangeSet, Crash, End, Entry, Event, EventKeeps, EventWrites, FencedLane, Fits, Grant, HaveOrigins, In, IsBegin, IsChangeSet, IsGoing, IsGranted, IsLegal, IsNew, IsOfItsLane, IsOrderly, IsOutcomeOf, IsRowOf, IsSound, IsSoundLife, IsSteady, Lane, Late, Lease, Left, Life, MayFollow, Happens, Opened, Park, Pending, Phase, Raise, Repeat, Reply, Request, Schema, Settle, StackState, StartIsSoundLife, Status, Whole, Why, World, account_of, account_with, lane_acted, all_differ, anew, answered, answered_call, appended, begins_from, bytes_eq, call_under as call_of, calls_in_flight, changed, closing, creates_from, effect_at, empty_world, first_again, fold_of, found, granted as granted_by, has_leftover, has_token, heard, here, intending, is_call, is_empty, is_going, is_in_flight, is_in_progress, is_lane_name, is_opening, is_restore, keeping, keeping_known, keeping_unknown, known_stack, lanes_of, late_by, lease_at, lease_for, lease_of, left_by as lane_left, life_after, list_all, new_call, no_stack, on_stack, own, pending_of, raised_to, repeated, replied, replied_to, set, settled, stack_at, stack_for, there, tokens_out, turned_effect, updates_from, value_at, where_call, world_after, world_of}
 use Rattle.cf_core.proofs.Lemmas.{answered_left, any_of, bytes_eq-Decides, eq-eqb, eqb-true, find_mapped, found_one, found_stands, found_still, in_end, in_filter, in_kept, in_more, in_none, into_mapped, is_found_in, keys_mapped, put_here}
 use Rattle.cf_core.proofs.FitKept.{IsSameCall, after_stacks, each_is_written, fits_kept, from_mapped, intends_named, known_fits, known_steady, none_open, same_where, stack_known, at_name, of_it, of_another}
 use Rattle.cf_core.proofs.Settling.{NamesOwn, intent_keeps_in, lanes_keep, may_again, opened_keeps, repeat_keeps, settle_keeps, start_agrees, fold_more, kept_name, kept_kind, again_is}
@@ -10,7 +10,7 @@ use Rattle.cf_core.proofs.Outcomes.{done_moves, done_quiet, phase_moves, phase_q
 use Rattle.cf_core.proofs.Stacks.{put_by, Sends, is_working, sends, stands_on}
 use Rattle.cf_core.proofs.Moving.{beginning_name, in_stage, numbered_so}
 use Rattle.cf_core.specs.SoundLife.{opened, begun, granted}
-use Rattle.cf_plan.specs.Life.{replying}
+use Rattle.cf_plan.specs.Life.{lease_replying}
 use Rattle.std.specs.{Bool.IsTrue, Prelude.cond}
 
 -- One more entry of a journal, and lanes that change: what stays told of them.
@@ -210,7 +210,7 @@ module _ (schemas : List Schema) (es : List Entry) (lanes : List Lane) (leases :
     -- one more entry
     entry_sound :
         (steady : AreSteady x) (out : List ℕ) (e : Entry) → MayFollow schemas x out e → IsNew x e × IsOfItsLane x e → (leases' : List Lease)
-        → Agree (account_of (es ++ e ∷ []) (fold_of empty_world (es ++ e ∷ []))) (lanes_of lanes) (map lease_of leases') → IsOrderly (fold_of empty_world (es ++ e ∷ []))
+        → Agrees (account_of (es ++ e ∷ []) (fold_of empty_world (es ++ e ∷ []))) (lanes_of lanes) (map lease_of leases') → IsOrderly (fold_of empty_world (es ++ e ∷ []))
         → ((l : Lease) → In l leases' → IsGoing (world_after x e) l) → AreSound schemas (es ++ e ∷ []) (fold_of empty_world (es ++ e ∷ [])) lanes leases'
     entry_sound steady out e may (new, of_lane) leases' agrees orderly going = record {
       agrees = agrees;
@@ -236,25 +236,25 @@ module _ (schemas : List Schema) (es : List Entry) (lanes : List Lane) (leases :
     still_going e n may l i = stays_going schemas x (map (λ (z : Lease). z.token) leases) (h.orderly).apart e n may l (out_flies leases l i) (h.going l i)
 
     -- what was shown of the world that an entry leaves
-    at_fold : (e : Entry) → Agree (account_with e es x) (lanes_of lanes) (map lease_of leases) × IsOrderly (world_after x e)
-        → Agree (account_of (es ++ e ∷ []) (fold_of empty_world (es ++ e ∷ []))) (lanes_of lanes) (map lease_of leases) × IsOrderly (fold_of empty_world (es ++ e ∷ []))
-    at_fold e g = subst (λ z. Agree (account_of (es ++ e ∷ []) z) (lanes_of lanes) (map lease_of leases) × IsOrderly z) (sym (fold_more empty_world es e)) g
+    at_fold : (e : Entry) → Agrees (account_with e es x) (lanes_of lanes) (map lease_of leases) × IsOrderly (world_after x e)
+        → Agrees (account_of (es ++ e ∷ []) (fold_of empty_world (es ++ e ∷ []))) (lanes_of lanes) (map lease_of leases) × IsOrderly (fold_of empty_world (es ++ e ∷ []))
+    at_fold e g = subst (λ z. Agrees (account_of (es ++ e ∷ []) z) (lanes_of lanes) (map lease_of leases) × IsOrderly z) (sym (fold_more empty_world es e)) g
 
     plain_sound : (steady : AreSteady x) (e : Entry) → is_opening e ≡ false → MayFollow schemas x (map (λ (l : Lease). l.token) leases) e → IsNew x e × IsOfItsLane x e
-        → Agree (account_with e es x) (lanes_of lanes) (map lease_of leases) × IsOrderly (world_after x e) → AreSound schemas (es ++ e ∷ []) (fold_of empty_world (es ++ e ∷ [])) lanes leases
+        → Agrees (account_with e es x) (lanes_of lanes) (map lease_of leases) × IsOrderly (world_after x e) → AreSound schemas (es ++ e ∷ []) (fold_of empty_world (es ++ e ∷ [])) lanes leases
     plain_sound steady e n may new g =
         let (agrees, orderly) = at_fold e g in
         entry_sound steady (map (λ (l : Lease). l.token) leases) e may new leases agrees orderly (still_going e n may)
 
     -- lanes change, or leases
-    lanes_sound : (lanes' : List Lane) (leases' : List Lease) → Agree (account_of es x) (lanes_of lanes') (map lease_of leases') → ((m : List ℕ) → (lanes_of lanes').kind m ≡ (lanes_of lanes).kind m)
+    lanes_sound : (lanes' : List Lane) (leases' : List Lease) → Agrees (account_of es x) (lanes_of lanes') (map lease_of leases') → ((m : List ℕ) → (lanes_of lanes').kind m ≡ (lanes_of lanes).kind m)
         → AreLanes lanes' → AreSchemas schemas lanes' → ((l : Lease) → In l leases' → IsGoing x l) → AreSound schemas es x lanes' leases'
     lanes_sound lanes' leases' agrees kinds named described going =
         let origins : HaveOrigins es x lanes'
         = record { made = h.origins.made; named = h.origins.named; there = λ t c e. let (k, f) = h.origins.there t c e in (k, kinds c.lane ∙ f) } in
         assumption (agrees, origins, going, named, described, h)
 
-    fewer_sound : (leases' : List Lease) → Agree (account_of es x) (lanes_of lanes) (map lease_of leases') → ((l : Lease) → In l leases' → IsGoing x l) → AreSound schemas es x lanes leases'
+    fewer_sound : (leases' : List Lease) → Agrees (account_of es x) (lanes_of lanes) (map lease_of leases') → ((l : Lease) → In l leases' → IsGoing x l) → AreSound schemas es x lanes leases'
     fewer_sound leases' agrees going = lanes_sound lanes leases' agrees (λ m. refl) h.named h.described going
 
     -- what a call names is held by its stack, at its path
@@ -267,7 +267,7 @@ module _ (schemas : List Schema) (es : List Entry) (lanes : List Lane) (leases :
         (g, held_one i s g fit.ids j f, k)
 
 -- a lease with its answer is of the same call
-replied_going : (x : World) (token : ℕ) (r : CallEnd) (l : Lease) → IsGoing x l → IsGoing x (replying token r l)
+replied_going : (x : World) (token : ℕ) (r : CallEnd) (l : Lease) → IsGoing x l → IsGoing x (lease_replying token r l)
 replied_going x token r l g = grind arith
 
 -- an answer is no opening
@@ -281,7 +281,7 @@ module _ (schemas : List Schema) (life : Life) (steady : AreSteady (world_of lif
   none_going : (y : World) (l : Lease) → In l [] → IsGoing y l
   none_going y l i = elim i [ ]
 
-  opened_sound : (epoch : ℕ) (lanes : List (List ℕ × List ℕ)) (end : End) → MayHappen schemas life (Opened epoch lanes end) → IsSoundLife schemas (life_after life (Opened epoch lanes end))
+  opened_sound : (epoch : ℕ) (lanes : List (List ℕ × List ℕ)) (end : End) → Happens schemas life (Opened epoch lanes end) → IsSoundLife schemas (life_after life (Opened epoch lanes end))
   opened_sound epoch lanes BrokenWithout may =
       let g = opened_keeps schemas life epoch lanes BrokenWithout may sound in
       fewer_sound schemas life.entries life.lanes life.leases h [] g.agrees (none_going (world_of life))
@@ -293,20 +293,20 @@ module _ (schemas : List Schema) (life : Life) (steady : AreSteady (world_of lif
   by_end : (e : Entry) → AreSound schemas (life.entries ++ e ∷ []) (fold_of empty_world (life.entries ++ e ∷ [])) life.lanes life.leases → (end : End) → IsSoundLife schemas (appended end e life)
   by_end e g end = grind arith
 
-  set_sound : (e : Entry) (end : End) → MayHappen schemas life (ChangeSet e end) → IsSoundLife schemas (life_after life (ChangeSet e end))
+  set_sound : (e : Entry) (end : End) → Happens schemas life (ChangeSet e end) → IsSoundLife schemas (life_after life (ChangeSet e end))
   set_sound (Entry.ChangeSet number n source rows outputs) end (closed, is, may) =
       by_end (Entry.ChangeSet number n source rows outputs) (plain_sound schemas life.entries life.lanes life.leases h steady (Entry.ChangeSet number n source rows outputs) refl may (tt, tt)
       (set_holds schemas life.entries (world_of life) life.lanes life.leases h steady [] number n source rows outputs may)) end
   set_sound e end may = absurd may.1
 
-  begin_sound : (e : Entry) (end : End) → MayHappen schemas life (Begin e end) → IsSoundLife schemas (life_after life (Begin e end))
+  begin_sound : (e : Entry) (end : End) → Happens schemas life (Begin e end) → IsSoundLife schemas (life_after life (Begin e end))
   begin_sound (Entry.Begin number n k) end (running, raised, is, may) =
       by_end (Entry.Begin number n k)
       (plain_sound schemas life.entries life.lanes life.leases h steady (Entry.Begin number n k) refl may (tt, tt) (begun_holds schemas life.entries (world_of life) life.lanes life.leases h steady (tokens_out life) number n k may raised))
       end
   begin_sound e end may = absurd may.2
 
-  intent_sound : (number token : ℕ) (lane path : List ℕ) (r : Request) (end : End) → MayHappen schemas life (Grant (Entry.Intent number token lane path r) end) → IsSoundLife schemas (life_after life (Grant (Entry.Intent number token lane path r) end))
+  intent_sound : (number token : ℕ) (lane path : List ℕ) (r : Request) (end : End) → Happens schemas life (Grant (Entry.Intent number token lane path r) end) → IsSoundLife schemas (life_after life (Grant (Entry.Intent number token lane path r) end))
   intent_sound number token lane path r end (running, is, may) =
       let own : NamesOwn (world_of life) number path r =
       names_own schemas life.entries life.lanes life.leases h steady (tokens_out life) number token lane path r may in
@@ -339,9 +339,9 @@ module _ (schemas : List Schema) (life : Life) (steady : AreSteady (world_of lif
       → (end : End) → IsSoundLife schemas (life_after life (Grant e end))
   quiet_sound e n may moves orderly whole new =
       granted_end e (same_granted e whole) (plain_sound schemas life.entries life.lanes life.leases h steady e n may new
-      (subst (λ b. Agree b (lanes_of life.lanes) (map lease_of life.leases)) (sym moves) h.agrees, orderly))
+      (subst (λ b. Agrees b (lanes_of life.lanes) (map lease_of life.leases)) (sym moves) h.agrees, orderly))
 
-  grant_sound : (e : Entry) (end : End) → MayHappen schemas life (Grant e end) → IsSoundLife schemas (life_after life (Grant e end))
+  grant_sound : (e : Entry) (end : End) → Happens schemas life (Grant e end) → IsSoundLife schemas (life_after life (Grant e end))
   grant_sound (Entry.Intent number token lane path r) end may = intent_sound number token lane path r end may
   grant_sound (Entry.Kept number path physical w) end (running, is, may) =
       granted_end (Entry.Kept number path physical w) (same_granted (Entry.Kept number path physical w) refl)
@@ -361,7 +361,7 @@ module _ (schemas : List Schema) (life : Life) (steady : AreSteady (world_of lif
   back_in : (token : ℕ) (l : Lease) → In l (filter (λ (z : Lease). not (token == z.token)) life.leases) → In l life.leases
   back_in token l i = (in_filter (λ (z : Lease). not (token == z.token)) life.leases l i).0
 
-  settle_sound : (token : ℕ) (e : Entry) (end : End) → MayHappen schemas life (Settle token e end) → IsSoundLife schemas (life_after life (Settle token e end))
+  settle_sound : (token : ℕ) (e : Entry) (end : End) → Happens schemas life (Settle token e end) → IsSoundLife schemas (life_after life (Settle token e end))
   settle_sound token e end (running, lease, r, found, replied, is, may) =
       let out : In lease life.leases = (found_one (λ (l : Lease). token == l.token) life.leases lease found).0 in
       let going : (l : Lease) → In l (filter (λ (z : Lease). not (token == z.token)) life.leases) → IsGoing (world_after (world_of life) e) l =
@@ -378,7 +378,7 @@ module _ (schemas : List Schema) (life : Life) (steady : AreSteady (world_of lif
       ]
 
   -- a call that is made again
-  repeat_sound : (token : ℕ) → MayHappen schemas life (Repeat token) → IsSoundLife schemas (life_after life (Repeat token))
+  repeat_sound : (token : ℕ) → Happens schemas life (Repeat token) → IsSoundLife schemas (life_after life (Repeat token))
   repeat_sound token (running, name, s, stage, p, m) =
       let (q, f) = is_found_in (has_token token) s.tokens p (may_again schemas name (world_of life) (tokens_out life) s stage p m.may).0 (eq-eqb token p.token (sym m.of_token)) in
       let open_ : In q s.tokens = (found_one (has_token token) s.tokens q f).0 in
@@ -390,21 +390,21 @@ module _ (schemas : List Schema) (life : Life) (steady : AreSteady (world_of lif
       (repeat_keeps schemas life token (running, name, s, stage, p, m) sound).agrees
 
   -- a lane that changes
-  changed_sound : (n : List ℕ) (f : FencedLane → FencedLane) (leases' : List Lease) → Agree (account_of life.entries (world_of life)) (lanes_of (map (changed n f) life.lanes)) (map lease_of leases')
+  changed_sound : (n : List ℕ) (f : FencedLane → FencedLane) (leases' : List Lease) → Agrees (account_of life.entries (world_of life)) (lanes_of (map (changed n f) life.lanes)) (map lease_of leases')
       → ((l : Lease) → In l leases' → IsGoing (world_of life) l) → AreSound schemas life.entries (world_of life) (map (changed n f) life.lanes) leases'
   changed_sound n f leases' agrees going =
       lanes_sound schemas life.entries life.lanes life.leases h (map (changed n f) life.lanes) leases' agrees (kinds_kept n f life.lanes) (lanes_named n f life.lanes h.named) (lanes_described n f schemas life.lanes h.described) going
 
-  act_sound : (token : ℕ) (r : CallEnd) (left : Left) → MayHappen schemas life (Act token r left) → IsSoundLife schemas (life_after life (Act token r left))
+  act_sound : (token : ℕ) (r : CallEnd) (left : Left) → Happens schemas life (Act token r left) → IsSoundLife schemas (life_after life (Act token r left))
   act_sound token r left may = by (lease_at token life) (lanes_keep schemas life (Act token r left) tt may h.agrees) where
-    going : (l : Lease) → In l (map (replying token r) life.leases) → IsGoing (world_of life) l
-    going l i = let (k, j, e) = from_mapped (replying token r) life.leases l i in subst (IsGoing (world_of life)) e (replied_going (world_of life) token r k (h.going k j))
+    going : (l : Lease) → In l (map (lease_replying token r) life.leases) → IsGoing (world_of life) l
+    going l i = let (k, j, e) = from_mapped (lease_replying token r) life.leases l i in subst (IsGoing (world_of life)) e (replied_going (world_of life) token r k (h.going k j))
 
-    by : (o : Option Lease) → AgreesIn (replied_to token r (acted left o life)) → IsSoundLife schemas (replied_to token r (acted left o life))
-    by None g = fewer_sound schemas life.entries life.lanes life.leases h (map (replying token r) life.leases) g going
-    by (Some l) g = changed_sound l.lane (lane_left left (world_of life).epoch l.token l.request) (map (replying token r) life.leases) g going
+    by : (o : Option Lease) → AgreesIn (replied_to token r (lane_acted left o life)) → IsSoundLife schemas (replied_to token r (lane_acted left o life))
+    by None g = fewer_sound schemas life.entries life.lanes life.leases h (map (lease_replying token r) life.leases) g going
+    by (Some l) g = changed_sound l.lane (lane_left left (world_of life).epoch l.token l.request) (map (lease_replying token r) life.leases) g going
 
-  event_sound : (e : Event) → MayHappen schemas life e → IsSoundLife schemas (life_after life e)
+  event_sound : (e : Event) → Happens schemas life e → IsSoundLife schemas (life_after life e)
   event_sound (Opened epoch lanes end) may = opened_sound epoch lanes end may
   event_sound (ChangeSet e end) may = set_sound e end may
   event_sound (Begin e end) may = begin_sound e end may
@@ -421,7 +421,7 @@ module _ (schemas : List Schema) (life : Life) (steady : AreSteady (world_of lif
   event_sound _ may = h
 
   -- what an event appends makes nothing that is not new
-  appended_new : (ev : Event) (e : Entry) (out : List ℕ) → Appends life ev e out → MayHappen schemas life ev → MayFollow schemas (world_of life) out e × (IsNew (world_of life) e × IsOfItsLane (world_of life) e)
+  appended_new : (ev : Event) (e : Entry) (out : List ℕ) → Appends life ev e out → Happens schemas life ev → MayFollow schemas (world_of life) out e × (IsNew (world_of life) e × IsOfItsLane (world_of life) e)
   appended_new _ _ _ opened may = (may.1, (tt, tt))
   appended_new _ e _ set may = (may.2, plain_new (world_of life) e (inr (inl may.1)))
   appended_new _ e _ begun may = (may.3, plain_new (world_of life) e (inl may.2))

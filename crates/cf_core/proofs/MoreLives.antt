@@ -1,13 +1,13 @@
 -- In a life no two calls that are out are of one token, and no lane settles a token twice.
 use Rattle.std.proofs.Common.{◌≡◌, inl, inr, ℕ, ◌+◌, ◌≤◌, ◌==◌, List, [], ◌∷◌, ◌++◌, Bool, true, false, not, Option, Some, None, map, filter, refl, sym, ap, subst, ◌∙◌, true≢false, cond, arith}
-use Rattle.cf_core.proofs.Words.{Answer, Answered, CallEnd, CallMove, End, Entry, Event, FencedLane, Flying, In, IsSoundLife, Lane, LaneMove, LaneState, LateMove, Lease, LeasesOnce, LeasesOnceStays, Left, Life, MayHappen, MayLeave, Request, Schema, Settled, Settlement, SettlesBy, SettlesOnce, SettlesOnceStays, Stale, StartIsOnce, Whole, acted, all_differ, appended, bytes_eq, changed, first_again, granted, has_token, here, is_call, is_in_flight, lane_at, late_by, lease_for, left_by, life_after, raised_to, repeated, replied_to, settled_late, settlement_of, there, tokens_out, with_lease, world_of}
+use Rattle.cf_core.proofs.Words.{Answer, Answered, CallEnd, CallMove, End, Entry, Event, FencedLane, Flying, In, IsSoundLife, Lane, LaneMove, LaneState, LateMove, Lease, LeasesOnce, LeasesOnceStays, Left, Life, Happens, MayLeave, Request, Schema, Settled, Settlement, SettlesBy, SettlesOnce, SettlesOnceStays, Stale, StartIsOnce, Whole, lane_acted, all_differ, appended, bytes_eq, changed, first_again, granted, has_token, here, is_call, is_in_flight, lane_at, late_by, lease_for, left_by, life_after, raised_to, repeated, replied_to, settled_late, settlement_of, there, tokens_out, with_lease, world_of}
 use Rattle.cf_core.proofs.Lemmas.{any_of, differ_end, differ_less, eq-eqb, eqb-true, found_one, in_changed, into_mapped, is_found_in, ne_eqb, one_id}
 use Rattle.cf_agree.proofs.Words.{bytes_same}
 use Rattle.cf_core.proofs.{Outcomes.token_of, Settling.again_is, Settling.may_again, Stacks.stands_on}
-use Rattle.cf_plan.specs.Life.{replying}
+use Rattle.cf_plan.specs.Life.{lease_replying}
 use Rattle.cf_plan.specs.Life as life
 
-tokens_replied : (t : ℕ) (r : CallEnd) (ls : List Lease) → map (λ (l : Lease). l.token) (map (replying t r) ls) ≡ map (λ (l : Lease). l.token) ls
+tokens_replied : (t : ℕ) (r : CallEnd) (ls : List Lease) → map (λ (l : Lease). l.token) (map (lease_replying t r) ls) ≡ map (λ (l : Lease). l.token) ls
 tokens_replied t r [] = refl
 tokens_replied t r (l ∷ ls) = grind (arith, tokens_replied t r ls)
 
@@ -35,14 +35,14 @@ module _ (schemas : List Schema) (l : Life) (h : IsSoundLife schemas l) (once : 
   less : (token : ℕ) → all_differ ◌==◌ (map (λ (k : Lease). k.token) (filter (λ (k : Lease). not (token == k.token)) l.leases)) ≡ true
   less token = differ_less ◌==◌ (λ (k : Lease). k.token) (λ (k : Lease). not (token == k.token)) l.leases once
 
-  grants : (end : End) (e : Entry) → MayHappen schemas l (life.Grant e end) → LeasesOnce (granted end e (appended end e l))
+  grants : (end : End) (e : Entry) → Happens schemas l (life.Grant e end) → LeasesOnce (granted end e (appended end e l))
   grants Whole (Entry.Intent number token lane path r) (running, is, may) =
       let (n, s, stage, found, at, m) = may in
       one_more (record { number = number; token = token; lane = lane; request = r; reply = None })
       (λ k i same. above k.token (world_of l).token (below k i) (same ∙ m.next))
   grants end e may = once
 
-  repeats : (token : ℕ) → MayHappen schemas l (life.Repeat token) → LeasesOnce (repeated (first_again token (world_of l).stacks) l)
+  repeats : (token : ℕ) → Happens schemas l (life.Repeat token) → LeasesOnce (repeated (first_again token (world_of l).stacks) l)
   repeats token (running, name, s, stage, p, m) =
       let is = may_again schemas name (world_of l) (tokens_out l) s stage p m.may in
       let (q, f) = is_found_in (has_token token) s.tokens p is.0 (eq-eqb token p.token (sym m.of_token)) in
@@ -53,7 +53,7 @@ module _ (schemas : List Schema) (l : Life) (h : IsSoundLife schemas l) (once : 
       subst (λ o. LeasesOnce (repeated o l)) (sym (again_is (world_of l) name s (stands_on (world_of l) name s h.orderly.own m.stands) token q f))
       (one_more (lease_for s.operation q) none)
 
-  leases_after : (ev : Event) → MayHappen schemas l ev → LeasesOnce (life_after l ev)
+  leases_after : (ev : Event) → Happens schemas l ev → LeasesOnce (life_after l ev)
   leases_after (life.Opened epoch lanes end) may =
       ap (λ ls. differ (λ (k : Lease). k.token) ls) (appended_same end (Entry.Opened epoch lanes) (record l { leases = []; is_open = true; has_granted = false; is_stopped = false })).0
   leases_after (life.ChangeSet e end) may = ap (λ ls. differ (λ (k : Lease). k.token) ls) (appended_same end e l).0 ∙ once
@@ -122,9 +122,9 @@ module _ (schemas : List Schema) (l : Life) (h : IsSoundLife schemas l) (once : 
         subst (λ (z : Lane). OnceOn (change z.state)) same (keeps (once lane at.0))
     by false e = once f.one f.of_list
 
-  acts : (token : ℕ) (reply : CallEnd) (left : Left) → MayHappen schemas l (life.Act token reply left) → SettlesOnce (life_after l (life.Act token reply left))
+  acts : (token : ℕ) (reply : CallEnd) (left : Left) → Happens schemas l (life.Act token reply left) → SettlesOnce (life_after l (life.Act token reply left))
   acts token reply left (lease, lane, found, unreplied, home, leaves) =
-      subst (λ (o : Option Lease). SettlesOnce (replied_to token reply (acted left o l))) (sym found)
+      subst (λ (o : Option Lease). SettlesOnce (replied_to token reply (lane_acted left o l))) (sym found)
       (one_changed lease.lane (left_by left (world_of l).epoch lease.token lease.request) lane home (by reply leaves))
     where
       by : (r : CallEnd) → MayLeave lane (left_by left (world_of l).epoch lease.token lease.request lane.state) (world_of l).epoch lease r → OnceOn lane.state
@@ -135,7 +135,7 @@ module _ (schemas : List Schema) (l : Life) (h : IsSoundLife schemas l) (once : 
   same_lanes : {lanes : List Lane} → lanes ≡ l.lanes → (k : Lane) → In k lanes → OnceOn k.state
   same_lanes e k i = once k (subst (In k) e i)
 
-  settles_after : (ev : Event) → MayHappen schemas l ev → SettlesOnce (life_after l ev)
+  settles_after : (ev : Event) → Happens schemas l ev → SettlesOnce (life_after l ev)
   settles_after (life.Opened epoch lanes end) may =
       same_lanes (appended_same end (Entry.Opened epoch lanes) (record l { leases = []; is_open = true; has_granted = false; is_stopped = false })).1
   settles_after (life.ChangeSet e end) may = same_lanes (appended_same end e l).1

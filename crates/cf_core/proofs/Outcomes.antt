@@ -1,12 +1,12 @@
 -- What answers, phases, ends and what is kept move of the account; and the entries of an operation take nothing of another stack.
 use Rattle.std.proofs.Common.{◌≡◌, ℕ, true, List, [], ◌∷◌, ◌++◌, Option, Some, None, refl, ap, ◌+◌, false, Bool, ◌&&◌, sym, subst, ◌∙◌, true≢false, ◌||◌, ◌==◌, ◌≢◌, ◌⊎◌, inl, inr, find, unwrap_or, map, arith, not, filter}
-use Rattle.cf_core.proofs.Words.{AreOwn, AreTied, Cause, Code, Dict, DoneMoves, DoubtMoves, Entry, GivenUp, Held, HeldStatus, In, IsLocal, IsOfLane, IsOnce, IsSettled, KeptMay, KeptMoves, Lanes, Leftover as Left, Made, Named, OneStack, Open, OutcomeMoves, Pending, Phase, PhaseMoves, Reply, Request, Resource, Role, Settled, Settlement, StackState, Status, Stranger, Thing, Why, World, account_of, after_last, all_differ, answered as answer_on, ascends, bytes_eq, called, change_first, changed_by, changing, closing, completing, creates, current_at, dropped, effect_at, ended_effect, ending, for_good, has_leftover, has_physical, has_token, heard, held_in, here, is_at_rest, is_create, is_create_at, is_created, is_done_entry, is_in_progress, is_on, is_opened, is_opened_since, is_restore, keeping, keeping_known, keeping_unknown, lane_of, leaves as gives_up, list_any, lost_in, lost_on, made_of, made_thing, marked, named_by, named_in, names_id, of_leftover, on_stack as stays_listed, open_as, open_in, open_on, opening_heard, option_map_or, option_or, replied, resources_of, rested, resting_in, role_after, role_found, role_in, role_on, role_or, set_thing, settled_in, status_made, still_open, stopping, terms_at, there as there_, thing_of, told_in, turned_effect, turning, unknown_id, updating, value_at, where_physical, whole_now, with_status, without, without_token}
+use Rattle.cf_core.proofs.Words.{AreOwn, AreTied, Cause, Code, Dict, DoneMoves, DoubtMoves, Entry, GivenUp, Held, HeldStatus, In, IsLocal, IsOfLane, IsOnce, IsSettledCall, KeptMay, KeptMoves, Lanes, Leftover as Left, Made, StacksByName, OneStack, Open, OutcomeMoves, Pending, Phase, PhaseMoves, Reply, Request, Resource, Role, Settled, Settlement, StackState, Status, Stranger, Thing, Why, World, account_of, after_last, all_differ, answered as answer_on, ascends, bytes_eq, called_of, change_first, changed_by, changing, closing, completing, creates, current_at, dropped, effect_at, ended_effect, ending, for_good, has_leftover, has_physical, has_token, heard, held_in, here, is_at_rest, is_create, is_create_at, is_created, is_done_entry, is_in_progress, is_on, is_opening, is_opened_since, is_restore, keeping, keeping_known, keeping_unknown, lane_of, leaves as gives_up, list_any, lost_in, lost_on, made_of, made_thing, marked, named_by, lane_types, names_id, of_leftover, on_stack as stays_listed, open_as, open_in, open_on, opening_heard, option_map_or, option_or, replied, resources_of, rested, resting_in, role_after, role_found, role_in, role_on, role_or, set_thing, settled_in, status_made, still_open, stopping, terms_at, there as there_, thing_of, told_in, turned_effect, turning, unknown_id, updating, value_at, where_physical, whole_now, with_status, without, without_token}
 use Rattle.cf_core.proofs.Lemmas.{answered_left, any_of, at_other, at_same, bytes_or, differ_end, differ_less, differ_rest, each_map, eq-eqb, eqb-true, find-append, found_else, found_one, if_other, if_same, list_any-append, ne_eqb, none_false, none_passes, number_or, or_right, other_bytes, tail_ascends, unmapped, value_below}
 use Rattle.cf_agree.proofs.Words.{bytes_same, same_bytes}
-use Rattle.cf_agree.specs.{Account.Role.Leftover, Base.effect_of, Moves.stays}
+use Rattle.cf_agree.specs.{Account.Role.Leftover, Base.change_of, Moves.stays}
 use Rattle.cf_desired.specs.Whole.{Whole}
 use Rattle.cf_effect.proofs.Closed.{any_found}
-use Rattle.cf_plan.specs.Agrees.{written_in}
+use Rattle.cf_plan.specs.Lanes.{written_in}
 use Rattle.std.proofs.lemmas.Bool.Decides.{nat_tests}
 use Rattle.std.specs.{Option.option_map, Prelude.cond}
 use Rattle.cf_core.proofs.Stacks.{IsOnOne, Sends, call_same, held_role, is_working, lost_same, map_none, not_resting, on_bool, on_one, on_option, once_here, open_closed, open_not_own, open_now, open_own, open_same, option_end, or_none, or_resource, or_some, or_stranger, resting_same, role_alike, role_here, role_made, role_now, role_own, role_same, role_set, role_stranger, role_taken, same_account, told_more, told_same}
@@ -161,7 +161,7 @@ found_none name o b e = grind arith
 pub found_some : (name : List ℕ) (o : Option Held) (b : Bool) (r : Thing) → role_found name o b ≡ Resource r → (h : Held) × (o ≡ Some h) × (thing_of name h ≡ r)
 found_some name o b r e = grind arith
 
-effect_made : (r : Request) (y : Settlement) (i k : List ℕ) (q v : Dict) → r ≡ Request.Create k q → y ≡ Settlement.Success i v → effect_of r y ≡ Made i k q v
+effect_made : (r : Request) (y : Settlement) (i k : List ℕ) (q v : Dict) → r ≡ Request.Create k q → y ≡ Settlement.Success i v → change_of r y ≡ Made i k q v
 effect_made r y i k q v e f = cc
 
 -- the stack of a call that is open, answered so
@@ -183,7 +183,7 @@ outcome_moves es x w name s p y number token answer before after own at_work fou
     λ t. grind (arith, told_more, number_or, option_end, at_other) in
     same_account _ _ roles opens (λ t. lost_same x.stacks z.stacks name s sf f t (ap (λ gs. list_any (λ (g : GivenUp). t == g.token) gs) left.abandoned))
     (λ t. call_same es e t refl) tells (λ n. resting_same x.stacks z.stacks name s sf f n (not_resting s sf (is_working number x name s at_work) left.status))
-    (λ n. ap (λ ls. named_in ls n) at.lanes) at.token at.epoch
+    (λ n. ap (λ ls. lane_types ls n) at.lanes) at.token at.epoch
   where
     z : World
     z = changed_by (x.place + 1) (Entry.Outcome number token answer before after) x
@@ -205,7 +205,7 @@ outcome_moves es x w name s p y number token answer before after own at_work fou
     f = at.one
 
     request_is : o.request ≡ y.request
-    request_is = (((tied.ties).settled_calls o.lane token y is.1).written (called o) ((tied.books).calls token o is.0)).1
+    request_is = (((tied.ties).settled_calls o.lane token y is.1).written (called_of o) ((tied.books).calls token o is.0)).1
 
     roles : (i : List ℕ) → role_in z.stacks i ≡ role_after o p.request y.settlement (role_in x.stacks) i
     roles i = go (on_stack name (is_restore token s) p s p.request answer y.settlement good i) where
@@ -247,18 +247,18 @@ pub held_stands : (i : List ℕ) (s : StackState) (h : Held) → held_in i s ≡
 held_stands i s h e = let (j, t) = found_one (has_physical i) (resources_of s) h (find-append (has_physical i) s.held s.made ∙ e) in (j, bytes_same i h.physical t)
 
 -- the value of a name stays behind one of another name
-value_behind : (n : List ℕ) (t : List ℕ × StackState) (ss : Named) (s : StackState) → ascends (t ∷ ss) ≡ true → value_at n ss ≡ Some s → value_at n (t ∷ ss) ≡ Some s
+value_behind : (n : List ℕ) (t : List ℕ × StackState) (ss : StacksByName) (s : StackState) → ascends (t ∷ ss) ≡ true → value_at n ss ≡ Some s → value_at n (t ∷ ss) ≡ Some s
 value_behind n t ss s d e = let none = value_below t.0 ss d in elim (bytes_or n t.0) [ inl k ↦ absurd (cc) | inr k ↦ if_other n t.0 (Some t.1) (value_at n ss) k ∙ e ]
 
 -- the stack of a resource
-pub record Holds (ss : Named) (i : List ℕ) (r : Thing) : Type 0 where
+pub record Holds (ss : StacksByName) (i : List ℕ) (r : Thing) : Type 0 where
   pub stack : StackState
   pub held : Held
   pub stands : value_at r.stack ss ≡ Some stack
   pub found : held_in i stack ≡ Some held
   pub same : thing_of r.stack held ≡ r
 
-pub role_found_in : (ss : Named) (i : List ℕ) (r : Thing) → ascends ss ≡ true → role_in ss i ≡ Resource r → Holds ss i r
+pub role_found_in : (ss : StacksByName) (i : List ℕ) (r : Thing) → ascends ss ≡ true → role_in ss i ≡ Resource r → Holds ss i r
 role_found_in [] i r d e = absurd (cc)
 role_found_in (t ∷ ss) i r d e = elim (or_resource (role_on t.0 t.1 i) (role_in ss i) r e) [
   | inl k ↦ (
@@ -270,14 +270,14 @@ role_found_in (t ∷ ss) i r d e = elim (or_resource (role_on t.0 t.1 i) (role_i
 ]
 
 -- the stack of an open call
-pub record Opens (ss : Named) (t : ℕ) (o : Open) : Type 0 where
+pub record Opens (ss : StacksByName) (t : ℕ) (o : Open) : Type 0 where
   pub stack : StackState
   pub pending : Pending
   pub stands : value_at o.stack ss ≡ Some stack
   pub found : find (has_token t) stack.tokens ≡ Some pending
   pub same : open_as o.stack pending ≡ o
 
-pub open_found_in : (ss : Named) (t : ℕ) (o : Open) → ascends ss ≡ true → open_in ss t ≡ Some o → Opens ss t o
+pub open_found_in : (ss : StacksByName) (t : ℕ) (o : Open) → ascends ss ≡ true → open_in ss t ≡ Some o → Opens ss t o
 open_found_in [] t o d e = absurd (cc)
 open_found_in (s ∷ ss) t o d e = elim (or_some (open_on s.0 s.1 t) (open_in ss t) o e) [
   | inl k ↦ (
@@ -427,7 +427,7 @@ module _ (es : List Entry) (x y : World) (e : Entry) (name : List ℕ) (s s' : S
     lost_more : (t : ℕ) (c : Bool) → lost_on s' t ≡ (lost_on s t || c) → lost_in y.stacks t ≡ (lost_in x.stacks t || c)
     lost_more t c k = grind (arith, list_any-append)
 
-    given : (t : ℕ) → gives test (find (has_token t) s.tokens) ≡ (drops t && account.is_create (open_in x.stacks t))
+    given : (t : ℕ) → gives test (find (has_token t) s.tokens) ≡ (drops t && account.is_open_create (open_in x.stacks t))
     given t = on_option (find (has_token t) s.tokens) (λ k. cc) (λ p k. cc (creates_same p.request, open_is t p k))
 
     pub dropped_moves : account_of (es ++ e ∷ []) y ≡ rested (resting_in y.stacks) (dropped drops (role_in y.stacks) (account_of es x))
@@ -468,7 +468,7 @@ done_moves es x name s number state failed own found =
     let e : Entry = Entry.Done number state failed in
     let s' : StackState = (effect_at (x.place + 1) (Entry.Done number state failed) s).stack in
     let closed : is_opened_since s' ≡ false =
-    ap (λ ds. list_any is_opened (after_last is_done_entry (ds ++ e ∷ []))) (ended_entries state s) ∙ ap (list_any is_opened) (nothing_behind s.entries e refl) in
+    ap (λ ds. list_any is_opening (after_last is_done_entry (ds ++ e ∷ []))) (ended_entries state s) ∙ ap (list_any is_opening) (nothing_behind s.entries e refl) in
     quiet_rests es x (changed_by (x.place + 1) (Entry.Done number state failed) x) e name s s' (on_one (Entry.Done number state failed) x name s own refl found) refl
     (λ t. told_same es e t refl) (done_quiet (x.place + 1) number state failed s)
     (and_false (not (is_in_progress s'.status)) (is_opened_since s') closed ∙ cc (is_working number x name s found))
@@ -578,35 +578,35 @@ abbrev pub tokens_of : List Pending → List ℕ
 tokens_of ps = map (λ (p : Pending). p.token) ps
 
 -- what is told of all is told of each
-each_stranger : (xs : Named) (i : List ℕ) → role_in xs i ≡ Stranger → (q : List ℕ × StackState) → In q xs → role_on q.0 q.1 i ≡ Stranger
+each_stranger : (xs : StacksByName) (i : List ℕ) → role_in xs i ≡ Stranger → (q : List ℕ × StackState) → In q xs → role_on q.0 q.1 i ≡ Stranger
 each_stranger [] i h q j = elim j [ ]
 each_stranger (x ∷ xs) i h q here = (or_stranger (role_on x.0 x.1 i) (role_in xs i) h).0
 each_stranger (x ∷ xs) i h q (there_ j) = each_stranger xs i (or_stranger (role_on x.0 x.1 i) (role_in xs i) h).1 q j
 
-each_closed : (xs : Named) (t : ℕ) → open_in xs t ≡ None → (q : List ℕ × StackState) → In q xs → find (has_token t) (q.1).tokens ≡ None
+each_closed : (xs : StacksByName) (t : ℕ) → open_in xs t ≡ None → (q : List ℕ × StackState) → In q xs → find (has_token t) (q.1).tokens ≡ None
 each_closed [] t h q j = elim j [ ]
 each_closed (x ∷ xs) t h q here = map_none (open_as x.0) (find (has_token t) (x.1).tokens) (or_none (open_on x.0 x.1 t) (open_in xs t) h).0
 each_closed (x ∷ xs) t h q (there_ j) = each_closed xs t (or_none (open_on x.0 x.1 t) (open_in xs t) h).1 q j
 
 -- the open call of this token was open on the stack, or was so nowhere
-abbrev IsCallOf : Named → StackState → ℕ → Type 0
+abbrev IsCallOf : StacksByName → StackState → ℕ → Type 0
 IsCallOf ss s t = ((u : Pending) × (find (has_token t) s.tokens ≡ Some u)) ⊎ ((q : List ℕ × StackState) → In q ss → find (has_token t) (q.1).tokens ≡ None)
 
 -- the lists of resources stay
-alike_local : (ss : Named) (name : List ℕ) (s s' : StackState) → IsOnce s → s'.held ≡ s.held → s'.made ≡ s.made → s'.leftovers ≡ s.leftovers → all_differ ◌==◌ (tokens_of s'.tokens) ≡ true
+alike_local : (ss : StacksByName) (name : List ℕ) (s s' : StackState) → IsOnce s → s'.held ≡ s.held → s'.made ≡ s.made → s'.leftovers ≡ s.leftovers → all_differ ◌==◌ (tokens_of s'.tokens) ≡ true
     → ((t : ℕ) (v : Pending) → find (has_token t) s'.tokens ≡ Some v → IsCallOf ss s t) → IsLocal ss name s s'
 alike_local ss name s s' once hd md lf differ calls = grind (arith, role_alike)
 
-pub doubt_local : (ss : Named) (name : List ℕ) (s s' : StackState) → IsOnce s → IsAlike s s' → IsLocal ss name s s'
+pub doubt_local : (ss : StacksByName) (name : List ℕ) (s s' : StackState) → IsOnce s → IsAlike s s' → IsLocal ss name s s'
 doubt_local ss name s s' once d = alike_local ss name s s' once d.held d.made d.leftovers (ap (λ ps. all_differ ◌==◌ (tokens_of ps)) d.tokens ∙ once.tokens) (λ t v k. inl (v, sym (ap (find (has_token t)) d.tokens) ∙ k))
 
-pub intent_local : (ss : Named) (name : List ℕ) (s s' : StackState) (p : Pending) → IsOnce s → open_in ss p.token ≡ None → find (has_token p.token) s.tokens ≡ None → Sends p s s' → IsLocal ss name s s'
+pub intent_local : (ss : StacksByName) (name : List ℕ) (s s' : StackState) (p : Pending) → IsOnce s → open_in ss p.token ≡ None → find (has_token p.token) s.tokens ≡ None → Sends p s s' → IsLocal ss name s s'
 intent_local ss name s s' p once none here_ sent = grind (arith, alike_local, differ_end, number_or, find-append, none_passes, nat_tests, each_closed, option_end, at_other)
 
 -- an answer for good
 module _
     (es : List Entry) (x z : World) (w : Lanes) (name : List ℕ) (s : StackState) (p : Pending) (y : Settled) (place number token : ℕ) (answer : Reply) (before after : ℕ)
-    (own : AreOwn x.stacks) (good : for_good answer ≡ Some y.settlement) (tied : AreTied (account_of es x) w) (is : IsSettled (account_of es x) w token (open_as name p) y)
+    (own : AreOwn x.stacks) (good : for_good answer ≡ Some y.settlement) (tied : AreTied (account_of es x) w) (is : IsSettledCall (account_of es x) w token (open_as name p) y)
     (at : IsOnOne x z name s (answered_stack place number token answer before after p s))
     (differ : all_differ bytes_eq (map (λ (h : Held). h.physical) (resources_of s)) ≡ true → ((k : List ℕ) (q : Dict) (i : List ℕ) (v : Dict) → p.request ≡ Request.Create k q → answer ≡ Reply.Success i v → held_in i s ≡ None) → all_differ bytes_eq (map (λ (h : Held). h.physical) (resources_of (answer_on (is_restore token s) p.path p.request answer s))) ≡ true) where
   abbrev s1 : StackState
@@ -619,7 +619,7 @@ module _
   once = once_here x.stacks z.stacks name s sf at.one own
 
   request_is : p.request ≡ y.request
-  request_is = (((tied.ties).settled_calls p.lane token y is.1).written (called (open_as name p)) ((tied.books).calls token (open_as name p) is.0)).1
+  request_is = (((tied.ties).settled_calls p.lane token y is.1).written (called_of (open_as name p)) ((tied.books).calls token (open_as name p) is.0)).1
 
   -- what is new is held by none
   made_new : (i k : List ℕ) (q v : Dict) → p.request ≡ Request.Create k q → y.settlement ≡ Settlement.Success i v → role_in x.stacks i ≡ Stranger
@@ -697,7 +697,7 @@ module _ (place epoch : ℕ) (lanes : List (List ℕ × List ℕ)) where
   abbrev hears : List ℕ × StackState → List ℕ × StackState
   hears s = opening_heard place (Entry.Opened epoch lanes) s
 
-  pub own_opened : (ss : Named) → ascends (map hears ss) ≡ true → AreOwn ss → AreOwn (map hears ss)
+  pub own_opened : (ss : StacksByName) → ascends (map hears ss) ≡ true → AreOwn ss → AreOwn (map hears ss)
   own_opened ss sorted own = record {
     names = sorted;
     once = each_map (λ p. IsOnce p.1) hears ss (λ p i. let o = own.once p i in record { ids = o.ids; left = o.left; tokens = o.tokens });

@@ -2,7 +2,7 @@
 use Rattle.std.proofs.Common.{◌≡◌, ℕ, ◌==◌, List, [], ◌∷◌, refl, ap, map, option_map, arith}
 use Rattle.cf_core.proofs.Words.{Call, Reply, anew, answered_call, cond, is_call}
 use Rattle.cf_core.proofs.Lemmas.{either_way}
-use Rattle.cf_core.specs.Books.{call_in}
+use Rattle.cf_core.specs.Books.{row_in}
 
 -- a row that is changed is still of the same call
 pub record IsSameCall (c d : Call) : Type 0 where
@@ -29,6 +29,6 @@ pub answered_row_same : (token : ℕ) (a : Reply) (c : Call) → IsSameCall c (a
 answered_row_same token a c = either_way (IsSameCall c) (is_call token c) (answered_call a c) c (answered_same a c) (itself_same c)
 
 module _ (f : Call → Call) (same : (c : Call) → IsSameCall c (f c)) where
-  pub call_mapped : (token : ℕ) (rows : List Call) → call_in token (map f rows) ≡ option_map f (call_in token rows)
+  pub call_mapped : (token : ℕ) (rows : List Call) → row_in token (map f rows) ≡ option_map f (row_in token rows)
   call_mapped token [] = refl
   call_mapped token (c ∷ rows) = let ih = call_mapped token rows in let e = ap (λ t. token == t) (same c).token in grind arith

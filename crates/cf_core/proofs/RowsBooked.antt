@@ -3,15 +3,15 @@ use Rattle.std.proofs.Common.{◌≡◌, ℕ, ◌==◌, List, [], ◌∷◌, ◌
 use Rattle.cf_core.proofs.Words.{AreBooked, AreRestoring, Call, GivesBack, HasFailedIn, Held, In, IsAnsweredIn, IsCounted, IsGivenUp, IsOpen, IsRowOf, Pending, Reply, Request, Response, Status, anew, answered_call, bytes_eq, cond, deletes, goes_back, has_path, is_bad_at, is_bad_outcome, is_call, is_doubt, is_refusal, is_restoring, is_success, is_update, new_call, second_so, settled_by, still_open, succeeded, updates, was_refused, where_call}
 use Rattle.cf_core.proofs.Lemmas.{bytes_or, each_map as each_mapped, eq-eqb, eqb-true, found_one, found_same, found_still, if_other, if_same, in_end, in_filter, in_front, in_more, in_reversed, none_below, not_so, reversed_more}
 use Rattle.cf_core.proofs.Rows.{IsSameCall, anew_same, answered_same, answered_row, answered_row_same, call_mapped}
-use Rattle.cf_core.specs.Books.{call_in}
+use Rattle.cf_core.specs.Books.{row_in}
 use Rattle.cf_tree.specs.Counts.{HasRisen}
 use Rattle.cf_plan.proofs.BlameAnswer.{doubt_open, in_still, stays_open}
 use Rattle.cf_effect.specs.declared.call.Settled.TheVariants as settled
 
 -- where each answer's call is at the path as before, and as good or bad as before, the last one is as bad as before
 pub bad_same : (path : List ℕ) (rows rows' : List Call) (replies : List Response)
-    → ((r : Response) → In r replies → has_path path (call_in r.token rows') ≡ has_path path (call_in r.token rows))
-    → ((r : Response) → In r replies → is_bad_outcome (call_in r.token rows') r.answer ≡ is_bad_outcome (call_in r.token rows) r.answer)
+    → ((r : Response) → In r replies → has_path path (row_in r.token rows') ≡ has_path path (row_in r.token rows))
+    → ((r : Response) → In r replies → is_bad_outcome (row_in r.token rows') r.answer ≡ is_bad_outcome (row_in r.token rows) r.answer)
     → is_bad_at path rows' replies ≡ is_bad_at path rows replies
 bad_same path rows rows' replies at bad = grind (arith, found_same, in_reversed, found_one)
 
@@ -27,15 +27,15 @@ module _ (f : Call → Call) (same : (c : Call) → IsSameCall c (f c)) where
 
 -- as a call is added
 pub bad_called : (path : List ℕ) (rows more : List Call) (replies : List Response)
-    → ((r : Response) → In r replies → (c : Call) × (call_in r.token rows ≡ Some c)) → is_bad_at path (rows ++ more) replies ≡ is_bad_at path rows replies
+    → ((r : Response) → In r replies → (c : Call) × (row_in r.token rows ≡ Some c)) → is_bad_at path (rows ++ more) replies ≡ is_bad_at path rows replies
 bad_called path rows more replies called =
     bad_same path rows (rows ++ more) replies (λ r i. ap (has_path path) (still r i)) (λ r i. ap (λ o. is_bad_outcome o r.answer)
     (still r i)) where
-      still : (r : Response) → In r replies → call_in r.token (rows ++ more) ≡ call_in r.token rows
+      still : (r : Response) → In r replies → row_in r.token (rows ++ more) ≡ row_in r.token rows
       still r i = let k = called r i in found_still (is_call r.token) rows more k.0 k.1 ∙ sym k.1
 
 -- as an answer is added
-pub bad_more : (path : List ℕ) (rows : List Call) (replies : List Response) (r0 : Response) (c : Call) → call_in r0.token rows ≡ Some c
+pub bad_more : (path : List ℕ) (rows : List Call) (replies : List Response) (r0 : Response) (c : Call) → row_in r0.token rows ≡ Some c
     → is_bad_at path rows (replies ++ r0 ∷ []) ≡ cond (bytes_eq path c.path) (is_bad_outcome (Some c) r0.answer) (is_bad_at path rows replies)
 bad_more path rows replies r0 c e = grind (arith, reversed_more)
 
@@ -146,7 +146,7 @@ module _ (number : ℕ) (rows : List Call) (replies : List Response) (tokens : L
     }
 
     pub restoring_called : (before : List Held) → AreRestoring number rows replies tokens before
-        → ((r : Response) → In r replies → (c : Call) × (call_in r.token rows ≡ Some c)) → GivesBack before row
+        → ((r : Response) → In r replies → (c : Call) × (row_in r.token rows ≡ Some c)) → GivesBack before row
         → ((c : Call) → In c rows → c.number ≡ number → is_restoring c ≡ true → was_refused c ≡ true → q.path ≡ c.path → ⊥)
         → AreRestoring number (rows ++ row ∷ []) replies (tokens ++ q ∷ []) before
     restoring_called before h called gives apart = record {
@@ -163,7 +163,7 @@ module _ (number : ℕ) (rows : List Call) (replies : List Response) (tokens : L
 
   -- a call is answered
   module _ (p : Pending) (i : In p tokens) (token : ℕ) (named : token ≡ p.token) (answer : Reply) (before after : ℕ) (its : Call)
-      (found : call_in token rows ≡ Some its) (rowed : (q : Pending) (c : Call) → In q tokens → In c rows → q.token ≡ c.token → IsRowOf q c)
+      (found : row_in token rows ≡ Some its) (rowed : (q : Pending) (c : Call) → In q tokens → In c rows → q.token ≡ c.token → IsRowOf q c)
       (paths : (q r : Pending) → In q tokens → In r tokens → q.path ≡ r.path → q ≡ r) where
     abbrev r0 : Response
     r0 = record { token = token; answer = answer; before = before; after = after }
@@ -235,7 +235,7 @@ module _ (number : ℕ) (rows : List Call) (replies : List Response) (tokens : L
       pub booked_answered : AreBooked number rows' replies' tokens' things'
       booked_answered = record {
         called =
-            in_more (λ r. (c : Call) × (call_in r.token rows' ≡ Some c)) r0 replies (λ r j. let k = h.called r j in mapped r.token k.0 k.1) (mapped token its found);
+            in_more (λ r. (c : Call) × (row_in r.token rows' ≡ Some c)) r0 replies (λ r j. let k = h.called r j in mapped r.token k.0 k.1) (mapped token its found);
         counted = in_more (λ r. is_success (settled_by r.answer) ≡ false → HasRisen r.before r.after) r0 replies h.counted (rose answer before after counted);
         refused =
             each_answered (λ c. c.number ≡ number → was_refused c ≡ true → HasFailedIn replies' c) (λ c j e o. refused_now answer refl c j e)
@@ -250,7 +250,7 @@ module _ (number : ℕ) (rows : List Call) (replies : List Response) (tokens : L
             ∙ n) r l (ap (deletes r.physical) (sym (answered_same answer x).request) ∙ f)))
             (λ x k s n f. let t = tried_now x k n r l f in (t.0, on_left (open_still x s) t.1)) c j e d;
       } where
-        mapped : (t : ℕ) (c : Call) → call_in t rows ≡ Some c → (d : Call) × (call_in t rows' ≡ Some d)
+        mapped : (t : ℕ) (c : Call) → row_in t rows ≡ Some c → (d : Call) × (row_in t rows' ≡ Some d)
         mapped t c e = (
           answered_row token answer c,
           call_mapped (answered_row token answer) (answered_row_same token answer) t rows ∙ ap (option_map (answered_row token answer)) e,

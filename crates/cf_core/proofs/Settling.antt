@@ -1,16 +1,21 @@
 -- An outcome that is written down keeps what holds at each moment of a life.
 use Rattle.std.proofs.Common.{◌≡◌, ℕ, List, [], ◌∷◌, ◌++◌, map, refl, sym, subst, ◌≢◌, inl, inr, ◌==◌, true, false, not, Option, Some, None, filter, find, ap, ◌∙◌, true≢false, arith, ◌+◌, ◌&&◌}
-use Rattle.cf_core.proofs.Words.{Account, Act, Agree, AgreesIn, Answer, Answered, AreApart, AreHandedIn, AreLeased, AreTied, Books, BrokenWith, BrokenWithout, CallEnd, Called, Close, Crash, End, Entry, FencedLane, FitsLane, Grant, Held, HeldIsLive, In, IsKindFor as IsKindOf, IsLive, IsLocal, IsNext, IsOfLane, IsOrderly, IsOut, IsOutcomeOf, IsSettled, IsSound, IsStart, IsThere, Lane, Lanes, LanesKeep, LanesOnce, Late, Lease as Granted, Life, Live, MayFollow, MayHappen, MayLeave, MayRepeat, Named, OneStack, Open, Opened, OpenedKeeps, Park, Pending, Raise, RepeatKeeps, Replaced, Reply, Request, Resource, Schema, Settle, SettleKeeps, Settlement, StackState, Stage, Stale, Stood, Thing, Ties, Whole, World, account_of, account_with, bytes_eq, called, changed, changed_by, effect_at, empty_world, entry_in, first_again, first_so, fold_of, for_good, good_reply, has_leftover, has_token, heard, held_in, intended, is_at_rest, is_going, is_in_flight, is_lane_name, is_lane_of, is_opened_since, is_restore, lane_at, lane_of, lanes_of, late_by, lease_at, lease_for, lease_of, left_by, life_after, list_all, list_any, live_at, live_of, named_by, named_in, new as is_new, no_lane, on_stack as stays_listed, open_as, open_in, open_on, option_map_or, option_or, pending_of, raised_to, repeated, replied as reply_of, resting_in, returned, role_found, role_in, second_so, settled_reply, settlement_in, stack_of_operation, thing_of, tokens_out, value_at, world_after, world_of}
+use Rattle.cf_core.proofs.Words.{Account, Act, Agrees, AgreesIn, Answer, Answered, AreApart, AreHandedIn, AreLeased, AreTied, Books, BrokenWith, BrokenWithout, CallEnd, Called, Close, Crash, End, Entry, FencedLane, FitsLane, Grant, Held, HeldIsLive, In, IsKindFor as IsKindOf, IsLive, IsLocal, HasNextNumber, IsOfLane, IsOrderly, IsOut, IsOutcomeOf, IsSettledCall, IsSound, IsStart, IsThere, Lane, Lanes, LanesKeep, LanesOnce, Late, Lease as Granted, Life, Live, MayFollow, Happens, MayLeave, MayRepeat, StacksByName, OneStack, Open, Opened, OpenedKeeps, Park, Pending, Raise, RepeatKeeps, Replaced, Reply, Request, Resource, Schema, Settle, SettleKeeps, Settlement, StackState, Stage, Stale, Stood, Thing, Ties, Whole, World, account_of, account_with, bytes_eq, called_of, changed, changed_by, effect_at, empty_world, settled_under, first_again, first_so, fold_of, for_good, good_reply, has_leftover, has_token, heard, held_in, intended, is_at_rest, is_going, is_in_flight, is_lane_name, is_lane_of, is_opened_since, is_restore, lane_at, lane_of, lanes_of, late_by, lease_at, lease_for, lease_of, left_by, life_after, list_all, list_any, live_at, live_of, named_by, lane_types, new as is_new, no_lane, on_stack as stays_listed, open_as, open_in, open_on, option_map_or, option_or, pending_of, raised_to, repeated, replied as reply_of, resting_in, returned, role_found, role_in, second_so, settled_reply, settlement_in, stack_of_operation, thing_of, tokens_out, value_at, world_after, world_of}
 use Rattle.cf_core.proofs.Lemmas.{any_of, eq-eqb, find_mapped, found_one, found_stands, if_other, if_same, in_any, is_found_in, not-true, number_or, one_id, one_lane}
 use Rattle.cf_agree.proofs.Keeps.{call_keeps, stale_keeps, late_keeps, fence_keeps, return_keeps, opening_keeps, intent_keeps, answer_keeps}
 use Rattle.cf_agree.proofs.{Effects.gone_names, Effects.set_names, Leases.leased_granted, Words.bytes_same, Words.in_cons, Words.same_bytes}
 use Rattle.cf_agree.proofs.Calls.{request_of}
-use Rattle.cf_agree.specs.{Base.In as InLane, Base.here, Base.there, Moves.Lease, Moves.MayIntend, Moves.granted, Moves.replied}
-use Rattle.cf_agree.specs.{Account.answered, Ties.IsKindFor}
+use Rattle.cf_agree.specs.{Moves.CallOut, Moves.MayBeWritten, Moves.leases_granted, Moves.leases_replied}
+use Rattle.cf_tree.specs.Lists.{there}
+use Rattle.cf_tree.specs.Lists.{here}
+use Rattle.cf_tree.specs.Lists.{In as InLane}
+use Rattle.cf_agree.specs.{Account.answered}
+use Rattle.cf_handler.specs.Move.{IsKindFor}
 use Rattle.cf_core.proofs.Outcomes.{answered_stack, doubt_local, doubt_moves, held_stands, in_doubt, intent_local, open_found_in, outcome_local, outcome_moves, own_opened, role_found_in, token_of}
 use Rattle.cf_core.proofs.Stacks.{IsOnOne, intent_moves, is_working, map_none, none_open, on_one, once_here, open_none, open_own, opening_moves, own_kept, role_here, sends, stands_on, or_none}
 use Rattle.cf_core.proofs.FitKept.{left_by as answered_left, differ_left}
-use Rattle.cf_plan.specs.Life.{replying as replying_life, settlement_in as settlement_life}
+use Rattle.cf_plan.specs.Life.{lease_replying as replying_life}
+use Rattle.cf_handler.specs.Answered.{settlement_in as settlement_life}
 use Rattle.cf_stacks.proofs.Apart.{stay_apart}
 use Rattle.std.specs.{Option.option_map, Prelude.is_some}
 use Rattle.cf_core.specs.OneStack.{there as stands_there}
@@ -31,15 +36,15 @@ held_by life = lanes_of life.lanes
 
 module _ (life : Life) (e : Entry) where
   -- the entry is there: of its world
-  pub agrees_more : (ls : List Lease) → Agree (account_with e life.entries (world_of life)) (lanes_of life.lanes) ls
-      → Agree (account_of (life.entries ++ e ∷ []) (fold_of empty_world (life.entries ++ e ∷ []))) (lanes_of life.lanes) ls
-  agrees_more ls g = subst (λ x. Agree (account_of (life.entries ++ e ∷ []) x) (lanes_of life.lanes) ls) (sym (fold_more empty_world life.entries e)) g
+  pub agrees_more : (ls : List CallOut) → Agrees (account_with e life.entries (world_of life)) (lanes_of life.lanes) ls
+      → Agrees (account_of (life.entries ++ e ∷ []) (fold_of empty_world (life.entries ++ e ∷ []))) (lanes_of life.lanes) ls
+  agrees_more ls g = subst (λ x. Agrees (account_of (life.entries ++ e ∷ []) x) (lanes_of life.lanes) ls) (sym (fold_more empty_world life.entries e)) g
 
   pub orderly_more : IsOrderly (world_after (world_of life) e) → IsOrderly (fold_of empty_world (life.entries ++ e ∷ []))
   orderly_more g = subst IsOrderly (sym (fold_more empty_world life.entries e)) g
 
 -- one stack changes, and takes nothing of another
-pub orderly_on : (x : World) (e : Entry) (name : List ℕ) (s s' : StackState) → IsOrderly x → IsNext e x → OneStack x.stacks (world_after x e).stacks name s s' → IsLocal x.stacks name s s'
+pub orderly_on : (x : World) (e : Entry) (name : List ℕ) (s s' : StackState) → IsOrderly x → HasNextNumber e x → OneStack x.stacks (world_after x e).stacks name s s' → IsLocal x.stacks name s s'
     → (world_after x e).lanes ≡ x.lanes → IsOrderly (world_after x e)
 orderly_on x e name s s' h next one local lanes = let apart = stay_apart x e h.apart next in record {
   apart = apart;
@@ -91,7 +96,7 @@ found_lease t (k ∷ ls) l e = elim (number_or t k.token) [
   | inr x ↦ (let (y, i) = found_lease t ls l (grind arith) in (y, there i))
 ]
 
-replied_same : (t : ℕ) (r : CallEnd) (ls : List Granted) → map lease_of (map (replying_life t r) ls) ≡ replied t (settled_reply r) (map lease_of ls)
+replied_same : (t : ℕ) (r : CallEnd) (ls : List Granted) → map lease_of (map (replying_life t r) ls) ≡ leases_replied t (settled_reply r) (map lease_of ls)
 replied_same t r [] = refl
 replied_same t r (l ∷ ls) = grind (arith, replied_same t r ls)
 
@@ -103,7 +108,7 @@ same_settlement : (a : Answer) → settlement_life a ≡ settlement_in a
 same_settlement a = grind arith
 
 -- no lease is out
-pub none_out : (a : Account) (w : Lanes) (ls : List Lease) → Agree a w ls → Agree a w []
+pub none_out : (a : Account) (w : Lanes) (ls : List CallOut) → Agrees a w ls → Agrees a w []
 none_out a w ls h = record { tied = h.tied; leased = record { once = λ l m i. elim i [ ]; out = λ l i. elim i [ ]; replies = λ l x i. elim i [ ] } }
 
 pub lanes_keep : LanesKeep
@@ -114,12 +119,12 @@ lanes_keep schemas life (Act token reply left) of (lease, lane, found, rest, hom
     let after : Lanes = lanes_of (map (changed lease.lane change) life.lanes) in
     let rep : Replaced lease.lane (change lane.state) (held_by life) after = replaced lease.lane change life.lanes lane home in
     -- the life after it, where the lease is found
-    let done : (r : CallEnd) → Agree (told_in life) after (replied lease.token (settled_reply r) (map lease_of life.leases)) → AgreesIn (life_after life (Act token r left)) =
-    λ r g. subst (λ o. AgreesIn (Rattle.cf_plan.specs.Life.replied_to token r (Rattle.cf_plan.specs.Life.acted left o life))) (sym found)
-    (subst (Agree (told_in life) after) (ap (λ t. replied t (settled_reply r) (map lease_of life.leases)) (sym mine.0) ∙ sym (replied_same token r life.leases)) g) in
+    let done : (r : CallEnd) → Agrees (told_in life) after (leases_replied lease.token (settled_reply r) (map lease_of life.leases)) → AgreesIn (life_after life (Act token r left)) =
+    λ r g. subst (λ o. AgreesIn (Rattle.cf_plan.specs.Life.replied_to token r (Rattle.cf_plan.specs.Life.lane_acted left o life))) (sym found)
+    (subst (Agrees (told_in life) after) (ap (λ t. leases_replied t (settled_reply r) (map lease_of life.leases)) (sym mine.0) ∙ sym (replied_same token r life.leases)) g) in
     (elim reply as (λ r. MayLeave lane (change lane.state) (world_of life).epoch lease r → AgreesIn (life_after life (Act token r left))) [
       | Answered x before counted ↦ λ m. done (Answered x before counted)
-          (subst (λ o. Agree (told_in life) after (replied lease.token o (map lease_of life.leases))) (sym (same_settlement x))
+          (subst (λ o. Agrees (told_in life) after (leases_replied lease.token o (map lease_of life.leases))) (sym (same_settlement x))
           (call_keeps (told_in life) (held_by life) after (map lease_of life.leases) (lease_of lease) (change lane.state) x h mine.1 is.0 rep
           (subst (λ l. Rattle.cf_handler.specs.Fence.CallMove lease.lane l (change lane.state) (world_of life).epoch lease.token lease.request x) (sym is.1)
           (subst (λ n. Rattle.cf_handler.specs.Fence.CallMove n lane.state (change lane.state) (world_of life).epoch lease.token lease.request x)
@@ -212,16 +217,16 @@ start_agrees schemas life h =
     let kind : List ℕ → Option (List ℕ) = (lanes_of life.lanes).kind in
     let tied : AreTied (account_of [] empty_world) (record { kind = kind; lane = λ n. no_lane }) =
     blank_tied kind (λ n k e. let (l, f) = map_some (lane_at n life.lanes) k e in named_all n life.lanes l (h.named).named f) in
-    let none : Agree (account_of [] empty_world) (record { kind = kind; lane = λ n. no_lane }) [] =
+    let none : Agrees (account_of [] empty_world) (record { kind = kind; lane = λ n. no_lane }) [] =
     record { tied = tied; leased = record { once = λ l m i. elim i [ ]; out = λ l i. elim i [ ]; replies = λ l x i. elim i [ ] } } in
-    subst (λ es. Agree (account_of es (fold_of empty_world es)) (lanes_of life.lanes) (map lease_of life.leases)) (sym h.no_entries)
-    (subst (λ ls. Agree (account_of [] empty_world) (lanes_of life.lanes) (map lease_of ls)) (sym h.no_leases)
-    (subst (λ (w : Lanes). Agree (account_of [] empty_world) w []) (λ k. record { kind = kind; lane = λ n. sym (blank life h.untouched n) k }) none))
+    subst (λ es. Agrees (account_of es (fold_of empty_world es)) (lanes_of life.lanes) (map lease_of life.leases)) (sym h.no_entries)
+    (subst (λ ls. Agrees (account_of [] empty_world) (lanes_of life.lanes) (map lease_of ls)) (sym h.no_leases)
+    (subst (λ (w : Lanes). Agrees (account_of [] empty_world) w []) (λ k. record { kind = kind; lane = λ n. sym (blank life h.untouched n) k }) none))
 
 -- An opening keeps what holds at each moment of a life.
 
 -- the lane of a name, among those of an opening
-pub named_found : (lanes : List (List ℕ × List ℕ)) (n k : List ℕ) → named_in lanes n ≡ Some k → (l : List ℕ × List ℕ) × In l lanes × (n ≡ l.0) × (l.1 ≡ k)
+pub named_found : (lanes : List (List ℕ × List ℕ)) (n k : List ℕ) → lane_types lanes n ≡ Some k → (l : List ℕ × List ℕ) × In l lanes × (n ≡ l.0) × (l.1 ≡ k)
 named_found lanes n k e = go (find (λ (l : List ℕ × List ℕ). bytes_eq n l.0) lanes) refl e where
   go : (o : Option (List ℕ × List ℕ)) → find (λ (l : List ℕ × List ℕ). bytes_eq n l.0) lanes ≡ o → option_map (λ (l : List ℕ × List ℕ). l.1) o ≡ Some k → (l : List ℕ × List ℕ) × In l lanes × (n ≡ l.0) × (l.1 ≡ k)
   go None f g = absurd (cc)
@@ -229,7 +234,7 @@ named_found lanes n k e = go (find (λ (l : List ℕ × List ℕ). bytes_eq n l.
 
 -- where no two lanes have one name, each is the one of its name
 names_one : (lanes : List (List ℕ × List ℕ)) → ((l m : List ℕ × List ℕ) → In l lanes → In m lanes → l.0 ≡ m.0 → l ≡ m) → (l : List ℕ × List ℕ) → In l lanes
-    → named_in lanes l.0 ≡ Some l.1
+    → lane_types lanes l.0 ≡ Some l.1
 names_one lanes once l i =
     let (m, f) = is_found_in (λ (q : List ℕ × List ℕ). bytes_eq l.0 q.0) lanes l i (same_bytes l.0 l.0 refl) in
     let (j, t) = found_one (λ (q : List ℕ × List ℕ). bytes_eq l.0 q.0) lanes m f in
@@ -242,10 +247,10 @@ module _ (life : Life) (lanes : List (List ℕ × List ℕ)) (handed : AreHanded
       let (x, e, k) = handed.there_are l i in
       ap (option_map (λ (y : Lane). y.kind)) e ∙ ap (λ (m : List ℕ × List ℕ). Some m.1) (sym k)
 
-  pub named_there : (n k : List ℕ) → named_in lanes n ≡ Some k → (lanes_of life.lanes).kind n ≡ Some k
+  pub named_there : (n k : List ℕ) → lane_types lanes n ≡ Some k → (lanes_of life.lanes).kind n ≡ Some k
   named_there n k e = let (l, i, x, y) = named_found lanes n k e in ap (lanes_of life.lanes).kind x ∙ is_there l i ∙ ap Some y
 
-  pub named_of : (l : List ℕ × List ℕ) → In l lanes → named_in lanes l.0 ≡ Some l.1
+  pub named_of : (l : List ℕ × List ℕ) → In l lanes → lane_types lanes l.0 ≡ Some l.1
   named_of = names_one lanes (one_id (λ (n : List ℕ × List ℕ). n.0) lanes handed.once)
 
 kind_for : (r : Request) (k : List ℕ) → IsKindOf r k → IsKindFor r k
@@ -256,21 +261,21 @@ opened_keeps schemas life epoch lanes end may h =
     let e : Entry = Entry.Opened epoch lanes in
     let name_of : (l : List ℕ × List ℕ) → In l lanes → is_lane_name l.0 ≡ true =
     λ l i. ((h.agrees.tied).ties).lane_names l.0 (l.1, is_there life lanes may.2 l i) in
-    let homes : (i : List ℕ) (r : Thing) → role_in (world_of life).stacks i ≡ Resource r → named_in lanes (lane_of i) ≡ Some r.kind = λ i r k.
+    let homes : (i : List ℕ) (r : Thing) → role_in (world_of life).stacks i ≡ Resource r → lane_types lanes (lane_of i) ≡ Some r.kind = λ i r k.
     let f = role_found_in (world_of life).stacks i r h.orderly.own.names k in
     let (j, ih) = held_stands i f.stack f.held f.found in
     let (l, il, of, kd) = (may.1.2 r.stack f.stack f.stands).0 f.held j in
     let at : lane_of i ≡ l.0 = ap lane_of ih ∙ one_lane l.0 (f.held).physical (name_of l il) of in
-    ap (named_in lanes) at ∙ named_of life lanes may.2 l il ∙ ap Some (kd ∙ ap (λ (t : Thing). t.kind) f.same) in
-    let open_homes : (t : ℕ) (o : Open) → open_in (world_of life).stacks t ≡ Some o → (k : List ℕ) × (named_in lanes o.lane ≡ Some k) × IsKindFor o.request k = λ t o k.
+    ap (lane_types lanes) at ∙ named_of life lanes may.2 l il ∙ ap Some (kd ∙ ap (λ (t : Thing). t.kind) f.same) in
+    let open_homes : (t : ℕ) (o : Open) → open_in (world_of life).stacks t ≡ Some o → (k : List ℕ) × (lane_types lanes o.lane ≡ Some k) × IsKindFor o.request k = λ t o k.
     let f = open_found_in (world_of life).stacks t o h.orderly.own.names k in
     let (l, il, fit) = (may.1.2 o.stack f.stack f.stands).1 f.pending (found_one _ _ f.pending f.found).0 in
     let at = fit.0 in
     let kd = fit.1 in
-    (l.1, ap (named_in lanes) (ap (λ (v : Open). v.lane) (sym f.same) ∙ sym at) ∙ named_of life lanes may.2 l il, subst (λ (v : Open). IsKindFor v.request l.1) f.same (kind_for (f.pending).request l.1 kd)) in
-    let agreed : Agree (account_of (life.entries ++ e ∷ []) (world_after (world_of life) (Entry.Opened epoch lanes))) (held_by life) [] =
-    subst (λ b. Agree b (held_by life) []) (sym (opening_moves life.entries (world_of life) epoch lanes may.1.1))
-    (opening_keeps (told_in life) (held_by life) (named_in lanes) (resting_in (world_after (world_of life) (Entry.Opened epoch lanes)).stacks) h.agrees.tied (record { handed = named_there life lanes may.2; homes = homes; open_homes = open_homes })) in
+    (l.1, ap (lane_types lanes) (ap (λ (v : Open). v.lane) (sym f.same) ∙ sym at) ∙ named_of life lanes may.2 l il, subst (λ (v : Open). IsKindFor v.request l.1) f.same (kind_for (f.pending).request l.1 kd)) in
+    let agreed : Agrees (account_of (life.entries ++ e ∷ []) (world_after (world_of life) (Entry.Opened epoch lanes))) (held_by life) [] =
+    subst (λ b. Agrees b (held_by life) []) (sym (opening_moves life.entries (world_of life) epoch lanes may.1.1))
+    (opening_keeps (told_in life) (held_by life) (lane_types lanes) (resting_in (world_after (world_of life) (Entry.Opened epoch lanes)).stacks) h.agrees.tied (record { handed = named_there life lanes may.2; homes = homes; open_homes = open_homes })) in
     let apart : AreApart (world_after (world_of life) (Entry.Opened epoch lanes)) =
     stay_apart (world_of life) (Entry.Opened epoch lanes) h.orderly.apart tt in
     let orderly : IsOrderly (world_after (world_of life) (Entry.Opened epoch lanes)) = record {
@@ -291,20 +296,20 @@ more_leases (k ∷ ls) l = ap (λ xs. lease_of k ∷ xs) (more_leases ls l)
 
 -- the lanes of the last opening, as the account names them
 module _ (x : World) (once : LanesOnce x) where
-  names_lane : (l : List ℕ × List ℕ) → In l x.lanes → named_in x.lanes l.0 ≡ Some l.1
+  names_lane : (l : List ℕ × List ℕ) → In l x.lanes → lane_types x.lanes l.0 ≡ Some l.1
   names_lane = names_one x.lanes once
 
-  by_name : (lane : List ℕ) → list_any (λ (l : List ℕ × List ℕ). bytes_eq lane l.0) x.lanes ≡ true → (k : List ℕ) × (named_in x.lanes lane ≡ Some k)
+  by_name : (lane : List ℕ) → list_any (λ (l : List ℕ × List ℕ). bytes_eq lane l.0) x.lanes ≡ true → (k : List ℕ) × (lane_types x.lanes lane ≡ Some k)
   by_name lane h =
       let (l, i, t) = in_any (λ (l : List ℕ × List ℕ). bytes_eq lane l.0) x.lanes h in
-      (l.1, ap (named_in x.lanes) (bytes_same lane l.0 t) ∙ names_lane l i)
+      (l.1, ap (lane_types x.lanes) (bytes_same lane l.0 t) ∙ names_lane l i)
 
-  at_home : (lane : List ℕ) (r : Request) → FitsLane x lane r → (k : List ℕ) × (named_in x.lanes lane ≡ Some k) × IsKindFor r k
+  at_home : (lane : List ℕ) (r : Request) → FitsLane x lane r → (k : List ℕ) × (lane_types x.lanes lane ≡ Some k) × IsKindFor r k
   at_home lane (Request.Create k props) h =
       let (l, i, t) = in_any (is_lane_of lane k) x.lanes h in
       let named = first_so (bytes_eq lane l.0) (bytes_eq k l.1) t in
       let kind = second_so (bytes_eq lane l.0) (bytes_eq k l.1) t in
-      (l.1, ap (named_in x.lanes) (bytes_same lane l.0 named) ∙ names_lane l i, sym (bytes_same k l.1 kind))
+      (l.1, ap (lane_types x.lanes) (bytes_same lane l.0 named) ∙ names_lane l i, sym (bytes_same k l.1 kind))
   at_home lane _ h = let (k, e) = by_name lane h.1 in (k, e, tt)
 
   of_lane : (lane : List ℕ) (r : Request) (i : List ℕ) → FitsLane x lane r → named_by r ≡ Some i → IsOfLane lane i
@@ -316,7 +321,7 @@ NamesOwn x number path r =
     (name : List ℕ) (s : StackState) (i : List ℕ) → stack_of_operation number x ≡ Some (name, s) → named_by r ≡ Some i → (h : Held) × (held_in i s ≡ Some h) × (h.path ≡ path)
 
 pub intent_keeps_in : (schemas : List Schema) (life : Life) (number token : ℕ) (lane path : List ℕ) (r : Request) (end : End) → NamesOwn (world_of life) number path r
-    → MayHappen schemas life (Grant (Entry.Intent number token lane path r) end) → IsSound life → IsSound (life_after life (Grant (Entry.Intent number token lane path r) end))
+    → Happens schemas life (Grant (Entry.Intent number token lane path r) end) → IsSound life → IsSound (life_after life (Grant (Entry.Intent number token lane path r) end))
 intent_keeps_in schemas life number token lane path r end names (running, granting, (name, s, stage, found, at_stage, may)) h =
     let x : World = fold_of empty_world life.entries in
     let e : Entry = Entry.Intent number token lane path r in
@@ -334,7 +339,7 @@ intent_keeps_in schemas life number token lane path r end names (running, granti
     let j : In f.pending s.tokens = subst (λ (t : StackState). In f.pending t.tokens) same (found_one (has_token t) (f.stack).tokens f.pending f.found).0 in
     true≢false (sym (any_of (λ (p : Pending). bytes_eq path p.path) s.tokens f.pending j (same_bytes path (f.pending).path (sym q ∙ ap (λ (u : Open). u.path) (sym f.same))))
     ∙ not-true (list_any (λ (p : Pending). bytes_eq path p.path) s.tokens) may.free) in
-    let may_intend : MayIntend (told_in life) o = record {
+    let may_intend : MayBeWritten (told_in life) o = record {
       free = free;
       named = λ i n. let (q, k, l) = names name s i found n in (
         thing_of name q,
@@ -348,10 +353,10 @@ intent_keeps_in schemas life number token lane path r end names (running, granti
     } in
     let resting : (told_in life).resting name ≡ false =
     ap (λ z. option_map_or is_at_rest z false) stands ∙ ap (λ b. not b && is_opened_since s) (is_working number x name s found) in
-    let both : Agree (intended o (told_in life)) (held_by life) (map lease_of life.leases) × ((told_in life).resting name ≡ false → Agree (intended o (told_in life)) (held_by life) (granted ((told_in life).last + 1) lane r (map lease_of life.leases))) =
+    let both : Agrees (intended o (told_in life)) (held_by life) (map lease_of life.leases) × ((told_in life).resting name ≡ false → Agrees (intended o (told_in life)) (held_by life) (leases_granted ((told_in life).last + 1) lane r (map lease_of life.leases))) =
     intent_keeps (told_in life) (held_by life) (map lease_of life.leases) o h.agrees may_intend in
-    let there_now : (ls : List Lease) → Agree (intended o (told_in life)) (held_by life) ls → Agree (account_of (life.entries ++ e ∷ []) (fold_of empty_world (life.entries ++ e ∷ []))) (held_by life) ls =
-    λ ls g. agrees_more life e ls (subst (λ b. Agree b (held_by life) ls) (sym (intent_moves life.entries x name s number token lane path r h.orderly.own found may.next (h.agrees.tied).books)) g) in
+    let there_now : (ls : List CallOut) → Agrees (intended o (told_in life)) (held_by life) ls → Agrees (account_of (life.entries ++ e ∷ []) (fold_of empty_world (life.entries ++ e ∷ []))) (held_by life) ls =
+    λ ls g. agrees_more life e ls (subst (λ b. Agrees b (held_by life) ls) (sym (intent_moves life.entries x name s number token lane path r h.orderly.own found may.next (h.agrees.tied).books)) g) in
     let none : open_in x.stacks token ≡ None = ap (open_in x.stacks) may.next ∙ none_open life.entries x (h.agrees.tied).books in
     let none_here : find (has_token token) s.tokens ≡ None =
     map_none (open_as name) (find (has_token token) s.tokens) (open_none x.stacks (changed_by (x.place + 1) (Entry.Intent number token lane path r) x).stacks name s s' at.one token none).1 in
@@ -361,7 +366,7 @@ intent_keeps_in schemas life number token lane path r end names (running, granti
     elim end as (λ d. IsSound (life_after life (Grant (Entry.Intent number token lane path r) d))) [
       | Whole ↦ record {
         agrees = there_now (map lease_of (life.leases ++ lease ∷ []))
-            (subst (λ ls. Agree (intended o (told_in life)) (held_by life) ls) (ap (λ t. granted t lane r (map lease_of life.leases)) (sym may.next) ∙ sym (more_leases life.leases lease)) (both.1 resting));
+            (subst (λ ls. Agrees (intended o (told_in life)) (held_by life) ls) (ap (λ t. leases_granted t lane r (map lease_of life.leases)) (sym may.next) ∙ sym (more_leases life.leases lease)) (both.1 resting));
         orderly = orderly_more life e orderly;
       }
       | BrokenWith ↦ record { agrees = there_now (map lease_of life.leases) both.0; orderly = orderly_more life e orderly }
@@ -369,7 +374,7 @@ intent_keeps_in schemas life number token lane path r end names (running, granti
     ]
 
 module _ (schemas : List Schema) (life : Life) (token : ℕ) (h : IsSound life) (lease : Granted) (found : lease_at token life ≡ Some lease) where
-  abbrev ls : List Lease
+  abbrev ls : List CallOut
   ls = map lease_of life.leases
 
   mine : (token ≡ lease.token) × InLane (lease_of lease) ls
@@ -377,15 +382,15 @@ module _ (schemas : List Schema) (life : Life) (token : ℕ) (h : IsSound life) 
 
   -- what the entry leaves: the lease is back
   pub record IsBack (e : Entry) : Type 0 where
-    pub agrees : Agree (account_of (life.entries ++ e ∷ []) (world_after (world_of life) e)) (held_by life) (returned token ls)
+    pub agrees : Agrees (account_of (life.entries ++ e ∷ []) (world_after (world_of life) e)) (held_by life) (returned token ls)
     pub orderly : IsOrderly (world_after (world_of life) e)
 
   -- the entry is there, or not
   settled_life : (e : Entry) → IsBack e → (end : End) → IsSound (life_after life (Settle token e end))
   settled_life e g BrokenWithout =
-      record { agrees = subst (Agree (told_in life) (held_by life)) (sym (returned_same token life.leases)) (return_keeps (told_in life) (held_by life) ls token h.agrees); orderly = h.orderly }
+      record { agrees = subst (Agrees (told_in life) (held_by life)) (sym (returned_same token life.leases)) (return_keeps (told_in life) (held_by life) ls token h.agrees); orderly = h.orderly }
   settled_life e g _ = record {
-    agrees = subst (Agree (account_of (life.entries ++ e ∷ []) (fold_of empty_world (life.entries ++ e ∷ []))) (held_by life)) (sym (returned_same token life.leases)) (agrees_more life e (returned token ls) g.agrees);
+    agrees = subst (Agrees (account_of (life.entries ++ e ∷ []) (fold_of empty_world (life.entries ++ e ∷ []))) (held_by life)) (sym (returned_same token life.leases)) (agrees_more life e (returned token ls) g.agrees);
     orderly = orderly_more life e g.orderly;
   }
 
@@ -396,7 +401,7 @@ module _ (schemas : List Schema) (life : Life) (token : ℕ) (h : IsSound life) 
       let at : IsOnOne x (changed_by (x.place + 1) (Entry.Outcome lease.number lease.token Reply.Doubt before after) x) name s s' =
       on_one (Entry.Outcome lease.number lease.token Reply.Doubt before after) x name s h.orderly.own refl at_work in
       record {
-        agrees = subst (λ c. Agree c (held_by life) (returned token ls)) (sym (doubt_moves life.entries x name s lease.number lease.token before after h.orderly.own at_work)) (return_keeps (told_in life) (held_by life) ls token h.agrees);
+        agrees = subst (λ c. Agrees c (held_by life) (returned token ls)) (sym (doubt_moves life.entries x name s lease.number lease.token before after h.orderly.own at_work)) (return_keeps (told_in life) (held_by life) ls token h.agrees);
         orderly = orderly_on x (Entry.Outcome lease.number lease.token Reply.Doubt before after) name s s' h.orderly tt at.one
             (doubt_local x.stacks name s s' (once_here x.stacks (changed_by (x.place + 1) (Entry.Outcome lease.number lease.token Reply.Doubt before after) x).stacks name s s' at.one h.orderly.own) (in_doubt (x.place + 1) lease.number lease.token before after s)) at.lanes;
       }
@@ -416,13 +421,13 @@ module _ (schemas : List Schema) (life : Life) (token : ℕ) (h : IsSound life) 
       let (fr, bk) = at.unshared.tokens lease.token p pending in
       let open_ = open_own x.stacks z.stacks name s sf at.one lease.token o fr (ap (option_map (open_as name)) pending) in
       let (r, en, ry) = (h.agrees.leased).replies (lease_of lease) y mine.1 k in
-      let fit = ((((h.agrees.leased).out (lease_of lease) mine.1).own).written (called o) (((h.agrees.tied).books).calls lease.token o open_)).0 in
-      let is : IsSettled (told_in life) (held_by life) lease.token o r = (open_, subst (λ n. entry_in (held_by life) n lease.token ≡ Some r) (sym fit) en) in
+      let fit = ((((h.agrees.leased).out (lease_of lease) mine.1).own).written (called_of o) (((h.agrees.tied).books).calls lease.token o open_)).0 in
+      let is : IsSettledCall (told_in life) (held_by life) lease.token o r = (open_, subst (λ n. settled_under (held_by life) n lease.token ≡ Some r) (sym fit) en) in
       let good = g ∙ ap Some (sym ry) in
       let moved = outcome_moves life.entries x (held_by life) name s p r lease.number lease.token answer_ before after h.orderly.own at_work pending good h.agrees.tied is in
       let kept = answer_keeps (told_in life) (held_by life) ls (lease_of lease) o y h.agrees mine.1 k open_ in
       record {
-        agrees = subst (λ c. Agree c (held_by life) (returned token ls)) (sym (moved ∙ ap (λ v. answered lease.token o v (told_in life)) ry)) (subst (λ t. Agree (answered lease.token o y (told_in life)) (held_by life) (returned t ls)) (sym mine.0) kept);
+        agrees = subst (λ c. Agrees c (held_by life) (returned token ls)) (sym (moved ∙ ap (λ v. answered lease.token o v (told_in life)) ry)) (subst (λ t. Agrees (answered lease.token o y (told_in life)) (held_by life) (returned t ls)) (sym mine.0) kept);
         orderly = orderly_on x (Entry.Outcome lease.number lease.token answer_ before after) name s sf h.orderly tt at.one
             (outcome_local life.entries x z (held_by life) name s p r (x.place + 1) lease.number lease.token answer_ before after h.orderly.own good h.agrees.tied is at
             (differ_left s _ p.path p.request answer_ (answered_left (is_restore lease.token s) p.path p.request answer_ s))) at.lanes;
@@ -443,7 +448,7 @@ settle_keeps schemas life token e end may h = settled_life schemas life token h 
 -- A call that is made again keeps what holds at each moment of a life.
 
 -- the lease of an open call that is made again is that of the stack on which it is open
-again_behind : (t : ℕ) (front back : Named) → open_in front t ≡ None → first_again t (front ++ back) ≡ first_again t back
+again_behind : (t : ℕ) (front back : StacksByName) → open_in front t ≡ None → first_again t (front ++ back) ≡ first_again t back
 again_behind t [] back n = refl
 again_behind t (s ∷ ss) back n =
     let (here_none, rest_none) = or_none (open_on s.0 s.1 t) (open_in ss t) n in
@@ -463,10 +468,10 @@ again_is x name s at t p found = by at.one.was where
 pub may_again : (schemas : List Schema) (name : List ℕ) (x : World) (out : List ℕ) (s : StackState) (stage : Stage) (p : Pending) → MayRepeat schemas name x out s stage p → In p s.tokens × (is_in_flight out p.token ≡ false)
 may_again schemas name x out s stage p m = grind (arith, not-true)
 
-not_out : (token : ℕ) (ls : List Granted) → is_in_flight (map (λ (l : Granted). l.token) ls) token ≡ false → (l : Lease) → InLane l (map lease_of ls) → l.token ≢ token
+not_out : (token : ℕ) (ls : List Granted) → is_in_flight (map (λ (l : Granted). l.token) ls) token ≡ false → (l : CallOut) → InLane l (map lease_of ls) → l.token ≢ token
 not_out token [] h l i = elim i [ ]
 not_out token (k ∷ ls) h l i = elim (in_cons l (lease_of k) (map lease_of ls) i) [
-  | inl m ↦ (λ z. let e : token ≡ k.token = sym z ∙ ap (λ (q : Lease). q.token) m in absurd (grind arith))
+  | inl m ↦ (λ z. let e : token ≡ k.token = sym z ∙ ap (λ (q : CallOut). q.token) m in absurd (grind arith))
   | inr m ↦ not_out token ls (grind arith) l m
 ]
 
@@ -479,17 +484,17 @@ repeat_keeps schemas life token (running, name, s, stage, p, m) h =
     let at : IsOnOne x x name s s = stands_on x name s h.orderly.own m.stands in
     let open_ : open_in x.stacks token ≡ Some o =
     open_own x.stacks x.stacks name s s at.one token o (at.unshared.tokens token q pending).0 (ap (option_map (open_as name)) pending) in
-    let written : (told_in life).call token ≡ Some (called o) = (((h.agrees).tied).books).calls token o open_ in
+    let written : (told_in life).call token ≡ Some (called_of o) = (((h.agrees).tied).books).calls token o open_ in
     let out : IsOut (told_in life) q.lane token q.request = record {
       own = record {
-        number = (((h.agrees).tied).books).numbers token (called o) written;
-        written = λ c e. let same : called o ≡ c = cc in (ap (λ (q : Called). q.lane) (sym same), ap (λ (q : Called). q.request) (sym same));
+        number = (((h.agrees).tied).books).numbers token (called_of o) written;
+        written = λ c e. let same : called_of o ≡ c = cc in (ap (λ (q : Called). q.lane) (sym same), ap (λ (q : Called). q.request) (sym same));
       };
       accounted = inl (o, open_);
       going = λ v e. let same : o ≡ v = cc in
           ap (λ (q : Open). resting_in x.stacks q.stack) (sym same) ∙ ap (λ z. option_map_or is_at_rest z false) m.stands ∙ ap (λ c. not c && is_opened_since s) (ap is_some m.at_stage);
     } in
-    let ls : List Lease = map lease_of life.leases in
+    let ls : List CallOut = map lease_of life.leases in
     let lease : Granted = lease_for s.operation q in
     let ends : ls ++ record { token = token; lane = q.lane; request = q.request; reply = None } ∷ [] ≡ map lease_of (life.leases ++ lease ∷ []) =
     ap (λ t. ls ++ record { token = t; lane = q.lane; request = q.request; reply = None } ∷ []) (token_of token s.tokens q pending) ∙ sym (more_leases life.leases lease) in

@@ -1,11 +1,12 @@
 -- What one more entry tells of calls and answers, and of all stacks, where one of them changes.
 use Rattle.std.proofs.Common.{◌≡◌, ℕ, true, List, [], ◌∷◌, ◌++◌, Option, Some, None, refl, ap, ◌+◌, false, Bool, sym, subst, ◌∙◌, true≢false, ◌||◌, ◌==◌, ◌≢◌, ◌⊎◌, inl, inr, find, unwrap_or, map, filter_map, arith}
-use Rattle.cf_core.proofs.Words.{Account, AreOwn, AreUnshared, Begun, Books, Entry, Export, Held, In, IntentMoves, IsLocal, IsOnce, Named, OneIsPut, OneStack, Open, OpeningMoves, OwnKept, Pending, Resource, Response, Role, StackState, Stood, Stranger, Thing, World, account_of, ascends, bytes_eq, call_in, called, changed_by, effect_at, effect_of, for_good, has_leftover, has_token, heard, held_in, here, is_at_rest, is_going, is_in_progress, is_opening, known_stack, lost_in, lost_on, named_in, new, no_stack, open_as, open_in, open_on, opening_heard, option_map_or, option_or, put, replies_in, reply_in, resting_in, role_found, role_in, role_on, role_or, second_so, stack_at, stack_for, stack_of_operation, there as there_, told_among, told_in, value_at}
+use Rattle.cf_core.proofs.Words.{Account, AreOwn, AreUnshared, Begun, Books, Entry, Export, Held, In, IntentMoves, IsLocal, IsOnce, StacksByName, OneIsPut, OneStack, Open, OpeningMoves, OwnKept, Pending, Resource, Response, Role, StackState, Stood, Stranger, Thing, World, account_of, ascends, bytes_eq, call_in, called_of, changed_by, effect_at, effect_of, for_good, has_leftover, has_token, heard, held_in, here, is_at_rest, is_going, is_in_progress, is_opening, known_stack, lost_in, lost_on, lane_types, new, no_stack, open_as, open_in, open_on, opening_heard, option_map_or, option_or, put, replies_in, reply_in, resting_in, role_found, role_in, role_on, role_or, second_so, stack_at, stack_for, stack_of_operation, there as there_, told_among, told_in, value_at}
 use Rattle.cf_core.proofs.Lemmas.{at_other, at_same, bytes_or, filter_map-append, find-append, found_passes, found_stands, if_other, if_same, in_back, in_cons, in_either, in_front, list_any-append, number_or, tail_ascends, value_below}
 use Rattle.cf_agree.proofs.Words.{bytes_same, same_bytes}
 use Rattle.cf_core.specs.OneStack.{there}
 use Rattle.cf_effect.proofs.Closed.{any_found}
-use Rattle.cf_plan.specs.Agrees.{call_at, written_in}
+use Rattle.cf_plan.specs.Lanes.{written_in}
+use Rattle.cf_plan.specs.Lanes.{call_at}
 use Rattle.std.specs.{Cmp.Lexicographic.slice_cmp, Cmp.Lexicographic.texts_ties, Ordering.match_ordering, Ordering.nat_cmp, Prelude.cond}
 use Rattle.std.specs.Option.{option_map}
 use Rattle.std.specs.declared.cmp.Ordering.TheVariants.{Less, Equal, Greater}
@@ -30,18 +31,18 @@ on_list (x ∷ ys) f g = g x ys refl
 or_assoc : (a b c : Role) → role_or (role_or a b) c ≡ role_or a (role_or b c)
 or_assoc a b c = grind arith
 
-pub role_split : (xs ys : Named) (i : List ℕ) → role_in (xs ++ ys) i ≡ role_or (role_in xs i) (role_in ys i)
+pub role_split : (xs ys : StacksByName) (i : List ℕ) → role_in (xs ++ ys) i ≡ role_or (role_in xs i) (role_in ys i)
 role_split [] ys i = refl
 role_split (x ∷ xs) ys i = cc (role_split xs ys i, or_assoc (role_on x.0 x.1 i) (role_in xs i) (role_in ys i))
 
 option_assoc : {A : Type 0} (a b c : Option A) → option_or (option_or a b) c ≡ option_or a (option_or b c)
 option_assoc a b c = grind arith
 
-pub open_split : (xs ys : Named) (t : ℕ) → open_in (xs ++ ys) t ≡ option_or (open_in xs t) (open_in ys t)
+pub open_split : (xs ys : StacksByName) (t : ℕ) → open_in (xs ++ ys) t ≡ option_or (open_in xs t) (open_in ys t)
 open_split [] ys t = refl
 open_split (x ∷ xs) ys t = cc (open_split xs ys t, option_assoc (open_on x.0 x.1 t) (open_in xs t) (open_in ys t))
 
-pub value_split : (n : List ℕ) (xs ys : Named) → value_at n (xs ++ ys) ≡ option_or (value_at n xs) (value_at n ys)
+pub value_split : (n : List ℕ) (xs ys : StacksByName) → value_at n (xs ++ ys) ≡ option_or (value_at n xs) (value_at n ys)
 value_split n [] ys = refl
 value_split n (x ∷ xs) ys = let ih = value_split n xs ys in grind arith
 
@@ -62,10 +63,10 @@ pub or_some : {A : Type 0} (a b : Option A) (x : A) → option_or a b ≡ Some x
 or_some a b x e = grind arith
 
 -- the stack of a name is the first one of that name, or is behind it
-on_it : (x : List ℕ × StackState) (xs : Named) (n : List ℕ) → (n ≡ x.0) ⊎ (value_at n xs ≢ None) → value_at n (x ∷ xs) ≢ None
+on_it : (x : List ℕ × StackState) (xs : StacksByName) (n : List ℕ) → (n ≡ x.0) ⊎ (value_at n xs ≢ None) → value_at n (x ∷ xs) ≢ None
 on_it x xs n k e = grind (arith, same_bytes)
 
-of_stack : (xs : Named) (i : List ℕ) (r : Thing) → role_in xs i ≡ Resource r → value_at r.stack xs ≢ None
+of_stack : (xs : StacksByName) (i : List ℕ) (r : Thing) → role_in xs i ≡ Resource r → value_at r.stack xs ≢ None
 of_stack [] i r e = absurd (cc)
 of_stack (x ∷ xs) i r e = on_it x xs r.stack (elim (or_resource (role_on x.0 x.1 i) (role_in xs i) r e) [
   | inl k ↦ inl (found_stack x.0 (held_in i x.1) (has_leftover i x.1.leftovers) r k)
@@ -75,7 +76,7 @@ of_stack (x ∷ xs) i r e = on_it x xs r.stack (elim (or_resource (role_on x.0 x
 of_open : (n : List ℕ) (q : Option Pending) (o : Open) → option_map (open_as n) q ≡ Some o → o.stack ≡ n
 of_open n q o e = grind arith
 
-open_stack : (xs : Named) (t : ℕ) (o : Open) → open_in xs t ≡ Some o → value_at o.stack xs ≢ None
+open_stack : (xs : StacksByName) (t : ℕ) (o : Open) → open_in xs t ≡ Some o → value_at o.stack xs ≢ None
 open_stack [] t o e = absurd (cc)
 open_stack (x ∷ xs) t o e = on_it x xs o.stack (elim (or_some (open_on x.0 x.1 t) (open_in xs t) o e) [
   | inl k ↦ inl (of_open x.0 (find (has_token t) x.1.tokens) o k)
@@ -91,12 +92,12 @@ rest_alike : (b : Bool) (v w : Option StackState) (s s' : StackState) → is_at_
     → option_map_or is_at_rest (option_or v (cond b (Some s') w)) false ≡ option_map_or is_at_rest (option_or v (cond b (Some s) w)) false
 rest_alike b v w s s' e = grind arith
 
-rest_new : (n name : List ℕ) (front back : Named) → value_at name front ≡ None → value_at name back ≡ None
+rest_new : (n name : List ℕ) (front back : StacksByName) → value_at name front ≡ None → value_at name back ≡ None
     → option_map_or is_at_rest (option_or (value_at n front) (cond (bytes_eq n name) (Some no_stack) (value_at n back))) false
     ≡ option_map_or is_at_rest (option_or (value_at n front) (value_at n back)) false
 rest_new n name front back f b = grind (arith, bytes_or, if_same, if_other)
 
-module _ (ss ss' : Named) (name : List ℕ) (s s' : StackState) (f : OneStack ss ss' name s s') where
+module _ (ss ss' : StacksByName) (name : List ℕ) (s s' : StackState) (f : OneStack ss ss' name s s') where
   role_was : (i : List ℕ) → role_in ss i ≡ role_or (role_in f.front i) (role_or (role_on name s i) (role_in f.back i))
   role_was i = grind (arith, role_split, blank_role)
 
@@ -179,7 +180,7 @@ module _ (ss ss' : Named) (name : List ℕ) (s s' : StackState) (f : OneStack ss
 
 -- A stack that is put under its name is the one that changes.
 
-one : (ss : Named) (name : List ℕ) (s s' : StackState) → ascends ss ≡ true → unwrap_or (value_at name ss) no_stack ≡ s → OneStack ss (put name s' ss) name s s'
+one : (ss : StacksByName) (name : List ℕ) (s s' : StackState) → ascends ss ≡ true → unwrap_or (value_at name ss) no_stack ≡ s → OneStack ss (put name s' ss) name s s'
 one [] name s s' h e = record { front = []; back = []; was = new refl (sym e); now = refl; before = refl; behind = refl }
 one (p ∷ ps) name s s' h e = by (slice_cmp nat_cmp name p.0) refl (λ k. one ps name s s' (tail_ascends p.0 ps h) k) where
   by : (o : Ordering) → slice_cmp nat_cmp name p.0 ≡ o → (unwrap_or (value_at name ps) no_stack ≡ s → OneStack ps (put name s' ps) name s s')
@@ -217,19 +218,19 @@ one_is_put ss name s' h = one ss name (unwrap_or (value_at name ss) no_stack) s'
 -- What no two stacks share, where one of them changes.
 
 -- what has no value under a name has no member of it
-none_else : (n : List ℕ) (x : List ℕ × StackState) (xs : Named) → value_at n (x ∷ xs) ≡ None → (n ≢ x.0) × (value_at n xs ≡ None)
+none_else : (n : List ℕ) (x : List ℕ × StackState) (xs : StacksByName) → value_at n (x ∷ xs) ≡ None → (n ≢ x.0) × (value_at n xs ≡ None)
 none_else n x xs e = grind (arith, same_bytes)
 
-pub named_not : (n : List ℕ) (xs : Named) (p : List ℕ × StackState) → value_at n xs ≡ None → In p xs → n ≢ p.0
+pub named_not : (n : List ℕ) (xs : StacksByName) (p : List ℕ × StackState) → value_at n xs ≡ None → In p xs → n ≢ p.0
 named_not n [] p e i = elim i [ ]
 named_not n (x ∷ xs) p e here = (none_else n x xs e).0
 named_not n (x ∷ xs) p e (there_ i) = named_not n xs p (none_else n x xs e).1 i
 
-all_strangers : (xs : Named) (i : List ℕ) → ((q : List ℕ × StackState) → In q xs → role_on q.0 q.1 i ≡ Stranger) → role_in xs i ≡ Stranger
+all_strangers : (xs : StacksByName) (i : List ℕ) → ((q : List ℕ × StackState) → In q xs → role_on q.0 q.1 i ≡ Stranger) → role_in xs i ≡ Stranger
 all_strangers [] i h = refl
 all_strangers (x ∷ xs) i h = cc (h x here, all_strangers xs i (λ q j. h q (there_ j)))
 
-all_closed : (xs : Named) (t : ℕ) → ((q : List ℕ × StackState) → In q xs → find (has_token t) (q.1).tokens ≡ None) → open_in xs t ≡ None
+all_closed : (xs : StacksByName) (t : ℕ) → ((q : List ℕ × StackState) → In q xs → find (has_token t) (q.1).tokens ≡ None) → open_in xs t ≡ None
 all_closed [] t h = refl
 all_closed (x ∷ xs) t h = cc (h x here, all_closed xs t (λ q j. h q (there_ j)))
 
@@ -243,7 +244,7 @@ none_held s i h k e = let z = ap (held_in i) k in absurd (cc)
 none_called : {P : Type 0} (s : StackState) (t : ℕ) (v : Pending) → s ≡ no_stack → find (has_token t) s.tokens ≡ Some v → P
 none_called s t v k e = let z = ap (λ (q : StackState). find (has_token t) q.tokens) k in absurd (cc)
 
-module _ (ss ss' : Named) (name : List ℕ) (s s' : StackState) (f : OneStack ss ss' name s s') where
+module _ (ss ss' : StacksByName) (name : List ℕ) (s s' : StackState) (f : OneStack ss ss' name s s') where
   -- the others, and the stack itself where it is no new one
   in_ahead : (q : List ℕ × StackState) → In q f.front → In q ss
   in_ahead q i = grind (arith, in_front)
@@ -368,7 +369,7 @@ same_account a b role open_ lost call told resting named last epoch = grind arit
 abbrev pub Found : Type 0
 Found = Option (List ℕ × StackState)
 
-abbrev pub put_by : World → Entry → Found → Named
+abbrev pub put_by : World → Entry → Found → StacksByName
 put_by x e o = option_map_or (λ (s : List ℕ × StackState). put s.0 (effect_at (x.place + 1) e s.1).stack x.stacks) o x.stacks
 
 abbrev pub exports_by : World → Entry → Found → List Export
@@ -451,15 +452,15 @@ opening_moves es x epoch lanes next =
     heard : List ℕ × StackState → List ℕ × StackState
     heard = opening_heard (x.place + 1) (Entry.Opened epoch lanes)
 
-    roles : (ss : Named) (i : List ℕ) → role_in (map heard ss) i ≡ role_in ss i
+    roles : (ss : StacksByName) (i : List ℕ) → role_in (map heard ss) i ≡ role_in ss i
     roles [] i = refl
     roles (s ∷ ss) i = ap (role_or (role_on s.0 s.1 i)) (roles ss i)
 
-    opens : (ss : Named) (t : ℕ) → open_in (map heard ss) t ≡ open_in ss t
+    opens : (ss : StacksByName) (t : ℕ) → open_in (map heard ss) t ≡ open_in ss t
     opens [] t = refl
     opens (s ∷ ss) t = ap (option_or (open_on s.0 s.1 t)) (opens ss t)
 
-    lost : (ss : Named) (t : ℕ) → lost_in (map heard ss) t ≡ lost_in ss t
+    lost : (ss : StacksByName) (t : ℕ) → lost_in (map heard ss) t ≡ lost_in ss t
     lost [] t = refl
     lost (s ∷ ss) t = ap (λ b. lost_on s.1 t || b) (lost ss t)
 
@@ -470,7 +471,7 @@ not_resting s t e k = cc
 -- no call is open under the next token
 pub none_open : (es : List Entry) (x : World) → Books (account_of es x) → open_in x.stacks (x.token + 1) ≡ None
 none_open es x b = on_option (open_in x.stacks (x.token + 1)) (λ k. k)
-    (λ c k. let l = b.numbers (x.token + 1) (called c) (b.calls (x.token + 1) c k) in absurd (omega arith))
+    (λ c k. let l = b.numbers (x.token + 1) (called_of c) (b.calls (x.token + 1) c k) in absurd (omega arith))
 
 pub map_none : {A B : Type 0} (f : A → B) (q : Option A) → option_map f q ≡ None → q ≡ None
 map_none f q k = grind arith
@@ -514,9 +515,9 @@ intent_moves es x name s number token lane path r own found next b =
       | inr k ↦ open_same x.stacks y.stacks name s s' f t (cc (new_on t, at_other t token (Some p) None (λ j. k (j ∙ next)), option_end (find (has_token t) s.tokens)))
           ∙ sym (at_other t (x.token + 1) (Some o) (open_in x.stacks t) k)
     ] in
-    let calls : (t : ℕ) → call_in (es ++ e ∷ []) t ≡ cond (t == x.token + 1) (Some (called o)) (call_in es t) =
+    let calls : (t : ℕ) → call_in (es ++ e ∷ []) t ≡ cond (t == x.token + 1) (Some (called_of o)) (call_in es t) =
     λ t. grind (arith, number_or, call_more, map_none, none_called, at_other, option_end) in
     same_account _ _ (λ i. role_same x.stacks y.stacks name s s' f i (role_alike name i s s' sent.held sent.made sent.leftovers)) opens
     (λ t. lost_same x.stacks y.stacks name s s' f t (cc sent.abandoned))
     calls (λ t. told_same es e t refl) (λ n. resting_same x.stacks y.stacks name s s' f n (not_resting s s' (is_working number x name s found) sent.status))
-    (λ n. ap (λ ls. named_in ls n) at.lanes) next at.epoch
+    (λ n. ap (λ ls. lane_types ls n) at.lanes) next at.epoch

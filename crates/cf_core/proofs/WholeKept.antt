@@ -1,6 +1,6 @@
 -- What a completed stack holds is whole: it becomes so, stays so, and keeps what its status promises.
 use Rattle.std.proofs.Common.{arith, ◌≡◌, ◌⊎◌, inl, inr, ◌↔◌, ℕ, List, ◌∷◌, Bool, true, false, not, Some, refl, sym, ap, subst, ◌∙◌, true≢false, map, filter, find, ◌++◌, ◌&&◌, Option, None, ◌+◌, []}
-use Rattle.cf_core.proofs.Words.{AllDone, AreSameThings, AreSingle, BackIsRestored, BecomesBy, Begun, Cause, Clean, CleanupKeepsWhole, ClearedIsRestored, Code, CourseKeepsPromise, CreationIsWhole, DeletesSuperseded, EndsAs, Entry, Export, ExportsSame, Fits, HasFailed, Held, HeldIsFound, HeldStatus, HoldsWhole, In, IsAdvancing, IsAsItWas, IsAsSaid, IsAtRest, IsDone, IsNoBegin, IsOnCourse, Known, MayFollow, MayFollowIn, MayFollowOn, MayKeep, MayTurn, Pending, Phase, Promised, Reply, Request, RestKeepsWhole, Right, Schema, ShapeIsKept, Source, StackState, Status, StaysAtRest, UpdateEndsAtRest, UpdateIsWhole, WholeIsComplete, Why, World, all_differ, answered, at_opening, begins_from, bytes_eq, change_first, current_at, deleting, effect_at, effect_of, evaluated_at, first_so, has_physical, has_token, here, intending, is_current_at, is_made, is_on, is_opening, is_restore, is_right, is_updated, keeping, known_stack, left_in_doubt, list_any, marked, more as more_same, new_call, none as none_same, option_or, other as of_another, own as is_own, pending_of, plan_now, replied, replying, resources_of, right_at, second_so, seen_as_held, seen_now, settled_in, stack_for, stack_of_operation, stopping, turning, where_physical, whole_now, with_status, without, world_after}
+use Rattle.cf_core.proofs.Words.{AllDone, AreSameThings, AreSingle, BackIsRestored, BecomesBy, Begun, Cause, Clean, CleanupKeepsWhole, ClearedIsRestored, Code, CourseKeepsPromise, CreationIsWhole, DeletesSuperseded, EndsAs, Entry, Export, ExportsSame, Fits, HasFailed, Held, HeldIsFound, HeldStatus, HoldsWhole, In, IsAdvancing, IsAsItWas, IsAsSaid, IsHeldAtRest, IsDone, IsNoBegin, IsOnCourse, Known, MayFollow, MayFollowIn, MayFollowOn, MayKeep, MayTurn, Pending, Phase, Promised, Reply, Request, RestKeepsWhole, Right, Schema, ShapeIsKept, Source, StackState, Status, StaysAtRest, UpdateEndsAtRest, UpdateIsWhole, WholeIsComplete, Why, World, all_differ, answered, at_opening, begins_from, bytes_eq, change_first, current_at, deleting, effect_at, effect_of, evaluated_at, first_so, has_physical, has_token, here, intending, is_current_at, is_made, is_on, is_opening, is_restore, is_right, is_updated, keeping, known_stack, left_in_doubt, list_any, marked, more as more_same, new_call, none as none_same, option_or, other as of_another, own as is_own, pending_of, plan_now, replied, replying, resources_of, right_at, second_so, seen_as_held, seen_now, settled_in, stack_for, stack_of_operation, stopping, turning, where_physical, whole_now, with_status, without, world_after}
 use Rattle.cf_core.proofs.Lemmas.{bytes_same, either_way, find-append, found_one, in_changed, in_filter, in_front, in_kept, in_map, none_false, none_first, not_so, one_id, own_framed, same_bytes, some_is}
 use Rattle.cf_core.proofs.{BackLists.is_of, BackLists.own_front, BackLists.was_of, TidyLists.from_changed, TidyLists.to_changed}
 use Rattle.cf_core.proofs.{FitKept.after_exports, Moving.beginning_name, Moving.in_stage, Statuses.intended_way, Statuses.kept_way}
@@ -139,7 +139,7 @@ creation_is_whole schemas x out number failed name s t source w differs a shape 
     let at = ap (λ ms. option_or (current_at m.one.path ms) (current_at m.one.path u.held)) (sym made_same) ∙ ap (λ o. option_or o (current_at m.one.path u.held)) (a.single_made m.one j) in
     (whole_left u source f).single r i
     (ap (λ (z : Held). z.superseded) (sym m.same) ∙ stays_current u source f m.one at (a.made m.one j).ready.0) in
-    subst (λ (v : StackState). HoldsWhole name y v × IsAtRest v) to_it.1 (whole_so, record { none_open = quiet; none_made = refl; single = single })
+    subst (λ (v : StackState). HoldsWhole name y v × IsHeldAtRest v) to_it.1 (whole_so, record { none_open = quiet; none_made = refl; single = single })
 
 -- What a stack that is whole may lose or change of what it holds, and what an entry leaves of a stack's exports.
 

@@ -16,7 +16,7 @@ use Rattle.cf_effect.specs.World.{StackState, World}
 use Rattle.cf_effect.specs.Status.{is_in_progress}
 use Rattle.cf_effect.specs.Words.{has_physical, has_token, unknown_id}
 use Rattle.cf_effect.specs.Operation.{Response, replies_in}
-use Rattle.cf_plan.specs.Agrees.{call_at}
+use Rattle.cf_plan.specs.Lanes.{call_at}
 use Rattle.cf_plan.specs.Follow.{is_opened_since}
 use Rattle.cf_plan.specs.Lanes.{Lane, lane_at}
 use Rattle.cf_agree.specs.Lanes.{Lanes, no_lane}
@@ -24,8 +24,8 @@ use Rattle.cf_agree.specs.Account.{Thing, Role, Called, Open, Account}
 use Rattle.cf_agree.specs.Account.Role.{Stranger, Resource, Leftover}
 
 -- the stacks, by name
-abbrev pub Named : Type 0
-Named = List (List ℕ × StackState)
+abbrev pub StacksByName : Type 0
+StacksByName = List (List ℕ × StackState)
 
 -- what an id is to one stack, and to the stacks: the first that knows it tells
 abbrev pub thing_of : List ℕ → Held → Thing
@@ -50,7 +50,7 @@ role_or Stranger r = r
 role_or (Resource t) r = Resource t
 role_or Leftover r = Leftover
 
-abbrev pub role_in : Named → List ℕ → Role
+abbrev pub role_in : StacksByName → List ℕ → Role
 role_in [] i = Stranger
 role_in (s ∷ ss) i = role_or (role_on s.0 s.1 i) (role_in ss i)
 
@@ -61,7 +61,7 @@ open_as name p = record { stack = name; path = p.path; lane = p.lane; request = 
 abbrev pub open_on : List ℕ → StackState → ℕ → Option Open
 open_on name s t = option_map (open_as name) (find (has_token t) s.tokens)
 
-abbrev pub open_in : Named → ℕ → Option Open
+abbrev pub open_in : StacksByName → ℕ → Option Open
 open_in [] t = None
 open_in (s ∷ ss) t = option_or (open_on s.0 s.1 t) (open_in ss t)
 
@@ -69,7 +69,7 @@ open_in (s ∷ ss) t = option_or (open_on s.0 s.1 t) (open_in ss t)
 abbrev pub lost_on : StackState → ℕ → Bool
 lost_on s t = list_any (λ g. t == g.token) s.abandoned
 
-abbrev pub lost_in : Named → ℕ → Bool
+abbrev pub lost_in : StacksByName → ℕ → Bool
 lost_in ss t = list_any (λ s. lost_on s.1 t) ss
 
 -- the call and the answer for good of a token
@@ -95,12 +95,12 @@ told_in es t = told_among (replies_in es) t
 abbrev pub is_at_rest : StackState → Bool
 is_at_rest s = not (is_in_progress s.status) && is_opened_since s
 
-abbrev pub resting_in : Named → List ℕ → Bool
+abbrev pub resting_in : StacksByName → List ℕ → Bool
 resting_in ss name = option_map_or is_at_rest (value_at name ss) false
 
 -- the types of the lanes that an opening names
-abbrev pub named_in : List (List ℕ × List ℕ) → List ℕ → Option (List ℕ)
-named_in lanes n = option_map (λ l. l.1) (find (λ l. bytes_eq n l.0) lanes)
+abbrev pub lane_types : List (List ℕ × List ℕ) → List ℕ → Option (List ℕ)
+lane_types lanes n = option_map (λ l. l.1) (find (λ l. bytes_eq n l.0) lanes)
 
 abbrev pub account_of : List Entry → World → Account
 account_of es x = record {
@@ -110,7 +110,7 @@ account_of es x = record {
   call = call_in es;
   told = told_in es;
   resting = resting_in x.stacks;
-  named = named_in x.lanes;
+  named = lane_types x.lanes;
   last = x.token;
   epoch = x.epoch;
 }

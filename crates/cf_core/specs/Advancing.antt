@@ -19,7 +19,8 @@ use Rattle.cf_effect.specs.Calls.{was_updated}
 use Rattle.cf_effect.specs.End.{seen_now}
 use Rattle.cf_effect.specs.Status.{goes_forward}
 use Rattle.cf_plan.specs.Accept.{held_as}
-use Rattle.cf_plan.specs.Forward.{In, IsDone, IsReady, Known, evaluated_at, was_updated_at}
+use Rattle.cf_plan.specs.Forward.{IsDone, IsReady, Known, evaluated_at, was_updated_at}
+use Rattle.cf_tree.specs.Lists.{In}
 
 -- the change set by which the operation was accepted, but for its outputs: of what was held before, and its source
 abbrev pub held_before_as : StackState → List HeldAt
@@ -59,11 +60,11 @@ pub record IsAsSaid (s : StackState) (r : Held) : Type 0 where
   pub ready : IsReady s r.path
 
 -- what a call asks for is what the template says of its path now
-abbrev pub IsAsked : StackState → List ℕ → Request → Type 0
-IsAsked s path (request.Create kind props) = evaluated_at path s ≡ Known kind props
-IsAsked s path (request.Update physical props) = (h : Held) × (current_at path s.held ≡ Some h) × (h.physical ≡ physical)
+abbrev pub AsksForNow : StackState → List ℕ → Request → Type 0
+AsksForNow s path (request.Create kind props) = evaluated_at path s ≡ Known kind props
+AsksForNow s path (request.Update physical props) = (h : Held) × (current_at path s.held ≡ Some h) × (h.physical ≡ physical)
     × (evaluated_at path s ≡ Known h.kind props)
-IsAsked s path (request.Delete physical) = ⊥
+AsksForNow s path (request.Delete physical) = ⊥
 
 -- its change set hid what a call may change: the id and the attributes of what a create takes the place of, the attributes of what is
 -- updated
@@ -91,7 +92,7 @@ pub record IsAdvancing (schemas : List Schema) (s : StackState) (source : Source
   -- so is what is asked for by the open calls, at paths that are ready and not done
   pub ready : (p : Pending) → In p s.tokens → IsReady s p.path
   pub not_done : (p : Pending) → In p s.tokens → ¬ IsDone s p.path
-  pub asked : (p : Pending) → In p s.tokens → IsAsked s p.path p.request
+  pub asked : (p : Pending) → In p s.tokens → AsksForNow s p.path p.request
   pub hidden : (p : Pending) → In p s.tokens → IsHidden (changes_begun schemas s source).rows s p.path p.request
   -- all its calls are of this operation and phase
   pub calls : (c : Call) → In c s.ledger → (c.number ≡ s.operation) × IsTrue (goes_forward c.status)

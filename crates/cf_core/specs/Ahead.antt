@@ -24,7 +24,7 @@ pub record HasHidden (schemas : List Schema) (x : World) (out : List ℕ) (name 
   pub rest : RestIsSeen schemas t source
 
 -- the forward phase goes on behind an entry
-pub record GoesOn (schemas : List Schema) (s t : StackState) (source : Source) : Type 0 where
+pub record StaysForward (schemas : List Schema) (s t : StackState) (source : Source) : Type 0 where
   pub status : t.status ≡ s.status
   pub before : t.before ≡ s.before
   pub advancing : IsAdvancing schemas t source
@@ -34,7 +34,7 @@ abbrev pub AdvancingGoesOn : Type 0
 AdvancingGoesOn =
     (schemas : List Schema) (x : World) (out : List ℕ) (e : Entry) (name : List ℕ) (s t : StackState) (source : Source)
     → IsWritten schemas x out e name s t → IsTrue (goes_forward s.status) → IsTrue (goes_forward t.status) → IsAdvancing schemas s source
-    → HasHidden schemas x out name s t source → GoesOn schemas s t source
+    → HasHidden schemas x out name s t source → StaysForward schemas s t source
 
 -- The same without what is shown besides: it is told by the change set, where properties stand in the order of their names and each
 -- type of the lanes has a schema.
@@ -42,14 +42,14 @@ abbrev pub AdvancingStays : Type 0
 AdvancingStays =
     (schemas : List Schema) (x : World) (out : List ℕ) (e : Entry) (name : List ℕ) (s t : StackState) (source : Source)
     → IsWritten schemas x out e name s t → IsTrue (goes_forward s.status) → IsTrue (goes_forward t.status) → IsAdvancing schemas s source
-    → IsOrdered s → AreDescribed schemas x → GoesOn schemas s t source
+    → IsOrdered s → AreDescribed schemas x → StaysForward schemas s t source
 
 -- where a creation or an update may begin no call is open and each resource is the one of its path
 abbrev pub IsFreeToBegin : StackState → Type 0
 IsFreeToBegin s = IsTrue (creates_from s.status || updates_from s.status) → (s.tokens ≡ []) × AreSingle s.held
 
 -- a stack has begun to go forward, from a status that lets it
-pub record HasBegun (schemas : List Schema) (s t : StackState) (source : Source) : Type 0 where
+pub record HasBegunForward (schemas : List Schema) (s t : StackState) (source : Source) : Type 0 where
   pub creates : t.status ≡ status.CreateInProgress → IsTrue (creates_from s.status)
   pub updates : t.status ≡ status.UpdateInProgress → IsTrue (updates_from s.status)
   pub before : t.before ≡ s.held
@@ -59,7 +59,8 @@ pub record HasBegun (schemas : List Schema) (s t : StackState) (source : Source)
 abbrev pub AdvancingBegins : Type 0
 AdvancingBegins =
     (schemas : List Schema) (x : World) (out : List ℕ) (e : Entry) (name : List ℕ) (s t : StackState) → IsWritten schemas x out e name s t
-    → is_in_progress s.status ≡ false → IsTrue (goes_forward t.status) → IsFreeToBegin s → (source : Source) × HasBegun schemas s t source
+    → is_in_progress s.status ≡ false → IsTrue (goes_forward t.status) → IsFreeToBegin s → (source : Source)
+    × HasBegunForward schemas s t source
 
 -- a stack in its course is free to begin
 abbrev pub CourseIsFree : Type 0

@@ -12,7 +12,7 @@ use Rattle.cf_effect.specs.Words.{current_at}
 use Rattle.cf_effect.specs.Calls.{call_under as call_of, was_restored, was_updated}
 use Rattle.cf_effect.specs.Operation.{named_in, was_skipped}
 use Rattle.cf_effect.specs.Status.{goes_forward}
-use Rattle.cf_plan.specs.Forward.{In}
+use Rattle.cf_tree.specs.Lists.{In}
 use Rattle.cf_core.specs.Advancing.{AreSameThings, AreSingle}
 
 -- no continued rollback has skipped a path

@@ -15,7 +15,7 @@ use Rattle.cf_effect.specs.Operation.{Response, is_of, named_paths, own_of, repl
 use Rattle.cf_effect.specs.Status.{goes_back, is_in_progress}
 use Rattle.cf_plan.specs.Between.{needs_at}
 use Rattle.cf_plan.specs.Follow.{failed_of, has_path, is_bad_outcome, settled_by}
-use Rattle.cf_plan.specs.Forward.{In}
+use Rattle.cf_tree.specs.Lists.{In}
 
 -- a resource needs none that needs it, directly or through others: what it needs is of a lower rank
 pub record AreRanked (hs : List Held) : Type 0 where
@@ -29,15 +29,15 @@ abbrev pub answers_of : StackState → List Response
 answers_of s = replies_in (own_of s)
 
 -- the call of a token among rows; of some answers the last at a path, and whether it is a bad one
-abbrev pub call_in : ℕ → List Call → Option Call
-call_in token rows = find (is_call token) rows
+abbrev pub row_in : ℕ → List Call → Option Call
+row_in token rows = find (is_call token) rows
 
 abbrev pub last_in : List ℕ → List Call → List Response → Option Response
-last_in path rows replies = find (λ r. has_path path (call_in r.token rows)) (reverse replies)
+last_in path rows replies = find (λ r. has_path path (row_in r.token rows)) (reverse replies)
 
 abbrev pub is_bad_in : List Call → Option Response → Bool
 is_bad_in rows None = false
-is_bad_in rows (Some r) = is_bad_outcome (call_in r.token rows) r.answer
+is_bad_in rows (Some r) = is_bad_outcome (row_in r.token rows) r.answer
 
 abbrev pub is_bad_at : List ℕ → List Call → List Response → Bool
 is_bad_at path rows replies = is_bad_in rows (last_in path rows replies)
@@ -57,7 +57,7 @@ IsOpen token ps = (p : Pending) × In p ps × (p.token ≡ token)
 -- of a call that has its row, and a count rose where it is no success; what is said to be refused or in doubt was answered so;
 -- an open call that has an answer: the last one at its path is bad; a deletion of a resource that is there is open or refused.
 pub record AreBooked (number : ℕ) (rows : List Call) (replies : List Response) (tokens : List Pending) (things : List Held) : Type 0 where
-  pub called : (r : Response) → In r replies → (c : Call) × (call_in r.token rows ≡ Some c)
+  pub called : (r : Response) → In r replies → (c : Call) × (row_in r.token rows ≡ Some c)
   pub counted : (r : Response) → In r replies → is_success (settled_by r.answer) ≡ false → HasRisen r.before r.after
   pub refused : (c : Call) → In c rows → c.number ≡ number → was_refused c ≡ true → HasFailedIn replies c
   pub doubted : (c : Call) → In c rows → 0 < c.doubts → IsAnsweredIn replies c

@@ -22,8 +22,8 @@ use Rattle.cf_agree.specs.Lanes.{Lanes}
 use Rattle.cf_agree.specs.Account.{Thing, Role, Open, Account, opened, intended, answered, dropped}
 use Rattle.cf_agree.specs.Account.Role.{Resource, Leftover}
 use Rattle.cf_agree.specs.Moves.{MayDrop}
-use Rattle.cf_agree.specs.Ties.{Books, AreTied, IsSettled}
-use Rattle.cf_core.specs.AccountOf.{account_of, held_in, named_in, resting_in, open_as, for_good}
+use Rattle.cf_agree.specs.Ties.{Books, AreTied, IsSettledCall}
+use Rattle.cf_core.specs.AccountOf.{account_of, held_in, lane_types, resting_in, open_as, for_good}
 use Rattle.cf_core.specs.OneStack.{AreOwn}
 
 -- the account with one more entry
@@ -34,7 +34,7 @@ abbrev pub OpeningMoves : Type 0
 OpeningMoves =
     (es : List Entry) (x : World) (epoch : ℕ) (lanes : List (List ℕ × List ℕ)) → epoch ≡ x.epoch + 1
     → account_with (entry.Opened epoch lanes) es x
-    ≡ opened (named_in lanes) (resting_in (world_after x (entry.Opened epoch lanes)).stacks) (account_of es x)
+    ≡ opened (lane_types lanes) (resting_in (world_after x (entry.Opened epoch lanes)).stacks) (account_of es x)
 
 abbrev pub IntentMoves : Type 0
 IntentMoves =
@@ -49,7 +49,7 @@ OutcomeMoves =
     (es : List Entry) (x : World) (w : Lanes) (name : List ℕ) (s : StackState) (p : Pending) (y : Settled) (number token : ℕ)
     (answer : Reply) (before after : ℕ) → AreOwn x.stacks → stack_of_operation number x ≡ Some (name, s)
     → pending_of token s ≡ Some p → for_good answer ≡ Some y.settlement → AreTied (account_of es x) w
-    → IsSettled (account_of es x) w token (open_as name p) y
+    → IsSettledCall (account_of es x) w token (open_as name p) y
     → account_with (entry.Outcome number token answer before after) es x
     ≡ answered token (open_as name p) y.settlement (account_of es x)
 

@@ -22,14 +22,14 @@ use Rattle.cf_effect.specs.End.{seen_now}
 use Rattle.cf_effect.specs.Fold.{world_after}
 use Rattle.cf_plan.specs.Accept.{exports_in}
 use Rattle.cf_plan.specs.Ends.{IsCleared, IsComplete, IsLive, IsRestored}
-use Rattle.cf_plan.specs.Forward.{In}
+use Rattle.cf_tree.specs.Lists.{In}
 use Rattle.cf_plan.specs.Lanes.{Lane}
 use Rattle.cf_plan.specs.Promise.{Promised}
 use Rattle.cf_core.specs.Advancing.{IsAdvancing}
 use Rattle.cf_core.specs.Back.{IsBackAll}
 use Rattle.cf_core.specs.Course.{IsOnCourse}
 use Rattle.cf_core.specs.Fits.{Fits, IsWritten}
-use Rattle.cf_core.specs.Whole.{DeletesSuperseded, HoldsWhole, IsAtRest}
+use Rattle.cf_core.specs.Whole.{DeletesSuperseded, HoldsWhole, IsHeldAtRest}
 
 -- the shape over what is seen now is that over what was held before
 abbrev pub ShapeIsKept : StackState → Source → Type 0
@@ -51,7 +51,7 @@ CreationIsWhole =
     (schemas : List Schema) (x : World) (out : List ℕ) (number : ℕ) (failed : List (List ℕ)) (name : List ℕ) (s t : StackState)
     → (source : Source) → IsWritten schemas x out (entry.Done number status.CreateComplete failed) name s t → s.status ≢ t.status
     → IsAdvancing schemas s source → ShapeIsKept s source → s.before ≡ []
-    → HoldsWhole name (world_after x (entry.Done number status.CreateComplete failed)) t × IsAtRest t
+    → HoldsWhole name (world_after x (entry.Done number status.CreateComplete failed)) t × IsHeldAtRest t
 
 -- while an update cleans up, and as it ends, whatever is written leaves what its template wants
 abbrev pub CleanupKeepsWhole : Type 0
@@ -66,7 +66,7 @@ UpdateEndsAtRest =
     (schemas : List Schema) (x : World) (out : List ℕ) (number : ℕ) (failed : List (List ℕ)) (name : List ℕ) (s t : StackState)
     → IsWritten schemas x out (entry.Done number status.UpdateComplete failed) name s t → s.status ≢ t.status → HoldsWhole name x s
     → ((r : Held) → In r s.held → r.superseded ≡ false) → s.tokens ≡ []
-    → HoldsWhole name (world_after x (entry.Done number status.UpdateComplete failed)) t × IsAtRest t
+    → HoldsWhole name (world_after x (entry.Done number status.UpdateComplete failed)) t × IsHeldAtRest t
 
 -- no operation begins on the stack of this name
 abbrev pub IsNoBegin : List ℕ → Entry → Type 0
@@ -96,8 +96,8 @@ StaysAtRest =
 abbrev pub RestKeepsWhole : Type 0
 RestKeepsWhole =
     (schemas : List Schema) (x : World) (out : List ℕ) (e : Entry) (name : List ℕ) (s t : StackState) → IsWritten schemas x out e name s t
-    → stage_of s.status ≡ None → IsNoBegin name e → (h : HoldsWhole name x s) → IsAtRest s
-    → ((k : HoldsWhole name (world_after x e) t) × (k.source ≡ h.source) × (k.whole ≡ h.whole)) × IsAtRest t
+    → stage_of s.status ≡ None → IsNoBegin name e → (h : HoldsWhole name x s) → IsHeldAtRest s
+    → ((k : HoldsWhole name (world_after x e) t) × (k.source ≡ h.source) × (k.whole ≡ h.whole)) × IsHeldAtRest t
 
 -- each held resource is live under its id, with its type and, where it is sure, its properties and attributes
 abbrev pub AreLive : List Lane → StackState → Type 0
@@ -115,11 +115,11 @@ HeldIsFound =
 -- of a rolled back update, and one that holds nothing that of a rolled back creation
 abbrev pub WholeIsComplete : Type 0
 WholeIsComplete =
-    (name : List ℕ) (x : World) (s : StackState) (lanes : List Lane) → HoldsWhole name x s → IsAtRest s → AreLive lanes s
+    (name : List ℕ) (x : World) (s : StackState) (lanes : List Lane) → HoldsWhole name x s → IsHeldAtRest s → AreLive lanes s
     → IsComplete name x s lanes
 
 abbrev pub BackIsRestored : Type 0
-BackIsRestored = (x : World) (s : StackState) (lanes : List Lane) → Fits x s → IsBackAll s → IsAtRest s → AreLive lanes s
+BackIsRestored = (x : World) (s : StackState) (lanes : List Lane) → Fits x s → IsBackAll s → IsHeldAtRest s → AreLive lanes s
     → IsRestored s lanes
 
 abbrev pub ClearedIsRestored : Type 0

@@ -13,9 +13,9 @@ use Rattle.cf_effect.specs.World.{StackState, World}
 use Rattle.cf_effect.specs.Calls.{call_under as call_of, deletions_of, refusals_of}
 use Rattle.cf_plan.specs.Ends.{IsBlamed, IsCleared}
 use Rattle.cf_plan.specs.Follow.{failed_of}
-use Rattle.cf_plan.specs.Forward.{In}
+use Rattle.cf_tree.specs.Lists.{In}
 use Rattle.cf_core.specs.Advancing.{IsAdvancing}
-use Rattle.cf_core.specs.Whole.{DeletesSuperseded, HoldsWhole, IsAtRest}
+use Rattle.cf_core.specs.Whole.{DeletesSuperseded, HoldsWhole, IsHeldAtRest}
 use Rattle.cf_core.specs.Back.{DeletesMade, IsBackAll, IsGoingBack}
 use Rattle.cf_core.specs.Books.{IsBooked}
 
@@ -58,9 +58,9 @@ IsOnCourse schemas name x s status.UpdateCompleteCleanupInProgress = IsCleaning 
 IsOnCourse schemas name x s status.RollbackInProgress = IsUnmaking s
 IsOnCourse schemas name x s status.UpdateRollbackInProgress = IsGoingBack s
 IsOnCourse schemas name x s status.UpdateRollbackCompleteCleanupInProgress = IsCleaningBack s
-IsOnCourse schemas name x s status.CreateComplete = HoldsWhole name x s × IsAtRest s
-IsOnCourse schemas name x s status.UpdateComplete = HoldsWhole name x s × IsAtRest s
-IsOnCourse schemas name x s status.UpdateRollbackComplete = IsBackAll s × IsAtRest s
+IsOnCourse schemas name x s status.CreateComplete = HoldsWhole name x s × IsHeldAtRest s
+IsOnCourse schemas name x s status.UpdateComplete = HoldsWhole name x s × IsHeldAtRest s
+IsOnCourse schemas name x s status.UpdateRollbackComplete = IsBackAll s × IsHeldAtRest s
 IsOnCourse schemas name x s status.UpdateRollbackFailed = IsGoingBack s × IsBlamed s (failed_of s)
 IsOnCourse schemas name x s status.RollbackComplete = IsCleared s × (s.before ≡ [])
 IsOnCourse schemas name x s status.RollbackFailed = IsBlamed s (failed_of s)

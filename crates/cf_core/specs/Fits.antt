@@ -15,7 +15,7 @@ use Rattle.cf_effect.specs.Words.{id_named, pending_of, resources_of}
 use Rattle.cf_effect.specs.Calls.{call_under as call_of}
 use Rattle.cf_stacks.specs.Apart.{AreApart}
 use Rattle.cf_effect.specs.Fold.{effect_at, is_opening, stack_for, world_after}
-use Rattle.cf_plan.specs.Forward.{In}
+use Rattle.cf_tree.specs.Lists.{In}
 use Rattle.cf_plan.specs.Follow.{HasLanes, MayFollow}
 
 -- the row of an open call: it says what the call is, and has no answer

@@ -15,7 +15,7 @@ use Rattle.cf_effect.specs.Words.{id_named, pending_of}
 use Rattle.cf_stacks.specs.Apart.{AreApart}
 use Rattle.cf_effect.specs.Fold.{world_after}
 use Rattle.cf_plan.specs.Accept.{creates_from}
-use Rattle.cf_plan.specs.Forward.{In}
+use Rattle.cf_tree.specs.Lists.{In}
 use Rattle.cf_plan.specs.Follow.{MayFollow, updates_from}
 use Rattle.cf_core.specs.Fits.{Fits, IsNew, IsWritten}
 

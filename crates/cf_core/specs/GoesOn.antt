@@ -24,7 +24,8 @@ use Rattle.cf_effect.specs.Words.{current_at, is_update}
 use Rattle.cf_effect.specs.World.{StackState, World, stack_of_operation}
 use Rattle.cf_effect.specs.Status.{Forward, Stage, goes_forward, is_in_progress, stage_of}
 use Rattle.cf_plan.specs.Follow.{MayFollowOn, MayRepeat, MayRepeatOn, MayStep, cleaned_in}
-use Rattle.cf_plan.specs.Forward.{In, IsReady, Known, evaluated_at, plan_now, was_answered_at}
+use Rattle.cf_plan.specs.Forward.{IsReady, Known, evaluated_at, plan_now, was_answered_at}
+use Rattle.cf_tree.specs.Lists.{In}
 use Rattle.cf_core.specs.Advancing.{IsAdvancing}
 use Rattle.cf_core.specs.Course.{IsOnCourse}
 use Rattle.cf_core.specs.Fits.{Fits, IsWritten}

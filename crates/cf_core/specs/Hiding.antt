@@ -21,9 +21,10 @@ use Rattle.cf_effect.specs.Begin.{seen_in}
 use Rattle.cf_effect.specs.End.{seen_now}
 use Rattle.cf_effect.specs.Status.{Forward, goes_forward}
 use Rattle.cf_plan.specs.Follow.{MayIntend}
-use Rattle.cf_plan.specs.Forward.{In, Known, evaluated_at}
+use Rattle.cf_plan.specs.Forward.{Known, evaluated_at}
+use Rattle.cf_tree.specs.Lists.{In}
 use Rattle.cf_plan.specs.Lanes.{AreSchemas}
-use Rattle.cf_plan.specs.Life.{Event, IsStart, Life, MayHappen, life_after, world_of}
+use Rattle.cf_plan.specs.Life.{Event, IsStart, Life, Happens, life_after, world_of}
 use Rattle.cf_core.specs.Advancing.{IsAdvancing, IsHidden, changes_begun}
 use Rattle.cf_core.specs.Fits.{Fits, IsWritten}
 
@@ -37,7 +38,7 @@ StartIsDescribed = (schemas : List Schema) (life : Life) → IsStart schemas lif
 
 abbrev pub DescribedIsKept : Type 0
 DescribedIsKept =
-    (schemas : List Schema) (life : Life) (e : Event) → MayHappen schemas life e → AreSchemas schemas life.lanes
+    (schemas : List Schema) (life : Life) (e : Event) → Happens schemas life e → AreSchemas schemas life.lanes
     → AreDescribed schemas (world_of life) → AreDescribed schemas (world_of (life_after life e))
 
 -- properties stand once each in the order of their names: of each resource, and of each that an open call asks for

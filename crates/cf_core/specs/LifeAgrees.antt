@@ -8,10 +8,10 @@ use Rattle.cf_effect.specs.declared.held.Held.{Held}
 use Rattle.cf_effect.specs.World.{StackState, World, stack_at}
 use Rattle.cf_stacks.specs.Apart.{AreApart}
 use Rattle.cf_plan.specs.Ends.{IsLive}
-use Rattle.cf_plan.specs.Forward.{In}
-use Rattle.cf_plan.specs.Life.{CallEnd, Life, Event, Act, Late, Raise, Park, Close, Crash, Settle, Opened, Repeat, End, world_of, life_after, MayHappen, settled_reply, Lease as Granted}
-use Rattle.cf_agree.specs.Moves.{Lease}
-use Rattle.cf_agree.specs.Laws.{Agree}
+use Rattle.cf_tree.specs.Lists.{In}
+use Rattle.cf_plan.specs.Life.{CallEnd, Life, Event, Act, Late, Raise, Park, Close, Crash, Settle, Opened, Repeat, End, world_of, life_after, Happens, settled_reply, Lease as Granted}
+use Rattle.cf_agree.specs.Moves.{CallOut}
+use Rattle.cf_agree.specs.Laws.{Agrees}
 use Rattle.cf_core.specs.AccountOf.{account_of, lanes_of, held_in}
 use Rattle.cf_core.specs.OneStack.{AreOwn}
 
@@ -20,11 +20,11 @@ abbrev pub good_reply : Option CallEnd → Option Settlement
 good_reply None = None
 good_reply (Some r) = settled_reply r
 
-abbrev pub lease_of : Granted → Lease
+abbrev pub lease_of : Granted → CallOut
 lease_of l = record { token = l.token; lane = l.lane; request = l.request; reply = good_reply l.reply }
 
 abbrev pub AgreesIn : Life → Type 0
-AgreesIn life = Agree (account_of life.entries (world_of life)) (lanes_of life.lanes) (map lease_of life.leases)
+AgreesIn life = Agrees (account_of life.entries (world_of life)) (lanes_of life.lanes) (map lease_of life.leases)
 
 -- the lanes of the last opening have names of their own
 abbrev pub LanesOnce : World → Type 0
@@ -54,25 +54,25 @@ IsOfLanes _ = ⊥
 -- each of them keeps agreement
 abbrev pub LanesKeep : Type 0
 LanesKeep =
-    (schemas : List Schema) (life : Life) (e : Event) → IsOfLanes e → MayHappen schemas life e → AgreesIn life
+    (schemas : List Schema) (life : Life) (e : Event) → IsOfLanes e → Happens schemas life e → AgreesIn life
     → AgreesIn (life_after life e)
 
 -- an opening, whole or broken
 abbrev pub OpenedKeeps : Type 0
 OpenedKeeps =
     (schemas : List Schema) (life : Life) (epoch : ℕ) (lanes : List (List ℕ × List ℕ)) (end : End)
-    → MayHappen schemas life (Opened epoch lanes end) → IsSound life → IsSound (life_after life (Opened epoch lanes end))
+    → Happens schemas life (Opened epoch lanes end) → IsSound life → IsSound (life_after life (Opened epoch lanes end))
 
 -- an outcome that is written down, whole or broken, whichever call it is of and whatever was answered
 abbrev pub SettleKeeps : Type 0
 SettleKeeps =
-    (schemas : List Schema) (life : Life) (token : ℕ) (e : Entry) (end : End) → MayHappen schemas life (Settle token e end)
+    (schemas : List Schema) (life : Life) (token : ℕ) (e : Entry) (end : End) → Happens schemas life (Settle token e end)
     → IsSound life → IsSound (life_after life (Settle token e end))
 
 -- a call that is made again
 abbrev pub RepeatKeeps : Type 0
 RepeatKeeps =
-    (schemas : List Schema) (life : Life) (token : ℕ) → MayHappen schemas life (Repeat token) → IsSound life
+    (schemas : List Schema) (life : Life) (token : ℕ) → Happens schemas life (Repeat token) → IsSound life
     → IsSound (life_after life (Repeat token))
 
 -- Where no call of a stack is open, what it holds is live: under its id, on the lane that the id names, with its type and, where

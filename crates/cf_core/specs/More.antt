@@ -12,9 +12,9 @@ use Rattle.cf_effect.specs.declared.held.Leftover.{Leftover}
 use Rattle.cf_effect.specs.World.{StackState, World, known_stack, stack_at}
 use Rattle.cf_effect.specs.Fold.{world_after}
 use Rattle.cf_effect.specs.Words.{unknown_id}
-use Rattle.cf_plan.specs.Forward.{In}
+use Rattle.cf_tree.specs.Lists.{In}
 use Rattle.cf_plan.specs.Lanes.{Lane}
-use Rattle.cf_plan.specs.Life.{Event, IsStart, Life, MayHappen, life_after, tokens_out}
+use Rattle.cf_plan.specs.Life.{Event, IsStart, Life, Happens, life_after, tokens_out}
 use Rattle.cf_core.specs.Fits.{IsWritten}
 use Rattle.cf_core.specs.OneStack.{AreOwn, IsOnce}
 use Rattle.cf_core.specs.SoundLife.{IsSoundLife}
@@ -80,12 +80,12 @@ SettlesOnce life = (l : Lane) → In l life.lanes → all_differ ◌==◌ (map (
 -- each event keeps these, and a start has them
 abbrev pub LeasesOnceStays : Type 0
 LeasesOnceStays =
-    (schemas : List Schema) (life : Life) (event : Event) → MayHappen schemas life event → IsSoundLife schemas life → LeasesOnce life
+    (schemas : List Schema) (life : Life) (event : Event) → Happens schemas life event → IsSoundLife schemas life → LeasesOnce life
     → LeasesOnce (life_after life event)
 
 abbrev pub SettlesOnceStays : Type 0
 SettlesOnceStays =
-    (schemas : List Schema) (life : Life) (event : Event) → MayHappen schemas life event → IsSoundLife schemas life → SettlesOnce life
+    (schemas : List Schema) (life : Life) (event : Event) → Happens schemas life event → IsSoundLife schemas life → SettlesOnce life
     → SettlesOnce (life_after life event)
 
 abbrev pub StartIsOnce : Type 0

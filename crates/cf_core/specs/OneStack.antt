@@ -9,26 +9,26 @@ use Rattle.cf_effect.specs.declared.held.Held.{Held}
 use Rattle.cf_effect.specs.declared.held.Pending.{Pending}
 use Rattle.cf_effect.specs.World.{StackState, no_stack}
 use Rattle.cf_effect.specs.Words.{has_token, resources_of}
-use Rattle.cf_plan.specs.Forward.{In}
+use Rattle.cf_tree.specs.Lists.{In}
 use Rattle.cf_agree.specs.Account.Role.{Stranger}
-use Rattle.cf_core.specs.AccountOf.{Named, held_in, has_leftover, role_in, role_on, open_in}
+use Rattle.cf_core.specs.AccountOf.{StacksByName, held_in, has_leftover, role_in, role_on, open_in}
 
 -- the stack of this name stands between these, or none does, and nothing is known of it
-pub data Stood (ss front back : Named) (name : List ℕ) (s : StackState) : Type 0 where
+pub data Stood (ss front back : StacksByName) (name : List ℕ) (s : StackState) : Type 0 where
   there : ss ≡ front ++ (name, s) ∷ back → Stood ss front back name s
   new : ss ≡ front ++ back → s ≡ no_stack → Stood ss front back name s
 
 -- the stack of this name, s, becomes s'
-pub record OneStack (ss ss' : Named) (name : List ℕ) (s s' : StackState) : Type 0 where
-  pub front : Named
-  pub back : Named
+pub record OneStack (ss ss' : StacksByName) (name : List ℕ) (s s' : StackState) : Type 0 where
+  pub front : StacksByName
+  pub back : StacksByName
   pub was : Stood ss front back name s
   pub now : ss' ≡ front ++ (name, s') ∷ back
   pub before : value_at name front ≡ None
   pub behind : value_at name back ≡ None
 
 -- what one stack holds is left over nowhere, and is nothing to the others; a token that is open on it is open on no other
-pub record AreUnshared (front back : Named) (s : StackState) : Type 0 where
+pub record AreUnshared (front back : StacksByName) (s : StackState) : Type 0 where
   pub left : (i : List ℕ) (h : Held) → held_in i s ≡ Some h → has_leftover i s.leftovers ≡ false
   pub roles : (i : List ℕ) (h : Held) → held_in i s ≡ Some h → (role_in front i ≡ Stranger) × (role_in back i ≡ Stranger)
   pub tokens : (t : ℕ) (p : Pending) → find (has_token t) s.tokens ≡ Some p → (open_in front t ≡ None) × (open_in back t ≡ None)
@@ -40,7 +40,7 @@ pub record IsOnce (s : StackState) : Type 0 where
   pub tokens : all_differ ◌==◌ (map (λ p. p.token) s.tokens) ≡ true
 
 -- the stacks stand by name, and nothing is shared
-pub record AreOwn (ss : Named) : Type 0 where
+pub record AreOwn (ss : StacksByName) : Type 0 where
   pub names : ascends ss ≡ true
   pub once : (p : List ℕ × StackState) → In p ss → IsOnce p.1
   pub held :
@@ -52,7 +52,7 @@ pub record AreOwn (ss : Named) : Type 0 where
 
 -- A change of one stack that takes nothing of another: what it holds or has left over it had before, or no stack knew of it; and
 -- so with its open calls.
-pub record IsLocal (ss : Named) (name : List ℕ) (s s' : StackState) : Type 0 where
+pub record IsLocal (ss : StacksByName) (name : List ℕ) (s s' : StackState) : Type 0 where
   pub once : IsOnce s'
   pub held :
       (i : List ℕ) (h : Held) → held_in i s' ≡ Some h
@@ -68,11 +68,11 @@ pub record IsLocal (ss : Named) (name : List ℕ) (s s' : StackState) : Type 0 w
 -- it leaves the stacks their own
 abbrev pub OwnKept : Type 0
 OwnKept =
-    (ss ss' : Named) (name : List ℕ) (s s' : StackState) → OneStack ss ss' name s s' → IsLocal ss name s s' → ascends ss' ≡ true
+    (ss ss' : StacksByName) (name : List ℕ) (s s' : StackState) → OneStack ss ss' name s s' → IsLocal ss name s s' → ascends ss' ≡ true
     → AreOwn ss → AreOwn ss'
 
 -- a stack that is put under its name is the one that changes, or it is a new one
 abbrev pub OneIsPut : Type 0
 OneIsPut =
-    (ss : Named) (name : List ℕ) (s' : StackState) → ascends ss ≡ true
+    (ss : StacksByName) (name : List ℕ) (s' : StackState) → ascends ss ≡ true
     → OneStack ss (put name s' ss) name (unwrap_or (value_at name ss) no_stack) s'

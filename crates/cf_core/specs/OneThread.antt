@@ -14,13 +14,13 @@ pub data Deed : Type 0 where
   calls : (intent : Entry) (token : ℕ) (reply : CallEnd) (left : Left) (outcome : Entry) → Deed
   calls_again : (token : ℕ) (reply : CallEnd) (left : Left) (outcome : Entry) → Deed
 
-abbrev pub answered : ℕ → CallEnd → Left → Entry → List Event
-answered token reply left outcome = Act token reply left ∷ Settle token outcome Whole ∷ []
+abbrev pub call_answered : ℕ → CallEnd → Left → Entry → List Event
+call_answered token reply left outcome = Act token reply left ∷ Settle token outcome Whole ∷ []
 
 abbrev pub events_of : Deed → List Event
 events_of (writes e calls_nothing) = Grant e Whole ∷ []
-events_of (calls intent token reply left outcome) = Grant intent Whole ∷ answered token reply left outcome
-events_of (calls_again token reply left outcome) = Repeat token ∷ answered token reply left outcome
+events_of (calls intent token reply left outcome) = Grant intent Whole ∷ call_answered token reply left outcome
+events_of (calls_again token reply left outcome) = Repeat token ∷ call_answered token reply left outcome
 
 -- the fence of a lane, as its raising ends
 pub record Raising : Type 0 where
@@ -39,14 +39,14 @@ pub data Command : Type 0 where
   keeps_set : (e : Entry) → Command
   drives : (epoch : ℕ) (lanes : List (List ℕ × List ℕ)) (fences : List Raising) (begins : Option Entry) (deeds : List Deed) → Command
 
-abbrev pub begun : Option Entry → List Event
-begun None = []
-begun (Some e) = Begin e Whole ∷ []
+abbrev pub begin_events : Option Entry → List Event
+begin_events None = []
+begin_events (Some e) = Begin e Whole ∷ []
 
 abbrev pub events_in : Command → List Event
 events_in (keeps_set e) = ChangeSet e Whole ∷ []
 events_in (drives epoch lanes fences begins deeds) =
-    Opened epoch lanes Whole ∷ map raised fences ++ begun begins ++ flat_map events_of deeds ++ Close ∷ []
+    Opened epoch lanes Whole ∷ map raised fences ++ begin_events begins ++ flat_map events_of deeds ++ Close ∷ []
 
 -- the events of a run of commands
 abbrev pub events_of_run : List Command → List Event

@@ -11,11 +11,11 @@ use Rattle.cf_schema.specs.declared.described.Schema.{Schema}
 use Rattle.cf_effect.specs.declared.held.Held.{Held}
 use Rattle.cf_effect.specs.declared.held.Pending.{Pending}
 use Rattle.cf_effect.specs.World.{StackState, World}
-use Rattle.cf_plan.specs.Forward.{In}
+use Rattle.cf_tree.specs.Lists.{In}
 use Rattle.cf_core.specs.Advancing.{IsAdvancing}
 use Rattle.cf_core.specs.Back.{DeletesMade, IsBackAll, IsGoingBack, SkipsNone}
 use Rattle.cf_core.specs.Fits.{IsWritten}
-use Rattle.cf_core.specs.Whole.{IsAtRest}
+use Rattle.cf_core.specs.Whole.{IsHeldAtRest}
 
 -- an update that goes forward was not continued
 abbrev pub UpdatesSkipNone : Type 0
@@ -68,7 +68,7 @@ BackHolds = (s : StackState) → IsGoingBack s → HoldsWhatIsOpen s
 -- what it made is cleaned up, and then it is complete: at rest, where nothing made is left and no call is open
 abbrev pub IsAfterBackClean : StackState → StackState → Status → Type 0
 IsAfterBackClean s t status.UpdateRollbackCompleteCleanupInProgress = IsBackAll t
-IsAfterBackClean s t status.UpdateRollbackComplete = IsBackAll t × (s.tokens ≡ [] → s.made ≡ [] → IsAtRest t)
+IsAfterBackClean s t status.UpdateRollbackComplete = IsBackAll t × (s.tokens ≡ [] → s.made ≡ [] → IsHeldAtRest t)
 IsAfterBackClean s t state = ⊥
 
 abbrev pub BackStaysInCleanup : Type 0
@@ -79,7 +79,7 @@ BackStaysInCleanup =
 
 -- what is given back stays until the next operation begins
 abbrev pub IsAfterReturn : StackState → Status → Type 0
-IsAfterReturn t status.UpdateRollbackComplete = IsBackAll t × IsAtRest t
+IsAfterReturn t status.UpdateRollbackComplete = IsBackAll t × IsHeldAtRest t
 IsAfterReturn t status.UpdateInProgress = ⊤
 IsAfterReturn t status.DeleteInProgress = ⊤
 IsAfterReturn t state = ⊥
@@ -87,4 +87,4 @@ IsAfterReturn t state = ⊥
 abbrev pub BackStaysAtRest : Type 0
 BackStaysAtRest =
     (schemas : List Schema) (x : World) (out : List ℕ) (e : Entry) (name : List ℕ) (s t : StackState) → IsWritten schemas x out e name s t
-    → s.status ≡ status.UpdateRollbackComplete → IsBackAll s → IsAtRest s → IsAfterReturn t t.status
+    → s.status ≡ status.UpdateRollbackComplete → IsBackAll s → IsHeldAtRest s → IsAfterReturn t t.status

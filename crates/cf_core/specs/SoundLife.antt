@@ -11,14 +11,14 @@ use Rattle.cf_effect.specs.declared.held.Held.{Held}
 use Rattle.cf_effect.specs.World.{StackState, World, empty_world, known_stack, stack_at}
 use Rattle.cf_effect.specs.Words.{resources_of}
 use Rattle.cf_effect.specs.Fold.{world_after}
-use Rattle.cf_plan.specs.Forward.{In}
+use Rattle.cf_tree.specs.Lists.{In}
 use Rattle.cf_plan.specs.Follow.{IsLegal}
 use Rattle.cf_plan.specs.Lanes.{Lane, AreLanes, AreSchemas}
-use Rattle.cf_plan.specs.Life.{Life, Event, End, Opened, ChangeSet, Begin, Grant, Settle, IsGoing, IsStart, Lease, MayHappen, life_after, tokens_out, world_of}
+use Rattle.cf_plan.specs.Life.{Life, Event, End, Opened, ChangeSet, Begin, Grant, Settle, IsGoing, IsStart, Lease, Happens, life_after, tokens_out, world_of}
 use Rattle.cf_agree.specs.Base.{named_by}
 use Rattle.cf_agree.specs.Lanes.{IsThere}
 use Rattle.cf_agree.specs.Account.{Called}
-use Rattle.cf_agree.specs.Laws.{Agree}
+use Rattle.cf_agree.specs.Laws.{Agrees}
 use Rattle.cf_core.specs.AccountOf.{account_of, call_in, lanes_of, told_in}
 use Rattle.cf_core.specs.Fits.{IsWritten}
 use Rattle.cf_core.specs.Fitting.{AllFit, AreSteady}
@@ -46,7 +46,7 @@ pub record HaveOrigins (es : List Entry) (x : World) (lanes : List Lane) : Type 
 
 -- all of it, of the entries, the world that they leave, the lanes and the calls that are out
 pub record AreSound (schemas : List Schema) (es : List Entry) (x : World) (lanes : List Lane) (leases : List Lease) : Type 0 where
-  pub agrees : Agree (account_of es x) (lanes_of lanes) (map lease_of leases)
+  pub agrees : Agrees (account_of es x) (lanes_of lanes) (map lease_of leases)
   pub orderly : IsOrderly x
   pub fitted : AllFit x
   pub written : AreWritten es x
@@ -62,7 +62,7 @@ IsSoundLife schemas life = AreSound schemas life.entries (world_of life) life.la
 -- every event keeps it, where the course of each stack is as it has to be
 abbrev pub EventKeeps : Type 0
 EventKeeps =
-    (schemas : List Schema) (life : Life) (e : Event) → MayHappen schemas life e → AreSteady (world_of life) → IsSoundLife schemas life
+    (schemas : List Schema) (life : Life) (e : Event) → Happens schemas life e → AreSteady (world_of life) → IsSoundLife schemas life
     → IsSoundLife schemas (life_after life e)
 
 -- a start is so
@@ -80,7 +80,7 @@ pub data Appends (life : Life) : Event → Entry → List ℕ → Type 0 where
 -- and each entry that an event appends is written, for every stack that is there after it
 abbrev pub EventWrites : Type 0
 EventWrites =
-    (schemas : List Schema) (life : Life) (ev : Event) (e : Entry) (out : List ℕ) → Appends life ev e out → MayHappen schemas life ev
+    (schemas : List Schema) (life : Life) (ev : Event) (e : Entry) (out : List ℕ) → Appends life ev e out → Happens schemas life ev
     → AreSteady (world_of life) → IsSoundLife schemas life → (name : List ℕ) (t : StackState)
     → stack_at name (world_after (world_of life) e) ≡ Some t
     → IsWritten schemas (world_of life) out e name (known_stack name (world_of life)) t

@@ -10,8 +10,9 @@ use Rattle.cf_effect.specs.World.{StackState}
 use Rattle.cf_effect.specs.Words.{current_at, is_update, updates}
 use Rattle.cf_effect.specs.Calls.{was_updated}
 use Rattle.cf_effect.specs.Status.{goes_forward}
-use Rattle.cf_plan.specs.Forward.{In, IsDone, IsReady, was_updated_at}
-use Rattle.cf_core.specs.Advancing.{AreSameThings, AreSingle, IsAsBefore, IsAsSaid, IsAsked, IsHidden, changes_begun}
+use Rattle.cf_plan.specs.Forward.{IsDone, IsReady, was_updated_at}
+use Rattle.cf_tree.specs.Lists.{In}
+use Rattle.cf_core.specs.Advancing.{AreSameThings, AreSingle, IsAsBefore, IsAsSaid, AsksForNow, IsHidden, changes_begun}
 
 -- the same is made and held at a path, and it was updated or not as before
 pub record IsStill (s t : StackState) (path : List ℕ) : Type 0 where
@@ -30,7 +31,7 @@ pub record IsFurther (s t : StackState) (source : Source) : Type 0 where
 pub record IsOpenAhead (schemas : List Schema) (s : StackState) (source : Source) (p : Pending) : Type 0 where
   pub ready : IsReady s p.path
   pub not_done : ¬ IsDone s p.path
-  pub asked : IsAsked s p.path p.request
+  pub asked : AsksForNow s p.path p.request
   pub hidden : IsHidden (changes_begun schemas s source).rows s p.path p.request
 
 -- rows of a ledger as a stack that goes forward has them

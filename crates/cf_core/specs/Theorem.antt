@@ -4,7 +4,7 @@ use Rattle.std.specs.Prelude.{◌≡◌, ℕ, true, List, Option, Some}
 use Rattle.cf_schema.specs.declared.described.Schema.{Schema}
 use Rattle.cf_effect.specs.World.{StackState, stack_at, stack_of_operation}
 use Rattle.cf_effect.specs.Status.{goes_forward}
-use Rattle.cf_plan.specs.Life.{Event, IsLife, IsStart, Life, MayHappen, life_after, world_of}
+use Rattle.cf_plan.specs.Life.{Event, IsLife, IsStart, Life, Happens, life_after, world_of}
 use Rattle.cf_plan.specs.Promise.{AreKept}
 use Rattle.cf_core.specs.GoesOn.{HasKinds, HasNext}
 use Rattle.cf_core.specs.Hiding.{AreDescribed}
@@ -34,7 +34,7 @@ abbrev pub StartHolds : Type 0
 StartHolds = (schemas : List Schema) (life : Life) → IsStart schemas life → HoldsAlways schemas life
 
 abbrev pub EventHolds : Type 0
-EventHolds = (schemas : List Schema) (life : Life) (event : Event) → HoldsAlways schemas life → MayHappen schemas life event
+EventHolds = (schemas : List Schema) (life : Life) (event : Event) → HoldsAlways schemas life → Happens schemas life event
     → HoldsAlways schemas (life_after life event)
 
 abbrev pub HoldsKeepsPromises : Type 0

@@ -15,7 +15,7 @@ use Rattle.cf_effect.specs.Words.{deletes}
 use Rattle.cf_effect.specs.Calls.{own_calls}
 use Rattle.cf_effect.specs.Status.{Stage, BackClean, Clean}
 use Rattle.cf_plan.specs.Follow.{cleaned_in}
-use Rattle.cf_plan.specs.Forward.{In}
+use Rattle.cf_tree.specs.Lists.{In}
 use Rattle.cf_core.specs.Advancing.{IsAdvancing}
 use Rattle.cf_core.specs.Course.{IsTried}
 use Rattle.cf_core.specs.Fits.{IsWritten}

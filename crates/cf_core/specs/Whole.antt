@@ -16,7 +16,7 @@ use Rattle.cf_effect.specs.Listed.{export_by}
 use Rattle.cf_plan.specs.Accept.{exports_in}
 use Rattle.cf_plan.specs.Created.{IsHeldAs}
 use Rattle.cf_plan.specs.Ends.{right_at}
-use Rattle.cf_plan.specs.Forward.{In}
+use Rattle.cf_tree.specs.Lists.{In}
 use Rattle.cf_core.specs.Advancing.{AreSingle}
 
 pub record HoldsWhole (name : List ℕ) (x : World) (s : StackState) : Type 0 where
@@ -40,7 +40,7 @@ abbrev pub DeletesSuperseded : StackState → Pending → Type 0
 DeletesSuperseded s p = (r : Held) × In r s.held × (r.superseded ≡ true) × (p.request ≡ request.Delete r.physical) × (p.path ≡ r.path)
 
 -- no operation is in progress, no call is open, and each resource is the one of its path: so an update may begin
-pub record IsAtRest (s : StackState) : Type 0 where
+pub record IsHeldAtRest (s : StackState) : Type 0 where
   pub none_open : s.tokens ≡ []
   pub none_made : s.made ≡ []
   pub single : AreSingle s.held

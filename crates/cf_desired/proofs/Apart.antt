@@ -21,12 +21,12 @@ use Rattle.cf_template.proofs.Ordered.{AreNamed, template_names}
 use Rattle.cf_eval.specs.Env.{conditions_of}
 use Rattle.cf_eval.specs.Outcome.{Outcome, got, later, bad}
 use Rattle.cf_eval.specs.Scope.{Scope}
-use Rattle.cf_graph.specs.Needs.{Tangle, needs_of, is_next, ordered, all_needs, order_of, cycle_of, unknown_dependency, unless_unknown, resource_named}
+use Rattle.cf_graph.specs.Needs.{OrderFault, needs_of, is_next, ordered, all_needs, order_of, cycle_of, unknown_dependency, unless_unknown, resource_named}
 use Rattle.cf_desired.specs.Given.{Given, given_in, settings_for}
 use Rattle.cf_desired.specs.Names.{path_in, pseudo_of}
-use Rattle.cf_desired.specs.PathsDiffer.{PathsDiffer, paths_of}
+use Rattle.cf_desired.specs.PathsDiffer.{PathsDiffer, shape_paths}
 use Rattle.cf_desired.specs.Seeing.{Seen, first_sights}
-use Rattle.cf_desired.specs.Shape.{has_stack_shape, first_later, Entering, Course, Laying, Url, url, no_url, first_stands, own_in, unnamed_at, member_of, nesting_of, url_of, laid_within, entering_below, body_at, inside_of, course_after, nested_before, step_before, work_along, body_in_order, verdicts_of, body_decided, body_bound, laid, given_root, root_of, shape_of}
+use Rattle.cf_desired.specs.Shape.{has_stack_shape, first_later, Entering, PlanInProgress, Laying, Url, url, no_url, first_stands, own_in, unnamed_at, member_of, nesting_of, url_of, laid_within, entering_below, body_at, inside_of, progress_after, nested_before, step_before, work_along, body_in_order, verdicts_of, body_decided, body_bound, laid, given_root, root_of, shape_of}
 use Rattle.cf_desired.specs.Stack.{Verdicts, Settings, Scoping, scoping}
 use Rattle.cf_desired.specs.Templates.{is_stack, accepted, template_named}
 use Rattle.cf_desired.specs.Valued.{nestings_along, nestings_inside, nestings_in, resources_along, resources_inside, resources_in}
@@ -335,7 +335,7 @@ module _ (lay : Option Laying) (source : Source) (seen : Seen) (lays : LaysGood 
   url_good e n r templates members g (no_url f) = none_good n.path
   url_good e n r templates members g (url name) = within_good lay lays n.path name templates members (template_named name source) (if_named name source) e n r g
 
-  inside_good : (e : Entering) (s : Scope) (c : Course) (n : Nesting) (r : Res) (o : Option Flaw)
+  inside_good : (e : Entering) (s : Scope) (c : PlanInProgress) (n : Nesting) (r : Res) (o : Option Flaw)
       → GoodIn n.path (resources_inside (inside_of lay source e s c n r o)) (nestings_inside (inside_of lay source e s c n r o))
   inside_good e s c n r (Some f) = none_good n.path
   inside_good e s c n r None = either (has_stack_shape r) where
@@ -350,25 +350,25 @@ module _ (lay : Option Laying) (source : Source) (seen : Seen) (lays : LaysGood 
     abbrev WorkGood : List (List ℕ) → Work → Type 0
     WorkGood ids w = Good e.stack.path ids (member_paths (resources_along w)) (nesting_paths (nestings_along w))
 
-    work_good : (order : List (List ℕ × List (List ℕ))) (c : Course) → Differ (names_of order) → WorkGood (names_of order) (work_along lay source seen e conds over order c)
+    work_good : (order : List (List ℕ × List (List ℕ))) (c : PlanInProgress) → Differ (names_of order) → WorkGood (names_of order) (work_along lay source seen e conds over order c)
     work_good [] c d = good_none e.stack.path []
     work_good (m ∷ order) c d = by_name (resource_named m.0 e.stack.template) refl (λ k. work_good order k d.1) where
       by_kind : (r : Res) → resource_named m.0 e.stack.template ≡ Some r → (b : Bool)
-          → ((k : Course) → WorkGood (names_of order) (work_along lay source seen e conds over order k))
+          → ((k : PlanInProgress) → WorkGood (names_of order) (work_along lay source seen e conds over order k))
           → WorkGood (m.0 ∷ names_of order)
           (cond b (nested_before source seen (over c.sights) c (nesting_of e conds c.stands r) (inside_of lay source e (over c.sights) c (nesting_of e conds c.stands r) r (unnamed_at e.stack.path conds r)) (work_along lay source seen e conds over order))
           (resource (member_of e conds c.stands r) (work_along lay source seen e conds over order c)))
       by_kind r q true ih =
           let n : Nesting = nesting_of e conds c.stands r in
           let i : Inside = inside_of lay source e (over c.sights) c n r (unnamed_at e.stack.path conds r) in
-          let w : Work = work_along lay source seen e conds over order (course_after source seen (over c.sights) c n i) in
+          let w : Work = work_along lay source seen e conds over order (progress_after source seen (over c.sights) c n i) in
           let new : is_among r.name (names_of order) ≡ true → ⊥ = subst (λ k. is_among k (names_of order) ≡ true → ⊥) (sym (found_name m.0 e.stack.template.resources r q)) d.0 in
           subst (λ k. WorkGood (k ∷ names_of order) (nested n i w)) (found_name m.0 e.stack.template.resources r q)
           (subst (λ rs. Good e.stack.path (r.name ∷ names_of order) rs (nesting_paths (nestings_along (nested n i w)))) (sym (map-append (λ (x : Member). x.path) (resources_inside i) (resources_along w)))
           (subst (λ ns. Good e.stack.path (r.name ∷ names_of order) (member_paths (resources_inside i) ++ member_paths (resources_along w)) (n.path ∷ ns)) (sym (map-append (λ (x : Nesting). x.path) (nestings_inside i) (nestings_along w)))
           (good_and e.stack.path r.name (names_of order) (member_paths (resources_inside i)) (nesting_paths (n ∷ nestings_inside i)) (member_paths (resources_along w)) (nesting_paths (nestings_along w)) new
           (good_nested e.stack.path r.name (resources_inside i) (nestings_inside i) n refl (found_named m.0 e.stack.template.resources r named q) (inside_good e (over c.sights) c n r (unnamed_at e.stack.path conds r)))
-          (ih (course_after source seen (over c.sights) c n i)))))
+          (ih (progress_after source seen (over c.sights) c n i)))))
       by_kind r q false ih =
           let new : is_among r.name (names_of order) ≡ true → ⊥ = subst (λ k. is_among k (names_of order) ≡ true → ⊥) (sym (found_name m.0 e.stack.template.resources r q)) d.0 in
           let w : Work = work_along lay source seen e conds over order c in
@@ -377,13 +377,13 @@ module _ (lay : Option Laying) (source : Source) (seen : Seen) (lays : LaysGood 
           (good_resource e.stack.path r.name (found_named m.0 e.stack.template.resources r named q).1) (ih c))
 
       by_name : (o : Option Res) → resource_named m.0 e.stack.template ≡ o
-          → ((k : Course) → WorkGood (names_of order) (work_along lay source seen e conds over order k))
+          → ((k : PlanInProgress) → WorkGood (names_of order) (work_along lay source seen e conds over order k))
           → WorkGood (m.0 ∷ names_of order) (option_map_or (λ r. step_before lay source seen e conds over c r (work_along lay source seen e conds over order)) o (work_along lay source seen e conds over order c))
       by_name None q ih = good_more e.stack.path m.0 (names_of order) _ _ (ih c)
       by_name (Some r) q ih = by_kind r q (is_stack r) ih
 
   module _ (e : Entering) (bound : Settings) (templates members : ℕ) (named : AreNamed e.stack.template.resources) where
-    order_good : (conds : Verdicts) (r : Result (List (List ℕ × List (List ℕ))) Tangle) → IfOk r (λ order. Differ (names_of order)) → BodyGood e.stack.path (body_in_order lay source seen e bound templates members conds r)
+    order_good : (conds : Verdicts) (r : Result (List (List ℕ × List (List ℕ))) OrderFault) → IfOk r (λ order. Differ (names_of order)) → BodyGood e.stack.path (body_in_order lay source seen e bound templates members conds r)
     order_good conds (Err x) d = none_good e.stack.path
     order_good conds (Ok order) d = (
       names_of order,
@@ -418,7 +418,7 @@ shape_good source seen = either (template_named source.root source) (if_named so
 pub paths_apart : PathsDiffer
 paths_apart source seen =
     let g = (shape_good source seen).1 in
-    all_differ_so (paths_of (shape_of source seen))
+    all_differ_so (shape_paths (shape_of source seen))
     (differ_and (member_paths (resources_in (shape_of source seen))) (nesting_paths (nestings_in (shape_of source seen))) g.resources g.stacks g.apart)
 
 -- so do those of its resources alone

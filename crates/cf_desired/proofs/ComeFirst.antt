@@ -20,11 +20,11 @@ use Rattle.cf_tree.specs.declared.template.Template.{Template}
 use Rattle.cf_template.specs.Whole.{template_of}
 use Rattle.cf_template.specs.declared.refusal.TemplateFault.{TemplateFault}
 use Rattle.cf_template.proofs.Ordered.{AreOrdered, template_ordered}
-use Rattle.cf_graph.specs.Needs.{Tangle, needs_of, is_made, is_next, ordered, referred_to, all_needs, order_of, cycle_of, unknown_dependency, unless_unknown, resource_named}
+use Rattle.cf_graph.specs.Needs.{OrderFault, needs_of, is_made, is_next, ordered, referred_to, all_needs, order_of, cycle_of, unknown_dependency, unless_unknown, resource_named}
 use Rattle.cf_tree.specs.Lists.{is_among}
 use Rattle.cf_desired.specs.Names.{path_in, pseudo_of}
 use Rattle.cf_desired.specs.Seeing.{Seen, own_ids, first_sights}
-use Rattle.cf_desired.specs.Shape.{put_name, in_order, has_stack_shape, first_later, Entering, StandsFor, Course, Laying, Url, url, no_url, those, stood_for, first_stands, paths_below, paths_inside, paths_in, own_id, own_in, needed_by, unnamed_at, member_of, nesting_of, url_of, laid_within, entering_below, body_at, inside_of, course_after, nested_before, step_before, work_along, body_in_order, verdicts_of, body_decided, body_bound, laid, given_root, root_of, shape_of}
+use Rattle.cf_desired.specs.Shape.{put_name, in_order, has_stack_shape, first_later, Entering, StandsFor, PlanInProgress, Laying, Url, url, no_url, those, stood_for, first_stands, paths_below, paths_inside, paths_in, own_id, own_in, needed_by, unnamed_at, member_of, nesting_of, url_of, laid_within, entering_below, body_at, inside_of, progress_after, nested_before, step_before, work_along, body_in_order, verdicts_of, body_decided, body_bound, laid, given_root, root_of, shape_of}
 use Rattle.cf_desired.specs.Templates.{is_stack, accepted, template_named}
 use Rattle.cf_desired.specs.declared.flaw.Flaw.{Flaw}
 use Rattle.cf_desired.specs.declared.flaw.Flaw.TheVariants as flaw
@@ -228,7 +228,7 @@ module _ (lay : Option Laying) (source : Source) (seen : Seen) (lays : LaysFirst
   url_first e n r templates members g (url name) before k =
       laid_first lay lays n.path name templates members (template_named name source) (if_ordered name source) e n r g before k
 
-  inside_first : (e : Entering) (s : Scope) (c : Course) (n : Nesting) (r : Res) (o : Option Flaw) (before : List (List ℕ)) → In before n.needs
+  inside_first : (e : Entering) (s : Scope) (c : PlanInProgress) (n : Nesting) (r : Res) (o : Option Flaw) (before : List (List ℕ)) → In before n.needs
       → Within before (resources_inside (inside_of lay source e s c n r o)) (paths_inside (inside_of lay source e s c n r o))
   inside_first e s c n r (Some f) before k = none_within before
   inside_first e s c n r None before k = either (has_stack_shape r) where
@@ -336,13 +336,13 @@ module _ (lay : Option Laying) (source : Source) (seen : Seen) (lays : LaysFirst
               c.below);
         }
 
-    work_first : (order : List (List ℕ × List (List ℕ))) (before placed : List (List ℕ)) (c : Course) → GoodFrom placed order → AllNeeds e.stack.template conds order → Come before placed c.stands
+    work_first : (order : List (List ℕ × List (List ℕ))) (before placed : List (List ℕ)) (c : PlanInProgress) → GoodFrom placed order → AllNeeds e.stack.template conds order → Come before placed c.stands
         → Claim before (work_along lay source seen e conds over order c)
     work_first [] before placed c g n h = record { first = tt; own = in_none _; below = in_none _ }
     work_first (m ∷ order) before placed c g n h =
         by_name (resource_named m.0 e.stack.template) refl (λ b d k. work_first order b (placed ++ m.0 ∷ []) d g.1 n.1 k) where
           by_kind : (r : Res) → resource_named m.0 e.stack.template ≡ Some r → (b : Bool)
-              → ((b' : List (List ℕ)) (d : Course) → Come b' (placed ++ m.0 ∷ []) d.stands → Claim b' (work_along lay source seen e conds over order d))
+              → ((b' : List (List ℕ)) (d : PlanInProgress) → Come b' (placed ++ m.0 ∷ []) d.stands → Claim b' (work_along lay source seen e conds over order d))
               → Claim before
               (cond b (nested_before source seen (over c.sights) c (nesting_of e conds c.stands r) (inside_of lay source e (over c.sights) c (nesting_of e conds c.stands r) r (unnamed_at e.stack.path conds r)) (work_along lay source seen e conds over order))
               (resource (member_of e conds c.stands r) (work_along lay source seen e conds over order c)))
@@ -352,7 +352,7 @@ module _ (lay : Option Laying) (source : Source) (seen : Seen) (lays : LaysFirst
               let within = inside_first e (over c.sights) c (nesting_of e conds c.stands r) r (unnamed_at e.stack.path conds r) before needs in
               let named : r.name ≡ m.0 = found_name m.0 e.stack.template.resources r q in
               nested_first before (nesting_of e conds c.stands r) i _ needs within
-              (ih (before ++ paths_of (resources_inside i)) (course_after source seen (over c.sights) c (nesting_of e conds c.stands r) i)
+              (ih (before ++ paths_of (resources_inside i)) (progress_after source seen (over c.sights) c (nesting_of e conds c.stands r) i)
               (subst (λ k. Come (before ++ paths_of (resources_inside i)) (placed ++ k ∷ []) (put r.name (paths_inside i ++ (nesting_of e conds c.stands r).needs) c.stands)) named
               (come_nested before (paths_of (resources_inside i)) placed c.stands r.name (paths_inside i ++ (nesting_of e conds c.stands r).needs)
               (in_both _ (paths_inside i) (nesting_of e conds c.stands r).needs within.inside (in_more before (paths_of (resources_inside i)) (nesting_of e conds c.stands r).needs needs))
@@ -364,7 +364,7 @@ module _ (lay : Option Laying) (source : Source) (seen : Seen) (lays : LaysFirst
               (subst (λ k. Come (before ++ path_in e.stack.path r.name ∷ []) (placed ++ k ∷ []) c.stands) named (come_plain before placed c.stands r.name h)))
 
           by_name : (o : Option Res) → resource_named m.0 e.stack.template ≡ o
-              → ((b' : List (List ℕ)) (d : Course) → Come b' (placed ++ m.0 ∷ []) d.stands → Claim b' (work_along lay source seen e conds over order d))
+              → ((b' : List (List ℕ)) (d : PlanInProgress) → Come b' (placed ++ m.0 ∷ []) d.stands → Claim b' (work_along lay source seen e conds over order d))
               → Claim before (option_map_or (λ r. step_before lay source seen e conds over c r (work_along lay source seen e conds over order)) o (work_along lay source seen e conds over order c))
           by_name None q ih = absurd (true≢false (sym n.0.0 ∙ not_made conds e.stack.template m.0 e.stack.template.resources q))
           by_name (Some r) q ih = by_kind r q (is_stack r) ih
@@ -401,11 +401,11 @@ module _ (lay : Option Laying) (source : Source) (seen : Seen) (lays : LaysFirst
       by_name (Some r) q ih = by_kind r q (is_stack r) ih
 
   module _ (e : Entering) (bound : Settings) (templates members : ℕ) (before : List (List ℕ)) (around : In before e.needs) (rs : AreOrdered e.stack.template.resources) where
-    order_first : (conds : Verdicts) (r : Result (List (List ℕ × List (List ℕ))) Tangle) → IfOk r (GoodFrom []) → IfOk r (AllNeeds e.stack.template conds)
+    order_first : (conds : Verdicts) (r : Result (List (List ℕ × List (List ℕ))) OrderFault) → IfOk r (GoodFrom []) → IfOk r (AllNeeds e.stack.template conds)
         → BodyWithin before (body_in_order lay source seen e bound templates members conds r)
     order_first conds (Err x) g n = none_within before
     order_first conds (Ok order) g n =
-        let c : Course = record { sights = first_sights e.stack conds seen (own_in e.stack.template order); stands = first_stands e.stack (own_in e.stack.template order); templates = templates; members = members } in
+        let c : PlanInProgress = record { sights = first_sights e.stack conds seen (own_in e.stack.template order); stands = first_stands e.stack (own_in e.stack.template order); templates = templates; members = members } in
         let w = work_first e conds (scoping source e.stack conds bound) order before [] c g n
         (record { around = around; come = λ id h. absurd (true≢false (sym h)); alone = λ id. inr (first_alone e conds (scoping source e.stack conds bound) id (own_in e.stack.template order)); made = λ id. first_made e conds (scoping source e.stack conds bound) id order n }) in
         record { first = w.first; inside = in_both _ _ _ w.own w.below }

@@ -12,12 +12,12 @@ use Rattle.cf_tree.specs.declared.source.Source.{Source}
 use Rattle.cf_tree.specs.declared.template.Res.{Res}
 use Rattle.cf_tree.specs.declared.template.Template.{Template}
 use Rattle.cf_graph.specs.Mentions.{Mention, by_ref, by_attribute, mentions_of, fields_mentions}
-use Rattle.cf_graph.specs.Needs.{Tangle, is_parameter, meant, holds_in, is_evaluated, evaluated_props, referred_to, needs_of, resource_named}
+use Rattle.cf_graph.specs.Needs.{OrderFault, is_parameter, meant, holds_in, is_evaluated, evaluated_props, referred_to, needs_of, resource_named}
 use Rattle.cf_tree.specs.Lists.{is_among}
 use Rattle.cf_desired.specs.Names.{pseudo_of}
 use Rattle.cf_desired.specs.Seeing.{Seen, own_ids, first_sights}
 use Rattle.cf_desired.specs.Templates.{is_stack, template_named}
-use Rattle.cf_desired.specs.Shape.{has_stack_shape, verdict_from, first_later, Entering, StandsFor, Course, Laying, Url, url, no_url, those, stood_for, first_stands, paths_inside, own_id, own_in, needed_by, unnamed_at, member_of, nesting_of, url_of, laid_within, entering_below, body_at, inside_of, nested_before, step_before, work_along, body_in_order, verdicts_of, body_decided, body_bound, laid, given_root, root_of, shape_of}
+use Rattle.cf_desired.specs.Shape.{has_stack_shape, verdict_from, first_later, Entering, StandsFor, PlanInProgress, Laying, Url, url, no_url, those, stood_for, first_stands, paths_inside, own_id, own_in, needed_by, unnamed_at, member_of, nesting_of, url_of, laid_within, entering_below, body_at, inside_of, nested_before, step_before, work_along, body_in_order, verdicts_of, body_decided, body_bound, laid, given_root, root_of, shape_of}
 use Rattle.cf_desired.specs.declared.flaw.Flaw.{Flaw}
 use Rattle.cf_desired.specs.declared.flaw.Flaw.TheVariants as flaw
 use Rattle.cf_desired.proofs.OrderNeeds.{among_order, among_first, among_second, either_so}
@@ -173,17 +173,17 @@ verdicts_decided ((n, Some b) ∷ vs) q name h = either (bytes_eq name n) b h (v
 
 -- a template's own resources come in the order of work
 module _ (lay : Option Laying) (source : Source) (seen : Seen) (e : Entering) (conds : Verdicts) (over : Scoping) where
-  pub own_same : (order : List (List ℕ × List (List ℕ))) (c : Course) → own_ids (work_along lay source seen e conds over order c) ≡ own_in e.stack.template order
+  pub own_same : (order : List (List ℕ × List (List ℕ))) (c : PlanInProgress) → own_ids (work_along lay source seen e conds over order c) ≡ own_in e.stack.template order
   own_same [] c = refl
   own_same (m ∷ order) c = by_name (resource_named m.0 e.stack.template) (own_same order) where
-    by_kind : (r : Res) (b : Bool) → ((d : Course) → own_ids (work_along lay source seen e conds over order d) ≡ own_in e.stack.template order)
+    by_kind : (r : Res) (b : Bool) → ((d : PlanInProgress) → own_ids (work_along lay source seen e conds over order d) ≡ own_in e.stack.template order)
         → own_ids (cond b (nested_before source seen (over c.sights) c (nesting_of e conds c.stands r) (inside_of lay source e (over c.sights) c (nesting_of e conds c.stands r) r (unnamed_at e.stack.path conds r)) (work_along lay source seen e conds over order))
         (resource (member_of e conds c.stands r) (work_along lay source seen e conds over order c)))
         ≡ cond b [] (r.name ∷ []) ++ own_in e.stack.template order
     by_kind r true ih = ih _
     by_kind r false ih = ap (λ l. r.name ∷ l) (ih c)
 
-    by_name : (o : Option Res) → ((d : Course) → own_ids (work_along lay source seen e conds over order d) ≡ own_in e.stack.template order)
+    by_name : (o : Option Res) → ((d : PlanInProgress) → own_ids (work_along lay source seen e conds over order d) ≡ own_in e.stack.template order)
         → own_ids (option_map_or (λ r. step_before lay source seen e conds over c r (work_along lay source seen e conds over order)) o (work_along lay source seen e conds over order c))
         ≡ own_id o ++ own_in e.stack.template order
     by_name None ih = ih c
@@ -216,7 +216,7 @@ module _ (lay : Option Laying) (source : Source) (seen : Seen) (lays : LaysCover
       within_covered lay lays n.path name templates members (template_named name source) (entering_below e n r) n.needs (λ x. refl) g
 
   module _ (e : Entering) (conds : Verdicts) (over : Scoping) where
-    inside_covered : (s : Scope) (c : Course) (r : Res) (o : Option Flaw)
+    inside_covered : (s : Scope) (c : PlanInProgress) (r : Res) (o : Option Flaw)
         → CoversInside e.stack.template conds (needed_by e conds c.stands r) c.stands (inside_of lay source e s c (nesting_of e conds c.stands r) r o)
     inside_covered s c r (Some f) = tt
     inside_covered s c r None = either (has_stack_shape r) where
@@ -236,7 +236,7 @@ module _ (lay : Option Laying) (source : Source) (seen : Seen) (lays : LaysCover
       )
       either false = tt
 
-    step_covered : (c : Course) (r : Res) (behind : Course → Work) → ((d : Course) → Covers e.stack.template conds e.needs d.stands (behind d))
+    step_covered : (c : PlanInProgress) (r : Res) (behind : PlanInProgress → Work) → ((d : PlanInProgress) → Covers e.stack.template conds e.needs d.stands (behind d))
         → Covers e.stack.template conds e.needs c.stands (step_before lay source seen e conds over c r behind)
     step_covered c r behind h = either (is_stack r) refl where
       either : (b : Bool) → is_stack r ≡ b
@@ -249,20 +249,20 @@ module _ (lay : Option Laying) (source : Source) (seen : Seen) (lays : LaysCover
         h c,
       )
 
-    work_covered : (order : List (List ℕ × List (List ℕ))) (c : Course) → Covers e.stack.template conds e.needs c.stands (work_along lay source seen e conds over order c)
+    work_covered : (order : List (List ℕ × List (List ℕ))) (c : PlanInProgress) → Covers e.stack.template conds e.needs c.stands (work_along lay source seen e conds over order c)
     work_covered [] c = tt
     work_covered (m ∷ order) c = by_name (resource_named m.0 e.stack.template) (work_covered order) where
-      by_name : (o : Option Res) → ((d : Course) → Covers e.stack.template conds e.needs d.stands (work_along lay source seen e conds over order d))
+      by_name : (o : Option Res) → ((d : PlanInProgress) → Covers e.stack.template conds e.needs d.stands (work_along lay source seen e conds over order d))
           → Covers e.stack.template conds e.needs c.stands
           (option_map_or (λ r. step_before lay source seen e conds over c r (work_along lay source seen e conds over order)) o (work_along lay source seen e conds over order c))
       by_name None ih = ih c
       by_name (Some r) ih = step_covered c r (work_along lay source seen e conds over order) ih
 
   module _ (e : Entering) (bound : Settings) (templates members : ℕ) where
-    order_covered : (conds : Verdicts) → AreDecided conds → (r : Result (List (List ℕ × List (List ℕ))) Tangle) → CoversBody e.needs (body_in_order lay source seen e bound templates members conds r)
+    order_covered : (conds : Verdicts) → AreDecided conds → (r : Result (List (List ℕ × List (List ℕ))) OrderFault) → CoversBody e.needs (body_in_order lay source seen e bound templates members conds r)
     order_covered conds d (Err x) = tt
     order_covered conds d (Ok order) =
-        let c : Course = record { sights = first_sights e.stack conds seen (own_in e.stack.template order); stands = first_stands e.stack (own_in e.stack.template order); templates = templates; members = members } in (
+        let c : PlanInProgress = record { sights = first_sights e.stack conds seen (own_in e.stack.template order); stands = first_stands e.stack (own_in e.stack.template order); templates = templates; members = members } in (
           d,
           subst (λ ids. Covers e.stack.template conds e.needs (first_stands e.stack ids) (work_along lay source seen e conds (scoping source e.stack conds bound) order c))
               (sym (own_same lay source seen e conds (scoping source e.stack conds bound) order c)) (work_covered e conds (scoping source e.stack conds bound) order c),

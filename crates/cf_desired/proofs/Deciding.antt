@@ -8,7 +8,7 @@ use Rattle.cf_tree.specs.Tests.{Test, TestNode, Tests, equals, negation, all_of,
 use Rattle.cf_tree.specs.declared.template.Template.{Template}
 use Rattle.cf_eval.specs.declared.fault.EvalWhy.TheVariants.{UnknownName, CircularCondition}
 use Rattle.cf_desired.specs.Shape.{first_later}
-use Rattle.cf_eval.specs.Conditions.{equal_values, test_found, test_node_found, tests_found, is_one_of, decided_by, condition_found, noted, verdict_found, conditions_found}
+use Rattle.cf_eval.specs.Conditions.{equal_values, test_found, test_node_found, tests_found, is_one_of, decided_by, condition_found, noted_verdict, verdict_found, conditions_found}
 use Rattle.cf_eval.specs.Env.{scope_within, conditions_of, plain}
 use Rattle.cf_eval.specs.Functions.{or_fault}
 use Rattle.cf_desired.specs.Given.{Given, settings_for}
@@ -54,11 +54,11 @@ condition_stands (suc left) s t k conds under at name =
 verdict_and :
     (n : List ℕ) (x y : Outcome Bool) → Stands false x y → (xs ys : Outcome (List (List ℕ × Option Bool)))
     → ((ws : List (List ℕ × Option Bool)) → xs ≡ got ws → first_later ws ≡ None → ys ≡ got ws) → (vs : List (List ℕ × Option Bool))
-    → both (on_got (noted x) (λ v. got (n, v))) xs (λ a rest. got (a ∷ rest)) ≡ got vs → first_later vs ≡ None
-    → both (on_got (noted y) (λ v. got (n, v))) ys (λ a rest. got (a ∷ rest)) ≡ got vs
+    → both (on_got (noted_verdict x) (λ v. got (n, v))) xs (λ a rest. got (a ∷ rest)) ≡ got vs → first_later vs ≡ None
+    → both (on_got (noted_verdict y) (λ v. got (n, v))) ys (λ a rest. got (a ∷ rest)) ≡ got vs
 verdict_and n (got b) y h (got ws) ys ih vs q l =
     let same : ((n, Some b) ∷ ws) ≡ vs = cc in
-    ap (λ z. both (on_got (noted z) (λ v. got (n, v))) ys (λ a rest. got (a ∷ rest))) h
+    ap (λ z. both (on_got (noted_verdict z) (λ v. got (n, v))) ys (λ a rest. got (a ∷ rest))) h
     ∙ ap (λ z. both {B = List (List ℕ × Option Bool)} (got (n, Some b)) z (λ a rest. got (a ∷ rest))) (ih ws refl (ap first_later same ∙ l)) ∙ ap got same
 verdict_and n (got b) y h later ys ih vs q l = let no : ⊥ = cc in absurd no
 verdict_and n (got b) y h (bad w) ys ih vs q l = let no : ⊥ = cc in absurd no

@@ -11,7 +11,7 @@ use Rattle.cf_eval.specs.Scope.{Scope}
 use Rattle.cf_desired.specs.Shape.{given_root}
 use Rattle.cf_desired.specs.ShapeStays.{IsClearAlong, IsClearInside, IsClear, FlawlessIsClear}
 use Rattle.cf_desired.specs.Stack.{Sights, Scoping, scoping}
-use Rattle.cf_desired.specs.Valued.{evaluated_at}
+use Rattle.cf_desired.specs.Valued.{member_props}
 use Rattle.cf_desired.specs.Work.{Member, Nesting, Work, Inside, Body, no_work, resource, nested, shut, barred, halted, opened}
 use Rattle.cf_desired.specs.Work as inside
 
@@ -35,7 +35,7 @@ module _ (source : Source) (seen : Seen) where
   mutual
     along_clear : (path : List ℕ) (over : Scoping) (m : Sights) (w : Work) → HasNone (met_along source seen path over m w) → IsClearAlong w
     along_clear path over m no_work h = tt
-    along_clear path over m (resource r w) h = along_clear path over m w (none_in (map (λ f. a_flaw f) (flaws_of (evaluated_at path (over m) r))) _ h).1
+    along_clear path over m (resource r w) h = along_clear path over m w (none_in (map (λ f. a_flaw f) (flaws_of (member_props path (over m) r))) _ h).1
     along_clear path over m (nested n i w) h =
         let both = none_in (met_inside source seen path (over m) i) (met_along source seen path over (nested_sight source n (outputs_inside source seen (over m) i) m) w) h in
         (inside_clear path (over m) i both.0, along_clear path over (nested_sight source n (outputs_inside source seen (over m) i) m) w both.1)

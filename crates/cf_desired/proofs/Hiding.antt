@@ -6,7 +6,7 @@ use Rattle.std.specs.Str.{bytes_eq}
 use Rattle.std.proofs.lemmas.Slice.Eq.{bytes_eq-Decides}
 use Rattle.cf_tree.specs.Datum.{Data}
 use Rattle.cf_tree.specs.Keys.{value_at}
-use Rattle.cf_eval.specs.Knows.{Keeps}
+use Rattle.cf_eval.specs.Knows.{StaysKnown}
 use Rattle.cf_desired.specs.Seeing.{Seen}
 use Rattle.cf_desired.specs.Stays.{id_seen, attrs_seen}
 use Rattle.cf_desired.proofs.Puts.{kept_self}
@@ -16,25 +16,25 @@ use Rattle.cf_tree.specs.declared.source.Source.{Source}
 use Rattle.cf_desired.proofs.ShapeStays.{update_stays}
 
 module _ (ids attrs : List ℕ → Bool) where
-  hide : {A : Type 0} (b : Bool) (x o : Option A) → (b ≡ false → Keeps x o) → Keeps (cond b None x) o
+  hide : {A : Type 0} (b : Bool) (x o : Option A) → (b ≡ false → StaysKnown x o) → StaysKnown (cond b None x) o
   hide true x o h = tt
   hide false x o h = h refl
 
-  id_kept : (seen : Seen) (path : List ℕ) (o : Option (List ℕ)) → (ids path ≡ false → Keeps (id_seen path seen) o) → Keeps (id_seen path (hidden_of ids attrs seen)) o
+  id_kept : (seen : Seen) (path : List ℕ) (o : Option (List ℕ)) → (ids path ≡ false → StaysKnown (id_seen path seen) o) → StaysKnown (id_seen path (hidden_of ids attrs seen)) o
   id_kept [] path o h = tt
   id_kept (s ∷ seen) path o h = either (bytes_eq path s.0) refl h (id_kept seen path o) where
-    either : (b : Bool) → bytes_eq path s.0 ≡ b → (ids path ≡ false → Keeps (option_and_then (λ x. x.physical) (cond b (Some s.1) (value_at path seen))) o)
-        → ((ids path ≡ false → Keeps (id_seen path seen) o) → Keeps (id_seen path (hidden_of ids attrs seen)) o)
-        → Keeps (option_and_then (λ x. x.physical) (cond b (Some (record { physical = cond (ids s.0) None s.1.physical; attrs = cond (attrs s.0) None s.1.attrs })) (value_at path (hidden_of ids attrs seen)))) o
+    either : (b : Bool) → bytes_eq path s.0 ≡ b → (ids path ≡ false → StaysKnown (option_and_then (λ x. x.physical) (cond b (Some s.1) (value_at path seen))) o)
+        → ((ids path ≡ false → StaysKnown (id_seen path seen) o) → StaysKnown (id_seen path (hidden_of ids attrs seen)) o)
+        → StaysKnown (option_and_then (λ x. x.physical) (cond b (Some (record { physical = cond (ids s.0) None s.1.physical; attrs = cond (attrs s.0) None s.1.attrs })) (value_at path (hidden_of ids attrs seen)))) o
     either true e k ih = hide (ids s.0) s.1.physical o (λ n. k (ap ids ((bytes_eq-Decides path s.0).0 e) ∙ n))
     either false e k ih = ih k
 
-  attrs_kept : (seen : Seen) (path : List ℕ) (o : Option (List (List ℕ × Data))) → (attrs path ≡ false → Keeps (attrs_seen path seen) o) → Keeps (attrs_seen path (hidden_of ids attrs seen)) o
+  attrs_kept : (seen : Seen) (path : List ℕ) (o : Option (List (List ℕ × Data))) → (attrs path ≡ false → StaysKnown (attrs_seen path seen) o) → StaysKnown (attrs_seen path (hidden_of ids attrs seen)) o
   attrs_kept [] path o h = tt
   attrs_kept (s ∷ seen) path o h = either (bytes_eq path s.0) refl h (attrs_kept seen path o) where
-    either : (b : Bool) → bytes_eq path s.0 ≡ b → (attrs path ≡ false → Keeps (option_and_then (λ x. x.attrs) (cond b (Some s.1) (value_at path seen))) o)
-        → ((attrs path ≡ false → Keeps (attrs_seen path seen) o) → Keeps (attrs_seen path (hidden_of ids attrs seen)) o)
-        → Keeps (option_and_then (λ x. x.attrs) (cond b (Some (record { physical = cond (ids s.0) None s.1.physical; attrs = cond (attrs s.0) None s.1.attrs })) (value_at path (hidden_of ids attrs seen)))) o
+    either : (b : Bool) → bytes_eq path s.0 ≡ b → (attrs path ≡ false → StaysKnown (option_and_then (λ x. x.attrs) (cond b (Some s.1) (value_at path seen))) o)
+        → ((attrs path ≡ false → StaysKnown (attrs_seen path seen) o) → StaysKnown (attrs_seen path (hidden_of ids attrs seen)) o)
+        → StaysKnown (option_and_then (λ x. x.attrs) (cond b (Some (record { physical = cond (ids s.0) None s.1.physical; attrs = cond (attrs s.0) None s.1.attrs })) (value_at path (hidden_of ids attrs seen)))) o
     either true e k ih = hide (attrs s.0) s.1.attrs o (λ n. k (ap attrs ((bytes_eq-Decides path s.0).0 e) ∙ n))
     either false e k ih = ih k
 
@@ -45,9 +45,9 @@ hiding_serves source before now ids attrs clear same_ids same_attrs =
     (λ path. (id_kept ids attrs before path (id_seen path now) (same_ids path), attrs_kept ids attrs before path (attrs_seen path now) (same_attrs path)))
 
 -- what is kept twice is kept
-kept_on : {A : Type 0} (x y z : Option A) → Keeps x y → Keeps y z → Keeps x z
+kept_on : {A : Type 0} (x y z : Option A) → StaysKnown x y → StaysKnown y z → StaysKnown x z
 kept_on None y z g h = tt
-kept_on (Some a) y z g h = subst (λ o. Keeps o z) g h
+kept_on (Some a) y z g h = subst (λ o. StaysKnown o z) g h
 
 rest_on : (ids attrs : List ℕ → Bool) (a b c : Seen) → KeepsRest ids attrs a b → KeepsRest ids attrs b c → KeepsRest ids attrs a c
 rest_on ids attrs a b c g h path = (

@@ -9,7 +9,7 @@ use Rattle.cf_tree.specs.Keys.{value_at, put}
 use Rattle.cf_tree.specs.declared.source.Source.{Source}
 use Rattle.cf_tree.specs.declared.template.Out.{Out}
 use Rattle.cf_tree.specs.declared.template.Param.{Param}
-use Rattle.cf_eval.specs.Knows.{Keeps, KeepsSetting, KnowsMore, KeepsOutput, KeepsSight, KeepsOutcome}
+use Rattle.cf_eval.specs.Knows.{StaysKnown, KeepsSetting, KnowsMore, KeepsOutput, KeepsSight, KeepsOutcome}
 use Rattle.cf_eval.specs.ScopeOf.{setting_of}
 use Rattle.cf_param.specs.Binding.{bound_to}
 use Rattle.cf_param.specs.declared.offered.Piece.{Piece}
@@ -18,7 +18,7 @@ use Rattle.cf_desired.specs.Names.{path_in}
 use Rattle.cf_desired.specs.Seeing.{SeenAt, Seen, is_output_made, seen_as, own_ids, unmade_sights, first_sights, unnamed_output, export_wanted, export_stop, output_stop, text_in, text_known, broken_at, output_sight, output_seen, sights_after, outputs_inside, outputs_of, by_names}
 use Rattle.cf_desired.specs.Stays.{SeesMore}
 use Rattle.cf_desired.proofs.Puts.{value_put, kept_self, value_names}
-use Rattle.cf_desired.specs.Given.{Given, Offered, Offers, offers_in, node_offers, offers_of, offered_fields, map_wanted, given_in, given_by, pieces_of, with_piece, piece_text, or_unknown, settings_for, setting_given}
+use Rattle.cf_desired.specs.Given.{Given, Offered, Offers, offers_in, node_offers, offers_of, offered_fields, map_wanted, given_in, given_by, given_pieces, with_piece, piece_text, or_unknown, settings_for, setting_given}
 use Rattle.cf_eval.specs.Outcome.{Outcome, Stop, fault, undecided, below, got, later, bad, on_got}
 use Rattle.cf_eval.specs.declared.env.OutputSight.{OutputSight}
 use Rattle.cf_eval.specs.declared.env.OutputSight.TheVariants as output
@@ -134,30 +134,30 @@ with_kept name k (bad x) y ps qs g h = late (bytes_eq name k) refl y where
   late false e later = subst (λ c. KeepsPiece (value_at name ps) (cond c (Some piece.Later) (value_at name qs))) (sym e) h
   late false e (bad w) = subst (λ c. KeepsPiece (value_at name ps) (cond c (Some piece.Later) (value_at name qs))) (sym e) h
 
-pieces_kept : (name : List ℕ) (os us : List Offered) → Aligned os us → KeepsPiece (value_at name (pieces_of os)) (value_at name (pieces_of us))
+pieces_kept : (name : List ℕ) (os us : List Offered) → Aligned os us → KeepsPiece (value_at name (given_pieces os)) (value_at name (given_pieces us))
 pieces_kept name [] [] h = refl
 pieces_kept name [] (u ∷ us) h = absurd h
 pieces_kept name (o ∷ os) [] h = absurd h
 pieces_kept name (o ∷ os) (u ∷ us) h =
-    subst (λ k. KeepsPiece (value_at name (pieces_of (o ∷ os))) (value_at name (with_piece k u.value (pieces_of us)))) (sym h.0)
-    (with_kept name o.name o.value u.value (pieces_of os) (pieces_of us) h.1.0 (pieces_kept name os us h.1.1))
+    subst (λ k. KeepsPiece (value_at name (given_pieces (o ∷ os))) (value_at name (with_piece k u.value (given_pieces us)))) (sym h.0)
+    (with_kept name o.name o.value u.value (given_pieces os) (given_pieces us) h.1.0 (pieces_kept name os us h.1.1))
 
 -- what each parameter is bound to stays, where it is known
 abbrev pub GivenKeeps : Given → Given → Type 0
-GivenKeeps g h = (p : Param) → Keeps (setting_of (setting_given g p)) (setting_of (setting_given h p))
+GivenKeeps g h = (p : Param) → StaysKnown (setting_of (setting_given g p)) (setting_of (setting_given h p))
 
 pub given_self : (g : Given) → GivenKeeps g g
 given_self g p = kept_self (setting_of (setting_given g p))
 
-bound_kept : (p : Param) (x y : Option Piece) → KeepsPiece x y → Keeps (setting_of (or_unknown (bound_to p x))) (setting_of (or_unknown (bound_to p y)))
-bound_kept p None y h = subst (λ z. Keeps (setting_of (or_unknown (bound_to p None))) (setting_of (or_unknown (bound_to p z)))) (sym h) (kept_self _)
+bound_kept : (p : Param) (x y : Option Piece) → KeepsPiece x y → StaysKnown (setting_of (or_unknown (bound_to p x))) (setting_of (or_unknown (bound_to p y)))
+bound_kept p None y h = subst (λ z. StaysKnown (setting_of (or_unknown (bound_to p None))) (setting_of (or_unknown (bound_to p z)))) (sym h) (kept_self _)
 bound_kept p (Some piece.Later) y h = tt
-bound_kept p (Some (piece.Text t)) y h = subst (λ z. Keeps (setting_of (or_unknown (bound_to p (Some (piece.Text t))))) (setting_of (or_unknown (bound_to p z)))) (sym h) (kept_self _)
+bound_kept p (Some (piece.Text t)) y h = subst (λ z. StaysKnown (setting_of (or_unknown (bound_to p (Some (piece.Text t))))) (setting_of (or_unknown (bound_to p z)))) (sym h) (kept_self _)
 
 offers_given : (x y : Outcome Offers) → OffersKeep x y → GivenKeeps (given_by x) (given_by y)
 offers_given (got o) y h p =
-    subst (λ z. Keeps (setting_of (setting_given (given_by (got o)) p)) (setting_of (setting_given (given_by z) p))) (sym h.1.0)
-    (bound_kept p (value_at p.name (pieces_of o.members)) (value_at p.name (pieces_of h.0.members)) (pieces_kept p.name o.members h.0.members h.1.1))
+    subst (λ z. StaysKnown (setting_of (setting_given (given_by (got o)) p)) (setting_of (setting_given (given_by z) p))) (sym h.1.0)
+    (bound_kept p (value_at p.name (given_pieces o.members)) (value_at p.name (given_pieces h.0.members)) (pieces_kept p.name o.members h.0.members h.1.1))
 offers_given later y h p = tt
 offers_given (bad w) y h p = tt
 
@@ -205,7 +205,7 @@ sight_self (Some (sight.Made p a)) = (kept_self p, kept_self a)
 sight_self (Some (sight.Nested i outs)) = (refl, λ name. output_self (value_at name outs))
 
 module _ (source : Source) (a b : Seen) (more : SeesMore a b) where
-  both_seen : (x y : Option SeenAt) → Keeps (option_and_then (λ s. s.physical) x) (option_and_then (λ s. s.physical) y) → Keeps (option_and_then (λ s. s.attrs) x) (option_and_then (λ s. s.attrs) y)
+  both_seen : (x y : Option SeenAt) → StaysKnown (option_and_then (λ s. s.physical) x) (option_and_then (λ s. s.physical) y) → StaysKnown (option_and_then (λ s. s.attrs) x) (option_and_then (λ s. s.attrs) y)
       → KeepsSight (Some (seen_as x)) (Some (seen_as y))
   both_seen None None g h = (tt, tt)
   both_seen None (Some t) g h = (tt, tt)

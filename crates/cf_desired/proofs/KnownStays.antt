@@ -7,7 +7,7 @@ use Rattle.cf_tree.specs.Datum.{Data}
 use Rattle.cf_tree.specs.Forms.{Form}
 use Rattle.cf_tree.specs.declared.source.Source.{Source}
 use Rattle.cf_tree.specs.declared.template.Out.{Out}
-use Rattle.cf_eval.specs.Knows.{Keeps, KnowsMore}
+use Rattle.cf_eval.specs.Knows.{StaysKnown, KnowsMore}
 use Rattle.cf_desired.specs.Seeing.{Seen, is_output_made, own_ids, first_sights, text_in, text_known}
 use Rattle.cf_desired.specs.Stays.{SeesMore}
 use Rattle.cf_desired.specs.Whole.{known_of, is_wanted_at}
@@ -23,18 +23,18 @@ use Rattle.cf_eval.specs.Scope.{Scope}
 use Rattle.cf_desired.specs.Shape.{given_root}
 use Rattle.cf_desired.specs.Stack.{Stack, Verdicts, Sights, value_in, with_prop, props_in}
 use Rattle.cf_eval.specs.Texts.{Found}
-use Rattle.cf_desired.specs.Valued.{unless_flaw, evaluated_at, valued_along, valued_inside, valued_in}
+use Rattle.cf_desired.specs.Valued.{unless_flaw, member_props, valued_along, valued_inside, valued_in}
 use Rattle.cf_desired.specs.Work.{Member, Nesting, Work, Inside, Body, no_work, resource, nested, shut, barred, halted, opened}
 use Rattle.cf_desired.specs.Work as inside
 use Rattle.cf_eval.proofs.Knowing.{Stands, plain_value_stands as value_stands}
 use Rattle.cf_desired.proofs.Keeping.{GivenKeeps, given_self, given_keeps, KeepsSights, put_keeps, first_keep, over, scope_knows, after_keeps, inside_keeps, names_keep, text_stands}
 
 -- properties, one by one
-kept_map : {A B : Type 0} (f : A → B) (x y : Option A) → Keeps x y → Keeps (option_map f x) (option_map f y)
+kept_map : {A B : Type 0} (f : A → B) (x y : Option A) → StaysKnown x y → StaysKnown (option_map f x) (option_map f y)
 kept_map f None y h = tt
 kept_map f (Some a) y h = ap (option_map f) h
 
-unless_kept : (f : Option Flaw) (v w : Evaluated) → Keeps (known_of v) (known_of w) → Keeps (known_of (unless_flaw f v)) (known_of (unless_flaw f w))
+unless_kept : (f : Option Flaw) (v w : Evaluated) → StaysKnown (known_of v) (known_of w) → StaysKnown (known_of (unless_flaw f v)) (known_of (unless_flaw f w))
 unless_kept None v w h = h
 unless_kept (Some f) v w h = tt
 
@@ -50,31 +50,31 @@ with_later : (path name : List ℕ) (r : Evaluated) → known_of (with_prop path
 with_later path name (evaluated ps) = refl
 with_later path name (flawed f) = refl
 
-known_with : (path name : List ℕ) (o : Option Data) (r u : Evaluated) → Keeps (known_of r) (known_of u) → Keeps (known_of (with_prop path name (got o) r)) (known_of (with_prop path name (got o) u))
+known_with : (path name : List ℕ) (o : Option Data) (r u : Evaluated) → StaysKnown (known_of r) (known_of u) → StaysKnown (known_of (with_prop path name (got o) r)) (known_of (with_prop path name (got o) u))
 known_with path name None r u h =
-    subst (λ x. Keeps x (known_of (with_prop path name (got None) u))) (sym (without_value path name r))
-    (subst (λ x. Keeps (known_of r) x) (sym (without_value path name u)) h)
+    subst (λ x. StaysKnown x (known_of (with_prop path name (got None) u))) (sym (without_value path name r))
+    (subst (λ x. StaysKnown (known_of r) x) (sym (without_value path name u)) h)
 known_with path name (Some d) r u h =
-    subst (λ x. Keeps x (known_of (with_prop path name (got (Some d)) u))) (sym (with_value path name d r))
-    (subst (λ x. Keeps (option_map (λ rest. (name, d) ∷ rest) (known_of r)) x) (sym (with_value path name d u))
+    subst (λ x. StaysKnown x (known_of (with_prop path name (got (Some d)) u))) (sym (with_value path name d r))
+    (subst (λ x. StaysKnown (option_map (λ rest. (name, d) ∷ rest) (known_of r)) x) (sym (with_value path name d u))
     (kept_map (λ rest. (name, d) ∷ rest) (known_of r) (known_of u) h))
 
-one_kept : (path name : List ℕ) (x y : Found) (r u : Evaluated) → Stands false x y → Keeps (known_of r) (known_of u) → Keeps (known_of (with_prop path name x r)) (known_of (with_prop path name y u))
-one_kept path name (got o) y r u g h = subst (λ z. Keeps (known_of (with_prop path name (got o) r)) (known_of (with_prop path name z u))) (sym g) (known_with path name o r u h)
-one_kept path name later y r u g h = subst (λ z. Keeps z (known_of (with_prop path name y u))) (sym (with_later path name r)) tt
+one_kept : (path name : List ℕ) (x y : Found) (r u : Evaluated) → Stands false x y → StaysKnown (known_of r) (known_of u) → StaysKnown (known_of (with_prop path name x r)) (known_of (with_prop path name y u))
+one_kept path name (got o) y r u g h = subst (λ z. StaysKnown (known_of (with_prop path name (got o) r)) (known_of (with_prop path name z u))) (sym g) (known_with path name o r u h)
+one_kept path name later y r u g h = subst (λ z. StaysKnown z (known_of (with_prop path name y u))) (sym (with_later path name r)) tt
 one_kept path name (bad w) y r u g h = tt
 
 module _ (s t : Scope) (k : KnowsMore s t) (path : List ℕ) where
-  props_kept : (ps : List (List ℕ × Form)) → Keeps (known_of (props_in path s ps)) (known_of (props_in path t ps))
+  props_kept : (ps : List (List ℕ × Form)) → StaysKnown (known_of (props_in path s ps)) (known_of (props_in path t ps))
   props_kept [] = refl
   props_kept (p ∷ ps) = one_kept path p.0 (value_in s p.1) (value_in t p.1) (props_in path s ps) (props_in path t ps) (value_stands s t k p.1) (props_kept ps)
 
-  member_kept : (m : Member) → Keeps (known_of (evaluated_at path s m)) (known_of (evaluated_at path t m))
+  member_kept : (m : Member) → StaysKnown (known_of (member_props path s m)) (known_of (member_props path t m))
   member_kept m = unless_kept m.unnamed (props_in path s m.props) (props_in path t m.props) (props_kept m.props)
 
 abbrev KeptAll : List (Member × Evaluated) → List (Member × Evaluated) → Type 0
 KeptAll [] [] = ⊤
-KeptAll (x ∷ xs) (y ∷ ys) = ((y.0 ≡ x.0) × Keeps (known_of x.1) (known_of y.1)) × KeptAll xs ys
+KeptAll (x ∷ xs) (y ∷ ys) = ((y.0 ≡ x.0) × StaysKnown (known_of x.1) (known_of y.1)) × KeptAll xs ys
 KeptAll _ _ = ⊥
 
 kept_and : (xs ys vs ws : List (Member × Evaluated)) → KeptAll xs ys → KeptAll vs ws → KeptAll (xs ++ vs) (ys ++ ws)
@@ -105,42 +105,42 @@ module _ (source : Source) (a b : Seen) (more : SeesMore a b) where
 
   -- by paths
   found_kept : (path : List ℕ) (xs ys : List (Member × Evaluated)) → KeptAll xs ys
-      → Keeps (option_and_then (λ w. known_of w.props) (find (is_wanted_at path) (map wanted_of xs))) (option_and_then (λ w. known_of w.props) (find (is_wanted_at path) (map wanted_of ys)))
+      → StaysKnown (option_and_then (λ w. known_of w.props) (find (is_wanted_at path) (map wanted_of xs))) (option_and_then (λ w. known_of w.props) (find (is_wanted_at path) (map wanted_of ys)))
   found_kept path [] [] h = tt
   found_kept path [] (y ∷ ys) h = absurd h
   found_kept path (x ∷ xs) [] h = absurd h
   found_kept path (x ∷ xs) (y ∷ ys) h =
-      subst (λ m. Keeps (option_and_then (λ w. known_of w.props) (find (is_wanted_at path) (map wanted_of (x ∷ xs)))) (option_and_then (λ w. known_of w.props) (find (is_wanted_at path) (map wanted_of ((m, y.1) ∷ ys))))) (sym h.0.0)
+      subst (λ m. StaysKnown (option_and_then (λ w. known_of w.props) (find (is_wanted_at path) (map wanted_of (x ∷ xs)))) (option_and_then (λ w. known_of w.props) (find (is_wanted_at path) (map wanted_of ((m, y.1) ∷ ys))))) (sym h.0.0)
       (either (bytes_eq path x.0.path) (found_kept path xs ys h.1)) where
         either : (t : Bool)
-            → Keeps (option_and_then (λ w. known_of w.props) (find (is_wanted_at path) (map wanted_of xs))) (option_and_then (λ w. known_of w.props) (find (is_wanted_at path) (map wanted_of ys)))
-            → Keeps (option_and_then (λ w. known_of w.props) (cond t (Some (wanted_of x)) (find (is_wanted_at path) (map wanted_of xs))))
+            → StaysKnown (option_and_then (λ w. known_of w.props) (find (is_wanted_at path) (map wanted_of xs))) (option_and_then (λ w. known_of w.props) (find (is_wanted_at path) (map wanted_of ys)))
+            → StaysKnown (option_and_then (λ w. known_of w.props) (cond t (Some (wanted_of x)) (find (is_wanted_at path) (map wanted_of xs))))
             (option_and_then (λ w. known_of w.props) (cond t (Some (wanted_of (x.0, y.1))) (find (is_wanted_at path) (map wanted_of ys))))
         either true ih = h.0.1
         either false ih = ih
 
   -- outputs of the root
   module _ (s u : Scope) (k : KnowsMore s u) (path : List ℕ) (conds : Verdicts) where
-    text_kept : (x y : Outcome (List ℕ)) → Stands false x y → Keeps (text_known x) (text_known y)
+    text_kept : (x y : Outcome (List ℕ)) → Stands false x y → StaysKnown (text_known x) (text_known y)
     text_kept (got v) y g = ap text_known g
     text_kept later y g = tt
     text_kept (bad w) y g = tt
 
     output_named : (name : List ℕ) (os : List Out)
-        → Keeps (option_and_then (λ o. o.value) (find (λ o. bytes_eq name o.name) (map (output_at path conds s) os)))
+        → StaysKnown (option_and_then (λ o. o.value) (find (λ o. bytes_eq name o.name) (map (output_at path conds s) os)))
         (option_and_then (λ o. o.value) (find (λ o. bytes_eq name o.name) (map (output_at path conds u) os)))
     output_named name [] = tt
     output_named name (o ∷ os) = either (bytes_eq name o.name) (output_named name os) where
       either : (t : Bool)
-          → Keeps (option_and_then (λ p. p.value) (find (λ p. bytes_eq name p.name) (map (output_at path conds s) os)))
+          → StaysKnown (option_and_then (λ p. p.value) (find (λ p. bytes_eq name p.name) (map (output_at path conds s) os)))
           (option_and_then (λ p. p.value) (find (λ p. bytes_eq name p.name) (map (output_at path conds u) os)))
-          → Keeps (option_and_then (λ p. p.value) (cond t (Some (output_at path conds s o)) (find (λ p. bytes_eq name p.name) (map (output_at path conds s) os))))
+          → StaysKnown (option_and_then (λ p. p.value) (cond t (Some (output_at path conds s o)) (find (λ p. bytes_eq name p.name) (map (output_at path conds s) os))))
           (option_and_then (λ p. p.value) (cond t (Some (output_at path conds u o)) (find (λ p. bytes_eq name p.name) (map (output_at path conds u) os))))
       either true ih = text_kept (text_in s o.value) (text_in u o.value) (text_stands source a b more s u k o.value)
       either false ih = ih
 
   outputs_kept : (name : List ℕ) (g : Given) (x : Body)
-      → Keeps (option_and_then (λ o. o.value) (find (λ o. bytes_eq name o.name) (outputs_in source a g x))) (option_and_then (λ o. o.value) (find (λ o. bytes_eq name o.name) (outputs_in source b g x)))
+      → StaysKnown (option_and_then (λ o. o.value) (find (λ o. bytes_eq name o.name) (outputs_in source a g x))) (option_and_then (λ o. o.value) (find (λ o. bytes_eq name o.name) (outputs_in source b g x)))
   outputs_kept name g (barred f) = tt
   outputs_kept name g (halted t f) = tt
   outputs_kept name g (opened t conds w) =

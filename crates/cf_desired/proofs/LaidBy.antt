@@ -27,7 +27,7 @@ use Rattle.cf_desired.specs.declared.shape.Turn as kept_turn
 use Rattle.cf_desired.specs.declared.shape.Turn.TheVariants.{Closed}
 use Rattle.cf_desired.specs.Given.{Given, unknown}
 use Rattle.cf_desired.specs.Kept.{IsContents, IsJoined, IsLaid, IsLaidAlong, IsShape, IsWithin, WayLaid, course_in, decision_in, nesting_in, turn_in, way_in}
-use Rattle.cf_desired.specs.Laying.{Path, begun, below, decision_of, few, nesting_by, step_by, way_by, with_nested}
+use Rattle.cf_desired.specs.Laying.{Path, path_begun, enterable_below, decision_of, few, nesting_by, step_by, way_by, with_nested}
 use Rattle.cf_desired.specs.Listed.{Made, made_by, settings_by}
 use Rattle.cf_desired.specs.Names.{pseudo_of}
 use Rattle.cf_desired.specs.Seeing.{Seen}
@@ -61,7 +61,7 @@ module _ (n : ℕ) (source : Source) (seen : Seen) (e : Entering) (en : Entry) (
     scopes sights = resource_scope e.stack.template bound conds pseudo sights source.imports
 
     abbrev behind : Path
-    behind = fold (step_by (below n source seen) source seen e conds scopes) (begun seen e.stack conds (own_in e.stack.template order) c.templates c.members) order
+    behind = fold (step_by (enterable_below n source seen) source seen e conds scopes) (path_begun seen e.stack conds (own_in e.stack.template order) c.templates c.members) order
 
     pub opened_by : {E : Type 0} (t : kept_turn.Turn) (k : Contents) (r : Result Laid E) → IsContents e.stack conds scopes (own_in e.stack.template order) behind k
         → turn_in t ≡ an_opened en e.stack conds k.made
@@ -92,7 +92,7 @@ pub nested_by : {U E : Type 0} (left : ℕ) (source : Source) (seen : Seen) (e :
     → nesting_in n ≡ nesting_by e old.stands ids r → nesting_in inner ≡ nesting_in n → form ≡ value_at (codes "Parameters") r.props → u ≡ unnamed_at e.stack.path conds r
     → s ≡ over old.sights → stack ≡ e.stack.path → way_in w ≡ way_by left source stack s old.count.templates old.count.members inner.path r u
     → ((s : Scope) → WayLaid source seen s e (nesting_in inner) form r left old.count (way_in w) l) → IfOk result (λ _. IsJoined source (nesting_in n) l old new)
-    → IfOk result (λ _. course_in new ≡ with_nested (below left source seen) source seen e conds over (course_in old) ids r)
+    → IfOk result (λ _. course_in new ≡ with_nested (enterable_below left source seen) source seen e conds over (course_in old) ids r)
 nested_by left source seen e conds over old ids r n inner form u s stack w l new (Err x) hn hi hf hu hs hp hw hl hj = tt
 nested_by left source seen e conds over old ids r n inner form u s stack w l new (Ok done) hn hi hf hu hs hp hw hl hj =
     let here : way_in w ≡ way_by left source e.stack.path (over old.sights) old.count.templates old.count.members n.path r u =
@@ -101,7 +101,7 @@ nested_by left source seen e conds over old ids r n inner form u s stack w l new
     subst (λ (x : Option Form). WayLaid source seen (over old.sights) e (nesting_in n) x r left old.count (way_in w) l) hf
     (subst (λ (x : Nesting). WayLaid source seen (over old.sights) e x form r left old.count (way_in w) l) hi (hl (over old.sights))) in
     let within = way_laid left source seen (over old.sights) e (nesting_in n) r old.count u (way_in w) l here so in
-    nested_so (below left source seen) source seen e conds over old new ids r (nesting_in n) u l hn hu within hj
+    nested_so (enterable_below left source seen) source seen e conds over old new ids r (nesting_in n) u l hn hu within hj
 
 -- a nested stack that is shut, and one whose template can't be entered
 module _ {E : Type 0} (source : Source) (seen : Seen) (e : Entering) (n : kept_nesting.Nesting) (form : Option Form) (r : Res) (left : ℕ) (c : Count) (w : kept_way.Way) (f : Flaw)

@@ -20,7 +20,7 @@ use Rattle.cf_eval.specs.Outcome.{Outcome, on_got, got, later, bad}
 use Rattle.cf_eval.specs.Scope.{Scope}
 use Rattle.cf_eval.specs.ScopeOf.{setting_of}
 use Rattle.cf_eval.specs.Texts.{Found}
-use Rattle.cf_graph.specs.Needs.{Tangle, is_made, needs_in, needs_of, resource_named}
+use Rattle.cf_graph.specs.Needs.{OrderFault, is_made, needs_in, needs_of, resource_named}
 use Rattle.cf_desired.specs.declared.flaw.Flaw.{Flaw}
 use Rattle.cf_desired.specs.declared.flaw.Flaw.TheVariants as flaw
 use Rattle.cf_desired.specs.Given.{Given, given_in, settings_for}
@@ -28,11 +28,11 @@ use Rattle.cf_desired.specs.declared.laying.Count.{Count}
 use Rattle.cf_desired.specs.declared.laying.Course as kept_course
 use Rattle.cf_desired.specs.declared.laying.Laid.{Laid}
 use Rattle.cf_desired.specs.Kept.{IsJoined, IsLaid, IsWithin, WayLaid, course_in, turn_in}
-use Rattle.cf_desired.specs.Laying.{IsWay, Path, Way, begun, below, few, decision_of, by_order, ordered_of, entered_by, entered_way, url_way, way_by, way_shut, inside_by, member_by, nesting_by, step_by, step_with, with_inside, with_member, with_nested}
+use Rattle.cf_desired.specs.Laying.{IsWay, Path, Way, path_begun, enterable_below, few, decision_of, by_order, order_found, entered_by, entered_way, url_way, way_by, way_shut, inside_by, member_by, nesting_by, step_by, step_with, with_inside, with_member, with_nested}
 use Rattle.cf_desired.specs.Listed.{made_by, settings_by}
 use Rattle.cf_desired.specs.Names.{path_in, pseudo_of}
 use Rattle.cf_desired.specs.Seeing.{Seen, by_names, first_sights, nested_sight, output_sights, outputs_inside, outputs_of, own_ids, seen_nested, sights_after}
-use Rattle.cf_desired.specs.Shape.{Course, Entering, Laying, StandsFor, Url, url, no_url, body_at, body_bound, body_decided, course_after, entering_below, first_later, first_stands, given_root, has_stack_shape, in_order, inside_of, laid, laid_within, maybe_text, member_of, members_below, members_in, members_inside, needed_by, nested_before, nesting_of, own_id, own_in, paths_below, paths_in, paths_inside, root_of, shape_of, step_before, stood_for, templates_below, templates_in, templates_inside, those, unnamed_at, url_from, url_of, verdicts_of, work_along}
+use Rattle.cf_desired.specs.Shape.{PlanInProgress, Entering, Laying, StandsFor, Url, url, no_url, body_at, body_bound, body_decided, progress_after, entering_below, first_later, first_stands, given_root, has_stack_shape, in_order, inside_of, laid, laid_within, maybe_text, member_of, members_below, members_in, members_inside, needed_by, nested_before, nesting_of, own_id, own_in, paths_below, paths_in, paths_inside, root_of, shape_of, step_before, stood_for, templates_below, templates_in, templates_inside, those, unnamed_at, url_from, url_of, verdicts_of, work_along}
 use Rattle.cf_desired.specs.Stack.{Scoping, Settings, Sights, Stack, Verdicts, resource_scope, scoping, value_in}
 use Rattle.cf_desired.specs.Templates.{is_stack, template_named}
 use Rattle.cf_desired.specs.Turns.{Entry, a_resource, a_closed, an_opened, turns_along, turns_in, turns_inside}
@@ -140,7 +140,7 @@ url_same stack path s u h r = ap (url_from stack path) (either (value_at (codes 
   either (Some f) = ap (λ (x : Found). on_got x (maybe_text (place_of f))) (h f)
 
 module _ (lay : Option Laying) (source : Source) (seen : Seen) (e : Entering) where
-  inside_same : (s u : Scope) → SameScope s u → (c : Course) (n : Nesting) (r : Res) (o : Option Flaw)
+  inside_same : (s u : Scope) → SameScope s u → (c : PlanInProgress) (n : Nesting) (r : Res) (o : Option Flaw)
       → inside_by lay source e s c.templates c.members n r o ≡ inside_of lay source e u c n r o
   inside_same s u same c n r (Some f) = refl
   inside_same s u same c n r None = λ i. cond (has_stack_shape r)
@@ -163,7 +163,7 @@ module _ (lay : Option Laying) (source : Source) (seen : Seen) (e : Entering) wh
     scopes n m h = scope_same e.stack.template bound settings conds pseudo (pseudo_of e.stack.name source.number) source.imports n m binds told h
 
     -- what is known along the order of work is the same
-    record Alike (k : Path) (c : Course) : Type 0 where
+    record Alike (k : Path) (c : PlanInProgress) : Type 0 where
       sights : SameAt k.sights c.sights
       stands : SameAt k.stands c.stands
       made : StandMade e.stack.template conds c.stands
@@ -171,7 +171,7 @@ module _ (lay : Option Laying) (source : Source) (seen : Seen) (e : Entering) wh
       members : k.members ≡ c.members
 
     -- what comes along some work
-    record Goes (k l : Path) (c : Course) (w : Work) : Type 0 where
+    record Goes (k l : Path) (c : PlanInProgress) (w : Work) : Type 0 where
       turns : l.turns ≡ k.turns ++ turns_along w
       paths : l.paths ≡ k.paths ++ paths_below w
       templates : l.templates ≡ k.templates + templates_below w
@@ -182,8 +182,8 @@ module _ (lay : Option Laying) (source : Source) (seen : Seen) (e : Entering) wh
     step = step_by lay source seen e conds kept
 
     module _ (m : Row) (order : List Row) (h : HasNeeds e.stack.template conds m)
-        (ih : (k : Path) (c : Course) → Alike k c → Goes k (fold step k order) c (work_along lay source seen e conds over order c)) (k : Path) (c : Course) (a : Alike k c) where
-      abbrev rest_work : Course → Work
+        (ih : (k : Path) (c : PlanInProgress) → Alike k c → Goes k (fold step k order) c (work_along lay source seen e conds over order c)) (k : Path) (c : PlanInProgress) (a : Alike k c) where
+      abbrev rest_work : PlanInProgress → Work
       rest_work d = work_along lay source seen e conds over order d
 
       -- a resource
@@ -207,8 +207,8 @@ module _ (lay : Option Laying) (source : Source) (seen : Seen) (e : Entering) wh
         abbrev i : Inside
         i = inside_of lay source e (over c.sights) c n r (unnamed_at e.stack.path conds r)
 
-        abbrev d : Course
-        d = course_after source seen (over c.sights) c n i
+        abbrev d : PlanInProgress
+        d = progress_after source seen (over c.sights) c n i
 
         same : SameScope (kept k.sights) (over c.sights)
         same = scopes k.sights c.sights a.sights
@@ -263,7 +263,7 @@ module _ (lay : Option Laying) (source : Source) (seen : Seen) (e : Entering) wh
       by_name None f = ih k c a
       by_name (Some r) f = by_kind r f (is_stack r)
 
-    along : (order : List Row) → AllNeeds e.stack.template conds order → (k : Path) (c : Course) → Alike k c → Goes k (fold step k order) c (work_along lay source seen e conds over order c)
+    along : (order : List Row) → AllNeeds e.stack.template conds order → (k : Path) (c : PlanInProgress) → Alike k c → Goes k (fold step k order) c (work_along lay source seen e conds over order c)
     along [] h k c a = record {
       turns = sym (append-nil k.turns);
       paths = sym (append-nil k.paths);
@@ -278,17 +278,17 @@ module _ (lay : Option Laying) (source : Source) (seen : Seen) (e : Entering) wh
       abbrev own : List (List ℕ)
       own = own_in e.stack.template order
 
-      abbrev first : Course
+      abbrev first : PlanInProgress
       first = record { sights = first_sights e.stack conds seen own; stands = first_stands e.stack own; templates = templates + 1; members = members + length e.stack.template.resources }
 
       abbrev work : Work
       work = work_along lay source seen e conds over order first
 
       abbrev behind : Path
-      behind = fold step (begun seen e.stack conds own templates members) order
+      behind = fold step (path_begun seen e.stack conds own templates members) order
 
-      goes : Goes (begun seen e.stack conds own templates members) behind first work
-      goes = along order h (begun seen e.stack conds own templates members) first (record {
+      goes : Goes (path_begun seen e.stack conds own templates members) behind first work
+      goes = along order h (path_begun seen e.stack conds own templates members) first (record {
         sights = sights_listed e.stack conds seen own;
         stands = stands_listed e.stack own;
         made = first_made e.stack.template conds e.stack order h;
@@ -324,28 +324,28 @@ conditions_same t bound settings pseudo told h p =
 
 -- a template that is entered at a depth
 laid_below : (n : ℕ) (source : Source) (seen : Seen) (e : Entering) (g : Given) (templates members : ℕ)
-    → laid n source seen e g templates members ≡ body_bound (below n source seen) source seen e (settings_for e.stack.template.params g) templates members
+    → laid n source seen e g templates members ≡ body_bound (enterable_below n source seen) source seen e (settings_for e.stack.template.params g) templates members
 laid_below zero source seen e g templates members = refl
 laid_below (suc n) source seen e g templates members = refl
 
 pub laid_so : (n : ℕ) (source : Source) (seen : Seen) (e : Entering) (g : Given) (templates members : ℕ) (bound : Settings) (pseudo : List (List ℕ × Data))
     → bound ≡ settings_by e.stack.template.params g → pseudo ≡ pseudo_of e.stack.name source.number → (d : Result (Verdicts × List Row) Flaw)
     → d ≡ decision_of e.stack (conditions_of e.stack.template bound pseudo)
-    → laid n source seen e g templates members ≡ body_of (below n source seen) source seen e (settings_for e.stack.template.params g) templates members d
+    → laid n source seen e g templates members ≡ body_of (enterable_below n source seen) source seen e (settings_for e.stack.template.params g) templates members d
 laid_so n source seen e g templates members bound pseudo b p d h =
     laid_below n source seen e g templates members
-    ∙ ap (body_decided (below n source seen) source seen e (settings_for e.stack.template.params g) templates members)
+    ∙ ap (body_decided (enterable_below n source seen) source seen e (settings_for e.stack.template.params g) templates members)
     (sym (conditions_same e.stack.template bound (settings_for e.stack.template.params g) pseudo (pseudo_of e.stack.name source.number)
     (λ q. ap (value_at q) b ∙ settings_listed g e.stack.template.params q) p))
-    ∙ body_decides (below n source seen) source seen e (settings_for e.stack.template.params g) templates members (conditions_of e.stack.template bound pseudo)
-    ∙ ap (body_of (below n source seen) source seen e (settings_for e.stack.template.params g) templates members) (sym h)
+    ∙ body_decides (enterable_below n source seen) source seen e (settings_for e.stack.template.params g) templates members (conditions_of e.stack.template bound pseudo)
+    ∙ ap (body_of (enterable_below n source seen) source seen e (settings_for e.stack.template.params g) templates members) (sym h)
 
 -- an order that was decided tells what each needs
 abbrev HasOrder : Template → Result (Verdicts × List Row) Flaw → Type 0
 HasOrder t (Ok d) = AllNeeds t d.0 d.1
 HasOrder t (Err f) = ⊤
 
-by_order_needs : (t : Stack) (conds : Verdicts) (r : Result (List Row) Tangle) → IfOk r (AllNeeds t.template conds) → HasOrder t.template (by_order t conds r)
+by_order_needs : (t : Stack) (conds : Verdicts) (r : Result (List Row) OrderFault) → IfOk r (AllNeeds t.template conds) → HasOrder t.template (by_order t conds r)
 by_order_needs t conds (Ok order) h = h
 by_order_needs t conds (Err x) h = tt
 
@@ -354,7 +354,7 @@ pub decided_needs : (t : Stack) (o : Outcome (List (List ℕ × Option Bool))) �
 decided_needs t (bad s) h = tt
 decided_needs t later h = tt
 decided_needs t (got conds) h = either (first_later conds) where
-  either : (o : Option (List ℕ)) → HasOrder t.template (option_map_or (λ name. Err (flaw.DynamicCondition t.path name)) o (ordered_of t (verdicts_of conds)))
+  either : (o : Option (List ℕ)) → HasOrder t.template (option_map_or (λ name. Err (flaw.DynamicCondition t.path name)) o (order_found t (verdicts_of conds)))
   either None = by_order_needs t (verdicts_of conds) (needs_of t.template (verdicts_of conds)) (order_needs t.template (verdicts_of conds) h)
   either (Some name) = tt
 
@@ -375,7 +375,7 @@ entered_body n source seen entering g templates members (Err f) = barred f
 
 -- where a template may be entered there is a depth left
 pub within_entered : (n : ℕ) (source : Source) (seen : Seen) (path name : List ℕ) (templates members : ℕ) (o : Option Template) (entering : Template → Entering) (g : Given)
-    → laid_within (below n source seen) path name templates members o entering g ≡ entered_body (n - 1) source seen entering g templates members (entered_by n path name templates members o)
+    → laid_within (enterable_below n source seen) path name templates members o entering g ≡ entered_body (n - 1) source seen entering g templates members (entered_by n path name templates members o)
 within_entered zero source seen path name templates members o entering g = refl
 within_entered (suc n) source seen path name templates members None entering g =
     let less : suc n - 1 ≡ n = omega arith in
@@ -447,7 +447,7 @@ way_fits left source stack s templates members path r o w h = subst (IsWay left 
 pub way_laid : (left : ℕ) (source : Source) (seen : Seen) (s : Scope) (e : Entering) (n : Nesting) (r : Res) (c : Count) (o : Option Flaw) (w : Way) (l : Laid)
     → w ≡ way_by left source e.stack.path s c.templates c.members n.path r o
     → WayLaid source seen s e n (value_at (codes "Parameters") r.props) r left c w l
-    → IsWithin source seen s n c (inside_by (below left source seen) source e s c.templates c.members n r o) l
+    → IsWithin source seen s n c (inside_by (enterable_below left source seen) source e s c.templates c.members n r o) l
 way_laid left source seen s e n r c o w l h k = by_flaw o (subst (λ x. WayLaid source seen s e n (value_at (codes "Parameters") r.props) r left c x l) h k) where
   by_entered : (x : Result Template Flaw) → WayLaid source seen s e n (value_at (codes "Parameters") r.props) r left c (entered_way (given_in s (value_at (codes "Parameters") r.props)) x) l
       → IsWithin source seen s n c (inside.given_by (value_at (codes "Parameters") r.props) (entered_body (left - 1) source seen (entering_below e n r) (given_in s (value_at (codes "Parameters") r.props)) c.templates c.members x)) l
@@ -455,7 +455,7 @@ way_laid left source seen s e n r c o w l h k = by_flaw o (subst (λ x. WayLaid 
   by_entered (Err f) k = k
 
   by_url : (u : Url) → WayLaid source seen s e n (value_at (codes "Parameters") r.props) r left c (url_way left source n.path c.templates c.members (given_in s (value_at (codes "Parameters") r.props)) u) l
-      → IsWithin source seen s n c (inside.given_by (value_at (codes "Parameters") r.props) (body_at (below left source seen) source e n r c.templates c.members (given_in s (value_at (codes "Parameters") r.props)) u)) l
+      → IsWithin source seen s n c (inside.given_by (value_at (codes "Parameters") r.props) (body_at (enterable_below left source seen) source e n r c.templates c.members (given_in s (value_at (codes "Parameters") r.props)) u)) l
   by_url (no_url f) k = k
   by_url (url name) k =
       subst (λ (b : Body). IsWithin source seen s n c (inside.given_by (value_at (codes "Parameters") r.props) b) l)
@@ -464,12 +464,12 @@ way_laid left source seen s e n r c o w l h k = by_flaw o (subst (λ x. WayLaid 
 
   by_shape : (b : Bool)
       → WayLaid source seen s e n (value_at (codes "Parameters") r.props) r left c (cond b (url_way left source n.path c.templates c.members (given_in s (value_at (codes "Parameters") r.props)) (url_of e.stack.path n.path s r)) (way_shut (flaw.Shape n.path))) l
-      → IsWithin source seen s n c (cond b (inside.given_by (value_at (codes "Parameters") r.props) (body_at (below left source seen) source e n r c.templates c.members (given_in s (value_at (codes "Parameters") r.props)) (url_of e.stack.path n.path s r))) (shut (flaw.Shape n.path))) l
+      → IsWithin source seen s n c (cond b (inside.given_by (value_at (codes "Parameters") r.props) (body_at (enterable_below left source seen) source e n r c.templates c.members (given_in s (value_at (codes "Parameters") r.props)) (url_of e.stack.path n.path s r))) (shut (flaw.Shape n.path))) l
   by_shape true k = by_url (url_of e.stack.path n.path s r) k
   by_shape false k = k
 
   by_flaw : (o : Option Flaw) → WayLaid source seen s e n (value_at (codes "Parameters") r.props) r left c (way_by left source e.stack.path s c.templates c.members n.path r o) l
-      → IsWithin source seen s n c (inside_by (below left source seen) source e s c.templates c.members n r o) l
+      → IsWithin source seen s n c (inside_by (enterable_below left source seen) source e s c.templates c.members n r o) l
   by_flaw (Some f) k = k
   by_flaw None k = by_shape (has_stack_shape r) k
 
@@ -494,7 +494,7 @@ nested_so lay source seen e conds over old new ids r n u l en eu w j =
 pub opened_laid : (n : ℕ) (source : Source) (seen : Seen) (e : Entering) (en : Entry) (g : Given) (c : Count) (bound : Settings) (pseudo : List (List ℕ × Data)) (conds : Verdicts) (order : List Row) (k : Path) (l : Laid)
     → AreOrdered e.stack.template.resources → bound ≡ settings_by e.stack.template.params g → pseudo ≡ pseudo_of e.stack.name source.number
     → Ok (conds, order) ≡ decision_of e.stack (conditions_of e.stack.template bound pseudo)
-    → k ≡ fold (step_by (below n source seen) source seen e conds (λ sights. resource_scope e.stack.template bound conds pseudo sights source.imports)) (begun seen e.stack conds (own_in e.stack.template order) c.templates c.members) order
+    → k ≡ fold (step_by (enterable_below n source seen) source seen e conds (λ sights. resource_scope e.stack.template bound conds pseudo sights source.imports)) (path_begun seen e.stack conds (own_in e.stack.template order) c.templates c.members) order
     → map turn_in l.turns ≡ an_opened en e.stack conds (made_by conds e.stack.template (own_in e.stack.template order)) ∷ (k.turns ++ a_closed ∷ [])
     → l.outputs ≡ by_names (output_sights e.stack conds (resource_scope e.stack.template bound conds pseudo k.sights source.imports))
     → l.paths ≡ map (path_in e.stack.path) (own_in e.stack.template order) ++ k.paths → l.count.templates ≡ k.templates → l.count.members ≡ k.members
@@ -503,7 +503,7 @@ opened_laid n source seen e en g c bound pseudo conds order k l ordered b p d kk
     let settings = settings_for e.stack.template.params g in
     let binds : SameAt bound settings = λ q. ap (value_at q) b ∙ settings_listed g e.stack.template.params q in
     let needs : AllNeeds e.stack.template conds order = subst (HasOrder e.stack.template) (sym d) (decided_needs e.stack (conditions_of e.stack.template bound pseudo) ordered) in
-    let lay = below n source seen in
+    let lay = enterable_below n source seen in
     let same : laid n source seen e g (c.templates + 1) (c.members + length e.stack.template.resources) ≡ opened e.stack conds (work lay source seen e conds bound settings pseudo binds p c.templates c.members order needs) =
     laid_so n source seen e g (c.templates + 1) (c.members + length e.stack.template.resources) bound pseudo b p (Ok (conds, order)) d in
     subst (λ x. IsLaid source seen en g c x l) (sym same)

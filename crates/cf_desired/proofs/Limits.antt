@@ -18,9 +18,9 @@ use Rattle.cf_template.specs.declared.walk.Region.TheVariants.{Root}
 use Rattle.cf_template.specs.Conds.{conds_in}
 use Rattle.cf_template.specs.Json.{json_of, count}
 use Rattle.cf_template.specs.Maps.{mappings_in}
-use Rattle.cf_template.specs.Outputs.{outputs_in}
+use Rattle.cf_template.specs.Outputs.{outputs_form}
 use Rattle.cf_template.specs.Params.{params_in}
-use Rattle.cf_template.specs.Places.{member_at}
+use Rattle.cf_template.specs.Places.{member_place}
 use Rattle.cf_template.specs.Refusals.{Reading, after, mapped, provided, unless}
 use Rattle.cf_template.specs.Resources.{resource_of, resources_in}
 use Rattle.cf_template.specs.Shapes.{optional, plain_text, unread}
@@ -59,8 +59,8 @@ one_longer n found r rs h = omega (arith, h, length-append found (r ∷ []))
 read_long : (ps : List Param) (ms : Members) (at : List ℕ) (found : List Res) → IfOk (resources_in ps ms at found) (IsAsLong (length found + count ms))
 read_long ps no_members at found = omega arith
 read_long ps (member k d ms) at found =
-    provided_ok (IsAsLong (length found + suc (count ms))) (is_name k) (BadName (member_at at k)) (after (resource_of ps k d (member_at at k)) (λ r. resources_in ps ms at (found ++ r ∷ [])))
-    (after_ok (IsAsLong (length found + suc (count ms))) (resource_of ps k d (member_at at k)) (λ r. resources_in ps ms at (found ++ r ∷ []))
+    provided_ok (IsAsLong (length found + suc (count ms))) (is_name k) (BadName (member_place at k)) (after (resource_of ps k d (member_place at k)) (λ r. resources_in ps ms at (found ++ r ∷ [])))
+    (after_ok (IsAsLong (length found + suc (count ms))) (resource_of ps k d (member_place at k)) (λ r. resources_in ps ms at (found ++ r ∷ []))
     (λ r. longer r (resources_in ps ms at (found ++ r ∷ [])) (read_long ps ms at (found ++ r ∷ [])))) where
       longer : (r : Res) (x : Reading (List Res)) → IfOk x (IsAsLong (length (found ++ r ∷ []) + count ms)) → IfOk x (IsAsLong (length found + suc (count ms)))
       longer r (Ok rs) h = one_longer (count ms) found r rs h
@@ -83,9 +83,9 @@ section_few : (ps : List Param) (o : Option Data) → IfOk (required_section (re
 section_few ps None = tt
 section_few ps (Some (object ms)) =
     let none : 0 + count ms ≡ count ms = omega arith in
-    let long = subst (λ (k : ℕ). IfOk (resources_in ps ms (member_at [] (codes "Resources")) []) (IsAsLong k)) none (read_long ps ms (member_at [] (codes "Resources")) []) in
+    let long = subst (λ (k : ℕ). IfOk (resources_in ps ms (member_place [] (codes "Resources")) []) (IsAsLong k)) none (read_long ps ms (member_place [] (codes "Resources")) []) in
     unless_ok AreFew (empty_fault (codes "Resources") (count ms)) (section (resources_in ps) 500 (codes "Resources") (Some (object ms)))
-    (counted (count ms) (resources_in ps ms (member_at [] (codes "Resources")) []) long)
+    (counted (count ms) (resources_in ps ms (member_place [] (codes "Resources")) []) long)
 section_few ps (Some (array ds)) = tt
 section_few ps (Some null) = tt
 section_few ps (Some (boolean b)) = tt
@@ -107,7 +107,7 @@ module _ (d : Data) where
         conds = conds;
         resources = resources;
         outputs = outputs;
-      }) (section (outputs_in params) 200 (codes "Outputs") (get (codes "Outputs") d))
+      }) (section (outputs_form params) 200 (codes "Outputs") (get (codes "Outputs") d))
 
   abbrev with_conds : List Param → Mappings → List (List ℕ × Test) → Reading Template
   with_conds params mappings conds = after (required_section (resources_in params) 500 (codes "Resources") (get (codes "Resources") d)) (with_resources params mappings conds)
@@ -132,7 +132,7 @@ module _ (d : Data) where
       after_ok HasFew (section mappings_in 200 (codes "Mappings") (get (codes "Mappings") d)) (with_mappings params) (λ mappings.
       after_ok HasFew (free_section (conds_in params) (codes "Conditions") (get (codes "Conditions") d)) (with_conds params mappings) (λ conds.
       then_ok AreFew HasFew (required_section (resources_in params) 500 (codes "Resources") (get (codes "Resources") d)) (with_resources params mappings conds)
-      (λ resources o. map_ok HasFew _ (section (outputs_in params) 200 (codes "Outputs") (get (codes "Outputs") d)) (λ outputs. o))
+      (λ resources o. map_ok HasFew _ (section (outputs_form params) 200 (codes "Outputs") (get (codes "Outputs") d)) (λ outputs. o))
       (section_few params (get (codes "Resources") d)))))))
 
 from_few : (d : Data) → IfOk (template_from d) HasFew

@@ -16,7 +16,7 @@ use Rattle.cf_graph.specs.Needs.{holds_in}
 use Rattle.cf_tree.specs.Lists.{is_among}
 use Rattle.cf_desired.specs.Names.{path_in, pseudo_of, stack_id}
 use Rattle.cf_desired.specs.Seeing.{Seen, seen_as, own_ids, unmade_sights, first_sights, nested_sight, sights_after, outputs_inside, outputs_of, by_names}
-use Rattle.cf_desired.specs.Valued.{unless_flaw, evaluated_at, resources_in, valued_along, valued_inside, valued_in}
+use Rattle.cf_desired.specs.Valued.{unless_flaw, member_props, resources_in, valued_along, valued_inside, valued_in}
 use Rattle.cf_desired.specs.Met.{flaws_of, Met, a_stack, a_flaw, flaw_met, met_along, met_inside, met_in, offers_flaw, bind_flaw, bind_flaw_in, flaw_inside, outputs_met, scope_after}
 use Rattle.cf_desired.specs.Stays.{is_shown, is_settled}
 use Rattle.cf_desired.specs.declared.flaw.Flaw.{Flaw}
@@ -29,7 +29,7 @@ use Rattle.cf_desired.specs.NeededIsKnown.{is_bound, NeededIsKnown}
 use Rattle.cf_eval.specs.Outcome.{Stop}
 use Rattle.cf_eval.specs.declared.env.OutputSight.{OutputSight}
 use Rattle.cf_eval.specs.declared.env.OutputSight.TheVariants as output
-use Rattle.cf_desired.specs.Rests.{AllAgree}
+use Rattle.cf_desired.specs.Rests.{SeesAllSame}
 use Rattle.cf_desired.specs.Shape.{StandsFor, those, first_stands, paths_below, paths_inside, paths_in, given_root, shape_of}
 use Rattle.cf_eval.specs.declared.env.Sight.{Sight}
 use Rattle.cf_eval.specs.declared.env.Sight.TheVariants as sight
@@ -182,7 +182,7 @@ module _ (source : Source) (seen : Seen) where
     either false g = h id g
 
   agree_shown : (t : Template) (g : Given) (needs : List (List ℕ)) (stands : StandsFor) (m : Sights) → SightsShown stands m → Shown needs → (ms : List Mention) → CoversAll t needs stands ms
-      → AllAgree (settings_for t.params g) (fulls m) m ms
+      → SeesAllSame (settings_for t.params g) (fulls m) m ms
   agree_shown t g needs stands m h k [] c = tt
   agree_shown t g needs stands m h k (by_ref name ∷ ms) c =
       (λ o. fulls_same m name (h name (λ q i. k q (c.0 (hidden g name t.params o) q i))), agree_shown t g needs stands m h k ms c.1)
@@ -196,7 +196,7 @@ module _ (source : Source) (seen : Seen) where
     known_fulls b m = scope_known source seen t conds g (fulls m) d b (fulls_full m)
 
     member_settled : AreBound t.template.params g → (stands : StandsFor) (m : Sights) (r : Member) → SightsShown stands m → Shown r.needs → CoversAll t.template r.needs stands (fields_mentions (holds_in conds) (fields_of r.props))
-        → is_settled (evaluated_at t.path (on t conds g m) r) ≡ true
+        → is_settled (member_props t.path (on t conds g m) r) ≡ true
     member_settled b stands m r h k c =
         ap (λ v. is_settled (unless_flaw r.unnamed v))
         (props_same t.template (settings_for t.template.params g) conds (pseudo_of t.name source.number) source.imports (fulls m) m t.path r.props
@@ -227,7 +227,7 @@ module _ (source : Source) (seen : Seen) where
         → Covers t.template conds needs stands w → Shown (paths_below w) → HasBound (met_along source seen t.path (on t conds g) m w) → IsFullAll (sights_after source seen (on t conds g) m w)
     after_told t conds g d b m f needs stands no_work c s h = f
     after_told t conds g d b m f needs stands (resource r w) c s h =
-        after_told t conds g d b m f needs stands w c.1 s (bound_both (map (λ x. a_flaw x) (flaws_of (evaluated_at t.path (on t conds g m) r))) _ h).1
+        after_told t conds g d b m f needs stands w c.1 s (bound_both (map (λ x. a_flaw x) (flaws_of (member_props t.path (on t conds g m) r))) _ h).1
     after_told t conds g d b m f needs stands (nested x i w) c s h =
         let own = first_shown source seen (paths_inside i ++ x.needs) (paths_below w) s in
         let here = stack_none x (flaw_inside t.path (on t conds g m) i) (met_inside source seen t.path (on t conds g m) i ++ met_along source seen t.path (on t conds g) (nested_sight source x (outputs_inside source seen (on t conds g m) i) m) w) (second_shown source seen (paths_inside i) x.needs own) h in
@@ -271,7 +271,7 @@ module _ (source : Source) (seen : Seen) where
     along_settled t conds g d needs b stands m f no_work c h = tt
     along_settled t conds g d needs b stands m f (resource r w) c h = (
       λ k. member_settled t conds g d (b (λ q i. k q (c.0.0 q i))) stands m r f k c.0.1,
-      along_settled t conds g d needs b stands m f w c.1 (bound_both (map (λ x. a_flaw x) (flaws_of (evaluated_at t.path (on t conds g m) r))) _ h).1,
+      along_settled t conds g d needs b stands m f w c.1 (bound_both (map (λ x. a_flaw x) (flaws_of (member_props t.path (on t conds g m) r))) _ h).1,
     )
     along_settled t conds g d needs b stands m f (nested x i w) c h =
         let parts = bound_both (met_inside source seen t.path (on t conds g m) i) (met_along source seen t.path (on t conds g) (nested_sight source x (outputs_inside source seen (on t conds g m) i) m) w) (stack_rest x (flaw_inside t.path (on t conds g m) i) (met_inside source seen t.path (on t conds g m) i ++ met_along source seen t.path (on t conds g) (nested_sight source x (outputs_inside source seen (on t conds g m) i) m) w) h) in

@@ -16,12 +16,12 @@ use Rattle.cf_tree.specs.declared.template.Out.{Out}
 use Rattle.cf_tree.specs.declared.template.Param.{Param}
 use Rattle.cf_tree.specs.declared.template.Template.{Template}
 use Rattle.cf_eval.specs.ScopeOf.{verdict_of}
-use Rattle.cf_graph.specs.Mentions.{Mention, by_ref, by_attribute, mentions_of, node_mentions, fields_mentions, taken}
+use Rattle.cf_graph.specs.Mentions.{Mention, by_ref, by_attribute, mentions_of, node_mentions, fields_mentions, taken_branch}
 use Rattle.cf_graph.specs.Needs.{is_true, holds_in}
 use Rattle.cf_tree.specs.Lists.{is_among}
 use Rattle.cf_desired.specs.Names.{path_in, pseudo_of, stack_id}
 use Rattle.cf_desired.specs.Seeing.{Seen, SeenAt, is_output_made, seen_as, own_ids, first_sights, unnamed_output, export_wanted, export_stop, output_stop, text_in, text_known, broken_at, output_sight, output_seen, output_sights, sights_after, outputs_inside, outputs_of, by_names}
-use Rattle.cf_desired.specs.Valued.{unless_flaw, evaluated_at, resources_along, resources_inside, resources_in, valued_along, valued_inside, valued_in}
+use Rattle.cf_desired.specs.Valued.{unless_flaw, member_props, resources_along, resources_inside, resources_in, valued_along, valued_inside, valued_in}
 use Rattle.cf_desired.specs.Stays.{AgreeAt}
 use Rattle.cf_desired.specs.declared.wanted.Evaluated.{Evaluated}
 use Rattle.cf_desired.proofs.OrderNeeds.{among_first, among_second}
@@ -32,8 +32,8 @@ use Rattle.cf_desired.specs.NeedsMatter.{NeedsMatter}
 use Rattle.cf_eval.specs.Outcome.{Outcome, got, on_got}
 use Rattle.cf_eval.specs.declared.env.OutputSight.{OutputSight}
 use Rattle.cf_eval.specs.declared.env.OutputSight.TheVariants as output
-use Rattle.cf_desired.specs.Rests.{AllAgree}
-use Rattle.cf_eval.specs.Scope.{Scope, held_at}
+use Rattle.cf_desired.specs.Rests.{SeesAllSame}
+use Rattle.cf_eval.specs.Scope.{Scope, decided_at}
 use Rattle.cf_desired.specs.Shape.{StandsFor, those, first_stands, paths_below, paths_inside, paths_in, given_root, shape_of}
 use Rattle.cf_eval.specs.declared.env.Sight.{Sight}
 use Rattle.cf_eval.specs.declared.env.Sight.TheVariants as sight
@@ -58,33 +58,33 @@ module _
   abbrev holds : List ℕ → Option Bool
   holds = holds_in conds
 
-  one_same : (around : Option (List ℕ)) (e : Form) → AllAgree bound m n (mentions_of holds e) → form_found u around e ≡ form_found s around e
+  one_same : (around : Option (List ℕ)) (e : Form) → SeesAllSame bound m n (mentions_of holds e) → form_found u around e ≡ form_found s around e
   one_same around e a = form_same t bound conds pseudo imports m n around e a
 
-  offered_same : (around : Option (List ℕ)) (fs : Fields) → AllAgree bound m n (fields_mentions holds fs) → offered_fields u around fs ≡ offered_fields s around fs
+  offered_same : (around : Option (List ℕ)) (fs : Fields) → SeesAllSame bound m n (fields_mentions holds fs) → offered_fields u around fs ≡ offered_fields s around fs
   offered_same around no_fields a = refl
   offered_same around (field k e fs) a =
       ap (λ x. record { name = k; at = blamed_on around e; value = plain x } ∷ offered_fields u around fs) (one_same around e (first_agree t bound conds pseudo imports m n (mentions_of holds e) _ a))
       ∙ ap (λ os. record { name = k; at = blamed_on around e; value = plain (form_found s around e) } ∷ os) (offered_same around fs (second_agree t bound conds pseudo imports m n (mentions_of holds e) _ a))
 
   branch_same :
-      (at name : List ℕ) (o : Option Verdict) (x y v w : Outcome Offers) (first second : List Mention) → (AllAgree bound m n first → v ≡ x) → (AllAgree bound m n second → w ≡ y)
-      → AllAgree bound m n (taken (option_map is_true o) first second)
-      → on_got (held_at at name (option_map verdict_of o)) (λ b. cond b v w) ≡ on_got (held_at at name (option_map verdict_of o)) (λ b. cond b x y)
+      (at name : List ℕ) (o : Option Verdict) (x y v w : Outcome Offers) (first second : List Mention) → (SeesAllSame bound m n first → v ≡ x) → (SeesAllSame bound m n second → w ≡ y)
+      → SeesAllSame bound m n (taken_branch (option_map is_true o) first second)
+      → on_got (decided_at at name (option_map verdict_of o)) (λ b. cond b v w) ≡ on_got (decided_at at name (option_map verdict_of o)) (λ b. cond b x y)
   branch_same at name None x y v w first second g h a = refl
   branch_same at name (Some verdict.True) x y v w first second g h a = g a
   branch_same at name (Some verdict.False) x y v w first second g h a = h a
   branch_same at name (Some verdict.Later) x y v w first second g h a = refl
 
-  as_value : (around : Option (List ℕ)) (at : List ℕ) (x : Node) → AllAgree bound m n (node_mentions holds x)
+  as_value : (around : Option (List ℕ)) (at : List ℕ) (x : Node) → SeesAllSame bound m n (node_mentions holds x)
       → on_got (plain (form_found u around (expr at x))) (map_wanted (blamed around at x)) ≡ on_got (plain (form_found s around (expr at x))) (map_wanted (blamed around at x))
   as_value around at x a = ap (λ f. on_got (plain f) (map_wanted (blamed around at x))) (one_same around (expr at x) a)
 
   mutual
-    pub offers_same : (around : Option (List ℕ)) (e : Form) → AllAgree bound m n (mentions_of holds e) → offers_in u around e ≡ offers_in s around e
+    pub offers_same : (around : Option (List ℕ)) (e : Form) → SeesAllSame bound m n (mentions_of holds e) → offers_in u around e ≡ offers_in s around e
     offers_same around (expr at x) a = node_same around at x a
 
-    node_same : (around : Option (List ℕ)) (at : List ℕ) (x : Node) → AllAgree bound m n (node_mentions holds x) → node_offers u around at x ≡ node_offers s around at x
+    node_same : (around : Option (List ℕ)) (at : List ℕ) (x : Node) → SeesAllSame bound m n (node_mentions holds x) → node_offers u around at x ≡ node_offers s around at x
     node_same around at (node.dict fs) a =
         ap (λ os. got (record { members = os; whole = stop_in (plain (form_found u around (expr at (node.dict fs)))) })) (offered_same around fs a)
         ∙ ap (λ f. got (record { members = offered_fields s around fs; whole = stop_in (plain f) })) (one_same around (expr at (node.dict fs)) a)
@@ -105,14 +105,14 @@ module _
 
   abbrev pub FormAgrees : Option Form → Type 0
   FormAgrees None = ⊤
-  FormAgrees (Some f) = AllAgree bound m n (mentions_of holds f)
+  FormAgrees (Some f) = SeesAllSame bound m n (mentions_of holds f)
 
   pub given_same : (form : Option Form) → FormAgrees form → given_in u form ≡ given_in s form
   given_same None a = refl
   given_same (Some f) a = ap given_by (offers_same None f a)
 
   -- where all names are seen the same
-  every : ((id : List ℕ) → value_at id n ≡ value_at id m) → (ms : List Mention) → AllAgree bound m n ms
+  every : ((id : List ℕ) → value_at id n ≡ value_at id m) → (ms : List Mention) → SeesAllSame bound m n ms
   every h [] = tt
   every h (by_ref name ∷ ms) = (λ o. h name, every h ms)
   every h (by_attribute name ∷ ms) = (h name, every h ms)
@@ -251,7 +251,7 @@ module _ (source : Source) (a b : Seen) where
 
   -- mentions that are covered agree
   pub all_agree : (t : Template) (g : Given) (needs : List (List ℕ)) (stands : StandsFor) (m n : Sights) → SightsRest stands m n → AgreeAt needs a b → (ms : List Mention)
-      → CoversAll t needs stands ms → AllAgree (settings_for t.params g) m n ms
+      → CoversAll t needs stands ms → SeesAllSame (settings_for t.params g) m n ms
   all_agree t g needs stands m n h k [] c = tt
   all_agree t g needs stands m n h k (by_ref name ∷ ms) c =
       (λ o. h name (λ q i. k q (c.0 (hidden g name t.params o) q i)), all_agree t g needs stands m n h k ms c.1)
@@ -279,9 +279,9 @@ module _ (source : Source) (a b : Seen) where
           agrees (Some f) d = all_agree t.template g own stands m n k agree (mentions_of (holds_in conds) f) d
 
     member_rests : (stands : StandsFor) (m n : Sights) (r : Member) → In r.needs needs → CoversAll t.template r.needs stands (fields_mentions (holds_in conds) (fields_of r.props)) → SightsRest stands m n
-        → AgreeAt r.needs a b → evaluated_at t.path (over t conds h n) r ≡ evaluated_at t.path (over t conds g m) r
+        → AgreeAt r.needs a b → member_props t.path (over t conds h n) r ≡ member_props t.path (over t conds g m) r
     member_rests stands m n r around c k agree =
-        ap (λ x. evaluated_at t.path (over t conds x n) r) (same (λ q i. agree q (around q i)))
+        ap (λ x. member_props t.path (over t conds x n) r) (same (λ q i. agree q (around q i)))
         ∙ ap (unless_flaw r.unnamed)
         (props_same t.template (settings_for t.template.params g) conds (pseudo_of t.name source.number) source.imports m n t.path r.props
         (all_agree t.template g r.needs stands m n k agree (fields_mentions (holds_in conds) (fields_of r.props)) c))

@@ -16,20 +16,20 @@ use Rattle.cf_eval.specs.declared.env.Env as given
 use Rattle.cf_eval.specs.ScopeOf.{verdict_of}
 use Rattle.cf_tree.specs.Keys.{ascends, value_at}
 use Rattle.cf_eval.specs.Outcome.{Stop, got, later, bad, undecided, on_got}
-use Rattle.cf_eval.specs.Scope.{Scope, held_at}
+use Rattle.cf_eval.specs.Scope.{Scope, decided_at}
 use Rattle.cf_eval.specs.Texts.{Found}
 use Rattle.cf_param.specs.declared.offered.Piece.{Piece}
 use Rattle.cf_param.specs.declared.offered.Piece.TheVariants.{Text, Later}
 use Rattle.cf_desired.specs.declared.offers.Taken.{Taken}
-use Rattle.cf_desired.specs.Given.{Offered, kind_stop, kinds_stop, offered_fields, offered_members, offers_in, parts_stop, value_offers, piece_text, pieces_of, with_piece}
-use Rattle.cf_desired.specs.Kept.{Takes, blame_at, flaw_by}
+use Rattle.cf_desired.specs.Given.{Offered, kind_stop, kinds_stop, offered_fields, offered_members, offers_in, parts_stop, value_offers, piece_text, given_pieces, with_piece}
+use Rattle.cf_desired.specs.Kept.{Takes, blame_at, flaw_of_blame}
 use Rattle.cf_desired.specs.Stack.{flaw_at, stop_in}
 use Rattle.cf_desired.proofs.Blames.{some_blamed}
 use Rattle.cf_desired.proofs.Kept.{kept_ascend, under}
 
 -- what was taken so far, and what is left, are all that is offered
 pub record IsTaking (stack : List ℕ) (all rest : List Offered) (t : Taken) : Type 0 where
-  pub pieces : pieces_of all ≡ t.pieces.items ++ pieces_of rest
+  pub pieces : given_pieces all ≡ t.pieces.items ++ given_pieces rest
   pub part : option_map (blame_at stack) (parts_stop all) ≡ option_or t.part (option_map (blame_at stack) (parts_stop rest))
   pub kind : option_map (blame_at stack) (kinds_stop all) ≡ option_or t.kind (option_map (blame_at stack) (kinds_stop rest))
 
@@ -51,8 +51,8 @@ pub take_one : (stack : List ℕ) (all : List Offered) (o : Offered) (rest : Lis
     → IsTaking stack all rest new
 take_one stack all o rest old new h t = record {
   pieces =
-      h.pieces ∙ ap (λ ps. old.pieces.items ++ ps) (piece_first o.name o.value (pieces_of rest))
-      ∙ sym (append_assoc old.pieces.items (with_piece o.name o.value []) (pieces_of rest)) ∙ ap (λ ps. ps ++ pieces_of rest) (sym t.pieces);
+      h.pieces ∙ ap (λ ps. old.pieces.items ++ ps) (piece_first o.name o.value (given_pieces rest))
+      ∙ sym (append_assoc old.pieces.items (with_piece o.name o.value []) (given_pieces rest)) ∙ ap (λ ps. ps ++ given_pieces rest) (sym t.pieces);
   part =
       h.part ∙ ap (option_or old.part) (or_both stack (stop_in o.value) (parts_stop rest))
       ∙ or_assoc old.part (option_map (blame_at stack) (stop_in o.value)) (option_map (blame_at stack) (parts_stop rest))
@@ -69,20 +69,20 @@ or_none (Some a) = refl
 
 -- all is taken
 module _ (stack : List ℕ) (all : List Offered) (t : Taken) (h : IsTaking stack all [] t) where
-  pub all_pieces : t.pieces.items ≡ pieces_of all
+  pub all_pieces : t.pieces.items ≡ given_pieces all
   all_pieces = sym (h.pieces ∙ append-nil t.pieces.items)
 
   pub all_flaws : (whole : Option Stop)
-      → option_map flaw_by (option_or (option_or t.part t.kind) (option_map (blame_at stack) whole)) ≡ option_map (flaw_at stack) (option_or (parts_stop all) (option_or (kinds_stop all) whole))
+      → option_map flaw_of_blame (option_or (option_or t.part t.kind) (option_map (blame_at stack) whole)) ≡ option_map (flaw_at stack) (option_or (parts_stop all) (option_or (kinds_stop all) whole))
   all_flaws whole =
-      (λ i. option_map flaw_by (option_or (option_or (sym (h.part ∙ or_none t.part) i) (sym (h.kind ∙ or_none t.kind) i)) (option_map (blame_at stack) whole)))
-      ∙ ap (option_map flaw_by)
+      (λ i. option_map flaw_of_blame (option_or (option_or (sym (h.part ∙ or_none t.part) i) (sym (h.kind ∙ or_none t.kind) i)) (option_map (blame_at stack) whole)))
+      ∙ ap (option_map flaw_of_blame)
       (sym (or_assoc (option_map (blame_at stack) (parts_stop all)) (option_map (blame_at stack) (kinds_stop all)) (option_map (blame_at stack) whole))
       ∙ ap (option_or (option_map (blame_at stack) (parts_stop all))) (sym (or_both stack (kinds_stop all) whole)) ∙ sym (or_both stack (parts_stop all) (option_or (kinds_stop all) whole)))
       ∙ some_blamed stack (option_or (parts_stop all) (option_or (kinds_stop all) whole))
 
-  pub member_flaws : option_map flaw_by (option_or t.part t.kind) ≡ option_map (flaw_at stack) (option_or (parts_stop all) (option_or (kinds_stop all) None))
-  member_flaws = ap (option_map flaw_by) (sym (or_none (option_or t.part t.kind))) ∙ all_flaws None
+  pub member_flaws : option_map flaw_of_blame (option_or t.part t.kind) ≡ option_map (flaw_at stack) (option_or (parts_stop all) (option_or (kinds_stop all) None))
+  member_flaws = ap (option_map flaw_of_blame) (sym (or_none (option_or t.part t.kind))) ∙ all_flaws None
 
 -- pieces keep the order of the names
 abbrev piece_from : Found → Option Piece
@@ -100,11 +100,11 @@ one_kept name (got (Some d)) ps = refl
 one_kept name later ps = refl
 one_kept name (bad s) ps = refl
 
-pieces_kept : (os : List Offered) → pieces_of os ≡ filter_map (under piece_from) (map named_found os)
+pieces_kept : (os : List Offered) → given_pieces os ≡ filter_map (under piece_from) (map named_found os)
 pieces_kept [] = refl
 pieces_kept (o ∷ os) = ap (with_piece o.name o.value) (pieces_kept os) ∙ one_kept o.name o.value (filter_map (under piece_from) (map named_found os))
 
-pub pieces_in_order : (os : List Offered) → ascends (map named_found os) ≡ true → ascends (pieces_of os) ≡ true
+pub pieces_in_order : (os : List Offered) → ascends (map named_found os) ≡ true → ascends (given_pieces os) ≡ true
 pieces_in_order os h = ap ascends (pieces_kept os) ∙ kept_ascend piece_from (map named_found os) h
 
 -- the names of what is offered are those of the map
@@ -153,4 +153,4 @@ by_value s around at (kept.Base64 e) h g = refl
 pub by_undecided : (env : given.Env) (around : Option (List ℕ)) (at name : List ℕ) (y z : Form) → value_at name env.conds.now ≡ None
     → offers_in (scope_in env) around (expr at (choice name y z)) ≡ bad (undecided name at)
 by_undecided env around at name y z h =
-    ap (λ (o : Option Verdict). on_got (held_at at name (option_map verdict_of o)) (λ b. if b then offers_in (scope_in env) (Some at) y else offers_in (scope_in env) (Some at) z)) h
+    ap (λ (o : Option Verdict). on_got (decided_at at name (option_map verdict_of o)) (λ b. if b then offers_in (scope_in env) (Some at) y else offers_in (scope_in env) (Some at) z)) h

@@ -9,12 +9,12 @@ use Rattle.cf_tree.proofs.Order.{ascends_map}
 use Rattle.cf_tree.specs.Value.{datum_of}
 use Rattle.cf_eval.specs.declared.got.Got.{Got}
 use Rattle.cf_eval.specs.declared.got.Got.TheVariants as it
-use Rattle.cf_eval.specs.Gives.{found_of}
+use Rattle.cf_eval.specs.Gives.{got_found}
 use Rattle.cf_eval.specs.Scope.{Scope}
 use Rattle.cf_eval.specs.Texts.{Found}
 use Rattle.cf_desired.specs.declared.wanted.Evaluated.{Evaluated}
 use Rattle.cf_desired.specs.Stack.{value_in}
-use Rattle.cf_desired.specs.Kept.{taken}
+use Rattle.cf_desired.specs.Kept.{prop_taken}
 use Rattle.cf_desired.proofs.Properties.{next_prop, props_after}
 use Rattle.cf_desired.proofs.Kept.{both, past, rest_ascends}
 
@@ -73,7 +73,7 @@ same_names known name v w h =
 
 -- one more property in the order of the template
 pub prop_step : (s : Scope) (stack : List ℕ) (known after : List (List ℕ × Option Data)) (p : List ℕ × Form) (left : List (List ℕ × Form)) (g : Got) (whole : Evaluated)
-    → value_in s p.1 ≡ found_of g → whole ≡ props_after s stack (p ∷ left) known → InOrder known (p ∷ left) → after ≡ known ++ taken p.0 g
+    → value_in s p.1 ≡ got_found g → whole ≡ props_after s stack (p ∷ left) known → InOrder known (p ∷ left) → after ≡ known ++ prop_taken p.0 g
     → (whole ≡ props_after s stack left after) × InOrder after left
 prop_step s stack known after p left (it.Value v) whole e h o u = (
   h ∙ ap (λ (f : Found). next_prop stack known p.0 f (props_after s stack left)) e ∙ ap (props_after s stack left) (sym u),

@@ -10,7 +10,7 @@ use Rattle.cf_graph.specs.Mentions.{mentions_of}
 use Rattle.cf_graph.specs.Needs.{holds_in}
 use Rattle.cf_desired.specs.Met.{exporting_as, exporting_in}
 use Rattle.cf_desired.specs.Names.{pseudo_of}
-use Rattle.cf_desired.specs.Rests.{AllAgree, OutputRests, maybe_mentions}
+use Rattle.cf_desired.specs.Rests.{SeesAllSame, OutputRests, maybe_mentions}
 use Rattle.cf_desired.specs.Seeing.{export_stop, export_wanted, text_in, text_known, unnamed_output}
 use Rattle.cf_desired.specs.Stack.{Stack, Settings, Sights, Verdicts, flaw_at, scoping, stop_in}
 use Rattle.cf_desired.specs.declared.wanted.Exporting.{Exporting}
@@ -26,14 +26,14 @@ told_by path conds o value export stop = record {
 }
 
 module _ (source : Source) (t : Stack) (conds : Verdicts) (bound : Settings) (m n : Sights) where
-  text_rests : (e : Form) → AllAgree bound m n (mentions_of (holds_in conds) e) → text_in (scoping source t conds bound n) e ≡ text_in (scoping source t conds bound m) e
+  text_rests : (e : Form) → SeesAllSame bound m n (mentions_of (holds_in conds) e) → text_in (scoping source t conds bound n) e ≡ text_in (scoping source t conds bound m) e
   text_rests e a = ap (as_text (place_of e)) (value_rests t.template bound conds (pseudo_of t.name source.number) source.imports m n e a)
 
-  exporting_rests : (x : Option Form) → AllAgree bound m n (maybe_mentions conds x) → exporting_in (scoping source t conds bound n) x ≡ exporting_in (scoping source t conds bound m) x
+  exporting_rests : (x : Option Form) → SeesAllSame bound m n (maybe_mentions conds x) → exporting_in (scoping source t conds bound n) x ≡ exporting_in (scoping source t conds bound m) x
   exporting_rests None a = refl
   exporting_rests (Some e) a = ap (λ (x : Outcome (List ℕ)). exporting_as (export_wanted e x)) (text_rests e a)
 
-  stop_rests : (x : Option Form) → AllAgree bound m n (maybe_mentions conds x) → export_stop (scoping source t conds bound n) x ≡ export_stop (scoping source t conds bound m) x
+  stop_rests : (x : Option Form) → SeesAllSame bound m n (maybe_mentions conds x) → export_stop (scoping source t conds bound n) x ≡ export_stop (scoping source t conds bound m) x
   stop_rests None a = refl
   stop_rests (Some e) a = ap (λ (x : Outcome (List ℕ)). stop_in (export_wanted e x)) (text_rests e a)
 

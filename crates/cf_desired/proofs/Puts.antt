@@ -8,10 +8,10 @@ use Rattle.std.proofs.lemmas.Slice.Eq.{bytes_eq-Decides}
 use Rattle.cf_tree.specs.Keys.{value_at, put}
 use Rattle.cf_tree.specs.Lists.{is_among}
 pub use Rattle.cf_eval.proofs.Looking.{value_put}
-use Rattle.cf_eval.specs.Knows.{Keeps}
+use Rattle.cf_eval.specs.Knows.{StaysKnown}
 use Rattle.cf_desired.specs.Seeing.{by_names}
 
-pub kept_self : {A : Type 0} (o : Option A) → Keeps o o
+pub kept_self : {A : Type 0} (o : Option A) → StaysKnown o o
 kept_self None = tt
 kept_self (Some a) = refl
 

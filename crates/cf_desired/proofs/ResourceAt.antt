@@ -7,10 +7,10 @@ use Rattle.std.proofs.lemmas.List.Quantifiers.{position-Some}
 use Rattle.std.proofs.lemmas.Option.{slice_get_past}
 use Rattle.cf_tree.specs.Named.{found}
 use Rattle.cf_tree.specs.declared.template.Res.{Res}
-use Rattle.cf_desired.specs.Shared.{no_resource, resource_at}
+use Rattle.cf_desired.specs.Shared.{no_resource, resource_placed}
 
 module _ (test : Res → Bool) where
-  found_from : (rs : List Res) (i : ℕ) → i < length rs → test (resource_at i rs) ≡ true → ((k : ℕ) → k < i → test (resource_at k rs) ≡ false) → find test rs ≡ Some (resource_at i rs)
+  found_from : (rs : List Res) (i : ℕ) → i < length rs → test (resource_placed i rs) ≡ true → ((k : ℕ) → k < i → test (resource_placed k rs) ≡ false) → find test rs ≡ Some (resource_placed i rs)
   found_from [] i l e b = absurd (omega (arith, l))
   found_from (r ∷ rs) zero l e b = ap (λ x. cond x (Some r) (find test rs)) e
   found_from (r ∷ rs) (suc i) l e b =
@@ -21,7 +21,7 @@ module _ (test : Res → Bool) where
     by : (n m : ℕ) → cond (nat_lt n m) (Some n) None ≡ None → m ≤ n
     by n m h = grind arith
 
-pub named_at : (id : List ℕ) (rs : List Res) (at : ℕ) → position (λ (r : Res). bytes_eq id r.name) rs ≡ Some at → found (λ r. r.name) id rs ≡ Some (resource_at at rs)
+pub named_at : (id : List ℕ) (rs : List Res) (at : ℕ) → position (λ (r : Res). bytes_eq id r.name) rs ≡ Some at → found (λ r. r.name) id rs ≡ Some (resource_placed at rs)
 named_at id rs at h =
     let there = position-Some (λ (r : Res). bytes_eq id r.name) rs at no_resource h in
     found_from (λ (r : Res). bytes_eq id r.name) rs at there.0 there.1 there.2

@@ -15,10 +15,10 @@ use Rattle.cf_graph.specs.Mentions.{Mention, by_ref, by_attribute, mentions_of}
 use Rattle.cf_graph.specs.Needs.{holds_in}
 use Rattle.cf_desired.specs.Given.{Offers, given_by, given_in, offers_of, offers_stop}
 use Rattle.cf_desired.specs.Met.{exporting_as, exporting_in, offers_flaw, output_at, outputs_wanted}
-use Rattle.cf_desired.specs.Rests.{AllAgree}
+use Rattle.cf_desired.specs.Rests.{SeesAllSame}
 use Rattle.cf_desired.specs.Seeing.{broken_at, export_stop, export_wanted, is_output_made, output_attribute, output_seen, output_sight, output_sights, text_in, text_known, unnamed_output}
 use Rattle.cf_desired.specs.Stack.{Stack, Settings, Sights, Verdicts, flaw_at, props_in, resource_scope, stop_in, value_in, with_prop}
-use Rattle.cf_desired.specs.Valued.{evaluated_at, unless_flaw}
+use Rattle.cf_desired.specs.Valued.{member_props, unless_flaw}
 use Rattle.cf_desired.specs.Work.{Member}
 use Rattle.cf_desired.proofs.Mentions.{value_rests}
 use Rattle.cf_desired.proofs.NeedsMatter.{offers_same}
@@ -28,7 +28,7 @@ pub record SameScope (s u : Scope) : Type 0 where
   pub value : (e : Form) → value_in s e ≡ value_in u e
   pub offers : (form : Option Form) → offers_of s form ≡ offers_of u form
 
-all_agree : (bound : Settings) (m n : Sights) → ((q : List ℕ) → value_at q n ≡ value_at q m) → (xs : List Mention) → AllAgree bound m n xs
+all_agree : (bound : Settings) (m n : Sights) → ((q : List ℕ) → value_at q n ≡ value_at q m) → (xs : List Mention) → SeesAllSame bound m n xs
 all_agree bound m n h [] = tt
 all_agree bound m n h (by_ref name ∷ xs) = (λ hidden. h name, all_agree bound m n h xs)
 all_agree bound m n h (by_attribute name ∷ xs) = (h name, all_agree bound m n h xs)
@@ -59,7 +59,7 @@ module _ (s u : Scope) (same : SameScope s u) where
   props_same path [] = refl
   props_same path (p ∷ ps) = λ i. with_prop path p.0 (same.value p.1 i) (props_same path ps i)
 
-  pub evaluated_same : (path : List ℕ) (m : Member) → evaluated_at path s m ≡ evaluated_at path u m
+  pub evaluated_same : (path : List ℕ) (m : Member) → member_props path s m ≡ member_props path u m
   evaluated_same path m = ap (unless_flaw m.unnamed) (props_same path m.props)
 
   text_same : (e : Form) → text_in s e ≡ text_in u e

@@ -21,7 +21,7 @@ use Rattle.cf_tree.specs.declared.template.Res.{Res}
 use Rattle.cf_tree.specs.declared.template.Template.{Template}
 use Rattle.cf_eval.specs.declared.fault.EvalWhy.TheVariants.{WrongKind}
 use Rattle.cf_eval.specs.ScopeOf.{setting_of, verdict_of}
-use Rattle.cf_param.specs.Binding.{binding_of, bound_to, settings_of, undeclared, breach_of, parts_of, default_of}
+use Rattle.cf_param.specs.Binding.{binding_of, bound_to, settings_of, undeclared, breach_of, constrained_texts, default_of}
 use Rattle.cf_param.specs.Binding as binding
 use Rattle.cf_param.specs.declared.fault.BindFault.{BindFault}
 use Rattle.cf_param.specs.declared.fault.BindFault.TheVariants as unbound
@@ -30,11 +30,11 @@ use Rattle.cf_param.specs.declared.offered.Piece.{Piece}
 use Rattle.cf_param.specs.declared.offered.Piece.TheVariants as piece
 use Rattle.cf_desired.specs.Names.{path_in, stack_id}
 use Rattle.cf_desired.specs.Seeing.{SeenAt, Seen, is_output_made, seen_as, own_ids, unmade_sight, first_sights, unnamed_output, export_wanted, export_stop, output_stop, text_in, text_known, broken_at, output_sight, output_seen, nested_sight, sights_after, outputs_inside, outputs_of, by_names}
-use Rattle.cf_desired.specs.Valued.{unless_flaw, evaluated_at, resources_in, valued_along, valued_inside, valued_in}
+use Rattle.cf_desired.specs.Valued.{unless_flaw, member_props, resources_in, valued_along, valued_inside, valued_in}
 use Rattle.cf_desired.specs.Met.{flaws_of, Met, an_output, a_flaw, flaw_met, met_along, met_inside, met_in, offers_flaw, bind_flaw, exporting_as, exporting_in, output_at, outputs_met, scope_after}
-use Rattle.cf_desired.specs.Plan.{output_flaws, exported, exported_as, export_of, wanted_of, outputs_in}
+use Rattle.cf_desired.specs.Plan.{output_flaws, exported, exported_as, export_met, wanted_of, outputs_in}
 use Rattle.cf_desired.specs.Stays.{is_shown, id_seen, is_settled, SeenIsKnown}
-use Rattle.cf_desired.specs.Whole.{known_of, known_props_from, right_of, right_output, right_export, with_export, export_of as exported_name}
+use Rattle.cf_desired.specs.Whole.{known_of, known_props_from, right_of, right_output, right_export, with_export, right_export_name as exported_name}
 use Rattle.cf_desired.specs.declared.flaw.Flaw.{Flaw}
 use Rattle.cf_desired.specs.declared.flaw.Flaw.TheVariants as flaw
 use Rattle.cf_desired.specs.declared.wanted.Exporting.{Exporting}
@@ -48,10 +48,10 @@ use Rattle.cf_desired.proofs.Puts.{value_put}
 use Rattle.cf_desired.proofs.ComeFirst.{paths_among}
 use Rattle.std.proofs.lemmas.List.{append-nil}
 use Rattle.std.proofs.lemmas.Slice.Eq.{bytes_eq-Decides}
-use Rattle.cf_desired.specs.Given.{Given, pieces, unknown, Offered, Offers, offers_in, node_offers, offers_of, offered_fields, offered_members, map_wanted, parts_stop, kind_stop, kinds_stop, offers_stop, given_in, given_by, pieces_of, with_piece, piece_text, or_unknown, settings_for, error_of, bind_fault}
+use Rattle.cf_desired.specs.Given.{Given, pieces, unknown, Offered, Offers, offers_in, node_offers, offers_of, offered_fields, offered_members, map_wanted, parts_stop, kind_stop, kinds_stop, offers_stop, given_in, given_by, given_pieces, with_piece, piece_text, or_unknown, settings_for, error_of, bind_fault}
 use Rattle.cf_eval.specs.Outcome.{Outcome, Stop, got, later, bad, fault, undecided, below, on_got}
 use Rattle.cf_eval.specs.declared.env.OutputSight.TheVariants as output
-use Rattle.cf_eval.specs.Scope.{Scope, held_at}
+use Rattle.cf_eval.specs.Scope.{Scope, decided_at}
 use Rattle.cf_desired.specs.Shape.{StandsFor, first_stands, paths_below, paths_inside, paths_in, given_root, shape_of}
 use Rattle.cf_eval.specs.declared.env.Sight.{Sight}
 use Rattle.cf_eval.specs.declared.env.Sight.TheVariants as sight
@@ -140,19 +140,19 @@ pub neither : {A : Type 0} (x y : Option A) → option_or x y ≡ None → (x �
 neither None y h = (refl, h)
 neither (Some a) y h = let no : ⊥ = cc in absurd no
 
-pieces_known : (os : List Offered) → AllSure os → parts_stop os ≡ None → kinds_stop os ≡ None → (name : List ℕ) → value_at name (pieces_of os) ≡ Some piece.Later → ⊥
+pieces_known : (os : List Offered) → AllSure os → parts_stop os ≡ None → kinds_stop os ≡ None → (name : List ℕ) → value_at name (given_pieces os) ≡ Some piece.Later → ⊥
 pieces_known [] h p k name q = let no : ⊥ = cc in no
 pieces_known (o ∷ os) h p k name q =
     let part = neither (stop_in o.value) (parts_stop os) p in
     let kind = neither (kind_stop o.at o.value) (kinds_stop os) k in
     one o.value h.0 part.0 kind.0 q (pieces_known os h.1 part.1 kind.1 name) where
       by_name : (b : Bool) (d : Data) (t : Option (List ℕ)) → option_map_or (λ x. None) t (Some (fault WrongKind o.at)) ≡ None
-          → cond b (Some (option_map_or (λ x. piece.Text x) t piece.Later)) (value_at name (pieces_of os)) ≡ Some piece.Later → (value_at name (pieces_of os) ≡ Some piece.Later → ⊥) → ⊥
+          → cond b (Some (option_map_or (λ x. piece.Text x) t piece.Later)) (value_at name (given_pieces os)) ≡ Some piece.Later → (value_at name (given_pieces os) ≡ Some piece.Later → ⊥) → ⊥
       by_name true d None g e ih = let no : ⊥ = cc in no
       by_name true d (Some t) g e ih = let no : ⊥ = cc in no
       by_name false d t g e ih = ih e
 
-      one : (x : Found) → IsSure x → stop_in x ≡ None → kind_stop o.at x ≡ None → value_at name (with_piece o.name x (pieces_of os)) ≡ Some piece.Later → (value_at name (pieces_of os) ≡ Some piece.Later → ⊥) → ⊥
+      one : (x : Found) → IsSure x → stop_in x ≡ None → kind_stop o.at x ≡ None → value_at name (with_piece o.name x (given_pieces os)) ≡ Some piece.Later → (value_at name (given_pieces os) ≡ Some piece.Later → ⊥) → ⊥
       one (got None) s p k e ih = ih e
       one (got (Some d)) s p k e ih = by_name (bytes_eq name o.name) d (piece_text d) k e ih
       one later s p k e ih = s
@@ -169,10 +169,10 @@ given_known (bad w) s h = let no : ⊥ = cc in absurd no
 abbrev pub AreBound : List Param → Given → Type 0
 AreBound params g = (name : List ℕ) → value_at name (settings_for params g) ≡ Some setting.Later → ⊥
 
-text_bound : (p : Param) (t : List ℕ) → error_of (binding.setting_of p t) ≡ None → or_unknown (binding.setting_of p t) ≡ setting.Later → ⊥
-text_bound p t h e = either (breach_of p (parts_of p.kind t)) h e where
-  either : (o : Option Breach) → error_of (option_map_or (λ b. Err (binding.fault_of p.name b)) o (Ok (setting.Value (binding.value_of p.kind t)))) ≡ None
-      → or_unknown (option_map_or (λ b. Err (binding.fault_of p.name b)) o (Ok (setting.Value (binding.value_of p.kind t)))) ≡ setting.Later → ⊥
+text_bound : (p : Param) (t : List ℕ) → error_of (binding.setting_from p t) ≡ None → or_unknown (binding.setting_from p t) ≡ setting.Later → ⊥
+text_bound p t h e = either (breach_of p (constrained_texts p.kind t)) h e where
+  either : (o : Option Breach) → error_of (option_map_or (λ b. Err (binding.breach_fault p.name b)) o (Ok (setting.Value (binding.setting_value p.kind t)))) ≡ None
+      → or_unknown (option_map_or (λ b. Err (binding.breach_fault p.name b)) o (Ok (setting.Value (binding.setting_value p.kind t)))) ≡ setting.Later → ⊥
   either None h e = let no : ⊥ = cc in no
   either (Some b) h e = let no : ⊥ = cc in no
 
@@ -243,7 +243,7 @@ module _ (source : Source) (seen : Seen) where
     param (Some setting.Later) n h = n refl
     param (Some (setting.Value v)) n h = let no : ⊥ = cc in no
 
-    condition : (at name : List ℕ) (o : Option Verdict) → (o ≡ Some verdict.Later → ⊥) → IsSure (held_at at name (option_map verdict_of o))
+    condition : (at name : List ℕ) (o : Option Verdict) → (o ≡ Some verdict.Later → ⊥) → IsSure (decided_at at name (option_map verdict_of o))
     condition at name None n = tt
     condition at name (Some verdict.True) n = tt
     condition at name (Some verdict.False) n = tt
@@ -339,8 +339,8 @@ module _ (source : Source) (seen : Seen) where
     props_settled path [] = refl
     props_settled path (p ∷ ps) = prop_settled path p.0 (value_in s p.1) (props_in path s ps) (plain_sure (form_found s None p.1) (form_sure s None p.1 known)) (props_settled path ps)
 
-    member_known : (path : List ℕ) (m : Member) → HasNone (map (λ f. a_flaw f) (flaws_of (evaluated_at path s m))) → is_some (right_of (wanted_of (m, evaluated_at path s m))) ≡ true
-    member_known path m h = right (evaluated_at path s m) (unflawed (evaluated_at path s m) h (settled m.unnamed)) where
+    member_known : (path : List ℕ) (m : Member) → HasNone (map (λ f. a_flaw f) (flaws_of (member_props path s m))) → is_some (right_of (wanted_of (m, member_props path s m))) ≡ true
+    member_known path m h = right (member_props path s m) (unflawed (member_props path s m) h (settled m.unnamed)) where
       settled : (f : Option Flaw) → is_settled (unless_flaw f (props_in path s m.props)) ≡ true
       settled None = props_settled path m.props
       settled (Some f) = refl
@@ -363,7 +363,7 @@ module _ (source : Source) (seen : Seen) where
     both false b g h = g
 
   abbrev ExportsRight : List Met → Type 0
-  ExportsRight ms = list_all (λ e. is_some (right_export e)) (flat_map export_of ms) ≡ true
+  ExportsRight ms = list_all (λ e. is_some (right_export e)) (flat_map export_met ms) ≡ true
 
   both_so : (a b : Bool) → a ≡ true → b ≡ true → (a && b) ≡ true
   both_so true b g h = h
@@ -372,9 +372,9 @@ module _ (source : Source) (seen : Seen) where
   exports_both : (xs ys : List Met) → ExportsRight xs → ExportsRight ys → ExportsRight (xs ++ ys)
   exports_both [] ys h k = k
   exports_both (x ∷ xs) ys h k =
-      let parts = sym (list_all-append (λ e. is_some (right_export e)) (export_of x) (flat_map export_of xs)) ∙ h in
-      list_all-append (λ e. is_some (right_export e)) (export_of x) (flat_map export_of (xs ++ ys))
-      ∙ both_so _ _ (first_so (list_all (λ e. is_some (right_export e)) (export_of x)) _ parts) (exports_both xs ys (second_so (list_all (λ e. is_some (right_export e)) (export_of x)) _ parts) k)
+      let parts = sym (list_all-append (λ e. is_some (right_export e)) (export_met x) (flat_map export_met xs)) ∙ h in
+      list_all-append (λ e. is_some (right_export e)) (export_met x) (flat_map export_met (xs ++ ys))
+      ∙ both_so _ _ (first_so (list_all (λ e. is_some (right_export e)) (export_met x)) _ parts) (exports_both xs ys (second_so (list_all (λ e. is_some (right_export e)) (export_met x)) _ parts) k)
 
   flaws_export : (fs : List Flaw) → ExportsRight (map (λ f. a_flaw f) fs)
   flaws_export [] = refl
@@ -432,7 +432,7 @@ module _ (source : Source) (seen : Seen) where
     exports_right [] h = refl
     exports_right (o ∷ os) h =
         let parts = none_in (an_output (output_at path conds s o) ∷ []) (map (λ x. an_output x) (map (output_at path conds s) os)) h in
-        list_all-append (λ e. is_some (right_export e)) (exported (output_at path conds s o)) (flat_map export_of (map (λ x. an_output x) (map (output_at path conds s) os)))
+        list_all-append (λ e. is_some (right_export e)) (exported (output_at path conds s o)) (flat_map export_met (map (λ x. an_output x) (map (output_at path conds s) os)))
         ∙ both_so _ _ (one_export o (no_stop o (sym (append-nil (output_flaws (output_at path conds s o))) ∙ parts.0))) (exports_right os parts.1)
 
   inside_given : (path : List ℕ) (s : Scope) → IsKnown s → (form : Option Form) → HasNone (flaw_met (offers_flaw path s form)) → NoLater (given_in s form)
@@ -447,7 +447,7 @@ module _ (source : Source) (seen : Seen) where
         → Covers t.template conds needs stands w → AreShown (paths_below w) → HasNone (met_along source seen t.path (over t conds g) m w) → IsFullAll (sights_after source seen (over t conds g) m w)
     after_full t conds g d b m f needs stands no_work c s h = f
     after_full t conds g d b m f needs stands (resource r w) c s h =
-        after_full t conds g d b m f needs stands w c.1 s (none_in (map (λ x. a_flaw x) (flaws_of (evaluated_at t.path (over t conds g m) r))) _ h).1
+        after_full t conds g d b m f needs stands w c.1 s (none_in (map (λ x. a_flaw x) (flaws_of (member_props t.path (over t conds g m) r))) _ h).1
     after_full t conds g d b m f needs stands (nested x i w) c s h =
         let parts = none_in (met_inside source seen t.path (over t conds g m) i) (met_along source seen t.path (over t conds g) (nested_sight source x (outputs_inside source seen (over t conds g m) i) m) w) h in
         after_full t conds g d b (nested_sight source x (outputs_inside source seen (over t conds g m) i) m)
@@ -481,10 +481,10 @@ module _ (source : Source) (seen : Seen) where
         → AllRight (valued_along source seen t.path (over t conds g) m w) × ExportsRight (met_along source seen t.path (over t conds g) m w)
     along_right t conds g d b m f needs stands no_work c s h = (refl, refl)
     along_right t conds g d b m f needs stands (resource r w) c s h =
-        let parts = none_in (map (λ x. a_flaw x) (flaws_of (evaluated_at t.path (over t conds g m) r))) (met_along source seen t.path (over t conds g) m w) h in
+        let parts = none_in (map (λ x. a_flaw x) (flaws_of (member_props t.path (over t conds g m) r))) (met_along source seen t.path (over t conds g) m w) h in
         let rest = along_right t conds g d b m f needs stands w c.1 s parts.1 in (
           both_so _ _ (member_known (over t conds g m) (scope_known t conds g m d b f) t.path r parts.0) rest.0,
-          exports_both (map (λ x. a_flaw x) (flaws_of (evaluated_at t.path (over t conds g m) r))) _ (flaws_export (flaws_of (evaluated_at t.path (over t conds g m) r))) rest.1,
+          exports_both (map (λ x. a_flaw x) (flaws_of (member_props t.path (over t conds g m) r))) _ (flaws_export (flaws_of (member_props t.path (over t conds g m) r))) rest.1,
         )
     along_right t conds g d b m f needs stands (nested x i w) c s h =
         let parts = none_in (met_inside source seen t.path (over t conds g m) i) (met_along source seen t.path (over t conds g) (nested_sight source x (outputs_inside source seen (over t conds g m) i) m) w) h in

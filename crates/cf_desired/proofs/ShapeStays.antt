@@ -7,11 +7,11 @@ use Rattle.cf_tree.specs.Keys.{value_at, put}
 use Rattle.cf_tree.specs.declared.source.Source.{Source}
 use Rattle.cf_tree.specs.declared.template.Res.{Res}
 use Rattle.cf_tree.specs.declared.template.Template.{Template}
-use Rattle.cf_graph.specs.Needs.{Tangle, needs_of, resource_named}
+use Rattle.cf_graph.specs.Needs.{OrderFault, needs_of, resource_named}
 use Rattle.cf_desired.specs.Names.{pseudo_of}
 use Rattle.cf_desired.specs.Seeing.{Seen, first_sights, nested_sight, outputs_inside}
 use Rattle.cf_desired.specs.Templates.{is_stack, template_named}
-use Rattle.cf_desired.specs.Shape.{has_stack_shape, first_later, Entering, StandsFor, Course, Laying, first_stands, paths_inside, templates_inside, members_inside, own_in, unnamed_at, member_of, nesting_of, maybe_text, url_from, url_of, laid_within, entering_below, body_at, inside_of, nested_before, step_before, work_along, body_in_order, verdicts_of, body_decided, body_bound, laid, given_root, root_of}
+use Rattle.cf_desired.specs.Shape.{has_stack_shape, first_later, Entering, StandsFor, PlanInProgress, Laying, first_stands, paths_inside, templates_inside, members_inside, own_in, unnamed_at, member_of, nesting_of, maybe_text, url_from, url_of, laid_within, entering_below, body_at, inside_of, nested_before, step_before, work_along, body_in_order, verdicts_of, body_decided, body_bound, laid, given_root, root_of}
 use Rattle.cf_desired.specs.Stays.{SeesMore}
 use Rattle.cf_desired.specs.declared.flaw.Flaw.{Flaw}
 use Rattle.cf_desired.specs.declared.flaw.Flaw.TheVariants as flaw
@@ -26,7 +26,7 @@ use Rattle.cf_desired.proofs.Deciding.{conditions_stay}
 use Rattle.cf_desired.proofs.Keeping.{GivenKeeps, given_self, given_keeps, KeepsSights, put_keeps, first_keep, over, scope_knows, inside_keeps, names_keep}
 use Rattle.cf_eval.proofs.Knowing.{Stands, itself, stands_on, plain_value_stands as value_stands}
 
-abbrev course : Sights → StandsFor → ℕ → ℕ → Course
+abbrev course : Sights → StandsFor → ℕ → ℕ → PlanInProgress
 course m stands templates members = record { sights = m; stands = stands; templates = templates; members = members }
 
 -- nested stacks
@@ -93,7 +93,7 @@ module _ (source : Source) (a b : Seen) (more : SeesMore a b) where
             _ _ (url_stands m n s (value_at (codes "TemplateURL") r.props)) d)
         either false d = refl
 
-      nested_same : (m n : Sights) → KeepsSights m n → (stands : StandsFor) (templates members : ℕ) (x : Nesting) (i j : Inside) (p q : Course → Work)
+      nested_same : (m n : Sights) → KeepsSights m n → (stands : StandsFor) (templates members : ℕ) (x : Nesting) (i j : Inside) (p q : PlanInProgress → Work)
           → j ≡ i
           → ((m' n' : Sights) → KeepsSights m' n' → (stands' : StandsFor) (templates' members' : ℕ) → IsClearAlong (p (course m' stands' templates' members')) → q (course n' stands' templates' members') ≡ p (course m' stands' templates' members'))
           → IsClearAlong (nested_before source a (before m) (course m stands templates members) x i p)
@@ -140,7 +140,7 @@ module _ (source : Source) (a b : Seen) (more : SeesMore a b) where
       abbrev bound : Given → Settings
       bound x = settings_for e.stack.template.params x
 
-      order_same : (conds : Verdicts) (r : Result (List (List ℕ × List (List ℕ))) Tangle) → IsClear (body_in_order lay source a e (bound g) templates members conds r)
+      order_same : (conds : Verdicts) (r : Result (List (List ℕ × List (List ℕ))) OrderFault) → IsClear (body_in_order lay source a e (bound g) templates members conds r)
           → body_in_order under source b e (bound h) templates members conds r ≡ body_in_order lay source a e (bound g) templates members conds r
       order_same conds (Err t) c = absurd c
       order_same conds (Ok order) c =

@@ -22,7 +22,7 @@ use Rattle.cf_eval.specs.Scope.{Scope}
 use Rattle.cf_desired.specs.Shape.{StandsFor, first_stands, paths_inside, given_root, shape_of}
 use Rattle.cf_eval.specs.declared.env.Sight.TheVariants as sight
 use Rattle.cf_desired.specs.Stack.{Stack, Verdicts, Sights, Scoping, flaw_at}
-use Rattle.cf_desired.specs.Valued.{evaluated_at, nestings_along, nestings_inside, nestings_in}
+use Rattle.cf_desired.specs.Valued.{member_props, nestings_along, nestings_inside, nestings_in}
 use Rattle.cf_desired.specs.Work.{Member, Nesting, Work, Inside, Body, no_work, resource, nested, shut, barred, halted, opened}
 use Rattle.cf_desired.specs.Work as inside
 use Rattle.cf_desired.proofs.Covers.{In, CoversForm, Covers, CoversInside, CoversBody, shape_covered}
@@ -95,8 +95,8 @@ module _ (source : Source) (a b : Seen) where
         → MetRest (met_along source a t.path (over source a b t conds g) m w) (met_along source b t.path (over source a b t conds h) n w)
     along_stacks t conds needs g h same stands m n no_work c k = tt
     along_stacks t conds needs g h same stands m n (resource r w) c k =
-        met_none (map (λ f. a_flaw f) (flaws_of (evaluated_at t.path (over source a b t conds g m) r))) (map (λ f. a_flaw f) (flaws_of (evaluated_at t.path (over source a b t conds h n) r))) _ _
-        (none_flaws (flaws_of (evaluated_at t.path (over source a b t conds g m) r))) (none_flaws (flaws_of (evaluated_at t.path (over source a b t conds h n) r)))
+        met_none (map (λ f. a_flaw f) (flaws_of (member_props t.path (over source a b t conds g m) r))) (map (λ f. a_flaw f) (flaws_of (member_props t.path (over source a b t conds h n) r))) _ _
+        (none_flaws (flaws_of (member_props t.path (over source a b t conds g m) r))) (none_flaws (flaws_of (member_props t.path (over source a b t conds h n) r)))
         (along_stacks t conds needs g h same stands m n w c.1 k)
     along_stacks t conds needs g h same stands m n (nested x i w) c k = (
       (refl, flaw_rest t conds needs g h same x.needs stands m n i c.0.0 c.0.1 k),
@@ -153,7 +153,7 @@ module _ (source : Source) (a b : Seen) where
   mutual
     along_of : (path : List ℕ) (o : Scoping) (m : Sights) (w : Work) → AreOf (stacks_met (met_along source a path o m w)) (nestings_along w)
     along_of path o m no_work = tt
-    along_of path o m (resource r w) = of_none (map (λ f. a_flaw f) (flaws_of (evaluated_at path (o m) r))) _ (nestings_along w) (none_flaws (flaws_of (evaluated_at path (o m) r))) (along_of path o m w)
+    along_of path o m (resource r w) = of_none (map (λ f. a_flaw f) (flaws_of (member_props path (o m) r))) _ (nestings_along w) (none_flaws (flaws_of (member_props path (o m) r))) (along_of path o m w)
     along_of path o m (nested x i w) = (
       refl,
       met_of_and (met_inside source a path (o m) i) (met_along source a path o (nested_sight source x (outputs_inside source a (o m) i) m) w) (nestings_inside i) (nestings_along w)

@@ -13,7 +13,7 @@ use Rattle.cf_tree.specs.declared.parts.Part.TheVariants.{Plain, Name}
 use Rattle.cf_eval.specs.Outcome.{Outcome, got, later, bad, fault, undecided, below, on_got, both, each, or_wrong}
 use Rattle.cf_eval.specs.Scope.{Scope, Beyond, open_to, closed_to}
 use Rattle.cf_eval.specs.Texts.{Found, known, text_of, members_in, index_of, wanted_text, wanted_list, wanted_index, as_text, as_list, within, most_bytes}
-use Rattle.cf_eval.specs.Functions.{or_fault, output_found, id_of, attribute_of, resource_ref, pseudo_ref, setting_found, ref_found, attribute_in, get_att_found, cut_found, name_found, piece_found, put_together, outcomes, sub_found, join_found, split_at, split_found, nth, select_found, paired, under_second, under_key, mapped, find_found, if_found, imported, import_found, base64_found}
+use Rattle.cf_eval.specs.Functions.{or_fault, output_found, id_of, attribute_found, resource_ref, pseudo_ref, setting_found, ref_found, attribute_in, get_att_found, cut_found, name_found, piece_found, put_together, outcomes, sub_found, join_found, split_at, split_found, nth, select_found, paired, under_second, under_key, value_in_mapping, find_found, if_found, imported, import_found, base64_found}
 use Rattle.cf_eval.specs.Value.{named, pairs_found, dict_found, blamed, form_found, node_found, forms_found, fields_found}
 use Rattle.cf_eval.specs.Env.{plain}
 use Rattle.cf_eval.specs.declared.fault.EvalWhy.{EvalWhy}
@@ -162,7 +162,7 @@ told_at name (o ∷ os) h = either (bytes_eq name o.0) (told_at name os h.1) whe
   either true ih = h.0
   either false ih = ih
 
-attribute_of_sure : (at name : List ℕ) (o : Option Sight) → IsFull o → IsSure (on_got (or_fault UnknownName at o) (λ s. attribute_of at s name))
+attribute_of_sure : (at name : List ℕ) (o : Option Sight) → IsFull o → IsSure (on_got (or_fault UnknownName at o) (λ s. attribute_found at s name))
 attribute_of_sure at name None h = tt
 attribute_of_sure at name (Some sight.NotMade) h = tt
 attribute_of_sure at name (Some (sight.Made (Some p) (Some a))) h = on_got_sure (or_fault UnknownAttribute at (value_at name a)) known (or_fault_sure UnknownAttribute at (value_at name a)) (λ d. tt)
@@ -241,7 +241,7 @@ second_sure at second vs = on_got_sure (or_fault _ at (value_at second vs)) know
 key_sure : (at first second : List ℕ) (ks : List (List ℕ × List (List ℕ × Data))) → IsSure (under_key at first second ks)
 key_sure at first second ks = on_got_sure (or_fault _ at (value_at first ks)) (under_second at second) (or_fault_sure _ at (value_at first ks)) (second_sure at second)
 
-mapped_sure : (s : Scope) (at name first second : List ℕ) → IsSure (mapped s at name first second)
+mapped_sure : (s : Scope) (at name first second : List ℕ) → IsSure (value_in_mapping s at name first second)
 mapped_sure s at name first second = on_got_sure (or_fault _ at (s.mapping name)) (under_key at first second) (or_fault_sure _ at (s.mapping name)) (key_sure at first second)
 
 find_sure : (s : Scope) (at : List ℕ) (x y z : Found) → IsSure x → IsSure y → IsSure z → IsSure (find_found s at x y z)

@@ -8,7 +8,7 @@ use Rattle.cf_desired.specs.declared.shape.Terms.{Terms}
 use Rattle.cf_desired.specs.declared.wanted.Evaluated.{Evaluated}
 use Rattle.cf_desired.specs.declared.wanted.Wanted.{Wanted}
 use Rattle.cf_desired.specs.Given.{Given, given_in, settings_for}
-use Rattle.cf_desired.specs.Turns.{terms_of}
+use Rattle.cf_desired.specs.Turns.{member_terms}
 use Rattle.cf_desired.specs.Plan.{member_at, plan_by, wanted_of}
 use Rattle.cf_desired.specs.Seeing.{Seen, first_sights, nested_sight, outputs_inside, own_ids}
 use Rattle.cf_desired.specs.Shape.{given_root}
@@ -48,15 +48,15 @@ module _ (source : Source) (seen : Seen) where
     members_in g (opened t conds w) =
         members_along t.path (scoping source t conds (settings_for t.template.params g)) (first_sights t conds seen (own_ids w)) w
 
-  found_same : (path : List ℕ) (rs : List Valued) → option_map terms_by (find (is_wanted_at path) (map wanted_of rs)) ≡ option_map terms_of (find (λ m. bytes_eq path m.path) (map member_of rs))
+  found_same : (path : List ℕ) (rs : List Valued) → option_map terms_by (find (is_wanted_at path) (map wanted_of rs)) ≡ option_map member_terms (find (λ m. bytes_eq path m.path) (map member_of rs))
   found_same path [] = refl
   found_same path (r ∷ rs) = either (bytes_eq path r.0.path) (found_same path rs) where
-    either : (b : Bool) → option_map terms_by (find (is_wanted_at path) (map wanted_of rs)) ≡ option_map terms_of (find (λ m. bytes_eq path m.path) (map member_of rs))
-        → option_map terms_by (cond b (Some (wanted_of r)) (find (is_wanted_at path) (map wanted_of rs))) ≡ option_map terms_of (cond b (Some r.0) (find (λ m. bytes_eq path m.path) (map member_of rs)))
+    either : (b : Bool) → option_map terms_by (find (is_wanted_at path) (map wanted_of rs)) ≡ option_map member_terms (find (λ m. bytes_eq path m.path) (map member_of rs))
+        → option_map terms_by (cond b (Some (wanted_of r)) (find (is_wanted_at path) (map wanted_of rs))) ≡ option_map member_terms (cond b (Some r.0) (find (λ m. bytes_eq path m.path) (map member_of rs)))
     either true ih = refl
     either false ih = ih
 
-  pub wanted_terms : (shape : Shape) (path : List ℕ) → option_map terms_by (wanted_at path (plan_by source shape seen)) ≡ option_map terms_of (member_at shape path)
+  pub wanted_terms : (shape : Shape) (path : List ℕ) → option_map terms_by (wanted_at path (plan_by source shape seen)) ≡ option_map member_terms (member_at shape path)
   wanted_terms shape path =
       found_same path (valued_in source seen (given_root source) shape)
-      ∙ ap (λ (ms : List Member). option_map terms_of (find (λ m. bytes_eq path m.path) ms)) (members_in (given_root source) shape)
+      ∙ ap (λ (ms : List Member). option_map member_terms (find (λ m. bytes_eq path m.path) ms)) (members_in (given_root source) shape)

@@ -24,12 +24,12 @@ use Rattle.cf_desired.specs.Kept.{IsShape, turn_in}
 use Rattle.cf_desired.specs.Listed.{settings_by, sights_by}
 use Rattle.cf_desired.specs.Met.{Met, a_stack, an_output, a_flaw, bind_flaw, bind_flaw_in, flaw_inside, flaw_met, flaws_of, met_along, met_in, met_inside, offers_flaw, outputs_met, outputs_wanted, scope_after}
 use Rattle.cf_desired.specs.Names.{pseudo_of, stack_id}
-use Rattle.cf_desired.specs.Plan.{at_path, export_of, exported, flaw_of, inner_of, member_at, no_plan, output_flaws, plan_by, plan_from, props_at, wanted_of}
+use Rattle.cf_desired.specs.Plan.{at_path, export_met, exported, flaw_of, inner_of, member_at, no_plan, output_flaws, plan_by, plan_from, props_at, wanted_of}
 use Rattle.cf_desired.specs.Seeing.{Seen, by_names, first_sights, nested_sight, output_sights, outputs_inside, outputs_of, own_ids, sights_after}
 use Rattle.cf_desired.specs.Shape.{given_root, members_in, templates_in}
 use Rattle.cf_desired.specs.Stack.{Scoping, Sights, Stack, Verdicts, scoping}
-use Rattle.cf_desired.specs.Turns.{Entry, Frame, Turn, the_root, through, a_closed, all_terms, entered, member_on, pathed, plan_run, scope_on, terms_among, terms_of, turns_along, turns_in, turns_inside, unmade_of, valued_run, with_flaw, with_outputs, with_resource, with_some_flaw, with_stack, with_unmade}
-use Rattle.cf_desired.specs.Valued.{evaluated_at, resources_along, resources_in, resources_inside, valued_along, valued_in, valued_inside}
+use Rattle.cf_desired.specs.Turns.{Entry, Frame, Turn, the_root, through, a_closed, all_terms, entered, member_on, pathed, plan_run, scope_on, terms_among, member_terms, turns_along, turns_in, turns_inside, unmade_of, valued_run, with_flaw, with_outputs, with_resource, with_some_flaw, with_stack, with_unmade}
+use Rattle.cf_desired.specs.Valued.{member_props, resources_along, resources_in, resources_inside, valued_along, valued_in, valued_inside}
 use Rattle.cf_desired.specs.Work.{Member, Nesting, Work, Inside, Body, no_work, resource, nested, shut, barred, halted, opened}
 use Rattle.cf_desired.specs.Work as inside
 use Rattle.cf_desired.proofs.Listed.{settings_listed, sights_listed}
@@ -44,7 +44,7 @@ abbrev plan_with : Plan → List Valued → List Met → Plan
 plan_with p rs ms = record p {
   wanted = p.wanted ++ map wanted_of rs;
   nested = p.nested ++ flat_map inner_of ms;
-  exports = p.exports ++ flat_map export_of ms;
+  exports = p.exports ++ flat_map export_met ms;
   flaws = p.flaws ++ flat_map flaw_of ms;
 }
 
@@ -58,7 +58,7 @@ two_with : (p : Plan) (rs ss : List Valued) (ms ns : List Met) → plan_with (pl
 two_with p rs ss ms ns = λ i. record p {
   wanted = wanted_up p.wanted rs ss i;
   nested = joined_up inner_of p.nested ms ns i;
-  exports = joined_up export_of p.exports ms ns i;
+  exports = joined_up export_met p.exports ms ns i;
   flaws = joined_up flaw_of p.flaws ms ns i;
 }
 
@@ -113,7 +113,7 @@ outputs_inner : (os : List WantedOutput) → flat_map inner_of (map (λ o. an_ou
 outputs_inner [] = refl
 outputs_inner (o ∷ os) = outputs_inner os
 
-outputs_exports : (os : List WantedOutput) → flat_map export_of (map (λ o. an_output o) os) ≡ flat_map exported os
+outputs_exports : (os : List WantedOutput) → flat_map export_met (map (λ o. an_output o) os) ≡ flat_map exported os
 outputs_exports [] = refl
 outputs_exports (o ∷ os) = ap (λ xs. exported o ++ xs) (outputs_exports os)
 
@@ -194,8 +194,8 @@ module _ (source : Source) (seen : Seen) where
     }
     along en t conds g n m h (resource r w) fs =
         let rest = along en t conds g n m h w fs in
-        let v = evaluated_at t.path (scope_on source (frame en t conds g n)) r in
-        let u = evaluated_at t.path (over t conds g m) r in
+        let v = member_props t.path (scope_on source (frame en t conds g n)) r in
+        let u = member_props t.path (over t conds g m) r in
         let e : v ≡ u = evaluated_same (scope_on source (frame en t conds g n)) (over t conds g m) (scopes en t conds g n m h) t.path r in record {
           sights = rest.sights;
           alike = rest.alike;
@@ -332,7 +332,7 @@ module _ (source : Source) (seen : Seen) where
           outputs = os;
           nested = (joined_up inner_of [] bs ms ∙ sym (append-nil (flat_map inner_of (bs ++ ms))) ∙ ap (λ xs. flat_map inner_of (bs ++ ms) ++ xs) (sym (outputs_inner os)) ∙ three inner_of bs ms os) i;
           unmade = unmade_of t conds;
-          exports = (ap (λ xs. xs ++ flat_map exported os) (joined_up export_of [] bs ms) ∙ ap (λ xs. flat_map export_of (bs ++ ms) ++ xs) (sym (outputs_exports os)) ∙ three export_of bs ms os) i;
+          exports = (ap (λ xs. xs ++ flat_map exported os) (joined_up export_met [] bs ms) ∙ ap (λ xs. flat_map export_met (bs ++ ms) ++ xs) (sym (outputs_exports os)) ∙ three export_met bs ms os) i;
           flaws = (ap (λ xs. xs ++ flat_map output_flaws os) (joined_up flaw_of [] bs ms) ∙ ap (λ xs. flat_map flaw_of (bs ++ ms) ++ xs) (sym (outputs_flaws os)) ∙ three flaw_of bs ms os) i;
           templates = templates_in (opened t conds w);
           members = members_in (opened t conds w);
@@ -377,9 +377,9 @@ mutual
   members_of e (opened t conds w) = flat_map-append member_on (turns_along w) (a_closed ∷ []) ∙ append-nil (flat_map member_on (turns_along w)) ∙ members_along w
 
 pub terms_so : (shape : kept_shape.Shape) (path : List ℕ) (o : Option Terms) → terms_among (map turn_in shape.turns) path ≡ o
-    → (b : Body) → IsShape shape b → o ≡ option_map terms_of (member_at b path)
+    → (b : Body) → IsShape shape b → o ≡ option_map member_terms (member_at b path)
 terms_so shape path o e b s =
-    sym e ∙ (λ i. terms_among (s.turns i) path) ∙ ap (λ ms. option_map terms_of (find (λ m. bytes_eq path m.path) ms)) (members_of the_root b)
+    sym e ∙ (λ i. terms_among (s.turns i) path) ∙ ap (λ ms. option_map member_terms (find (λ m. bytes_eq path m.path) ms)) (members_of the_root b)
 
 pub all_terms_so : (shape : kept_shape.Shape) (ts : List (List ℕ × Terms)) → ts ≡ all_terms (map turn_in shape.turns) → (b : Body) → IsShape shape b → ts ≡ map pathed (resources_in b)
 all_terms_so shape ts e b s = e ∙ (λ i. all_terms (s.turns i)) ∙ ap (λ (ms : List Member). map pathed ms) (members_of the_root b)

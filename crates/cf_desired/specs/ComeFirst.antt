@@ -25,5 +25,6 @@ NeedsComeFirst = (source : Source) (seen : Seen) → ComeFirst [] (resources_in 
 abbrev pub OrderTellsNeeds : Type 0
 OrderTellsNeeds =
     (e : Entering) (conds : Verdicts) (stands : StandsFor) (r : Res)
-    → ((id : List ℕ) → (value_at id stands ≡ None) ⊎ (is_among id (map (λ x. x.name) (filter (is_made conds) e.stack.template.resources)) ≡ true))
+    → ((id : List ℕ) → (value_at id stands ≡ None)
+    ⊎ (is_among id (map (λ x. x.name) (filter (is_made conds) e.stack.template.resources)) ≡ true))
     → needed_by e conds stands r ≡ in_order (stood_for stands (needs_in e.stack.template conds r) ++ e.needs)

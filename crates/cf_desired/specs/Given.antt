@@ -27,12 +27,12 @@ abbrev pub with_text : Option (List ℕ) → Option (List (List ℕ)) → Option
 with_text (Some t) (Some ts) = Some (t ∷ ts)
 with_text _ _ = None
 
-abbrev pub texts_of : Items → Option (List (List ℕ))
-texts_of no_items = Some []
-texts_of (item d ds) = with_text (text_of d) (texts_of ds)
+abbrev pub item_texts : Items → Option (List (List ℕ))
+item_texts no_items = Some []
+item_texts (item d ds) = with_text (text_of d) (item_texts ds)
 
 abbrev pub piece_text : Data → Option (List ℕ)
-piece_text (list ds) = option_map (joined_by (codes ",")) (texts_of ds)
+piece_text (list ds) = option_map (joined_by (codes ",")) (item_texts ds)
 piece_text d = text_of d
 
 -- a member of `Parameters`: its name, what is blamed if its kind is wrong, and its value
@@ -51,7 +51,8 @@ blamed_on around (expr at n) = blamed around at n
 
 abbrev pub offered_fields : Scope → Option (List ℕ) → Fields → List Offered
 offered_fields s around no_fields = []
-offered_fields s around (field k e fs) = record { name = k; at = blamed_on around e; value = plain (form_found s around e) } ∷ offered_fields s around fs
+offered_fields s around (field k e fs) =
+    record { name = k; at = blamed_on around e; value = plain (form_found s around e) } ∷ offered_fields s around fs
 
 -- the members of a map that is a value, an attribute say: for each of them the map is to blame
 abbrev pub offered_members : List ℕ → Members → List Offered
@@ -75,7 +76,8 @@ abbrev mutual
   pub node_offers : Scope → Option (List ℕ) → List ℕ → Node → Outcome Offers
   node_offers s around at (node.dict fs) =
       got (record { members = offered_fields s around fs; whole = stop_in (plain (form_found s around (expr at (node.dict fs)))) })
-  node_offers s around at (choice name y n) = on_got (s.decided at name) (λ b. if b then offers_in s (Some at) y else offers_in s (Some at) n)
+  node_offers s around at (choice name y n) =
+      on_got (s.decided at name) (λ b. if b then offers_in s (Some at) y else offers_in s (Some at) n)
   node_offers s around at n = value_offers s around (expr at n)
 
 abbrev pub offers_of : Scope → Option Form → Outcome Offers
@@ -111,12 +113,12 @@ with_piece name (got (Some d)) ps = (name, option_map_or (λ t. Text t) (piece_t
 with_piece name later ps = (name, Later) ∷ ps
 with_piece name (bad s) ps = (name, Later) ∷ ps
 
-abbrev pub pieces_of : List Offered → List (List ℕ × Piece)
-pieces_of [] = []
-pieces_of (o ∷ os) = with_piece o.name o.value (pieces_of os)
+abbrev pub given_pieces : List Offered → List (List ℕ × Piece)
+given_pieces [] = []
+given_pieces (o ∷ os) = with_piece o.name o.value (given_pieces os)
 
 abbrev pub given_by : Outcome Offers → Given
-given_by (got o) = pieces (pieces_of o.members)
+given_by (got o) = pieces (given_pieces o.members)
 given_by _ = unknown
 
 abbrev pub given_in : Scope → Option Form → Given

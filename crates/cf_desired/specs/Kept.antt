@@ -75,18 +75,18 @@ blame_at stack (fault why at) = record { why = why; stack = stack; at = at }
 blame_at stack (undecided name at) = record { why = UnknownName; stack = stack; at = at }
 blame_at stack (below why path at) = record { why = why; stack = path; at = at }
 
-abbrev pub flaw_by : Blame → Flaw
-flaw_by b = flaw.Eval b.why b.stack b.at
+abbrev pub flaw_of_blame : Blame → Flaw
+flaw_of_blame b = flaw.Eval b.why b.stack b.at
 
 abbrev pub IsBlameOf : EvalFault → Blame → Type 0
 IsBlameOf (unvalued.Bad why stack at) b = b ≡ record { why = why; stack = stack; at = at }
 IsBlameOf unvalued.NoMemory b = ⊥
 
 -- what an evaluated property adds: nothing where it is left out
-abbrev pub taken : List ℕ → Got → List (List ℕ × Option Data)
-taken name (it.Value v) = (name, Some (datum_of v)) ∷ []
-taken name it.NoValue = []
-taken name it.Later = (name, None) ∷ []
+abbrev pub prop_taken : List ℕ → Got → List (List ℕ × Option Data)
+prop_taken name (it.Value v) = (name, Some (datum_of v)) ∷ []
+prop_taken name it.NoValue = []
+prop_taken name it.Later = (name, None) ∷ []
 
 -- what is wanted as a text
 abbrev pub told_as : List ℕ → Outcome (List ℕ) → Told
@@ -113,11 +113,11 @@ url_in (named.Named name) = url name
 url_in (named.Flawed f) = no_url f
 
 -- a stack, a template that is entered, a resource and a nested stack in the order of work, a turn
-abbrev pub stack_in : kept_stack.Stack → Stack
-stack_in s = record { path = s.path; name = s.name; template = s.template }
+abbrev pub kept_stack_in : kept_stack.Stack → Stack
+kept_stack_in s = record { path = s.path; name = s.name; template = s.template }
 
 abbrev pub entering_in : kept_entering.Entering → Entering
-entering_in e = record { stack = stack_in e.stack; deletion = e.deletion; replace = e.replace; needs = e.needs }
+entering_in e = record { stack = kept_stack_in e.stack; deletion = e.deletion; replace = e.replace; needs = e.needs }
 
 abbrev pub member_in : kept_member.Member → Member
 member_in m = record {
@@ -134,16 +134,16 @@ member_in m = record {
 abbrev pub nesting_in : kept_nesting.Nesting → Nesting
 nesting_in n = record { path = n.path; id = n.id; name = n.name; needs = n.needs }
 
-abbrev pub entry_in : kept_entry.Entry → Entry
-entry_in entry.Root = the_root
-entry_in (entry.Nested n r) = through (nesting_in n) (value_at (codes "Parameters") r.props)
+abbrev pub kept_entry_in : kept_entry.Entry → Entry
+kept_entry_in entry.Root = the_root
+kept_entry_in (entry.Nested n r) = through (nesting_in n) (value_at (codes "Parameters") r.props)
 
 abbrev pub turn_in : kept_turn.Turn → Turn
 turn_in (turn.Resource m) = a_resource (member_in m)
 turn_in (turn.Shut n f) = a_shut (nesting_in n) f
-turn_in (turn.Barred e f) = a_barred (entry_in e) f
-turn_in (turn.Halted e t f) = a_halted (entry_in e) (stack_in t) f
-turn_in (turn.Opened e t conds made) = an_opened (entry_in e) (stack_in t) conds made
+turn_in (turn.Barred e f) = a_barred (kept_entry_in e) f
+turn_in (turn.Halted e t f) = a_halted (kept_entry_in e) (kept_stack_in t) f
+turn_in (turn.Opened e t conds made) = an_opened (kept_entry_in e) (kept_stack_in t) conds made
 turn_in turn.Closed = a_closed
 
 -- the shape is that of the definitions
@@ -155,8 +155,8 @@ pub record IsShape (s : kept_shape.Shape) (b : Body) : Type 0 where
 -- the templates that are open, the last one first
 abbrev pub frame_in : kept_frame.Frame → Frame
 frame_in f = record {
-  entry = entry_in f.entry.now;
-  stack = stack_in f.stack.now;
+  entry = kept_entry_in f.entry.now;
+  stack = kept_stack_in f.stack.now;
   conds = f.conds.now;
   bound = f.bound;
   pseudo = f.pseudo;
@@ -202,7 +202,8 @@ IsLaid source seen e g c b l =
 
 abbrev pub IsWithin : Source → Seen → Scope → Nesting → Count → Inside → Laid → Type 0
 IsWithin source seen s n c i l =
-    IsLaidAs (turns_inside n i) (by_names (outputs_inside source seen s i)) (paths_inside i) (c.templates + templates_inside i) (c.members + members_inside i) l
+    IsLaidAs (turns_inside n i) (by_names (outputs_inside source seen s i)) (paths_inside i) (c.templates + templates_inside i)
+    (c.members + members_inside i) l
 
 -- what is in a template that was opened, where its work came to this
 abbrev pub IsLaidAlong : Stack → Verdicts → Scoping → List (List ℕ) → Path → Laid → Type 0
@@ -231,4 +232,5 @@ abbrev pub WayLaid : Source → Seen → Scope → Entering → Nesting → Opti
 WayLaid source seen s e n form r left c (way_shut f) l = IsWithin source seen s n c (shut f) l
 WayLaid source seen s e n form r left c (way_barred f) l = IsLaid source seen (through n form) unknown c (barred f) l
 WayLaid source seen s e n form r left c (way_entered t g) l =
-    IsLaid source seen (through n form) g c (laid (left - 1) source seen (entering_below e n r t) g (c.templates + 1) (c.members + length t.resources)) l
+    IsLaid source seen (through n form) g c (laid (left - 1) source seen (entering_below e n r t) g (c.templates + 1)
+    (c.members + length t.resources)) l

@@ -10,10 +10,10 @@ use Rattle.cf_tree.specs.declared.template.Res.{Res}
 use Rattle.cf_tree.specs.declared.template.Template.{Template}
 use Rattle.cf_eval.specs.Outcome.{Outcome, got, later, bad}
 use Rattle.cf_eval.specs.Scope.{Scope}
-use Rattle.cf_graph.specs.Needs.{Tangle, needs_of, resource_named}
+use Rattle.cf_graph.specs.Needs.{OrderFault, needs_of, resource_named}
 use Rattle.cf_desired.specs.declared.flaw.Flaw.{Flaw}
 use Rattle.cf_desired.specs.declared.flaw.Flaw.TheVariants as flaw
-use Rattle.cf_desired.specs.Flaw.{tangled_as}
+use Rattle.cf_desired.specs.Flaw.{graph_fault_as}
 use Rattle.cf_desired.specs.Listed.{sights_by, stands_by}
 use Rattle.cf_desired.specs.Names.{path_in, name_in}
 use Rattle.cf_desired.specs.Seeing.{Seen, nested_sight, outputs_inside}
@@ -24,9 +24,9 @@ use Rattle.cf_desired.specs.Turns.{Turn, a_resource, turns_inside}
 use Rattle.cf_desired.specs.Work.{Member, Nesting, Inside}
 
 -- what may be entered below a template, with so many depths left
-abbrev pub below : ℕ → Source → Seen → Option Laying
-below zero source seen = None
-below (suc n) source seen = Some (laid n source seen)
+abbrev pub enterable_below : ℕ → Source → Seen → Option Laying
+enterable_below zero source seen = None
+enterable_below (suc n) source seen = Some (laid n source seen)
 
 -- within the limits of templates and resources
 abbrev pub few : ℕ → ℕ → Type 0
@@ -54,8 +54,8 @@ pub record Path : Type 0 where
   pub templates : ℕ
   pub members : ℕ
 
-abbrev pub begun : Seen → Stack → Verdicts → List (List ℕ) → ℕ → ℕ → Path
-begun seen t conds own templates members = record {
+abbrev pub path_begun : Seen → Stack → Verdicts → List (List ℕ) → ℕ → ℕ → Path
+path_begun seen t conds own templates members = record {
   turns = [];
   sights = sights_by t conds seen own;
   stands = stands_by t own;
@@ -92,7 +92,8 @@ step_with lay source seen e conds over c ids r =
     if is_stack r then with_nested lay source seen e conds over c ids r else with_member e conds c ids r
 
 abbrev pub step_by : Option Laying → Source → Seen → Entering → Verdicts → Scoping → Path → List ℕ × List (List ℕ) → Path
-step_by lay source seen e conds over c m = option_map_or (step_with lay source seen e conds over c m.1) (resource_named m.0 e.stack.template) c
+step_by lay source seen e conds over c m =
+    option_map_or (step_with lay source seen e conds over c m.1) (resource_named m.0 e.stack.template) c
 
 -- the template of a nested stack, where no limit keeps from entering it
 abbrev pub entered_by : ℕ → List ℕ → List ℕ → ℕ → ℕ → Option Template → Result Template Flaw
@@ -104,18 +105,19 @@ entered_by (suc n) path name templates members (Some t) =
     else if nat_lt 2000 (members + length t.resources) then Err (flaw.TooMany (members + length t.resources)) else Ok t
 
 -- What the conditions of a template and the needs in it come to: a flaw, or the verdicts and an order of work.
-abbrev pub by_order : Stack → Verdicts → Result (List (List ℕ × List (List ℕ))) Tangle → Result (Verdicts × List (List ℕ × List (List ℕ))) Flaw
-by_order t conds (Err x) = Err (flaw.Graph t.path (tangled_as x))
+abbrev pub by_order : Stack → Verdicts → Result (List (List ℕ × List (List ℕ))) OrderFault
+    → Result (Verdicts × List (List ℕ × List (List ℕ))) Flaw
+by_order t conds (Err x) = Err (flaw.Graph t.path (graph_fault_as x))
 by_order t conds (Ok order) = Ok (conds, order)
 
-abbrev pub ordered_of : Stack → Verdicts → Result (Verdicts × List (List ℕ × List (List ℕ))) Flaw
-ordered_of t conds = by_order t conds (needs_of t.template conds)
+abbrev pub order_found : Stack → Verdicts → Result (Verdicts × List (List ℕ × List (List ℕ))) Flaw
+order_found t conds = by_order t conds (needs_of t.template conds)
 
 abbrev pub decision_of : Stack → Outcome (List (List ℕ × Option Bool)) → Result (Verdicts × List (List ℕ × List (List ℕ))) Flaw
 decision_of t (bad s) = Err (flaw_at t.path s)
 decision_of t later = Err (flaw.DynamicCondition t.path [])
 decision_of t (got conds) =
-    option_map_or (λ name. Err (flaw.DynamicCondition t.path name)) (first_later conds) (ordered_of t (verdicts_of conds))
+    option_map_or (λ name. Err (flaw.DynamicCondition t.path name)) (first_later conds) (order_found t (verdicts_of conds))
 
 -- what becomes of a nested stack: it is shut by a flaw, its template can't be entered, or is entered with what it is given
 pub data Way : Type 0 where
@@ -129,12 +131,14 @@ entered_way g (Err f) = way_barred f
 
 abbrev pub url_way : ℕ → Source → List ℕ → ℕ → ℕ → Given → Url → Way
 url_way left source path templates members g (no_url f) = way_barred f
-url_way left source path templates members g (url name) = entered_way g (entered_by left path name templates members (template_named name source))
+url_way left source path templates members g (url name) =
+    entered_way g (entered_by left path name templates members (template_named name source))
 
 abbrev pub way_by : ℕ → Source → List ℕ → Scope → ℕ → ℕ → List ℕ → Res → Option Flaw → Way
 way_by left source stack s templates members path r (Some f) = way_shut f
 way_by left source stack s templates members path r None =
-    if has_stack_shape r then url_way left source path templates members (given_in s (value_at (codes "Parameters") r.props)) (url_of stack path s r)
+    if has_stack_shape r then url_way left source path templates members (given_in s (value_at (codes "Parameters") r.props))
+    (url_of stack path s r)
     else way_shut (flaw.Shape path)
 
 -- a template that is entered is within the limits, and has its resources in order

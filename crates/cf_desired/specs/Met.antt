@@ -19,7 +19,7 @@ use Rattle.cf_desired.specs.Seeing.{Seen, is_output_made, own_ids, first_sights,
 use Rattle.cf_desired.specs.Stack.{Stack, Verdicts, Sights, Scoping, scoping, flaw_at}
 use Rattle.cf_desired.specs.Work.{Member, Nesting, Work, Inside, Body, Shape, no_work, resource, nested, shut, barred, halted, opened}
 use Rattle.cf_desired.specs.Work as inside
-use Rattle.cf_desired.specs.Valued.{evaluated_at}
+use Rattle.cf_desired.specs.Valued.{member_props}
 
 -- a nested stack, with the fault of its parameters; an output; or a flaw, of a resource's properties or of
 -- what was to be entered
@@ -83,7 +83,8 @@ scope_after source seen g t conds w =
 abbrev mutual
   pub met_along : Source → Seen → List ℕ → Scoping → Sights → Work → List Met
   met_along source seen path over sights no_work = []
-  met_along source seen path over sights (resource m w) = map (λ f. a_flaw f) (flaws_of (evaluated_at path (over sights) m)) ++ met_along source seen path over sights w
+  met_along source seen path over sights (resource m w) =
+      map (λ f. a_flaw f) (flaws_of (member_props path (over sights) m)) ++ met_along source seen path over sights w
   met_along source seen path over sights (nested n i w) =
       a_stack n (flaw_inside path (over sights) i)
       ∷ (met_inside source seen path (over sights) i

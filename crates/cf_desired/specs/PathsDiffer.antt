@@ -8,8 +8,8 @@ use Rattle.cf_desired.specs.Shape.{shape_of}
 use Rattle.cf_desired.specs.Valued.{nestings_in, resources_in}
 use Rattle.cf_desired.specs.Work.{Shape}
 
-abbrev pub paths_of : Shape → List (List ℕ)
-paths_of shape = map (λ m. m.path) (resources_in shape) ++ map (λ n. n.path) (nestings_in shape)
+abbrev pub shape_paths : Shape → List (List ℕ)
+shape_paths shape = map (λ m. m.path) (resources_in shape) ++ map (λ n. n.path) (nestings_in shape)
 
 abbrev pub PathsDiffer : Type 0
-PathsDiffer = (source : Source) (seen : Seen) → IsTrue (all_differ bytes_eq (paths_of (shape_of source seen)))
+PathsDiffer = (source : Source) (seen : Seen) → IsTrue (all_differ bytes_eq (shape_paths (shape_of source seen)))

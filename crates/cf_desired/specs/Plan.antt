@@ -80,9 +80,9 @@ exported_as value _ = []
 abbrev pub exported : WantedOutput → List (List ℕ × Option (List ℕ))
 exported o = exported_as o.value o.export
 
-abbrev pub export_of : Met → List (List ℕ × Option (List ℕ))
-export_of (an_output o) = exported o
-export_of _ = []
+abbrev pub export_met : Met → List (List ℕ × Option (List ℕ))
+export_met (an_output o) = exported o
+export_met _ = []
 
 abbrev pub unmade_in : Body → List (List ℕ)
 unmade_in (opened t conds w) = map (λ o. o.name) (filter (λ o. not (is_output_made conds o)) t.template.outputs)
@@ -94,14 +94,16 @@ plan_from shape rs outputs ms = record {
   outputs = outputs;
   nested = flat_map inner_of ms;
   unmade = unmade_in shape;
-  exports = flat_map export_of ms;
+  exports = flat_map export_met ms;
   flaws = flat_map flaw_of ms;
   templates = templates_in shape;
   members = members_in shape;
 }
 
 abbrev pub plan_by : Source → Shape → Seen → Plan
-plan_by source shape seen = plan_from shape (valued_in source seen (given_root source) shape) (outputs_in source seen (given_root source) shape) (met_in source seen (given_root source) shape)
+plan_by source shape seen =
+    plan_from shape (valued_in source seen (given_root source) shape) (outputs_in source seen (given_root source) shape)
+    (met_in source seen (given_root source) shape)
 
 -- what a source wants over what is seen
 abbrev pub plan_of : Source → Seen → Plan

@@ -13,19 +13,20 @@ use Rattle.cf_desired.specs.Met.{output_at}
 use Rattle.cf_desired.specs.Stack.{Stack, Settings, Verdicts, Sights, resource_scope, scoping, value_in}
 
 -- the same is seen of a mentioned name; a parameter hides resources from Ref
-abbrev pub Agrees : Settings → Sights → Sights → Mention → Type 0
-Agrees bound m n (by_ref name) = value_at name bound ≡ None → value_at name n ≡ value_at name m
-Agrees bound m n (by_attribute name) = value_at name n ≡ value_at name m
+abbrev pub SeesSame : Settings → Sights → Sights → Mention → Type 0
+SeesSame bound m n (by_ref name) = value_at name bound ≡ None → value_at name n ≡ value_at name m
+SeesSame bound m n (by_attribute name) = value_at name n ≡ value_at name m
 
-abbrev pub AllAgree : Settings → Sights → Sights → List Mention → Type 0
-AllAgree bound m n [] = ⊤
-AllAgree bound m n (x ∷ xs) = Agrees bound m n x × AllAgree bound m n xs
+abbrev pub SeesAllSame : Settings → Sights → Sights → List Mention → Type 0
+SeesAllSame bound m n [] = ⊤
+SeesAllSame bound m n (x ∷ xs) = SeesSame bound m n x × SeesAllSame bound m n xs
 
 -- a value rests on what its expression mentions
 abbrev pub ValueRests : Type 0
 ValueRests =
-    (t : Template) (bound : Settings) (conds : Verdicts) (pseudo : List (List ℕ × Data)) (imports : List (List ℕ × List ℕ)) (m n : Sights) (e : Form)
-    → AllAgree bound m n (mentions_of (holds_in conds) e)
+    (t : Template) (bound : Settings) (conds : Verdicts) (pseudo : List (List ℕ × Data)) (imports : List (List ℕ × List ℕ)) (m n : Sights)
+    (e : Form)
+    → SeesAllSame bound m n (mentions_of (holds_in conds) e)
     → value_in (resource_scope t bound conds pseudo n imports) e ≡ value_in (resource_scope t bound conds pseudo m imports) e
 
 -- an output, its fault and the name of its export rest on what its two expressions mention
@@ -36,5 +37,5 @@ maybe_mentions conds (Some e) = mentions_of (holds_in conds) e
 abbrev pub OutputRests : Type 0
 OutputRests =
     (source : Source) (t : Stack) (conds : Verdicts) (bound : Settings) (m n : Sights) (o : Out)
-    → AllAgree bound m n (mentions_of (holds_in conds) o.value) → AllAgree bound m n (maybe_mentions conds o.export)
+    → SeesAllSame bound m n (mentions_of (holds_in conds) o.value) → SeesAllSame bound m n (maybe_mentions conds o.export)
     → output_at t.path conds (scoping source t conds bound n) o ≡ output_at t.path conds (scoping source t conds bound m) o

@@ -88,7 +88,8 @@ broken_at path (below why stack at) = output.Broken why stack at
 
 abbrev pub sight_of_output : List ℕ → Verdicts → Scope → Out → OutputSight
 sight_of_output path conds s o =
-    if is_output_made conds o then option_map_or (broken_at path) (output_stop conds s o) (output.Made (text_known (text_in s o.value))) else output.NotMade
+    if is_output_made conds o then option_map_or (broken_at path) (output_stop conds s o)
+    (output.Made (text_known (text_in s o.value))) else output.NotMade
 
 abbrev pub output_sight : Stack → Verdicts → Scope → Out → OutputSight
 output_sight t conds s o = sight_of_output t.path conds s o

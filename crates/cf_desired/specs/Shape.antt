@@ -17,9 +17,9 @@ use Rattle.cf_tree.specs.declared.template.Replace.TheVariants as replace
 use Rattle.cf_tree.specs.declared.template.Res.{Res}
 use Rattle.cf_tree.specs.declared.template.Template.{Template}
 use Rattle.cf_eval.specs.declared.fault.EvalWhy.TheVariants.{UnknownName, WrongKind}
-use Rattle.cf_graph.specs.Needs.{Tangle, needs_of, referred_to, resource_named}
+use Rattle.cf_graph.specs.Needs.{OrderFault, needs_of, referred_to, resource_named}
 use Rattle.cf_param.specs.declared.offered.Piece.TheVariants.{Text}
-use Rattle.cf_desired.specs.Flaw.{tangled_as}
+use Rattle.cf_desired.specs.Flaw.{graph_fault_as}
 use Rattle.cf_desired.specs.Names.{path_in, name_in, pseudo_of}
 use Rattle.cf_desired.specs.declared.flaw.Flaw.{Flaw}
 use Rattle.cf_desired.specs.declared.flaw.Flaw.TheVariants as flaw
@@ -121,7 +121,8 @@ resource_place id = codes "/Resources/" ++ id ++ codes "/Condition"
 
 abbrev pub unnamed_at : List ℕ → Verdicts → Res → Option Flaw
 unnamed_at path conds r =
-    option_map_or (λ name. if is_some (value_at name conds) then None else Some (flaw.Eval UnknownName path (resource_place r.name))) r.condition None
+    option_map_or (λ name. if is_some (value_at name conds) then None else Some (flaw.Eval UnknownName path (resource_place r.name)))
+    r.condition None
 
 -- A resource without a policy of its own takes that of the nearest enclosing stack resource that has one, or else Delete.
 abbrev pub member_of : Entering → Verdicts → StandsFor → Res → Member
@@ -169,7 +170,8 @@ url_from stack path (bad s) = no_url (flaw_at stack s)
 
 abbrev pub url_of : List ℕ → List ℕ → Scope → Res → Url
 url_of stack path s r =
-    url_from stack path (option_map_or (λ f. on_got (value_in s f) (maybe_text (place_of f))) (value_at (codes "TemplateURL") r.props) (got None))
+    url_from stack path (option_map_or (λ f. on_got (value_in s f) (maybe_text (place_of f))) (value_at (codes "TemplateURL") r.props)
+    (got None))
 
 -- a template that is entered with what it is given, where so many templates and members were entered before
 abbrev pub Laying : Type 0
@@ -199,22 +201,22 @@ body_at lay source e n r templates members g (url name) =
     laid_within lay n.path name templates members (template_named name source) (entering_below e n r) g
 
 -- what is known along the order of work: what is seen, what ids stand for, how many templates and members were entered
-pub record Course : Type 0 where
+pub record PlanInProgress : Type 0 where
   pub sights : Sights
   pub stands : StandsFor
   pub templates : ℕ
   pub members : ℕ
 
 -- A nested stack: its condition, the properties that it may have, then its parameters, its template by name, and the limits.
-abbrev pub inside_of : Option Laying → Source → Entering → Scope → Course → Nesting → Res → Option Flaw → Inside
+abbrev pub inside_of : Option Laying → Source → Entering → Scope → PlanInProgress → Nesting → Res → Option Flaw → Inside
 inside_of lay source e s c n r (Some f) = shut f
 inside_of lay source e s c n r None =
     if has_stack_shape r then inside.given_by (value_at (codes "Parameters") r.props)
     (body_at lay source e n r c.templates c.members (given_in s (value_at (codes "Parameters") r.props)) (url_of e.stack.path n.path s r))
     else shut (flaw.Shape n.path)
 
-abbrev pub course_after : Source → Seen → Scope → Course → Nesting → Inside → Course
-course_after source seen s c n i = record {
+abbrev pub progress_after : Source → Seen → Scope → PlanInProgress → Nesting → Inside → PlanInProgress
+progress_after source seen s c n i = record {
   sights = nested_sight source n (outputs_inside source seen s i) c.sights;
   stands = put n.id (paths_inside i ++ n.needs) c.stands;
   templates = c.templates + templates_inside i;
@@ -222,17 +224,19 @@ course_after source seen s c n i = record {
 }
 
 -- one step of work, before what is behind it; a nested stack changes what is known there
-abbrev pub nested_before : Source → Seen → Scope → Course → Nesting → Inside → (Course → Work) → Work
-nested_before source seen s c n i behind = nested n i (behind (course_after source seen s c n i))
+abbrev pub nested_before : Source → Seen → Scope → PlanInProgress → Nesting → Inside → (PlanInProgress → Work) → Work
+nested_before source seen s c n i behind = nested n i (behind (progress_after source seen s c n i))
 
-abbrev pub step_before : Option Laying → Source → Seen → Entering → Verdicts → Scoping → Course → Res → (Course → Work) → Work
+abbrev pub step_before : Option Laying → Source → Seen → Entering → Verdicts → Scoping → PlanInProgress → Res → (PlanInProgress → Work)
+    → Work
 step_before lay source seen e conds over c r behind =
     if is_stack r then
     nested_before source seen (over c.sights) c (nesting_of e conds c.stands r)
     (inside_of lay source e (over c.sights) c (nesting_of e conds c.stands r) r (unnamed_at e.stack.path conds r)) behind
     else resource (member_of e conds c.stands r) (behind c)
 
-abbrev pub work_along : Option Laying → Source → Seen → Entering → Verdicts → Scoping → List (List ℕ × List (List ℕ)) → Course → Work
+abbrev pub work_along : Option Laying → Source → Seen → Entering → Verdicts → Scoping → List (List ℕ × List (List ℕ)) → PlanInProgress
+    → Work
 work_along lay source seen e conds over [] c = no_work
 work_along lay source seen e conds over (m ∷ order) c =
     option_map_or (λ r. step_before lay source seen e conds over c r (work_along lay source seen e conds over order))
@@ -248,12 +252,17 @@ own_in t order = flat_map (λ m. own_id (resource_named m.0 t)) order
 
 -- A template: its conditions decided, its order found, then its resources in this order.
 abbrev pub body_in_order :
-    Option Laying → Source → Seen → Entering → Settings → ℕ → ℕ → Verdicts → Result (List (List ℕ × List (List ℕ))) Tangle → Body
-body_in_order lay source seen e bound templates members conds (Err t) = halted e.stack (flaw.Graph e.stack.path (tangled_as t))
+    Option Laying → Source → Seen → Entering → Settings → ℕ → ℕ → Verdicts → Result (List (List ℕ × List (List ℕ))) OrderFault → Body
+body_in_order lay source seen e bound templates members conds (Err t) = halted e.stack (flaw.Graph e.stack.path (graph_fault_as t))
 body_in_order lay source seen e bound templates members conds (Ok order) =
     opened e.stack conds
     (work_along lay source seen e conds (scoping source e.stack conds bound) order
-    (record { sights = first_sights e.stack conds seen (own_in e.stack.template order); stands = first_stands e.stack (own_in e.stack.template order); templates = templates; members = members }))
+    (record {
+      sights = first_sights e.stack conds seen (own_in e.stack.template order);
+      stands = first_stands e.stack (own_in e.stack.template order);
+      templates = templates;
+      members = members;
+    }))
 
 abbrev pub verdict_from : Option Bool → Verdict
 verdict_from None = verdict.Later
@@ -272,7 +281,8 @@ body_decided lay source seen e bound templates members (bad s) = halted e.stack 
 body_decided lay source seen e bound templates members later = halted e.stack (flaw.DynamicCondition e.stack.path [])
 body_decided lay source seen e bound templates members (got conds) =
     option_map_or (λ name. halted e.stack (flaw.DynamicCondition e.stack.path name))
-    (first_later conds) (body_in_order lay source seen e bound templates members (verdicts_of conds) (needs_of e.stack.template (verdicts_of conds)))
+    (first_later conds) (body_in_order lay source seen e bound templates members (verdicts_of conds)
+    (needs_of e.stack.template (verdicts_of conds)))
 
 abbrev pub body_bound : Option Laying → Source → Seen → Entering → Settings → ℕ → ℕ → Body
 body_bound lay source seen e bound templates members =
@@ -281,7 +291,8 @@ body_bound lay source seen e bound templates members =
 -- a template entered at a depth, where so many more may be entered below it
 abbrev pub laid : ℕ → Source → Seen → Laying
 laid zero source seen e g templates members = body_bound None source seen e (settings_for e.stack.template.params g) templates members
-laid (suc n) source seen e g templates members = body_bound (Some (laid n source seen)) source seen e (settings_for e.stack.template.params g) templates members
+laid (suc n) source seen e g templates members =
+    body_bound (Some (laid n source seen)) source seen e (settings_for e.stack.template.params g) templates members
 
 -- the root: what it is given are texts
 abbrev pub given_root : Source → Given

@@ -1,7 +1,7 @@
 -- What of a shape rests on what is seen: where nothing hinders it, nothing that more knowledge changes (this project's own laws).
 use Rattle.std.specs.Prelude.{◌≡◌, ℕ, List, Bool, false, None, map, if◌then◌else◌, [], ◌∷◌, ⊤}
 use Rattle.cf_tree.specs.declared.source.Source.{Source}
-use Rattle.cf_eval.specs.Knows.{Keeps}
+use Rattle.cf_eval.specs.Knows.{StaysKnown}
 use Rattle.cf_desired.specs.Seeing.{SeenAt, Seen}
 use Rattle.cf_desired.specs.Stays.{SeesMore, id_seen, attrs_seen}
 use Rattle.cf_desired.specs.Plan.{plan_by}
@@ -52,15 +52,16 @@ hidden_of ids attrs seen = map (hidden_one ids attrs) seen
 abbrev pub HidingServes : Type 0
 HidingServes =
     (source : Source) (before now : Seen) (ids attrs : List ℕ → Bool) → IsClear (shape_of source (hidden_of ids attrs before))
-    → ((path : List ℕ) → ids path ≡ false → Keeps (id_seen path before) (id_seen path now))
-    → ((path : List ℕ) → attrs path ≡ false → Keeps (attrs_seen path before) (attrs_seen path now))
+    → ((path : List ℕ) → ids path ≡ false → StaysKnown (id_seen path before) (id_seen path now))
+    → ((path : List ℕ) → attrs path ≡ false → StaysKnown (attrs_seen path before) (attrs_seen path now))
     → shape_of source now ≡ shape_of source before
 
 -- Each of these keeps what the one before it showed, but for what is hidden: so an operation goes forward, whose change set hid
 -- what it may change.
 abbrev pub KeepsRest : (List ℕ → Bool) → (List ℕ → Bool) → Seen → Seen → Type 0
 KeepsRest ids attrs a b =
-    (path : List ℕ) → (ids path ≡ false → Keeps (id_seen path a) (id_seen path b)) × (attrs path ≡ false → Keeps (attrs_seen path a) (attrs_seen path b))
+    (path : List ℕ) → (ids path ≡ false → StaysKnown (id_seen path a) (id_seen path b))
+    × (attrs path ≡ false → StaysKnown (attrs_seen path a) (attrs_seen path b))
 
 abbrev pub GoesForward : (List ℕ → Bool) → (List ℕ → Bool) → Seen → List Seen → Type 0
 GoesForward ids attrs a [] = ⊤

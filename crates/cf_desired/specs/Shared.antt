@@ -5,5 +5,5 @@ use Rattle.cf_tree.specs.declared.template.Res.{Res}
 abbrev pub no_resource : Res
 no_resource = record { name = []; kind = []; props = []; depends = []; condition = None; deletion = None; replace = None }
 
-abbrev pub resource_at : ℕ → List Res → Res
-resource_at at rs = slice_index_or rs at no_resource
+abbrev pub resource_placed : ℕ → List Res → Res
+resource_placed at rs = slice_index_or rs at no_resource

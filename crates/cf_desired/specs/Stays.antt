@@ -8,7 +8,7 @@ use Rattle.cf_tree.specs.Datum.{Data}
 use Rattle.cf_tree.specs.Keys.{value_at}
 use Rattle.cf_tree.specs.declared.source.Source.{Source}
 use Rattle.cf_tree.specs.Lists.{is_among}
-use Rattle.cf_eval.specs.Knows.{Keeps}
+use Rattle.cf_eval.specs.Knows.{StaysKnown}
 use Rattle.cf_desired.specs.declared.flaw.Flaw.{Flaw}
 use Rattle.cf_desired.specs.declared.flaw.Flaw.TheVariants as flaw
 use Rattle.cf_desired.specs.declared.wanted.Evaluated.TheVariants.{Flawed as flawed, Known as evaluated}
@@ -29,7 +29,7 @@ attrs_seen path seen = option_and_then (λ s. s.attrs) (value_at path seen)
 
 -- b shows each physical id and all attributes that a shows
 abbrev pub SeesMore : Seen → Seen → Type 0
-SeesMore a b = (path : List ℕ) → Keeps (id_seen path a) (id_seen path b) × Keeps (attrs_seen path a) (attrs_seen path b)
+SeesMore a b = (path : List ℕ) → StaysKnown (id_seen path a) (id_seen path b) × StaysKnown (attrs_seen path a) (attrs_seen path b)
 
 -- the properties of a path, where all are known, and the value of an output, where it is
 abbrev pub props_known : List ℕ → Plan → Option (List (List ℕ × Data))
@@ -40,8 +40,8 @@ output_known name p = option_and_then (λ o. o.value) (find (λ o. bytes_eq name
 
 -- what is known in p stands in q
 pub record KeepsKnown (p q : Plan) : Type 0 where
-  pub props : (path : List ℕ) → Keeps (props_known path p) (props_known path q)
-  pub outputs : (name : List ℕ) → Keeps (output_known name p) (output_known name q)
+  pub props : (path : List ℕ) → StaysKnown (props_known path p) (props_known path q)
+  pub outputs : (name : List ℕ) → StaysKnown (output_known name p) (output_known name q)
 
 -- the flaw is of an evaluation, and not of binding, of the order of work or of a template
 abbrev pub is_of_evaluation : Flaw → Bool
@@ -70,7 +70,8 @@ AllKnownIsWhole = (p : Plan) → IsAllKnown p → (w : Whole) × (whole_in p ≡
 
 -- a and b show the same of these paths
 abbrev pub AgreeAt : List (List ℕ) → Seen → Seen → Type 0
-AgreeAt paths a b = (path : List ℕ) → is_among path paths ≡ true → (id_seen path b ≡ id_seen path a) × (attrs_seen path b ≡ attrs_seen path a)
+AgreeAt paths a b =
+    (path : List ℕ) → is_among path paths ≡ true → (id_seen path b ≡ id_seen path a) × (attrs_seen path b ≡ attrs_seen path a)
 
 -- the physical id and the attributes of a path are seen
 abbrev pub is_shown : Seen → List ℕ → Bool

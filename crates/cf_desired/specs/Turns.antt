@@ -23,7 +23,7 @@ use Rattle.cf_desired.specs.Plan.{exported, output_flaws, wanted_of}
 use Rattle.cf_desired.specs.Seeing.{Seen, by_names, is_output_made, output_sights, own_ids, seen_nested}
 use Rattle.cf_desired.specs.Shape.{given_root}
 use Rattle.cf_desired.specs.Stack.{Stack, Verdicts, Settings, Sights, resource_scope}
-use Rattle.cf_desired.specs.Valued.{evaluated_at}
+use Rattle.cf_desired.specs.Valued.{member_props}
 use Rattle.cf_desired.specs.Work.{Member, Nesting, Work, Inside, Body, no_work, resource, nested, shut, barred, halted, opened}
 use Rattle.cf_desired.specs.Work as inside
 
@@ -75,14 +75,14 @@ abbrev pub member_on : Turn → List Member
 member_on (a_resource m) = m ∷ []
 member_on _ = []
 
-abbrev pub terms_of : Member → Terms
-terms_of m = record { kind = m.kind; needs = m.needs; deletion = m.deletion; replace = m.replace }
+abbrev pub member_terms : Member → Terms
+member_terms m = record { kind = m.kind; needs = m.needs; deletion = m.deletion; replace = m.replace }
 
 abbrev pub terms_among : List Turn → List ℕ → Option Terms
-terms_among ts path = option_map terms_of (find (λ m. bytes_eq path m.path) (flat_map member_on ts))
+terms_among ts path = option_map member_terms (find (λ m. bytes_eq path m.path) (flat_map member_on ts))
 
 abbrev pub pathed : Member → List ℕ × Terms
-pathed m = (m.path, terms_of m)
+pathed m = (m.path, member_terms m)
 
 abbrev pub all_terms : List Turn → List (List ℕ × Terms)
 all_terms ts = map pathed (flat_map member_on ts)
@@ -164,7 +164,7 @@ frames_behind source seen fs turn = frames_after source seen (given_at source fs
 -- a resource with its properties
 abbrev pub valued_at : Source → List Frame → Turn → List (Member × Evaluated)
 valued_at source [] turn = []
-valued_at source (f ∷ fs) (a_resource m) = (m, evaluated_at f.stack.path (scope_on source f) m) ∷ []
+valued_at source (f ∷ fs) (a_resource m) = (m, member_props f.stack.path (scope_on source f) m) ∷ []
 valued_at source (f ∷ fs) _ = []
 
 -- a resource at another path
@@ -220,7 +220,7 @@ outputs_on source p f = with_outputs p f.entry (outputs_wanted f.stack f.conds (
 -- the plan after a turn, where the template that it enters is given this, with this flaw
 abbrev pub plan_after : Source → Given → Option Flaw → List Frame → Plan → Turn → Plan
 plan_after source g o [] p (a_resource m) = p
-plan_after source g o (f ∷ fs) p (a_resource m) = with_resource p m (evaluated_at f.stack.path (scope_on source f) m)
+plan_after source g o (f ∷ fs) p (a_resource m) = with_resource p m (member_props f.stack.path (scope_on source f) m)
 plan_after source g o fs p (a_shut n f) = with_flaw (with_stack p n None) f
 plan_after source g o fs p (a_barred e f) = with_flaw (entered p e o None) f
 plan_after source g o fs p (a_halted e t f) = with_flaw (entered p e o (bind_flaw t g)) f

@@ -48,14 +48,15 @@ abbrev pub unless_flaw : Option Flaw → Evaluated → Evaluated
 unless_flaw None v = v
 unless_flaw (Some f) v = flawed f
 
-abbrev pub evaluated_at : List ℕ → Scope → Member → Evaluated
-evaluated_at path s m = unless_flaw m.unnamed (props_in path s m.props)
+abbrev pub member_props : List ℕ → Scope → Member → Evaluated
+member_props path s m = unless_flaw m.unnamed (props_in path s m.props)
 
 -- each with its properties
 abbrev mutual
   pub valued_along : Source → Seen → List ℕ → Scoping → Sights → Work → List (Member × Evaluated)
   valued_along source seen path over sights no_work = []
-  valued_along source seen path over sights (resource m w) = (m, evaluated_at path (over sights) m) ∷ valued_along source seen path over sights w
+  valued_along source seen path over sights (resource m w) =
+      (m, member_props path (over sights) m) ∷ valued_along source seen path over sights w
   valued_along source seen path over sights (nested n i w) =
       valued_inside source seen (over sights) i
       ++ valued_along source seen path over (nested_sight source n (outputs_inside source seen (over sights) i) sights) w

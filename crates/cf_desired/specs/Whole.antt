@@ -41,20 +41,27 @@ Right = kept_right.Right
 
 abbrev pub right_of : Wanted → Option Right
 right_of w =
-    option_map (λ props. record { path = w.path; kind = w.kind; deletion = w.deletion; replace = w.replace; needs = w.needs; props = props })
+    option_map (λ props. record {
+      path = w.path;
+      kind = w.kind;
+      deletion = w.deletion;
+      replace = w.replace;
+      needs = w.needs;
+      props = props;
+    })
     (known_of w.props)
 
-abbrev pub export_of : Exporting → Option (Option (List ℕ))
-export_of exporting.Nothing = Some None
-export_of exporting.Fault = None
-export_of (exporting.Named name) = Some (Some name)
+abbrev pub right_export_name : Exporting → Option (Option (List ℕ))
+right_export_name exporting.Nothing = Some None
+right_export_name exporting.Fault = None
+right_export_name (exporting.Named name) = Some (Some name)
 
 abbrev pub with_export : WantedOutput → List ℕ → Option (Option (List ℕ)) → Option Output
 with_export o value None = None
 with_export o value (Some export) = Some (record { name = o.name; value = value; export = export })
 
 abbrev pub right_output : WantedOutput → Option Output
-right_output o = option_map_or (λ value. with_export o value (export_of o.export)) o.value None
+right_output o = option_map_or (λ value. with_export o value (right_export_name o.export)) o.value None
 
 -- f of each of a list, where it is there for all
 abbrev pub all_of : {A B : Type 0} → (A → Option B) → List A → Option (List B)
@@ -86,6 +93,9 @@ whole_in p = unless_flawed p.flaws (whole_from p (all_of right_of p.wanted) (all
 abbrev pub whole_of : Source → Seen → Option Whole
 whole_of source seen = whole_in (plan_of source seen)
 
--- the names that a source exports, over what is seen
+-- the names that a plan exports; those that a source exports, over what is seen
+abbrev pub export_names : Plan → List (List ℕ)
+export_names p = map (λ e. e.0) p.exports
+
 abbrev pub export_names_of : Source → Seen → List (List ℕ)
-export_names_of source seen = map (λ e. e.0) (plan_of source seen).exports
+export_names_of source seen = export_names (plan_of source seen)

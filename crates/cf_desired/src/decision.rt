@@ -3,8 +3,8 @@ ghost use Rattle.std.specs.Prelude.{◌≡◌, ◌∷◌, IfOk, map};
 ghost use Rattle.cf_eval.specs.Env.{Decides, conditions_of};
 ghost use Rattle.cf_eval.specs.Outcome.{got};
 ghost use Rattle.cf_eval.specs.ScopeOf.{verdict_of};
-ghost use Rattle.cf_desired.specs.Kept.{decision_in, stack_in};
-ghost use Rattle.cf_desired.specs.Laying.{decision_of, ordered_of};
+ghost use Rattle.cf_desired.specs.Kept.{decision_in, kept_stack_in};
+ghost use Rattle.cf_desired.specs.Laying.{decision_of, order_found};
 ghost use Rattle.cf_desired.specs.Shape.{first_later};
 
 use crate::flaw::Flaw;
@@ -44,7 +44,7 @@ pub(crate) fn decide(
     bound: &Bound,
     pseudo: &Dict,
 ) -> Result<Decision, AllocError>
-    ensures { IfOk result (λ d. decision_in d ≡ decision_of (stack_in stack.now) (conditions_of stack.now.template bound.now pseudo.now)) }
+    ensures { IfOk result (λ d. decision_in d ≡ decision_of (kept_stack_in stack.now) (conditions_of stack.now.template bound.now pseudo.now)) }
 {
     match conditions_on(alloc, stack, bound, pseudo) {
         Ok(conds) => decided(alloc, stack, conds),
@@ -56,7 +56,7 @@ pub(crate) fn decide(
 
 /// Over decided conditions, none of which may rest on what is not known yet.
 fn decided(alloc: Global, stack: &Stack, conds: CondMap) -> Result<Decision, AllocError>
-    ensures { IfOk result (λ d. decision_in d ≡ decision_of (stack_in stack.now) (got (map (λ c. (c.0, verdict_of c.1)) conds))) }
+    ensures { IfOk result (λ d. decision_in d ≡ decision_of (kept_stack_in stack.now) (got (map (λ c. (c.0, verdict_of c.1)) conds))) }
 {
     match first_later(alloc, &conds)? {
         Some(name) => Ok(Decision::Halted {
@@ -83,7 +83,7 @@ fn first_later(alloc: Global, conds: &CondMap) -> Result<Option<Txt>, AllocError
 
 /// With the order of work, or the flaw that there is none.
 fn ordered(alloc: Global, stack: &Stack, conds: CondMap) -> Result<Decision, AllocError>
-    ensures { IfOk result (λ d. decision_in d ≡ ordered_of (stack_in stack.now) conds) }
+    ensures { IfOk result (λ d. decision_in d ≡ order_found (kept_stack_in stack.now) conds) }
 {
     match order(alloc, &stack.template, &conds) {
         Ok(order) => Ok(Decision::Opened { conds, order }),

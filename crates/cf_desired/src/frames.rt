@@ -2,7 +2,7 @@
 ghost use Rattle.std.specs.Prelude.{◌≡◌, ◌∷◌, IfOk, None};
 ghost use Rattle.cf_eval.specs.Env.{scope_in};
 ghost use Rattle.cf_desired.specs.Given.{unknown};
-ghost use Rattle.cf_desired.specs.Kept.{entry_in, frame_in, frames_in, nesting_in, offer_in, stack_in, turn_in};
+ghost use Rattle.cf_desired.specs.Kept.{kept_entry_in, frame_in, frames_in, nesting_in, offer_in, kept_stack_in, turn_in};
 ghost use Rattle.cf_desired.specs.Turns.{close, come, come_through, flaw_at_turn, flaw_through, frame_of, frames_after, given_at, given_through, scope_on};
 
 use crate::binding::{pieces_of, settings};
@@ -94,8 +94,8 @@ fn offered_through(
     frames: &[Frame],
     entry: &Entry,
 ) -> Result<Offered, AllocError>
-    ensures given { IfOk result (λ o. offer_in o.given ≡ given_through source.now (frames_in frames.now) (entry_in entry.now)) }
-    ensures flaw { IfOk result (λ o. o.flaw ≡ flaw_through source.now (frames_in frames.now) (entry_in entry.now)) }
+    ensures given { IfOk result (λ o. offer_in o.given ≡ given_through source.now (frames_in frames.now) (kept_entry_in entry.now)) }
+    ensures flaw { IfOk result (λ o. o.flaw ≡ flaw_through source.now (frames_in frames.now) (kept_entry_in entry.now)) }
 {
     match entry {
         Entry::Root => Ok(Offered {
@@ -163,7 +163,7 @@ fn frame_of<'a>(
     conds: &'a CondMap,
     made: &'a ByName<bool>,
 ) -> Result<Frame<'a>, AllocError>
-    ensures { IfOk result (λ f. frame_in f ≡ frame_of source.now seen.now (offer_in given.now) (entry_in entry.now) (stack_in stack.now) conds.now made.now) }
+    ensures { IfOk result (λ f. frame_in f ≡ frame_of source.now seen.now (offer_in given.now) (kept_entry_in entry.now) (kept_stack_in stack.now) conds.now made.now) }
 {
     Ok(Frame {
         entry,
@@ -196,7 +196,7 @@ fn leave(
     outputs: ByName<OutputSight>,
     frames: &mut Vec<Frame>,
 ) -> Result<(), AllocError>
-    ensures { IfOk result (λ _. frames_in frames.new.items ≡ come_through source.now (entry_in entry.now) outputs (frames_in frames.old.items)) }
+    ensures { IfOk result (λ _. frames_in frames.new.items ≡ come_through source.now (kept_entry_in entry.now) outputs (frames_in frames.old.items)) }
 {
     match entry {
         Entry::Root => Ok(()),

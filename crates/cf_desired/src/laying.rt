@@ -2,8 +2,8 @@
 ghost use Rattle.std.specs.Prelude.{◌≡◌, ◌+◌, [], ◌∷◌, ◌++◌, IfOk, codes, fold, length, map};
 ghost use Rattle.cf_eval.specs.Env.{scope_in};
 ghost use Rattle.cf_template.proofs.Ordered.{AreOrdered};
-ghost use Rattle.cf_desired.specs.Kept.{IsContents, IsJoined, IsLaid, IsLaidAlong, IsShape, IsWithin, WayLaid, course_in, entering_in, entry_in, nesting_in, offer_in, scope_by, stack_in, way_in};
-ghost use Rattle.cf_desired.specs.Laying.{IsWay, begun, below, entered_by, entered_way, few, step_by, way_by, with_member, with_nested};
+ghost use Rattle.cf_desired.specs.Kept.{IsContents, IsJoined, IsLaid, IsLaidAlong, IsShape, IsWithin, WayLaid, course_in, entering_in, kept_entry_in, nesting_in, offer_in, scope_by, kept_stack_in, way_in};
+ghost use Rattle.cf_desired.specs.Laying.{IsWay, path_begun, enterable_below, entered_by, entered_way, few, step_by, way_by, with_member, with_nested};
 ghost use Rattle.cf_desired.specs.Listed.{made_by, settings_by, stands_by};
 ghost use Rattle.cf_desired.specs.Given.{Given, given_in};
 ghost use Rattle.cf_desired.specs.Seeing.{Seen, by_names, output_sights};
@@ -209,7 +209,7 @@ fn lay(
     requires templates { laying.now.templates.now ≡ templates_of laying.now.source.now }
     requires ordered { AreOrdered entering.stack.template.resources }
     requires few { few (count.templates + 1) (count.members + length entering.stack.template.resources) }
-    ensures laid { IfOk result (IsLaid laying.now.source.now laying.now.seen.now (entry_in entry) (offer_in given.now) count
+    ensures laid { IfOk result (IsLaid laying.now.source.now laying.now.seen.now (kept_entry_in entry) (offer_in given.now) count
         (laid left laying.now.source.now laying.now.seen.now (entering_in entering) (offer_in given.now) (count.templates + 1) (count.members + length entering.stack.template.resources))) }
     ensures few { IfOk result (λ l. few l.count.templates l.count.members) }
 {
@@ -251,12 +251,12 @@ fn contents_of(
     count: Count,
 ) -> Result<Contents, AllocError>
     requires templates { laying.now.templates.now ≡ templates_of laying.now.source.now }
-    requires stack { stack_in ground.now.stack.now ≡ stack_in entering.now.stack }
+    requires stack { kept_stack_in ground.now.stack.now ≡ kept_stack_in entering.now.stack }
     requires source { ground.now.source.now ≡ laying.now.source.now }
     requires few { few (count.templates + 1) (count.members + length ground.now.stack.now.template.resources) }
-    ensures contents { IfOk result (IsContents (stack_in ground.now.stack.now) ground.now.conds.now (scope_by ground.now) (own_in ground.now.stack.now.template order.now.entries)
-        (fold (step_by (below left laying.now.source.now laying.now.seen.now) laying.now.source.now laying.now.seen.now (entering_in entering.now) ground.now.conds.now (scope_by ground.now))
-        (begun laying.now.seen.now (stack_in ground.now.stack.now) ground.now.conds.now (own_in ground.now.stack.now.template order.now.entries) count.templates count.members) order.now.entries)) }
+    ensures contents { IfOk result (IsContents (kept_stack_in ground.now.stack.now) ground.now.conds.now (scope_by ground.now) (own_in ground.now.stack.now.template order.now.entries)
+        (fold (step_by (enterable_below left laying.now.source.now laying.now.seen.now) laying.now.source.now laying.now.seen.now (entering_in entering.now) ground.now.conds.now (scope_by ground.now))
+        (path_begun laying.now.seen.now (kept_stack_in ground.now.stack.now) ground.now.conds.now (own_in ground.now.stack.now.template order.now.entries) count.templates count.members) order.now.entries)) }
     ensures few { IfOk result (λ k. few k.laid.count.templates k.laid.count.members) }
 {
     let own = own_on(alloc, ground.stack, order)?;
@@ -269,7 +269,7 @@ fn contents_of(
 
 /// What a course came to, with what is seen of the outputs behind it and with the paths of the template's own resources.
 fn gathered(alloc: Global, ground: &Ground, own: &Names, course: Course) -> Result<Laid, AllocError>
-    ensures laid { IfOk result (IsLaidAlong (stack_in ground.now.stack.now) ground.now.conds.now (scope_by ground.now) own.now (course_in course.entry)) }
+    ensures laid { IfOk result (IsLaidAlong (kept_stack_in ground.now.stack.now) ground.now.conds.now (scope_by ground.now) own.now (course_in course.entry)) }
     ensures count { IfOk result (λ l. l.count ≡ course.entry.count) }
 {
     let outputs = outputs_behind(alloc, ground, &course.sights)?;
@@ -291,7 +291,7 @@ fn halted(
     count: Count,
 ) -> Result<Laid, AllocError>
     requires few { few (count.templates + 1) (count.members + length stack.template.resources) }
-    ensures laid { IfOk result (λ l. (source : Source) (seen : Seen) (g : Given) → IsLaid source seen (entry_in entry) g count (halted (stack_in stack) flaw) l) }
+    ensures laid { IfOk result (λ l. (source : Source) (seen : Seen) (g : Given) → IsLaid source seen (kept_entry_in entry) g count (halted (kept_stack_in stack) flaw) l) }
     ensures few { IfOk result (λ l. few l.count.templates l.count.members) }
 {
     let members = count.members + stack.template.resources.len() as u64;
@@ -314,7 +314,7 @@ fn outputs_behind(
     ground: &Ground,
     sights: &Sights,
 ) -> Result<ByName<OutputSight>, AllocError>
-    ensures { IfOk result (λ os. os ≡ by_names (output_sights (stack_in ground.now.stack.now) ground.now.conds.now (scope_by ground.now sights.now))) }
+    ensures { IfOk result (λ os. os ≡ by_names (output_sights (kept_stack_in ground.now.stack.now) ground.now.conds.now (scope_by ground.now sights.now))) }
 {
     output_sights(alloc, ground.stack, ground.conds, &env_over(ground, sights))
 }
@@ -391,7 +391,7 @@ fn begun<'a>(
     count: Count,
 ) -> Result<Course<'a>, AllocError>
     requires few { few (count.templates + 1) (count.members + length stack.now.template.resources) }
-    ensures { IfOk result (λ c. (conds : Verdicts) → made.now ≡ made_by conds stack.now.template own.now → course_in c ≡ begun seen.now (stack_in stack.now) conds own.now count.templates count.members) }
+    ensures { IfOk result (λ c. (conds : Verdicts) → made.now ≡ made_by conds stack.now.template own.now → course_in c ≡ path_begun seen.now (kept_stack_in stack.now) conds own.now count.templates count.members) }
 {
     Ok(Course {
         turns: Listing::new(alloc),
@@ -407,7 +407,7 @@ fn begun<'a>(
 
 /// The paths that logical ids stand for: that of a resource for its own.
 fn first_stands(alloc: Global, stack: &Stack, own: &Names) -> Result<ByName<Names>, AllocError>
-    ensures { IfOk result (λ s. s ≡ stands_by (stack_in stack.now) own.now) }
+    ensures { IfOk result (λ s. s ≡ stands_by (kept_stack_in stack.now) own.now) }
 {
     let mut stands = ByName::new(alloc);
     for id in own.as_slice() {
@@ -452,10 +452,10 @@ fn work(
     course: &mut Course,
 ) -> Result<(), AllocError>
     requires templates { laying.now.templates.now ≡ templates_of laying.now.source.now }
-    requires stack { stack_in ground.now.stack.now ≡ stack_in entering.now.stack }
+    requires stack { kept_stack_in ground.now.stack.now ≡ kept_stack_in entering.now.stack }
     requires source { ground.now.source.now ≡ laying.now.source.now }
     requires few { few course.old.count.templates course.old.count.members }
-    ensures course { IfOk result (λ _. course_in course.new ≡ fold (step_by (below left laying.now.source.now laying.now.seen.now) laying.now.source.now laying.now.seen.now (entering_in entering.now) ground.now.conds.now (scope_by ground.now)) (course_in course.old) order.now.entries) }
+    ensures course { IfOk result (λ _. course_in course.new ≡ fold (step_by (enterable_below left laying.now.source.now laying.now.seen.now) laying.now.source.now laying.now.seen.now (entering_in entering.now) ground.now.conds.now (scope_by ground.now)) (course_in course.old) order.now.entries) }
     ensures few { IfOk result (λ _. few course.new.count.templates course.new.count.members) }
 {
     for (id, ids) in order.iter() {
@@ -476,10 +476,10 @@ fn step(
     course: &mut Course,
 ) -> Result<(), AllocError>
     requires templates { laying.now.templates.now ≡ templates_of laying.now.source.now }
-    requires stack { stack_in ground.now.stack.now ≡ stack_in entering.now.stack }
+    requires stack { kept_stack_in ground.now.stack.now ≡ kept_stack_in entering.now.stack }
     requires source { ground.now.source.now ≡ laying.now.source.now }
     requires few { few course.old.count.templates course.old.count.members }
-    ensures course { IfOk result (λ _. course_in course.new ≡ step_by (below left laying.now.source.now laying.now.seen.now) laying.now.source.now laying.now.seen.now (entering_in entering.now) ground.now.conds.now (scope_by ground.now) (course_in course.old) (row.entry.0.now, row.entry.1.now)) }
+    ensures course { IfOk result (λ _. course_in course.new ≡ step_by (enterable_below left laying.now.source.now laying.now.seen.now) laying.now.source.now laying.now.seen.now (entering_in entering.now) ground.now.conds.now (scope_by ground.now) (course_in course.old) (row.entry.0.now, row.entry.1.now)) }
     ensures few { IfOk result (λ _. few course.new.count.templates course.new.count.members) }
 {
     let (id, ids) = row;
@@ -525,10 +525,10 @@ fn nest(
     course: &mut Course,
 ) -> Result<(), AllocError>
     requires templates { laying.now.templates.now ≡ templates_of laying.now.source.now }
-    requires stack { stack_in ground.now.stack.now ≡ stack_in entering.now.stack }
+    requires stack { kept_stack_in ground.now.stack.now ≡ kept_stack_in entering.now.stack }
     requires source { ground.now.source.now ≡ laying.now.source.now }
     requires few { few course.old.count.templates course.old.count.members }
-    ensures course { IfOk result (λ _. course_in course.new ≡ with_nested (below left laying.now.source.now laying.now.seen.now) laying.now.source.now laying.now.seen.now (entering_in entering.now) ground.now.conds.now (scope_by ground.now) (course_in course.old) ids.now resource) }
+    ensures course { IfOk result (λ _. course_in course.new ≡ with_nested (enterable_below left laying.now.source.now laying.now.seen.now) laying.now.source.now laying.now.seen.now (entering_in entering.now) ground.now.conds.now (scope_by ground.now) (course_in course.old) ids.now resource) }
     ensures few { IfOk result (λ _. few course.new.count.templates course.new.count.members) }
 {
     let nesting = nesting_by(alloc, entering, &course.stands, &resource, ids)?;
@@ -622,7 +622,7 @@ fn way_by_name(
 
 /// How the template of a nested stack comes to be entered.
 fn entry_of(inner: Inner) -> Entry
-    ensures { entry_in result ≡ through (nesting_in inner.nesting) (value_at (codes "Parameters") inner.resource.props) }
+    ensures { kept_entry_in result ≡ through (nesting_in inner.nesting) (value_at (codes "Parameters") inner.resource.props) }
 {
     Entry::Nested {
         nesting: inner.nesting,
@@ -642,7 +642,7 @@ fn shut(alloc: Global, nesting: Nesting, flaw: Flaw, count: Count) -> Result<Lai
 
 /// A template that can't be entered.
 fn barred(alloc: Global, entry: Entry, flaw: Flaw, count: Count) -> Result<Laid, AllocError>
-    ensures laid { IfOk result (λ l. (source : Source) (seen : Seen) (g : Given) → IsLaid source seen (entry_in entry) g count (barred flaw) l) }
+    ensures laid { IfOk result (λ l. (source : Source) (seen : Seen) (g : Given) → IsLaid source seen (kept_entry_in entry) g count (barred flaw) l) }
     ensures count { IfOk result (λ l. l.count ≡ count) }
 {
     let mut turns = Listing::new(alloc);

@@ -11,8 +11,8 @@ ghost use Rattle.cf_eval.specs.Functions.{joined_by, led_by};
 ghost use Rattle.cf_eval.specs.Outcome.{got, undecided};
 ghost use Rattle.cf_eval.specs.Texts.{Found};
 ghost use Rattle.cf_eval.specs.Value.{form_found};
-ghost use Rattle.cf_desired.specs.Given.{given_in, map_wanted, offers_in, piece_text, pieces, texts_of, unknown, value_offers};
-ghost use Rattle.cf_desired.specs.Kept.{IsOffers, Takes, blame_at, flaw_by, offer_in};
+ghost use Rattle.cf_desired.specs.Given.{given_in, map_wanted, offers_in, piece_text, pieces, item_texts, unknown, value_offers};
+ghost use Rattle.cf_desired.specs.Kept.{IsOffers, Takes, blame_at, flaw_of_blame, offer_in};
 ghost use Rattle.cf_desired.specs.Met.{offers_flaw};
 ghost use Rattle.cf_desired.specs.Stack.{stop_in};
 
@@ -79,7 +79,7 @@ fn nothing(alloc: Global) -> Offered
 /// Nothing is known of what is given.
 fn unknown(blame: Option<Blame>) -> Offered
     ensures given { offer_in result.given ≡ unknown }
-    ensures flaw { result.flaw ≡ option_map flaw_by blame }
+    ensures flaw { result.flaw ≡ option_map flaw_of_blame blame }
 {
     Offered {
         given: Offer::Unknown,
@@ -310,7 +310,7 @@ fn piece_text(alloc: Global, value: Val) -> Result<Option<Txt>, AllocError>
 
 /// The values of a list as texts, where each is one.
 fn texts_of(alloc: Global, items: Vals) -> Result<Option<Names>, AllocError>
-    ensures { IfOk result (λ o. o ≡ texts_of (items_of items)) }
+    ensures { IfOk result (λ o. o ≡ item_texts (items_of items)) }
 {
     let mut texts = Names::new(alloc);
     for item in items.as_slice() {

@@ -3,7 +3,7 @@ ghost use Rattle.std.specs.Prelude.{◌≡◌, IfOk, filter, map, not, option_ma
 ghost use Rattle.std.specs.List.{flat_map};
 ghost use Rattle.std.specs.Option.{option_or};
 ghost use Rattle.cf_eval.specs.Env.{scope_in};
-ghost use Rattle.cf_desired.specs.Kept.{blame_at, stack_in};
+ghost use Rattle.cf_desired.specs.Kept.{blame_at, kept_stack_in};
 ghost use Rattle.cf_desired.specs.Met.{exporting_in, output_at, outputs_wanted};
 ghost use Rattle.cf_desired.specs.Plan.{exported};
 ghost use Rattle.cf_desired.specs.Seeing.{by_names, export_stop, is_output_made, output_sights, output_stop, sight_of_output, text_in, text_known, unnamed_output};
@@ -27,7 +27,7 @@ pub(crate) fn outputs_over(
     env: &Env,
 ) -> Result<Listing<WantedOutput>, AllocError>
     requires stack { env.now.stack.now ≡ stack.now.path }
-    ensures { IfOk result (λ outputs. outputs ≡ outputs_wanted (stack_in stack.now) conds.now (scope_in env.now)) }
+    ensures { IfOk result (λ outputs. outputs ≡ outputs_wanted (kept_stack_in stack.now) conds.now (scope_in env.now)) }
 {
     let mut outputs = Listing::new(alloc);
     for output in stack.template.outputs.as_slice() {
@@ -50,7 +50,7 @@ fn is_output_made(conds: &CondMap, output: &Out) -> bool
 
 /// The names of the outputs whose condition is false.
 pub(crate) fn unmade(alloc: Global, stack: &Stack, conds: &CondMap) -> Result<Names, AllocError>
-    ensures { IfOk result (λ names. names ≡ unmade_of (stack_in stack.now) conds.now) }
+    ensures { IfOk result (λ names. names ≡ unmade_of (kept_stack_in stack.now) conds.now) }
 {
     let mut names = Names::new(alloc);
     for output in stack.template.outputs.as_slice() {
@@ -69,7 +69,7 @@ pub(crate) fn output_sights(
     env: &Env,
 ) -> Result<ByName<OutputSight>, AllocError>
     requires stack { env.now.stack.now ≡ stack.now.path }
-    ensures { IfOk result (λ seen. seen ≡ by_names (output_sights (stack_in stack.now) conds.now (scope_in env.now))) }
+    ensures { IfOk result (λ seen. seen ≡ by_names (output_sights (kept_stack_in stack.now) conds.now (scope_in env.now))) }
 {
     let outputs = stack.template.outputs.as_slice();
     let mut seen = ByName::new(alloc);

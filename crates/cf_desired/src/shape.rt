@@ -2,9 +2,9 @@
 //! nested stacks. No value is in it.
 ghost use Rattle.std.specs.Prelude.{◌≡◌, [], false, IfOk, map, option_map};
 ghost use Rattle.std.specs.List.{list_any};
-ghost use Rattle.cf_desired.specs.Kept.{IsShape, entry_in, member_in, nesting_in, turn_in};
+ghost use Rattle.cf_desired.specs.Kept.{IsShape, kept_entry_in, member_in, nesting_in, turn_in};
 ghost use Rattle.cf_desired.specs.Plan.{member_at};
-ghost use Rattle.cf_desired.specs.Turns.{all_terms, is_below, is_nested, pathed, terms_among, terms_of};
+ghost use Rattle.cf_desired.specs.Turns.{all_terms, is_below, is_nested, pathed, terms_among, member_terms};
 ghost use Rattle.cf_desired.specs.Valued.{nestings_in, resources_in};
 ghost use Rattle.cf_desired.specs.Work.{Body};
 
@@ -129,7 +129,7 @@ pub struct Terms {
 
 /// Whether a template is entered as a nested stack.
 fn is_below(entry: &Entry) -> bool
-    ensures { result ≡ is_below (entry_in entry.now) }
+    ensures { result ≡ is_below (kept_entry_in entry.now) }
 {
     match entry {
         Entry::Root => false,
@@ -187,7 +187,7 @@ pub fn has_nested(shape: &Shape) -> bool
 ///
 /// Only for want of memory.
 pub fn terms_at(alloc: Global, shape: &Shape, path: &Txt) -> Result<Option<Terms>, AllocError>
-    ensures { IfOk result (λ t. (b : Body) → IsShape shape.now b → t ≡ option_map terms_of (member_at b path.now)) }
+    ensures { IfOk result (λ t. (b : Body) → IsShape shape.now b → t ≡ option_map member_terms (member_at b path.now)) }
 {
     terms_among(alloc, shape.turns.as_slice(), path)
 }
@@ -229,7 +229,7 @@ fn terms_along(alloc: Global, turns: &[Turn]) -> Result<Listing<(Txt, Terms)>, A
 }
 
 fn terms_of(alloc: Global, member: &Member) -> Result<Terms, AllocError>
-    ensures { IfOk result (λ t. t ≡ terms_of (member_in member.now)) }
+    ensures { IfOk result (λ t. t ≡ member_terms (member_in member.now)) }
 {
     Ok(Terms {
         kind: member.resource.kind.try_clone(alloc)?,

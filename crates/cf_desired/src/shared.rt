@@ -75,9 +75,9 @@ impl Model for SharedRes {
 
     ghost coded = { Prim.hlevel (codes, form_code) };
 
-    ghost use Rattle.cf_desired.specs.Shared.{resource_at};
+    ghost use Rattle.cf_desired.specs.Shared.{resource_placed};
 
-    ghost view = { λ r. resource_at r.at r.template.resources };
+    ghost view = { λ r. resource_placed r.at r.template.resources };
 
     ghost use Rattle.std.specs.Prelude.{◌<◌, length};
 

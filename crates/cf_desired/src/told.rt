@@ -8,7 +8,7 @@ ghost use Rattle.cf_eval.specs.Env.{scope_in};
 ghost use Rattle.cf_eval.specs.Outcome.{fault};
 ghost use Rattle.cf_eval.specs.Texts.{text_of};
 ghost use Rattle.cf_eval.specs.declared.fault.EvalWhy.TheVariants.{WrongKind};
-ghost use Rattle.cf_desired.specs.Kept.{IsBlameOf, blame_at, flaw_by, taken, told_as};
+ghost use Rattle.cf_desired.specs.Kept.{IsBlameOf, blame_at, flaw_of_blame, prop_taken, told_as};
 ghost use Rattle.cf_desired.specs.Seeing.{text_in};
 ghost use Rattle.cf_desired.specs.Stack.{props_in};
 
@@ -63,7 +63,7 @@ pub(crate) fn properties(
 #[tactic(auto, using(crate::proofs::Ordered::same_names))]
 fn add_prop(known: &mut Props, name: Txt, got: Got) -> Result<(), AllocError>
     requires { IsTrue (ascends (known.old ++ (name, None) ∷ [])) }
-    ensures { IfOk result (λ _. known.new ≡ known.old ++ taken name got) }
+    ensures { IfOk result (λ _. known.new ≡ known.old ++ prop_taken name got) }
 {
     match got {
         Got::Value(value) => known.push(name, Some(value)),
@@ -116,7 +116,7 @@ pub(crate) fn blame_of(fault: EvalFault) -> Result<Blame, AllocError>
 
 /// The flaw that an evaluation failed.
 pub(crate) fn flaw_by(blame: Blame) -> Flaw
-    ensures { result ≡ flaw_by blame }
+    ensures { result ≡ flaw_of_blame blame }
 {
     Flaw::Eval {
         why: blame.why,
@@ -127,7 +127,7 @@ pub(crate) fn flaw_by(blame: Blame) -> Flaw
 
 /// The flaw that an evaluation failed, where it did.
 pub(crate) fn some_flaw_by(blame: Option<Blame>) -> Option<Flaw>
-    ensures { result ≡ option_map flaw_by blame }
+    ensures { result ≡ option_map flaw_of_blame blame }
 {
     match blame {
         Some(blame) => Some(flaw_by(blame)),

@@ -3,12 +3,12 @@ ghost use Rattle.std.specs.Prelude.{◌≡◌, [], ◌∷◌, ◌++◌, IfOk, op
 ghost use Rattle.std.specs.Option.{option_copied, option_or};
 ghost use Rattle.std.specs.List.{flat_map};
 ghost use Rattle.cf_eval.specs.Env.{scope_in};
-ghost use Rattle.cf_desired.specs.Kept.{IsShape, entry_in, frame_in, frames_in, member_in, nesting_in, offer_in, stack_in, turn_in};
+ghost use Rattle.cf_desired.specs.Kept.{IsShape, kept_entry_in, frame_in, frames_in, member_in, nesting_in, offer_in, kept_stack_in, turn_in};
 ghost use Rattle.cf_desired.specs.Met.{bind_flaw};
 ghost use Rattle.cf_desired.specs.Plan.{at_path, no_plan, output_flaws, plan_by, plan_of, props_at, wanted_of};
 ghost use Rattle.cf_desired.specs.Templates.{templates_of};
 ghost use Rattle.cf_desired.specs.Turns.{entered, frames_behind, is_beside, outputs_on, plan_after, plan_behind, valued_at, with_exports, with_flaw, with_flaw_of, with_resource, with_roots, with_some_flaw, with_stack, with_unmade};
-ghost use Rattle.cf_desired.specs.Valued.{evaluated_at};
+ghost use Rattle.cf_desired.specs.Valued.{member_props};
 ghost use Rattle.cf_desired.specs.Work.{Body};
 
 use crate::binding::bind_fault_of;
@@ -213,7 +213,7 @@ fn add_turn(
 
 /// The flaw that the parameters of a stack can't be bound, where they can't.
 fn bind_flaw(alloc: Global, stack: &Stack, given: &Offer) -> Result<Option<Flaw>, AllocError>
-    ensures { IfOk result (λ f. f ≡ bind_flaw (stack_in stack.now) (offer_in given.now)) }
+    ensures { IfOk result (λ f. f ≡ bind_flaw (kept_stack_in stack.now) (offer_in given.now)) }
 {
     match bind_fault_of(alloc, &stack.template, given)? {
         Some(fault) => Ok(Some(Flaw::Bind {
@@ -232,7 +232,7 @@ fn add_bound(
     stack: &Stack,
     offered: &Offered,
 ) -> Result<(), AllocError>
-    ensures { IfOk result (λ _. plan.new ≡ entered plan.old (entry_in entry.now) offered.now.flaw (bind_flaw (stack_in stack.now) (offer_in offered.now.given))) }
+    ensures { IfOk result (λ _. plan.new ≡ entered plan.old (kept_entry_in entry.now) offered.now.flaw (bind_flaw (kept_stack_in stack.now) (offer_in offered.now.given))) }
 {
     let bind = bind_flaw(alloc, stack, &offered.given)?;
     add_entered(alloc, plan, entry, &offered.flaw, &bind)
@@ -246,7 +246,7 @@ fn add_entered(
     offers: &Option<Flaw>,
     bind: &Option<Flaw>,
 ) -> Result<(), AllocError>
-    ensures { IfOk result (λ _. plan.new ≡ entered plan.old (entry_in entry.now) offers.now bind.now) }
+    ensures { IfOk result (λ _. plan.new ≡ entered plan.old (kept_entry_in entry.now) offers.now bind.now) }
 {
     match entry {
         Entry::Root => add_some_flaw(alloc, plan, bind),
@@ -329,7 +329,7 @@ fn add_resource(
     member: &Member,
     env: &Env,
 ) -> Result<(), AllocError>
-    ensures { IfOk result (λ _. plan.new ≡ with_resource plan.old (member_in member.now) (evaluated_at env.now.stack.now (scope_in env.now) (member_in member.now))) }
+    ensures { IfOk result (λ _. plan.new ≡ with_resource plan.old (member_in member.now) (member_props env.now.stack.now (scope_in env.now) (member_in member.now))) }
 {
     let wanted = wanted_of(alloc, member, env)?;
     add_flaw_of(alloc, plan, &wanted.props)?;
@@ -338,7 +338,7 @@ fn add_resource(
 
 /// What is wanted of a path. Its properties are evaluated last, so that nothing large is let go on the way.
 fn wanted_of(alloc: Global, member: &Member, env: &Env) -> Result<Wanted, AllocError>
-    ensures { IfOk result (λ w. w ≡ wanted_of (member_in member.now, evaluated_at env.now.stack.now (scope_in env.now) (member_in member.now))) }
+    ensures { IfOk result (λ w. w ≡ wanted_of (member_in member.now, member_props env.now.stack.now (scope_in env.now) (member_in member.now))) }
 {
     let path = member.path.try_clone(alloc)?;
     let kind = member.resource.kind.try_clone(alloc)?;
@@ -365,7 +365,7 @@ fn add_flaw_of(alloc: Global, plan: &mut Plan, props: &Evaluated) -> Result<(), 
 
 /// What the properties of a resource come to: nothing is evaluated where its condition is not declared.
 fn evaluated(alloc: Global, member: &Member, env: &Env) -> Result<Evaluated, AllocError>
-    ensures { IfOk result (λ e. e ≡ evaluated_at env.now.stack.now (scope_in env.now) (member_in member.now)) }
+    ensures { IfOk result (λ e. e ≡ member_props env.now.stack.now (scope_in env.now) (member_in member.now)) }
 {
     match &member.unnamed {
         Some(flaw) => Ok(Evaluated::Flawed {
@@ -383,7 +383,7 @@ fn add_unmade(
     stack: &Stack,
     conds: &CondMap,
 ) -> Result<(), AllocError>
-    ensures { IfOk result (λ _. plan.new ≡ with_unmade plan.old (entry_in entry.now) (stack_in stack.now) conds.now) }
+    ensures { IfOk result (λ _. plan.new ≡ with_unmade plan.old (kept_entry_in entry.now) (kept_stack_in stack.now) conds.now) }
 {
     if matches!(entry, Entry::Root) {
         plan.unmade = unmade(alloc, stack, conds)?;
@@ -417,7 +417,7 @@ fn add_exports(alloc: Global, plan: &mut Plan, outputs: &[WantedOutput]) -> Resu
 
 /// Adds the outputs of a template, where it is the root.
 fn add_roots(plan: &mut Plan, entry: &Entry, outputs: Listing<WantedOutput>)
-    ensures { plan.new ≡ with_roots plan.old (entry_in entry.now) outputs }
+    ensures { plan.new ≡ with_roots plan.old (kept_entry_in entry.now) outputs }
 {
     if matches!(entry, Entry::Root) {
         plan.outputs = outputs;

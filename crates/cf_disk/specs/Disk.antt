@@ -1,4 +1,4 @@
--- What the calls of a disk do to its file, and what a crash may do between two syncs.
+-- What the calls of a disk do to its file, and what a crash may do between two syncs (this project's own model of a disk).
 use Rattle.std.specs.Prelude.{◌≡◌, ◌⊎◌, ℕ, ◌+◌, ◌-◌, ◌^◌, ◌≤◌, min, max, Bool, List, ◌++◌, length, take, drop, Option, IfSome, Result, is_ok, OnErr}
 use Rattle.cf_tree.specs.Counts.{HasRisen}
 
@@ -32,7 +32,7 @@ NoneLost old new = (c : List ℕ) → old c → new c
 
 -- After a call that may be left half done: each old outcome of a crash is still one, and so is each file that the step makes of one,
 -- if the call reached the file.
-pub record Leaves (step : List ℕ → List ℕ → Type 0) (reached : Type 0) (old new : List ℕ → Type 0) : Type 0 where
+pub record LeavesHalfDone (step : List ℕ → List ℕ → Type 0) (reached : Type 0) (old new : List ℕ → Type 0) : Type 0 where
   pub kept : NoneLost old new
   pub half_done : reached → (c d : List ℕ) → old d → step d c → new c
 
@@ -51,11 +51,12 @@ pub record Elapses (before now : ℕ) (past since : ℕ → List ℕ → Type 0)
   pub keeps : (t : ℕ) (c : List ℕ) → t ≤ before → past t c → since t c
 
 -- A crash at any moment since old leaves a file that has P.
-pub record LeavesOnly {D : Type 0} (moment : D → ℕ) (left_since : D → ℕ → List ℕ → Type 0) (old new : D) (P : List ℕ → Type 0) : Type 0 where
-  pub later : moment old ≤ moment new
-  pub each : (c : List ℕ) → left_since new (moment old) c → P c
-  -- for a run that began earlier
-  pub before : (t : ℕ) (c : List ℕ) → t ≤ moment old → left_since new t c → left_since old t c ⊎ P c
+pub record LeavesOnly {D : Type 0} (moment : D → ℕ) (left_since : D → ℕ → List ℕ → Type 0) (old new : D) (P : List ℕ → Type 0) : Type 0
+  where
+    pub later : moment old ≤ moment new
+    pub each : (c : List ℕ) → left_since new (moment old) c → P c
+    -- for a run that began earlier
+    pub before : (t : ℕ) (c : List ℕ) → t ≤ moment old → left_since new t c → left_since old t c ⊎ P c
 
 -- the count never falls, and rises where the call fails
 pub record HasCause {T E : Type 0} (before now : ℕ) (result : Result T E) : Type 0 where

@@ -1,4 +1,4 @@
--- What a fuse shows.
+-- What a fuse shows (this project's own).
 use Rattle.std.specs.Prelude.{ℕ}
 use Rattle.cf_disk.specs.declared.fuse.FuseDisk.{FuseDisk}
 use Rattle.cf_disk.specs.declared.memory.MemoryDisk.{MemoryDisk}

@@ -1,4 +1,4 @@
--- What a disk in memory shows.
+-- What a disk in memory shows (this project's own).
 use Rattle.std.specs.Prelude.{◌≡◌, ◌==◌, ◌+◌, ◌-◌, ◌^◌, ◌<◌, ◌≤◌, min, ◌&&◌, ℕ, Bool, not, nat_lt, nat_le, if◌then◌else◌, List, length, reverse, vec_len}
 use Rattle.std.specs.List.{list_any}
 use Rattle.cf_disk.specs.declared.memory.MemoryDisk.{MemoryDisk}
@@ -34,11 +34,13 @@ memory_reaches m = vec_len m.calls < m.most_calls
 
 -- A call that writes n bytes succeeds if it can be noted with its bytes, and its number is not listed.
 abbrev pub memory_passes : MemoryDisk → ℕ → Bool
-memory_passes m n = nat_lt (vec_len m.calls) m.most_calls && (not (list_any (λ k. k == vec_len m.calls + 1) m.fails.items) && nat_le (vec_len m.log + n) m.most_written)
+memory_passes m n =
+    nat_lt (vec_len m.calls) m.most_calls
+    && (not (list_any (λ k. k == vec_len m.calls + 1) m.fails.items) && nat_le (vec_len m.log + n) m.most_written)
 
 -- After a call that writes n bytes: it is counted unless so many are noted already, its bytes are counted if it succeeded and else a
 -- fault is, and what is to fail stays the same.
-pub record IsCounted (old : MemoryDisk) (passed : Bool) (n : ℕ) (new : MemoryDisk) : Type 0 where
+pub record CallIsCounted (old : MemoryDisk) (passed : Bool) (n : ℕ) (new : MemoryDisk) : Type 0 where
   pub fails : new.fails.items ≡ old.fails.items
   pub most : (new.most_calls ≡ old.most_calls) × (new.most_written ≡ old.most_written)
   pub calls : vec_len new.calls ≡ (if nat_lt (vec_len old.calls) old.most_calls then vec_len old.calls + 1 else vec_len old.calls)

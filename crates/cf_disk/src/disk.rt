@@ -1,5 +1,5 @@
 ghost use Rattle.std.specs.Prelude.{◌≡◌, ◌+◌, ◌≤◌, Bool, ℕ, List, Option, None, IsTrue, IfOk, OnOk, OnErr, length, take, drop};
-ghost use Rattle.cf_disk.specs.Disk.{overwritten, Torn, Shortened, Follows, NoneNew, NoneLost, Leaves, IsAsKnown, Only, Elapses, HasCause};
+ghost use Rattle.cf_disk.specs.Disk.{overwritten, Torn, Shortened, Follows, NoneNew, NoneLost, LeavesHalfDone, IsAsKnown, Only, Elapses, HasCause};
 
 /// The disk refused a call. Its count of faults has risen.
 #[derive(Clone, Copy, Debug, PartialEq, Eq)]
@@ -73,7 +73,7 @@ pub trait Disk {
         requires room { at + length bytes.now ≤ room_of self.old }
         ensures written { OnOk result (IsTrue tells → seen self.new ≡ overwritten (seen self.old) at bytes.now) }
         ensures crash { IsTrue tells → Follows (Torn at (length bytes.now)) (may_leave self.old) (may_leave self.new) }
-        ensures torn { IsTrue tells → Leaves (Torn at (length bytes.now)) (reaches self.old) (may_leave self.old) (may_leave self.new) }
+        ensures torn { IsTrue tells → LeavesHalfDone (Torn at (length bytes.now)) (reaches self.old) (may_leave self.old) (may_leave self.new) }
         ensures reached { OnOk result (reaches self.old) }
         ensures time { IsTrue tells → Elapses (moment self.old) (moment self.new) (left_since self.old) (left_since self.new) (may_leave self.new) }
         ensures room { room_of self.new ≡ room_of self.old }
@@ -86,7 +86,7 @@ pub trait Disk {
         requires { IsTrue tells → to ≤ length (seen self.old) }
         ensures cut { OnOk result (IsTrue tells → seen self.new ≡ take to (seen self.old)) }
         ensures crash { IsTrue tells → Follows (Shortened to) (may_leave self.old) (may_leave self.new) }
-        ensures short { IsTrue tells → Leaves (Shortened to) (reaches self.old) (may_leave self.old) (may_leave self.new) }
+        ensures short { IsTrue tells → LeavesHalfDone (Shortened to) (reaches self.old) (may_leave self.old) (may_leave self.new) }
         ensures reached { OnOk result (reaches self.old) }
         ensures time { IsTrue tells → Elapses (moment self.old) (moment self.new) (left_since self.old) (left_since self.new) (may_leave self.new) }
         ensures room { room_of self.new ≡ room_of self.old }

@@ -45,7 +45,7 @@ fn passes(left: &mut u64) -> bool
 }
 
 impl Disk for FuseDisk {
-    ghost use Rattle.cf_disk.specs.Memory.{memory_passes, IsCounted};
+    ghost use Rattle.cf_disk.specs.Memory.{memory_passes, CallIsCounted};
 
     ghost tells = { true };
 
@@ -63,7 +63,7 @@ impl Disk for FuseDisk {
 
     ghost passes = { λ f n. Some (not (f.left == 0) && memory_passes f.disk n) };
 
-    ghost counts = { λ f n new. (new.left ≡ f.left - 1) × IsCounted f.disk (not (f.left == 0) && memory_passes f.disk n) n new.disk };
+    ghost counts = { λ f n new. (new.left ≡ f.left - 1) × CallIsCounted f.disk (not (f.left == 0) && memory_passes f.disk n) n new.disk };
 
     ghost reaches = { λ f. ⟦<MemoryDisk as Disk>⟧.reaches f.disk };
 

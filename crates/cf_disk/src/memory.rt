@@ -1,6 +1,6 @@
 ghost use Rattle.std.specs.Prelude.{◌≡◌, ◌==◌, ◌+◌, ◌-◌, ◌^◌, ◌<◌, ◌≤◌, min, [], ◌∷◌, ◌++◌, true, false, length, reverse, nat_lt, if◌then◌else◌, Some, IsTrue, IfOk, vec_len, vec_capacity};
 ghost use Rattle.std.specs.List.{list_any};
-ghost use Rattle.cf_disk.specs.Disk.{overwritten, Torn, Shortened, Follows, NoneNew, NoneLost, Leaves, Elapses};
+ghost use Rattle.cf_disk.specs.Disk.{overwritten, Torn, Shortened, Follows, NoneNew, NoneLost, LeavesHalfDone, Elapses};
 ghost use Rattle.cf_tree.specs.Counts.{HasRisen};
 ghost use Rattle.cf_disk.specs.Calls.{seen_after, is_possible, now_counts, now_only};
 ghost use Rattle.cf_disk.specs.Stays.{memory_stays};
@@ -31,7 +31,7 @@ pub struct MemoryDisk {
 }
 
 impl MemoryDisk {
-    ghost use Rattle.cf_disk.specs.Memory.{memory_bytes, memory_may_leave, memory_moment, memory_left_since, memory_passes, memory_reaches, IsCounted, IsFresh, IsRefused};
+    ghost use Rattle.cf_disk.specs.Memory.{memory_bytes, memory_may_leave, memory_moment, memory_left_since, memory_passes, memory_reaches, CallIsCounted, IsFresh, IsRefused};
 
     /// A disk that holds these bytes, all of them synced. They are at most as many as its room.
     ///
@@ -101,7 +101,7 @@ impl MemoryDisk {
     /// Refuses a call that changes nothing in the file.
     pub(crate) fn refuse(&mut self) -> DiskFail
         ensures refused { IsRefused self.old self.new }
-        ensures counted { IsCounted self.old false 0 self.new }
+        ensures counted { CallIsCounted self.old false 0 self.new }
         ensures crash { NoneNew (memory_may_leave self.old) (memory_may_leave self.new) }
         ensures kept { NoneLost (memory_may_leave self.old) (memory_may_leave self.new) }
         ensures time { Elapses (memory_moment self.old) (memory_moment self.new) (memory_left_since self.old) (memory_left_since self.new) (memory_may_leave self.new) }
@@ -113,9 +113,9 @@ impl MemoryDisk {
     /// Refuses a write of so many bytes, which counts as written.
     pub(crate) fn refuse_write(&mut self, at: u64, size: u64) -> DiskFail
         ensures refused { IsRefused self.old self.new }
-        ensures counted { IsCounted self.old false size self.new }
+        ensures counted { CallIsCounted self.old false size self.new }
         ensures crash { Follows (Torn at size) (memory_may_leave self.old) (memory_may_leave self.new) }
-        ensures torn { Leaves (Torn at size) (memory_reaches self.old) (memory_may_leave self.old) (memory_may_leave self.new) }
+        ensures torn { LeavesHalfDone (Torn at size) (memory_reaches self.old) (memory_may_leave self.old) (memory_may_leave self.new) }
         ensures time { Elapses (memory_moment self.old) (memory_moment self.new) (memory_left_since self.old) (memory_left_since self.new) (memory_may_leave self.new) }
     {
         note_if_room(
@@ -133,9 +133,9 @@ impl MemoryDisk {
     /// Refuses a cut, which counts as done.
     pub(crate) fn refuse_cut(&mut self, to: u64) -> DiskFail
         ensures refused { IsRefused self.old self.new }
-        ensures counted { IsCounted self.old false 0 self.new }
+        ensures counted { CallIsCounted self.old false 0 self.new }
         ensures crash { Follows (Shortened to) (memory_may_leave self.old) (memory_may_leave self.new) }
-        ensures short { Leaves (Shortened to) (memory_reaches self.old) (memory_may_leave self.old) (memory_may_leave self.new) }
+        ensures short { LeavesHalfDone (Shortened to) (memory_reaches self.old) (memory_may_leave self.old) (memory_may_leave self.new) }
         ensures time { Elapses (memory_moment self.old) (memory_moment self.new) (memory_left_since self.old) (memory_left_since self.new) (memory_may_leave self.new) }
     {
         note_if_room(
@@ -203,7 +203,7 @@ fn overwrite(file: &mut Vec<u8>, at: usize, bytes: &[u8])
 }
 
 impl Disk for MemoryDisk {
-    ghost use Rattle.cf_disk.specs.Memory.{memory_may_leave, memory_moment, memory_left_since, memory_passes, memory_reaches, IsCounted};
+    ghost use Rattle.cf_disk.specs.Memory.{memory_may_leave, memory_moment, memory_left_since, memory_passes, memory_reaches, CallIsCounted};
 
     ghost tells = { true };
 
@@ -221,7 +221,7 @@ impl Disk for MemoryDisk {
 
     ghost passes = { λ m n. Some (memory_passes m n) };
 
-    ghost counts = { λ m n new. IsCounted m (memory_passes m n) n new };
+    ghost counts = { λ m n new. CallIsCounted m (memory_passes m n) n new };
 
     ghost reaches = { memory_reaches };
 

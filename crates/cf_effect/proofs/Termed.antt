@@ -57,17 +57,17 @@ none_more None = refl
 none_more (Some s) = refl
 
 of_member : (q : List ℕ) (m : Member) (ms : List Member) (b : Bool) → bytes_eq q m.path ≡ b
-    → cond b (Some (without_kind (turned.terms_of m))) (terms_in (option_map turned.terms_of (find (λ n. bytes_eq q n.path) ms)))
-    ≡ terms_in (option_map turned.terms_of (cond b (Some m) (find (λ n. bytes_eq q n.path) ms)))
+    → cond b (Some (without_kind (turned.member_terms m))) (terms_in (option_map turned.member_terms (find (λ n. bytes_eq q n.path) ms)))
+    ≡ terms_in (option_map turned.member_terms (cond b (Some m) (find (λ n. bytes_eq q n.path) ms)))
 of_member q m ms true e = refl
 of_member q m ms false e = refl
 
 put_behind : (q : List ℕ) (ms : List Member) (all : List (List ℕ × Terms))
-    → value_at q (fold put_terms all (map pathed ms)) ≡ first (value_at q all) (terms_in (option_map turned.terms_of (find (λ m. bytes_eq q m.path) ms)))
+    → value_at q (fold put_terms all (map pathed ms)) ≡ first (value_at q all) (terms_in (option_map turned.member_terms (find (λ m. bytes_eq q m.path) ms)))
 put_behind q [] all = none_more (value_at q all)
 put_behind q (m ∷ ms) all =
     put_behind q ms (put_terms all (pathed m))
-    ∙ one_put q (pathed m) all (terms_in (option_map turned.terms_of (find (λ n. bytes_eq q n.path) ms))) (is_some (value_at m.path all)) refl
+    ∙ one_put q (pathed m) all (terms_in (option_map turned.member_terms (find (λ n. bytes_eq q n.path) ms))) (is_some (value_at m.path all)) refl
     ∙ ap (first (value_at q all)) (of_member q m ms (bytes_eq q m.path) refl)
 
 given_so : (o : Option Wanted) → given_terms (terms_in (option_map terms_by o)) ≡ terms_of o

@@ -20,7 +20,7 @@ use Rattle.cf_effect.specs.declared.held.GivenUp.{GivenUp}
 use Rattle.cf_effect.specs.declared.held.KeptSet.{KeptSet}
 use Rattle.cf_effect.specs.Status.{begun, is_deleted, reviewed}
 use Rattle.cf_effect.specs.World.{StackState}
-use Rattle.cf_effect.specs.Words.{has_physical, is_created, unknown_id}
+use Rattle.cf_effect.specs.Words.{has_physical, is_create_at, unknown_id}
 use Rattle.cf_effect.specs.Calls.{anew, is_open_call}
 use Rattle.cf_effect.specs.Listed.{NamesAfter, Same, Also, Only, import_names}
 use Rattle.cf_effect.specs.Effect.{Effect}
@@ -63,7 +63,7 @@ abbrev pub given_up : Pending → GivenUp
 given_up p = record { token = p.token; path = p.path }
 
 abbrev pub creates_at : List Pending → List ℕ → List Pending
-creates_at ps path = filter (λ p. is_created p && bytes_eq path p.path) ps
+creates_at ps path = filter (is_create_at path) ps
 
 abbrev pub skipped_creates : List (List ℕ) → List Pending → List Pending
 skipped_creates paths ps = flat_map (creates_at ps) paths

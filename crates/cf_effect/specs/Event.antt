@@ -1,4 +1,5 @@
--- The lines that `events` prints of a stack, one for each entry that concerns it (DescribeStackEvents; the form of a line is this project's own).
+-- The lines that `events` prints of a stack, one for each entry that concerns it (DescribeStackEvents; the form of a line is this
+-- project's own).
 use Rattle.std.specs.Prelude.{ℕ, List, [], ◌∷◌, ◌++◌, Option, Some, None, codes, if◌then◌else◌}
 use Rattle.std.specs.Fmt.{decimal}
 use Rattle.cf_tree.specs.Codes.{name_of}
@@ -56,5 +57,6 @@ lines_of place (entry.Intent number token lane path request) s = event_line plac
 lines_of place (entry.Outcome number token answer before after) s = reply_line place answer (pending_of token s)
 lines_of place (entry.Phase number phase cause) s = event_line place (codes "-") (status_name (turned s.status phase)) ∷ []
 lines_of place (entry.Done number status failed) s = event_line place (codes "-") (status_name status) ∷ []
-lines_of place (entry.ChangeSet number stack source rows outputs) s = if is_deleted s.status then event_line place (codes "-") (codes "REVIEW_IN_PROGRESS") ∷ [] else []
+lines_of place (entry.ChangeSet number stack source rows outputs) s =
+    if is_deleted s.status then event_line place (codes "-") (codes "REVIEW_IN_PROGRESS") ∷ [] else []
 lines_of place (entry.Opened epoch lanes) s = []

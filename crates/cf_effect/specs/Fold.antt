@@ -29,7 +29,8 @@ abbrev pub effect_of : Entry → StackState → Effect
 effect_of (entry.Opened epoch lanes) s = on_stack (record s { ledger = map anew s.ledger })
 effect_of (entry.Begin number name k) s = begun_effect k (beginning name number k s)
 effect_of (entry.Kept number path physical w) s = on_stack (keeping path physical w s)
-effect_of (entry.Intent number token lane path r) s = on_stack (intending number (record { token = token; path = path; lane = lane; request = r }) s)
+effect_of (entry.Intent number token lane path r) s =
+    on_stack (intending number (record { token = token; path = path; lane = lane; request = r }) s)
 effect_of (entry.Outcome number token answer before after) s = on_stack (replying token answer s)
 effect_of (entry.Phase number p cause) s = turned_effect p s
 effect_of (entry.Done number state failed) s = ended_effect state s

@@ -23,7 +23,8 @@ is_success_outcome e = false
 
 -- an outcome that is none, a copy of which takes no memory
 abbrev pub unsuccessful : Entry → Option Entry
-unsuccessful (entry.Outcome number token (reply.Failed code) before after) = Some (entry.Outcome number token (reply.Failed code) before after)
+unsuccessful (entry.Outcome number token (reply.Failed code) before after) =
+    Some (entry.Outcome number token (reply.Failed code) before after)
 unsuccessful (entry.Outcome number token reply.Doubt before after) = Some (entry.Outcome number token reply.Doubt before after)
 unsuccessful e = None
 

@@ -46,7 +46,8 @@ HaveTerms shape terms =
 
 -- the layout is that of the resources in the order of work, whatever source the shape is of
 abbrev pub IsLaidBy : Shape → Layout → Type 0
-IsLaidBy shape layout = (source : Source) (seen : Seen) → IsShape shape (shape_of source seen) → AreRows (resources_in (shape_of source seen)) layout
+IsLaidBy shape layout =
+    (source : Source) (seen : Seen) → IsShape shape (shape_of source seen) → AreRows (resources_in (shape_of source seen)) layout
 
 -- the templates are those of the source, and over what was held the shape is its own, as the policies and
 -- needs and the layout are

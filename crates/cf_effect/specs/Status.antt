@@ -62,12 +62,3 @@ is_deleted _ = false
 abbrev pub reviewed : Status → Status
 reviewed status.DeleteComplete = status.ReviewInProgress
 reviewed s = s
-
--- the operation ended as it was meant to, or took all back
-abbrev pub is_complete : Status → Bool
-is_complete status.CreateComplete = true
-is_complete status.RollbackComplete = true
-is_complete status.UpdateComplete = true
-is_complete status.UpdateRollbackComplete = true
-is_complete status.DeleteComplete = true
-is_complete _ = false

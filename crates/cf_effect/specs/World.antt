@@ -50,7 +50,8 @@ pub record World : Type 0 where
 
 -- the world before the first entry, and a stack of which nothing is known
 abbrev pub empty_world : World
-empty_world = record { stacks = []; exports = []; pins = []; claims = []; lanes = []; epoch = 0; operation = 0; set = 0; token = 0; place = 0 }
+empty_world =
+    record { stacks = []; exports = []; pins = []; claims = []; lanes = []; epoch = 0; operation = 0; set = 0; token = 0; place = 0 }
 
 abbrev pub no_stack : StackState
 no_stack = record {

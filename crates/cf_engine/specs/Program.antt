@@ -6,7 +6,7 @@ use Rattle.cf_face.specs.declared.exit.Exit.{Exit}
 use Rattle.cf_face.specs.declared.exit.Exit.TheVariants as exit
 use Rattle.cf_face.specs.Exit.{exit_line}
 use Rattle.cf_top.specs.Lanes.{unused}
-use Rattle.cf_top.specs.Meeting.{Meeting}
+use Rattle.cf_top.specs.Meeting.{Environment}
 use Rattle.cf_top.specs.Alone.{Printing}
 use Rattle.cf_top.specs.Answer.{Prints, RanAs}
 
@@ -17,10 +17,12 @@ program_names = codes "files1" ∷ codes "files2" ∷ codes "records1" ∷ codes
 abbrev pub program_schemas : List Schema
 program_schemas = file_schema ∷ file_schema ∷ record_schema ∷ record_schema ∷ []
 
--- the program's run over its words: what they come to over an outside with these lanes, on which nothing was called yet, and a disk on which nothing stands; or there was no memory to make it
+-- the program's run over its words: what they come to over an outside with these lanes, on which nothing was called yet, and a disk on
+-- which nothing stands; or there was no memory to make it
 abbrev pub IsRun : Printing → List (List ℕ) → Exit → Type 0
 IsRun p words result =
-    ((m : Meeting) × (m.names ≡ program_names) × (m.schemas ≡ program_schemas) × (m.told ≡ unused ∷ unused ∷ unused ∷ unused ∷ []) × (m.tells ≡ true) × (m.bytes ≡ []) × (m.room ≡ 16777216) × RanAs m p words result)
+    ((m : Environment) × (m.names ≡ program_names) × (m.schemas ≡ program_schemas) × (m.told ≡ unused ∷ unused ∷ unused ∷ unused ∷ [])
+    × (m.tells ≡ true) × (m.bytes ≡ []) × (m.room ≡ 16777216) × RanAs m p words result)
     ⊎ Prints p (exit_line exit.NoMemory) exit.NoMemory result
 
 -- why no words came of a command line: one of them is no text, or there was no memory

@@ -21,9 +21,9 @@ use Rattle.cf_entry.specs.Numbers.{reason_number, reason_of, action_number, attr
 use Rattle.cf_entry.specs.Status.{status_number, status_numbered, all_statuses, is_end}
 use Rattle.cf_entry.specs.Bytes.{truth_byte, text_bytes, list_bytes, option_bytes, pair_bytes, IsText, IsPair, IsTemplate, AreAll}
 use Rattle.cf_entry.specs.Value.{dict_bytes, IsDict}
-use Rattle.cf_entry.specs.Entry.{source_bytes, begun_bytes, request_bytes, reply_bytes, cause_bytes, detail_bytes, row_bytes, texts_ascend, IsFor, IsSource, IsBegun, IsRequest, IsReply, IsCause, IsDetail, IsRow}
+use Rattle.cf_entry.specs.Entry.{source_bytes, begun_bytes, request_bytes, reply_bytes, cause_bytes, detail_bytes, row_bytes, texts_ascend, IsFor, IsSource, IsBegun, IsRequest, IsReply, IsCauseText, IsDetail, IsRow}
 use Rattle.cf_entry.specs.Reading.{then_at, pick_at, byte_at, text_at, list_at, option_at, pair_at, template_at, ordered_of}
-use Rattle.cf_entry.specs.EntryReading.{properties_at, source_for, source_at, begun_of, begun_at, request_at, reply_at, cause_at, detail_of, detail_at, row_of, row_at, end_of}
+use Rattle.cf_entry.specs.EntryReading.{properties_at, source_read, source_at, begun_of, begun_at, request_at, reply_at, cause_at, detail_of, detail_at, row_of, row_at, end_of}
 use Rattle.cf_entry.proofs.Codec.{IsBytes, IsBytes-rest, some_is, if_some, test_bind, test_some, Taken, Codes, codes_then, codes_pick, pick_again}
 use Rattle.cf_entry.proofs.Fields.{codes_byte, codes_text, codes_list, codes_option, codes_pair, codes_template}
 use Rattle.cf_entry.proofs.Numbers.{found_holds, codes_code, codes_reason, codes_action, codes_attribute, codes_recreation, codes_evaluation, codes_replacement}
@@ -130,7 +130,7 @@ IsSourceFor stack s = IsSource s × IsFor stack s
 
 pub codes_source : (stack : List ℕ) → Codes source_bytes (IsSourceFor stack) (source_at stack)
 unfolding source_at
-codes_source stack = codes_pick _ _ _ (source_for stack) source_bytes (IsSourceFor stack) codes_fields
+codes_source stack = codes_pick _ _ _ (source_read stack) source_bytes (IsSourceFor stack) codes_fields
     (λ p s fits e. subst (λ z. ((text_bytes p.0 ++ (list_bytes pair_bytes p.1.0 ++ (list_bytes pair_bytes p.1.1.0 ++ list_bytes pair_bytes p.1.1.1))) ≡ source_bytes z) × IsSourceFor stack z) (some_is (record { root = p.0; texts = p.1.0; given = p.1.1.0; imports = p.1.1.1; stack = stack; number = 0 }) s e) (refl, ((fits.0, fits.1.0, fits.1.1.0, fits.1.1.1), (refl, refl))))
     (λ s h. ((s.root, (s.texts, (s.given, s.imports))), (h.0.0, (h.0.1, (h.0.2, h.0.3))), (λ i. Some (record { root = s.root; texts = s.texts; given = s.given; imports = s.imports; stack = sym h.1.0 i; number = sym h.1.1 i })), refl))
 
@@ -221,32 +221,32 @@ IsBlame p = IsText p.0 × Unit {0}
 codes_blame : Codes blame_bytes IsBlame (then_at text_at (pick_at reason_of byte_at))
 codes_blame = codes_then _ _ _ _ _ _ codes_text codes_reason
 
-cause_takes_at : (k : ℕ) (bytes : List ℕ) (x : Cause) (rest : List ℕ) → IsBytes bytes → cause_at (k ∷ bytes) ≡ Some (x, rest) → Taken cause_bytes IsCause (k ∷ bytes) x rest
+cause_takes_at : (k : ℕ) (bytes : List ℕ) (x : Cause) (rest : List ℕ) → IsBytes bytes → cause_at (k ∷ bytes) ≡ Some (x, rest) → Taken cause_bytes IsCauseText (k ∷ bytes) x rest
 unfolding cause_at
 cause_takes_at k bytes x rest h e =
-    let Goal : ℕ → Type 0 = λ n. Taken cause_bytes IsCause (n ∷ bytes) x rest in
+    let Goal : ℕ → Type 0 = λ n. Taken cause_bytes IsCauseText (n ∷ bytes) x rest in
     first_of_3 (x, rest) (Goal k) k 1 2 3
     (pick_at (λ p. Some (cause.Handler p.0 p.1)) (then_at text_at (pick_at reason_of byte_at)) bytes) (pick_at (λ t. Some (cause.Plan t)) text_at bytes) (pick_at (λ t. Some (cause.Export t)) text_at bytes)
     e
-    (λ i f. subst Goal (sym i) (tagged 1 (λ p. Some (cause.Handler p.0 p.1)) blame_bytes IsBlame (then_at text_at (pick_at reason_of byte_at)) cause_bytes IsCause codes_blame
-    (λ p y fits g. subst (λ z. (1 ∷ blame_bytes p ≡ cause_bytes z) × IsCause z) (some_is (cause.Handler p.0 p.1) y g) (refl, fits.0)) bytes x rest h f))
-    (λ i f. subst Goal (sym i) (tagged 2 (λ t. Some (cause.Plan t)) text_bytes IsText text_at cause_bytes IsCause codes_text
-    (λ t y fits g. subst (λ z. (2 ∷ text_bytes t ≡ cause_bytes z) × IsCause z) (some_is (cause.Plan t) y g) (refl, fits)) bytes x rest h f))
-    (λ i f. subst Goal (sym i) (tagged 3 (λ t. Some (cause.Export t)) text_bytes IsText text_at cause_bytes IsCause codes_text
-    (λ t y fits g. subst (λ z. (3 ∷ text_bytes t ≡ cause_bytes z) × IsCause z) (some_is (cause.Export t) y g) (refl, fits)) bytes x rest h f))
+    (λ i f. subst Goal (sym i) (tagged 1 (λ p. Some (cause.Handler p.0 p.1)) blame_bytes IsBlame (then_at text_at (pick_at reason_of byte_at)) cause_bytes IsCauseText codes_blame
+    (λ p y fits g. subst (λ z. (1 ∷ blame_bytes p ≡ cause_bytes z) × IsCauseText z) (some_is (cause.Handler p.0 p.1) y g) (refl, fits.0)) bytes x rest h f))
+    (λ i f. subst Goal (sym i) (tagged 2 (λ t. Some (cause.Plan t)) text_bytes IsText text_at cause_bytes IsCauseText codes_text
+    (λ t y fits g. subst (λ z. (2 ∷ text_bytes t ≡ cause_bytes z) × IsCauseText z) (some_is (cause.Plan t) y g) (refl, fits)) bytes x rest h f))
+    (λ i f. subst Goal (sym i) (tagged 3 (λ t. Some (cause.Export t)) text_bytes IsText text_at cause_bytes IsCauseText codes_text
+    (λ t y fits g. subst (λ z. (3 ∷ text_bytes t ≡ cause_bytes z) × IsCauseText z) (some_is (cause.Export t) y g) (refl, fits)) bytes x rest h f))
 
-cause_takes : (bytes : List ℕ) (x : Cause) (rest : List ℕ) → IsBytes bytes → cause_at bytes ≡ Some (x, rest) → Taken cause_bytes IsCause bytes x rest
+cause_takes : (bytes : List ℕ) (x : Cause) (rest : List ℕ) → IsBytes bytes → cause_at bytes ≡ Some (x, rest) → Taken cause_bytes IsCauseText bytes x rest
 unfolding cause_at
 cause_takes [] x rest h e = absurd cc
 cause_takes (k ∷ bytes) x rest h e = cause_takes_at k bytes x rest (IsBytes-rest k bytes h) e
 
-cause_again : (x : Cause) (rest : List ℕ) → IsCause x → cause_at (cause_bytes x ++ rest) ≡ Some (x, rest)
+cause_again : (x : Cause) (rest : List ℕ) → IsCauseText x → cause_at (cause_bytes x ++ rest) ≡ Some (x, rest)
 unfolding cause_at
 cause_again (cause.Handler path reason) rest h = pick_again blame_bytes IsBlame (then_at text_at (pick_at reason_of byte_at)) (λ p. Some (cause.Handler p.0 p.1)) codes_blame (path, reason) (cause.Handler path reason) rest (h, tt) refl
 cause_again (cause.Plan fault) rest h = pick_again text_bytes IsText text_at (λ t. Some (cause.Plan t)) codes_text fault (cause.Plan fault) rest h refl
 cause_again (cause.Export name) rest h = pick_again text_bytes IsText text_at (λ t. Some (cause.Export t)) codes_text name (cause.Export name) rest h refl
 
-pub codes_cause : Codes cause_bytes IsCause cause_at
+pub codes_cause : Codes cause_bytes IsCauseText cause_at
 codes_cause = record { takes = cause_takes; again = cause_again }
 
 -- ---- rows

@@ -21,7 +21,7 @@ use Rattle.cf_entry.specs.declared.turn.Reason.{Reason}
 use Rattle.cf_entry.specs.declared.turn.Reason.TheVariants as reason
 use Rattle.cf_entry.specs.declared.turn.Why.{Why}
 use Rattle.cf_entry.specs.declared.turn.Why.TheVariants as why
-use Rattle.cf_entry.specs.Numbers.{numbered, why_number, why_of, phase_number, phase_of, action_number, action_of, attribute_number, attribute_of, recreation_number, recreation_of, evaluation_number, evaluation_of, replacement_number, replacement_of, reason_number, reason_of}
+use Rattle.cf_entry.specs.Numbers.{one_numbered, why_number, why_of, phase_number, phase_of, action_number, action_of, attribute_number, attribute_numbered, recreation_number, recreation_numbered, evaluation_number, evaluation_of, replacement_number, replacement_numbered, reason_number, reason_of}
 use Rattle.cf_entry.specs.Reading.{pick_at, byte_at}
 use Rattle.cf_entry.proofs.Codec.{some_is, if_some, Codes, codes_pick}
 use Rattle.cf_entry.proofs.Fields.{codes_byte}
@@ -36,8 +36,8 @@ found_holds test (y ∷ ys) x e =
     ]
 
 -- the number of each, where no two have the same
-pub codes_numbered : {X : Type 0} (number : X → ℕ) (all : List X) → ((x : X) → (number x < 256) × (numbered number all (number x) ≡ Some x)) → Codes (λ x. number x ∷ []) (λ x. Unit {0}) (pick_at (numbered number all) byte_at)
-codes_numbered number all back = codes_pick (λ b. b ∷ []) (λ b. b < 256) byte_at (numbered number all) (λ x. number x ∷ []) (λ x. Unit {0}) codes_byte
+pub codes_numbered : {X : Type 0} (number : X → ℕ) (all : List X) → ((x : X) → (number x < 256) × (one_numbered number all (number x) ≡ Some x)) → Codes (λ x. number x ∷ []) (λ x. Unit {0}) (pick_at (one_numbered number all) byte_at)
+codes_numbered number all back = codes_pick (λ b. b ∷ []) (λ b. b < 256) byte_at (one_numbered number all) (λ x. number x ∷ []) (λ x. Unit {0}) codes_byte
     (λ n x fits e. (ap (λ m. m ∷ []) (sym (eqb-true _ _ (found_holds (λ y. number y == n) all x e))), tt))
     (λ x h. (number x, (back x).0, (back x).1, refl))
 
@@ -65,20 +65,20 @@ action_back action.Remove = (omega arith, refl)
 pub codes_action : Codes (λ x. action_number x ∷ []) (λ x. Unit {0}) (pick_at action_of byte_at)
 codes_action = codes_numbered action_number (action.Add ∷ action.Modify ∷ action.Remove ∷ []) action_back
 
-attribute_back : (x : Attribute) → (attribute_number x < 256) × (attribute_of (attribute_number x) ≡ Some x)
+attribute_back : (x : Attribute) → (attribute_number x < 256) × (attribute_numbered (attribute_number x) ≡ Some x)
 attribute_back attribute.Properties = (omega arith, refl)
 attribute_back attribute.DeletionPolicy = (omega arith, refl)
 attribute_back attribute.UpdateReplacePolicy = (omega arith, refl)
 
-pub codes_attribute : Codes (λ x. attribute_number x ∷ []) (λ x. Unit {0}) (pick_at attribute_of byte_at)
+pub codes_attribute : Codes (λ x. attribute_number x ∷ []) (λ x. Unit {0}) (pick_at attribute_numbered byte_at)
 codes_attribute = codes_numbered attribute_number (attribute.Properties ∷ attribute.DeletionPolicy ∷ attribute.UpdateReplacePolicy ∷ []) attribute_back
 
-recreation_back : (x : Recreation) → (recreation_number x < 256) × (recreation_of (recreation_number x) ≡ Some x)
+recreation_back : (x : Recreation) → (recreation_number x < 256) × (recreation_numbered (recreation_number x) ≡ Some x)
 recreation_back recreation.Never = (omega arith, refl)
 recreation_back recreation.Conditionally = (omega arith, refl)
 recreation_back recreation.Always = (omega arith, refl)
 
-pub codes_recreation : Codes (λ x. recreation_number x ∷ []) (λ x. Unit {0}) (pick_at recreation_of byte_at)
+pub codes_recreation : Codes (λ x. recreation_number x ∷ []) (λ x. Unit {0}) (pick_at recreation_numbered byte_at)
 codes_recreation = codes_numbered recreation_number (recreation.Never ∷ recreation.Conditionally ∷ recreation.Always ∷ []) recreation_back
 
 evaluation_back : (x : Evaluation) → (evaluation_number x < 256) × (evaluation_of (evaluation_number x) ≡ Some x)
@@ -88,13 +88,13 @@ evaluation_back evaluation.Dynamic = (omega arith, refl)
 pub codes_evaluation : Codes (λ x. evaluation_number x ∷ []) (λ x. Unit {0}) (pick_at evaluation_of byte_at)
 codes_evaluation = codes_numbered evaluation_number (evaluation.Static ∷ evaluation.Dynamic ∷ []) evaluation_back
 
-replacement_back : (x : Option Replacement) → (replacement_number x < 256) × (replacement_of (replacement_number x) ≡ Some x)
+replacement_back : (x : Option Replacement) → (replacement_number x < 256) × (replacement_numbered (replacement_number x) ≡ Some x)
 replacement_back None = (omega arith, refl)
 replacement_back (Some replacement.True) = (omega arith, refl)
 replacement_back (Some replacement.False) = (omega arith, refl)
 replacement_back (Some replacement.Conditional) = (omega arith, refl)
 
-pub codes_replacement : Codes (λ x. replacement_number x ∷ []) (λ x. Unit {0}) (pick_at replacement_of byte_at)
+pub codes_replacement : Codes (λ x. replacement_number x ∷ []) (λ x. Unit {0}) (pick_at replacement_numbered byte_at)
 codes_replacement = codes_numbered replacement_number (None ∷ Some replacement.True ∷ Some replacement.False ∷ Some replacement.Conditional ∷ []) replacement_back
 
 -- ---- codes and reasons

@@ -17,7 +17,7 @@ use Rattle.cf_entry.specs.declared.turn.Why.{Why}
 use Rattle.cf_entry.specs.Numbers.{why_number, why_of, phase_number, phase_of, has_cause}
 use Rattle.cf_entry.specs.Status.{status_number, status_numbered, is_end}
 use Rattle.cf_entry.specs.Bytes.{truth_byte, eight_bytes, text_bytes, list_bytes, option_bytes, pair_bytes, IsText, IsEight, IsPair, AreAll}
-use Rattle.cf_entry.specs.Entry.{spelling_of, source_bytes, begun_bytes, request_bytes, reply_bytes, cause_bytes, row_bytes, IsRequest, IsReply, IsCause, IsRow, IsEntry}
+use Rattle.cf_entry.specs.Entry.{spelling_of, source_bytes, begun_bytes, request_bytes, reply_bytes, cause_bytes, row_bytes, IsRequest, IsReply, IsCauseText, IsRow, IsEntry}
 use Rattle.cf_entry.specs.Reading.{◌>>=◌, then_at, pick_at, byte_at, eight_at, text_at, list_at, option_at, pair_at}
 use Rattle.cf_entry.specs.EntryReading.{begun_at, request_at, reply_at, end_of, cause_at, row_at, set_at, turn_of, opened_at, begin_at, kept_at, intent_at, outcome_at, phase_at, done_at, change_set_at, entry_at, entry_of}
 use Rattle.cf_entry.proofs.Codec.{IsBytes, IsBytes-rest, some_is, bind_some, test_some, Taken, Codes, codes_then, pick_again}
@@ -140,10 +140,10 @@ abbrev turning_bytes : Turning → List ℕ
 turning_bytes p = eight_bytes p.0 ++ ((phase_number p.1.0 ∷ []) ++ option_bytes cause_bytes p.1.1)
 
 abbrev IsTurning : Turning → Type 0
-IsTurning p = IsEight p.0 × (Unit {0} × IfSome p.1.1 IsCause)
+IsTurning p = IsEight p.0 × (Unit {0} × IfSome p.1.1 IsCauseText)
 
 codes_turning : Codes turning_bytes IsTurning (then_at eight_at (then_at (pick_at phase_of byte_at) (option_at cause_at)))
-codes_turning = codes_then _ _ _ _ _ _ codes_eight (codes_then _ _ _ _ _ _ codes_phase (codes_option cause_bytes IsCause cause_at codes_cause))
+codes_turning = codes_then _ _ _ _ _ _ codes_eight (codes_then _ _ _ _ _ _ codes_phase (codes_option cause_bytes IsCauseText cause_at codes_cause))
 
 phase_takes : (bytes : List ℕ) (x : Entry) (rest : List ℕ) → IsBytes bytes → phase_at bytes ≡ Some (x, rest) → Taken spelling_of IsEntry (6 ∷ bytes) x rest
 unfolding phase_at

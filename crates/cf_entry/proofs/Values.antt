@@ -10,7 +10,7 @@ use Rattle.cf_tree.specs.Datum.{Data, Items, Members, text, whole, truth, list, 
 use Rattle.cf_tree.specs.Keys.{ascends}
 use Rattle.cf_entry.specs.Bytes.{four_bytes, eight_bytes, text_bytes, truth_byte, list_bytes, IsText, IsEight, AreAll}
 use Rattle.cf_entry.specs.Value.{value_bytes, items_bytes, members_bytes, values_bytes, dict_bytes, number_of_items, number_of_members, pairs_of_members, IsValue, AreValues, AreMembers, IsDict}
-use Rattle.cf_entry.specs.Reading.{then_at, pick_at, byte_at, eight_at, text_at, list_at, truth_of, ordered_of, value_at, dict_at}
+use Rattle.cf_entry.specs.Reading.{then_at, pick_at, byte_at, eight_at, text_at, list_at, truth_of, ordered_of, datum_at, dict_at}
 use Rattle.cf_entry.proofs.Codec.{IsBytes, IsBytes-rest, some_is, if_some, test_some, Taken, Codes, codes_then, codes_pick, pick_again}
 use Rattle.cf_entry.proofs.Fields.{codes_byte, codes_eight, codes_text, codes_list}
 use Rattle.cf_entry.proofs.Tagged.{tagged, first_of_5}
@@ -130,10 +130,10 @@ members_fit_each depth (p ∷ ps) h l = ((h.0, (h.1, omega arith)), members_fit_
 abbrev pub IsDictAt : ℕ → List (List ℕ × Data) → Type 0
 IsDictAt depth ps = IsDict ps × (levels_of_members (members_of ps) ≤ depth)
 
-pub dict_codes : (depth : ℕ) → Codes value_bytes (IsAt depth) (value_at depth) → Codes dict_bytes (IsDictAt depth) (dict_at depth)
+pub dict_codes : (depth : ℕ) → Codes value_bytes (IsAt depth) (datum_at depth) → Codes dict_bytes (IsDictAt depth) (dict_at depth)
 dict_codes depth c =
-    let pairs = codes_list pair_spelling (IsPairAt depth) (then_at text_at (value_at depth)) (codes_then text_bytes IsText text_at value_bytes (IsAt depth) (value_at depth) codes_text c) in
-    codes_pick (list_bytes pair_spelling) (AreAll (IsPairAt depth)) (list_at (then_at text_at (value_at depth))) ordered_of dict_bytes (IsDictAt depth) pairs
+    let pairs = codes_list pair_spelling (IsPairAt depth) (then_at text_at (datum_at depth)) (codes_then text_bytes IsText text_at value_bytes (IsAt depth) (datum_at depth) codes_text c) in
+    codes_pick (list_bytes pair_spelling) (AreAll (IsPairAt depth)) (list_at (then_at text_at (datum_at depth))) ordered_of dict_bytes (IsDictAt depth) pairs
     (λ a b fits e.
     let t = test_some (ascends a) a b e in
     let r = members_fit depth a fits.1 in
@@ -165,7 +165,7 @@ codes_truth = codes_pick (λ b. b ∷ []) (λ b. b < 256) byte_at truth_of (λ b
 whole_there : (n : ℕ) → IsEight n → FitsSigned w64 (cast_signed w64 n)
 whole_there n h = sfits_to_z (Fits-of_lt h)
 
-module _ (depth : ℕ) (c : Codes value_bytes (IsAt depth) (value_at depth)) where
+module _ (depth : ℕ) (c : Codes value_bytes (IsAt depth) (datum_at depth)) where
   text_case : (t : List ℕ) (x : Data) → IsText t → Some (text t) ≡ Some x → (1 ∷ text_bytes t ≡ value_bytes x) × IsAt (suc depth) x
   text_case t x fits e = subst (λ y. (1 ∷ text_bytes t ≡ value_bytes y) × IsAt (suc depth) y) (some_is (text t) x e) (refl, (fits, omega arith))
 
@@ -186,29 +186,29 @@ module _ (depth : ℕ) (c : Codes value_bytes (IsAt depth) (value_at depth)) whe
       let l = fits.1 in
       subst (λ y. (5 ∷ dict_bytes ps ≡ value_bytes y) × IsAt (suc depth) y) (some_is (dict (members_of ps)) x e) (refl, (fits.0, omega arith))
 
-  lists : Codes (list_bytes value_bytes) (AreAll (IsAt depth)) (list_at (value_at depth))
-  lists = codes_list value_bytes (IsAt depth) (value_at depth) c
+  lists : Codes (list_bytes value_bytes) (AreAll (IsAt depth)) (list_at (datum_at depth))
+  lists = codes_list value_bytes (IsAt depth) (datum_at depth) c
 
-  value_takes_at : (k : ℕ) (bytes : List ℕ) (x : Data) (rest : List ℕ) → IsBytes bytes → value_at (suc depth) (k ∷ bytes) ≡ Some (x, rest) → Taken value_bytes (IsAt (suc depth)) (k ∷ bytes) x rest
-  unfolding value_at
+  value_takes_at : (k : ℕ) (bytes : List ℕ) (x : Data) (rest : List ℕ) → IsBytes bytes → datum_at (suc depth) (k ∷ bytes) ≡ Some (x, rest) → Taken value_bytes (IsAt (suc depth)) (k ∷ bytes) x rest
+  unfolding datum_at
   value_takes_at k bytes x rest h e =
       let Goal : ℕ → Type 0 = λ n. Taken value_bytes (IsAt (suc depth)) (n ∷ bytes) x rest in
       first_of_5 (x, rest) (Goal k) k 1 2 3 4 5
-      (pick_at (λ t. Some (text t)) text_at bytes) (pick_at (λ n. Some (whole (cast_signed w64 n))) eight_at bytes) (pick_at (λ b. Some (truth b)) (pick_at truth_of byte_at) bytes) (pick_at (λ ds. Some (list (items_of ds))) (list_at (value_at depth)) bytes) (pick_at (λ ps. Some (dict (members_of ps))) (dict_at depth) bytes)
+      (pick_at (λ t. Some (text t)) text_at bytes) (pick_at (λ n. Some (whole (cast_signed w64 n))) eight_at bytes) (pick_at (λ b. Some (truth b)) (pick_at truth_of byte_at) bytes) (pick_at (λ ds. Some (list (items_of ds))) (list_at (datum_at depth)) bytes) (pick_at (λ ps. Some (dict (members_of ps))) (dict_at depth) bytes)
       e
       (λ i f. subst Goal (sym i) (tagged 1 (λ t. Some (text t)) text_bytes IsText text_at value_bytes (IsAt (suc depth)) codes_text text_case bytes x rest h f))
       (λ i f. subst Goal (sym i) (tagged 2 (λ n. Some (whole (cast_signed w64 n))) eight_bytes IsEight eight_at value_bytes (IsAt (suc depth)) codes_eight whole_case bytes x rest h f))
       (λ i f. subst Goal (sym i) (tagged 3 (λ b. Some (truth b)) (λ b. truth_byte b ∷ []) (λ b. Unit {0}) (pick_at truth_of byte_at) value_bytes (IsAt (suc depth)) codes_truth truth_case bytes x rest h f))
-      (λ i f. subst Goal (sym i) (tagged 4 (λ ds. Some (list (items_of ds))) (list_bytes value_bytes) (AreAll (IsAt depth)) (list_at (value_at depth)) value_bytes (IsAt (suc depth)) lists list_case bytes x rest h f))
+      (λ i f. subst Goal (sym i) (tagged 4 (λ ds. Some (list (items_of ds))) (list_bytes value_bytes) (AreAll (IsAt depth)) (list_at (datum_at depth)) value_bytes (IsAt (suc depth)) lists list_case bytes x rest h f))
       (λ i f. subst Goal (sym i) (tagged 5 (λ ps. Some (dict (members_of ps))) dict_bytes (IsDictAt depth) (dict_at depth) value_bytes (IsAt (suc depth)) (dict_codes depth c) dict_case bytes x rest h f))
 
-  value_takes : (bytes : List ℕ) (x : Data) (rest : List ℕ) → IsBytes bytes → value_at (suc depth) bytes ≡ Some (x, rest) → Taken value_bytes (IsAt (suc depth)) bytes x rest
-  unfolding value_at
+  value_takes : (bytes : List ℕ) (x : Data) (rest : List ℕ) → IsBytes bytes → datum_at (suc depth) bytes ≡ Some (x, rest) → Taken value_bytes (IsAt (suc depth)) bytes x rest
+  unfolding datum_at
   value_takes [] x rest h e = absurd cc
   value_takes (k ∷ bytes) x rest h e = value_takes_at k bytes x rest (IsBytes-rest k bytes h) e
 
-  value_again : (x : Data) (rest : List ℕ) → IsAt (suc depth) x → value_at (suc depth) (value_bytes x ++ rest) ≡ Some (x, rest)
-  unfolding value_at
+  value_again : (x : Data) (rest : List ℕ) → IsAt (suc depth) x → datum_at (suc depth) (value_bytes x ++ rest) ≡ Some (x, rest)
+  unfolding datum_at
   value_again (text t) rest h = pick_again text_bytes IsText text_at (λ t. Some (text t)) codes_text t (text t) rest h.0 refl
   value_again (whole n) rest h =
       let fits = Fits-of_z {w = w64} h.0 in
@@ -221,8 +221,8 @@ module _ (depth : ℕ) (c : Codes value_bytes (IsAt depth) (value_at depth)) whe
       let long : number_of_items ds ≡ length xs = subst (λ es. number_of_items es ≡ length xs) back (items_long xs) in
       let same : values_bytes ds ≡ list_bytes value_bytes xs = subst (λ es. values_bytes es ≡ list_bytes value_bytes xs) back (values_spelled xs) in
       let fits : AreAll (IsAt depth) xs = (rw (← long) h.0.0, items_fit_each depth ds h.0.1 (omega arith)) in
-      let made = pick_again (list_bytes value_bytes) (AreAll (IsAt depth)) (list_at (value_at depth)) (λ es. Some (list (items_of es))) lists xs (list ds) rest fits (ap (λ es. Some (list es)) back) in
-      subst (λ s. pick_at (λ es. Some (list (items_of es))) (list_at (value_at depth)) (s ++ rest) ≡ Some (list ds, rest)) (sym same) made
+      let made = pick_again (list_bytes value_bytes) (AreAll (IsAt depth)) (list_at (datum_at depth)) (λ es. Some (list (items_of es))) lists xs (list ds) rest fits (ap (λ es. Some (list es)) back) in
+      subst (λ s. pick_at (λ es. Some (list (items_of es))) (list_at (datum_at depth)) (s ++ rest) ≡ Some (list ds, rest)) (sym same) made
   value_again (dict ms) rest h =
       let l = h.1 in
       let ps = pairs_of_members ms in
@@ -242,7 +242,7 @@ levels_some (dict ms) = omega arith
 no_level : (d : Data) → levels d ≤ 0 → ⊥
 no_level d h = omega (arith, levels_some d)
 
-pub codes_value : (depth : ℕ) → Codes value_bytes (IsAt depth) (value_at depth)
-unfolding value_at
+pub codes_value : (depth : ℕ) → Codes value_bytes (IsAt depth) (datum_at depth)
+unfolding datum_at
 codes_value zero = record { takes = λ bytes x rest h e. absurd cc; again = λ x rest h. absurd (no_level x h.1) }
 codes_value (suc depth) = record { takes = value_takes depth (codes_value depth); again = value_again depth (codes_value depth) }

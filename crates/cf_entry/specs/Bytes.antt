@@ -1,4 +1,5 @@
--- The bytes of texts, lists, options and truth values (this project's own format): numbers are big-endian, and a text or a list stands behind its length in four bytes.
+-- The bytes of texts, lists, options and truth values (this project's own format): numbers are big-endian, and a text or a list stands
+-- behind its length in four bytes.
 use Rattle.std.specs.Prelude.{ℕ, ◌≡◌, ◌+◌, ◌<◌, ◌≤◌, ◌^◌, vec_len, vec_capacity, Bool, true, false, List, [], ◌∷◌, ◌++◌, length, Option, Some, None}
 use Rattle.std.specs.List.{flat_map, AllByRecursion}
 use Rattle.std.specs.Int.{w32, w64, to_be_bytes}
@@ -58,9 +59,9 @@ abbrev pub AreAll : {X : Type 0} → (X → Type 0) → List X → Type 0
 AreAll Is xs = (length xs < 2 ^ 32) × AllByRecursion Is xs
 
 -- a vector has room for some more bytes without taking memory
-abbrev pub HasRoom : Vec ℕ → List ℕ → Type 0
-HasRoom v bytes = vec_len v + length bytes ≤ vec_capacity v
+abbrev pub HasCapacity : Vec ℕ → List ℕ → Type 0
+HasCapacity v bytes = vec_len v + length bytes ≤ vec_capacity v
 
 -- one holds some more bytes than before, and has no less room in all
-abbrev pub Adds : Vec ℕ → Vec ℕ → List ℕ → Type 0
-Adds v w bytes = (w.items ≡ v.items ++ bytes) × (vec_len w ≡ vec_len v + length bytes) × (vec_capacity v ≤ vec_capacity w)
+abbrev pub AddsBytes : Vec ℕ → Vec ℕ → List ℕ → Type 0
+AddsBytes v w bytes = (w.items ≡ v.items ++ bytes) × (vec_len w ≡ vec_len v + length bytes) × (vec_capacity v ≤ vec_capacity w)

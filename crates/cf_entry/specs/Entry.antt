@@ -71,21 +71,28 @@ cause_bytes (cause.Export name) = 3 ∷ text_bytes name
 
 -- a change of a resource, and a row of a change set
 abbrev pub detail_bytes : Detail → List ℕ
-detail_bytes d = attribute_number d.attribute ∷ (text_bytes d.name ++ (recreation_number d.recreation ∷ (evaluation_number d.evaluation ∷ [])))
+detail_bytes d =
+    attribute_number d.attribute ∷ (text_bytes d.name ++ (recreation_number d.recreation ∷ (evaluation_number d.evaluation ∷ [])))
 
 abbrev pub row_bytes : Row → List ℕ
-row_bytes r = action_number r.action ∷ (text_bytes r.path ++ (text_bytes r.kind ++ (replacement_number r.replacement ∷ (truth_byte r.unsure ∷ list_bytes detail_bytes r.details))))
+row_bytes r =
+    action_number r.action ∷ (text_bytes r.path
+    ++ (text_bytes r.kind ++ (replacement_number r.replacement ∷ (truth_byte r.unsure ∷ list_bytes detail_bytes r.details))))
 
 -- the one spelling of an entry
 abbrev pub spelling_of : Entry → List ℕ
 spelling_of (entry.Opened epoch lanes) = 1 ∷ (eight_bytes epoch ++ list_bytes pair_bytes lanes)
 spelling_of (entry.Begin number stack kind) = 2 ∷ (eight_bytes number ++ (text_bytes stack ++ begun_bytes kind))
-spelling_of (entry.Kept number path physical why) = 3 ∷ (eight_bytes number ++ (text_bytes path ++ (text_bytes physical ++ (why_number why ∷ []))))
-spelling_of (entry.Intent number token lane path request) = 4 ∷ (eight_bytes number ++ (eight_bytes token ++ (text_bytes lane ++ (text_bytes path ++ request_bytes request))))
-spelling_of (entry.Outcome number token answer before after) = 5 ∷ (eight_bytes number ++ (eight_bytes token ++ (reply_bytes answer ++ (eight_bytes before ++ eight_bytes after))))
+spelling_of (entry.Kept number path physical why) =
+    3 ∷ (eight_bytes number ++ (text_bytes path ++ (text_bytes physical ++ (why_number why ∷ []))))
+spelling_of (entry.Intent number token lane path request) =
+    4 ∷ (eight_bytes number ++ (eight_bytes token ++ (text_bytes lane ++ (text_bytes path ++ request_bytes request))))
+spelling_of (entry.Outcome number token answer before after) =
+    5 ∷ (eight_bytes number ++ (eight_bytes token ++ (reply_bytes answer ++ (eight_bytes before ++ eight_bytes after))))
 spelling_of (entry.Phase number phase cause) = 6 ∷ (eight_bytes number ++ (phase_number phase ∷ option_bytes cause_bytes cause))
 spelling_of (entry.Done number status failed) = 7 ∷ (eight_bytes number ++ (status_number status ∷ list_bytes text_bytes failed))
-spelling_of (entry.ChangeSet number stack source rows outputs) = 8 ∷ (eight_bytes number ++ (text_bytes stack ++ (source_bytes source ++ (list_bytes row_bytes rows ++ (truth_byte outputs ∷ [])))))
+spelling_of (entry.ChangeSet number stack source rows outputs) =
+    8 ∷ (eight_bytes number ++ (text_bytes stack ++ (source_bytes source ++ (list_bytes row_bytes rows ++ (truth_byte outputs ∷ [])))))
 
 -- each text is below the next in the order of their bytes, and the first above k
 abbrev pub texts_ascend_from : List ℕ → List (List ℕ) → Bool
@@ -118,7 +125,8 @@ HasNamed r = AllByRecursion IsNamed r.details
 abbrev pub AreNamed : List Row → Type 0
 AreNamed rows = AllByRecursion HasNamed rows
 
--- what the types leave open: a source is for the stack of its entry, paths ascend, a turn back has a cause and no other phase has one, no detail of a policy has a name, and an operation ends in one of the statuses for it
+-- what the types leave open: a source is for the stack of its entry, paths ascend, a turn back has a cause and no other phase has one, no
+-- detail of a policy has a name, and an operation ends in one of the statuses for it
 abbrev pub IsProper : Entry → Type 0
 IsProper (entry.Begin number stack kind) = IsTied stack kind
 IsProper (entry.Phase number phase cause) = IsTrue (has_cause phase cause)
@@ -128,7 +136,9 @@ IsProper _ = Unit {0}
 
 -- what can stand in a journal: the parts fit their fields, texts are texts, keys ascend
 abbrev pub IsSource : Source → Type 0
-IsSource s = IsText s.root × (AreAll IsTemplate s.texts × IsTrue (ascends s.texts)) × (AreAll IsPair s.given × IsTrue (ascends s.given)) × (AreAll IsPair s.imports × IsTrue (ascends s.imports))
+IsSource s =
+    IsText s.root × (AreAll IsTemplate s.texts × IsTrue (ascends s.texts)) × (AreAll IsPair s.given × IsTrue (ascends s.given))
+    × (AreAll IsPair s.imports × IsTrue (ascends s.imports))
 
 abbrev pub IsBegun : List ℕ → Begun → Type 0
 IsBegun stack (begun.Create source) = IsSource source × IsTied stack (begun.Create source)
@@ -146,10 +156,10 @@ IsReply (reply.Success physical attrs) = IsText physical × IsDict attrs
 IsReply (reply.Failed code) = Unit {0}
 IsReply reply.Doubt = Unit {0}
 
-abbrev pub IsCause : Cause → Type 0
-IsCause (cause.Handler path reason) = IsText path
-IsCause (cause.Plan fault) = IsText fault
-IsCause (cause.Export name) = IsText name
+abbrev pub IsCauseText : Cause → Type 0
+IsCauseText (cause.Handler path reason) = IsText path
+IsCauseText (cause.Plan fault) = IsText fault
+IsCauseText (cause.Export name) = IsText name
 
 abbrev pub IsDetail : Detail → Type 0
 IsDetail d = IsText d.name × IsNamed d
@@ -163,6 +173,7 @@ IsEntry (entry.Begin number stack kind) = IsEight number × IsText stack × IsBe
 IsEntry (entry.Kept number path physical why) = IsEight number × IsText path × IsText physical
 IsEntry (entry.Intent number token lane path request) = IsEight number × IsEight token × IsText lane × IsText path × IsRequest request
 IsEntry (entry.Outcome number token answer before after) = IsEight number × IsEight token × IsReply answer × IsEight before × IsEight after
-IsEntry (entry.Phase number phase cause) = IsEight number × IfSome cause IsCause × IsTrue (has_cause phase cause)
+IsEntry (entry.Phase number phase cause) = IsEight number × IfSome cause IsCauseText × IsTrue (has_cause phase cause)
 IsEntry (entry.Done number status failed) = IsEight number × IsTrue (is_end status) × AreAll IsText failed
-IsEntry (entry.ChangeSet number stack source rows outputs) = IsEight number × IsText stack × (IsSource source × IsFor stack source) × AreAll IsRow rows
+IsEntry (entry.ChangeSet number stack source rows outputs) =
+    IsEight number × IsText stack × (IsSource source × IsFor stack source) × AreAll IsRow rows

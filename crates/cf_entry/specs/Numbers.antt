@@ -20,8 +20,8 @@ use Rattle.cf_entry.specs.declared.turn.Why.{Why}
 use Rattle.cf_entry.specs.declared.turn.Why.TheVariants as why
 
 -- the one of a list that has a number, if there is one
-abbrev pub numbered : {X : Type 0} → (X → ℕ) → List X → ℕ → Option X
-numbered number all n = find (λ x. number x == n) all
+abbrev pub one_numbered : {X : Type 0} → (X → ℕ) → List X → ℕ → Option X
+one_numbered number all n = find (λ x. number x == n) all
 
 -- why a resource became a leftover
 abbrev pub why_number : Why → ℕ
@@ -30,7 +30,7 @@ why_number why.Failed = 2
 why_number why.Doubt = 3
 
 abbrev pub why_of : ℕ → Option Why
-why_of = numbered why_number (why.Retained ∷ why.Failed ∷ why.Doubt ∷ [])
+why_of = one_numbered why_number (why.Retained ∷ why.Failed ∷ why.Doubt ∷ [])
 
 -- a phase
 abbrev pub phase_number : Phase → ℕ
@@ -39,7 +39,7 @@ phase_number phase.Back = 3
 phase_number phase.BackClean = 4
 
 abbrev pub phase_of : ℕ → Option Phase
-phase_of = numbered phase_number (phase.Clean ∷ phase.Back ∷ phase.BackClean ∷ [])
+phase_of = one_numbered phase_number (phase.Clean ∷ phase.Back ∷ phase.BackClean ∷ [])
 
 -- what a change set does with a resource
 abbrev pub action_number : Action → ℕ
@@ -48,7 +48,7 @@ action_number action.Modify = 2
 action_number action.Remove = 3
 
 abbrev pub action_of : ℕ → Option Action
-action_of = numbered action_number (action.Add ∷ action.Modify ∷ action.Remove ∷ [])
+action_of = one_numbered action_number (action.Add ∷ action.Modify ∷ action.Remove ∷ [])
 
 -- what of a resource changes
 abbrev pub attribute_number : Attribute → ℕ
@@ -56,8 +56,8 @@ attribute_number attribute.Properties = 1
 attribute_number attribute.DeletionPolicy = 2
 attribute_number attribute.UpdateReplacePolicy = 3
 
-abbrev pub attribute_of : ℕ → Option Attribute
-attribute_of = numbered attribute_number (attribute.Properties ∷ attribute.DeletionPolicy ∷ attribute.UpdateReplacePolicy ∷ [])
+abbrev pub attribute_numbered : ℕ → Option Attribute
+attribute_numbered = one_numbered attribute_number (attribute.Properties ∷ attribute.DeletionPolicy ∷ attribute.UpdateReplacePolicy ∷ [])
 
 -- whether a detail may have this name: a property has one, and a policy has none
 abbrev pub is_named : Attribute → List ℕ → Bool
@@ -71,8 +71,8 @@ recreation_number recreation.Never = 1
 recreation_number recreation.Conditionally = 2
 recreation_number recreation.Always = 3
 
-abbrev pub recreation_of : ℕ → Option Recreation
-recreation_of = numbered recreation_number (recreation.Never ∷ recreation.Conditionally ∷ recreation.Always ∷ [])
+abbrev pub recreation_numbered : ℕ → Option Recreation
+recreation_numbered = one_numbered recreation_number (recreation.Never ∷ recreation.Conditionally ∷ recreation.Always ∷ [])
 
 -- whether the new value is known
 abbrev pub evaluation_number : Evaluation → ℕ
@@ -80,7 +80,7 @@ evaluation_number evaluation.Static = 1
 evaluation_number evaluation.Dynamic = 2
 
 abbrev pub evaluation_of : ℕ → Option Evaluation
-evaluation_of = numbered evaluation_number (evaluation.Static ∷ evaluation.Dynamic ∷ [])
+evaluation_of = one_numbered evaluation_number (evaluation.Static ∷ evaluation.Dynamic ∷ [])
 
 -- whether a resource is replaced, and 0 where that is not said
 abbrev pub replacement_number : Option Replacement → ℕ
@@ -89,8 +89,9 @@ replacement_number (Some replacement.True) = 1
 replacement_number (Some replacement.False) = 2
 replacement_number (Some replacement.Conditional) = 3
 
-abbrev pub replacement_of : ℕ → Option (Option Replacement)
-replacement_of = numbered replacement_number (None ∷ Some replacement.True ∷ Some replacement.False ∷ Some replacement.Conditional ∷ [])
+abbrev pub replacement_numbered : ℕ → Option (Option Replacement)
+replacement_numbered =
+    one_numbered replacement_number (None ∷ Some replacement.True ∷ Some replacement.False ∷ Some replacement.Conditional ∷ [])
 
 -- a code's number, and 0 for a call that broke off
 abbrev pub reason_number : Reason → ℕ

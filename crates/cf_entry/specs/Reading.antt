@@ -1,4 +1,5 @@
--- Reading from the front of bytes: a value and the bytes behind it, where the bytes begin with the spelling of one.
+-- Reading from the front of bytes: a value and the bytes behind it, where the bytes begin with the spelling of one (this project's own
+-- format, docs/ENTRIES.md).
 use Rattle.std.specs.Prelude.{◌≡◌, ℕ, zero, suc, ◌==◌, nat_lt, if◌then◌else◌, Bool, true, false, List, [], ◌∷◌, length, take, drop, Option, Some, None, Result, Ok, Err}
 use Rattle.std.specs.Int.{w32, w64, from_be_bytes, cast_signed}
 use Rattle.std.specs.Str.{is_utf8}
@@ -17,9 +18,9 @@ abbrev pub Fails : {Y : Type 0} → Unread → Option Y → Type 0
 Fails unread.NoMemory read = Unit {0}
 Fails unread.NoEntry read = read ≡ None
 
-abbrev pub Gives : {X Y : Type 0} → (X → Y) → Result X Unread → Option Y → Type 0
-Gives view (Ok x) read = read ≡ Some (view x)
-Gives view (Err e) read = Fails e read
+abbrev pub Decodes : {X Y : Type 0} → (X → Y) → Result X Unread → Option Y → Type 0
+Decodes view (Ok x) read = read ≡ Some (view x)
+Decodes view (Err e) read = Fails e read
 
 -- one after the other
 abbrev pub then_at : {A B : Type 0} → (List ℕ → Option (A × List ℕ)) → (List ℕ → Option (B × List ℕ)) → List ℕ → Option ((A × B) × List ℕ)
@@ -60,7 +61,8 @@ list_at one bytes = four_at bytes >>= λ n. many_at one n.0 n.1
 
 -- one behind a 1, none behind a 0
 unfoldable pub option_at : {X : Type 0} → (List ℕ → Option (X × List ℕ)) → List ℕ → Option (Option X × List ℕ)
-option_at one bytes = byte_at bytes >>= λ b. if b.0 == 0 then Some (None, b.1) else if b.0 == 1 then (one b.1 >>= λ x. Some (Some x.0, x.1)) else None
+option_at one bytes =
+    byte_at bytes >>= λ b. if b.0 == 0 then Some (None, b.1) else if b.0 == 1 then (one b.1 >>= λ x. Some (Some x.0, x.1)) else None
 
 abbrev pub pair_at : List ℕ → Option ((List ℕ × List ℕ) × List ℕ)
 pair_at = then_at text_at text_at
@@ -76,16 +78,17 @@ abbrev pub ordered_of : {X : Type 0} → List (List ℕ × X) → Option (List (
 ordered_of ps = if ascends ps then Some ps else None
 
 -- a value of at most so many levels of lists and dictionaries
-unfoldable pub value_at : ℕ → List ℕ → Option (Data × List ℕ)
-value_at zero bytes = None
-value_at (suc depth) bytes = byte_at bytes >>= λ kind.
+unfoldable pub datum_at : ℕ → List ℕ → Option (Data × List ℕ)
+datum_at zero bytes = None
+datum_at (suc depth) bytes = byte_at bytes >>= λ kind.
     if kind.0 == 1 then pick_at (λ t. Some (text t)) text_at kind.1
     else if kind.0 == 2 then pick_at (λ n. Some (whole (cast_signed w64 n))) eight_at kind.1
     else if kind.0 == 3 then pick_at (λ b. Some (truth b)) (pick_at truth_of byte_at) kind.1
-    else if kind.0 == 4 then pick_at (λ ds. Some (list (items_of ds))) (list_at (value_at depth)) kind.1
-    else if kind.0 == 5 then pick_at (λ ps. Some (dict (members_of ps))) (pick_at ordered_of (list_at (then_at text_at (value_at depth)))) kind.1
+    else if kind.0 == 4 then pick_at (λ ds. Some (list (items_of ds))) (list_at (datum_at depth)) kind.1
+    else if kind.0 == 5 then pick_at (λ ps. Some (dict (members_of ps))) (pick_at ordered_of (list_at (then_at text_at (datum_at depth))))
+    kind.1
     else None
 
 -- pairs without the byte for their kind; each level takes a byte and more, so that there are fewer levels than bytes
 abbrev pub dict_at : ℕ → List ℕ → Option (List (List ℕ × Data) × List ℕ)
-dict_at depth bytes = pick_at ordered_of (list_at (then_at text_at (value_at depth))) bytes
+dict_at depth bytes = pick_at ordered_of (list_at (then_at text_at (datum_at depth))) bytes

@@ -1,4 +1,5 @@
--- The statuses of a stack ("Stack status codes" of the CloudFormation User Guide), with the numbers that the journal has (this project's own).
+-- The statuses of a stack ("Stack status codes" of the CloudFormation User Guide), with the numbers that the journal has (this project's
+-- own).
 use Rattle.std.specs.Prelude.{ℕ, ◌==◌, Bool, true, false, List, [], ◌∷◌, Option, find, codes}
 use Rattle.cf_entry.specs.declared.status.Status.{Status}
 use Rattle.cf_entry.specs.declared.status.Status.TheVariants as status
@@ -44,7 +45,10 @@ status_name status.ReviewInProgress = codes "REVIEW_IN_PROGRESS"
 -- all statuses
 abbrev pub all_statuses : List Status
 all_statuses =
-    status.CreateInProgress ∷ status.CreateComplete ∷ status.RollbackInProgress ∷ status.RollbackComplete ∷ status.RollbackFailed ∷ status.UpdateInProgress ∷ status.UpdateCompleteCleanupInProgress ∷ status.UpdateComplete ∷ status.UpdateRollbackInProgress ∷ status.UpdateRollbackCompleteCleanupInProgress ∷ status.UpdateRollbackComplete ∷ status.UpdateRollbackFailed ∷ status.DeleteInProgress ∷ status.DeleteComplete ∷ status.DeleteFailed ∷ status.ReviewInProgress ∷ []
+    status.CreateInProgress ∷ status.CreateComplete ∷ status.RollbackInProgress ∷ status.RollbackComplete ∷ status.RollbackFailed
+    ∷ status.UpdateInProgress ∷ status.UpdateCompleteCleanupInProgress ∷ status.UpdateComplete ∷ status.UpdateRollbackInProgress
+    ∷ status.UpdateRollbackCompleteCleanupInProgress ∷ status.UpdateRollbackComplete ∷ status.UpdateRollbackFailed ∷ status.DeleteInProgress
+    ∷ status.DeleteComplete ∷ status.DeleteFailed ∷ status.ReviewInProgress ∷ []
 
 -- the status with the number n, if there is one
 abbrev pub status_numbered : ℕ → Option Status

@@ -1,4 +1,5 @@
--- The bytes of values (this project's own format): a byte for the kind, and then a text, eight bytes in two's complement, a truth value, a list, or pairs of a text and a value.
+-- The bytes of values (this project's own format): a byte for the kind, and then a text, eight bytes in two's complement, a truth value, a
+-- list, or pairs of a text and a value.
 use Rattle.std.specs.Prelude.{ℕ, suc, ◌<◌, ◌^◌, IsTrue, List, [], ◌∷◌, ◌++◌, FitsSigned}
 use Rattle.std.specs.Int.{w64, cast_unsigned}
 use Rattle.cf_tree.specs.Datum.{Data, Items, Members, text, whole, truth, list, dict, no_items, item, no_members, member, members_of}

@@ -1,6 +1,6 @@
 //! The pieces that every entry is read from, each from the front of some bytes.
 ghost use Rattle.std.specs.Prelude.{◌≡◌, ℕ, List, Option};
-ghost use Rattle.cf_entry.specs.Reading.{Gives, byte_at, four_at, eight_at, run_at, text_at, list_at, many_at, pair_at, template_at};
+ghost use Rattle.cf_entry.specs.Reading.{Decodes, byte_at, four_at, eight_at, run_at, text_at, list_at, many_at, pair_at, template_at};
 
 pub mod entry;
 mod row;
@@ -16,7 +16,7 @@ pub use value::{take_dict, take_truth};
 
 /// One byte.
 pub fn take_byte(bytes: &[u8]) -> Result<(u8, &[u8]), Unread>
-    ensures { Gives (λ x. (x.0, x.1.now)) result (byte_at bytes.now) }
+    ensures { Decodes (λ x. (x.0, x.1.now)) result (byte_at bytes.now) }
 {
     match bytes {
         [] => Err(Unread::NoEntry),
@@ -26,7 +26,7 @@ pub fn take_byte(bytes: &[u8]) -> Result<(u8, &[u8]), Unread>
 
 /// A number in four bytes.
 pub fn take_four(bytes: &[u8]) -> Result<(u32, &[u8]), Unread>
-    ensures { Gives (λ x. (x.0, x.1.now)) result (four_at bytes.now) }
+    ensures { Decodes (λ x. (x.0, x.1.now)) result (four_at bytes.now) }
 {
     if bytes.len() < 4 {
         return Err(Unread::NoEntry);
@@ -38,7 +38,7 @@ pub fn take_four(bytes: &[u8]) -> Result<(u32, &[u8]), Unread>
 
 /// A number in eight bytes.
 pub fn take_eight(bytes: &[u8]) -> Result<(u64, &[u8]), Unread>
-    ensures { Gives (λ x. (x.0, x.1.now)) result (eight_at bytes.now) }
+    ensures { Decodes (λ x. (x.0, x.1.now)) result (eight_at bytes.now) }
 {
     if bytes.len() < 8 {
         return Err(Unread::NoEntry);
@@ -53,7 +53,7 @@ pub fn take_eight(bytes: &[u8]) -> Result<(u64, &[u8]), Unread>
 /// Bytes behind their length.
 #[tactic(auto, unfolding(crate::specs::Reading::run_at))]
 pub fn take_run(bytes: &[u8]) -> Result<(&[u8], &[u8]), Unread>
-    ensures { Gives (λ x. (x.0.now, x.1.now)) result (run_at bytes.now) }
+    ensures { Decodes (λ x. (x.0.now, x.1.now)) result (run_at bytes.now) }
 {
     let (length, rest) = take_four(bytes)?;
     let length = length as usize;
@@ -66,7 +66,7 @@ pub fn take_run(bytes: &[u8]) -> Result<(&[u8], &[u8]), Unread>
 /// A text behind its length.
 #[tactic(auto, using(crate::proofs::Texts::utf8_yes, crate::proofs::Texts::utf8_no), unfolding(crate::specs::Reading::text_at))]
 pub fn take_text(alloc: Global, bytes: &[u8]) -> Result<(Txt, &[u8]), Unread>
-    ensures { Gives (λ x. (x.0, x.1.now)) result (text_at bytes.now) }
+    ensures { Decodes (λ x. (x.0, x.1.now)) result (text_at bytes.now) }
 {
     let (run, rest) = take_run(bytes)?;
     match str::from_utf8(run) {
@@ -81,7 +81,7 @@ pub trait Member: Sized + Drop {
 
     /// One member from the front of the bytes.
     fn take(alloc: Global, bytes: &[u8]) -> Result<(Self, &[u8]), Unread>
-        ensures { Gives (λ x. (x.0, x.1.now)) result (read_at bytes.now) };
+        ensures { Decodes (λ x. (x.0, x.1.now)) result (read_at bytes.now) };
 }
 
 impl Member for Txt {
@@ -116,7 +116,7 @@ impl Member for (Txt, Bytes) {
 /// Members behind their number.
 #[tactic(auto, unfolding(crate::specs::Reading::list_at))]
 pub fn take_list<T: Member>(alloc: Global, bytes: &[u8]) -> Result<(Vec<T>, &[u8]), Unread>
-    ensures { Gives (λ x. (x.0.items, x.1.now)) result (list_at T.read_at bytes.now) }
+    ensures { Decodes (λ x. (x.0.items, x.1.now)) result (list_at T.read_at bytes.now) }
 {
     let (count, rest) = take_four(bytes)?;
     take_many(alloc, count, rest)
@@ -124,7 +124,7 @@ pub fn take_list<T: Member>(alloc: Global, bytes: &[u8]) -> Result<(Vec<T>, &[u8
 
 /// So many members.
 fn take_many<T: Member>(alloc: Global, count: u32, bytes: &[u8]) -> Result<(Vec<T>, &[u8]), Unread>
-    ensures { Gives (λ x. (x.0.items, x.1.now)) result (many_at T.read_at count bytes.now) }
+    ensures { Decodes (λ x. (x.0.items, x.1.now)) result (many_at T.read_at count bytes.now) }
 {
     let mut members = Vec::new(alloc);
     let mut rest = bytes;

@@ -21,7 +21,7 @@ use Rattle.cf_eval.specs.declared.fault.EvalWhy.TheVariants.{UnknownName, Unknow
 use Rattle.cf_eval.specs.Outcome.{Outcome, Stop, fault, below, undecided, got, later, bad, on_got, after_later, both, each, or_wrong}
 use Rattle.cf_eval.specs.Scope.{Scope, Beyond, open_to, closed_to}
 use Rattle.cf_eval.specs.Texts.{Found, known, within, as_text, as_list, wanted_text, wanted_list, wanted_index, most_bytes}
-use Rattle.cf_eval.specs.Functions.{or_fault, or_later, text_value, id_of, resource_ref, setting_found, pseudo_ref, ref_found, output_found, attribute_of, attribute_in, cut_found, name_found, piece_found, put_together, outcomes, sub_found, nth, mapped, under_key, under_second, paired, find_found, imported, import_found, split_at}
+use Rattle.cf_eval.specs.Functions.{or_fault, or_later, text_value, id_of, resource_ref, setting_found, pseudo_ref, ref_found, output_found, attribute_found, attribute_in, cut_found, name_found, piece_found, put_together, outcomes, sub_found, nth, value_in_mapping, under_key, under_second, paired, find_found, imported, import_found, split_at}
 use Rattle.cf_eval.specs.Value.{form_found, node_found, forms_found, fields_found, blamed}
 use Rattle.cf_eval.specs.Value as values
 use Rattle.cf_eval.specs.Conditions.{decided_by, test_found, test_node_found, tests_found, equal_values}
@@ -112,7 +112,7 @@ module _ (P : List ℕ → List ℕ → Type 0) where
   asks_output at (output.Made v) = asks_on (or_later v) text_value (asks_later v) (λ t. tt)
   asks_output at (output.Broken why stack place) = tt
 
-  asks_attribute : (at : List ℕ) (s : Sight) (name : List ℕ) → Asks (attribute_of at s name)
+  asks_attribute : (at : List ℕ) (s : Sight) (name : List ℕ) → Asks (attribute_found at s name)
   asks_attribute at sight.NotMade name = tt
   asks_attribute at (sight.Made p a) name =
       asks_on (or_later a) _ (asks_later a) (λ all. asks_on (or_fault UnknownAttribute at (value_at name all)) known (asks_fault UnknownAttribute at _) (λ d. tt))
@@ -127,7 +127,7 @@ module _ (P : List ℕ → List ℕ → Type 0) where
   asks_cut s at name None = asks_ref s at name
   asks_cut s at name (Some c) = asks_attribute_in s.beyond at c.0 c.1
 
-  asks_mapped : (s : Scope) (at name first second : List ℕ) → Asks (mapped s at name first second)
+  asks_mapped : (s : Scope) (at name first second : List ℕ) → Asks (value_in_mapping s at name first second)
   asks_mapped s at name first second =
       asks_on (or_fault UnknownName at (s.mapping name)) _ (asks_fault UnknownName at _) (λ keys.
       asks_on (or_fault _ at (value_at first keys)) _ (asks_fault _ at _) (λ values.

@@ -1,7 +1,7 @@
 -- The members of a list that are compared, in the order in which the code takes them.
 use Rattle.std.proofs.Common.{◌≡◌, List, [], ◌∷◌, ◌++◌, Option, Some, None, option_map, refl, ap, sym, ◌∙◌}
 use Rattle.cf_tree.specs.Datum.{Data, Items, no_items, item, items_of}
-use Rattle.cf_eval.specs.Conditions.{compared, compared_items, with_first}
+use Rattle.cf_eval.specs.Conditions.{compared, compared_items, item_before}
 
 abbrev pub then_more : Option Data → (Data → Option (List Data)) → Option (List Data)
 then_more (Some d) f = f d
@@ -30,7 +30,7 @@ before_all so_far e (Some ds) = ap Some (before_one so_far e ds)
 before_all so_far e None = refl
 
 after_first : (so_far : List Data) (o : Option Data) (ds : Items) → ((e : Data) → option_map (before (so_far ++ e ∷ [])) (compared_items ds) ≡ option_map items_of (compared_after (so_far ++ e ∷ []) ds))
-    → option_map (before so_far) (with_first o (compared_items ds)) ≡ option_map items_of (then_more o (λ e. compared_after (so_far ++ e ∷ []) ds))
+    → option_map (before so_far) (item_before o (compared_items ds)) ≡ option_map items_of (then_more o (λ e. compared_after (so_far ++ e ∷ []) ds))
 after_first so_far (Some e) ds rest = before_all so_far e (compared_items ds) ∙ rest e
 after_first so_far None ds rest = refl
 

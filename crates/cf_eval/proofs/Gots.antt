@@ -4,7 +4,7 @@ use Rattle.cf_tree.specs.Datum.{Data}
 use Rattle.cf_tree.specs.Value.{datum_of}
 use Rattle.cf_eval.specs.Outcome.{Outcome, Stop, got, later, bad, on_got, after_later, both, each}
 use Rattle.cf_eval.specs.Texts.{Found}
-use Rattle.cf_eval.specs.Gives.{found_of, binding_of, Stops, value_in, any_late, named_value, late_binding}
+use Rattle.cf_eval.specs.Gives.{got_found, member_found, Stops, got_value, any_late, named_value, late_binding}
 use Rattle.cf_eval.specs.Scope.{Scope}
 use Rattle.cf_eval.specs.Functions.{outcomes, paired, sub_found, select_found, find_found}
 use Rattle.cf_tree.specs.declared.parts.Part.{Part}
@@ -15,13 +15,13 @@ use Rattle.cf_eval.specs.declared.got.Got.{Got}
 use Rattle.cf_eval.specs.declared.got.Got.TheVariants as it
 
 -- a fault after outcomes that are none is the first one
-pub each_stops : (gs : List Got) (w : Stop) (rest : List Found) → each (map found_of gs ++ (bad w ∷ rest)) ≡ bad w
+pub each_stops : (gs : List Got) (w : Stop) (rest : List Found) → each (map got_found gs ++ (bad w ∷ rest)) ≡ bad w
 each_stops [] w rest = refl
 each_stops (it.Value v ∷ gs) w rest = rw (each_stops gs w rest) refl
 each_stops (it.NoValue ∷ gs) w rest = rw (each_stops gs w rest) refl
 each_stops (it.Later ∷ gs) w rest = rw (each_stops gs w rest) refl
 
-pub bindings_stop : (bs : List (List ℕ × Got)) (w : Stop) (name : List ℕ) (rest : List (List ℕ × Found)) → each (outcomes (map binding_of bs ++ ((name, bad w) ∷ rest))) ≡ bad w
+pub bindings_stop : (bs : List (List ℕ × Got)) (w : Stop) (name : List ℕ) (rest : List (List ℕ × Found)) → each (outcomes (map member_found bs ++ ((name, bad w) ∷ rest))) ≡ bad w
 bindings_stop [] w name rest = refl
 bindings_stop ((n, it.Value v) ∷ bs) w name rest = rw (bindings_stop bs w name rest) refl
 bindings_stop ((n, it.NoValue) ∷ bs) w name rest = rw (bindings_stop bs w name rest) refl
@@ -35,7 +35,7 @@ first_late : (late : Bool) (xs : List (Option Data)) → both {A = Option Data} 
 first_late true xs = refl
 first_late false xs = refl
 
-pub each_of_gots : (gs : List Got) → each (map found_of gs) ≡ cond (any_late gs) later (got (map value_in gs))
+pub each_of_gots : (gs : List Got) → each (map got_found gs) ≡ cond (any_late gs) later (got (map got_value gs))
 each_of_gots [] = refl
 each_of_gots (it.Value v ∷ gs) = rw (each_of_gots gs) (first_known (any_late gs) _ _)
 each_of_gots (it.NoValue ∷ gs) = rw (each_of_gots gs) (first_known (any_late gs) _ _)
@@ -49,40 +49,40 @@ first_named_late : (late : Bool) (xs : List (List ℕ × Option Data)) → both 
 first_named_late true xs = refl
 first_named_late false xs = refl
 
-pub each_of_bindings : (bs : List (List ℕ × Got)) → each (map named (map binding_of bs)) ≡ cond (late_binding bs) later (got (map named_value bs))
+pub each_of_bindings : (bs : List (List ℕ × Got)) → each (map named (map member_found bs)) ≡ cond (late_binding bs) later (got (map named_value bs))
 each_of_bindings [] = refl
 each_of_bindings ((n, it.Value v) ∷ bs) = rw (each_of_bindings bs) (first_named (late_binding bs) _ _)
 each_of_bindings ((n, it.NoValue) ∷ bs) = rw (each_of_bindings bs) (first_named (late_binding bs) _ _)
 each_of_bindings ((n, it.Later) ∷ bs) = rw (each_of_bindings bs) (first_named_late (late_binding bs) _)
 
-pub each_of_outcomes : (bs : List (List ℕ × Got)) → each (outcomes (map binding_of bs)) ≡ cond (late_binding bs) later (got (map (λ b. value_in b.1) bs))
+pub each_of_outcomes : (bs : List (List ℕ × Got)) → each (outcomes (map member_found bs)) ≡ cond (late_binding bs) later (got (map (λ b. got_value b.1) bs))
 each_of_outcomes [] = refl
 each_of_outcomes ((n, it.Value v) ∷ bs) = rw (each_of_outcomes bs) (first_known (late_binding bs) _ _)
 each_of_outcomes ((n, it.NoValue) ∷ bs) = rw (each_of_outcomes bs) (first_known (late_binding bs) _ _)
 each_of_outcomes ((n, it.Later) ∷ bs) = rw (each_of_outcomes bs) (first_late (late_binding bs) _)
 
 -- a fault among the pieces, after a map without one
-pub pieces_stop : (bs : List (List ℕ × Got)) (w : Stop) (f : List (Option Data) → List (Option Data) → Found) → both (each (outcomes (map binding_of bs))) (bad w) f ≡ bad w
+pub pieces_stop : (bs : List (List ℕ × Got)) (w : Stop) (f : List (Option Data) → List (Option Data) → Found) → both (each (outcomes (map member_found bs))) (bad w) f ≡ bad w
 pieces_stop bs w f = rw (each_of_outcomes bs) (by_late (late_binding bs)) where
-  by_late : (late : Bool) → both (cond late later (got (map (λ b. value_in b.1) bs))) (bad w) f ≡ bad w
+  by_late : (late : Bool) → both (cond late later (got (map (λ b. got_value b.1) bs))) (bad w) f ≡ bad w
   by_late true = refl
   by_late false = refl
 
 -- the same, where the code holds the outcomes before the fault and the answer that tells it
-pub all_stop : (fs : List Found) (gs : List Got) (x : Found) (rest : List Found) (s : broken.Stop) → fs ≡ map found_of gs ++ (x ∷ rest) → Stops x s → Stops (each fs) s
-all_stop fs gs x rest (stop.Bad why at) e h = ap each (e ∙ ap (λ y. map found_of gs ++ (y ∷ rest)) h) ∙ each_stops gs _ rest
-all_stop fs gs x rest (stop.Below why stack at) e h = ap each (e ∙ ap (λ y. map found_of gs ++ (y ∷ rest)) h) ∙ each_stops gs _ rest
-all_stop fs gs x rest (stop.Undecided name at) e h = ap each (e ∙ ap (λ y. map found_of gs ++ (y ∷ rest)) h) ∙ each_stops gs _ rest
+pub all_stop : (fs : List Found) (gs : List Got) (x : Found) (rest : List Found) (s : broken.Stop) → fs ≡ map got_found gs ++ (x ∷ rest) → Stops x s → Stops (each fs) s
+all_stop fs gs x rest (stop.Bad why at) e h = ap each (e ∙ ap (λ y. map got_found gs ++ (y ∷ rest)) h) ∙ each_stops gs _ rest
+all_stop fs gs x rest (stop.Below why stack at) e h = ap each (e ∙ ap (λ y. map got_found gs ++ (y ∷ rest)) h) ∙ each_stops gs _ rest
+all_stop fs gs x rest (stop.Undecided name at) e h = ap each (e ∙ ap (λ y. map got_found gs ++ (y ∷ rest)) h) ∙ each_stops gs _ rest
 all_stop fs gs x rest stop.NoMemory e h = tt
 
 pub bindings_all_stop : (fs : List (List ℕ × Found)) (bs : List (List ℕ × Got)) (name : List ℕ) (x : Found) (rest : List (List ℕ × Found)) (s : broken.Stop)
-    → fs ≡ map binding_of bs ++ ((name, x) ∷ rest) → Stops x s → Stops (each (outcomes fs)) s
+    → fs ≡ map member_found bs ++ ((name, x) ∷ rest) → Stops x s → Stops (each (outcomes fs)) s
 bindings_all_stop fs bs name x rest (stop.Bad why at) e h =
-    ap (λ gs. each (outcomes gs)) (e ∙ ap (λ y. map binding_of bs ++ ((name, y) ∷ rest)) h) ∙ bindings_stop bs _ name rest
+    ap (λ gs. each (outcomes gs)) (e ∙ ap (λ y. map member_found bs ++ ((name, y) ∷ rest)) h) ∙ bindings_stop bs _ name rest
 bindings_all_stop fs bs name x rest (stop.Below why stack at) e h =
-    ap (λ gs. each (outcomes gs)) (e ∙ ap (λ y. map binding_of bs ++ ((name, y) ∷ rest)) h) ∙ bindings_stop bs _ name rest
+    ap (λ gs. each (outcomes gs)) (e ∙ ap (λ y. map member_found bs ++ ((name, y) ∷ rest)) h) ∙ bindings_stop bs _ name rest
 bindings_all_stop fs bs name x rest (stop.Undecided other at) e h =
-    ap (λ gs. each (outcomes gs)) (e ∙ ap (λ y. map binding_of bs ++ ((name, y) ∷ rest)) h) ∙ bindings_stop bs _ name rest
+    ap (λ gs. each (outcomes gs)) (e ∙ ap (λ y. map member_found bs ++ ((name, y) ∷ rest)) h) ∙ bindings_stop bs _ name rest
 bindings_all_stop fs bs name x rest stop.NoMemory e h = tt
 
 -- what is left of a list begins with the item that the loop looks at
@@ -90,12 +90,12 @@ pub drop_item : {A : Type 0} (xs : List A) (i : ℕ) (x : A) → i < length xs �
 drop_item xs i x h e = drop-cons xs i x h ∙ ap (λ y. y ∷ drop (suc i) xs) (sym e)
 
 -- a fault of a later part, after parts without one
-pub both_stops : {B C : Type 0} (g : Got) (w : Stop) (f : Option Data → B → Outcome C) → both (found_of g) (bad w) f ≡ bad w
+pub both_stops : {B C : Type 0} (g : Got) (w : Stop) (f : Option Data → B → Outcome C) → both (got_found g) (bad w) f ≡ bad w
 both_stops (it.Value v) w f = refl
 both_stops it.NoValue w f = refl
 both_stops it.Later w f = refl
 
-pub pair_stops : {B C : Type 0} (g h : Got) (w : Stop) (f : Option Data × Option Data → B → Outcome C) → both (both (found_of g) (found_of h) paired) (bad w) f ≡ bad w
+pub pair_stops : {B C : Type 0} (g h : Got) (w : Stop) (f : Option Data × Option Data → B → Outcome C) → both (both (got_found g) (got_found h) paired) (bad w) f ≡ bad w
 pair_stops (it.Value v) (it.Value u) w f = refl
 pair_stops (it.Value v) it.NoValue w f = refl
 pair_stops (it.Value v) it.Later w f = refl
@@ -106,25 +106,25 @@ pair_stops it.Later (it.Value u) w f = refl
 pair_stops it.Later it.NoValue w f = refl
 pair_stops it.Later it.Later w f = refl
 
-second_stops : {B C : Type 0} (g : Got) (w : Stop) (y : Outcome B) (f : Option Data × Option Data → B → Outcome C) → both (both (found_of g) (bad w) paired) y f ≡ bad w
+second_stops : {B C : Type 0} (g : Got) (w : Stop) (y : Outcome B) (f : Option Data × Option Data → B → Outcome C) → both (both (got_found g) (bad w) paired) y f ≡ bad w
 second_stops (it.Value v) w y f = refl
 second_stops it.NoValue w y f = refl
 second_stops it.Later w y f = refl
 
 -- the answers that tell such a fault
-pub select_stops : (at : List ℕ) (g : Got) (y : Found) (s : broken.Stop) → Stops y s → Stops (select_found at (found_of g) y) s
+pub select_stops : (at : List ℕ) (g : Got) (y : Found) (s : broken.Stop) → Stops y s → Stops (select_found at (got_found g) y) s
 select_stops at g y (stop.Bad why place) h = rw h (both_stops g _ _)
 select_stops at g y (stop.Below why stack place) h = rw h (both_stops g _ _)
 select_stops at g y (stop.Undecided name place) h = rw h (both_stops g _ _)
 select_stops at g y stop.NoMemory h = tt
 
-pub find_stops_second : (sc : Scope) (at : List ℕ) (g : Got) (y z : Found) (s : broken.Stop) → Stops y s → Stops (find_found sc at (found_of g) y z) s
+pub find_stops_second : (sc : Scope) (at : List ℕ) (g : Got) (y z : Found) (s : broken.Stop) → Stops y s → Stops (find_found sc at (got_found g) y z) s
 find_stops_second sc at g y z (stop.Bad why place) h = rw h (second_stops g _ z _)
 find_stops_second sc at g y z (stop.Below why stack place) h = rw h (second_stops g _ z _)
 find_stops_second sc at g y z (stop.Undecided name place) h = rw h (second_stops g _ z _)
 find_stops_second sc at g y z stop.NoMemory h = tt
 
-pub find_stops_third : (sc : Scope) (at : List ℕ) (g k : Got) (z : Found) (s : broken.Stop) → Stops z s → Stops (find_found sc at (found_of g) (found_of k) z) s
+pub find_stops_third : (sc : Scope) (at : List ℕ) (g k : Got) (z : Found) (s : broken.Stop) → Stops z s → Stops (find_found sc at (got_found g) (got_found k) z) s
 find_stops_third sc at g k z (stop.Bad why place) h = rw h (pair_stops g k _ _)
 find_stops_third sc at g k z (stop.Below why stack place) h = rw h (pair_stops g k _ _)
 find_stops_third sc at g k z (stop.Undecided name place) h = rw h (pair_stops g k _ _)

@@ -19,9 +19,9 @@ use Rattle.cf_eval.specs.declared.env.Sight.TheVariants as sight
 use Rattle.cf_eval.specs.declared.env.OutputSight.{OutputSight}
 use Rattle.cf_eval.specs.declared.env.OutputSight.TheVariants as output
 use Rattle.cf_eval.specs.declared.fault.EvalWhy.TheVariants.{UnknownName, UnknownAttribute, WrongKind}
-use Rattle.cf_eval.specs.Functions.{or_fault, or_later, text_value, id_of, resource_ref, setting_found, pseudo_ref, ref_found, output_found, attribute_of, attribute_in, get_att_found, cut_found, name_found, piece_found, put_together, outcomes, sub_found, join_found, split_found, select_found, mapped, under_key, paired, find_found, if_found, imported, import_found, base64_found}
+use Rattle.cf_eval.specs.Functions.{or_fault, or_later, text_value, id_of, resource_ref, setting_found, pseudo_ref, ref_found, output_found, attribute_found, attribute_in, get_att_found, cut_found, name_found, piece_found, put_together, outcomes, sub_found, join_found, split_found, select_found, value_in_mapping, under_key, paired, find_found, if_found, imported, import_found, base64_found}
 use Rattle.cf_eval.specs.Value.{form_found, node_found, forms_found, fields_found, blamed, named, list_found, pairs_found, dict_found}
-use Rattle.cf_eval.specs.Knows.{KnowsMore, Keeps, KeepsSetting, KeepsOutput, KeepsSight, KeepsBeyond, KeepsOutcome, KeepsFaults, BrokenStay, BrokenBeyond, is_broken, is_fault, is_later, names_imports, node_names_imports, all_name_imports, fields_name_imports, Stays, KnownStays}
+use Rattle.cf_eval.specs.Knows.{KnowsMore, StaysKnown, KeepsSetting, KeepsOutput, KeepsSight, KeepsBeyond, KeepsOutcome, KeepsFaults, BrokenStay, BrokenBeyond, is_broken, is_fault, is_later, names_imports, node_names_imports, all_name_imports, fields_name_imports, Stays, ValuesStay}
 use Rattle.cf_eval.specs.Env.{scope_in, plain}
 
 -- y stands where x stood: what x is known to be stays, and, where b says so, that it is a fault
@@ -130,7 +130,7 @@ pseudo_stands b true o y z h = refl
 pseudo_stands b false (Some d) y z h = refl
 pseudo_stands b false None y z h = h
 
-kept : {A B : Type 0} (b : Bool) (p q : Option A) (f : A → Outcome B) → Keeps p q → Stands b (on_got (or_later p) f) (on_got (or_later q) f)
+kept : {A B : Type 0} (b : Bool) (p q : Option A) (f : A → Outcome B) → StaysKnown p q → Stands b (on_got (or_later p) f) (on_got (or_later q) f)
 kept b (Some a) q f h = same b _ _ (ap (λ o. on_got (or_later o) f) h)
 kept b None q f h = tt
 
@@ -162,9 +162,9 @@ output_stands true at (Some (output.Broken why stack place)) q h f = broken_faul
 output_stands false at (Some (output.Broken why stack place)) q h f = tt
 
 attribute_stands : (b : Bool) (at name : List ℕ) (p q : Option Sight) → KeepsSight p q → (b ≡ true → BrokenStay p q)
-    → Stands b (on_got (or_fault UnknownName at p) (λ s. attribute_of at s name)) (on_got (or_fault UnknownName at q) (λ s. attribute_of at s name))
-attribute_stands b at name None q h f = same b _ _ (ap (λ o. on_got (or_fault UnknownName at o) (λ s. attribute_of at s name)) h)
-attribute_stands b at name (Some sight.NotMade) q h f = same b _ _ (ap (λ o. on_got (or_fault UnknownName at o) (λ s. attribute_of at s name)) h)
+    → Stands b (on_got (or_fault UnknownName at p) (λ s. attribute_found at s name)) (on_got (or_fault UnknownName at q) (λ s. attribute_found at s name))
+attribute_stands b at name None q h f = same b _ _ (ap (λ o. on_got (or_fault UnknownName at o) (λ s. attribute_found at s name)) h)
+attribute_stands b at name (Some sight.NotMade) q h f = same b _ _ (ap (λ o. on_got (or_fault UnknownName at o) (λ s. attribute_found at s name)) h)
 attribute_stands b at name (Some (sight.Made p a)) (Some (sight.Made q c)) h f = kept b a c _ h.1
 attribute_stands b at name (Some (sight.Nested i o)) (Some (sight.Nested j r)) h f = output_stands b at (value_at name o) (value_at name r) (h.1 name) (λ e. f e name)
 attribute_stands b at name (Some (sight.Made p a)) None h f = absurd h
@@ -238,7 +238,7 @@ module _ (s t : Scope) (k : KnowsMore s t) (b : Bool) (f : b ≡ true → KeepsF
   list_stands : (at : List ℕ) (x y : Found) → Stands b x y → Stands b (as_list at x) (as_list at y)
   list_stands at x y h = stands_on b x y (wanted_list at) (wanted_list at) h (λ o. itself b (wanted_list at o))
 
-  mapped_stands : (at name first second : List ℕ) → Stands b (mapped s at name first second) (mapped t at name first second)
+  mapped_stands : (at name first second : List ℕ) → Stands b (value_in_mapping s at name first second) (value_in_mapping t at name first second)
   mapped_stands at name first second = same b _ _ (ap (λ o. on_got (or_fault UnknownName at o) (under_key at first second)) (k.mapping name))
 
   find_stands : (at : List ℕ) (x y z u v w : Found) → Stands b x u → Stands b y v → Stands b z w → Stands b (find_found s at x y z) (find_found t at u v w)
@@ -345,7 +345,7 @@ module _ (s t : Scope) (k : KnowsMore s t) where
   plain_value_stands e = plain_stands (form_found s None e) (form_found t None e) (form_value_stands None e)
 
 -- knowing more never changes what was known
-pub knowing_more : KnownStays
+pub knowing_more : ValuesStay
 knowing_more a b k e = record {
   value = λ v known. ap plain (stands_got (form_found (scope_in a) None e) (form_found (scope_in b) None e) v (form_value_stands (scope_in a) (scope_in b) k None e) (plain_got _ v known));
   fault = λ kept h.

@@ -10,7 +10,7 @@ use Rattle.cf_tree.specs.declared.bound.Verdict.{Verdict}
 use Rattle.cf_tree.specs.declared.bound.Verdict.TheVariants as verdict
 use Rattle.cf_eval.specs.declared.fault.EvalWhy.TheVariants.{UnknownName, CircularCondition}
 use Rattle.cf_eval.specs.Outcome.{Outcome, Stop, fault, below, undecided, got, later, bad, on_got}
-use Rattle.cf_eval.specs.Scope.{Scope, held_at}
+use Rattle.cf_eval.specs.Scope.{Scope, decided_at}
 use Rattle.cf_eval.specs.ScopeOf.{among, verdict_of}
 use Rattle.cf_eval.specs.Functions.{or_fault}
 use Rattle.cf_eval.specs.Conditions.{test_found, condition_found, decided_by, is_one_of}
@@ -18,7 +18,7 @@ use Rattle.cf_eval.specs.Gives.{part_of, Stops}
 use Rattle.cf_eval.specs.declared.fault.Stop as broken
 use Rattle.cf_eval.specs.declared.fault.Stop.TheVariants as stop
 use Rattle.cf_eval.specs.declared.fault.EvalWhy.{EvalWhy}
-use Rattle.cf_eval.specs.Deciding.{left_of, open_of, Apart, IsRight, IsSettled, IsNoted, Extends}
+use Rattle.cf_eval.specs.Deciding.{left_of, open_of, Apart, AreNotedRight, IsDecided, IsNoted, Extends}
 use Rattle.cf_eval.proofs.Agreeing.{Agrees, Asks, asks_test, test_agrees}
 
 -- one more name that is under way
@@ -86,9 +86,9 @@ all_left [] = refl
 all_left (c ∷ cs) = ap suc (all_left cs)
 
 -- over what is noted, and over all
-module _ (s : Scope) (conds : List (List ℕ × Test)) (done : List (List ℕ × Verdict)) (right : IsRight s conds done) where
+module _ (s : Scope) (conds : List (List ℕ × Test)) (done : List (List ℕ × Verdict)) (right : AreNotedRight s conds done) where
   agree_at : (left : ℕ) (under : List (List ℕ)) (at name : List ℕ) → Apart under done → left_of under conds ≤ left → (o : Option Verdict) → value_at name done ≡ o
-      → Agrees (condition_found left s conds under) (held_at at name (option_map verdict_of o)) (condition_found left s conds under at name)
+      → Agrees (condition_found left s conds under) (decided_at at name (option_map verdict_of o)) (condition_found left s conds under at name)
   agree_at left under at name apart enough (Some verdict.True) e = right name _ e left under at apart enough
   agree_at left under at name apart enough (Some verdict.False) e = right name _ e left under at apart enough
   agree_at left under at name apart enough (Some verdict.Later) e = right name _ e left under at apart enough
@@ -114,7 +114,7 @@ module _ (s : Scope) (conds : List (List ℕ × Test)) where
   declared left under at name c out h = rw (out, h) refl
 
   -- one condition more is noted
-  noted_one : (done : List (List ℕ × Verdict)) (name : List ℕ) (v : Verdict) (c : Test) → IsRight s conds done → value_at name done ≡ None → value_at name conds ≡ Some c
+  noted_one : (done : List (List ℕ × Verdict)) (name : List ℕ) (v : Verdict) (c : Test) → AreNotedRight s conds done → value_at name done ≡ None → value_at name conds ≡ Some c
       → test_found (decided_by (among done) s) None c ≡ part_of (verdict_of v)
       → (left : ℕ) (under : List (List ℕ)) (at : List ℕ) → Apart under (put name v done) → left_of under conds ≤ left → condition_found left s conds under at name ≡ part_of (verdict_of v)
   noted_one done name v c right fresh is verdict left under at apart enough =
@@ -143,8 +143,8 @@ module _ (s : Scope) (conds : List (List ℕ × Test)) where
             declared l under at name c out is
             ∙ plain_part (condition_found l s conds (under ++ name ∷ [])) v _ _ verdict (looked_at s conds done right l (under ++ name ∷ []) c apart_now (omega (arith, less)))
 
-  pub right_put : (done : List (List ℕ × Verdict)) (name : List ℕ) (v : Verdict) (c : Test) → IsRight s conds done → value_at name done ≡ None → value_at name conds ≡ Some c
-      → test_found (decided_by (among done) s) None c ≡ part_of (verdict_of v) → IsRight s conds (put name v done)
+  pub right_put : (done : List (List ℕ × Verdict)) (name : List ℕ) (v : Verdict) (c : Test) → AreNotedRight s conds done → value_at name done ≡ None → value_at name conds ≡ Some c
+      → test_found (decided_by (among done) s) None c ≡ part_of (verdict_of v) → AreNotedRight s conds (put name v done)
   right_put done name v c right fresh is verdict m w h left under at apart enough = by_name (bytes_eq m name) refl where
     by_name : (b : Bool) → bytes_eq m name ≡ b → condition_found left s conds under at m ≡ part_of (verdict_of w)
     by_name true e =
@@ -183,11 +183,11 @@ module _ (s : Scope) (conds : List (List ℕ × Test)) where
   pub entered_fresh : (under : List (List ℕ)) (done : List (List ℕ × Verdict)) (name : List ℕ) → Apart (under ++ name ∷ []) done → value_at name done ≡ None
   entered_fresh under done name apart = apart name (entered name name under ∙ or_second (is_one_of name under) _ ((bytes_eq-Decides name name).1 refl))
 
-  pub right_nothing : IsRight s conds []
+  pub right_nothing : AreNotedRight s conds []
   right_nothing m v h = let no : ⊥ = cc in absurd no
 
 -- a condition that is asked for is not decided
-asked_at : (done : List (List ℕ × Verdict)) (at name : List ℕ) (o : Option Verdict) → value_at name done ≡ o → Asks (λ place m. value_at m done ≡ None) (held_at at name (option_map verdict_of o))
+asked_at : (done : List (List ℕ × Verdict)) (at name : List ℕ) (o : Option Verdict) → value_at name done ≡ o → Asks (λ place m. value_at m done ≡ None) (decided_at at name (option_map verdict_of o))
 asked_at done at name (Some verdict.True) e = tt
 asked_at done at name (Some verdict.False) e = tt
 asked_at done at name (Some verdict.Later) e = tt
@@ -234,7 +234,7 @@ open_less old new name v (c ∷ cs) ext fresh noted h =
 
 -- what the loop of `decide` keeps
 pub record IsDeciding (s : Scope) (conds : List (List ℕ × Test)) (under : List (List ℕ)) (old now : List (List ℕ × Verdict)) : Type 0 where
-  pub right : IsRight s conds now
+  pub right : AreNotedRight s conds now
   pub apart : Apart under now
   pub extends : Extends old now
 
@@ -257,7 +257,7 @@ stop_bad g x y why at e a = let b : Agrees g {A = Bool} (bad (fault why at)) y =
 pub stop_below : (g : List ℕ → List ℕ → Outcome Bool) (x y : Outcome Bool) (why : EvalWhy) (stack at : List ℕ) → x ≡ bad (below why stack at) → Agrees g x y → y ≡ bad (below why stack at)
 stop_below g x y why stack at e a = let b : Agrees g {A = Bool} (bad (below why stack at)) y = subst (λ z. Agrees g z y) e a in b
 
-pub noted_all : (s : Scope) (conds : List (List ℕ × Test)) (under : List (List ℕ)) (old done : List (List ℕ × Verdict)) (name : List ℕ) (v : Verdict) (c : Test) → IsSettled s conds (under ++ name ∷ []) old done c v → value_at name conds ≡ Some c → is_one_of name under ≡ false
+pub noted_all : (s : Scope) (conds : List (List ℕ × Test)) (under : List (List ℕ)) (old done : List (List ℕ × Verdict)) (name : List ℕ) (v : Verdict) (c : Test) → IsDecided s conds (under ++ name ∷ []) old done c v → value_at name conds ≡ Some c → is_one_of name under ≡ false
     → IsNoted s conds under old (put name v done) name v
 noted_all s conds under old done name v c settled is out =
     let fresh = entered_fresh s conds under done name settled.apart in

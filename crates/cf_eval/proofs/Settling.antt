@@ -18,8 +18,8 @@ use Rattle.cf_eval.specs.Outcome.{Outcome, got, later, bad, each}
 use Rattle.cf_eval.proofs.Each.{each_after, each_is}
 use Rattle.cf_eval.specs.Scope.{Scope}
 use Rattle.cf_eval.specs.ScopeOf.{verdict_of}
-use Rattle.cf_eval.specs.Conditions.{condition_found, conditions_found, verdict_found, noted}
-use Rattle.cf_eval.specs.Deciding.{Apart, IsRight, left_of, noted_of}
+use Rattle.cf_eval.specs.Conditions.{condition_found, conditions_found, verdict_found, noted_verdict}
+use Rattle.cf_eval.specs.Deciding.{Apart, AreNotedRight, left_of, noted_of}
 use Rattle.cf_eval.specs.Gives.{part_of, Stops}
 use Rattle.cf_eval.proofs.Noting.{all_left, right_nothing}
 
@@ -72,7 +72,7 @@ module _ {X Y : Type 0} where
       ap (λ n. ascends_from n ps) first ∙ from_names q.0 ps qs rest
 
 -- a verdict with its name, and a fault
-noted_part : (v : Verdict) → noted (part_of (verdict_of v)) ≡ got (verdict_of v)
+noted_part : (v : Verdict) → noted_verdict (part_of (verdict_of v)) ≡ got (verdict_of v)
 noted_part verdict.True = refl
 noted_part verdict.False = refl
 noted_part verdict.Later = refl
@@ -90,13 +90,13 @@ verdict_stops s conds c stop.NoMemory h = tt
 pub apart_none : (done : List (List ℕ × Verdict)) → Apart [] done
 apart_none done m h = absurd (true≢false (sym h))
 
-pub right_now : (s : Scope) (conds : List (List ℕ × Test)) (done : List (List ℕ × Verdict)) (name : List ℕ) (v : Verdict) → IsRight s conds done → value_at name done ≡ Some v
+pub right_now : (s : Scope) (conds : List (List ℕ × Test)) (done : List (List ℕ × Verdict)) (name : List ℕ) (v : Verdict) → AreNotedRight s conds done → value_at name done ≡ Some v
     → (at : List ℕ) → condition_found (length conds) s conds [] at name ≡ part_of (verdict_of v)
 right_now s conds done name v right h at = right name v h (length conds) [] at (apart_none done) (omega (arith, all_left conds))
 
 -- what the loop over the conditions keeps
 pub record IsSettling (s : Scope) (conds : List (List ℕ × Test)) (done verdicts : List (List ℕ × Verdict)) (rest : List (List ℕ × Test)) : Type 0 where
-  pub right : IsRight s conds done
+  pub right : AreNotedRight s conds done
   pub so_far : each (map (verdict_found s conds) conds) ≡ each_after false (map noted_of verdicts) (map (verdict_found s conds) rest)
   pub names : map (λ c. c.0) verdicts ++ map (λ c. c.0) rest ≡ map (λ c. c.0) conds
 

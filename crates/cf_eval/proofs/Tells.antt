@@ -1,7 +1,7 @@
 -- Why an evaluation stopped is the fault of its outcome.
 use Rattle.std.proofs.Common.{◌≡◌, ℕ, List, ap, refl, ◌∙◌, sym}
 use Rattle.cf_eval.specs.Outcome.{Outcome, bad, fault, below}
-use Rattle.cf_eval.specs.Env.{plain, Refuses, Tells}
+use Rattle.cf_eval.specs.Env.{plain, RefusesIn, IsStoppedBy}
 use Rattle.cf_eval.specs.Gives.{Stops}
 use Rattle.cf_eval.specs.declared.fault.EvalFault.{EvalFault}
 use Rattle.cf_eval.specs.declared.fault.EvalFault.TheVariants as answer
@@ -10,7 +10,7 @@ use Rattle.cf_eval.specs.declared.fault.EvalWhy.TheVariants.{UnknownName}
 use Rattle.cf_eval.specs.declared.fault.Stop as stopped
 use Rattle.cf_eval.specs.declared.fault.Stop.TheVariants as stop
 
-pub told : {A : Type 0} (stack : List ℕ) (o : Outcome A) (s : stopped.Stop) (e : EvalFault) → Stops o s → Tells stack s e → Refuses stack (plain o) e
+pub told : {A : Type 0} (stack : List ℕ) (o : Outcome A) (s : stopped.Stop) (e : EvalFault) → Stops o s → IsStoppedBy stack s e → RefusesIn stack (plain o) e
 told stack o (stop.Bad why at) (answer.Bad w path place) h t =
     (fault why at, (ap plain h, ap (λ v. (v, (stack, at))) (sym t.0) ∙ ap (λ p. (w, (p, at))) (sym t.1) ∙ ap (λ p. (w, (path, p))) (sym t.2)))
 told stack o (stop.Undecided name at) (answer.Bad w path place) h t =

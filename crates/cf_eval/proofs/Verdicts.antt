@@ -4,7 +4,7 @@ use Rattle.std.specs.List.{list_all, list_any}
 use Rattle.cf_eval.specs.Outcome.{Outcome, Stop, got, later, bad, on_got, both, each}
 use Rattle.cf_eval.specs.Texts.{Found}
 use Rattle.cf_eval.specs.Conditions.{all_found, any_found, equals_found}
-use Rattle.cf_eval.specs.Gives.{found_of, Stops}
+use Rattle.cf_eval.specs.Gives.{got_found, Stops}
 use Rattle.cf_eval.specs.declared.fault.Stop as broken
 use Rattle.cf_eval.specs.declared.fault.Stop.TheVariants as stop
 use Rattle.cf_eval.specs.declared.got.Got.{Got}
@@ -73,7 +73,7 @@ all_is xs = ap (λ x. on_got x (λ bs. got (list_all (λ b. b) bs))) (each_is xs
 pub any_is : (xs : List (Outcome Bool)) → any_found xs ≡ any_after false false xs
 any_is xs = ap (λ x. on_got x (λ bs. got (list_any (λ b. b) bs))) (each_is xs) ∙ any_from false [] xs
 
-pub equals_stop : (at : List ℕ) (g : Got) (y : Found) (s : broken.Stop) → Stops y s → Stops (equals_found at (found_of g) y) s
+pub equals_stop : (at : List ℕ) (g : Got) (y : Found) (s : broken.Stop) → Stops y s → Stops (equals_found at (got_found g) y) s
 equals_stop at g y (stop.Bad why place) h = rw h (both_stops g _ _)
 equals_stop at g y (stop.Below why stack place) h = rw h (both_stops g _ _)
 equals_stop at g y (stop.Undecided name place) h = rw h (both_stops g _ _)

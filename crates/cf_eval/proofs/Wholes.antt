@@ -8,7 +8,7 @@ use Rattle.std.specs.Int.Signed.{mag}
 use Rattle.std.specs.Int.{w64}
 use Rattle.std.specs.Str.{bytes_eq}
 use Rattle.std.specs.Str.Parse.{ParsesSigned, signed_digits_value}
-use Rattle.cf_eval.specs.Texts.{is_whole, whole_of}
+use Rattle.cf_eval.specs.Texts.{is_whole, whole_number_of}
 
 small : (n : ℤ) → is_whole n ≡ true → mag n < 2 ^ 63
 small (pos n) h = ltb-true n (2 ^ 63) h
@@ -23,5 +23,5 @@ by_tests {E} t e v true true h g p =
     let read = parse-signed_decimal w64 v t r (record { sfits = low }) low (sym ((bytes_eq-Decides (signed_decimal v) t).0 g)) p in
     cc
 
-pub whole_refused : {E : Type 0} (t : List ℕ) (e : E) → ParsesSigned w64 10 t (Err e) → None ≡ whole_of t
+pub whole_refused : {E : Type 0} (t : List ℕ) (e : E) → ParsesSigned w64 10 t (Err e) → None ≡ whole_number_of t
 whole_refused t e p = by_tests t e (signed_digits_value 10 t) _ _ refl refl p

@@ -15,9 +15,9 @@ use Rattle.std.specs.Fmt.{signed_decimal}
 use Rattle.cf_eval.specs.declared.fault.EvalWhy.TheVariants.{UnknownName, CircularCondition}
 
 -- a member before the others, where all of them can be compared
-abbrev pub with_first : Option Data → Option Items → Option Items
-with_first (Some d) ds = option_map (item d) ds
-with_first None ds = None
+abbrev pub item_before : Option Data → Option Items → Option Items
+item_before (Some d) ds = option_map (item d) ds
+item_before None ds = None
 
 -- a value with each number and each truth value in it as a text; no value with a map in it is compared
 abbrev mutual
@@ -30,7 +30,7 @@ abbrev mutual
 
   pub compared_items : Items → Option Items
   compared_items no_items = Some no_items
-  compared_items (item d ds) = with_first (compared d) (compared_items ds)
+  compared_items (item d ds) = item_before (compared d) (compared_items ds)
 
 -- whether two values are equal once both are compared so
 abbrev pub equal_if : Option Data → Option Data → Option Bool
@@ -78,21 +78,23 @@ is_one_of name ns = list_any (λ n. bytes_eq n name) ns
 abbrev pub decided_by : (List ℕ → List ℕ → Outcome Bool) → Scope → Scope
 decided_by f s = record s { decided = f }
 
--- What a condition comes to, asked for at a place while those of `under` are being decided, in the order in which they were asked for: it needs itself where it is one of these. `left` is how many conditions there are beside them.
+-- What a condition comes to, asked for at a place while those of `under` are being decided, in the order in which they were asked for: it
+-- needs itself where it is one of these. `left` is how many conditions there are beside them.
 abbrev pub condition_found : ℕ → Scope → List (List ℕ × Test) → List (List ℕ) → List ℕ → List ℕ → Outcome Bool
 condition_found zero s conds under at name = bad (fault (if is_one_of name under then CircularCondition else UnknownName) at)
 condition_found (suc left) s conds under at name =
     if is_one_of name under then bad (fault CircularCondition at)
-    else on_got (or_fault UnknownName at (value_at name conds)) (test_found (decided_by (condition_found left s conds (under ++ name ∷ [])) s) None)
+    else on_got (or_fault UnknownName at (value_at name conds))
+    (test_found (decided_by (condition_found left s conds (under ++ name ∷ [])) s) None)
 
 -- a condition that is Later is noted as None
-abbrev pub noted : Outcome Bool → Outcome (Option Bool)
-noted (got b) = got (Some b)
-noted later = got None
-noted (bad w) = bad w
+abbrev pub noted_verdict : Outcome Bool → Outcome (Option Bool)
+noted_verdict (got b) = got (Some b)
+noted_verdict later = got None
+noted_verdict (bad w) = bad w
 
 abbrev pub verdict_found : Scope → List (List ℕ × Test) → List ℕ × Test → Outcome (List ℕ × Option Bool)
-verdict_found s conds c = on_got (noted (condition_found (length conds) s conds [] (place_of_test c.1) c.0)) (λ v. got (c.0, v))
+verdict_found s conds c = on_got (noted_verdict (condition_found (length conds) s conds [] (place_of_test c.1) c.0)) (λ v. got (c.0, v))
 
 -- all conditions, decided in the order of their names
 abbrev pub conditions_found : Scope → List (List ℕ × Test) → Outcome (List (List ℕ × Option Bool))

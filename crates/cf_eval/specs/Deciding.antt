@@ -1,4 +1,4 @@
--- How conditions are decided, each one once: what is noted of those that are decided, and what stays to be done.
+-- How conditions are decided, each one once: what is noted of those that are decided, and what stays to be done (this project's own).
 use Rattle.std.specs.Prelude.{◌≡◌, ℕ, suc, ◌≤◌, Bool, length, map, true, List, [], ◌∷◌, ◌++◌, Option, Some, None, IsSome, is_some, Result, Ok, Err, option_map, if◌then◌else◌}
 use Rattle.cf_eval.specs.declared.decide.Ground as over
 use Rattle.cf_tree.specs.Keys.{value_at}
@@ -21,9 +21,10 @@ abbrev pub Apart : List (List ℕ) → List (List ℕ × Verdict) → Type 0
 Apart under done = (m : List ℕ) → is_one_of m under ≡ true → value_at m done ≡ None
 
 -- what is noted of a condition is what it comes to, whatever else is under way
-abbrev pub IsRight : Scope → List (List ℕ × Test) → List (List ℕ × Verdict) → Type 0
-IsRight s conds done =
-    (name : List ℕ) (v : Verdict) → value_at name done ≡ Some v → (left : ℕ) (under : List (List ℕ)) (at : List ℕ) → Apart under done → left_of under conds ≤ left
+abbrev pub AreNotedRight : Scope → List (List ℕ × Test) → List (List ℕ × Verdict) → Type 0
+AreNotedRight s conds done =
+    (name : List ℕ) (v : Verdict) → value_at name done ≡ Some v → (left : ℕ) (under : List (List ℕ)) (at : List ℕ) → Apart under done
+    → left_of under conds ≤ left
     → condition_found left s conds under at name ≡ part_of (verdict_of v)
 
 -- what was noted stays
@@ -31,15 +32,17 @@ abbrev pub Extends : List (List ℕ × Verdict) → List (List ℕ × Verdict) �
 Extends old new = (m : List ℕ) (v : Verdict) → value_at m old ≡ Some v → value_at m new ≡ Some v
 
 -- a condition was looked at: it comes to this over those that are decided now
-pub record IsSettled (s : Scope) (conds : List (List ℕ × Test)) (under : List (List ℕ)) (old new : List (List ℕ × Verdict)) (c : Test) (v : Verdict) : Type 0 where
-  pub right : IsRight s conds new
+pub record IsDecided (s : Scope) (conds : List (List ℕ × Test)) (under : List (List ℕ)) (old new : List (List ℕ × Verdict)) (c : Test)
+    (v : Verdict) : Type 0 where
+  pub right : AreNotedRight s conds new
   pub extends : Extends old new
   pub apart : Apart under new
   pub verdict : test_found (decided_by (among new) s) None c ≡ part_of (verdict_of v)
 
 -- a condition was decided under its name
-pub record IsNoted (s : Scope) (conds : List (List ℕ × Test)) (under : List (List ℕ)) (old new : List (List ℕ × Verdict)) (name : List ℕ) (v : Verdict) : Type 0 where
-  pub right : IsRight s conds new
+pub record IsNoted (s : Scope) (conds : List (List ℕ × Test)) (under : List (List ℕ)) (old new : List (List ℕ × Verdict)) (name : List ℕ)
+    (v : Verdict) : Type 0 where
+  pub right : AreNotedRight s conds new
   pub extends : Extends old new
   pub apart : Apart under new
   pub noted : value_at name new ≡ Some v
@@ -61,18 +64,22 @@ open_of done [] = 0
 open_of done (c ∷ cs) = if is_some (value_at c.0 done) then open_of done cs else suc (open_of done cs)
 
 -- what `decide` answers: a verdict, or the fault that the condition has while those of `under` are under way
-abbrev pub Settles : over.Ground → ℕ → List (List ℕ) → List (List ℕ) → List (List ℕ × Verdict) → List (List ℕ × Verdict) → Test → Result Verdict broken.Stop → Type 0
-Settles g left under still old new c (Ok v) = IsSettled (ground_of g) g.conds.now under old new c v × (still ≡ under)
-Settles g left under still old new c (Err w) = Stops (test_found (decided_by (condition_found left (ground_of g) g.conds.now under) (ground_of g)) None c) w
+abbrev pub DecidesAs : over.Ground → ℕ → List (List ℕ) → List (List ℕ) → List (List ℕ × Verdict) → List (List ℕ × Verdict) → Test
+    → Result Verdict broken.Stop → Type 0
+DecidesAs g left under still old new c (Ok v) = IsDecided (ground_of g) g.conds.now under old new c v × (still ≡ under)
+DecidesAs g left under still old new c (Err w) =
+    Stops (test_found (decided_by (condition_found left (ground_of g) g.conds.now under) (ground_of g)) None c) w
 
 -- what `enter` and `descend` answer
-abbrev pub Notes : over.Ground → List (List ℕ) → List (List ℕ) → List (List ℕ × Verdict) → List (List ℕ × Verdict) → List ℕ → (broken.Stop → Type 0) → Result Verdict broken.Stop → Type 0
+abbrev pub Notes : over.Ground → List (List ℕ) → List (List ℕ) → List (List ℕ × Verdict) → List (List ℕ × Verdict) → List ℕ
+    → (broken.Stop → Type 0) → Result Verdict broken.Stop → Type 0
 Notes g under still old new name stops (Ok v) = IsNoted (ground_of g) g.conds.now under old new name v × (still ≡ under)
 Notes g under still old new name stops (Err w) = stops w
 
 -- what `settle` answers of a condition that nothing is under way for
 abbrev pub Answers : Scope → List (List ℕ × Test) → List ℕ → List (List ℕ × Verdict) → Result Verdict broken.Stop → Type 0
-Answers s conds name new (Ok v) = IsRight s conds new × ((at : List ℕ) → condition_found (length conds) s conds [] at name ≡ part_of (verdict_of v))
+Answers s conds name new (Ok v) =
+    AreNotedRight s conds new × ((at : List ℕ) → condition_found (length conds) s conds [] at name ≡ part_of (verdict_of v))
 Answers s conds name new (Err w) = (at : List ℕ) → Stops (condition_found (length conds) s conds [] at name) w
 
 -- a condition with its verdict, None being Later

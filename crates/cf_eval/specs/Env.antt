@@ -1,4 +1,4 @@
--- What the public calls are to answer.
+-- What the public calls are to answer (this project's own).
 use Rattle.std.specs.Prelude.{◌≡◌, ℕ, List, Bool, Option, None, Result, Ok, Err, map, option_map, ⊤}
 use Rattle.cf_tree.specs.Datum.{Data}
 use Rattle.cf_tree.specs.Forms.{Form, fields_of}
@@ -17,7 +17,7 @@ use Rattle.cf_eval.specs.Scope.{Scope, open_to, closed_to}
 use Rattle.cf_eval.specs.Texts.{Found}
 use Rattle.cf_eval.specs.Value.{form_found, fields_found, pairs_found}
 use Rattle.cf_eval.specs.Conditions.{conditions_found}
-use Rattle.cf_eval.specs.Gives.{found_of, part_of}
+use Rattle.cf_eval.specs.Gives.{got_found, part_of}
 use Rattle.cf_eval.specs.declared.fault.Stop as stopped
 use Rattle.cf_eval.specs.declared.fault.Stop.TheVariants as stop
 use Rattle.cf_eval.specs.ScopeOf.{setting_of, verdict_of, among}
@@ -75,29 +75,29 @@ stopped_at stack (undecided name at) = (UnknownName, (stack, at))
 stopped_at stack (below why path at) = (why, (path, at))
 
 -- the fault of the stack at this path, or of one nested in it
-abbrev pub Refuses : {A : Type 0} → List ℕ → Outcome A → EvalFault → Type 0
-Refuses stack o (answer.Bad why path at) = (s : Stop) × ((o ≡ bad s) × (stopped_at stack s ≡ (why, (path, at))))
-Refuses stack o answer.NoMemory = ⊤
+abbrev pub RefusesIn : {A : Type 0} → List ℕ → Outcome A → EvalFault → Type 0
+RefusesIn stack o (answer.Bad why path at) = (s : Stop) × ((o ≡ bad s) × (stopped_at stack s ≡ (why, (path, at))))
+RefusesIn stack o answer.NoMemory = ⊤
 
 -- `eval` answers what the definition gives
 abbrev pub Evaluates : List ℕ → Found → Result Got EvalFault → Type 0
-Evaluates stack f (Ok g) = f ≡ found_of g
-Evaluates stack f (Err e) = Refuses stack f e
+Evaluates stack f (Ok g) = f ≡ got_found g
+Evaluates stack f (Err e) = RefusesIn stack f e
 
 -- `eval_props` does, where None is Later
 abbrev pub EvaluatesAll : List ℕ → Outcome (List (List ℕ × Data)) → Result (Option (List (List ℕ × Data))) EvalFault → Type 0
 EvaluatesAll stack o (Ok p) = o ≡ part_of p
-EvaluatesAll stack o (Err e) = Refuses stack o e
+EvaluatesAll stack o (Err e) = RefusesIn stack o e
 
 -- why an evaluation stopped, as a fault of a nested stack
-abbrev pub Tells : List ℕ → stopped.Stop → EvalFault → Type 0
-Tells stack (stop.Bad why at) (answer.Bad w path place) = (w ≡ why) × (path ≡ stack) × (place ≡ at)
-Tells stack (stop.Undecided name at) (answer.Bad w path place) = (w ≡ UnknownName) × (path ≡ stack) × (place ≡ at)
-Tells stack (stop.Below why from at) (answer.Bad w path place) = (w ≡ why) × (path ≡ from) × (place ≡ at)
-Tells stack stop.NoMemory (answer.Bad w path place) = ⊥
-Tells stack s answer.NoMemory = ⊤
+abbrev pub IsStoppedBy : List ℕ → stopped.Stop → EvalFault → Type 0
+IsStoppedBy stack (stop.Bad why at) (answer.Bad w path place) = (w ≡ why) × (path ≡ stack) × (place ≡ at)
+IsStoppedBy stack (stop.Undecided name at) (answer.Bad w path place) = (w ≡ UnknownName) × (path ≡ stack) × (place ≡ at)
+IsStoppedBy stack (stop.Below why from at) (answer.Bad w path place) = (w ≡ why) × (path ≡ from) × (place ≡ at)
+IsStoppedBy stack stop.NoMemory (answer.Bad w path place) = ⊥
+IsStoppedBy stack s answer.NoMemory = ⊤
 
 -- `conditions` does
 abbrev pub Decides : List ℕ → Outcome (List (List ℕ × Option Bool)) → Result (List (List ℕ × Verdict)) EvalFault → Type 0
 Decides stack o (Ok conds) = o ≡ got (map (λ c. (c.0, verdict_of c.1)) conds)
-Decides stack o (Err e) = Refuses stack o e
+Decides stack o (Err e) = RefusesIn stack o e

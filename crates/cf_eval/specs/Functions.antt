@@ -68,14 +68,15 @@ output_found at (output.Made value) = on_got (or_later value) text_value
 output_found at (output.Broken why stack place) = bad (below why stack place)
 
 -- an attribute of a resource
-abbrev pub attribute_of : List ℕ → Sight → List ℕ → Found
-attribute_of at sight.NotMade name = bad (fault NotMade at)
-attribute_of at (sight.Made physical attrs) name = on_got (or_later attrs) (λ all. on_got (or_fault UnknownAttribute at (value_at name all)) known)
-attribute_of at (sight.Nested id outputs) name = on_got (or_fault UnknownAttribute at (value_at name outputs)) (output_found at)
+abbrev pub attribute_found : List ℕ → Sight → List ℕ → Found
+attribute_found at sight.NotMade name = bad (fault NotMade at)
+attribute_found at (sight.Made physical attrs) name =
+    on_got (or_later attrs) (λ all. on_got (or_fault UnknownAttribute at (value_at name all)) known)
+attribute_found at (sight.Nested id outputs) name = on_got (or_fault UnknownAttribute at (value_at name outputs)) (output_found at)
 
 -- where there is such a resource; none may be referred to in a condition
 abbrev pub attribute_in : Beyond → List ℕ → List ℕ → List ℕ → Found
-attribute_in (open_to seen imports) at id name = on_got (or_fault UnknownName at (value_at id seen)) (λ s. attribute_of at s name)
+attribute_in (open_to seen imports) at id name = on_got (or_fault UnknownName at (value_at id seen)) (λ s. attribute_found at s name)
 attribute_in (closed_to names) at id name = bad (fault WrongKind at)
 
 -- `Fn::GetAtt`: the attribute of a resource
@@ -147,8 +148,8 @@ under_second at second values = on_got (or_fault UnknownMapKey at (value_at seco
 abbrev pub under_key : List ℕ → List ℕ → List ℕ → List (List ℕ × List (List ℕ × Data)) → Found
 under_key at first second keys = on_got (or_fault UnknownMapKey at (value_at first keys)) (under_second at second)
 
-abbrev pub mapped : Scope → List ℕ → List ℕ → List ℕ → List ℕ → Found
-mapped s at name first second = on_got (or_fault UnknownName at (s.mapping name)) (under_key at first second)
+abbrev pub value_in_mapping : Scope → List ℕ → List ℕ → List ℕ → List ℕ → Found
+value_in_mapping s at name first second = on_got (or_fault UnknownName at (s.mapping name)) (under_key at first second)
 
 abbrev pub paired : Option Data → Option Data → Outcome (Option Data × Option Data)
 paired a b = got (a, b)
@@ -158,7 +159,7 @@ find_found s at name first second =
     both (both name first paired) second (λ p l.
     on_got (wanted_text at p.0) (λ name.
     on_got (wanted_text at p.1) (λ first.
-    on_got (wanted_text at l) (λ second. mapped s at name first second))))
+    on_got (wanted_text at l) (λ second. value_in_mapping s at name first second))))
 
 -- `Fn::If`: the taken branch alone
 abbrev pub if_found : Outcome Bool → Found → Found → Found

@@ -1,4 +1,4 @@
--- What a call answers where the definition gives an outcome; want of memory may come in its place.
+-- What a call answers where the definition gives an outcome; want of memory may come in its place (this project's own).
 use Rattle.std.specs.Prelude.{◌≡◌, ℕ, Bool, true, false, ◌||◌, List, [], ◌∷◌, Option, Some, None, Result, Ok, Err, Vec, map, ⊤}
 use Rattle.std.specs.declared.alloc.Global.{Global}
 use Rattle.std.specs.Borrow.{Bor}
@@ -15,10 +15,10 @@ use Rattle.cf_eval.specs.ScopeOf.{verdict_of}
 use Rattle.cf_tree.specs.declared.bound.Verdict.{Verdict}
 
 -- what an answer says
-abbrev pub found_of : Got → Found
-found_of (it.Value v) = known (datum_of v)
-found_of it.NoValue = got None
-found_of it.Later = later
+abbrev pub got_found : Got → Found
+got_found (it.Value v) = known (datum_of v)
+got_found it.NoValue = got None
+got_found it.Later = later
 
 -- the evaluation stops so
 abbrev pub Stops : {A : Type 0} → Outcome A → broken.Stop → Type 0
@@ -28,7 +28,7 @@ Stops o (stop.Below why stack at) = o ≡ bad (below why stack at)
 Stops o stop.NoMemory = ⊤
 
 abbrev pub Gives : Found → Result Got broken.Stop → Type 0
-Gives f (Ok g) = f ≡ found_of g
+Gives f (Ok g) = f ≡ got_found g
 Gives f (Err s) = Stops f s
 
 -- the same of a part that is wanted as something else, None being Later
@@ -62,38 +62,38 @@ GivesTexts o (Err s) = Stops o s
 
 -- the outcomes of a list's members, up to the first fault
 abbrev pub GivesAll : List Found → Result (Vec Got Global) broken.Stop → Type 0
-GivesAll fs (Ok gots) = fs ≡ map found_of gots.items
+GivesAll fs (Ok gots) = fs ≡ map got_found gots.items
 GivesAll fs (Err s) = Stops (each fs) s
 
 -- and of an object's members, under their names
-abbrev pub binding_of : List ℕ × Got → List ℕ × Found
-binding_of b = (b.0, found_of b.1)
+abbrev pub member_found : List ℕ × Got → List ℕ × Found
+member_found b = (b.0, got_found b.1)
 
 abbrev pub GivesBindings : List (List ℕ × Found) → Result (Vec (List ℕ × Got) Global) broken.Stop → Type 0
-GivesBindings fs (Ok bound) = fs ≡ map binding_of bound.items
+GivesBindings fs (Ok bound) = fs ≡ map member_found bound.items
 GivesBindings fs (Err s) = Stops (each (outcomes fs)) s
 
 -- what is known of the outcomes that the code holds, and whether one is Later
-abbrev pub value_in : Got → Option Data
-value_in (it.Value v) = Some (datum_of v)
-value_in it.NoValue = None
-value_in it.Later = None
+abbrev pub got_value : Got → Option Data
+got_value (it.Value v) = Some (datum_of v)
+got_value it.NoValue = None
+got_value it.Later = None
 
-abbrev pub is_late : Got → Bool
-is_late (it.Value v) = false
-is_late it.NoValue = false
-is_late it.Later = true
+abbrev pub got_later : Got → Bool
+got_later (it.Value v) = false
+got_later it.NoValue = false
+got_later it.Later = true
 
 abbrev pub any_late : List Got → Bool
 any_late [] = false
-any_late (g ∷ gs) = is_late g || any_late gs
+any_late (g ∷ gs) = got_later g || any_late gs
 
 abbrev pub late_binding : List (List ℕ × Got) → Bool
 late_binding [] = false
-late_binding (b ∷ bs) = is_late b.1 || late_binding bs
+late_binding (b ∷ bs) = got_later b.1 || late_binding bs
 
 abbrev pub named_value : List ℕ × Got → List ℕ × Option Data
-named_value b = (b.0, value_in b.1)
+named_value b = (b.0, got_value b.1)
 
 -- what a condition comes to
 abbrev pub GivesVerdict : Outcome Bool → Result Verdict broken.Stop → Type 0

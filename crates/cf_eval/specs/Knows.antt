@@ -16,15 +16,15 @@ use Rattle.cf_eval.specs.Env.{scope_in, value_of}
 use Rattle.cf_eval.specs.declared.env.Env as given
 
 -- what was known stays so; what was not may be anything
-abbrev pub Keeps : {A : Type 0} → Option A → Option A → Type 0
-Keeps (Some a) o = o ≡ Some a
-Keeps None o = ⊤
+abbrev pub StaysKnown : {A : Type 0} → Option A → Option A → Type 0
+StaysKnown (Some a) o = o ≡ Some a
+StaysKnown None o = ⊤
 
 -- the same name is there, and what it was bound to stays so
 abbrev pub KeepsSetting : Option (Option Data) → Option (Option Data) → Type 0
 KeepsSetting None o = o ≡ None
 KeepsSetting (Some v) None = ⊥
-KeepsSetting (Some v) (Some w) = Keeps v w
+KeepsSetting (Some v) (Some w) = StaysKnown v w
 
 -- what is known of an output stays; one that is not known yet or at fault may become anything, since an import's name that is
 -- Later is a fault that goes
@@ -36,15 +36,17 @@ KeepsOutput (Some output.NotMade) o = o ≡ Some output.NotMade
 KeepsOutput None o = o ≡ None
 
 abbrev pub KeepsSight : Option Sight → Option Sight → Type 0
-KeepsSight (Some (sight.Made p a)) (Some (sight.Made q b)) = Keeps p q × Keeps a b
+KeepsSight (Some (sight.Made p a)) (Some (sight.Made q b)) = StaysKnown p q × StaysKnown a b
 KeepsSight (Some (sight.Made p a)) o = ⊥
-KeepsSight (Some (sight.Nested i outs)) (Some (sight.Nested j others)) = (j ≡ i) × ((name : List ℕ) → KeepsOutput (value_at name outs) (value_at name others))
+KeepsSight (Some (sight.Nested i outs)) (Some (sight.Nested j others)) =
+    (j ≡ i) × ((name : List ℕ) → KeepsOutput (value_at name outs) (value_at name others))
 KeepsSight (Some (sight.Nested i outs)) o = ⊥
 KeepsSight (Some sight.NotMade) o = o ≡ Some sight.NotMade
 KeepsSight None o = o ≡ None
 
 abbrev pub KeepsBeyond : Beyond → Beyond → Type 0
-KeepsBeyond (open_to seen imports) (open_to others more) = ((id : List ℕ) → KeepsSight (value_at id seen) (value_at id others)) × (more ≡ imports)
+KeepsBeyond (open_to seen imports) (open_to others more) =
+    ((id : List ℕ) → KeepsSight (value_at id seen) (value_at id others)) × (more ≡ imports)
 KeepsBeyond (open_to seen imports) b = ⊥
 KeepsBeyond (closed_to names) b = b ≡ closed_to names
 
@@ -129,7 +131,7 @@ pub record Stays (x y : Found) (kept : Type 0) : Type 0 where
 
 -- knowing more never changes what was known; a fault stays one where those of conditions and outputs do, and no import's name
 -- is Later
-abbrev pub KnownStays : Type 0
-KnownStays =
+abbrev pub ValuesStay : Type 0
+ValuesStay =
     (a b : given.Env) → KnowsMore (scope_in a) (scope_in b) → (e : Form)
     → Stays (value_of a e) (value_of b e) (KeepsFaults (scope_in a) (scope_in b) × IsTrue (names_imports (scope_in a) e))

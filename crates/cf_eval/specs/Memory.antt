@@ -1,4 +1,4 @@
--- Want of memory.
+-- Want of memory (this project's own).
 use Rattle.cf_eval.specs.declared.fault.Stop.{Stop}
 use Rattle.cf_eval.specs.declared.fault.Stop.TheVariants as stop
 

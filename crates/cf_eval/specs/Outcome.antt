@@ -1,9 +1,11 @@
--- What the evaluation of a part gives, and how parts come together: they are evaluated from first to last, the first fault is the answer, and else one part that is Later makes the whole Later (this project's own order).
+-- What the evaluation of a part gives, and how parts come together: they are evaluated from first to last, the first fault is the answer,
+-- and else one part that is Later makes the whole Later (this project's own order).
 use Rattle.std.specs.Prelude.{ℕ, List, [], ◌∷◌, Option, Some, None}
 use Rattle.cf_eval.specs.declared.fault.EvalWhy.{EvalWhy}
 use Rattle.cf_eval.specs.declared.fault.EvalWhy.TheVariants.{WrongKind}
 
--- why an evaluation stops and at which place; or which condition is asked for at which place, where it is not decided
+-- why an evaluation stops and at which place; or which condition is asked for at which place, where it is not decided; or why, in
+-- which nested stack and at which place there, where an output of it is at fault
 pub data Stop : Type 0 where
   fault : EvalWhy → List ℕ → Stop
   undecided : List ℕ → List ℕ → Stop

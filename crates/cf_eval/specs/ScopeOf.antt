@@ -1,4 +1,4 @@
--- What the evaluator's look-ups stand for.
+-- What the evaluator's look-ups stand for (this project's own).
 use Rattle.std.specs.Prelude.{ℕ, List, Bool, true, false, Option, Some, None, option_map}
 use Rattle.cf_tree.specs.Keys.{value_at}
 use Rattle.cf_tree.specs.Datum.{Data}
@@ -11,7 +11,7 @@ use Rattle.cf_tree.specs.declared.bound.Setting.TheVariants as setting
 use Rattle.cf_tree.specs.declared.bound.Verdict.{Verdict}
 use Rattle.cf_tree.specs.declared.bound.Verdict.TheVariants as verdict
 use Rattle.cf_eval.specs.Outcome.{Outcome}
-use Rattle.cf_eval.specs.Scope.{Scope, Beyond, open_to, closed_to, held_at}
+use Rattle.cf_eval.specs.Scope.{Scope, Beyond, open_to, closed_to, decided_at}
 
 -- what a parameter is bound to, where None is Later
 abbrev pub setting_of : Setting → Option Data
@@ -26,7 +26,7 @@ verdict_of verdict.Later = None
 
 -- the conditions among those that are decided; one that is not is asked for
 abbrev pub among : List (List ℕ × Verdict) → List ℕ → List ℕ → Outcome Bool
-among conds at name = held_at at name (option_map verdict_of (value_at name conds))
+among conds at name = decided_at at name (option_map verdict_of (value_at name conds))
 
 abbrev pub beyond_of : held_beyond.Beyond → Beyond
 beyond_of (around.Open seen imports) = open_to seen.now imports.now

@@ -1,4 +1,5 @@
--- Values as the functions want them: as texts, as lists, as an index.
+-- Values as the functions want them: as texts, as lists, as an index (template reference, intrinsic functions; the limit on values is
+-- this project's own).
 use Rattle.std.specs.Prelude.{ℕ, ◌^◌, ℤ, pos, negsuc, Bool, ◌&&◌, List, [], ◌∷◌, Option, Some, None, if◌then◌else◌, codes, nat_lt}
 use Rattle.std.specs.Fmt.{signed_decimal}
 use Rattle.std.specs.Str.{bytes_eq}
@@ -63,15 +64,15 @@ is_whole (pos n) = nat_lt n (2 ^ 63)
 is_whole (negsuc n) = nat_lt n (2 ^ 63)
 
 -- the 64-bit number whose decimal text this is, without a plus and without leading zeros (this project's own form of an index)
-abbrev pub whole_of : List ℕ → Option ℤ
-whole_of t =
+abbrev pub whole_number_of : List ℕ → Option ℤ
+whole_number_of t =
     let n = signed_digits_value 10 t in
     if is_whole n && bytes_eq (signed_decimal n) t then Some n else None
 
 -- the number that an index is
 abbrev pub index_of : Data → Option ℤ
 index_of (whole n) = Some n
-index_of (text t) = whole_of t
+index_of (text t) = whole_number_of t
 index_of (truth b) = None
 index_of (list ds) = None
 index_of (dict ms) = None

@@ -1,4 +1,5 @@
--- What an expression comes to: one equation for each form, over the values of its parts.
+-- What an expression comes to: one equation for each form, over the values of its parts (template reference, intrinsic functions; the
+-- order of parts is this project's own).
 use Rattle.std.specs.Prelude.{ℕ, List, [], ◌∷◌, Option, Some, None, fold, filter_map, map, unwrap_or}
 use Rattle.cf_tree.specs.Datum.{Data, list, dict, items_of, members_of}
 use Rattle.cf_tree.specs.Keys.{put}
@@ -50,7 +51,8 @@ abbrev mutual
   node_found s around at (select i e) = select_found at (form_found s (Some at) i) (form_found s (Some at) e)
   node_found s around at (split d e) = split_found at d (form_found s (Some at) e)
   node_found s around at (choice name y n) = if_found (s.decided at name) (form_found s (Some at) y) (form_found s (Some at) n)
-  node_found s around at (find_in_map m k l) = find_found s at (form_found s (Some at) m) (form_found s (Some at) k) (form_found s (Some at) l)
+  node_found s around at (find_in_map m k l) =
+      find_found s at (form_found s (Some at) m) (form_found s (Some at) k) (form_found s (Some at) l)
   node_found s around at (import_value e) = import_found s at (form_found s (Some at) e)
   node_found s around at (base64 e) = base64_found at (form_found s (Some at) e)
 

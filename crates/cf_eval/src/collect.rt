@@ -1,7 +1,7 @@
 //! Lists and objects, put together from their members.
 ghost use Rattle.std.specs.Prelude.{◌≡◌, [], IfOk, map, fold, filter_map};
 ghost use Rattle.cf_eval.specs.Value.{list_found, dict_found, put_known};
-ghost use Rattle.cf_eval.specs.Gives.{found_of, binding_of, Gives, any_late, late_binding, value_in, named_value};
+ghost use Rattle.cf_eval.specs.Gives.{got_found, member_found, Gives, any_late, late_binding, got_value, named_value};
 
 use crate::fault::Stop;
 use crate::got::Got;
@@ -35,7 +35,7 @@ pub(crate) fn late_binding(bound: &[(Txt, Got)]) -> bool
 /// A list closes up where a member is `AWS::NoValue`.
 #[tactic(auto, using(crate::proofs::Gots::each_of_gots))]
 pub(crate) fn list_of(alloc: Global, gots: Vec<Got>) -> Result<Got, Stop>
-    ensures { Gives (list_found (map found_of gots.items)) result }
+    ensures { Gives (list_found (map got_found gots.items)) result }
 {
     if any_late(gots.as_slice()) {
         return Ok(Got::Later);
@@ -45,7 +45,7 @@ pub(crate) fn list_of(alloc: Global, gots: Vec<Got>) -> Result<Got, Stop>
 }
 
 fn known_values(alloc: Global, gots: Vec<Got>) -> Result<Vals, AllocError>
-    ensures { IfOk result (λ v. v ≡ filter_map (λ o. o) (map value_in gots.items)) }
+    ensures { IfOk result (λ v. v ≡ filter_map (λ o. o) (map got_value gots.items)) }
 {
     let mut values = Vals::new(alloc);
     for got in gots {
@@ -59,7 +59,7 @@ fn known_values(alloc: Global, gots: Vec<Got>) -> Result<Vals, AllocError>
 /// A member is left out where it is `AWS::NoValue`.
 #[tactic(auto, using(crate::proofs::Gots::each_of_bindings))]
 pub(crate) fn dict_of(alloc: Global, bound: Vec<(Txt, Got)>) -> Result<Got, Stop>
-    ensures { Gives (dict_found (map binding_of bound.items)) result }
+    ensures { Gives (dict_found (map member_found bound.items)) result }
 {
     if late_binding(bound.as_slice()) {
         return Ok(Got::Later);

@@ -2,7 +2,7 @@
 ghost use Rattle.std.specs.Prelude.{◌≡◌, Some, IfOk, map};
 ghost use Rattle.cf_tree.specs.Keys.{value_at};
 ghost use Rattle.cf_eval.specs.Conditions.{conditions_found};
-ghost use Rattle.cf_eval.specs.Deciding.{Answers, IsRight, GivesConds, ground_of};
+ghost use Rattle.cf_eval.specs.Deciding.{Answers, AreNotedRight, GivesConds, ground_of};
 ghost use Rattle.cf_eval.specs.Env.{Decides, conditions_of};
 
 use crate::decide::{Ground, descend};
@@ -83,7 +83,7 @@ fn settle(
     cond: &Cond,
     done: &mut CondMap,
 ) -> Result<Verdict, Stop>
-    requires right { IsRight (ground_of ground.now) ground.now.conds.now done.old }
+    requires right { AreNotedRight (ground_of ground.now) ground.now.conds.now done.old }
     requires declared { value_at name.now ground.now.conds.now ≡ Some cond.now }
     ensures { Answers (ground_of ground.now) ground.now.conds.now name.now done.new result }
 {

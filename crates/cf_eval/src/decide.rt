@@ -2,7 +2,7 @@
 ghost use Rattle.std.specs.Prelude.{◌≡◌, ℕ, ◌≤◌, List, Some, None, false};
 ghost use Rattle.cf_tree.specs.Keys.{value_at};
 ghost use Rattle.cf_eval.specs.Conditions.{condition_found, decided_by, is_one_of, test_found};
-ghost use Rattle.cf_eval.specs.Deciding.{Apart, IsRight, Notes, Settles, ground_of, left_of};
+ghost use Rattle.cf_eval.specs.Deciding.{Apart, AreNotedRight, Notes, DecidesAs, ground_of, left_of};
 ghost use Rattle.cf_eval.specs.Gives.{GivesVerdict, Stops};
 ghost use Rattle.cf_eval.specs.ScopeOf.{among};
 
@@ -49,10 +49,10 @@ fn decide(
     cond: &Cond,
     done: &mut CondMap,
 ) -> Result<Verdict, Stop>
-    requires right { IsRight (ground_of ground.now) ground.now.conds.now done.old }
+    requires right { AreNotedRight (ground_of ground.now) ground.now.conds.now done.old }
     requires apart { Apart under.old.items done.old }
     requires enough { left_of under.old.items ground.now.conds.now ≤ left }
-    ensures { Settles ground.now left under.old.items under.new.items done.old done.new cond.now result }
+    ensures { DecidesAs ground.now left under.old.items under.new.items done.old done.new cond.now result }
 {
     'deciding: loop {
         match look(alloc, ground, done, cond) {
@@ -83,7 +83,7 @@ fn enter(
     at: &Txt,
     done: &mut CondMap,
 ) -> Result<Verdict, Stop>
-    requires right { IsRight (ground_of ground.now) ground.now.conds.now done.old }
+    requires right { AreNotedRight (ground_of ground.now) ground.now.conds.now done.old }
     requires apart { Apart under.old.items done.old }
     requires enough { left_of under.old.items ground.now.conds.now ≤ left }
     requires fresh { value_at name.now done.old ≡ None }
@@ -115,7 +115,7 @@ pub(crate) fn descend(
     cond: &Cond,
     done: &mut CondMap,
 ) -> Result<Verdict, Stop>
-    requires right { IsRight (ground_of ground.now) ground.now.conds.now done.old }
+    requires right { AreNotedRight (ground_of ground.now) ground.now.conds.now done.old }
     requires apart { Apart under.old.items done.old }
     requires enough { left_of under.old.items ground.now.conds.now ≤ left }
     requires fresh { value_at name.now done.old ≡ None }

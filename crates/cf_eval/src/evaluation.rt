@@ -1,8 +1,8 @@
 //! The evaluation of expressions.
 ghost use Rattle.std.specs.Prelude.{◌≡◌};
 ghost use Rattle.std.specs.Option.{option_copied};
-ghost use Rattle.cf_eval.specs.Env.{scope_in, value_of, value_within, props_of, Evaluates, EvaluatesAll, Tells};
-ghost use Rattle.cf_eval.specs.Knows.{KnownStays};
+ghost use Rattle.cf_eval.specs.Env.{scope_in, value_of, value_within, props_of, Evaluates, EvaluatesAll, IsStoppedBy};
+ghost use Rattle.cf_eval.specs.Knows.{ValuesStay};
 ghost use Rattle.cf_eval.specs.ScopeOf.{scope_of};
 
 use crate::env::Env;
@@ -86,7 +86,7 @@ fn open_scope<'a>(env: &'a Env) -> Scope<'a>
 /// Why an evaluation stopped, as a fault of the nested stack at a path. A condition that is asked
 /// for and not decided is not declared.
 pub(crate) fn told(alloc: Global, stack: &Txt, stop: Stop) -> EvalFault
-    ensures { Tells stack.now stop result }
+    ensures { IsStoppedBy stack.now stop result }
 {
     let Ok(stack) = stack.try_clone(alloc) else {
         return EvalFault::NoMemory;
@@ -118,5 +118,5 @@ pub(crate) fn told(alloc: Global, stack: &Txt, stop: Stop) -> EvalFault
 /// nested outputs that were at fault are so still, a fault stays a fault, unless it rests on an
 /// import whose name was Later. It does nothing when it runs.
 pub fn known_stays()
-    ensures { KnownStays }
+    ensures { ValuesStay }
 {}

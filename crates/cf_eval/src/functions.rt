@@ -6,7 +6,7 @@ ghost use Rattle.cf_eval.specs.Functions.{base64_found, split_found, split_at, j
 ghost use Rattle.cf_eval.specs.Outcome.{got, bad, fault, each};
 ghost use Rattle.cf_tree.specs.Datum.{text};
 ghost use Rattle.cf_eval.specs.declared.fault.EvalWhy.TheVariants.{IndexOutside};
-ghost use Rattle.cf_eval.specs.Gives.{found_of, Gives, GivesNow, GivesTexts};
+ghost use Rattle.cf_eval.specs.Gives.{got_found, Gives, GivesNow, GivesTexts};
 
 use crate::fault::{EvalWhy, Stop};
 use crate::got::Got;
@@ -17,7 +17,7 @@ use std::alloc::{AllocError, Global};
 
 /// `Fn::Base64`.
 pub(crate) fn base64(alloc: Global, at: &Txt, part: &Got) -> Result<Got, Stop>
-    ensures { Gives (base64_found at.now (found_of part.now)) result }
+    ensures { Gives (base64_found at.now (got_found part.now)) result }
 {
     match as_text(alloc, at, part)? {
         Some(text) => {
@@ -30,7 +30,7 @@ pub(crate) fn base64(alloc: Global, at: &Txt, part: &Got) -> Result<Got, Stop>
 
 /// `Fn::Join`.
 pub(crate) fn join(alloc: Global, at: &Txt, delimiter: &Txt, part: &Got) -> Result<Got, Stop>
-    ensures { Gives (join_found at.now delimiter.now (found_of part.now)) result }
+    ensures { Gives (join_found at.now delimiter.now (got_found part.now)) result }
 {
     match as_list(alloc, at, part)? {
         Some(members) => {
@@ -70,7 +70,7 @@ fn joined(alloc: Global, delimiter: &Txt, texts: &[Txt]) -> Result<String, Alloc
 
 /// `Fn::Select`.
 pub(crate) fn select(alloc: Global, at: &Txt, index: &Got, list: &Got) -> Result<Got, Stop>
-    ensures { Gives (select_found at.now (found_of index.now) (found_of list.now)) result }
+    ensures { Gives (select_found at.now (got_found index.now) (got_found list.now)) result }
 {
     match (index, list) {
         (Got::Later, _) | (_, Got::Later) => Ok(Got::Later),
@@ -109,7 +109,7 @@ fn outside(alloc: Global, at: &Txt) -> Result<Got, Stop>
 
 /// `Fn::Split`.
 pub(crate) fn split(alloc: Global, at: &Txt, delimiter: &Txt, part: &Got) -> Result<Got, Stop>
-    ensures { Gives (split_found at.now delimiter.now (found_of part.now)) result }
+    ensures { Gives (split_found at.now delimiter.now (got_found part.now)) result }
 {
     match as_text(alloc, at, part)? {
         Some(text) => split_at(alloc, at, delimiter, &text),

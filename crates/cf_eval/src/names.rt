@@ -1,9 +1,9 @@
 //! What names stand for: `Ref`, `Fn::GetAtt`, the names of conditions, mappings and imports.
 ghost use Rattle.std.specs.Prelude.{◌≡◌};
-ghost use Rattle.cf_eval.specs.Functions.{ref_found, resource_ref, id_of, attribute_of, attribute_in, get_att_found, output_found, mapped, under_key, under_second, import_found, find_found, pseudo_ref, why_not, imported, name_found};
+ghost use Rattle.cf_eval.specs.Functions.{ref_found, resource_ref, id_of, attribute_found, attribute_in, get_att_found, output_found, value_in_mapping, under_key, under_second, import_found, find_found, pseudo_ref, why_not, imported, name_found};
 ghost use Rattle.cf_eval.specs.Outcome.{bad, fault};
 ghost use Rattle.cf_eval.specs.declared.fault.EvalWhy.TheVariants.{UnknownAttribute};
-ghost use Rattle.cf_eval.specs.Gives.{found_of, Gives};
+ghost use Rattle.cf_eval.specs.Gives.{got_found, Gives};
 ghost use Rattle.cf_eval.specs.ScopeOf.{scope_of, beyond_of};
 ghost use Rattle.cf_eval.specs.Sights.{sight_shown};
 
@@ -98,7 +98,7 @@ pub(crate) fn get_att(
     id: &Txt,
     name: &Got,
 ) -> Result<Got, Stop>
-    ensures { Gives (get_att_found (scope_of scope.now) at.now id.now (found_of name.now)) result }
+    ensures { Gives (get_att_found (scope_of scope.now) at.now id.now (got_found name.now)) result }
 {
     match as_text(alloc, at, name)? {
         Some(name) => attribute(alloc, &scope.beyond, at, id.as_str(), name.as_str()),
@@ -126,7 +126,7 @@ fn attribute(alloc: Global, beyond: &Beyond, at: &Txt, id: &str, name: &str) -> 
 
 /// An attribute of a resource, or an output of a nested stack.
 fn attribute_of(alloc: Global, at: &Txt, shown: &Shown, name: &str) -> Result<Got, Stop>
-    ensures { Gives (attribute_of at.now (sight_shown shown.now) name.now) result }
+    ensures { Gives (attribute_found at.now (sight_shown shown.now) name.now) result }
 {
     match shown {
         Shown::NotMade => Err(Stop::Bad {
@@ -186,7 +186,7 @@ fn output_found(alloc: Global, at: &Txt, output: &OutputSight) -> Result<Got, St
 
 /// `Fn::ImportValue`.
 pub(crate) fn import(alloc: Global, scope: &Scope, at: &Txt, name: &Got) -> Result<Got, Stop>
-    ensures { Gives (import_found (scope_of scope.now) at.now (found_of name.now)) result }
+    ensures { Gives (import_found (scope_of scope.now) at.now (got_found name.now)) result }
 {
     match as_text(alloc, at, name)? {
         Some(name) => imported(alloc, &scope.beyond, at, name.as_str()),
@@ -224,7 +224,7 @@ pub(crate) fn find_in_map(
     first: &Got,
     second: &Got,
 ) -> Result<Got, Stop>
-    ensures { Gives (find_found (scope_of scope.now) at.now (found_of name.now) (found_of first.now) (found_of second.now)) result }
+    ensures { Gives (find_found (scope_of scope.now) at.now (got_found name.now) (got_found first.now) (got_found second.now)) result }
 {
     match (name, first, second) {
         (Got::Later, _, _) | (_, Got::Later, _) | (_, _, Got::Later) => Ok(Got::Later),
@@ -249,7 +249,7 @@ fn mapped(
     first: &Txt,
     second: &Txt,
 ) -> Result<Got, Stop>
-    ensures { Gives (mapped (scope_of scope.now) at.now name.now first.now second.now) result }
+    ensures { Gives (value_in_mapping (scope_of scope.now) at.now name.now first.now second.now) result }
 {
     match scope.mappings.get(name.as_str()) {
         Some(keys) => under_key(alloc, at, keys, first, second),

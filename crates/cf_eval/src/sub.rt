@@ -6,7 +6,7 @@ ghost use Rattle.cf_tree.specs.Keys.{value_at};
 ghost use Rattle.cf_eval.specs.Functions.{sub_found, piece_found, put_together};
 ghost use Rattle.cf_eval.specs.Outcome.{each};
 ghost use Rattle.cf_eval.specs.Texts.{wanted_text};
-ghost use Rattle.cf_eval.specs.Gives.{found_of, binding_of, value_in, Gives, GivesAll, GivesTexts};
+ghost use Rattle.cf_eval.specs.Gives.{got_found, member_found, got_value, Gives, GivesAll, GivesTexts};
 ghost use Rattle.cf_eval.specs.ScopeOf.{scope_of};
 
 use crate::collect::{any_late, late_binding};
@@ -27,7 +27,7 @@ pub(crate) fn sub(
     own: &[(Txt, Got)],
     parts: &Parts,
 ) -> Result<Got, Stop>
-    ensures { Gives (sub_found (scope_of scope.now) at.now (map binding_of own.now) parts.now) result }
+    ensures { Gives (sub_found (scope_of scope.now) at.now (map member_found own.now) parts.now) result }
 {
     let pieces = pieces(alloc, scope, at, own, parts)?;
     if late_binding(own) || any_late(pieces.as_slice()) {
@@ -44,7 +44,7 @@ fn pieces(
     own: &[(Txt, Got)],
     parts: &Parts,
 ) -> Result<Vec<Got>, Stop>
-    ensures { GivesAll (map (piece_found (scope_of scope.now) at.now (map binding_of own.now)) parts.now) result }
+    ensures { GivesAll (map (piece_found (scope_of scope.now) at.now (map member_found own.now)) parts.now) result }
 {
     let mut pieces = Vec::new(alloc);
     for part in parts.as_slice() {
@@ -63,7 +63,7 @@ fn piece(
     own: &[(Txt, Got)],
     part: &Part,
 ) -> Result<Got, Stop>
-    ensures { Gives (piece_found (scope_of scope.now) at.now (map binding_of own.now) part.now) result }
+    ensures { Gives (piece_found (scope_of scope.now) at.now (map member_found own.now) part.now) result }
 {
     match part {
         Part::Plain(text) => Ok(Got::Value(Val::Text(text.try_clone(alloc)?))),
@@ -76,7 +76,7 @@ fn piece(
 
 /// What stands under a name in the function's own map.
 fn own_value<'a>(own: &'a [(Txt, Got)], name: &Txt) -> Option<&'a Got>
-    ensures { option_map found_of (option_copied result) ≡ value_at name.now (map binding_of own.now) }
+    ensures { option_map got_found (option_copied result) ≡ value_at name.now (map member_found own.now) }
 {
     for binding in own {
         if binding.0.is(name.as_str()) {
@@ -87,7 +87,7 @@ fn own_value<'a>(own: &'a [(Txt, Got)], name: &Txt) -> Option<&'a Got>
 }
 
 fn copied(alloc: Global, got: &Got) -> Result<Got, AllocError>
-    ensures { IfOk result (λ g. found_of g ≡ found_of got.now) }
+    ensures { IfOk result (λ g. got_found g ≡ got_found got.now) }
 {
     match got {
         Got::Value(value) => Ok(Got::Value(value.try_clone(alloc)?)),
@@ -98,7 +98,7 @@ fn copied(alloc: Global, got: &Got) -> Result<Got, AllocError>
 
 /// Pieces put together, each as a text.
 fn put_together(alloc: Global, at: &Txt, pieces: &[Got]) -> Result<Got, Stop>
-    ensures { Gives (put_together at.now (map value_in pieces.now)) result }
+    ensures { Gives (put_together at.now (map got_value pieces.now)) result }
 {
     let texts = texts_of(alloc, at, pieces)?;
     let text = concatenated(alloc, texts.as_slice())?;
@@ -107,7 +107,7 @@ fn put_together(alloc: Global, at: &Txt, pieces: &[Got]) -> Result<Got, Stop>
 
 #[tactic(auto, using(crate::proofs::Each::each_is))]
 fn texts_of(alloc: Global, at: &Txt, pieces: &[Got]) -> Result<Vec<Txt>, Stop>
-    ensures { GivesTexts (each (map (wanted_text at.now) (map value_in pieces.now))) result }
+    ensures { GivesTexts (each (map (wanted_text at.now) (map got_value pieces.now))) result }
 {
     let mut texts = Vec::new(alloc);
     for piece in pieces {

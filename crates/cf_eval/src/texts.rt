@@ -2,8 +2,8 @@
 ghost use Rattle.std.specs.Prelude.{◌≡◌, Some, IfOk};
 ghost use Rattle.std.specs.Option.{option_copied};
 ghost use Rattle.cf_tree.specs.Value.{datum_of, data_of};
-ghost use Rattle.cf_eval.specs.Texts.{text_of, truth_text, wanted_text, as_text, wanted_list, as_list, wanted_index, index_of, members_in, whole_of, within};
-ghost use Rattle.cf_eval.specs.Gives.{found_of, Gives, GivesPart, GivesNow, GivesList, GivesMembers};
+ghost use Rattle.cf_eval.specs.Texts.{text_of, truth_text, wanted_text, as_text, wanted_list, as_list, wanted_index, index_of, members_in, whole_number_of, within};
+ghost use Rattle.cf_eval.specs.Gives.{got_found, Gives, GivesPart, GivesNow, GivesList, GivesMembers};
 
 use crate::fault::{EvalWhy, Stop};
 use crate::got::Got;
@@ -42,7 +42,7 @@ pub(crate) fn wanted_text(alloc: Global, at: &Txt, value: &Val) -> Result<Txt, S
 
 /// A part that is wanted as a text, `None` where it is Later.
 pub(crate) fn as_text(alloc: Global, at: &Txt, part: &Got) -> Result<Option<Txt>, Stop>
-    ensures { GivesPart (as_text at.now (found_of part.now)) result }
+    ensures { GivesPart (as_text at.now (got_found part.now)) result }
 {
     match part {
         Got::Value(value) => Ok(Some(wanted_text(alloc, at, value)?)),
@@ -56,7 +56,7 @@ pub(crate) fn as_text(alloc: Global, at: &Txt, part: &Got) -> Result<Option<Txt>
 
 /// A part, but `TooBig` where its encoding is too long.
 pub(crate) fn within(alloc: Global, at: &Txt, part: Got) -> Result<Got, Stop>
-    ensures { Gives (within at.now (found_of part)) result }
+    ensures { Gives (within at.now (got_found part)) result }
 {
     match part {
         Got::Value(value) => {
@@ -75,7 +75,7 @@ pub(crate) fn within(alloc: Global, at: &Txt, part: Got) -> Result<Got, Stop>
 
 /// The number whose decimal text this is, where it is one of 64 bits.
 pub(crate) fn whole_of(alloc: Global, text: &Txt) -> Result<Option<i64>, AllocError>
-    ensures { IfOk result (λ o. o ≡ whole_of text.now) }
+    ensures { IfOk result (λ o. o ≡ whole_number_of text.now) }
 {
     match text.as_str().parse::<i64>() {
         Ok(number) => {
@@ -128,7 +128,7 @@ pub(crate) fn wanted_list<'a>(alloc: Global, at: &Txt, value: &'a Val) -> Result
 
 /// A part that is wanted as a list, `None` where it is Later.
 pub(crate) fn as_list<'a>(alloc: Global, at: &Txt, part: &'a Got) -> Result<Option<&'a Vals>, Stop>
-    ensures { GivesList (as_list at.now (found_of part.now)) result }
+    ensures { GivesList (as_list at.now (got_found part.now)) result }
 {
     match part {
         Got::Value(value) => match wanted_list(alloc, at, value) {

@@ -5,7 +5,7 @@ ghost use Rattle.cf_tree.specs.Test.{test_node_of};
 ghost use Rattle.cf_tree.specs.Tests.{tests_of};
 ghost use Rattle.cf_eval.specs.Conditions.{test_found, test_node_found, tests_found, all_found, any_found, equals_found};
 ghost use Rattle.cf_eval.specs.Outcome.{got, later, on_got};
-ghost use Rattle.cf_eval.specs.Gives.{found_of, part_of, GivesVerdict};
+ghost use Rattle.cf_eval.specs.Gives.{got_found, part_of, GivesVerdict};
 ghost use Rattle.cf_eval.specs.ScopeOf.{scope_of, verdict_of};
 
 use crate::compare::equal;
@@ -115,7 +115,7 @@ fn negated(holds: Verdict) -> Verdict
 
 /// `Fn::Equals`.
 fn equals(alloc: Global, at: &Txt, left: &Got, right: &Got) -> Result<Verdict, Stop>
-    ensures { GivesVerdict (equals_found at.now (found_of left.now) (found_of right.now)) result }
+    ensures { GivesVerdict (equals_found at.now (got_found left.now) (got_found right.now)) result }
 {
     match (left, right) {
         (Got::Later, _) | (_, Got::Later) => Ok(Verdict::Later),

@@ -4,7 +4,8 @@ use Rattle.std.specs.Prelude.{codes}
 use Rattle.std.specs.Str.{bytes_eq}
 use Rattle.cf_agree.specs.Account.{Thing, creates}
 use Rattle.cf_agree.specs.Account.Role.{Resource}
-use Rattle.cf_agree.specs.Base.{here, there}
+use Rattle.cf_tree.specs.Lists.{there}
+use Rattle.cf_tree.specs.Lists.{here}
 use Rattle.cf_examples.specs.Given.{note, file}
 use Rattle.cf_examples.proofs.Lists.{some_is}
 use Rattle.cf_examples.specs.BrokenAgreement.{NoSuchCalls, NoSuchLanes}

@@ -19,7 +19,10 @@ use Rattle.cf_effect.specs.Operation.{Response}
 use Rattle.cf_effect.specs.World.{StackState, World, known_stack}
 use Rattle.cf_plan.specs.Ends.{IsBlamedFor, IsComplete, IsLive, right_at}
 use Rattle.cf_plan.specs.Follow.{settled_by}
-use Rattle.cf_plan.specs.Forward.{evaluated_at, In, here, there, Finding, Known, is_made}
+use Rattle.cf_plan.specs.Forward.{evaluated_at, Finding, Known, is_made}
+use Rattle.cf_tree.specs.Lists.{there}
+use Rattle.cf_tree.specs.Lists.{here}
+use Rattle.cf_tree.specs.Lists.{In}
 use Rattle.cf_plan.specs.Lanes.{Lane, lane_at}
 use Rattle.cf_plan.specs.Life.{world_of}
 use Rattle.cf_plan.specs.Promise.{AreKept}

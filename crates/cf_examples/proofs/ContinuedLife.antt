@@ -5,7 +5,8 @@ use Rattle.cf_effect.specs.declared.held.Held.{Held}
 use Rattle.cf_plan.specs.Life.{Life}
 use Rattle.cf_examples.specs.Skipped.{broken_back_once, broken_back_twice}
 use Rattle.cf_effect.specs.Status.{Back}
-use Rattle.cf_plan.specs.Forward.{In, here}
+use Rattle.cf_tree.specs.Lists.{here}
+use Rattle.cf_tree.specs.Lists.{In}
 use Rattle.cf_plan.specs.Ends.{IsRestored, IsLive}
 use Rattle.cf_handler.specs.Lane.{Live}
 use Rattle.cf_examples.specs.FirstLife.{files_with}

@@ -1,31 +1,25 @@
 -- The life with a crash.
-use Rattle.std.proofs.Common.{◌≡◌, refl, List, [], ◌∷◌, Some, None, true, ℕ, inl, inr, sym, subst, true≢false, ◌∙◌, lit≤}
-use Rattle.std.specs.Prelude.{codes, map, ◌==◌, ◌≤◌}
-use Rattle.std.specs.Str.{bytes_eq}
-use Rattle.cf_handler.specs.declared.settled.Settlement.{Settlement}
-use Rattle.cf_handler.specs.Lane.{live_of, settlement_of}
-use Rattle.cf_handler.specs.Fence.{Flying}
+use Rattle.std.proofs.Common.{refl, List, [], ◌∷◌, ℕ, inr, lit≤}
+use Rattle.std.specs.Prelude.{codes}
 use Rattle.cf_effect.specs.declared.held.Pending.{Pending}
-use Rattle.cf_effect.specs.World.{StackState, World, stack_at, empty_world, known_stack}
-use Rattle.cf_effect.specs.Status.{Forward, is_in_progress}
+use Rattle.cf_effect.specs.World.{StackState, World, empty_world, known_stack}
+use Rattle.cf_effect.specs.Status.{Forward}
 use Rattle.cf_effect.specs.Fold.{world_after}
-use Rattle.cf_plan.specs.Forward.{In, here, AllDone, IsDone, is_made}
+use Rattle.cf_plan.specs.Forward.{AllDone, IsDone, is_made}
+use Rattle.cf_tree.specs.Lists.{here}
+use Rattle.cf_tree.specs.Lists.{In}
 use Rattle.cf_plan.specs.Follow.{MayFollow, MayRepeat, IsLaneFor}
-use Rattle.cf_plan.specs.Lanes.{Lane, IsAnswered}
-use Rattle.cf_plan.specs.Agrees.{Ties, FitsCall, IsAccounted}
-use Rattle.cf_tree.specs.Named.{all_differ}
 use Rattle.cf_examples.specs.Given.{file, schemas}
 use Rattle.cf_examples.specs.FirstResource.{done, web}
-use Rattle.cf_examples.specs.FirstLife.{start, files_with}
-use Rattle.cf_examples.specs.CrashedLife.{late, opened_again, answered_later, until_the_crash, after_the_crash, crashed, end, Crashes, HoldsWhileItFlies, GoesOn}
+use Rattle.cf_examples.specs.FirstLife.{start}
+use Rattle.cf_examples.specs.CrashedLife.{late, opened_again, answered_later, until_the_crash, after_the_crash, crashed, end, Crashes, GoesOn}
 use Rattle.cf_examples.proofs.Computing.{computing}
-use Rattle.cf_examples.proofs.Lists.{some_is, in_none, only, found_passes}
+use Rattle.cf_examples.proofs.Lists.{in_none, only}
 use Rattle.cf_examples.proofs.Failing.{sound}
 use Rattle.cf_examples.proofs.Ending.{end_of_create}
-use Rattle.cf_examples.proofs.Beginning.{opens_one, one_stack}
+use Rattle.cf_examples.proofs.Beginning.{opens_one}
 use Rattle.cf_examples.proofs.Living as step
-use Rattle.cf_examples.proofs.Living.{none_leased, IsLived}
-use Rattle.cf_examples.proofs.FirstLife.{named_lanes, described_lanes}
+use Rattle.cf_examples.proofs.Living.{IsLived}
 use Rattle.cf_examples.proofs.FirstResource.{world_1, world_2, world_3, opens, begins, intends}
 
 -- The worlds behind the crash.
@@ -87,52 +81,3 @@ behind =
 
 pub goes_on : GoesOn
 goes_on = behind.lives refl
-
--- While it flies: nothing is held, made or settled, and the call is open.
-abbrev f1 : Lane
-f1 = files_with [] (late ∷ []) 1
-
-fits : FitsCall crashed.entries world_3 (codes "f1") 1 late.request
-unfolding computing
-fits = record {
-  number = lit≤ tt;
-  written = λ c e. subst (λ q. (q.lane ≡ codes "f1") × (q.request ≡ late.request)) (some_is {a = pending} e) (refl, refl);
-  is_open = λ p e. subst (λ q. (q.lane ≡ codes "f1") × (q.request ≡ late.request)) (some_is {a = pending} e) (refl, refl);
-}
-
-none_settled : {p : Pending} {l : Lane} {s : Settlement} → IsAnswered world_3 crashed.lanes p l s → ⊥
-none_settled {p} {l} {s} a = not_there (only (λ (q : Lane). settlement_of p.token q.state.state.settled ≡ Some s → None ≡ Some s) {a = f1} (λ e. e) l (found_passes (λ (q : Lane). bytes_eq p.lane q.name) crashed.lanes l a.at_home).1 a.settled)
-  where
-    not_there : None ≡ Some s → ⊥
-    not_there e = cc
-
-going : (name : List ℕ) (s : StackState) → stack_at name world_3 ≡ Some s → is_in_progress s.status ≡ true
-unfolding computing
-going name s e = one_stack (λ (q : StackState). is_in_progress q.status ≡ true) name (codes "app") (app_in world_3) s refl e
-
-ties : Ties crashed.entries world_3 crashed.lanes
-unfolding computing
-ties = record {
-  settled_once = λ l i. only (λ (q : Lane). all_differ ◌==◌ (map (λ s. s.token) q.state.state.settled) ≡ true) {a = f1} refl l i;
-  base_once = λ l i. only (λ (q : Lane). all_differ bytes_eq (map (λ v. v.id) q.state.state.base) ≡ true) {a = f1} refl l i;
-  base_named = λ l v i j. absurd (in_none (only (λ (q : Lane). In v q.state.state.base → In v []) {a = f1} (λ k. k) l i j));
-  settled_calls = λ l s i j. absurd (in_none (only (λ (q : Lane). In s q.state.state.settled → In s []) {a = f1} (λ k. k) l i j));
-  flying_calls = λ l f i j. only (λ (q : Lane). In f q.state.flying → FitsCall crashed.entries world_3 q.name f.token f.request) {a = f1} (λ k. only (λ (g : Flying). FitsCall crashed.entries world_3 (codes "f1") g.token g.request) {a = late} fits f k) l i j;
-  answers = λ c r l i. absurd (in_none i);
-  flying_open = λ l f i j new passes. only (λ (q : Lane). In f q.state.flying → IsAccounted world_3 f.token f.request) {a = f1} (λ k. only (λ (g : Flying). IsAccounted world_3 g.token g.request) {a = late} (inl (pending, refl)) f k) l i j;
-  flying_epochs = λ l f i j. only (λ (q : Lane). In f q.state.flying → f.epoch ≤ 1) {a = f1} (λ k. only (λ (g : Flying). g.epoch ≤ 1) {a = late} (lit≤ tt) f k) l i j;
-  flying_at_rest = λ l f name s p i j new there_is rests. absurd (true≢false (sym (going name s there_is) ∙ rests.0));
-  fences = λ l i. only (λ (q : Lane). q.state.fence ≤ 1) {a = f1} (lit≤ tt) l i;
-  ids_differ = refl;
-  ids_known = λ id l i. absurd (in_none i);
-  gone = λ r l i. absurd (in_none i);
-  alive = λ r l i. absurd (in_none i);
-  same = λ r l v i. absurd (in_none i);
-  changed = λ p l s id props attrs a e. absurd (none_settled a);
-  born = λ p l s id k props attrs a e. absurd (none_settled a);
-  born_once = λ p q l m s t id k k' props attrs props' attrs' a b e f. absurd (none_settled a);
-  listed = λ l v i j. absurd (in_none (only (λ (q : Lane). In v (live_of q.state.state) → In v []) {a = f1} (λ k. k) l i j));
-}
-
-pub holds : HoldsWhileItFlies
-holds = record { agrees = record { named = named_lanes; described = described_lanes; legal = (([], opens), (([], begins), (([], intends), tt))); ties = ties }; leased = none_leased crashed refl }

@@ -21,7 +21,8 @@ use Rattle.cf_effect.specs.Status.{Stage, Forward, Clean, Back, BackClean, Gone,
 use Rattle.cf_effect.specs.Words.{resources_of, is_create_at}
 use Rattle.cf_effect.specs.Calls.{was_updated, was_restored}
 use Rattle.cf_effect.specs.Operation.{was_skipped, named_paths}
-use Rattle.cf_plan.specs.Forward.{In, AllDone, HasFailed}
+use Rattle.cf_plan.specs.Forward.{AllDone, HasFailed}
+use Rattle.cf_tree.specs.Lists.{In}
 use Rattle.cf_plan.specs.Follow.{IntendsDeletion, IntendsRestore, IsToRestore, MayDelete, MayKeep, MayTurn, MayStep, MayRepeat, IsAtEnd, may_repeat, is_untried, has_refused_restore, has_restore, cleaned_in, is_not_needed}
 use Rattle.cf_plan.specs.Between.{is_needed_by_held}
 use Rattle.cf_examples.proofs.Lists.{in_none, each_passes, none_passes}

@@ -15,7 +15,9 @@ use Rattle.cf_effect.specs.Words.{current_at}
 use Rattle.cf_effect.specs.World.{StackState, empty_world, known_stack}
 use Rattle.cf_effect.specs.Fold.{fold_of}
 use Rattle.cf_effect.specs.Begin.{source_for}
-use Rattle.cf_plan.specs.Forward.{In, here, there}
+use Rattle.cf_tree.specs.Lists.{there}
+use Rattle.cf_tree.specs.Lists.{here}
+use Rattle.cf_tree.specs.Lists.{In}
 use Rattle.cf_plan.specs.Ends.{IsLive, IsComplete, IsRestored, IsCleared, IsBlamedFor, IsBlamed}
 use Rattle.cf_examples.specs.RollbackFailed as unblamed
 use Rattle.cf_examples.proofs.Retained as deleted

@@ -4,7 +4,8 @@ use Rattle.std.specs.Prelude.{codes}
 use Rattle.cf_effect.specs.World.{World, StackState, empty_world, known_stack}
 use Rattle.cf_effect.specs.Fold.{world_after}
 use Rattle.cf_effect.specs.Status.{Forward}
-use Rattle.cf_plan.specs.Forward.{here, HasFailed, IsReady, AllDone, IsDone, is_made}
+use Rattle.cf_plan.specs.Forward.{HasFailed, IsReady, AllDone, IsDone, is_made}
+use Rattle.cf_tree.specs.Lists.{here}
 use Rattle.cf_plan.specs.Follow.{MayFollow}
 use Rattle.cf_examples.specs.Given.{schemas}
 use Rattle.cf_examples.specs.FirstResource.{opened, begun, intended, answered, done, web, Leaves, Legal, run, world, same_again, UpdatedThoughTheSame}

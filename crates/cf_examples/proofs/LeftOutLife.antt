@@ -1,21 +1,12 @@
 -- The life with a lane that is left out.
-use Rattle.std.proofs.Common.{ap, ◌≡◌, refl, List, [], ◌∷◌, ◌++◌, Some, true, false, ℕ, sym, subst, inl, inr, lit≤, None, true≢false}
-use Rattle.std.specs.Prelude.{codes, take, drop, map, option_map, ◌==◌, ◌≤◌}
-use Rattle.std.specs.Str.{bytes_eq}
-use Rattle.cf_entry.specs.declared.entry.Reply.TheVariants as reply
-use Rattle.cf_handler.specs.declared.settled.Settled.{Settled}
-use Rattle.cf_handler.specs.declared.settled.Settlement.{Settlement}
-use Rattle.cf_handler.specs.Fence.{Flying, live_at}
-use Rattle.cf_handler.specs.Move.{IsOfLane}
+use Rattle.std.proofs.Common.{◌≡◌, refl, [], ◌∷◌, ◌++◌, Some, true, false, ℕ, sym, subst, inl, inr, lit≤}
+use Rattle.std.specs.Prelude.{codes, take, drop}
 use Rattle.cf_effect.specs.declared.held.HeldStatus.TheVariants as held
-use Rattle.cf_effect.specs.Operation.{Response, replies_in, is_doubt}
-use Rattle.cf_plan.specs.Agrees.{Ties, FitsCall, IsListed, call_at}
-use Rattle.cf_tree.specs.Named.{all_differ}
 use Rattle.cf_tree.specs.declared.template.Deletion.TheVariants as deletion
 use Rattle.cf_tree.specs.declared.template.Replace.TheVariants as replace
 use Rattle.cf_desired.specs.Seeing.{Seen}
 use Rattle.cf_desired.specs.Whole.{Right, Whole}
-use Rattle.cf_handler.specs.Lane.{Live, live_of, is_used, settlement_of}
+use Rattle.cf_handler.specs.Lane.{live_of}
 use Rattle.cf_effect.specs.declared.held.Held.{Held}
 use Rattle.cf_effect.specs.declared.held.Pending.{Pending}
 use Rattle.cf_effect.specs.World.{World, StackState, empty_world, known_stack}
@@ -23,9 +14,11 @@ use Rattle.cf_effect.specs.Fold.{fold_of}
 use Rattle.cf_effect.specs.Begin.{source_for}
 use Rattle.cf_effect.specs.Words.{current_at}
 use Rattle.cf_effect.specs.Status.{Forward, Back, Gone}
-use Rattle.cf_plan.specs.Forward.{In, here, AllDone, IsDone, is_made}
-use Rattle.cf_plan.specs.Follow.{MayFollow, IsLegal}
-use Rattle.cf_plan.specs.Lanes.{Lane, IsHome, IsAnswered, lane_at, open_at, told_of}
+use Rattle.cf_plan.specs.Forward.{AllDone, IsDone, is_made}
+use Rattle.cf_tree.specs.Lists.{here}
+use Rattle.cf_tree.specs.Lists.{In}
+use Rattle.cf_plan.specs.Follow.{MayFollow}
+use Rattle.cf_plan.specs.Lanes.{Lane}
 use Rattle.cf_plan.specs.Ends.{IsComplete, IsCleared}
 use Rattle.cf_plan.specs.Life.{Life}
 use Rattle.cf_examples.specs.Given.{schemas, file, file_props, file_attrs}
@@ -33,15 +26,15 @@ use Rattle.cf_examples.specs.LostCreation.{first, run}
 use Rattle.cf_examples.specs.Ends.{IsPromised}
 use Rattle.cf_examples.specs.LateLife.{creation}
 use Rattle.cf_examples.specs.FirstLife.{files_with}
-use Rattle.cf_examples.specs.LeftOutLife.{start, StartIsOne, others_with, until_deleted, flying, gone, Deletes, ClearsAsPromised, opened_again, begun_again, intended_again, made_again, created_again, creation_again, from_then_on, end, GoesOn, EndsAsPromised, HoldsInTheEnd}
+use Rattle.cf_examples.specs.LeftOutLife.{start, StartIsOne, others_with, until_deleted, flying, gone, Deletes, ClearsAsPromised, opened_again, begun_again, intended_again, made_again, created_again, creation_again, from_then_on, end, GoesOn, EndsAsPromised}
 use Rattle.cf_examples.proofs.Computing.{computing}
-use Rattle.cf_examples.proofs.Lists.{only, either, more, in_none, some_is, found_passes}
+use Rattle.cf_examples.proofs.Lists.{only, either, in_none}
 use Rattle.cf_examples.proofs.Standing.{IsWell, complete_of}
 use Rattle.cf_examples.proofs.Failing.{sound, not_done_new}
 use Rattle.cf_examples.proofs.Ending.{end_of_create}
 use Rattle.cf_examples.proofs.Beginning.{no_imports, opens_one}
-use Rattle.cf_examples.proofs.Refusing.{fold_joined, legal_joined}
-use Rattle.cf_examples.proofs.Living.{none_leased, IsLived, ended, opens, raises, begins, grants, acts, settles, repeats, moves_late, closes}
+use Rattle.cf_examples.proofs.Refusing.{fold_joined}
+use Rattle.cf_examples.proofs.Living.{IsLived, ended, opens, raises, begins, grants, acts, settles, repeats, moves_late, closes}
 use Rattle.cf_examples.proofs.LateEffect.{may_opened, may_begun, may_intended, world_1, world_2, world_3}
 use Rattle.cf_examples.proofs.LostCreation as lost
 
@@ -216,110 +209,3 @@ arrives = fold_joined empty_world run (opened_again ∷ begun_again ∷ intended
 pub ends_as_promised : EndsAsPromised
 unfolding computing
 ends_as_promised = subst (λ x. IsPromised (codes "s") x end.lanes) (sym arrives) complete
-
--- In the end journal and lanes agree: no call is open, the stack has the second lane's file, and the first lane's is lost.
-abbrev f1 : Lane
-f1 = files_with (creation ∷ []) [] 1
-
-abbrev f2 : Lane
-f2 = others_with (creation_again ∷ []) 2
-
-abbrev lost_live : Live
-lost_live = record { id = codes "f1:1"; kind = file; props = right.props; attrs = file_attrs (codes "f1:1") 1 (codes "a") (codes "x") }
-
-abbrev a_live : Live
-a_live = record { id = codes "f2:2"; kind = file; props = right.props; attrs = file_attrs (codes "f2:2") 1 (codes "a") (codes "x") }
-
-abbrev a_held : Held
-a_held = record { path = codes "A"; kind = file; physical = codes "f2:2"; props = right.props; attrs = a_live.attrs; needs = []; deletion = deletion.Delete; replace = replace.Delete; status = held.CreateComplete; unsure = false; superseded = false }
-
-on_each : (P : Lane → Type 0) → P f1 → P f2 → (l : Lane) → In l end.lanes → P l
-on_each P p q l i = either P {a = f1} {b = f2} p q l i
-
--- the home of the stack's file is the second lane
-at_home : (P : Lane → Type 0) → P f2 → (l : Lane) → IsHome end.lanes (codes "f2:2") l → P l
-at_home P p l h = on_each (λ q. IsOfLane q.name (codes "f2:2") → P q) (λ of. absurd (other of.0 of.1)) (λ of. p) l (found_passes (λ (q : Lane). bytes_eq l.name q.name) end.lanes l h.handed_in).1 h.named
-  where
-    other : (rest : List ℕ) → codes "f2:2" ≡ codes "f1" ++ 58 ∷ rest → ⊥
-    other rest e = true≢false (ap (λ (id : List ℕ). bytes_eq (take 2 id) (codes "f2")) e)
-
-none_open : (token : ℕ) (p : Pending) → open_at token (behind 5) ≡ Some p → ⊥
-unfolding computing
-none_open token p e = let z : None ≡ Some p = e in cc
-
-none_answered : {p : Pending} {l : Lane} {s : Settlement} → IsAnswered (behind 5) end.lanes p l s → ⊥
-none_answered {p} a = none_open p.token p a.is_open
-
-fits_1 : FitsCall end.entries (behind 5) (codes "f1") 1 creation.request
-unfolding computing
-fits_1 = record { number = lit≤ tt; written = λ c e. subst (λ (q : Pending). (q.lane ≡ codes "f1") × (q.request ≡ creation.request)) (some_is {a = pending} e) (refl, refl); is_open = λ p e. absurd (none_open 1 p e) }
-
-fits_2 : FitsCall end.entries (behind 5) (codes "f2") 2 creation_again.request
-unfolding computing
-fits_2 = record { number = lit≤ tt; written = λ c e. subst (λ (q : Pending). (q.lane ≡ codes "f2") × (q.request ≡ creation_again.request)) (some_is {a = record { token = 2; path = codes "A"; lane = codes "f2"; request = creation_again.request }} e) (refl, refl); is_open = λ p e. absurd (none_open 2 p e) }
-
--- nine doubts, and one answer
-abbrev IsTold : Response → Type 0
-IsTold r = is_doubt r.answer ≡ false → (c : Pending) (l : Lane) → call_at r.token end.entries ≡ Some c → lane_at c.lane end.lanes ≡ Some l → option_map told_of (settlement_of r.token l.state.state.settled) ≡ Some r.answer
-
-abbrev answer : Response
-answer = record { token = 2; answer = told_of creation_again.settlement; before = 2; after = 2 }
-
-doubted : (before after : ℕ) → IsTold (record { token = 1; answer = reply.Doubt; before = before; after = after })
-doubted before after e = absurd (true≢false e)
-
-answered : IsTold answer
-unfolding computing
-answered e c l called at = by_lane (subst (λ (q : Pending). lane_at q.lane end.lanes ≡ Some l) (sym (some_is {a = record { token = 2; path = codes "A"; lane = codes "f2"; request = creation_again.request }} called)) at)
-  where
-    by_lane : Some f2 ≡ Some l → option_map told_of (settlement_of 2 l.state.state.settled) ≡ Some answer.answer
-    by_lane is = subst (λ (q : Lane). option_map told_of (settlement_of 2 q.state.state.settled) ≡ Some answer.answer) (some_is is) refl
-
-told : (r : Response) → In r (replies_in end.entries) → IsTold r
-unfolding computing
-told r i = more IsTold (doubted 0 1) (more IsTold (doubted 1 2) (more IsTold (doubted 2 3) (more IsTold (doubted 3 4) (more IsTold (doubted 4 5) (more IsTold (doubted 5 6) (more IsTold (doubted 6 7) (more IsTold (doubted 7 8) (more IsTold (doubted 8 9) (only IsTold answered))))))))) r i
-
-none_based : (l : Lane) (v : Live) → In l end.lanes → In v l.state.state.base → ⊥
-none_based l v i j = in_none (on_each (λ (q : Lane). In v q.state.state.base → In v []) (λ k. k) (λ k. k) l i j)
-
-none_flies : (l : Lane) (f : Flying) → In l end.lanes → In f l.state.flying → ⊥
-none_flies l f i j = in_none (on_each (λ (q : Lane). In f q.state.flying → In f []) (λ k. k) (λ k. k) l i j)
-
-abbrev IsAlive : Held → Type 0
-IsAlive r = (l : Lane) → IsHome end.lanes r.physical l → (v : Live) × (live_at r.physical l.state ≡ Some v) × (v.kind ≡ r.kind)
-
-abbrev IsSame : Held → Type 0
-IsSame r = (l : Lane) (v : Live) → IsHome end.lanes r.physical l → live_at r.physical l.state ≡ Some v → (v.props ≡ r.props) × (v.attrs ≡ r.attrs)
-
-ties : Ties end.entries (behind 5) end.lanes
-unfolding computing
-ties = record {
-  settled_once = λ l i. on_each (λ (q : Lane). all_differ ◌==◌ (map (λ s. s.token) q.state.state.settled) ≡ true) refl refl l i;
-  base_once = λ l i. on_each (λ (q : Lane). all_differ bytes_eq (map (λ v. v.id) q.state.state.base) ≡ true) refl refl l i;
-  base_named = λ l v i j. absurd (none_based l v i j);
-  settled_calls = λ l s i j. on_each (λ (q : Lane). In s q.state.state.settled → FitsCall end.entries (behind 5) q.name s.token s.request) (λ k. only (λ (r : Settled). FitsCall end.entries (behind 5) (codes "f1") r.token r.request) {a = creation} fits_1 s k) (λ k. only (λ (r : Settled). FitsCall end.entries (behind 5) (codes "f2") r.token r.request) {a = creation_again} fits_2 s k) l i j;
-  flying_calls = λ l f i j. absurd (none_flies l f i j);
-  answers = λ c r l i final called at. told r i final c l called at;
-  flying_open = λ l f i j. absurd (none_flies l f i j);
-  flying_epochs = λ l f i j. absurd (none_flies l f i j);
-  flying_at_rest = λ l f name s p i j. absurd (none_flies l f i j);
-  fences = λ l i. on_each (λ (q : Lane). q.state.fence ≤ 2) (lit≤ tt) (lit≤ tt) l i;
-  ids_differ = refl;
-  ids_known = λ id l i h. only (λ (q : List ℕ). IsHome end.lanes q l → is_used q l.state.state ≡ true) {a = codes "f2:2"} (λ k. at_home (λ (q : Lane). is_used (codes "f2:2") q.state.state ≡ true) refl l k) id i h;
-  gone = λ r l i h (p, lane, s, a, e). absurd (none_answered a);
-  alive = λ r l i h there_is. only IsAlive {a = a_held} (λ m k. at_home (λ (q : Lane). (v : Live) × (live_at a_held.physical q.state ≡ Some v) × (v.kind ≡ a_held.kind)) (a_live, refl, refl) m k) r i l h;
-  same = λ r l v i h sure unchanged live. only IsSame {a = a_held} (λ m w k e. at_home (λ (q : Lane). live_at a_held.physical q.state ≡ Some w → (w.props ≡ a_held.props) × (w.attrs ≡ a_held.attrs)) (λ f. subst (λ (u : Live). (u.props ≡ a_held.props) × (u.attrs ≡ a_held.attrs)) (some_is {a = a_live} f) (refl, refl)) m k e) r i l v h live;
-  changed = λ p l s id props attrs a e. absurd (none_answered a);
-  born = λ p l s id k props attrs a e. absurd (none_answered a);
-  born_once = λ p q l m s t id k k' props attrs props' attrs' a b e f. absurd (none_answered a);
-  listed = λ l v i j. on_each (λ (q : Lane). In v (live_of q.state.state) → IsListed (behind 5) end.lanes q v.id) (λ k. only (λ (w : Live). IsListed (behind 5) end.lanes f1 w.id) {a = lost_live} (inr (inr (inr (creation, file, lost_live.props, lost_live.attrs, refl, here, refl)))) v k) (λ k. only (λ (w : Live). IsListed (behind 5) end.lanes f2 w.id) {a = a_live} (inl (codes "s", s_in (behind 5), a_held, refl, inl here, refl)) v k) l i j;
-}
-
-legal : IsLegal schemas empty_world end.entries
-legal = legal_joined empty_world run (drop 19 end.entries) lost.until_19.legal (subst (λ x. IsLegal schemas x (drop 19 end.entries)) (sym lost.until_19.arrives) (([], may_opened_again), (([], may_begun_again), (([], may_intended_again), ((2 ∷ [], may_made_again), (([], may_created_again), tt))))))
-
-pub holds : HoldsInTheEnd
-holds = record {
-  agrees = record { named = record { named = refl; names_differ = refl }; described = record { kinds_differ = refl; described = refl }; legal = legal; ties = subst (λ x. Ties end.entries x end.lanes) (sym arrives) ties };
-  leased = none_leased end refl;
-}

@@ -14,14 +14,14 @@ use Rattle.cf_effect.specs.World.{StackState, World, stack_at, empty_world}
 use Rattle.cf_effect.specs.Fold.{fold_of, world_after}
 use Rattle.cf_effect.specs.Status.{Stage, stage_of}
 use Rattle.cf_tree.specs.Named.{all_differ}
-use Rattle.cf_plan.specs.Forward.{In}
+use Rattle.cf_tree.specs.Lists.{In}
 use Rattle.cf_plan.specs.Follow.{MayFollow, MayRepeat, is_lane_leased}
 use Rattle.cf_plan.specs.Lanes.{Lane, lane_at}
 use Rattle.cf_plan.specs.Life as life
-use Rattle.cf_plan.specs.Life.{Life, Lease, AreLeased, CallEnd, Event, End, Whole, BrokenWith, BrokenWithout, MayHappen, IsLife, IsBegin, IsChangeSet, IsGranted, IsOutcomeOf, MayLeave, AreHandedIn, AreRaised, life_after, world_of, tokens_out, is_running, appended, granted, lease_at, without_lease, with_lease, replied_to, changing, acted, named_lane, lease_for, first_again, repeated, fenced}
+use Rattle.cf_plan.specs.Life.{Life, Lease, CallEnd, Event, End, Whole, BrokenWith, BrokenWithout, Happens, IsLife, IsBegin, IsChangeSet, IsGranted, IsOutcomeOf, MayLeave, AreHandedIn, AreRaised, life_after, world_of, tokens_out, is_running, appended, granted, lease_at, without_lease, with_lease, replied_to, lane_changing, lane_acted, named_lane, lease_for, first_again, repeated, fenced}
 use Rattle.cf_plan.proofs.RunLists.{any_of}
 use Rattle.cf_examples.specs.Given.{schemas}
-use Rattle.cf_examples.proofs.Lists.{each_passes, and_true, in_none}
+use Rattle.cf_examples.proofs.Lists.{each_passes, and_true}
 use Rattle.cf_examples.proofs.Refusing.{fold_more}
 
 -- from this life, whose entries have made this world, these events lead to the last one
@@ -31,7 +31,7 @@ pub record IsLived (l : Life) (x : World) (es : List Event) (last : Life) : Type
 pub ended : {x : World} {l : Life} → IsLived l x [] l
 ended = record { lives = λ is. refl }
 
-step : {l : Life} {x : World} {e : Event} {es : List Event} {last : Life} (m : Life) (y : World) → (world_of l ≡ x → MayHappen schemas l e) → (world_of l ≡ x → life_after l e ≡ m) → (world_of l ≡ x → world_of m ≡ y) → IsLived m y es last → IsLived l x (e ∷ es) last
+step : {l : Life} {x : World} {e : Event} {es : List Event} {last : Life} (m : Life) (y : World) → (world_of l ≡ x → Happens schemas l e) → (world_of l ≡ x → life_after l e ≡ m) → (world_of l ≡ x → world_of m ≡ y) → IsLived m y es last → IsLived l x (e ∷ es) last
 step {es = es} {last = last} m y may leads arrives rest = record { lives = λ is. (may is, subst (λ q. IsLife schemas q es last) (sym (leads is)) (rest.lives (arrives is))) }
 
 -- an entry that may follow the known world
@@ -126,19 +126,19 @@ settles {l = l} {e = e} {end = end} {lease = lease} {reply = reply} y runs at re
 pub parks : {l : Life} {x : World} {token : ℕ} {lease : Lease} {es : List Event} {last : Life} → l.is_open ≡ true → lease_at token l ≡ Some lease → IsLived (without_lease token l) x es last → IsLived l x (life.Park token ∷ es) last
 parks {x = x} {lease = lease} is_open at rest = step _ x (λ is. (is_open, lease, at)) (λ is. refl) (λ is. is) rest
 
-pub raises : {l : Life} {x : World} {name : List ℕ} {a : FenceAnswer} {moved : Bool} {before counted : ℕ} {lane : Lane} {es : List Event} {last : Life} → is_running l ≡ true → l.has_granted ≡ false → lane_at name l.lanes ≡ Some lane → In (named_lane lane) x.lanes → before ≤ counted → FenceMove lane.state (fenced moved x.epoch lane.state) x.epoch a before counted → IsLived (if moved then changing name (λ q. raised_to q x.epoch) l else l) x es last → IsLived l x (life.Raise name a moved before counted ∷ es) last
+pub raises : {l : Life} {x : World} {name : List ℕ} {a : FenceAnswer} {moved : Bool} {before counted : ℕ} {lane : Lane} {es : List Event} {last : Life} → is_running l ≡ true → l.has_granted ≡ false → lane_at name l.lanes ≡ Some lane → In (named_lane lane) x.lanes → before ≤ counted → FenceMove lane.state (fenced moved x.epoch lane.state) x.epoch a before counted → IsLived (if moved then lane_changing name (λ q. raised_to q x.epoch) l else l) x es last → IsLived l x (life.Raise name a moved before counted ∷ es) last
 raises {l = l} {x = x} {name = name} {a = a} {moved = moved} {before = before} {counted = counted} {lane = lane} runs new at named rises move rest =
-    step _ x (λ is. (runs, new, lane, at, subst (λ (y : World). In (named_lane lane) y.lanes) (sym is) named, rises, subst (λ (y : World). FenceMove lane.state (fenced moved y.epoch lane.state) y.epoch a before counted) (sym is) move)) (λ is. ap (λ (y : World). if moved then changing name (λ q. raised_to q y.epoch) l else l) is) (λ is. stays moved ∙ is) rest
+    step _ x (λ is. (runs, new, lane, at, subst (λ (y : World). In (named_lane lane) y.lanes) (sym is) named, rises, subst (λ (y : World). FenceMove lane.state (fenced moved y.epoch lane.state) y.epoch a before counted) (sym is) move)) (λ is. ap (λ (y : World). if moved then lane_changing name (λ q. raised_to q y.epoch) l else l) is) (λ is. stays moved ∙ is) rest
   where
-    stays : (m : Bool) → world_of (if m then changing name (λ q. raised_to q x.epoch) l else l) ≡ world_of l
+    stays : (m : Bool) → world_of (if m then lane_changing name (λ q. raised_to q x.epoch) l else l) ≡ world_of l
     stays true = refl
     stays false = refl
 
-pub acts : {l : Life} {x : World} {token : ℕ} {reply : CallEnd} {left : Left} {lease : Lease} {lane : Lane} {es : List Event} {last : Life} → lease_at token l ≡ Some lease → lease.reply ≡ None → lane_at lease.lane l.lanes ≡ Some lane → MayLeave lane (left_by left x.epoch lease.token lease.request lane.state) x.epoch lease reply → IsLived (replied_to token reply (changing lease.lane (left_by left x.epoch lease.token lease.request) l)) x es last → IsLived l x (life.Act token reply left ∷ es) last
+pub acts : {l : Life} {x : World} {token : ℕ} {reply : CallEnd} {left : Left} {lease : Lease} {lane : Lane} {es : List Event} {last : Life} → lease_at token l ≡ Some lease → lease.reply ≡ None → lane_at lease.lane l.lanes ≡ Some lane → MayLeave lane (left_by left x.epoch lease.token lease.request lane.state) x.epoch lease reply → IsLived (replied_to token reply (lane_changing lease.lane (left_by left x.epoch lease.token lease.request) l)) x es last → IsLived l x (life.Act token reply left ∷ es) last
 acts {l = l} {x = x} {token = token} {reply = reply} {left = left} {lease = lease} {lane = lane} at none home may rest =
-    step _ x (λ is. (lease, lane, at, none, home, subst (λ (y : World). MayLeave lane (left_by left y.epoch lease.token lease.request lane.state) y.epoch lease reply) (sym is) may)) (λ is. ap (λ o. replied_to token reply (acted left o l)) at ∙ ap (λ (y : World). replied_to token reply (changing lease.lane (left_by left y.epoch lease.token lease.request) l)) is) (λ is. is) rest
+    step _ x (λ is. (lease, lane, at, none, home, subst (λ (y : World). MayLeave lane (left_by left y.epoch lease.token lease.request lane.state) y.epoch lease reply) (sym is) may)) (λ is. ap (λ o. replied_to token reply (lane_acted left o l)) at ∙ ap (λ (y : World). replied_to token reply (lane_changing lease.lane (left_by left y.epoch lease.token lease.request) l)) is) (λ is. is) rest
 
-pub moves_late : {l : Life} {x : World} {name : List ℕ} {place : ℕ} {s : Settlement} {lane : Lane} {es : List Event} {last : Life} → lane_at name l.lanes ≡ Some lane → LateMove name lane.state (late_by place s lane.state) place s → IsLived (changing name (late_by place s) l) x es last → IsLived l x (life.Late name place s ∷ es) last
+pub moves_late : {l : Life} {x : World} {name : List ℕ} {place : ℕ} {s : Settlement} {lane : Lane} {es : List Event} {last : Life} → lane_at name l.lanes ≡ Some lane → LateMove name lane.state (late_by place s lane.state) place s → IsLived (lane_changing name (late_by place s) l) x es last → IsLived l x (life.Late name place s ∷ es) last
 moves_late {x = x} {lane = lane} at move rest = step _ x (λ is. (lane, at, move)) (λ is. refl) (λ is. is) rest
 
 pub closes : {l : Life} {x : World} {es : List Event} {last : Life} → l.is_open ≡ true → l.leases ≡ [] → IsLived (life_after l life.Close) x es last → IsLived l x (life.Close ∷ es) last
@@ -146,16 +146,3 @@ closes {x = x} is_open none rest = step _ x (λ is. (is_open, none)) (λ is. ref
 
 pub crashes : {l : Life} {x : World} {es : List Event} {last : Life} → IsLived (life_after l life.Crash) x es last → IsLived l x (life.Crash ∷ es) last
 crashes {x = x} rest = step _ x (λ is. tt) (λ is. refl) (λ is. is) rest
-
--- where no call is out, there is nothing to say of leases
-pub none_leased : (l : Life) → l.leases ≡ [] → AreLeased l
-none_leased l none = record {
-  once = ap (λ (ls : List Lease). all_differ ◌==◌ (map (λ q. q.token) ls)) none;
-  own_call = λ q i. absurd (is_none q i);
-  accounted = λ q i. absurd (is_none q i);
-  settled = λ q r s lane i. absurd (is_none q i);
-  going = λ q i. absurd (is_none q i);
-}
-  where
-    is_none : (q : Lease) → In q l.leases → ⊥
-    is_none q i = in_none (subst (In q) none i)

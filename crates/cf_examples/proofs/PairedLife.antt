@@ -13,7 +13,10 @@ use Rattle.cf_effect.specs.Fold.{fold_of}
 use Rattle.cf_effect.specs.Begin.{source_for}
 use Rattle.cf_effect.specs.Words.{current_at}
 use Rattle.cf_effect.specs.Status.{Forward, Clean}
-use Rattle.cf_plan.specs.Forward.{In, here, there, AllDone, IsDone, is_made, is_updated}
+use Rattle.cf_plan.specs.Forward.{AllDone, IsDone, is_made, is_updated}
+use Rattle.cf_tree.specs.Lists.{there}
+use Rattle.cf_tree.specs.Lists.{here}
+use Rattle.cf_tree.specs.Lists.{In}
 use Rattle.cf_plan.specs.Follow.{MayFollow, IsNamedLane}
 use Rattle.cf_plan.specs.Ends.{IsComplete}
 use Rattle.cf_plan.specs.Life.{Life, Lease}

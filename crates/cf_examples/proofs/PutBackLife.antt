@@ -1,12 +1,16 @@
 -- The life of a journal that was put back.
-use Rattle.std.proofs.Common.{refl, List, [], ◌∷◌, ℕ, true, lit≤, arith, ◌<◌, ◌≤◌}
+use Rattle.std.proofs.Common.{refl, List, [], ◌∷◌, ℕ, true, lit≤, arith, ◌<◌, ◌≤◌, subst}
 use Rattle.std.specs.Prelude.{codes, drop, ◌++◌, take}
+use Rattle.std.specs.Option.{option_map_or}
 use Rattle.std.specs.Str.{bytes_eq}
 use Rattle.cf_effect.specs.declared.held.Pending.{Pending}
 use Rattle.cf_effect.specs.World.{World}
 use Rattle.cf_effect.specs.Fold.{fold_of}
 use Rattle.cf_effect.specs.Status.{Forward}
-use Rattle.cf_plan.specs.Forward.{In, here, AllDone, IsDone, is_made}
+use Rattle.cf_agree.specs.Lanes.{no_lane}
+use Rattle.cf_plan.specs.Forward.{AllDone, IsDone, is_made}
+use Rattle.cf_tree.specs.Lists.{here}
+use Rattle.cf_tree.specs.Lists.{In}
 use Rattle.cf_plan.specs.Follow.{MayFollow, IsLaneFor}
 use Rattle.cf_plan.specs.Lanes.{Lane}
 use Rattle.cf_plan.specs.Life.{Life, world_of}
@@ -71,7 +75,7 @@ pub catches_up : CatchesUp
 catches_up = catching.lives refl
 
 pub never_stale : NeverStale
-never_stale given life token fence left holds (lease, lane, at, none, home, stale) =
+never_stale given life token fence left tied (lease, lane, at, none, home, stale) =
     let past : (world_of life).epoch < lane.state.fence = stale.0 in
-    let kept : lane.state.fence ≤ (world_of life).epoch = holds.agrees.ties.fences lane (found_passes (λ (q : Lane). bytes_eq lease.lane q.name) life.lanes lane home).1 in
+    let kept : lane.state.fence ≤ (world_of life).epoch = subst (λ o. (option_map_or (λ (q : Lane). q.state) o no_lane).fence ≤ (world_of life).epoch) home (tied.ties.fences lease.lane) in
     omega arith

@@ -10,7 +10,8 @@ use Rattle.cf_effect.specs.declared.held.Held.{Held}
 use Rattle.cf_effect.specs.declared.call.Call.{Call}
 use Rattle.cf_effect.specs.Operation.{Response, replies_in, own_of}
 use Rattle.cf_effect.specs.Calls.{call_under, refusals_of}
-use Rattle.cf_plan.specs.Forward.{In, here}
+use Rattle.cf_tree.specs.Lists.{here}
+use Rattle.cf_tree.specs.Lists.{In}
 use Rattle.cf_effect.specs.World.{empty_world, StackState, World, stack_of_operation}
 use Rattle.cf_effect.specs.Fold.{world_after, fold_of}
 use Rattle.cf_effect.specs.Status.{Stage, stage_of}

@@ -9,7 +9,9 @@ use Rattle.cf_effect.specs.declared.call.Settled.TheVariants as settled
 use Rattle.cf_effect.specs.declared.held.Held.{Held}
 use Rattle.cf_effect.specs.World.{World, StackState, empty_world}
 use Rattle.cf_effect.specs.Status.{Forward, Back, BackClean}
-use Rattle.cf_plan.specs.Forward.{here, there, HasFailed, IsReady, IsDone, is_updated}
+use Rattle.cf_plan.specs.Forward.{HasFailed, IsReady, IsDone, is_updated}
+use Rattle.cf_tree.specs.Lists.{there}
+use Rattle.cf_tree.specs.Lists.{here}
 use Rattle.cf_plan.specs.Follow.{MayFollow, IsNamedLane}
 use Rattle.cf_schema.specs.declared.changed.Difference.TheVariants.{Same, Update, Replace}
 use Rattle.cf_examples.specs.Given.{schemas, file, note, file_props, note_props, file_attrs, lane_pair, report_of}

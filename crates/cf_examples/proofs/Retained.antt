@@ -7,7 +7,9 @@ use Rattle.cf_effect.specs.declared.call.Settled.TheVariants as settled
 use Rattle.cf_effect.specs.World.{World, StackState, empty_world, no_stack}
 use Rattle.cf_effect.specs.Begin.{source_for}
 use Rattle.cf_effect.specs.Status.{Forward, Gone}
-use Rattle.cf_plan.specs.Forward.{here, there, HasFailed, IsReady, AllDone, IsDone, is_made}
+use Rattle.cf_plan.specs.Forward.{HasFailed, IsReady, AllDone, IsDone, is_made}
+use Rattle.cf_tree.specs.Lists.{there}
+use Rattle.cf_tree.specs.Lists.{here}
 use Rattle.cf_plan.specs.Follow.{MayFollow}
 use Rattle.std.specs.Str.{bytes_eq}
 use Rattle.cf_tree.specs.declared.request.Request.TheVariants as request

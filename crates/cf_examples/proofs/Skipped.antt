@@ -4,7 +4,8 @@ use Rattle.std.specs.Prelude.{codes, take, drop}
 use Rattle.cf_effect.specs.declared.held.Held.{Held}
 use Rattle.cf_effect.specs.World.{World, StackState, empty_world}
 use Rattle.cf_effect.specs.Status.{Back, BackClean}
-use Rattle.cf_plan.specs.Forward.{In, here}
+use Rattle.cf_tree.specs.Lists.{here}
+use Rattle.cf_tree.specs.Lists.{In}
 use Rattle.cf_plan.specs.Follow.{MayFollow, IsNamedLane, IsLaneFor}
 use Rattle.cf_effect.specs.declared.held.Pending.{Pending}
 use Rattle.cf_examples.specs.Given.{schemas, file, file_props, file_attrs, lane_pair, report_of}

@@ -8,7 +8,7 @@ use Rattle.cf_effect.specs.declared.held.Held.{Held}
 use Rattle.cf_effect.specs.Words.{current_at, is_current_at}
 use Rattle.cf_effect.specs.End.{is_right_at}
 use Rattle.cf_effect.specs.Listed.{export_by}
-use Rattle.cf_plan.specs.Forward.{In}
+use Rattle.cf_tree.specs.Lists.{In}
 use Rattle.cf_tree.specs.Keys.{value_at}
 use Rattle.cf_tree.specs.declared.source.Source.{Source}
 use Rattle.cf_handler.specs.Lane.{Live}

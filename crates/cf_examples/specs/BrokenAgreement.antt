@@ -4,10 +4,10 @@ use Rattle.std.specs.Str.{bytes_eq}
 use Rattle.cf_tree.specs.declared.request.Request.{Request}
 use Rattle.cf_handler.specs.declared.settled.Settlement.{Settlement}
 use Rattle.cf_handler.specs.Fence.{FencedLane}
-use Rattle.cf_agree.specs.Account.{Account, Open, Thing, called}
+use Rattle.cf_agree.specs.Account.{Account, Open, Thing, called_of}
 use Rattle.cf_agree.specs.Account.Role.{Resource, Stranger}
 use Rattle.cf_agree.specs.Lanes.{Lanes, no_lane}
-use Rattle.cf_agree.specs.Moves.{AreLeased, Lease}
+use Rattle.cf_agree.specs.Moves.{AreLeased, CallOut}
 use Rattle.cf_agree.specs.Ties.{Books, Ties}
 use Rattle.cf_examples.specs.Given.{file, file_attrs, file_props, note}
 use Rattle.cf_handler.specs.declared.settled.Settled.{Settled}
@@ -62,7 +62,7 @@ abbrev pub only_first : {A : Type 0} → A → ℕ → Option A
 only_first a t = if t == 1 then Some a else None
 
 abbrev pub busy_by : Open → Account
-busy_by o = record quiet { open_ = only_first o; call = only_first (called o) }
+busy_by o = record quiet { open_ = only_first o; call = only_first (called_of o) }
 
 abbrev pub busy : Request → Account
 busy r = busy_by (open_for r)
@@ -72,20 +72,20 @@ abbrev pub holding : Account → Account
 holding a = record a { role = λ i. if bytes_eq i (codes "f1:1") then Resource thing else Stranger }
 
 -- a lease of the first call, and the lane of files alone
-abbrev pub lease_for : Request → Lease
+abbrev pub lease_for : Request → CallOut
 lease_for r = record { token = 1; lane = codes "f1"; request = r; reply = None }
 
 abbrev pub lanes_of : FencedLane → Lanes
 lanes_of l =
     record { kind = λ n. if bytes_eq n (codes "f1") then Some file else None; lane = λ n. if bytes_eq n (codes "f1") then l else no_lane }
 
-abbrev pub CalledWrongly : Account → List Lease → Type 0
+abbrev pub CalledWrongly : Account → List CallOut → Type 0
 CalledWrongly a ls = ¬ AreLeased a (lanes_of no_lane) ls
 
 -- no books hold such calls and resources, and no call is out like this
 pub record NoSuchCalls : Type 0 where
   pub open_though_never_written : ¬ Books (record (busy creating) { call = λ t. None })
-  pub open_under_another_request : ¬ Books (record (busy creating) { call = only_first (called (open_for deleting)) })
+  pub open_under_another_request : ¬ Books (record (busy creating) { call = only_first (called_of (open_for deleting)) })
   pub written_above_the_last_token : ¬ Books (record (busy creating) { last = 0 })
   pub open_though_answered : ¬ Books (record (busy creating) { told = only_first made_it })
   pub answered_though_never_written : ¬ Books (record quiet { told = only_first made_it })
@@ -131,7 +131,7 @@ Disagree a l = ¬ Ties a (lanes_of l)
 
 -- the first call was written down, and is open no more
 abbrev pub closed : Request → Account
-closed r = record quiet { call = only_first (called (open_for r)) }
+closed r = record quiet { call = only_first (called_of (open_for r)) }
 
 -- no lane was called like this, and nothing is live on it like this
 pub record NoSuchLanes : Type 0 where

@@ -178,7 +178,8 @@ pub record NoSuchWorlds : Type 0 where
   pub deletes_what_it_does_not_hold : ¬ Fits world (record (calling (open_deletion ∷ [])) { held = [] })
   pub deletes_at_another_path : ¬ Fits world (calling (record open_deletion { path = codes "Other" } ∷ []))
   pub open_without_a_row : ¬ Fits world (calling (open_deletion ∷ []))
-  pub open_though_answered : ¬ Fits world (record (calling (open_deletion ∷ [])) { ledger = record deletion { answer = first.call.answer } ∷ [] })
+  pub open_though_answered : ¬ Fits world (record (calling (open_deletion ∷ []))
+      { ledger = record deletion { answer = first.call.answer } ∷ [] })
   pub one_token_in_two_rows : ¬ Fits world (record app { ledger = first.call ∷ first.call ∷ [] })
   pub row_above_the_last_token : ¬ Fits (record world { token = 0 }) app
   pub row_of_a_later_operation : ¬ Fits world (record app { operation = 0 })

@@ -7,7 +7,7 @@ use Rattle.cf_handler.specs.Fence.{Flying, Raised, SettledBy, FlyingOn}
 use Rattle.cf_entry.specs.declared.entry.Entry.{Entry}
 use Rattle.cf_entry.specs.declared.entry.Entry.TheVariants as entry
 use Rattle.cf_entry.specs.declared.entry.Reply.TheVariants as reply
-use Rattle.cf_plan.specs.Life.{Life, Event, Opened, Begin, Grant, Repeat, Settle, Raise, Act, Close, Crash, Whole, Answered, IsLife, Holds}
+use Rattle.cf_plan.specs.Life.{Life, Event, Opened, Begin, Grant, Repeat, Settle, Raise, Act, Close, Crash, Whole, Answered, IsLife}
 use Rattle.cf_examples.specs.Given.{file, file_props, file_attrs, schemas}
 use Rattle.cf_examples.specs.FirstResource.{opened, begun, intended, done}
 use Rattle.cf_examples.specs.FirstLife.{start, made, files_with}
@@ -59,9 +59,6 @@ end =
 
 abbrev pub Crashes : Type 0
 Crashes = IsLife schemas start until_the_crash crashed
-
-abbrev pub HoldsWhileItFlies : Type 0
-HoldsWhileItFlies = Holds schemas crashed
 
 abbrev pub GoesOn : Type 0
 GoesOn = IsLife schemas crashed after_the_crash end

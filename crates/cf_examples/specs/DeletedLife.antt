@@ -13,7 +13,7 @@ use Rattle.cf_entry.specs.declared.entry.Reply.TheVariants as reply
 use Rattle.cf_entry.specs.declared.status.Status.TheVariants as status
 use Rattle.cf_effect.specs.World.{empty_world}
 use Rattle.cf_effect.specs.Fold.{fold_of}
-use Rattle.cf_plan.specs.Life.{Life, Event, CallEnd, Opened, Begin, Grant, Repeat, Settle, Raise, Act, Close, Crash, Whole, Answered, IsLife, Holds}
+use Rattle.cf_plan.specs.Life.{Life, Event, CallEnd, Opened, Begin, Grant, Repeat, Settle, Raise, Act, Close, Crash, Whole, Answered, IsLife}
 use Rattle.cf_examples.specs.Given.{file, schemas}
 use Rattle.cf_examples.specs.FirstResource.{run}
 use Rattle.cf_examples.specs.FirstLife.{made, files_with}
@@ -60,9 +60,6 @@ unknown =
 
 abbrev pub Crashes : Type 0
 Crashes = IsLife schemas first.end until_crashed unknown
-
-abbrev pub HoldsThoughGone : Type 0
-HoldsThoughGone = Holds schemas unknown
 
 abbrev pub from_then_on : List Event
 from_then_on =

@@ -1,13 +1,13 @@
 -- The first resource as the life of an engine: a new journal is opened over one lane, its fence is raised, a stack is
 -- begun, a call is granted, made and written down, and the book is closed.
-use Rattle.std.specs.Prelude.{ℕ, List, [], ◌∷◌, codes, true, false, Some}
+use Rattle.std.specs.Prelude.{ℕ, List, [], ◌∷◌, ◌++◌, codes, true, false, Some}
 use Rattle.cf_tree.specs.declared.request.Answer.TheVariants as answer
 use Rattle.cf_tree.specs.declared.request.Request.TheVariants as request
 use Rattle.cf_handler.specs.declared.settled.Settled.{Settled}
 use Rattle.cf_handler.specs.declared.settled.Settlement.TheVariants as settlement
 use Rattle.cf_handler.specs.Fence.{Flying, Raised, SettledBy}
 use Rattle.cf_plan.specs.Lanes.{Lane}
-use Rattle.cf_plan.specs.Life.{Life, Event, Opened, Begin, Grant, Settle, Raise, Act, Close, Whole, Answered, IsLife, IsStart, Holds, Lease}
+use Rattle.cf_plan.specs.Life.{Life, Event, Opened, Begin, Grant, Settle, Raise, Act, Close, Whole, Answered, IsLife, IsStart, Lease}
 use Rattle.cf_plan.specs.Promise.{AreKept}
 use Rattle.cf_examples.specs.Given.{file, file_props, file_attrs, schemas, lane_with}
 use Rattle.cf_examples.specs.FirstResource.{begun, intended, answered, done, run, opened}
@@ -32,20 +32,27 @@ made =
       settlement = settlement.Success (codes "f1:1") (file_attrs (codes "f1:1") 5 (codes "web.txt") (codes "hello"));
     }
 
-abbrev pub events : List Event
-events =
+abbrev pub until_written : List Event
+until_written =
     Opened 1 ((codes "f1", file) ∷ []) Whole ∷ Raise (codes "f1") Raised true 0 0 ∷ Begin begun Whole ∷ Grant intended Whole
     ∷ Act 1 (Answered (answer.Success (codes "f1:1") (file_attrs (codes "f1:1") 5 (codes "web.txt") (codes "hello"))) 0 0)
-    (SettledBy made.settlement) ∷ Settle 1 answered Whole ∷ Grant done Whole ∷ Close ∷ []
+    (SettledBy made.settlement) ∷ []
+
+abbrev pub events : List Event
+events = until_written ++ Settle 1 answered Whole ∷ Grant done Whole ∷ Close ∷ []
 
 abbrev pub end : Life
-end = record { entries = run; lanes = files_with (made ∷ []) [] 1 ∷ []; leases = []; is_open = false; has_granted = true; is_stopped = false }
+end = record {
+  entries = run;
+  lanes = files_with (made ∷ []) [] 1 ∷ [];
+  leases = [];
+  is_open = false;
+  has_granted = true;
+  is_stopped = false;
+}
 
 abbrev pub Lives : Type 0
 Lives = IsLife schemas start events end
-
-abbrev pub HoldsInTheEnd : Type 0
-HoldsInTheEnd = Holds schemas end
 
 abbrev pub KeepsItsPromises : Type 0
 KeepsItsPromises = AreKept end
@@ -72,5 +79,5 @@ unwritten =
       is_stopped = false;
     }
 
-abbrev pub HoldsBeforeItIsWritten : Type 0
-HoldsBeforeItIsWritten = Holds schemas unwritten
+abbrev pub Acts : Type 0
+Acts = IsLife schemas start until_written unwritten

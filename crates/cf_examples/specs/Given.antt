@@ -83,7 +83,19 @@ pub record Report : Type 0 where
 
 -- a stack of which there is nothing else to show
 abbrev pub bare : Status → ℕ → Report
-bare s n = record { status = s; number = n; resources = []; made = []; given = []; outputs = []; leftovers = []; failed = []; exports = []; pins = [] }
+bare s n =
+    record {
+      status = s;
+      number = n;
+      resources = [];
+      made = [];
+      given = [];
+      outputs = [];
+      leftovers = [];
+      failed = [];
+      exports = [];
+      pins = [];
+    }
 
 abbrev pub line : Held → Line
 line h = record { path = h.path; kind = h.kind; physical = h.physical; status = h.status; unsure = h.unsure; props = h.props }

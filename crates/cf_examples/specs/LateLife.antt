@@ -7,7 +7,7 @@ use Rattle.cf_handler.specs.declared.settled.Settled.{Settled}
 use Rattle.cf_handler.specs.declared.settled.Settlement.TheVariants as settlement
 use Rattle.cf_handler.specs.Fence.{Flying, Raised, Untouched, SettledBy, FlyingOn}
 use Rattle.cf_entry.specs.declared.entry.Entry.{Entry}
-use Rattle.cf_plan.specs.Life.{Life, Lease, Event, CallEnd, Opened, Begin, Grant, Repeat, Settle, Raise, Act, Late, Close, Whole, Answered, IsLife, Holds}
+use Rattle.cf_plan.specs.Life.{Life, Lease, Event, CallEnd, Opened, Begin, Grant, Repeat, Settle, Raise, Act, Late, Close, Whole, Answered, IsLife}
 use Rattle.cf_examples.specs.Given.{file, file_props, file_attrs, schemas}
 use Rattle.cf_examples.specs.LateEffect.{begun, intended, made, created, updating, intended_change, broken_once, broken_twice, broken_thrice, turned, repeated, intended_restore, restored, cleaning, rolled_back, run, opened}
 use Rattle.cf_examples.specs.FirstLife.{start, files_with}
@@ -70,7 +70,8 @@ abbrev pub lease : Lease
 lease = record { number = 2; token = 2; lane = codes "f1"; request = change.request; reply = None }
 
 abbrev pub until_turned : List Entry
-until_turned = opened ∷ begun ∷ intended ∷ made ∷ created ∷ updating ∷ intended_change ∷ broken_once ∷ broken_twice ∷ broken_thrice ∷ turned ∷ []
+until_turned =
+    opened ∷ begun ∷ intended ∷ made ∷ created ∷ updating ∷ intended_change ∷ broken_once ∷ broken_twice ∷ broken_thrice ∷ turned ∷ []
 
 -- it has acted, and nobody knows yet
 abbrev pub acted : Life
@@ -99,8 +100,6 @@ abbrev pub Acts : Type 0
 Acts = IsLife schemas start until_it_acts acted
 
 -- what is recorded and what is live differ then, and journal and lanes agree all the same
-abbrev pub HoldsAsItHasActed : Type 0
-HoldsAsItHasActed = Holds schemas acted
 
 abbrev pub GoesOn : Type 0
 GoesOn = IsLife schemas acted from_then_on end

@@ -14,7 +14,7 @@ use Rattle.cf_entry.specs.declared.status.Status.TheVariants as status
 use Rattle.cf_effect.specs.World.{empty_world}
 use Rattle.cf_effect.specs.Fold.{fold_of}
 use Rattle.cf_plan.specs.Lanes.{Lane}
-use Rattle.cf_plan.specs.Life.{Life, Event, CallEnd, Opened, Begin, Grant, Repeat, Settle, Raise, Act, Late, Close, Whole, Answered, IsLife, IsStart, Holds}
+use Rattle.cf_plan.specs.Life.{Life, Event, CallEnd, Opened, Begin, Grant, Repeat, Settle, Raise, Act, Late, Close, Whole, Answered, IsLife, IsStart}
 use Rattle.cf_examples.specs.Given.{file, file_props, file_attrs, schemas, lane_with, lane_pair}
 use Rattle.cf_examples.specs.LostCreation.{first, begun, intended, broken_once, broken_twice, broken_thrice, turned, broken_back_once, broken_back_twice, broken_back_thrice, failed, deleting, broken_gone_once, broken_gone_twice, broken_gone_thrice, undeleted, deleting_without, kept, deleted, run}
 use Rattle.cf_examples.specs.FirstLife.{files_with}
@@ -108,7 +108,7 @@ from_then_on =
     ∷ Act 2 answer_again (SettledBy creation_again.settlement)
     ∷ Settle 2 made_again Whole ∷ Grant created_again Whole ∷ Close ∷ []
 
--- each lane has a file, and the one of the first lane is no stack's
+-- each lane has a file, and the one of the first lane is no stack's: it is that of the creation which was given up with its stack
 abbrev pub end : Life
 end =
     record {
@@ -125,7 +125,3 @@ GoesOn = IsLife schemas gone from_then_on end
 
 abbrev pub EndsAsPromised : Type 0
 EndsAsPromised = IsPromised (codes "s") (fold_of empty_world end.entries) end.lanes
-
--- the file of the first lane is that of the creation which was given up with its stack
-abbrev pub HoldsInTheEnd : Type 0
-HoldsInTheEnd = Holds schemas end

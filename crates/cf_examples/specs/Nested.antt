@@ -118,7 +118,8 @@ two_faults = record {
 }
 
 abbrev pub record_seen : Seen
-record_seen = (codes "Child/Rec", record { physical = Some (codes "r1:1"); attrs = Some (note_attrs (codes "r1:1") 1 (codes "k") (codes "v")) }) ∷ []
+record_seen =
+    (codes "Child/Rec", record { physical = Some (codes "r1:1"); attrs = Some (note_attrs (codes "r1:1") 1 (codes "k") (codes "v")) }) ∷ []
 
 abbrev pub FirstNamedIsTold : Type 0
 FirstNamedIsTold =

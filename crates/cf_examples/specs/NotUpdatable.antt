@@ -33,10 +33,13 @@ abbrev pub begun : Entry
 begun = entry.Begin 1 (codes "s") (begin.Create first)
 
 abbrev pub intended : Entry
-intended = entry.Intent 1 1 (codes "r1") (codes "K") (request.Create note ((codes "Class", text (codes "sealed")) ∷ (note_props (codes "k") (codes "v"))))
+intended =
+    entry.Intent 1 1 (codes "r1") (codes "K")
+    (request.Create note ((codes "Class", text (codes "sealed")) ∷ (note_props (codes "k") (codes "v"))))
 
 abbrev pub made : Entry
-made = entry.Outcome 1 1 (reply.Success (codes "r1:1") ((codes "Class", text (codes "sealed")) ∷ (note_attrs (codes "r1:1") 1 (codes "k") (codes "v")))) 0 0
+made = entry.Outcome 1 1 (reply.Success (codes "r1:1")
+    ((codes "Class", text (codes "sealed")) ∷ (note_attrs (codes "r1:1") 1 (codes "k") (codes "v")))) 0 0
 
 abbrev pub created : Entry
 created = entry.Done 1 status.CreateComplete []
@@ -53,10 +56,14 @@ abbrev pub not_updatable : Entry
 not_updatable = entry.Outcome 2 2 (reply.Failed code.NotUpdatable) 0 1
 
 abbrev pub intended_new : Entry
-intended_new = entry.Intent 2 3 (codes "r1") (codes "K") (request.Create note ((codes "Class", text (codes "plain")) ∷ (note_props (codes "k") (codes "v"))))
+intended_new =
+    entry.Intent 2 3 (codes "r1") (codes "K")
+    (request.Create note ((codes "Class", text (codes "plain")) ∷ (note_props (codes "k") (codes "v"))))
 
 abbrev pub made_new : Entry
-made_new = entry.Outcome 2 3 (reply.Success (codes "r1:3") ((codes "Class", text (codes "plain")) ∷ (note_attrs (codes "r1:3") 1 (codes "k") (codes "v")))) 1 1
+made_new =
+    entry.Outcome 2 3 (reply.Success (codes "r1:3")
+    ((codes "Class", text (codes "plain")) ∷ (note_attrs (codes "r1:3") 1 (codes "k") (codes "v")))) 1 1
 
 abbrev pub cleaning : Entry
 cleaning = entry.Phase 2 phase.Clean None

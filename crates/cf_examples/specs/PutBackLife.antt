@@ -5,7 +5,9 @@ use Rattle.cf_handler.specs.Fence.{Left, Ahead, Untouched}
 use Rattle.cf_entry.specs.declared.entry.Entry.{Entry}
 use Rattle.cf_entry.specs.declared.entry.Entry.TheVariants as entry
 use Rattle.cf_tree.specs.declared.request.Answer.TheVariants as answer
-use Rattle.cf_plan.specs.Life.{Life, Event, Opened, Grant, Repeat, Settle, Park, Raise, Act, Close, Whole, Answered, Stale, IsLife, MayHappen, Holds}
+use Rattle.cf_plan.specs.Life.{Life, Event, Opened, Grant, Repeat, Settle, Park, Raise, Act, Close, Whole, Answered, Stale, IsLife, Happens, world_of}
+use Rattle.cf_agree.specs.Ties.{AreTied}
+use Rattle.cf_core.specs.AccountOf.{account_of, lanes_of}
 use Rattle.cf_schema.specs.declared.described.Schema.{Schema}
 use Rattle.cf_examples.specs.Given.{file, file_attrs, schemas, lane_pair}
 use Rattle.cf_examples.specs.FirstResource.{opened, begun, intended, answered, done}
@@ -52,5 +54,6 @@ CatchesUp = IsLife schemas put_back events end
 -- Where journal and lanes agree, no call is stale: no fence is past the last opening.
 abbrev pub NeverStale : Type 0
 NeverStale =
-    (given : List Schema) (life : Life) (token fence : ℕ) (left : Left) → Holds given life
-    → MayHappen given life (Act token (Stale fence) left) → ⊥
+    (given : List Schema) (life : Life) (token fence : ℕ) (left : Left)
+    → AreTied (account_of life.entries (world_of life)) (lanes_of life.lanes)
+    → Happens given life (Act token (Stale fence) left) → ⊥

@@ -67,7 +67,10 @@ Legal = IsLegal schemas empty_world run
 abbrev pub Shows : Type 0
 Shows =
     report_of (codes "s") (fold_of empty_world run)
-    ≡ record (bare status.DeleteComplete 1) { leftovers = record { path = (codes "A"); physical = (codes "f1:1"); why = why.Retained } ∷ [] }
+    ≡ record (bare status.DeleteComplete 1) {
+      leftovers = record { path = (codes "A"); physical = (codes "f1:1"); why = why.Retained }
+          ∷ [];
+    }
 
 -- What is needed may not leave the stack before what needs it.
 abbrev pub KeptTooEarly : Type 0

@@ -53,10 +53,12 @@ abbrev pub made_audit : Entry
 made_audit = entry.Outcome 1 1 (reply.Success (codes "f1:1") (file_attrs (codes "f1:1") 2 (codes "audit.txt") (codes "on"))) 0 0
 
 abbrev pub intended_conf : Entry
-intended_conf = entry.Intent 1 2 (codes "f1") (codes "Conf") (request.Create file (file_props (codes "site.conf") (codes "stage=prod\ndepth=8")))
+intended_conf =
+    entry.Intent 1 2 (codes "f1") (codes "Conf") (request.Create file (file_props (codes "site.conf") (codes "stage=prod\ndepth=8")))
 
 abbrev pub made_conf : Entry
-made_conf = entry.Outcome 1 2 (reply.Success (codes "f1:2") (file_attrs (codes "f1:2") 18 (codes "site.conf") (codes "stage=prod\ndepth=8"))) 0 0
+made_conf =
+    entry.Outcome 1 2 (reply.Success (codes "f1:2") (file_attrs (codes "f1:2") 18 (codes "site.conf") (codes "stage=prod\ndepth=8"))) 0 0
 
 abbrev pub intended_home : Entry
 intended_home = entry.Intent 1 3 (codes "f1") (codes "Home") (request.Create file (file_props (codes "home.txt") (codes "beta")))

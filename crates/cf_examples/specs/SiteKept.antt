@@ -24,13 +24,15 @@ abbrev pub updating : Entry
 updating = entry.Begin 3 (codes "site") (begin.Update other_hosts)
 
 abbrev pub intended_home_change : Entry
-intended_home_change = entry.Intent 3 7 (codes "f1") (codes "Home") (request.Update (codes "f1:3") (file_props (codes "home.txt") (codes "b")))
+intended_home_change =
+    entry.Intent 3 7 (codes "f1") (codes "Home") (request.Update (codes "f1:3") (file_props (codes "home.txt") (codes "b")))
 
 abbrev pub changed_home : Entry
 changed_home = entry.Outcome 3 7 (reply.Success (codes "f1:3") (file_attrs (codes "f1:3") 1 (codes "home.txt") (codes "b"))) 0 0
 
 abbrev pub intended_size_change : Entry
-intended_size_change = entry.Intent 3 8 (codes "r1") (codes "Size") (request.Update (codes "r1:5") (note_props (codes "size") (codes "18/1")))
+intended_size_change =
+    entry.Intent 3 8 (codes "r1") (codes "Size") (request.Update (codes "r1:5") (note_props (codes "size") (codes "18/1")))
 
 abbrev pub changed_size : Entry
 changed_size = entry.Outcome 3 8 (reply.Success (codes "r1:5") (note_attrs (codes "r1:5") 4 (codes "size") (codes "18/1"))) 0 0
@@ -39,13 +41,15 @@ abbrev pub turned : Entry
 turned = entry.Phase 3 phase.Back (Some (cause.Export (codes "site-total")))
 
 abbrev pub intended_home_restore : Entry
-intended_home_restore = entry.Intent 3 9 (codes "f1") (codes "Home") (request.Update (codes "f1:3") (file_props (codes "home.txt") (codes "beta")))
+intended_home_restore =
+    entry.Intent 3 9 (codes "f1") (codes "Home") (request.Update (codes "f1:3") (file_props (codes "home.txt") (codes "beta")))
 
 abbrev pub restored_home : Entry
 restored_home = entry.Outcome 3 9 (reply.Success (codes "f1:3") (file_attrs (codes "f1:3") 4 (codes "home.txt") (codes "beta"))) 0 0
 
 abbrev pub intended_size_restore : Entry
-intended_size_restore = entry.Intent 3 10 (codes "r1") (codes "Size") (request.Update (codes "r1:5") (note_props (codes "size") (codes "18/4")))
+intended_size_restore =
+    entry.Intent 3 10 (codes "r1") (codes "Size") (request.Update (codes "r1:5") (note_props (codes "size") (codes "18/4")))
 
 abbrev pub restored_size : Entry
 restored_size = entry.Outcome 3 10 (reply.Success (codes "r1:5") (note_attrs (codes "r1:5") 4 (codes "size") (codes "18/4"))) 0 0

@@ -142,9 +142,11 @@ SkipsAnother = IsRefusedAfter until_opened_again (entry.Begin 3 (codes "s") (beg
 abbrev pub ContinuedAtOnce : Type 0
 ContinuedAtOnce = IsRefusedAfter until_failed continued
 
--- A change set with the first template then has a row for the file, which is unsure though nothing of it differs; without the row it is refused.
+-- A change set with the first template then has a row for the file, which is unsure though nothing of it differs; without the row it is
+-- refused.
 abbrev pub rows : List Row
-rows = record { action = action.Modify; path = codes "A"; kind = file; replacement = Some replacement.False; unsure = true; details = [] } ∷ []
+rows = record { action = action.Modify; path = codes "A"; kind = file; replacement = Some replacement.False; unsure = true; details = [] }
+    ∷ []
 
 abbrev pub reviewed : List Row → Entry
 reviewed rs = entry.ChangeSet 1 (codes "s") first rs false

@@ -69,7 +69,8 @@ abbrev pub rolled_back : Entry
 rolled_back = entry.Done 2 status.UpdateRollbackComplete []
 
 abbrev pub run : List Entry
-run = opened ∷ begun ∷ intended_a ∷ made_a ∷ intended_b ∷ made_b ∷ created ∷ updating ∷ intended_move ∷ refused ∷ turned ∷ cleaning ∷ rolled_back ∷ []
+run = opened ∷ begun ∷ intended_a ∷ made_a ∷ intended_b ∷ made_b ∷ created ∷ updating ∷ intended_move ∷ refused ∷ turned ∷ cleaning
+    ∷ rolled_back ∷ []
 
 -- each entry may follow where it stands
 abbrev pub Legal : Type 0

@@ -17,7 +17,7 @@ ghost use Rattle.cf_examples.specs.MadeAndTakenBack as an_update_taken_back_run;
 ghost use Rattle.cf_examples.specs.Retained as a_retained_resource_run;
 ghost use Rattle.cf_examples.specs.Nested as a_nested_stack_run;
 ghost use Rattle.cf_examples.specs.Ends.{ReplacementIsComplete, LateEffectIsRestored, RollbackIsRestored, DeletionIsCleared, FailedDeletionIsBlamed, FailedRollbackIsBlamed, FailuresAreBlamed};
-ghost use Rattle.cf_examples.specs.CrashedLife.{Crashes, HoldsWhileItFlies, GoesOn};
+ghost use Rattle.cf_examples.specs.CrashedLife.{Crashes, GoesOn};
 ghost use Rattle.cf_examples.specs.LateLife as the_late_life_run;
 ghost use Rattle.cf_examples.specs.ContinuedLife as the_continued_life_run;
 ghost use Rattle.cf_examples.specs.LeftOutLife as the_left_out_life_run;
@@ -25,7 +25,7 @@ ghost use Rattle.cf_examples.specs.StoppedLife as the_stopped_life_run;
 ghost use Rattle.cf_examples.specs.PairedLife as the_paired_life_run;
 ghost use Rattle.cf_examples.specs.PutBackLife as the_put_back_life_run;
 ghost use Rattle.cf_examples.specs.DeletedLife as the_deleted_life_run;
-ghost use Rattle.cf_examples.specs.FirstLife.{StartIsOne, Lives, HoldsBeforeItIsWritten, HoldsInTheEnd, KeepsItsPromises};
+ghost use Rattle.cf_examples.specs.FirstLife.{Acts, KeepsItsPromises, Lives, StartIsOne};
 ghost use Rattle.cf_examples.specs.Pinned as a_pinned_export_run;
 ghost use Rattle.cf_examples.specs.Site as a_site_deleted_run;
 ghost use Rattle.cf_examples.specs.SiteKept as a_site_kept_run;
@@ -188,8 +188,7 @@ pub fn the_ends()
 pub fn the_first_life()
     ensures start { StartIsOne }
     ensures lives { Lives }
-    ensures holds_before { HoldsBeforeItIsWritten }
-    ensures holds { HoldsInTheEnd }
+    ensures acts { Acts }
     ensures promises { KeepsItsPromises }
 {}
 
@@ -197,7 +196,6 @@ pub fn the_first_life()
 /// again, the call is repeated under its token, and the operation ends.
 pub fn the_crashed_life()
     ensures crashes { Crashes }
-    ensures holds { HoldsWhileItFlies }
     ensures goes_on { GoesOn }
 {}
 
@@ -205,7 +203,6 @@ pub fn the_crashed_life()
 /// has acted and nobody knows, and the rollback then gives back what was there.
 pub fn the_late_life()
     ensures acts { the_late_life_run.Acts }
-    ensures holds { the_late_life_run.HoldsAsItHasActed }
     ensures goes_on { the_late_life_run.GoesOn }
 {}
 
@@ -227,7 +224,6 @@ pub fn the_left_out_life()
     ensures cleared { the_left_out_life_run.ClearsAsPromised }
     ensures goes_on { the_left_out_life_run.GoesOn }
     ensures complete { the_left_out_life_run.EndsAsPromised }
-    ensures holds { the_left_out_life_run.HoldsInTheEnd }
 {}
 
 /// A life with two calls at once, whose book is stopped by appends that break with their entry and without it: calls that are
@@ -261,7 +257,6 @@ pub fn the_put_back_life()
 /// though the stack holds what is gone. Called again it answers as it did, and the stack is cleared.
 pub fn the_deleted_life()
     ensures crashes { the_deleted_life_run.Crashes }
-    ensures holds { the_deleted_life_run.HoldsThoughGone }
     ensures goes_on { the_deleted_life_run.GoesOn }
     ensures cleared { the_deleted_life_run.EndsAsPromised }
 {}

@@ -1,4 +1,5 @@
--- What exports and pins are asked (User Guide, exporting stack output values: a name is unique, and an export that is imported can't be taken away).
+-- What exports and pins are asked (User Guide, exporting stack output values: a name is unique, and an export that is imported can't be
+-- taken away).
 use Rattle.std.specs.Prelude.{ℕ, Bool, List, ◌&&◌, not}
 use Rattle.std.specs.Str.{bytes_eq}
 use Rattle.cf_export.specs.declared.Export.{Export}

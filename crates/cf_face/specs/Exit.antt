@@ -18,38 +18,38 @@ use Rattle.cf_entry.specs.Status.{status_name}
 use Rattle.cf_face.specs.Line.{line_of, text_word, texts_word}
 
 -- the number of an exit, which is the status of the process
-abbrev pub number_of : Exit → ℕ
-number_of exit.Done = 0
-number_of exit.BadWords = 1
-number_of (exit.TemplateRefused fault) = 2
-number_of (exit.StackRefused fault) = 3
-number_of (exit.RolledBack cause) = 4
-number_of (exit.Failed blamed) = 5
-number_of exit.LibraryFault = 6
-number_of exit.DiskFault = 7
-number_of exit.SinkFault = 8
-number_of exit.NoMemory = 9
-number_of (exit.NotAJournal offset) = 10
-number_of (exit.LaneMissing name) = 11
-number_of (exit.LaneTwice name) = 11
-number_of (exit.Full length need room) = 14
+abbrev pub exit_number : Exit → ℕ
+exit_number exit.Done = 0
+exit_number exit.BadWords = 1
+exit_number (exit.TemplateRefused fault) = 2
+exit_number (exit.StackRefused fault) = 3
+exit_number (exit.RolledBack cause) = 4
+exit_number (exit.Failed blamed) = 5
+exit_number exit.LibraryFault = 6
+exit_number exit.DiskFault = 7
+exit_number exit.SinkFault = 8
+exit_number exit.NoMemory = 9
+exit_number (exit.NotAJournal offset) = 10
+exit_number (exit.LaneMissing name) = 11
+exit_number (exit.LaneTwice name) = 11
+exit_number (exit.Full length need room) = 14
 
 -- the name of an exit
-abbrev pub name_of : Exit → List ℕ
-name_of exit.Done = codes "Done"
-name_of exit.BadWords = codes "BadWords"
-name_of (exit.TemplateRefused fault) = codes "TemplateRefused"
-name_of (exit.StackRefused fault) = codes "StackRefused"
-name_of (exit.RolledBack cause) = codes "RolledBack"
-name_of (exit.Failed blamed) = codes "Failed"
-name_of exit.LibraryFault = codes "LibraryFault"
-name_of exit.DiskFault = codes "DiskFault"
-name_of exit.SinkFault = codes "SinkFault"
-name_of exit.NoMemory = codes "NoMemory"
-name_of (exit.NotAJournal offset) = codes "NotAJournal"
-name_of (exit.LaneMissing name) = codes "LaneMissing"
-name_of (exit.LaneTwice name) = codes "LaneTwice"
-name_of (exit.Full length need room) = codes "Full"
+abbrev pub exit_name : Exit → List ℕ
+exit_name exit.Done = codes "Done"
+exit_name exit.BadWords = codes "BadWords"
+exit_name (exit.TemplateRefused fault) = codes "TemplateRefused"
+exit_name (exit.StackRefused fault) = codes "StackRefused"
+exit_name (exit.RolledBack cause) = codes "RolledBack"
+exit_name (exit.Failed blamed) = codes "Failed"
+exit_name exit.LibraryFault = codes "LibraryFault"
+exit_name exit.DiskFault = codes "DiskFault"
+exit_name exit.SinkFault = codes "SinkFault"
+exit_name exit.NoMemory = codes "NoMemory"
+exit_name (exit.NotAJournal offset) = codes "NotAJournal"
+exit_name (exit.LaneMissing name) = codes "LaneMissing"
+exit_name (exit.LaneTwice name) = codes "LaneTwice"
+exit_name (exit.Full length need room) = codes "Full"
 
 -- why a template was not read: the fault's name and then its fields
 abbrev pub unread_words : TemplateFault → List (List ℕ)
@@ -108,4 +108,4 @@ field_words (exit.Full length need room) = decimal length ∷ decimal need ∷ d
 
 -- the line of an exit: `exit`, its number, its name, and its fields in order
 abbrev pub exit_line : Exit → List ℕ
-exit_line e = line_of (codes "exit") (decimal (number_of e) ∷ name_of e ∷ field_words e)
+exit_line e = line_of (codes "exit") (decimal (exit_number e) ∷ exit_name e ∷ field_words e)

@@ -87,8 +87,8 @@ held_line h = line_of (codes "resource") (h.path ∷ h.kind ∷ h.physical ∷ h
 abbrev pub is_held_before : Held → Held → Bool
 is_held_before a b = bytes_lt a.path b.path || (bytes_eq a.path b.path && bytes_lt a.physical b.physical)
 
-abbrev pub in_order : List Held → List Held
-in_order hs = fold (insert_by is_held_before) [] hs
+abbrev pub held_in_order : List Held → List Held
+held_in_order hs = fold (insert_by is_held_before) [] hs
 
 -- the line of an output: its value, and where it is exported the name of the export, as compact JSON
 abbrev pub export_words : Option (List ℕ) → List (List ℕ)
@@ -99,13 +99,13 @@ abbrev pub output_line : Output → List ℕ
 output_line o = line_of (codes "output") (o.name ∷ text_word o.value ∷ export_words o.export)
 
 -- the line of a leftover, with why it is one
-abbrev pub why_name : Why → List ℕ
-why_name why.Retained = codes "retained"
-why_name why.Failed = codes "failed"
-why_name why.Doubt = codes "doubt"
+abbrev pub leftover_why : Why → List ℕ
+leftover_why why.Retained = codes "retained"
+leftover_why why.Failed = codes "failed"
+leftover_why why.Doubt = codes "doubt"
 
 abbrev pub leftover_line : Leftover → List ℕ
-leftover_line l = line_of (codes "leftover") (l.path ∷ l.physical ∷ why_name l.why ∷ [])
+leftover_line l = line_of (codes "leftover") (l.path ∷ l.physical ∷ leftover_why l.why ∷ [])
 
 -- the paths that failed in the last operation that ended: those that its end names
 abbrev pub failed_in : Entry → Option (List (List ℕ))
@@ -125,7 +125,7 @@ abbrev pub stack_report : List ℕ → StackState → Exit → List ℕ
 stack_report name s e =
     stack_line name (status_name s.status) s.number
     ++ (parameter_lines (told_source s)
-    ++ (flat_map held_line (in_order s.held)
+    ++ (flat_map held_line (held_in_order s.held)
     ++ (flat_map output_line s.outputs
     ++ (flat_map leftover_line s.leftovers
     ++ (flat_map failed_line (last_failed s.entries)

@@ -27,14 +27,14 @@ is_template_name name = nat_le 1 (length name) && nat_le (length name) 128
 abbrev pub named_setting : List ℕ × List ℕ → Option (List ℕ × List ℕ)
 named_setting cut = if is_name cut.0 then Some cut else None
 
-abbrev pub setting_of : List ℕ → Option (List ℕ × List ℕ)
-setting_of word = option_and_then named_setting (cut_at (codes "=") word)
+abbrev pub setting_in_word : List ℕ → Option (List ℕ × List ℕ)
+setting_in_word word = option_and_then named_setting (cut_at (codes "=") word)
 
 -- what words give, put among what others gave; a word that is no setting, or a name that is given twice, makes them none
 abbrev pub given_beside : List (List ℕ) → List (List ℕ × List ℕ) → Option (List (List ℕ × List ℕ))
 given_beside [] given = Some given
 given_beside (word ∷ words) given =
-    option_and_then (λ s. if is_some (value_at s.0 given) then None else given_beside words (put s.0 s.1 given)) (setting_of word)
+    option_and_then (λ s. if is_some (value_at s.0 given) then None else given_beside words (put s.0 s.1 given)) (setting_in_word word)
 
 -- what words give for parameters, by name
 abbrev pub given_of : List (List ℕ) → Option (List (List ℕ × List ℕ))

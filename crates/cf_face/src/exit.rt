@@ -3,7 +3,7 @@
 ghost use Rattle.std.specs.Prelude.{◌≡◌, ◌++◌, [], ◌∷◌, codes, decimal, IfOk, string_bytes};
 ghost use Rattle.cf_desired.specs.FlawText.{flaw_text};
 ghost use Rattle.cf_face.specs.Line.{spaced};
-ghost use Rattle.cf_face.specs.Exit.{number_of, name_of, refusal_words, stack_words, field_words, exit_line};
+ghost use Rattle.cf_face.specs.Exit.{exit_number, exit_name, refusal_words, stack_words, field_words, exit_line};
 
 use crate::cause::push_cause;
 use crate::fault_words::push_unread;
@@ -72,7 +72,7 @@ pub enum StackFault {
 impl Exit {
     /// The number of the exit, which is the status of the process.
     pub fn number(&self) -> u8
-        ensures { result ≡ number_of self.now }
+        ensures { result ≡ exit_number self.now }
     {
         match self {
             Exit::Done => 0,
@@ -93,7 +93,7 @@ impl Exit {
 
     /// The name of the exit.
     pub fn name(&self) -> &'static str
-        ensures { result.now ≡ name_of self.now }
+        ensures { result.now ≡ exit_name self.now }
     {
         match self {
             Exit::Done => "Done",

@@ -1,7 +1,7 @@
 //! What a stack holds, in the order of a report.
 ghost use Rattle.std.specs.Prelude.{◌≡◌, ◌≤◌, ◌||◌, ◌&&◌, IfOk, insert, length, map};
 ghost use Rattle.cf_tree.specs.Lists.{insert_by};
-ghost use Rattle.cf_face.specs.Report.{is_held_before, in_order};
+ghost use Rattle.cf_face.specs.Report.{is_held_before, held_in_order};
 
 use cf_stacks::Held;
 use cf_tree::NoMemory;
@@ -41,7 +41,7 @@ fn insert_row<'a>(rows: &mut Vec<&'a Held>, held: &'a Held) -> Result<(), NoMemo
 
 /// What is held, by path and then by physical id.
 pub fn in_order<'a>(alloc: Global, held: &'a [Held]) -> Result<Vec<&'a Held>, NoMemory>
-    ensures { IfOk result (λ rows. map (λ r. r.now) rows.items ≡ in_order held.now) }
+    ensures { IfOk result (λ rows. map (λ r. r.now) rows.items ≡ held_in_order held.now) }
 {
     let mut rows = Vec::new(alloc);
     for one in held {

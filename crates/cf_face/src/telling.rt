@@ -3,7 +3,7 @@ ghost use Rattle.std.specs.Prelude.{◌≡◌, ◌++◌, IfOk, map, string_bytes
 ghost use Rattle.std.specs.List.{flat_map};
 ghost use Rattle.std.specs.Option.{option_copied};
 ghost use Rattle.cf_face.specs.Line.{spaced};
-ghost use Rattle.cf_face.specs.Report.{export_words, failed_in, failed_line, held_line, held_status_name, in_order, last_failed, leftover_line, output_line, stack_line, stack_report, unsure_words, why_name};
+ghost use Rattle.cf_face.specs.Report.{export_words, failed_in, failed_line, held_line, held_status_name, held_in_order, last_failed, leftover_line, output_line, stack_line, stack_report, unsure_words, leftover_why};
 
 use crate::exit::Exit;
 use crate::line::{push_named, push_number, push_text, push_word};
@@ -82,7 +82,7 @@ fn push_rows(report: &mut String, rows: &[&Held]) -> Result<(), NoMemory>
 
 /// Adds a line for each resource that is held, by path and then by physical id.
 fn push_helds(alloc: Global, report: &mut String, held: &[Held]) -> Result<(), NoMemory>
-    ensures { IfOk result (λ _. string_bytes report.new ≡ string_bytes report.old ++ flat_map held_line (in_order held.now)) }
+    ensures { IfOk result (λ _. string_bytes report.new ≡ string_bytes report.old ++ flat_map held_line (held_in_order held.now)) }
 {
     let rows = in_order(alloc, held)?;
     push_rows(report, rows.as_slice())
@@ -122,7 +122,7 @@ fn push_outputs(alloc: Global, report: &mut String, outputs: &[Output]) -> Resul
 
 /// Why a resource is left over, in a word.
 fn why_name(why: Why) -> &'static str
-    ensures { result.now ≡ why_name why }
+    ensures { result.now ≡ leftover_why why }
 {
     match why {
         Why::Retained => "retained",

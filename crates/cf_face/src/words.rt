@@ -5,7 +5,7 @@ ghost use Rattle.std.specs.Char.{is_ascii_alphanumeric};
 ghost use Rattle.std.specs.List.{list_all};
 ghost use Rattle.cf_template.specs.Words.{is_name};
 ghost use Rattle.cf_face.specs.declared.words.Command.TheVariants.{Deploy};
-ghost use Rattle.cf_face.specs.Words.{command_of, drives, workers_of, deploy_of, describe_of, validate_of, setting_of, given_of, is_stack_name, is_template_name, is_name_byte};
+ghost use Rattle.cf_face.specs.Words.{command_of, drives, workers_of, deploy_of, describe_of, validate_of, setting_in_word, given_of, is_stack_name, is_template_name, is_name_byte};
 
 use cf_funcs::cut;
 use cf_tree::{NoMemory, Pairs, Txt};
@@ -151,7 +151,7 @@ fn read_given(alloc: Global, words: &[Txt]) -> Result<Option<Pairs>, NoMemory>
 
 // The name and the value that a word gives for a parameter.
 fn setting(word: &str) -> Option<(&str, &str)>
-    ensures { option_map (λ s. (s.0.now, s.1.now)) result ≡ setting_of word.now }
+    ensures { option_map (λ s. (s.0.now, s.1.now)) result ≡ setting_in_word word.now }
 {
     match cut(word, "=") {
         Some((name, value)) if is_parameter_name(name) => Some((name, value)),

@@ -33,13 +33,13 @@ use Rattle.cf_fake.specs.declared.planned.Break.{Break}
 use Rattle.cf_fake.specs.declared.planned.Break.TheVariants.{Refuse, FaultBefore, FaultAfter}
 use Rattle.cf_fake.specs.Refusable.{may_refuse, may_break}
 use Rattle.cf_fake.specs.Plan.{settled_by, told_by, IsWorked, IsTold, new_entry, AnswersByTable}
-use Rattle.cf_handler.specs.Lane.{LaneState, Live, live_after, live_of, changed_by, updated, has_id, is_used, succeeded_with, settlement_of}
+use Rattle.cf_handler.specs.Lane.{LaneState, Live, live_after, live_of, live_changed, updated, has_id, is_used, succeeded_with, settlement_of}
 use Rattle.cf_handler.specs.Name.{is_lane_name}
 use Rattle.cf_fake.specs.Table.{id_of, is_of_id, is_settable, is_there, are_valid, is_taken, is_fixed, measured, attrs_of, update_answer, delete_answer, answer_to}
 use Rattle.cf_fake.specs.Live.{has_other, differ, lives}
 use Rattle.cf_fake.specs.declared.live.LiveResource.{LiveResource}
 use Rattle.std.specs.declared.alloc.AllocError.{AllocError}
-use Rattle.cf_fake.specs.Sound.{is_made_by, is_known, is_sound, are_sound, are_known, lane_of, IsKept}
+use Rattle.cf_fake.specs.Sound.{is_made_by, is_known, is_sound, are_sound, are_known, lane_of, IsSoundTable}
 
 both : (a b : Bool) → a ≡ true → b ≡ true → (a && b) ≡ true
 both true b h g = g
@@ -62,9 +62,9 @@ not_false true h = absurd (true≢false h)
 not_false false h = refl
 
 -- what is live after one more call
-pub live_more : (live : List Live) (ss : List Settled) (s : Settled) → live_after live (ss ++ s ∷ []) ≡ changed_by s.request s.settlement (live_after live ss)
+pub live_more : (live : List Live) (ss : List Settled) (s : Settled) → live_after live (ss ++ s ∷ []) ≡ live_changed s.request s.settlement (live_after live ss)
 live_more live [] s = refl
-live_more live (x ∷ ss) s = live_more (changed_by x.request x.settlement live) ss s
+live_more live (x ∷ ss) s = live_more (live_changed x.request x.settlement live) ss s
 
 known-by : (a b c : Bool) → (b ≡ true → c ≡ true) → (a || b) ≡ true → (a || c) ≡ true
 known-by true b c f h = refl
@@ -279,22 +279,22 @@ differ_made name ss (r ∷ rs) x k u h =
 -- What a new token may be settled with, so that the lane moves and all stays kept.
 record Fits (name : List ℕ) (ss : List Settled) (token : ℕ) (request : Request) (s : Settlement) : Type 0 where
   may : MaySettle name (lane_of ss) request s
-  kept : IsKept name (ss ++ record { token = token; request = request; settlement = s } ∷ [])
+  kept : IsSoundTable name (ss ++ record { token = token; request = request; settlement = s } ∷ [])
   short : IsShort (answer_of s)
 
-kept_from : (name : List ℕ) (ss : List Settled) (x : Settled) → IsKept name ss → is_sound name (ss ++ x ∷ []) x.settlement ≡ true → are_known name (ss ++ x ∷ []) (changed_by x.request x.settlement (live_of (lane_of ss))) ≡ true → differ (changed_by x.request x.settlement (live_of (lane_of ss))) ≡ true → IsKept name (ss ++ x ∷ [])
+kept_from : (name : List ℕ) (ss : List Settled) (x : Settled) → IsSoundTable name ss → is_sound name (ss ++ x ∷ []) x.settlement ≡ true → are_known name (ss ++ x ∷ []) (live_changed x.request x.settlement (live_of (lane_of ss))) ≡ true → differ (live_changed x.request x.settlement (live_of (lane_of ss))) ≡ true → IsSoundTable name (ss ++ x ∷ [])
 kept_from name ss x k s e d = record {
   sound = sound_more name ss x k.sound s;
   known = subst (λ live. are_known name (ss ++ x ∷ []) live ≡ true) (sym (live_more [] ss x)) e;
   differ = subst (λ live. differ live ≡ true) (sym (live_more [] ss x)) d;
 }
 
-failed_same : (request : Request) (c : Code) (live : List Live) → changed_by request (Failed c) live ≡ live
+failed_same : (request : Request) (c : Code) (live : List Live) → live_changed request (Failed c) live ≡ live
 failed_same (Create kind props) c live = refl
 failed_same (Update id props) c live = refl
 failed_same (Delete id) c live = refl
 
-fits_failed : (name : List ℕ) (ss : List Settled) (token : ℕ) (request : Request) (c : Code) → IsKept name ss → MaySettle name (lane_of ss) request (Failed c) → Fits name ss token request (Failed c)
+fits_failed : (name : List ℕ) (ss : List Settled) (token : ℕ) (request : Request) (c : Code) → IsSoundTable name ss → MaySettle name (lane_of ss) request (Failed c) → Fits name ss token request (Failed c)
 fits_failed name ss token request c k m =
     let x : Settled = record { token = token; request = request; settlement = Failed c } in
     record {
@@ -305,7 +305,7 @@ fits_failed name ss token request c k m =
       short = tt;
     }
 
-fits_created : (g : Schema) (name : List ℕ) (ss : List Settled) (token : ℕ) (kind : List ℕ) (props : List (List ℕ × Data)) → is_lane_name name ≡ true → token < 2 ^ 64 → IsKept name ss → settlement_of token ss ≡ None → are_valid g props ≡ true → Fits name ss token (Create kind props) (Success (id_of name token) (attrs_of (id_of name token) props))
+fits_created : (g : Schema) (name : List ℕ) (ss : List Settled) (token : ℕ) (kind : List ℕ) (props : List (List ℕ × Data)) → is_lane_name name ≡ true → token < 2 ^ 64 → IsSoundTable name ss → settlement_of token ss ≡ None → are_valid g props ≡ true → Fits name ss token (Create kind props) (Success (id_of name token) (attrs_of (id_of name token) props))
 fits_created g name ss token kind props n t k e v =
     let id : List ℕ = id_of name token in
     let x : Settled = record { token = token; request = Create kind props; settlement = Success id (attrs_of id props) } in
@@ -320,7 +320,7 @@ fits_created g name ss token kind props n t k e v =
       short = (omega (arith, id_short name token n t), size);
     }
 
-fits_updated : (g : Schema) (name : List ℕ) (ss : List Settled) (token : ℕ) (id : List ℕ) (props : List (List ℕ × Data)) → is_lane_name name ≡ true → IsKept name ss → has_id id (live_of (lane_of ss)) ≡ true → are_valid g props ≡ true → Fits name ss token (Update id props) (Success id (attrs_of id props))
+fits_updated : (g : Schema) (name : List ℕ) (ss : List Settled) (token : ℕ) (id : List ℕ) (props : List (List ℕ × Data)) → is_lane_name name ≡ true → IsSoundTable name ss → has_id id (live_of (lane_of ss)) ≡ true → are_valid g props ≡ true → Fits name ss token (Update id props) (Success id (attrs_of id props))
 fits_updated g name ss token id props n k h v =
     let x : Settled = record { token = token; request = Update id props; settlement = Success id (attrs_of id props) } in
     let known : is_known name ss id ≡ true = known_live name ss (live_of (lane_of ss)) id k.known h in
@@ -333,7 +333,7 @@ fits_updated g name ss token id props n k h v =
       short = (omega (arith, known_short name ss id n known), size);
     }
 
-fits_deleted : (name : List ℕ) (ss : List Settled) (token : ℕ) (id : List ℕ) → is_lane_name name ≡ true → IsKept name ss → has_id id (live_of (lane_of ss)) ≡ true → Fits name ss token (Delete id) (Success id [])
+fits_deleted : (name : List ℕ) (ss : List Settled) (token : ℕ) (id : List ℕ) → is_lane_name name ≡ true → IsSoundTable name ss → has_id id (live_of (lane_of ss)) ≡ true → Fits name ss token (Delete id) (Success id [])
 fits_deleted name ss token id n k h =
     let x : Settled = record { token = token; request = Delete id; settlement = Success id [] } in
     let known : is_known name ss id ≡ true = known_live name ss (live_of (lane_of ss)) id k.known h in
@@ -347,26 +347,26 @@ fits_deleted name ss token id n k h =
     }
 
 -- The answers of the table fit.
-fits_create-by : (name : List ℕ) (ss : List Settled) (token : ℕ) (kind : List ℕ) (props : List (List ℕ × Data)) (valid taken : Bool) → IsKept name ss → (valid ≡ true → Fits name ss token (Create kind props) (Success (id_of name token) (attrs_of (id_of name token) props))) → Fits name ss token (Create kind props) (cond valid (cond taken (Failed code.AlreadyExists) (Success (id_of name token) (attrs_of (id_of name token) props))) (Failed code.InvalidRequest))
+fits_create-by : (name : List ℕ) (ss : List Settled) (token : ℕ) (kind : List ℕ) (props : List (List ℕ × Data)) (valid taken : Bool) → IsSoundTable name ss → (valid ≡ true → Fits name ss token (Create kind props) (Success (id_of name token) (attrs_of (id_of name token) props))) → Fits name ss token (Create kind props) (cond valid (cond taken (Failed code.AlreadyExists) (Success (id_of name token) (attrs_of (id_of name token) props))) (Failed code.InvalidRequest))
 fits_create-by name ss token kind props true true k h = fits_failed name ss token (Create kind props) code.AlreadyExists k tt
 fits_create-by name ss token kind props true false k h = h refl
 fits_create-by name ss token kind props false taken k h = fits_failed name ss token (Create kind props) code.InvalidRequest k tt
 
-fits_update-by : (name : List ℕ) (ss : List Settled) (token : ℕ) (id : List ℕ) (props : List (List ℕ × Data)) (valid fixed : Bool) → IsKept name ss → (valid ≡ true → Fits name ss token (Update id props) (Success id (attrs_of id props))) → Fits name ss token (Update id props) (cond valid (cond fixed (Failed code.NotUpdatable) (Success id (attrs_of id props))) (Failed code.InvalidRequest))
+fits_update-by : (name : List ℕ) (ss : List Settled) (token : ℕ) (id : List ℕ) (props : List (List ℕ × Data)) (valid fixed : Bool) → IsSoundTable name ss → (valid ≡ true → Fits name ss token (Update id props) (Success id (attrs_of id props))) → Fits name ss token (Update id props) (cond valid (cond fixed (Failed code.NotUpdatable) (Success id (attrs_of id props))) (Failed code.InvalidRequest))
 fits_update-by name ss token id props true true k h = fits_failed name ss token (Update id props) code.NotUpdatable k tt
 fits_update-by name ss token id props true false k h = h refl
 fits_update-by name ss token id props false fixed k h = fits_failed name ss token (Update id props) code.InvalidRequest k tt
 
-fits_update : (g : Schema) (name : List ℕ) (ss : List Settled) (token : ℕ) (id : List ℕ) (props : List (List ℕ × Data)) (o : Option Live) → is_lane_name name ≡ true → IsKept name ss → find (is_of_id id) (live_of (lane_of ss)) ≡ o → Fits name ss token (Update id props) (update_answer g id props o)
+fits_update : (g : Schema) (name : List ℕ) (ss : List Settled) (token : ℕ) (id : List ℕ) (props : List (List ℕ × Data)) (o : Option Live) → is_lane_name name ≡ true → IsSoundTable name ss → find (is_of_id id) (live_of (lane_of ss)) ≡ o → Fits name ss token (Update id props) (update_answer g id props o)
 fits_update g name ss token id props None n k e = fits_failed name ss token (Update id props) code.NotFound k tt
 fits_update g name ss token id props (Some r) n k e =
     fits_update-by name ss token id props (are_valid g props) (is_fixed g r.props props) k (λ v. fits_updated g name ss token id props n k (found_has id (live_of (lane_of ss)) r e) v)
 
-fits_delete : (name : List ℕ) (ss : List Settled) (token : ℕ) (id : List ℕ) (o : Option Live) → is_lane_name name ≡ true → IsKept name ss → find (is_of_id id) (live_of (lane_of ss)) ≡ o → Fits name ss token (Delete id) (delete_answer id o)
+fits_delete : (name : List ℕ) (ss : List Settled) (token : ℕ) (id : List ℕ) (o : Option Live) → is_lane_name name ≡ true → IsSoundTable name ss → find (is_of_id id) (live_of (lane_of ss)) ≡ o → Fits name ss token (Delete id) (delete_answer id o)
 fits_delete name ss token id None n k e = fits_failed name ss token (Delete id) code.NotFound k (nowhere_has id (live_of (lane_of ss)) e)
 fits_delete name ss token id (Some r) n k e = fits_deleted name ss token id n k (found_has id (live_of (lane_of ss)) r e)
 
-fits_table : (g : Schema) (name : List ℕ) (ss : List Settled) (token : ℕ) (request : Request) → is_lane_name name ≡ true → token < 2 ^ 64 → IsKept name ss → settlement_of token ss ≡ None → Fits name ss token request (answer_to g name token (live_of (lane_of ss)) request)
+fits_table : (g : Schema) (name : List ℕ) (ss : List Settled) (token : ℕ) (request : Request) → is_lane_name name ≡ true → token < 2 ^ 64 → IsSoundTable name ss → settlement_of token ss ≡ None → Fits name ss token request (answer_to g name token (live_of (lane_of ss)) request)
 fits_table g name ss token (Create kind props) n t k e =
     fits_create-by name ss token kind props (are_valid g props) (is_taken g props (live_of (lane_of ss))) k (λ v. fits_created g name ss token kind props n t k e v)
 fits_table g name ss token (Update id props) n t k e = fits_update g name ss token id props (find (is_of_id id) (live_of (lane_of ss))) n k refl
@@ -393,14 +393,14 @@ refusal_settles name lane (Create kind props) c h = tt
 refusal_settles name lane (Update id props) c h = tt
 refusal_settles name lane (Delete id) c h = may_refuse_deletion name lane id c h
 
-fits_new : (b : Option Break) (g : Schema) (name : List ℕ) (ss : List Settled) (token : ℕ) (request : Request) → is_lane_name name ≡ true → token < 2 ^ 64 → IsKept name ss → settlement_of token ss ≡ None → IfSome b (λ x. may_break x ≡ true) → Fits name ss token request (settled_by b (answer_to g name token (live_of (lane_of ss)) request))
+fits_new : (b : Option Break) (g : Schema) (name : List ℕ) (ss : List Settled) (token : ℕ) (request : Request) → is_lane_name name ≡ true → token < 2 ^ 64 → IsSoundTable name ss → settlement_of token ss ≡ None → IfSome b (λ x. may_break x ≡ true) → Fits name ss token request (settled_by b (answer_to g name token (live_of (lane_of ss)) request))
 fits_new None g name ss token request n t k e f = fits_table g name ss token request n t k e
 fits_new (Some (Refuse c)) g name ss token request n t k e f = fits_failed name ss token request c k (refusal_settles name (lane_of ss) request c f)
 fits_new (Some FaultBefore) g name ss token request n t k e f = fits_table g name ss token request n t k e
 fits_new (Some FaultAfter) g name ss token request n t k e f = fits_table g name ss token request n t k e
 
 -- so all stays kept when a new token is settled
-pub kept_more : (b : Option Break) (g : Schema) (name : List ℕ) (ss : List Settled) (token : ℕ) (request : Request) → is_lane_name name ≡ true → token < 2 ^ 64 → IsKept name ss → settlement_of token ss ≡ None → IfSome b (λ x. may_break x ≡ true) → IsKept name (ss ++ new_entry b g name token request ss ∷ [])
+pub kept_more : (b : Option Break) (g : Schema) (name : List ℕ) (ss : List Settled) (token : ℕ) (request : Request) → is_lane_name name ≡ true → token < 2 ^ 64 → IsSoundTable name ss → settlement_of token ss ≡ None → IfSome b (λ x. may_break x ≡ true) → IsSoundTable name (ss ++ new_entry b g name token request ss ∷ [])
 kept_more b g name ss token request n t k e f = (fits_new b g name ss token request n t k e f).kept
 
 -- A call of the handler is a move of its lane, and its answer is short.
@@ -456,7 +456,7 @@ Moves name before after token request a = IsShort a × LaneMove name (lane_of be
 moves_as : (name : List ℕ) (before after after' : List Settled) (token : ℕ) (request : Request) (a a' : Answer) → a ≡ a' → after ≡ after' → Moves name before after' token request a' → Moves name before after token request a
 moves_as name before after after' token request a a' d e m = subst (λ x. Moves name before x token request a) (sym e) (subst (λ x. Moves name before after' token request x) (sym d) m)
 
-worked_moves : (b : Option Break) (g : Schema) (name : List ℕ) (ss after : List Settled) (token : ℕ) (request : Request) (o : Option Settlement) (a : Answer) → is_lane_name name ≡ true → token < 2 ^ 64 → IsKept name ss → IfSome b (λ x. may_break x ≡ true) → settlement_of token ss ≡ o → IsWorked b o (new_entry b g name token request ss) ss after a → Moves name ss after token request a
+worked_moves : (b : Option Break) (g : Schema) (name : List ℕ) (ss after : List Settled) (token : ℕ) (request : Request) (o : Option Settlement) (a : Answer) → is_lane_name name ≡ true → token < 2 ^ 64 → IsSoundTable name ss → IfSome b (λ x. may_break x ≡ true) → settlement_of token ss ≡ o → IsWorked b o (new_entry b g name token request ss) ss after a → Moves name ss after token request a
 worked_moves b g name ss after token request (Some s) a n t k f e w =
     moves_as name ss after ss token request a (told_by b s) w.0 w.1 (told_short b s (again_short name token ss ss s n k.sound e), told_again b name (lane_of ss) token request s e)
 worked_moves b g name ss after token request None a n t k f e w =
@@ -464,23 +464,23 @@ worked_moves b g name ss after token request None a n t k f e w =
     let fits : Fits name ss token request s = fits_new b g name ss token request n t k e f in
     moves_as name ss after (ss ++ new_entry b g name token request ss ∷ []) token request a (told_by b s) w.0 w.1 (told_short b s fits.short, told_new b name (lane_of ss) token request s e fits.may)
 
-told_moves : (b : Option Break) (g : Schema) (name : List ℕ) (ss after : List Settled) (token : ℕ) (request : Request) (a : Answer) → is_lane_name name ≡ true → token < 2 ^ 64 → IsKept name ss → IfSome b (λ x. may_break x ≡ true) → IsTold b (settlement_of token ss) (new_entry b g name token request ss) ss after a → Moves name ss after token request a
+told_moves : (b : Option Break) (g : Schema) (name : List ℕ) (ss after : List Settled) (token : ℕ) (request : Request) (a : Answer) → is_lane_name name ≡ true → token < 2 ^ 64 → IsSoundTable name ss → IfSome b (λ x. may_break x ≡ true) → IsTold b (settlement_of token ss) (new_entry b g name token request ss) ss after a → Moves name ss after token request a
 told_moves None g name ss after token request a n t k f w = worked_moves None g name ss after token request (settlement_of token ss) a n t k f refl w
 told_moves (Some (Refuse c)) g name ss after token request a n t k f w = worked_moves (Some (Refuse c)) g name ss after token request (settlement_of token ss) a n t k f refl w
 told_moves (Some FaultAfter) g name ss after token request a n t k f w = worked_moves (Some FaultAfter) g name ss after token request (settlement_of token ss) a n t k f refl w
 told_moves (Some FaultBefore) g name ss after token request a n t k f w = moves_as name ss after ss token request a answer.Fault w.0 w.1 (tt, inl refl)
 
-pub table_moves : (b : Option Break) (g : Schema) (name : List ℕ) (ss after : List Settled) (token : ℕ) (request : Request) (a : Answer) → is_lane_name name ≡ true → token < 2 ^ 64 → IsKept name ss → IfSome b (λ x. may_break x ≡ true) → AnswersByTable b g name token request ss after a → IsShort a × LaneMove name (lane_of ss) (lane_of after) token request a
+pub table_moves : (b : Option Break) (g : Schema) (name : List ℕ) (ss after : List Settled) (token : ℕ) (request : Request) (a : Answer) → is_lane_name name ≡ true → token < 2 ^ 64 → IsSoundTable name ss → IfSome b (λ x. may_break x ≡ true) → AnswersByTable b g name token request ss after a → IsShort a × LaneMove name (lane_of ss) (lane_of after) token request a
 table_moves b g name ss after token request a n t k f (inl w) = moves_as name ss after ss token request a answer.NoMemory w.0 w.1 (tt, refl)
 table_moves b g name ss after token request a n t k f (inr w) = told_moves b g name ss after token request a n t k f w
 
 -- The handler stays as it promises, whether the call was settled or there was no room.
-pub kept_after : (b : Option Break) (g : Schema) (name : List ℕ) (ss after : List Settled) (token : ℕ) (request : Request) (s : Settlement) (r : Result (Unit {0}) AllocError) → is_lane_name name ≡ true → token < 2 ^ 64 → IsKept name ss → settlement_of token ss ≡ None → IfSome b (λ x. may_break x ≡ true) → s ≡ settled_by b (answer_to g name token (live_of (lane_of ss)) request) → IfOk r (λ _. after ≡ ss ++ record { token = token; request = request; settlement = s } ∷ []) → OnErr r (after ≡ ss) → IsKept name after
+pub kept_after : (b : Option Break) (g : Schema) (name : List ℕ) (ss after : List Settled) (token : ℕ) (request : Request) (s : Settlement) (r : Result (Unit {0}) AllocError) → is_lane_name name ≡ true → token < 2 ^ 64 → IsSoundTable name ss → settlement_of token ss ≡ None → IfSome b (λ x. may_break x ≡ true) → s ≡ settled_by b (answer_to g name token (live_of (lane_of ss)) request) → IfOk r (λ _. after ≡ ss ++ record { token = token; request = request; settlement = s } ∷ []) → OnErr r (after ≡ ss) → IsSoundTable name after
 kept_after b g name ss after token request s (Ok x) n t k e f d o w =
-    subst (IsKept name) (sym (o ∙ ap (λ (y : Settlement). ss ++ record { token = token; request = request; settlement = y } ∷ []) d)) (kept_more b g name ss token request n t k e f)
-kept_after b g name ss after token request s (Err x) n t k e f d o w = subst (IsKept name) (sym w) k
+    subst (IsSoundTable name) (sym (o ∙ ap (λ (y : Settlement). ss ++ record { token = token; request = request; settlement = y } ∷ []) d)) (kept_more b g name ss token request n t k e f)
+kept_after b g name ss after token request s (Err x) n t k e f d o w = subst (IsSoundTable name) (sym w) k
 
-pub same_after : (ss after : List Settled) (live live' : List LiveResource) (token : ℕ) (request : Request) (s : Settlement) (r : Result (Unit {0}) AllocError) → lives live ≡ live_of (lane_of ss) → IfOk r (λ _. after ≡ ss ++ record { token = token; request = request; settlement = s } ∷ []) → IfOk r (λ _. lives live' ≡ changed_by request s (lives live)) → OnErr r (after ≡ ss) → OnErr r (live' ≡ live) → lives live' ≡ live_of (lane_of after)
+pub same_after : (ss after : List Settled) (live live' : List LiveResource) (token : ℕ) (request : Request) (s : Settlement) (r : Result (Unit {0}) AllocError) → lives live ≡ live_of (lane_of ss) → IfOk r (λ _. after ≡ ss ++ record { token = token; request = request; settlement = s } ∷ []) → IfOk r (λ _. lives live' ≡ live_changed request s (lives live)) → OnErr r (after ≡ ss) → OnErr r (live' ≡ live) → lives live' ≡ live_of (lane_of after)
 same_after ss after live live' token request s (Ok x) e o l w v =
-    l ∙ ap (changed_by request s) e ∙ sym (live_more [] ss (record { token = token; request = request; settlement = s })) ∙ ap (λ (xs : List Settled). live_of (lane_of xs)) (sym o)
+    l ∙ ap (live_changed request s) e ∙ sym (live_more [] ss (record { token = token; request = request; settlement = s })) ∙ ap (λ (xs : List Settled). live_of (lane_of xs)) (sym o)
 same_after ss after live live' token request s (Err x) e o l w v = ap lives v ∙ e ∙ ap (λ (xs : List Settled). live_of (lane_of xs)) (sym w)

@@ -15,4 +15,6 @@ abbrev live_from : List ℕ × (List ℕ × (List (List ℕ × Data) × List (Li
 live_from p = record { id = p.0; kind = p.1.0; props = p.1.1.0; attrs = p.1.1.1 }
 
 abbrev pub live_code : Coded Live
-live_code = code_by (List ℕ × (List ℕ × (List (List ℕ × Data) × List (List ℕ × Data)))) (coded× (coded_list coded_ℕ) (coded× (coded_list coded_ℕ) (coded× dict_code dict_code))) live_parts live_from (λ r. refl)
+live_code =
+    code_by (List ℕ × (List ℕ × (List (List ℕ × Data) × List (List ℕ × Data))))
+    (coded× (coded_list coded_ℕ) (coded× (coded_list coded_ℕ) (coded× dict_code dict_code))) live_parts live_from (λ r. refl)

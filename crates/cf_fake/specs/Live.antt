@@ -1,4 +1,4 @@
--- What the handler in memory holds of a live resource.
+-- What the handler in memory holds of a live resource (this project's own).
 use Rattle.std.specs.Prelude.{ℕ, Bool, true, ◌&&◌, not, List, [], ◌∷◌, map}
 use Rattle.std.specs.List.{list_any}
 use Rattle.std.specs.Str.{bytes_eq}
@@ -12,8 +12,8 @@ live_as r = record { id = r.id; kind = r.kind; props = r.props; attrs = r.attrs 
 abbrev pub lives : List LiveResource → List Live
 lives rs = map live_as rs
 
-abbrev pub has_id : List ℕ → LiveResource → Bool
-has_id id r = bytes_eq id r.id
+abbrev pub has_this_id : List ℕ → LiveResource → Bool
+has_this_id id r = bytes_eq id r.id
 
 -- no two have one id
 abbrev pub has_other : List ℕ → List Live → Bool

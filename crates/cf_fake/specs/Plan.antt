@@ -51,17 +51,18 @@ new_entry b g name token request before =
 -- The handler is its table, whatever is planned for the call; where memory was wanting it changes nothing.
 abbrev pub AnswersByTable : Option Break → Schema → List ℕ → ℕ → Request → List Settled → List Settled → Answer → Type 0
 AnswersByTable b g name token request before after result =
-    ((result ≡ answer.NoMemory) × (after ≡ before)) ⊎ IsTold b (settlement_of token before) (new_entry b g name token request before) before after result
+    ((result ≡ answer.NoMemory) × (after ≡ before))
+    ⊎ IsTold b (settlement_of token before) (new_entry b g name token request before) before after result
 
 -- the next number, where there is one
-abbrev pub next : ℕ → ℕ
-next n = min (n + 1) (2 ^ 64 - 1)
+abbrev pub next_number : ℕ → ℕ
+next_number n = min (n + 1) (2 ^ 64 - 1)
 
 -- the count of refusals and faults after an answer: each of them raises it, and each call that is broken by plan
 abbrev pub counted : Bool → Answer → ℕ → ℕ
-counted is_broken (answer.Success physical attrs) n = if is_broken then next n else n
-counted is_broken (answer.Failed code) n = next n
-counted is_broken answer.Fault n = next n
+counted is_broken (answer.Success physical attrs) n = if is_broken then next_number n else n
+counted is_broken (answer.Failed code) n = next_number n
+counted is_broken answer.Fault n = next_number n
 counted is_broken answer.NoMemory n = n
 
 -- a call leaves the name, the schema and the plan

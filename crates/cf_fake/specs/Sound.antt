@@ -1,4 +1,5 @@
--- What the handler in memory keeps true: each success is of an id that a token made, with short attributes; so is each live resource.
+-- What the handler in memory keeps true: each success is of an id that a token made, with short attributes; so is each live resource
+-- (this project's own).
 use Rattle.std.specs.Prelude.{ℕ, ◌^◌, Bool, true, ◌&&◌, List, [], nat_le, nat_lt, IsTrue}
 use Rattle.std.specs.Str.{bytes_eq}
 use Rattle.std.specs.List.{list_all, list_any}
@@ -32,7 +33,7 @@ abbrev pub lane_of : List Settled → LaneState
 lane_of settled = record { base = []; settled = settled }
 
 -- what the handler keeps true of the settled calls: their answers are sound, and what is live has ids of settled tokens, which differ
-pub record IsKept (name : List ℕ) (settled : List Settled) : Type 0 where
+pub record IsSoundTable (name : List ℕ) (settled : List Settled) : Type 0 where
   pub sound : IsTrue (are_sound name settled settled)
   pub known : IsTrue (are_known name settled (live_of (lane_of settled)))
   pub differ : IsTrue (differ (live_of (lane_of settled)))

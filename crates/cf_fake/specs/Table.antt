@@ -1,4 +1,6 @@
--- What the handler in memory answers: a table over the request and what is live (the handler contract of the CloudFormation registry: create, update and delete handlers and their error codes; which resources are the same, `sealed`, and the attributes are this project's own).
+-- What the handler in memory answers: a table over the request and what is live (the handler contract of the CloudFormation registry:
+-- create, update and delete handlers and their error codes; which resources are the same, `sealed`, and the attributes are this project's
+-- own).
 use Rattle.std.specs.Prelude.{ℕ, pos, Bool, true, false, ◌&&◌, ◌||◌, not, List, [], ◌∷◌, ◌++◌, length, Option, Some, None, is_some, find, if◌then◌else◌, nat_le, codes}
 use Rattle.std.specs.Fmt.{decimal}
 use Rattle.std.specs.Str.{bytes_eq}
@@ -23,7 +25,8 @@ id_of name token = name ++ 58 ∷ decimal token
 abbrev pub is_one : List ℕ → List (List ℕ) → Bool
 is_one name names = list_any (λ n. bytes_eq n name) names
 
--- Properties are valid where each is one of the schema's that may be set, and a text, all required ones are there, and they encode to 262,144 bytes at most.
+-- Properties are valid where each is one of the schema's that may be set, and a text, all required ones are there, and they encode to
+-- 262,144 bytes at most.
 abbrev pub is_text : Data → Bool
 is_text (text t) = true
 is_text _ = false
@@ -68,7 +71,8 @@ text_in (Some (text t)) = t
 text_in _ = []
 
 abbrev pub measured : List (List ℕ × Data) → List ℕ
-measured props = if is_there props (codes "Content") then text_in (value_at (codes "Content") props) else text_in (value_at (codes "Value") props)
+measured props =
+    if is_there props (codes "Content") then text_in (value_at (codes "Content") props) else text_in (value_at (codes "Value") props)
 
 abbrev pub attrs_of : List ℕ → List (List ℕ × Data) → List (List ℕ × Data)
 attrs_of id props = put (codes "Length") (whole (pos (length (measured props)))) (put (codes "Id") (text id) props)
@@ -76,7 +80,8 @@ attrs_of id props = put (codes "Length") (whole (pos (length (measured props))))
 -- The table.
 abbrev pub create_answer : Schema → List ℕ → ℕ → List (List ℕ × Data) → List Live → Settlement
 create_answer g name token props live =
-    if are_valid g props then if is_taken g props live then Failed AlreadyExists else Success (id_of name token) (attrs_of (id_of name token) props)
+    if are_valid g props then if is_taken g props live then Failed AlreadyExists else Success (id_of name token)
+    (attrs_of (id_of name token) props)
     else Failed InvalidRequest
 
 abbrev pub update_answer : Schema → List ℕ → List (List ℕ × Data) → Option Live → Settlement

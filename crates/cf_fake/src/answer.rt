@@ -1,7 +1,7 @@
 //! What the table answers to a request.
 ghost use Rattle.std.specs.Prelude.{◌≡◌, Some, None, find, option_map, IfOk};
 ghost use Rattle.std.specs.Option.{option_copied};
-ghost use Rattle.cf_handler.specs.Lane.{changed_by};
+ghost use Rattle.cf_handler.specs.Lane.{live_changed};
 ghost use Rattle.cf_fake.specs.Live.{live_as, lives};
 ghost use Rattle.cf_fake.specs.Table.{is_of_id, create_answer, update_answer, delete_answer, answer_to};
 ghost use Rattle.cf_fake.specs.Plan.{told_by};

@@ -2,8 +2,8 @@
 ghost use Rattle.std.specs.Prelude.{◌≡◌, ◌<◌, [], ◌∷◌, ◌++◌, length, map, filter, not, set, get_or, IsTrue, IfOk, IfSome, IfNone, true, false, OnErr};
 ghost use Rattle.std.specs.List.{list_any};
 ghost use Rattle.cf_fake.specs.declared.live.LiveResource.{LiveResource};
-ghost use Rattle.cf_handler.specs.Lane.{updated, changed_by};
-ghost use Rattle.cf_fake.specs.Live.{live_as, lives, has_id, differ, with_values};
+ghost use Rattle.cf_handler.specs.Lane.{updated, live_changed};
+ghost use Rattle.cf_fake.specs.Live.{live_as, lives, has_this_id, differ, with_values};
 ghost use Rattle.cf_fake.specs.Table.{is_taken};
 
 use crate::table::are_same;
@@ -23,8 +23,8 @@ pub struct LiveResource {
 
 /// The place of the resource of an id.
 pub fn place_of(live: &[LiveResource], id: &Txt) -> Option<usize>
-    ensures found { IfSome result (λ at. (at < length live.now) × ((d : LiveResource) → has_id id.now (get_or live.now at d) ≡ true)) }
-    ensures nowhere { IfNone result (list_any (has_id id.now) live.now ≡ false) }
+    ensures found { IfSome result (λ at. (at < length live.now) × ((d : LiveResource) → has_this_id id.now (get_or live.now at d) ≡ true)) }
+    ensures nowhere { IfNone result (list_any (has_this_id id.now) live.now ≡ false) }
 {
     for (at, resource) in live.iter().enumerate() {
         if *id == resource.id {
@@ -105,7 +105,7 @@ fn change(
 
 /// Takes the resource of an id away, if it is there.
 fn take_away(live: &mut Vec<LiveResource>, id: &Txt)
-    ensures { live.new.items ≡ filter (λ r. not (has_id id.now r)) live.old.items }
+    ensures { live.new.items ≡ filter (λ r. not (has_this_id id.now r)) live.old.items }
 {
     live.retain(|resource| *id != resource.id);
 }
@@ -118,7 +118,7 @@ pub fn apply(
     settlement: &Settlement,
 ) -> Result<(), AllocError>
     requires { IsTrue (differ (lives live.old.items)) }
-    ensures ok { IfOk result (λ _. lives live.new.items ≡ changed_by request.now settlement.now (lives live.old.items)) }
+    ensures ok { IfOk result (λ _. lives live.new.items ≡ live_changed request.now settlement.now (lives live.old.items)) }
     ensures err { OnErr result (live.new.items ≡ live.old.items) }
 {
     let Settlement::Success { physical, attrs } = settlement else {

@@ -2,11 +2,11 @@
 ghost use Rattle.std.specs.Prelude.{◌≡◌, [], ◌∷◌, ◌++◌, IsTrue, IfOk, IfSome, OnErr, Some, None};
 ghost use Rattle.std.specs.Coded.{Coded-set, coded_list};
 ghost use Rattle.cf_fake.specs.Codes.{live_code};
-ghost use Rattle.cf_handler.specs.Lane.{settlement_of, changed_by, live_of};
+ghost use Rattle.cf_handler.specs.Lane.{settlement_of, live_changed, live_of};
 ghost use Rattle.cf_handler.specs.Name.{is_lane_name};
 ghost use Rattle.cf_handler.specs.Move.{HasCause, IsShort, LaneMove};
 ghost use Rattle.cf_fake.specs.Live.{lives, differ};
-ghost use Rattle.cf_fake.specs.Sound.{lane_of, IsKept};
+ghost use Rattle.cf_fake.specs.Sound.{lane_of, IsSoundTable};
 ghost use Rattle.cf_fake.specs.Table.{answer_to};
 ghost use Rattle.cf_fake.specs.Refusable.{may_break};
 ghost use Rattle.cf_fake.specs.Plan.{settled_by, told_by, IsWorked, new_entry, AnswersByTable, counted, IsSameBut};
@@ -41,7 +41,7 @@ pub struct MemoryHandler {
     settled: Vec<Settled>,
     live: Vec<LiveResource>,
     ghost named: { IsTrue (is_lane_name name) },
-    ghost kept: { IsKept name settled.items },
+    ghost kept: { IsSoundTable name settled.items },
     ghost same: { lives live.items ≡ live_of (lane_of settled.items) } by { Coded-set (coded_list live_code) (lives live.items) (live_of (lane_of settled.items)) },
 }
 
@@ -78,7 +78,7 @@ fn keep(
 ) -> Result<(), AllocError>
     requires { IsTrue (differ (lives live.old.items)) }
     ensures settled { IfOk result (λ _. settled.new.items ≡ settled.old.items ++ record { token = token; request = request.now; settlement = settlement } ∷ []) }
-    ensures live { IfOk result (λ _. lives live.new.items ≡ changed_by request.now settlement (lives live.old.items)) }
+    ensures live { IfOk result (λ _. lives live.new.items ≡ live_changed request.now settlement (lives live.old.items)) }
     ensures settled_before { OnErr result (settled.new.items ≡ settled.old.items) }
     ensures live_before { OnErr result (live.new.items ≡ live.old.items) }
 {

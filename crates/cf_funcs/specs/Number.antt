@@ -1,4 +1,5 @@
--- The number texts, this project's own form: an optional minus, 1 to 18 digits, and optionally a point with 1 to 9 digits. A number text counts in 10^-9.
+-- The number texts, this project's own form: an optional minus, 1 to 18 digits, and optionally a point with 1 to 9 digits. A number text
+-- counts in 10^-9.
 use Rattle.std.specs.Prelude.{ℕ, ◌+◌, ◌-◌, ◌*◌, ◌^◌, ℤ, pos, neg_ℤ, Bool, ◌&&◌, List, [], ◌∷◌, length, drop, Option, Some, None, nat_lt, nat_le, option_map, option_and_then, if◌then◌else◌}
 use Rattle.std.specs.Char.{is_ascii_digit}
 use Rattle.std.specs.List.{list_all}

@@ -1,4 +1,5 @@
--- Texts cut at a delimiter, as the template reference has it of Fn::Split, and lists written with commas, as it has it of CommaDelimitedList.
+-- Texts cut at a delimiter, as the template reference has it of Fn::Split, and lists written with commas, as it has it of
+-- CommaDelimitedList.
 use Rattle.std.specs.Prelude.{ℕ, zero, suc, ◌==◌, List, [], ◌∷◌, length, drop, reverse, map, Option, Some, None, nat_eq, option_map, if◌then◌else◌}
 use Rattle.std.specs.List.{starts_with, join_by}
 use Rattle.std.specs.Option.{option_map_or}

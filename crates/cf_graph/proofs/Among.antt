@@ -10,7 +10,7 @@ use Rattle.std.specs.BTreeSet.{BTreeSet, contains}
 use Rattle.std.specs.declared.alloc.Global.{Global}
 use Rattle.std.proofs.lemmas.Bool.{and_parts, ltb-true}
 use Rattle.cf_tree.specs.Lists.{is_among}
-use Rattle.cf_graph.specs.Noted.{noted}
+use Rattle.cf_graph.specs.Noted.{places_noted}
 use Rattle.cf_graph.proofs.Placing.{flip}
 use Rattle.cf_graph.proofs.Selected.{selected_by_set}
 
@@ -21,8 +21,8 @@ out false m [] = refl
 out false m (n ∷ ns) = out false m ns
 
 module _ (made names : List (List ℕ)) (places : BTreeMap (List ℕ) (Vec ℕ Global)) (s : BTreeSet ℕ)
-    (noting : (q : List ℕ) (p : ℕ) → list_any (nat_eq p) (noted places q) ≡ (nat_lt p (length made) && bytes_eq q (get_or made p [])))
-    (h : (p : ℕ) → contains nat_cmp s p ≡ list_any (λ n. list_any (nat_eq p) (noted places n)) names) where
+    (noting : (q : List ℕ) (p : ℕ) → list_any (nat_eq p) (places_noted places q) ≡ (nat_lt p (length made) && bytes_eq q (get_or made p [])))
+    (h : (p : ℕ) → contains nat_cmp s p ≡ list_any (λ n. list_any (nat_eq p) (places_noted places n)) names) where
   has : (p : ℕ) → contains nat_cmp s p ≡ (nat_lt p (length made) && is_among (get_or made p []) names)
   has p = h p ∙ (λ i. list_any (λ n. noting n p i) names) ∙ out (nat_lt p (length made)) (get_or made p []) names
 

@@ -9,8 +9,8 @@ use Rattle.std.specs.List.{list_any}
 use Rattle.std.specs.Option.{unwrap_or}
 use Rattle.std.specs.BTreeSet.{BTreeSet}
 use Rattle.cf_tree.specs.Lists.{first_in}
-use Rattle.cf_graph.specs.Needs.{needed_by, walks, shortest_walk}
-use Rattle.cf_graph.specs.Cycles.{leads_back, has, IsLevel, AreLevels, StandAlike}
+use Rattle.cf_graph.specs.Needs.{needs_listed, walks, shortest_walk}
+use Rattle.cf_graph.specs.Cycles.{leads_back, is_on_level, IsLevel, AreLevels, StandAlike}
 use Rattle.cf_graph.proofs.Alike.{Rows}
 use Rattle.cf_graph.proofs.Walks.{leads_further, longer}
 
@@ -64,20 +64,20 @@ module _ (all : Rows) (start : List ℕ) where
       by more false p e = first_skipped (λ w. name ∷ w) (walks all start (suc n) x) (flat_map (longer all start n name) xs) p ∙ more e
 
   module _ (rows : Rows) (h : StandAlike rows all) (level : BTreeSet (List ℕ)) (n : ℕ) (b : IsLevel all start (suc n) level) (name : List ℕ) where
-    looked : find (has level) (needed_by rows name) ≡ find (leads_back all start (suc n)) (needed_by all name)
-    looked = same_find (has level) (leads_back all start (suc n)) b (needed_by rows name) ∙ ap (λ (o : Option (List (List ℕ))). find (leads_back all start (suc n)) (unwrap_or o [])) (h name)
+    looked : find (is_on_level level) (needs_listed rows name) ≡ find (leads_back all start (suc n)) (needs_listed all name)
+    looked = same_find (is_on_level level) (leads_back all start (suc n)) b (needs_listed rows name) ∙ ap (λ (o : Option (List (List ℕ))). find (leads_back all start (suc n)) (unwrap_or o [])) (h name)
 
     -- the walk goes on to what is found
-    pub goes_on : (q : List ℕ) → find (has level) (needed_by rows name) ≡ Some q → leads_back all start (suc n) q ≡ true
-    goes_on q e = found_passes (leads_back all start (suc n)) q (needed_by all name) (sym looked ∙ e)
+    pub goes_on : (q : List ℕ) → find (is_on_level level) (needs_listed rows name) ≡ Some q → leads_back all start (suc n) q ≡ true
+    goes_on q e = found_passes (leads_back all start (suc n)) q (needs_listed all name) (sym looked ∙ e)
 
-    pub longer_by_one : (q : List ℕ) (rest : List (List ℕ)) → find (has level) (needed_by rows name) ≡ Some q → first_in (walks all start (suc n) q) ≡ Some rest
+    pub longer_by_one : (q : List ℕ) (rest : List (List ℕ)) → find (is_on_level level) (needs_listed rows name) ≡ Some q → first_in (walks all start (suc n) q) ≡ Some rest
         → first_in (walks all start (suc (suc n)) name) ≡ Some (name ∷ rest)
-    longer_by_one q rest e f = first_further n name q rest (needed_by all name) (sym looked ∙ e) f
+    longer_by_one q rest e f = first_further n name q rest (needs_listed all name) (sym looked ∙ e) f
 
     -- and something is found
-    pub never_lost : leads_back all start (suc (suc n)) name ≡ true → find (has level) (needed_by rows name) ≡ None → ⊥
-    never_lost l e = true≢false (sym l ∙ leads_further all start n name ∙ none_passes (leads_back all start (suc n)) (needed_by all name) (sym looked ∙ e))
+    pub never_lost : leads_back all start (suc (suc n)) name ≡ true → find (is_on_level level) (needs_listed rows name) ≡ None → ⊥
+    never_lost l e = true≢false (sym l ∙ leads_further all start n name ∙ none_passes (leads_back all start (suc n)) (needs_listed all name) (sym looked ∙ e))
 
   pub level_at : (n : ℕ) (ls : List (BTreeSet (List ℕ))) (k : ℕ) (d : BTreeSet (List ℕ)) → AreLevels all start (suc n) ls → k < length ls → IsLevel all start (suc (n + k)) (get_or ls k d)
   level_at n [] k d a l = absurd (omega (arith, l))
@@ -90,18 +90,18 @@ module _ (all rows : Rows) (start : List ℕ) (h : StandAlike rows all) (levels 
       subst (IsLevel all start (suc (at - 1))) (sym is)
       (subst (λ (j : ℕ). IsLevel all start (suc j) (get_or levels (at - 1) level)) {x = 0 + (at - 1)} {y = at - 1} (omega arith) (level_at all start 0 levels (at - 1) level a (omega (arith, inside))))
 
-  pub not_lost : (name : List ℕ) (names : List (List ℕ)) → names ≡ needed_by rows name → leads_back all start (suc at) name ≡ true → find (has level) names ≡ None → ⊥
+  pub not_lost : (name : List ℕ) (names : List (List ℕ)) → names ≡ needs_listed rows name → leads_back all start (suc at) name ≡ true → find (is_on_level level) names ≡ None → ⊥
   not_lost name names e l f =
       never_lost all start rows h level (at - 1) here name
       (subst (λ (j : ℕ). leads_back all start j name ≡ true) {x = suc at} {y = suc (suc (at - 1))} (omega (arith, more)) l)
-      (subst (λ (ns : List (List ℕ)). find (has level) ns ≡ None) e f)
+      (subst (λ (ns : List (List ℕ)). find (is_on_level level) ns ≡ None) e f)
 
   -- what a walk that came so far says of the one that is one step longer
-  pub goes_further : (target : Option (List (List ℕ))) (name q : List ℕ) (names walk longer : List (List ℕ)) → names ≡ needed_by rows name → find (has level) names ≡ Some q → longer ≡ walk ++ name ∷ []
+  pub goes_further : (target : Option (List (List ℕ))) (name q : List ℕ) (names walk longer : List (List ℕ)) → names ≡ needs_listed rows name → find (is_on_level level) names ≡ Some q → longer ≡ walk ++ name ∷ []
       → ((rest : List (List ℕ)) → first_in (walks all start (suc at) name) ≡ Some rest → target ≡ Some (walk ++ rest))
       → (at - 1 < length levels) × (leads_back all start (suc (at - 1)) q ≡ true) × ((rest : List (List ℕ)) → first_in (walks all start (suc (at - 1)) q) ≡ Some rest → target ≡ Some (longer ++ rest))
   goes_further target name q names walk longer e f g k =
-      let found : find (has level) (needed_by rows name) ≡ Some q = subst (λ (ns : List (List ℕ)). find (has level) ns ≡ Some q) e f in (
+      let found : find (is_on_level level) (needs_listed rows name) ≡ Some q = subst (λ (ns : List (List ℕ)). find (is_on_level level) ns ≡ Some q) e f in (
         omega (arith, inside),
         goes_on all start rows h level (at - 1) here name q found,
         λ rest r.
@@ -150,7 +150,7 @@ module _ (all : Rows) (start : List ℕ) where
     at_level : IsLevel all start (suc k) level
     at_level = subst (λ (j : ℕ). IsLevel all start j level) {x = length old + 1} {y = suc k} (omega (arith, counted)) b
 
-    pub none_yet : shortest_walk all start k ≡ None → has level start ≡ false → shortest_walk all start (k + 1) ≡ None
+    pub none_yet : shortest_walk all start k ≡ None → is_on_level level start ≡ false → shortest_walk all start (k + 1) ≡ None
     none_yet s f =
         subst (λ (j : ℕ). shortest_walk all start j ≡ None) {x = suc k} {y = k + 1} (omega arith)
         (ap (λ (o : Option (List (List ℕ))). option_or o (first_in (walks all start (suc k) start))) s ∙ none_from (first_in (walks all start (suc k) start)) (sym (at_level start) ∙ f))

@@ -6,7 +6,7 @@ use Rattle.std.proofs.lemmas.List.{get_or_default}
 use Rattle.indexmap.specs.IndexMap.{IndexMap, insert_entry}
 use Rattle.indexmap.proofs.CallerLemmas.{insert_entry-new}
 use Rattle.cf_tree.specs.Keys.{value_at}
-use Rattle.cf_graph.specs.Waiting.{name_at, has_come}
+use Rattle.cf_graph.specs.Waiting.{row_name, has_come}
 
 pub lookup_is_value_at : {X : Type 0} (k : List ℕ) (es : List (List ℕ × X)) → lookup (bytes_eq k) es ≡ value_at k es
 lookup_is_value_at k [] = refl
@@ -17,13 +17,13 @@ none_from None e = refl
 none_from (Some x) e = absurd (true≢false e)
 
 module _ (all placed : List (List ℕ × List (List ℕ))) (p : ℕ) (r : List ℕ × List (List ℕ)) (l : p < length all) (e : r ≡ get_or all p r) (b : Bool) (found : b ≡ is_some (lookup (bytes_eq (get_or all p r).0) placed)) where
-  named : name_at all p ≡ (get_or all p r).0
+  named : row_name all p ≡ (get_or all p r).0
   named = ap (λ (x : List ℕ × List (List ℕ)). x.0) (get_or_default all p ([], []) r l)
 
   pub come_is : has_come all placed p ≡ b
   come_is = ap (λ (n : List ℕ). is_some (value_at n placed)) named ∙ sym (ap is_some (lookup_is_value_at (get_or all p r).0 placed)) ∙ sym found
 
-  pub not_come : b ≡ false → value_at (name_at all p) placed ≡ None
+  pub not_come : b ≡ false → value_at (row_name all p) placed ≡ None
   not_come f = none_from _ (come_is ∙ f)
 
 -- a name that was not there goes last

@@ -9,7 +9,7 @@ use Rattle.cf_tree.specs.declared.template.Param.{Param}
 use Rattle.cf_tree.specs.declared.template.Res.{Res}
 use Rattle.cf_tree.specs.Lists.{is_among}
 use Rattle.cf_graph.specs.Mentions.{Mention, by_ref, by_attribute, fields_mentions}
-use Rattle.cf_graph.specs.Mentioned.{meant_by, needs_by}
+use Rattle.cf_graph.specs.Mentioned.{meant_by, needs_mentioned}
 use Rattle.cf_graph.specs.Needs.{all_needs, needs_in, is_made, is_parameter, meant, holds_in, evaluated_props}
 
 pub some_found : {X : Type 0} (test : X → Bool) (xs : List X) → list_any test xs ≡ is_some (find test xs)
@@ -24,8 +24,8 @@ pub told : (t : Template) (has : List ℕ → Bool) → ((q : List ℕ) → has 
 told t has h q = h q ∙ some_found (λ (p : Param). bytes_eq q p.name) t.params
 
 pub over : (t : Template) (conds : List (List ℕ × Verdict)) (made : List (List ℕ)) (has : List ℕ → Bool) → ((q : List ℕ) → has q ≡ list_any (λ p. bytes_eq q p.name) t.params)
-    → map {B = List ℕ × List (List ℕ)} (λ (r : Res). (r.name, needs_by has made conds r)) (filter (is_made conds) t.resources) ≡ map {B = List ℕ × List (List ℕ)} (λ (r : Res). (r.name, needs_by (λ q. is_parameter q t) made conds r)) (filter (is_made conds) t.resources)
-over t conds made has h = λ i. map {B = List ℕ × List (List ℕ)} (λ (r : Res). (r.name, needs_by (λ q. told t has h q i) made conds r)) (filter (is_made conds) t.resources)
+    → map {B = List ℕ × List (List ℕ)} (λ (r : Res). (r.name, needs_mentioned has made conds r)) (filter (is_made conds) t.resources) ≡ map {B = List ℕ × List (List ℕ)} (λ (r : Res). (r.name, needs_mentioned (λ q. is_parameter q t) made conds r)) (filter (is_made conds) t.resources)
+over t conds made has h = λ i. map {B = List ℕ × List (List ℕ)} (λ (r : Res). (r.name, needs_mentioned (λ q. told t has h q i) made conds r)) (filter (is_made conds) t.resources)
 
 meant_is : (t : Template) (m : Mention) → meant_by (λ q. is_parameter q t) m ≡ meant t m
 meant_is t (by_ref name) = refl
@@ -48,14 +48,14 @@ by_name q (x ∷ xs) = by (q x.name) (by_name q xs)
     by false h = h
 
 module _ (t : Template) (conds : List (List ℕ × Verdict)) where
-  one : (r : Res) → needs_by (λ q. is_parameter q t) (map (λ m. m.name) (filter (is_made conds) t.resources)) conds r ≡ needs_in t conds r
+  one : (r : Res) → needs_mentioned (λ q. is_parameter q t) (map (λ m. m.name) (filter (is_made conds) t.resources)) conds r ≡ needs_in t conds r
   one r =
       let refs = λ (f : Mention → Option (List ℕ)). filter_map f (fields_mentions (holds_in conds) (fields_of (evaluated_props r))) ++ r.depends in
       (λ i. filter (λ n. is_among n (refs (λ m. meant_is t m i))) (map (λ m. m.name) (filter (is_made conds) t.resources)))
       ∙ by_name (λ n. is_among n (refs (meant t))) (filter (is_made conds) t.resources)
       ∙ ap (λ (ms : List Res). map (λ m. m.name) ms) (both_tests (is_made conds) (λ m. is_among m.name (refs (meant t))) t.resources)
 
-  pub needed : (made : List (List ℕ)) (all : List (List ℕ × List (List ℕ))) → made ≡ map (λ m. m.name) (filter (is_made conds) t.resources) → all ≡ map {B = List ℕ × List (List ℕ)} (λ (r : Res). (r.name, needs_by (λ q. is_parameter q t) made conds r)) (filter (is_made conds) t.resources) → all ≡ all_needs t conds
+  pub needed : (made : List (List ℕ)) (all : List (List ℕ × List (List ℕ))) → made ≡ map (λ m. m.name) (filter (is_made conds) t.resources) → all ≡ map {B = List ℕ × List (List ℕ)} (λ (r : Res). (r.name, needs_mentioned (λ q. is_parameter q t) made conds r)) (filter (is_made conds) t.resources) → all ≡ all_needs t conds
   needed made all e f =
-      f ∙ ap (λ (ms : List (List ℕ)). map {B = List ℕ × List (List ℕ)} (λ (r : Res). (r.name, needs_by (λ q. is_parameter q t) ms conds r)) (filter (is_made conds) t.resources)) e
+      f ∙ ap (λ (ms : List (List ℕ)). map {B = List ℕ × List (List ℕ)} (λ (r : Res). (r.name, needs_mentioned (λ q. is_parameter q t) ms conds r)) (filter (is_made conds) t.resources)) e
       ∙ (λ i. map {B = List ℕ × List (List ℕ)} (λ (r : Res). (r.name, one r i)) (filter (is_made conds) t.resources))

@@ -8,7 +8,7 @@ use Rattle.std.proofs.lemmas.List.Sums.{sum_by-cons}
 use Rattle.std.proofs.lemmas.List.Folds.{sum_by-zero}
 use Rattle.cf_tree.specs.Keys.{value_at}
 use Rattle.cf_graph.specs.Needs.{is_next}
-use Rattle.cf_graph.specs.Waiting.{times, unmet, name_at, needs_at, has_come}
+use Rattle.cf_graph.specs.Waiting.{times, unmet, row_name, row_needs, has_come}
 
 -- the test of two texts is the same both ways round
 pub flip : (k l : List ℕ) → bytes_eq k l ≡ bytes_eq l k
@@ -79,8 +79,8 @@ module _ (placed : List (List ℕ × List (List ℕ))) where
       by (Some w) = refl
 
   -- a place is next exactly if its resource has not come and none of its needs is unmet
-  pub next_if : (all : List (List ℕ × List (List ℕ))) (p : ℕ) → value_at (name_at all p) placed ≡ None → unmet placed (needs_at all p) ≡ 0 → is_next placed (get_or all p ([], [])) ≡ true
-  next_if all p none met = rw (none, all_met (needs_at all p), met) refl
+  pub next_if : (all : List (List ℕ × List (List ℕ))) (p : ℕ) → value_at (row_name all p) placed ≡ None → unmet placed (row_needs all p) ≡ 0 → is_next placed (get_or all p ([], [])) ≡ true
+  next_if all p none met = rw (none, all_met (row_needs all p), met) refl
 
   pub not_next_if_come : (all : List (List ℕ × List (List ℕ))) (p : ℕ) → has_come all placed p ≡ true → is_next placed (get_or all p ([], [])) ≡ false
   not_next_if_come all p h = rw h refl

@@ -6,7 +6,7 @@ use Rattle.std.proofs.lemmas.Bool.{cases_eq, true≢false}
 use Rattle.std.proofs.lemmas.Map.Keys.{le_from_not_gt}
 use Rattle.std.proofs.lemmas.Grind.{common_steps}
 use Rattle.cf_tree.specs.Keys.{value_at}
-use Rattle.cf_graph.specs.Waiting.{IsNextPlace, has_come, name_at}
+use Rattle.cf_graph.specs.Waiting.{IsNextPlace, has_come, row_name}
 
 module _ (before after : BTreeSet ℕ) (p : ℕ) (h : Updates nat_cmp before after p false) where
   pub was_there : (q : ℕ) → contains nat_cmp after q ≡ true → contains nat_cmp before q ≡ true
@@ -25,7 +25,7 @@ module _ (all placed : List (List ℕ × List (List ℕ))) (init before after : 
     (fewer : (q : ℕ) → contains nat_cmp before q ≡ true → contains nat_cmp init q ≡ true)
     (others : (q : ℕ) → contains nat_cmp init q ≡ true → (has_come all placed q ≡ true) ⊎ (contains nat_cmp before q ≡ true))
     (p : ℕ) (h : Updates nat_cmp before after p false) where
-  pub next_place : contains nat_cmp before p ≡ true → IsLowerBound nat_cmp before p → value_at (name_at all p) placed ≡ None → IsNextPlace all placed init after p
+  pub next_place : contains nat_cmp before p ≡ true → IsLowerBound nat_cmp before p → value_at (row_name all p) placed ≡ None → IsNextPlace all placed init after p
   next_place there least none = record {
     ready = fewer p there;
     open_still = none;

@@ -8,8 +8,8 @@ use Rattle.std.proofs.lemmas.List.{get_or_past, get_or-map, length-map}
 use Rattle.std.proofs.lemmas.List.Sums.{sum_by-cons}
 use Rattle.cf_tree.specs.Keys.{value_at}
 use Rattle.cf_graph.specs.Needs.{is_next, ordered}
-use Rattle.cf_graph.specs.Waiting.{times, copies, unmet, name_at, needs_at, has_come, is_free, with_next, IsNextPlace, IsNoPlace}
-use Rattle.cf_graph.specs.UnderWay.{IsCounted}
+use Rattle.cf_graph.specs.Waiting.{times, copies, unmet, row_name, row_needs, has_come, needs_nothing, with_next, IsNextPlace, IsNoPlace}
+use Rattle.cf_graph.specs.UnderWay.{MissingAreCounted}
 use Rattle.cf_graph.proofs.Copies.{in_range}
 use Rattle.cf_graph.proofs.Finding.{find_here, find_none}
 use Rattle.cf_graph.proofs.Placing.{all_met, unmet_less, come_stays, came_now, next_if, not_next_if_come}
@@ -19,30 +19,30 @@ unmet_first : (ns : List (List ℕ)) → unmet [] ns ≡ length ns
 unmet_first [] = refl
 unmet_first (n ∷ ns) = omega (arith, sum_by-cons (λ m. cond (not (is_some (value_at {X = List (List ℕ)} m []))) 1 0) n ns, unmet_first ns)
 
-pub counted_first : (all : List (List ℕ × List (List ℕ))) (missing : List ℕ) (ready : BTreeSet ℕ) → missing ≡ map (λ r. length r.1) all → ((p : ℕ) → contains nat_cmp ready p ≡ is_free all p) → IsCounted all [] missing ready
+pub counted_first : (all : List (List ℕ × List (List ℕ))) (missing : List ℕ) (ready : BTreeSet ℕ) → missing ≡ map (λ r. length r.1) all → ((p : ℕ) → contains nat_cmp ready p ≡ needs_nothing all p) → MissingAreCounted all [] missing ready
 counted_first all missing ready e f =
-    let here : (p : ℕ) → p < length all → get_or missing p 0 ≡ length (needs_at all p) =
+    let here : (p : ℕ) → p < length all → get_or missing p 0 ≡ length (row_needs all p) =
     λ p l. ap (λ (ms : List ℕ). get_or ms p 0) e ∙ get_or-map (λ (r : List ℕ × List (List ℕ)). length r.1) all p ([], []) 0 l in
     record {
       long = ap (λ (ms : List ℕ). length ms) e ∙ length-map all (λ (r : List ℕ × List (List ℕ)). length r.1);
-      counted = λ p l. here p l ∙ sym (unmet_first (needs_at all p));
-      listed = λ p l z. inr (f p ∙ and_from _ _ (lt-ltb p (length all) l) (eq-eqb (length (needs_at all p)) 0 (sym (here p l) ∙ z)));
-      free = λ p c. let both = and_parts (nat_lt p (length all)) (nat_eq (length (needs_at all p)) 0) (sym (f p) ∙ c) in
-          let l = ltb-true p (length all) both.0 in (l, here p l ∙ eqb-true (length (needs_at all p)) 0 both.1);
+      counted = λ p l. here p l ∙ sym (unmet_first (row_needs all p));
+      listed = λ p l z. inr (f p ∙ and_from _ _ (lt-ltb p (length all) l) (eq-eqb (length (row_needs all p)) 0 (sym (here p l) ∙ z)));
+      free = λ p c. let both = and_parts (nat_lt p (length all)) (nat_eq (length (row_needs all p)) 0) (sym (f p) ∙ c) in
+          let l = ltb-true p (length all) both.0 in (l, here p l ∙ eqb-true (length (row_needs all p)) 0 both.1);
     }
 
-module _ (all placed : List (List ℕ × List (List ℕ))) (missing : List ℕ) (ready : BTreeSet ℕ) (under : IsCounted all placed missing ready) where
+module _ (all placed : List (List ℕ × List (List ℕ))) (missing : List ℕ) (ready : BTreeSet ℕ) (under : MissingAreCounted all placed missing ready) where
   not_next : (p : ℕ) → p < length all → (contains nat_cmp ready p ≡ true → has_come all placed p ≡ true) → is_next placed (get_or all p ([], [])) ≡ false
   not_next p l came = ⊎_elim
       (λ (z : get_or missing p 0 ≡ 0). not_next_if_come placed all p (⊎_elim (λ h. h) came (under.listed p l z)))
-      (λ (nz : get_or missing p 0 ≡ 0 → ⊥). and_right (not (has_come all placed p)) (list_all (λ n. is_some (value_at n placed)) (needs_at all p))
-      (all_met placed (needs_at all p) ∙ ne_eqb (unmet placed (needs_at all p)) 0 (λ z. nz (under.counted p l ∙ z))))
+      (λ (nz : get_or missing p 0 ≡ 0 → ⊥). and_right (not (has_come all placed p)) (list_all (λ n. is_some (value_at n placed)) (row_needs all p))
+      (all_met placed (row_needs all p) ∙ ne_eqb (unmet placed (row_needs all p)) 0 (λ z. nz (under.counted p l ∙ z))))
       (cases_eq (get_or missing p 0) 0)
 
   pub none_next : (after : BTreeSet ℕ) → IsNoPlace all placed ready after → find (is_next placed) all ≡ None
   none_next after none = find_none (is_next placed) all ([], []) (λ j l. not_next j l (none.all_came j))
 
-  pub counted_still : (after : BTreeSet ℕ) → IsNoPlace all placed ready after → IsCounted all placed missing after
+  pub counted_still : (after : BTreeSet ℕ) → IsNoPlace all placed ready after → MissingAreCounted all placed missing after
   counted_still after none = record {
     long = under.long;
     counted = under.counted;
@@ -60,24 +60,24 @@ module _ (all placed : List (List ℕ × List (List ℕ))) (missing : List ℕ) 
         (next_if placed all at next.open_still (sym (under.counted at at_within) ∙ (under.free at next.ready).1))
         (λ j l. not_next j (omega (arith, l, at_within)) (next.first j l))
 
-    module _ (behind : List ℕ) (waits : (p : ℕ) → copies p behind ≡ times (name_at all at) (needs_at all p)) where
+    module _ (behind : List ℕ) (waits : (p : ℕ) → copies p behind ≡ times (row_name all at) (row_needs all p)) where
       -- what comes was missing to each that needs it
       pub enough : (p : ℕ) → copies p behind ≤ get_or missing p 0
       enough p = ⊎_elim
-          (λ (l : p < length all). omega (arith, waits p, under.counted p l, unmet_less placed (name_at all at) [] next.open_still (needs_at all p)))
-          (λ (g : length all ≤ p). omega (arith, waits p ∙ ap (λ (r : List ℕ × List (List ℕ)). times (name_at all at) r.1) (get_or_past all p ([], []) g)))
+          (λ (l : p < length all). omega (arith, waits p, under.counted p l, unmet_less placed (row_name all at) [] next.open_still (row_needs all p)))
+          (λ (g : length all ≤ p). omega (arith, waits p ∙ ap (λ (r : List ℕ × List (List ℕ)). times (row_name all at) r.1) (get_or_past all p ([], []) g)))
           (cases_lt p (length all))
 
       module _ (v : List (List ℕ)) (fewer : List ℕ) (after : BTreeSet ℕ) (long : length fewer ≡ length missing)
           (counted : (p : ℕ) → get_or fewer p 0 + copies p behind ≡ get_or missing p 0)
           (listed : (p : ℕ) → contains nat_cmp after p ≡ (contains nat_cmp kept p || (nat_eq (get_or fewer p 0) 0 && nat_lt 0 (copies p behind)))) where
-        listed_now : (p : ℕ) → p < length all → get_or fewer p 0 ≡ 0 → (has_come all (placed ++ (name_at all at, v) ∷ []) p ≡ true) ⊎ (contains nat_cmp after p ≡ true)
+        listed_now : (p : ℕ) → p < length all → get_or fewer p 0 ≡ 0 → (has_come all (placed ++ (row_name all at, v) ∷ []) p ≡ true) ⊎ (contains nat_cmp after p ≡ true)
         listed_now p l z = ⊎_elim
             (λ (c : copies p behind ≡ 0). ⊎_elim
-            (λ h. inl (come_stays placed (name_at all at) v next.open_still (name_at all p) h))
+            (λ h. inl (come_stays placed (row_name all at) v next.open_still (row_name all p) h))
             (λ r. ⊎_elim
-            (λ (e : p ≡ at). inl (subst (λ q. has_come all (placed ++ (name_at all at, v) ∷ []) q ≡ true) (sym e) (came_now placed (name_at all at) v)))
-            (λ o. ⊎_elim (λ h. inl (come_stays placed (name_at all at) v next.open_still (name_at all p) h)) (λ k. inr (listed p ∙ or_left (contains nat_cmp kept p) _ k)) o)
+            (λ (e : p ≡ at). inl (subst (λ q. has_come all (placed ++ (row_name all at, v) ∷ []) q ≡ true) (sym e) (came_now placed (row_name all at) v)))
+            (λ o. ⊎_elim (λ h. inl (come_stays placed (row_name all at) v next.open_still (row_name all p) h)) (λ k. inr (listed p ∙ or_left (contains nat_cmp kept p) _ k)) o)
             (next.others p r))
             (under.listed p l (omega (arith, counted p))))
             (λ (c : copies p behind ≡ 0 → ⊥). inr (listed p ∙ or_right (contains nat_cmp kept p) _ (and_from _ _ (eq-eqb (get_or fewer p 0) 0 z) (lt-ltb 0 (copies p behind) (omega (arith, c))))))
@@ -92,10 +92,10 @@ module _ (all placed : List (List ℕ × List (List ℕ))) (missing : List ℕ) 
             (omega (arith, there, under.long), eqb-true (get_or fewer p 0) 0 both.0))
             (or_cases (contains nat_cmp kept p) _ (sym (listed p) ∙ c))
 
-        pub counted_now : IsCounted all (placed ++ (name_at all at, v) ∷ []) fewer after
+        pub counted_now : MissingAreCounted all (placed ++ (row_name all at, v) ∷ []) fewer after
         counted_now = record {
           long = long ∙ under.long;
-          counted = λ p l. omega (arith, counted p, under.counted p l, waits p, unmet_less placed (name_at all at) v next.open_still (needs_at all p));
+          counted = λ p l. omega (arith, counted p, under.counted p l, waits p, unmet_less placed (row_name all at) v next.open_still (row_needs all p));
           listed = listed_now;
           free = free_now;
         }

@@ -5,10 +5,10 @@ use Rattle.std.specs.Option.{unwrap_or}
 use Rattle.std.specs.Str.{bytes_eq}
 use Rattle.cf_tree.specs.Keys.{value_at}
 use Rattle.cf_tree.specs.Lists.{is_among, first_in}
-use Rattle.cf_graph.specs.Needs.{needed_by, walks}
+use Rattle.cf_graph.specs.Needs.{needs_listed, walks}
 use Rattle.std.specs.BTreeSet.{BTreeSet}
 use Rattle.std.proofs.lemmas.List.{take_all}
-use Rattle.cf_graph.specs.Cycles.{leads_back, has, IsLevel, StandAlike}
+use Rattle.cf_graph.specs.Cycles.{leads_back, is_on_level, IsLevel, StandAlike}
 use Rattle.cf_graph.proofs.Alike.{any_named}
 
 abbrev Rows : Type 0
@@ -34,15 +34,15 @@ module _ (all : Rows) (start : List ℕ) where
       ∙ ap (λ (b : Bool). b || is_some (first_in (flat_map (longer n name) qs))) (some_mapped (λ w. name ∷ w) (walks all start (suc n) q))
       ∙ ap (λ (b : Bool). leads_back all start (suc n) q || b) (leads_from n name qs)
 
-  pub leads_further : (n : ℕ) (name : List ℕ) → leads_back all start (suc (suc n)) name ≡ list_any (leads_back all start (suc n)) (needed_by all name)
-  leads_further n name = leads_from n name (needed_by all name)
+  pub leads_further : (n : ℕ) (name : List ℕ) → leads_back all start (suc (suc n)) name ≡ list_any (leads_back all start (suc n)) (needs_listed all name)
+  leads_further n name = leads_from n name (needs_listed all name)
 
   first_of : (name : List ℕ) (b : Bool) → is_some (first_in (cond b ((name ∷ []) ∷ []) [])) ≡ b
   first_of name true = refl
   first_of name false = refl
 
-  pub leads_at_once : (name : List ℕ) → leads_back all start 1 name ≡ is_among start (needed_by all name)
-  leads_at_once name = first_of name (is_among start (needed_by all name))
+  pub leads_at_once : (name : List ℕ) → leads_back all start 1 name ≡ is_among start (needs_listed all name)
+  leads_at_once name = first_of name (is_among start (needs_listed all name))
 
   -- a name that stands under none leads nowhere
   pub unknown_leads : (n : ℕ) (name : List ℕ) → value_at name all ≡ None → leads_back all start (suc n) name ≡ false
@@ -54,28 +54,28 @@ same_any f g h [] = refl
 same_any f g h (x ∷ xs) = λ i. h x i || same_any f g h xs i
 
 module _ (all rows : Rows) (start : List ℕ) (h : StandAlike rows all) (level : BTreeSet (List ℕ)) (n : ℕ) (l : length all ≤ n) where
-  needs_alike : (q : List ℕ) → needed_by rows q ≡ needed_by all q
+  needs_alike : (q : List ℕ) → needs_listed rows q ≡ needs_listed all q
   needs_alike q = ap (λ (o : Option (List (List ℕ))). unwrap_or o []) (h q)
 
-  noted_all : (f : List ℕ → Bool) → ((q : List ℕ) → has level q ≡ list_any (λ r. bytes_eq q r.0 && f r.0) (take n all)) → ((q : List ℕ) → value_at q all ≡ None → f q ≡ false)
-      → (q : List ℕ) → has level q ≡ f q
+  noted_all : (f : List ℕ → Bool) → ((q : List ℕ) → is_on_level level q ≡ list_any (λ r. bytes_eq q r.0 && f r.0) (take n all)) → ((q : List ℕ) → value_at q all ≡ None → f q ≡ false)
+      → (q : List ℕ) → is_on_level level q ≡ f q
   noted_all f k z q = k q ∙ ap (list_any (λ r. bytes_eq q r.0 && f r.0)) (take_all n all l) ∙ any_named f all z q
 
   -- the names noted of those that need the start, and of those that need one of a level
-  pub first_made : ((q : List ℕ) → has level q ≡ list_any (λ r. bytes_eq q r.0 && is_among start (needed_by rows r.0)) (take n all)) → IsLevel all start 1 level
+  pub first_made : ((q : List ℕ) → is_on_level level q ≡ list_any (λ r. bytes_eq q r.0 && is_among start (needs_listed rows r.0)) (take n all)) → IsLevel all start 1 level
   first_made k q =
-      noted_all (λ q. is_among start (needed_by rows q)) k (λ q e. ap (λ (o : Option (List (List ℕ))). is_among start (unwrap_or o [])) (h q ∙ e)) q
+      noted_all (λ q. is_among start (needs_listed rows q)) k (λ q e. ap (λ (o : Option (List (List ℕ))). is_among start (unwrap_or o [])) (h q ∙ e)) q
       ∙ ap (is_among start) (needs_alike q) ∙ sym (leads_at_once all start q)
 
   pub next_made : (below : BTreeSet (List ℕ)) (m : ℕ)
-      → ((q : List ℕ) → has level q ≡ list_any (λ r. bytes_eq q r.0 && list_any (has below) (needed_by rows r.0)) (take n all)) → IsLevel all start (suc m) below
+      → ((q : List ℕ) → is_on_level level q ≡ list_any (λ r. bytes_eq q r.0 && list_any (is_on_level below) (needs_listed rows r.0)) (take n all)) → IsLevel all start (suc m) below
       → IsLevel all start (suc (suc m)) level
   next_made below m k b q =
-      noted_all (λ q. list_any (has below) (needed_by rows q)) k (λ q e. ap (λ (o : Option (List (List ℕ))). list_any (has below) (unwrap_or o [])) (h q ∙ e)) q
-      ∙ ap (list_any (has below)) (needs_alike q) ∙ same_any (has below) (leads_back all start (suc m)) b (needed_by all q) ∙ sym (leads_further all start m q)
+      noted_all (λ q. list_any (is_on_level below) (needs_listed rows q)) k (λ q e. ap (λ (o : Option (List (List ℕ))). list_any (is_on_level below) (unwrap_or o [])) (h q ∙ e)) q
+      ∙ ap (list_any (is_on_level below)) (needs_alike q) ∙ same_any (is_on_level below) (leads_back all start (suc m)) b (needs_listed all q) ∙ sym (leads_further all start m q)
 
   pub next_from : (below : BTreeSet (List ℕ)) (m : ℕ) → 1 ≤ m
-      → ((q : List ℕ) → has level q ≡ list_any (λ r. bytes_eq q r.0 && list_any (has below) (needed_by rows r.0)) (take n all)) → IsLevel all start m below
+      → ((q : List ℕ) → is_on_level level q ≡ list_any (λ r. bytes_eq q r.0 && list_any (is_on_level below) (needs_listed rows r.0)) (take n all)) → IsLevel all start m below
       → IsLevel all start (m + 1) level
   next_from below zero o k b = absurd (omega (arith, o))
   next_from below (suc m) o k b = subst (λ (j : ℕ). IsLevel all start j level) {x = suc (suc m)} {y = suc m + 1} (omega arith) (next_made below m k b)

@@ -4,16 +4,16 @@ use Rattle.std.specs.Prelude.{ℕ, Bool, false, List, Option, Some, map, nat_lt}
 use Rattle.std.specs.List.{list_all, position}
 use Rattle.std.specs.Str.{bytes_eq}
 
-abbrev pub place_of : List (List ℕ × List (List ℕ)) → List ℕ → Option ℕ
-place_of placed name = position (bytes_eq name) (map (λ r. r.0) placed)
+abbrev pub row_place : List (List ℕ × List (List ℕ)) → List ℕ → Option ℕ
+row_place placed name = position (bytes_eq name) (map (λ r. r.0) placed)
 
 -- of two places that are there, whether the first is the smaller
-abbrev pub is_smaller : Option ℕ → Option ℕ → Bool
-is_smaller (Some i) (Some j) = nat_lt i j
-is_smaller _ _ = false
+abbrev pub is_earlier : Option ℕ → Option ℕ → Bool
+is_earlier (Some i) (Some j) = nat_lt i j
+is_earlier _ _ = false
 
 abbrev pub comes_before : List (List ℕ × List (List ℕ)) → List ℕ → List ℕ → Bool
-comes_before placed need name = is_smaller (place_of placed need) (place_of placed name)
+comes_before placed need name = is_earlier (row_place placed need) (row_place placed name)
 
 -- all that each needs comes before it
 abbrev pub needs_first : List (List ℕ × List (List ℕ)) → List (List ℕ × List (List ℕ)) → Bool

@@ -11,12 +11,12 @@ use Rattle.cf_graph.specs.Needs.{walks}
 abbrev pub leads_back : List (List ℕ × List (List ℕ)) → List ℕ → ℕ → List ℕ → Bool
 leads_back all start n name = is_some (first_in (walks all start n name))
 
-abbrev pub has : BTreeSet (List ℕ) → List ℕ → Bool
-has names name = contains (slice_cmp nat_cmp) names name
+abbrev pub is_on_level : BTreeSet (List ℕ) → List ℕ → Bool
+is_on_level names name = contains (slice_cmp nat_cmp) names name
 
 -- the names from which a walk of so many steps leads back
 abbrev pub IsLevel : List (List ℕ × List (List ℕ)) → List ℕ → ℕ → BTreeSet (List ℕ) → Type 0
-IsLevel all start n names = (q : List ℕ) → has names q ≡ leads_back all start n q
+IsLevel all start n names = (q : List ℕ) → is_on_level names q ≡ leads_back all start n q
 
 -- such names for one step after another, from a number of steps on
 abbrev pub AreLevels : List (List ℕ × List (List ℕ)) → List ℕ → ℕ → List (BTreeSet (List ℕ)) → Type 0

@@ -1,4 +1,4 @@
--- What the names that the code collects stand for.
+-- What the names that the code collects stand for (this project's own).
 use Rattle.std.specs.Prelude.{ℕ, Bool, true, List, Option, Some, None, map, filter, filter_map, ◌++◌, if◌then◌else◌}
 use Rattle.cf_tree.specs.Forms.{fields_of}
 use Rattle.cf_tree.specs.declared.bound.Verdict.{Verdict}
@@ -26,5 +26,7 @@ meant_by is_param (means.by_ref name) = if is_param name then None else Some nam
 meant_by is_param (means.by_attribute name) = Some name
 
 -- what a resource needs of those that are made, where a test tells the parameters
-abbrev pub needs_by : (List ℕ → Bool) → List (List ℕ) → List (List ℕ × Verdict) → Res → List (List ℕ)
-needs_by is_param made conds r = filter (λ n. is_among n (filter_map (meant_by is_param) (means.fields_mentions (holds_in conds) (fields_of (evaluated_props r))) ++ r.depends)) made
+abbrev pub needs_mentioned : (List ℕ → Bool) → List (List ℕ) → List (List ℕ × Verdict) → Res → List (List ℕ)
+needs_mentioned is_param made conds r =
+    filter (λ n. is_among n (filter_map (meant_by is_param) (means.fields_mentions (holds_in conds) (fields_of (evaluated_props r)))
+    ++ r.depends)) made

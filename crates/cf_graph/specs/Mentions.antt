@@ -1,4 +1,5 @@
--- Which names an expression refers to in the places that are evaluated (template reference: Ref, Fn::GetAtt, Fn::Sub, and of Fn::If the taken branch alone).
+-- Which names an expression refers to in the places that are evaluated (template reference: Ref, Fn::GetAtt, Fn::Sub, and of Fn::If the
+-- taken branch alone).
 use Rattle.std.specs.Prelude.{ℕ, Bool, true, false, List, [], ◌∷◌, ◌++◌, Option, Some, None, map, flat_map, is_some, codes, if◌then◌else◌}
 use Rattle.cf_funcs.specs.Pieces.{cut_at}
 use Rattle.cf_tree.specs.Keys.{value_at}
@@ -27,10 +28,10 @@ keys_of no_fields = []
 keys_of (field k e ps) = k ∷ keys_of ps
 
 -- of two branches the one that is taken; of a condition that is not declared neither is
-abbrev pub taken : Option Bool → List Mention → List Mention → List Mention
-taken None y n = []
-taken (Some true) y n = y
-taken (Some false) y n = n
+abbrev pub taken_branch : Option Bool → List Mention → List Mention → List Mention
+taken_branch None y n = []
+taken_branch (Some true) y n = y
+taken_branch (Some false) y n = n
 
 -- the names that an expression refers to, where `holds` tells of each declared condition whether it is true
 abbrev mutual
@@ -47,7 +48,7 @@ abbrev mutual
   node_mentions holds (join d e) = mentions_of holds e
   node_mentions holds (select i e) = mentions_of holds i ++ mentions_of holds e
   node_mentions holds (split d e) = mentions_of holds e
-  node_mentions holds (choice name y n) = taken (holds name) (mentions_of holds y) (mentions_of holds n)
+  node_mentions holds (choice name y n) = taken_branch (holds name) (mentions_of holds y) (mentions_of holds n)
   node_mentions holds (find_in_map m k l) = mentions_of holds m ++ (mentions_of holds k ++ mentions_of holds l)
   node_mentions holds (import_value e) = mentions_of holds e
   node_mentions holds (base64 e) = mentions_of holds e

@@ -45,7 +45,8 @@ meant t (by_attribute name) = Some name
 
 -- the properties that are evaluated: of a nested stack, its template and its parameters alone
 abbrev pub is_evaluated : List ℕ → List ℕ → Bool
-is_evaluated kind name = not (bytes_eq kind (codes "AWS::CloudFormation::Stack")) || is_among name (codes "TemplateURL" ∷ codes "Parameters" ∷ [])
+is_evaluated kind name =
+    not (bytes_eq kind (codes "AWS::CloudFormation::Stack")) || is_among name (codes "TemplateURL" ∷ codes "Parameters" ∷ [])
 
 abbrev pub evaluated_props : Res → List (List ℕ × Form)
 evaluated_props r = filter (λ p. is_evaluated r.kind p.0) r.props
@@ -73,13 +74,13 @@ abbrev pub unknown_dependency : Template → Option (List ℕ × List ℕ)
 unknown_dependency t = first_in (flat_map (unknown_of t) t.resources)
 
 -- A closed walk along the needs: those of a length that lead from a resource back to the first one, in byte order.
-abbrev pub needed_by : List (List ℕ × List (List ℕ)) → List ℕ → List (List ℕ)
-needed_by all name = unwrap_or (value_at name all) []
+abbrev pub needs_listed : List (List ℕ × List (List ℕ)) → List ℕ → List (List ℕ)
+needs_listed all name = unwrap_or (value_at name all) []
 
 abbrev pub walks : List (List ℕ × List (List ℕ)) → List ℕ → ℕ → List ℕ → List (List (List ℕ))
 walks all start zero name = []
-walks all start (suc zero) name = if is_among start (needed_by all name) then (name ∷ []) ∷ [] else []
-walks all start (suc (suc n)) name = flat_map (λ q. map (λ w. name ∷ w) (walks all start (suc n) q)) (needed_by all name)
+walks all start (suc zero) name = if is_among start (needs_listed all name) then (name ∷ []) ∷ [] else []
+walks all start (suc (suc n)) name = flat_map (λ q. map (λ w. name ∷ w) (walks all start (suc n) q)) (needs_listed all name)
 
 -- the shortest from a resource, of at most so many steps
 abbrev pub shortest_walk : List (List ℕ × List (List ℕ)) → List ℕ → ℕ → Option (List (List ℕ))
@@ -99,19 +100,19 @@ ordered zero all placed = placed
 ordered (suc left) all placed = option_map_or (λ r. ordered left all (placed ++ r ∷ [])) (find (is_next placed) all) placed
 
 -- why a template has no order
-pub data Tangle : Type 0 where
-  unknown : (from name : List ℕ) → Tangle
-  circular : (cycle : List (List ℕ)) → Tangle
+pub data OrderFault : Type 0 where
+  unknown : (from name : List ℕ) → OrderFault
+  circular : (cycle : List (List ℕ)) → OrderFault
 
-abbrev pub order_of : List (List ℕ × List (List ℕ)) → Option (List (List ℕ)) → Result (List (List ℕ × List (List ℕ))) Tangle
+abbrev pub order_of : List (List ℕ × List (List ℕ)) → Option (List (List ℕ)) → Result (List (List ℕ × List (List ℕ))) OrderFault
 order_of all None = Ok (ordered (length all) all [])
 order_of all (Some cycle) = Err (circular cycle)
 
 abbrev pub unless_unknown :
-    Option (List ℕ × List ℕ) → Result (List (List ℕ × List (List ℕ))) Tangle → Result (List (List ℕ × List (List ℕ))) Tangle
+    Option (List ℕ × List ℕ) → Result (List (List ℕ × List (List ℕ))) OrderFault → Result (List (List ℕ × List (List ℕ))) OrderFault
 unless_unknown None r = r
 unless_unknown (Some u) r = Err (unknown u.0 u.1)
 
 -- each made resource with what it needs, in the order of work, or the first refusal
-abbrev pub needs_of : Template → List (List ℕ × Verdict) → Result (List (List ℕ × List (List ℕ))) Tangle
+abbrev pub needs_of : Template → List (List ℕ × Verdict) → Result (List (List ℕ × List (List ℕ))) OrderFault
 needs_of t conds = unless_unknown (unknown_dependency t) (order_of (all_needs t conds) (cycle_of (all_needs t conds)))

@@ -3,8 +3,8 @@ ghost use Rattle.std.specs.Prelude.{◌≡◌, ℕ, List, [], ◌∷◌, ◌++�
 ghost use Rattle.std.specs.List.{list_any};
 ghost use Rattle.std.specs.Str.{bytes_eq};
 ghost use Rattle.cf_tree.specs.Lists.{first_in, is_among};
-ghost use Rattle.cf_graph.specs.Needs.{cycle_of, needed_by, shortest_walk, walks};
-ghost use Rattle.cf_graph.specs.Cycles.{leads_back, has, IsLevel, AreLevels, StandAlike};
+ghost use Rattle.cf_graph.specs.Needs.{cycle_of, needs_listed, shortest_walk, walks};
+ghost use Rattle.cf_graph.specs.Cycles.{leads_back, is_on_level, IsLevel, AreLevels, StandAlike};
 
 use crate::sequence::{Needs, append};
 use cf_tree::{Names, NoMemory, Txt};
@@ -40,7 +40,7 @@ fn append_first(alloc: Global, rows: &mut Needs, name: &Txt, needs: &Names) -> R
 /// What a resource needs; one that is not there needs nothing.
 #[tactic(auto, using(crate::proofs::Lookups::lookup_is_value_at))]
 fn needed_by<'a>(rows: &'a Needs, name: &Txt) -> &'a [Txt]
-    ensures { result.now ≡ needed_by rows.now.entries name.now }
+    ensures { result.now ≡ needs_listed rows.now.entries name.now }
 {
     match rows.get(name) {
         Some(needs) => needs.as_slice(),
@@ -57,14 +57,14 @@ fn is_among(name: &Txt, names: &[Txt]) -> bool
 
 /// Whether one of the names is of the level.
 fn meets(names: &[Txt], level: &Level) -> bool
-    ensures { result ≡ list_any (has level.now) names.now }
+    ensures { result ≡ list_any (is_on_level level.now) names.now }
 {
     names.iter().any(|name| level.contains(name))
 }
 
 /// Adds a name to a level where a walk leads back from it.
 fn add_where(alloc: Global, level: &mut Level, name: &Txt, leads: bool) -> Result<(), NoMemory>
-    ensures { IfOk result (λ _. (q : List ℕ) → has level.new q ≡ (has level.old q || (bytes_eq q name.now && leads))) }
+    ensures { IfOk result (λ _. (q : List ℕ) → is_on_level level.new q ≡ (is_on_level level.old q || (bytes_eq q name.now && leads))) }
 {
     if leads {
         level.insert(name.try_clone(alloc)?)?;
@@ -110,7 +110,7 @@ fn next_level(
 
 /// The first of the names that is of the level.
 fn first_leading<'a>(names: &'a [Txt], level: &Level) -> Option<&'a Txt>
-    ensures { option_copied result ≡ find (has level.now) names.now }
+    ensures { option_copied result ≡ find (is_on_level level.now) names.now }
 {
     names.iter().find(|name| level.contains(*name))
 }

@@ -4,7 +4,7 @@ ghost use Rattle.cf_funcs.specs.Pieces.{cut_at};
 ghost use Rattle.cf_tree.specs.Form.{node_of, fields_in};
 ghost use Rattle.cf_tree.specs.Forms.{forms_of, fields_of};
 ghost use Rattle.cf_tree.specs.Keys.{value_at};
-ghost use Rattle.cf_graph.specs.Mentions.{mentions_of, node_mentions, forms_mentions, fields_mentions, taken, holes_in, keys_of, hole};
+ghost use Rattle.cf_graph.specs.Mentions.{mentions_of, node_mentions, forms_mentions, fields_mentions, taken_branch, holes_in, keys_of, hole};
 ghost use Rattle.cf_graph.specs.Needs.{holds_in};
 ghost use Rattle.cf_graph.specs.Mentioned.{mention_in, mentioned, as_keys};
 
@@ -100,7 +100,7 @@ fn taken_mentions(
     found: &mut Vec<Mention>,
 ) -> Result<(), NoMemory>
     ensures { let holds = holds_in conds.now in
-        IfOk result (λ _. mentioned found.new.items ≡ mentioned found.old.items ++ taken (holds name.now) (mentions_of holds yes.now) (mentions_of holds other.now)) }
+        IfOk result (λ _. mentioned found.new.items ≡ mentioned found.old.items ++ taken_branch (holds name.now) (mentions_of holds yes.now) (mentions_of holds other.now)) }
 {
     match conds.get(name.as_str()) {
         Some(Verdict::True) => mentions(alloc, conds, yes, found),

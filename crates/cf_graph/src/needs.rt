@@ -9,9 +9,9 @@ ghost use Rattle.cf_tree.specs.Forms.{fields_of};
 ghost use Rattle.cf_tree.specs.Named.{found};
 ghost use Rattle.cf_tree.specs.Lists.{is_among};
 ghost use Rattle.cf_graph.specs.Mentions.{fields_mentions};
-ghost use Rattle.cf_graph.specs.Mentioned.{mentioned, meant_by, needs_by};
+ghost use Rattle.cf_graph.specs.Mentioned.{mentioned, meant_by, needs_mentioned};
 ghost use Rattle.cf_graph.specs.Needs.{all_needs, evaluated_props, holds_in, is_evaluated, is_made, is_parameter};
-ghost use Rattle.cf_graph.specs.Noted.{noted};
+ghost use Rattle.cf_graph.specs.Noted.{places_noted};
 
 use crate::mentions::{Mention, mentions};
 use crate::notes::{Notes, behind, note};
@@ -41,7 +41,7 @@ fn needs_among_made(
     conds: &CondMap,
     made: &[Txt],
 ) -> Result<Vec<(Txt, Names)>, NoMemory>
-    ensures { IfOk result (λ all. all.items ≡ map (λ r. (r.name, needs_by (λ q. is_parameter q template.now) made.now conds.now r)) (filter (is_made conds.now) template.now.resources)) }
+    ensures { IfOk result (λ all. all.items ≡ map (λ r. (r.name, needs_mentioned (λ q. is_parameter q template.now) made.now conds.now r)) (filter (is_made conds.now) template.now.resources)) }
 {
     let params = param_names(alloc, &template.params)?;
     let places = places_of(alloc, made)?;
@@ -64,8 +64,8 @@ fn needs_of_one(
     conds: &CondMap,
     resource: &Res,
 ) -> Result<Names, NoMemory>
-    requires { (q : List ℕ) (p : ℕ) → list_any (nat_eq p) (noted places.now q) ≡ (nat_lt p (length made.now) && bytes_eq q (slice_index_or made.now p [])) }
-    ensures { IfOk result (λ needs. needs ≡ needs_by (contains (slice_cmp nat_cmp) params.now) made.now conds.now resource.now) }
+    requires { (q : List ℕ) (p : ℕ) → list_any (nat_eq p) (places_noted places.now q) ≡ (nat_lt p (length made.now) && bytes_eq q (slice_index_or made.now p [])) }
+    ensures { IfOk result (λ needs. needs ≡ needs_mentioned (contains (slice_cmp nat_cmp) params.now) made.now conds.now resource.now) }
 {
     let names = referred_to(alloc, params, conds, resource)?;
     let needs = needs_among(alloc, places, made, names.as_slice())?;
@@ -108,7 +108,7 @@ pub fn is_made(conds: &CondMap, resource: &Res) -> bool
 
 /// Under each name the places where it stands.
 fn places_of(alloc: Global, names: &[Txt]) -> Result<Notes, NoMemory>
-    ensures { IfOk result (λ places. (q : List ℕ) (p : ℕ) → list_any (nat_eq p) (noted places q) ≡ (nat_lt p (length names.now) && bytes_eq q (slice_index_or names.now p []))) }
+    ensures { IfOk result (λ places. (q : List ℕ) (p : ℕ) → list_any (nat_eq p) (places_noted places q) ≡ (nat_lt p (length names.now) && bytes_eq q (slice_index_or names.now p []))) }
 {
     let mut places = Notes::new(alloc);
     for (at, name) in names.iter().enumerate() {
@@ -178,7 +178,7 @@ fn needs_among(
     made: &[Txt],
     names: &[Txt],
 ) -> Result<Names, NoMemory>
-    requires { (q : List ℕ) (p : ℕ) → list_any (nat_eq p) (noted places.now q) ≡ (nat_lt p (length made.now) && bytes_eq q (slice_index_or made.now p [])) }
+    requires { (q : List ℕ) (p : ℕ) → list_any (nat_eq p) (places_noted places.now q) ≡ (nat_lt p (length made.now) && bytes_eq q (slice_index_or made.now p [])) }
     ensures { IfOk result (λ needs. needs ≡ filter (λ n. is_among n names.now) made.now) }
 {
     let found = found_places(alloc, places, names)?;
@@ -188,7 +188,7 @@ fn needs_among(
 
 /// The places that are noted under the names.
 fn found_places(alloc: Global, places: &Notes, names: &[Txt]) -> Result<BTreeSet<usize>, NoMemory>
-    ensures { IfOk result (λ s. (p : ℕ) → contains nat_cmp s p ≡ list_any (λ n. list_any (nat_eq p) (noted places.now n)) names.now) }
+    ensures { IfOk result (λ s. (p : ℕ) → contains nat_cmp s p ≡ list_any (λ n. list_any (nat_eq p) (places_noted places.now n)) names.now) }
 {
     let mut found = BTreeSet::new(alloc);
     for name in names {

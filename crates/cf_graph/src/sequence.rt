@@ -4,9 +4,9 @@ ghost use Rattle.std.specs.BTreeSet.{contains};
 ghost use Rattle.std.specs.Ordering.{nat_cmp};
 ghost use Rattle.cf_tree.specs.Keys.{value_at};
 ghost use Rattle.cf_graph.specs.Needs.{is_next, ordered};
-ghost use Rattle.cf_graph.specs.Noted.{noted};
-ghost use Rattle.cf_graph.specs.Waiting.{times, copies, WaitsFor, GivesNext, is_free, with_next};
-ghost use Rattle.cf_graph.specs.UnderWay.{IsUnderWay};
+ghost use Rattle.cf_graph.specs.Noted.{places_noted};
+ghost use Rattle.cf_graph.specs.Waiting.{times, copies, WaitsFor, GivesNext, needs_nothing, with_next};
+ghost use Rattle.cf_graph.specs.UnderWay.{IsOrdering};
 
 use crate::notes::{Notes, behind, note};
 use cf_tree::{Names, NoMemory, Txt};
@@ -29,7 +29,7 @@ fn waiting_for(alloc: Global, all: &[(Txt, Names)]) -> Result<Notes, NoMemory>
 }
 
 fn wait(alloc: Global, waiting: &mut Notes, at: usize, needs: &Names) -> Result<(), NoMemory>
-    ensures { IfOk result (λ _. (q : List ℕ) (p : ℕ) → copies p (noted waiting.new q) ≡ copies p (noted waiting.old q) + (if nat_eq at p then times q needs.now else 0)) }
+    ensures { IfOk result (λ _. (q : List ℕ) (p : ℕ) → copies p (places_noted waiting.new q) ≡ copies p (places_noted waiting.old q) + (if nat_eq at p then times q needs.now else 0)) }
 {
     for need in needs.as_slice() {
         note(alloc, waiting, need, at)?;
@@ -46,7 +46,7 @@ fn counts(alloc: Global, all: &[(Txt, Names)]) -> Result<Vec<usize>, NoMemory>
 
 /// The places of those that need nothing.
 fn first_ready(alloc: Global, all: &[(Txt, Names)]) -> Result<BTreeSet<usize>, NoMemory>
-    ensures { IfOk result (λ s. (p : ℕ) → contains nat_cmp s p ≡ is_free all.now p) }
+    ensures { IfOk result (λ s. (p : ℕ) → contains nat_cmp s p ≡ needs_nothing all.now p) }
 {
     let mut ready = BTreeSet::new(alloc);
     for (at, entry) in all.iter().enumerate() {
@@ -121,7 +121,7 @@ pub(crate) fn in_order(alloc: Global, all: &[(Txt, Names)]) -> Result<Needs, NoM
 }
 
 fn begin(alloc: Global, all: &[(Txt, Names)]) -> Result<Progress, NoMemory>
-    ensures under_way { IfOk result (IsUnderWay all.now) }
+    ensures under_way { IfOk result (IsOrdering all.now) }
     ensures empty { IfOk result (λ p. p.placed.entries ≡ []) }
 {
     Ok(Progress {
@@ -139,8 +139,8 @@ fn place_next(
     progress: &mut Progress,
 ) -> Result<bool, NoMemory>
     requires waits { WaitsFor all.now waiting.now }
-    requires under_way { IsUnderWay all.now progress.old }
-    ensures under_way { IfOk result (λ _. IsUnderWay all.now progress.new) }
+    requires under_way { IsOrdering all.now progress.old }
+    ensures under_way { IfOk result (λ _. IsOrdering all.now progress.new) }
     ensures placed { IfOk result (λ _. progress.new.placed.entries ≡ with_next progress.old.placed.entries (find (is_next progress.old.placed.entries) all.now)) }
     ensures more { IfOk result (λ more. more ≡ is_some (find (is_next progress.old.placed.entries) all.now)) }
 {

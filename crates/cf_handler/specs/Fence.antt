@@ -1,4 +1,5 @@
--- Openings, fences and calls that act late (the handler contract of the CloudFormation registry lets a handler work on after its caller is gone; epochs, fences and tokens are this project's own).
+-- Openings, fences and calls that act late (the handler contract of the CloudFormation registry lets a handler work on after its caller is
+-- gone; epochs, fences and tokens are this project's own).
 use Rattle.std.specs.Prelude.{◌≡◌, ℕ, ◌<◌, ◌≤◌, List, [], ◌∷◌, ◌++◌, slice_get, remove, find, Option, Some, None, ◌⊎◌, ◌==◌}
 use Rattle.std.specs.Str.{bytes_eq}
 use Rattle.cf_tree.specs.declared.request.Request.{Request}
@@ -32,15 +33,20 @@ with_flying lane f = record lane { flying = lane.flying ++ f ∷ [] }
 
 -- the call does to what the lane holds what a call may do
 abbrev pub MovesState : List ℕ → FencedLane → FencedLane → ℕ → Request → Answer → Type 0
-MovesState name before after token request a = (state : LaneState) × LaneMove name before.state state token request a × (after ≡ record before { state = state })
+MovesState name before after token request a =
+    (state : LaneState) × LaneMove name before.state state token request a × (after ≡ record before { state = state })
 
 -- it may act later: its token isn't settled
 abbrev pub MayActLater : FencedLane → FencedLane → ℕ → ℕ → Request → Type 0
-MayActLater before after epoch token request = (settlement_of token before.state.settled ≡ None) × (after ≡ with_flying before (record { epoch = epoch; token = token; request = request }))
+MayActLater before after epoch token request =
+    (settlement_of token before.state.settled ≡ None)
+    × (after ≡ with_flying before (record { epoch = epoch; token = token; request = request }))
 
--- what a call of an opening may do to a lane: an answer and a fault come only where the fence lets it through, and after a fault it may also act later
+-- what a call of an opening may do to a lane: an answer and a fault come only where the fence lets it through, and after a fault it may
+-- also act later
 abbrev pub CallMove : List ℕ → FencedLane → FencedLane → ℕ → ℕ → Request → Answer → Type 0
-CallMove name before after epoch token request answer.Fault = (before.fence ≤ epoch) × (MovesState name before after token request answer.Fault ⊎ MayActLater before after epoch token request)
+CallMove name before after epoch token request answer.Fault =
+    (before.fence ≤ epoch) × (MovesState name before after token request answer.Fault ⊎ MayActLater before after epoch token request)
 CallMove name before after epoch token request answer.NoMemory = after ≡ before
 CallMove name before after epoch token request a = (before.fence ≤ epoch) × MovesState name before after token request a
 
@@ -57,13 +63,18 @@ pub data Left : Type 0 where
 -- the lane after it
 abbrev pub left_by : Left → ℕ → ℕ → Request → FencedLane → FencedLane
 left_by Untouched epoch token request lane = lane
-left_by (SettledBy s) epoch token request lane = record lane { state = with_settled lane.state (record { token = token; request = request; settlement = s }) }
+left_by (SettledBy s) epoch token request lane =
+    record lane { state = with_settled lane.state (record { token = token; request = request; settlement = s }) }
 left_by FlyingOn epoch token request lane = with_flying lane (record { epoch = epoch; token = token; request = request })
 
 -- the lane after the late effect of the call that flies at this place
 abbrev pub settled_late : ℕ → Settlement → FencedLane → Option Flying → FencedLane
 settled_late place s lane None = lane
-settled_late place s lane (Some f) = record lane { state = with_settled lane.state (record { token = f.token; request = f.request; settlement = s }); flying = remove lane.flying place }
+settled_late place s lane (Some f) =
+    record lane {
+      state = with_settled lane.state (record { token = f.token; request = f.request; settlement = s });
+      flying = remove lane.flying place;
+    }
 
 abbrev pub late_by : ℕ → Settlement → FencedLane → FencedLane
 late_by place s lane = settled_late place s lane (slice_get lane.flying place)
@@ -77,11 +88,6 @@ pub record LateMove (name : List ℕ) (before after : FencedLane) (place : ℕ) 
   pub fits : MaySettle name before.state flying.request s
   pub leaves : after ≡ late_by place s before
 
--- late effects alone, one after another: what a lane does that isn't called
-abbrev pub LateMoves : List ℕ → List (ℕ × Settlement) → FencedLane → FencedLane → Type 0
-LateMoves name [] before after = after ≡ before
-LateMoves name (m ∷ ms) before after = LateMove name before (late_by m.0 m.1 before) m.0 m.1 × LateMoves name ms (late_by m.0 m.1 before) after
-
 -- raising the fence: it becomes the epoch where it is below it, else the lane is ahead; after a fault it is the old one or the epoch
 pub data FenceAnswer : Type 0 where
   Raised : FenceAnswer
@@ -94,4 +100,5 @@ raised_to lane epoch = record lane { fence = epoch }
 abbrev pub FenceMove : FencedLane → FencedLane → ℕ → FenceAnswer → ℕ → ℕ → Type 0
 FenceMove before after epoch Raised count counted = (before.fence < epoch) × (after ≡ raised_to before epoch)
 FenceMove before after epoch (Ahead fence) count counted = (epoch ≤ before.fence) × (fence ≡ before.fence) × (after ≡ before)
-FenceMove before after epoch Broken count counted = HasRisen count counted × (before.fence < epoch) × ((after ≡ before) ⊎ (after ≡ raised_to before epoch))
+FenceMove before after epoch Broken count counted =
+    HasRisen count counted × (before.fence < epoch) × ((after ≡ before) ⊎ (after ≡ raised_to before epoch))

@@ -26,16 +26,16 @@ abbrev pub updated : List ℕ → List (List ℕ × Data) → List (List ℕ × 
 updated id props attrs r = if bytes_eq id r.id then record { id = r.id; kind = r.kind; props = props; attrs = attrs } else r
 
 -- what a settled call changes: a success makes, sets or takes away one resource, a refusal changes none
-abbrev pub changed_by : Request → Settlement → List Live → List Live
-changed_by (Create kind props) (Success id attrs) live = live ++ record { id = id; kind = kind; props = props; attrs = attrs } ∷ []
-changed_by (Update id props) (Success _ attrs) live = map (updated id props attrs) live
-changed_by (Delete id) (Success _ _) live = filter (λ r. not (bytes_eq id r.id)) live
-changed_by _ (Failed code) live = live
+abbrev pub live_changed : Request → Settlement → List Live → List Live
+live_changed (Create kind props) (Success id attrs) live = live ++ record { id = id; kind = kind; props = props; attrs = attrs } ∷ []
+live_changed (Update id props) (Success _ attrs) live = map (updated id props attrs) live
+live_changed (Delete id) (Success _ _) live = filter (λ r. not (bytes_eq id r.id)) live
+live_changed _ (Failed code) live = live
 
 -- what is live after these calls
 abbrev pub live_after : List Live → List Settled → List Live
 live_after live [] = live
-live_after live (s ∷ ss) = live_after (changed_by s.request s.settlement live) ss
+live_after live (s ∷ ss) = live_after (live_changed s.request s.settlement live) ss
 
 -- what is live: the base changed by the settled successes in order
 abbrev pub live_of : LaneState → List Live

@@ -1,4 +1,5 @@
--- What a handler may answer, and what a call may change (the handler contract of the CloudFormation registry; tokens and limits are this project's own).
+-- What a handler may answer, and what a call may change (the handler contract of the CloudFormation registry; tokens and limits are this
+-- project's own).
 use Rattle.std.specs.Prelude.{◌≡◌, ℕ, ◌-◌, ◌^◌, ◌<◌, ◌≤◌, false, List, [], ◌∷◌, ◌++◌, length, Option, Some, None, IsTrue, ◌⊎◌}
 use Rattle.cf_tree.specs.Datum.{Data}
 use Rattle.cf_tree.specs.Counts.{HasRisen}
@@ -14,15 +15,15 @@ use Rattle.cf_handler.specs.declared.settled.Settled.{Settled}
 use Rattle.cf_handler.specs.Lane.{LaneState, live_of, has_id, is_used, settlement_of}
 
 -- a refusal and a fault come only where the count rose
-abbrev pub IsAccounted : Answer → ℕ → ℕ → Type 0
-IsAccounted (answer.Success physical attrs) before after = Unit {0}
-IsAccounted (answer.Failed code) before after = HasRisen before after
-IsAccounted answer.Fault before after = HasRisen before after
-IsAccounted answer.NoMemory before after = Unit {0}
+abbrev pub RoseIfFailed : Answer → ℕ → ℕ → Type 0
+RoseIfFailed (answer.Success physical attrs) before after = Unit {0}
+RoseIfFailed (answer.Failed code) before after = HasRisen before after
+RoseIfFailed answer.Fault before after = HasRisen before after
+RoseIfFailed answer.NoMemory before after = Unit {0}
 
 -- the count never falls, and each refusal and fault has it for its cause
 abbrev pub HasCause : ℕ → ℕ → Answer → Type 0
-HasCause before after result = (before ≤ after) × IsAccounted result before after
+HasCause before after result = (before ≤ after) × RoseIfFailed result before after
 
 -- the attributes are within their limit
 abbrev pub AreShort : List (List ℕ × Data) → Type 0
@@ -39,9 +40,17 @@ IsShort answer.NoMemory = Unit {0}
 abbrev pub IsOfLane : List ℕ → List ℕ → Type 0
 IsOfLane name id = (rest : List ℕ) × (id ≡ name ++ 58 ∷ rest)
 
--- what a new token may be settled with: a created id is of the lane and new, an update and a deletion answer their own id, which was live, a deletion has no attributes, and finds nothing only where nothing is live
+-- a lane of this type may take the request: a create is of the lane's type
+abbrev pub IsKindFor : Request → List ℕ → Type 0
+IsKindFor (Create made props) kind = kind ≡ made
+IsKindFor (Update id props) kind = Unit {0}
+IsKindFor (Delete id) kind = Unit {0}
+
+-- what a new token may be settled with: a created id is of the lane and new, an update and a deletion answer their own id, which was live,
+-- a deletion has no attributes, and finds nothing only where nothing is live
 abbrev pub MaySettle : List ℕ → LaneState → Request → Settlement → Type 0
-MaySettle name lane (Create kind props) (Success id attrs) = IsOfLane name id × (length id ≤ 1024) × (is_used id lane ≡ false) × AreShort attrs
+MaySettle name lane (Create kind props) (Success id attrs) =
+    IsOfLane name id × (length id ≤ 1024) × (is_used id lane ≡ false) × AreShort attrs
 MaySettle name lane (Update id props) (Success physical attrs) = (physical ≡ id) × IsTrue (has_id id (live_of lane)) × AreShort attrs
 MaySettle name lane (Delete id) (Success physical attrs) = (physical ≡ id) × IsTrue (has_id id (live_of lane)) × (attrs ≡ [])
 MaySettle name lane (Delete id) (Failed NotFound) = has_id id (live_of lane) ≡ false
@@ -64,10 +73,12 @@ Settles name before after token request s = SettlesBy (settlement_of token befor
 abbrev pub LaneMove : List ℕ → LaneState → LaneState → ℕ → Request → Answer → Type 0
 LaneMove name before after token request (answer.Success physical attrs) = Settles name before after token request (Success physical attrs)
 LaneMove name before after token request (answer.Failed code) = Settles name before after token request (Failed code)
-LaneMove name before after token request answer.Fault = (after ≡ before) ⊎ ((s : Settlement) × (settlement_of token before.settled ≡ None) × Settles name before after token request s)
+LaneMove name before after token request answer.Fault =
+    (after ≡ before) ⊎ ((s : Settlement) × (settlement_of token before.settled ≡ None) × Settles name before after token request s)
 LaneMove name before after token request answer.NoMemory = after ≡ before
 
 -- the same of a handler that tells its lane, and of one that does not
 abbrev pub CallTells : List ℕ → Option LaneState → Option LaneState → ℕ → Request → Answer → Type 0
 CallTells name None after token request result = after ≡ None
-CallTells name (Some before) after token request result = (lane : LaneState) × (after ≡ Some lane) × LaneMove name before lane token request result
+CallTells name (Some before) after token request result =
+    (lane : LaneState) × (after ≡ Some lane) × LaneMove name before lane token request result

@@ -1,4 +1,5 @@
--- The schemas of the two types whose handlers are shipped (this project's own, in the form of the CloudFormation CLI's resource type schema). Properties stand in the order of bytes.
+-- The schemas of the two types whose handlers are shipped (this project's own, in the form of the CloudFormation CLI's resource type
+-- schema). Properties stand in the order of bytes.
 use Rattle.std.specs.Prelude.{[], ◌∷◌, codes}
 use Rattle.cf_schema.specs.declared.described.Schema.{Schema}
 

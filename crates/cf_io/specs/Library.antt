@@ -1,4 +1,4 @@
--- What a library of templates tells of itself, and what a fetch does.
+-- What a library of templates tells of itself, and what a fetch does (this project's own).
 use Rattle.std.specs.Prelude.{◌≡◌, ℕ, ◌≤◌, List, ⊤, None, Some, Result, Ok, Err}
 use Rattle.std.specs.Option.{option_map}
 use Rattle.std.specs.List.{find}
@@ -14,21 +14,21 @@ abbrev pub Texts : Type 0
 Texts = List (List ℕ × List ℕ)
 
 -- the bytes under a name; where the name stands twice, its first place counts (this project's own)
-abbrev pub text_at : List ℕ → Texts → Option (List ℕ)
-text_at name texts = option_map (λ t. t.1) (find (λ t. bytes_eq name t.0) texts)
+abbrev pub text_named : List ℕ → Texts → Option (List ℕ)
+text_named name texts = option_map (λ t. t.1) (find (λ t. bytes_eq name t.0) texts)
 
 -- what was found under the name is what stands there; a library that tells no content claims nothing
 abbrev pub StandsUnder : Option Texts → List ℕ → Option (List ℕ) → Type 0
 StandsUnder None name found = ⊤
-StandsUnder (Some texts) name found = found ≡ text_at name texts
+StandsUnder (Some texts) name found = found ≡ text_named name texts
 
 -- the bytes that a fetch found
-abbrev pub found_of : Option (Vec ℕ) → Option (List ℕ)
-found_of found = option_map (λ v. v.items) found
+abbrev pub bytes_found : Option (Vec ℕ) → Option (List ℕ)
+bytes_found found = option_map (λ v. v.items) found
 
 -- a fetch answers what stands under the name, None exactly where nothing does
 abbrev pub Fetches : Option Texts → List ℕ → Result (Option (Vec ℕ)) FetchFault → Type 0
-Fetches texts name (Ok found) = StandsUnder texts name (found_of found)
+Fetches texts name (Ok found) = StandsUnder texts name (bytes_found found)
 Fetches texts name (Err e) = ⊤
 
 -- the count of faults never falls, and a fetch is answered Failed only where it rose

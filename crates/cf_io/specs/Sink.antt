@@ -1,4 +1,4 @@
--- What a sink of printed bytes tells of itself, and what a put does.
+-- What a sink of printed bytes tells of itself, and what a put does (this project's own).
 use Rattle.std.specs.Prelude.{ℕ, ◌≤◌, List, take, Option, Result, Ok, Err}
 use Rattle.std.specs.Io.KnownBytes.{Appends}
 use Rattle.cf_tree.specs.Counts.{HasRisen}

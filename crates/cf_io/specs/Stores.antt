@@ -1,12 +1,12 @@
--- What the stores in memory hold and which of their calls fail, and what a folder gives.
+-- What the stores in memory hold and which of their calls fail, and what a folder gives (this project's own).
 use Rattle.std.specs.Prelude.{◌≡◌, ◌≢◌, ◌≤◌, ◌==◌, ◌&&◌, ℕ, Bool, true, false, not, List, [], ◌∷◌, length, map, IfSome, Option, Result, Err}
 use Rattle.std.specs.List.{list_any}
 use Rattle.std.specs.Global.{Vec}
 use Rattle.cf_io.specs.Library.{Texts}
 
 -- the names and bytes of a list of texts
-abbrev pub texts_of : List (List ℕ × Vec ℕ) → Texts
-texts_of items = map (λ t. (t.0, t.1.items)) items
+abbrev pub stored_texts : List (List ℕ × Vec ℕ) → Texts
+stored_texts items = map (λ t. (t.0, t.1.items)) items
 
 -- whether the call of this number, counted from 1, is one of those that are to fail (this project's own)
 abbrev pub is_planned : List ℕ → ℕ → Bool
@@ -24,9 +24,9 @@ is_file_name [] = false
 is_file_name (b ∷ bytes) = not (b == 46) && not (list_any (λ c. c == 47) (b ∷ bytes))
 
 -- the largest file of a folder that is read, in bytes: 2^30 (this project's own)
-abbrev pub most_bytes : ℕ
-most_bytes = 1073741824
+abbrev pub most_file_bytes : ℕ
+most_file_bytes = 1073741824
 
 -- what was found in a folder is no larger
 abbrev pub IsBounded : Option (Vec ℕ) → Type 0
-IsBounded found = IfSome found (λ bytes. length bytes.items ≤ most_bytes)
+IsBounded found = IfSome found (λ bytes. length bytes.items ≤ most_file_bytes)

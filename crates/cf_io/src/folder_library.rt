@@ -1,6 +1,6 @@
 ghost use Rattle.std.specs.Prelude.{◌≡◌, ◌≤◌, ◌++◌, ◌∷◌, length, false, IfOk, Ok, Err, None, string_bytes};
 ghost use Rattle.cf_io.specs.Library.{Fetches, HasFetchCause, CountsMisses};
-ghost use Rattle.cf_io.specs.Stores.{is_file_name, most_bytes, IsBounded};
+ghost use Rattle.cf_io.specs.Stores.{is_file_name, most_file_bytes, IsBounded};
 
 use crate::library::{FetchFault, Library};
 use std::alloc::{AllocError, Global};
@@ -98,7 +98,7 @@ fn check_file(found: &Metadata) -> io::Result<()> {
 // The bytes of a file. It is looked at before it is opened, since a pipe may keep its opener waiting, and no more is
 // read than may be, since a file can grow meanwhile.
 fn read_file<R: Files + AllocGlobal>(rt: &R, path: &str) -> io::Result<Vec<u8>>
-    ensures { IfOk result (λ bytes. length bytes.items ≤ most_bytes) }
+    ensures { IfOk result (λ bytes. length bytes.items ≤ most_file_bytes) }
 {
     check_file(&fs::metadata(rt, path)?)?;
     let mut bytes = Vec::new(rt.alloc());

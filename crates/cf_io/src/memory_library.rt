@@ -1,7 +1,7 @@
 ghost use Rattle.std.specs.Prelude.{◌≡◌, IfOk, Some};
 ghost use Rattle.cf_tree.specs.Counts.{next_count, count_after};
 ghost use Rattle.cf_io.specs.Library.{Fetches, HasFetchCause, CountsMisses};
-ghost use Rattle.cf_io.specs.Stores.{texts_of, is_planned, FailsWhere};
+ghost use Rattle.cf_io.specs.Stores.{stored_texts, is_planned, FailsWhere};
 
 use crate::library::{FetchFault, Library};
 use crate::steady_library::SteadyLibrary;
@@ -25,7 +25,7 @@ impl MemoryLibrary {
         texts: &[(Txt, Vec<u8>)],
         fails: &[u64],
     ) -> Result<MemoryLibrary, NoMemory>
-        ensures holds { IfOk result (λ l. ⟦<MemoryLibrary as Library>⟧.texts l ≡ Some (texts_of texts.now)) }
+        ensures holds { IfOk result (λ l. ⟦<MemoryLibrary as Library>⟧.texts l ≡ Some (stored_texts texts.now)) }
         ensures faultless { IfOk result (λ l. ⟦<MemoryLibrary as Library>⟧.count l ≡ 0) }
         ensures unmissed { IfOk result (λ l. ⟦<MemoryLibrary as Library>⟧.missed l ≡ 0) }
         ensures planned { IfOk result (λ l. l.fails.items ≡ fails.now) }

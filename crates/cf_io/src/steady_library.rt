@@ -1,7 +1,7 @@
 ghost use Rattle.std.specs.Prelude.{◌≡◌, IfOk, Some};
 ghost use Rattle.std.specs.Option.{option_map};
-ghost use Rattle.cf_io.specs.Library.{text_at};
-ghost use Rattle.cf_io.specs.Stores.{texts_of};
+ghost use Rattle.cf_io.specs.Library.{text_named};
+ghost use Rattle.cf_io.specs.Stores.{stored_texts};
 
 use crate::library::{FetchFault, Library};
 use cf_tree::{NoMemory, Txt};
@@ -17,7 +17,7 @@ pub struct SteadyLibrary {
 
 // A copy of named texts.
 fn copied_texts(alloc: Global, texts: &[(Txt, Vec<u8>)]) -> Result<Vec<(Txt, Vec<u8>)>, NoMemory>
-    ensures { IfOk result (λ copies. texts_of copies.items ≡ texts_of texts.now) }
+    ensures { IfOk result (λ copies. stored_texts copies.items ≡ stored_texts texts.now) }
 {
     let mut copies = Vec::new(alloc);
     for (name, bytes) in texts {
@@ -30,7 +30,7 @@ fn copied_texts(alloc: Global, texts: &[(Txt, Vec<u8>)]) -> Result<Vec<(Txt, Vec
 
 // The bytes under a name.
 fn bytes_at<'a>(texts: &'a [(Txt, Vec<u8>)], name: &str) -> Option<&'a Vec<u8>>
-    ensures { option_map (λ v. v.now.items) result ≡ text_at name.now (texts_of texts.now) }
+    ensures { option_map (λ v. v.now.items) result ≡ text_named name.now (stored_texts texts.now) }
 {
     for (at, bytes) in texts {
         if at.is(name) {
@@ -43,7 +43,7 @@ fn bytes_at<'a>(texts: &'a [(Txt, Vec<u8>)], name: &str) -> Option<&'a Vec<u8>>
 impl SteadyLibrary {
     /// A library that holds copies of these texts. Where a name stands twice, its first place counts.
     pub fn new(alloc: Global, texts: &[(Txt, Vec<u8>)]) -> Result<SteadyLibrary, NoMemory>
-        ensures holds { IfOk result (λ l. ⟦<SteadyLibrary as Library>⟧.texts l ≡ Some (texts_of texts.now)) }
+        ensures holds { IfOk result (λ l. ⟦<SteadyLibrary as Library>⟧.texts l ≡ Some (stored_texts texts.now)) }
         ensures unmissed { IfOk result (λ l. ⟦<SteadyLibrary as Library>⟧.missed l ≡ 0) }
     {
         let texts = copied_texts(alloc, texts)?;
@@ -57,9 +57,9 @@ impl SteadyLibrary {
 
 impl Library for SteadyLibrary {
     ghost use Rattle.std.specs.Prelude.{Some};
-    ghost use Rattle.cf_io.specs.Stores.{texts_of};
+    ghost use Rattle.cf_io.specs.Stores.{stored_texts};
 
-    ghost texts = { λ l. Some (texts_of l.texts.items) };
+    ghost texts = { λ l. Some (stored_texts l.texts.items) };
 
     ghost count = { λ _. 0 };
 

@@ -8,7 +8,7 @@ use Rattle.std.specs.Int.{w32, to_be_bytes, from_be_bytes}
 use Rattle.cf_disk.specs.Disk.{Torn}
 use Rattle.cf_journal.specs.Head.{head_of, made}
 use Rattle.cf_journal.specs.Frames.{Reading, frame_of, body_size, with_frame, frames_of, read_by_head, reading_by, with_front}
-use Rattle.cf_journal.specs.Runs.{staged, opened}
+use Rattle.cf_journal.specs.Runs.{staged, gate_opened}
 use Rattle.cf_journal.specs.declared.head.Head.{Head}
 use Rattle.cf_journal.specs.declared.head.Head.TheVariants.{Made}
 use Rattle.cf_journal.proofs.Bodies.{frame_then, gate_shut, Parts, parts}
@@ -113,12 +113,12 @@ module _ {E : Type 0} (entry_of : List ℕ → Option E) where
             | inr shut ↦ inl (ap (λ (l : List ℕ). reading_by entry_of l) whole ∙ shut_again gate (frame ++ tail) shut)
           ]
 
-      opened_is : opened file end frame ≡ base ++ 1 ∷ (frame ++ tail)
+      opened_is : gate_opened file end frame ≡ base ++ 1 ∷ (frame ++ tail)
       opened_is = ap (λ (l : List ℕ). l ++ (1 ∷ []) ++ drop (end - 1 + 1) (staged file end frame)) before_gate ∙ ap (λ (l : List ℕ). (base ++ 1 ∷ []) ++ l) behind_gate ∙ append_assoc base (1 ∷ []) (frame ++ tail)
 
-      pub reading_opened : reading_by entry_of (opened file end frame) ≡ Ok (es ++ e ∷ [], end + length frame)
+      pub reading_opened : reading_by entry_of (gate_opened file end frame) ≡ Ok (es ++ e ∷ [], end + length frame)
       reading_opened = ap (λ (l : List ℕ). reading_by entry_of l) opened_is ∙ open_again
 
-      pub opened_made : opened file end frame ≡ made (drop 9 (opened file end frame))
+      pub opened_made : gate_opened file end frame ≡ made (drop 9 (gate_opened file end frame))
       unfolding base
       opened_made = opened_is ∙ ap (λ (l : List ℕ). made (drop 9 l)) (sym opened_is)

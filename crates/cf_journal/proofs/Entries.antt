@@ -6,7 +6,7 @@ use Rattle.cf_entry.specs.declared.entry.Entry.{Entry}
 use Rattle.cf_journal.specs.Head.{made}
 use Rattle.cf_journal.specs.Frames.{Reading, frame_of, length_in, record_in}
 use Rattle.cf_journal.specs.Record.{reading_of, record_of, length_of, one_more, IsBeforeOrAfter}
-use Rattle.cf_journal.specs.Runs.{opened, IsMidway}
+use Rattle.cf_journal.specs.Runs.{gate_opened, IsMidway}
 use Rattle.cf_journal.proofs.Appending.{long, torn_behind, torn_gate, reading_opened, opened_made}
 
 -- entries were read, and the journal has this length
@@ -36,13 +36,13 @@ module _ (file : List ℕ) (is_made : file ≡ made (drop 9 file)) (end : ℕ) (
       | inr after ↦ inr (ap record_in after ∙ sym more_is)
     ]
 
-    pub added : record_of (opened file end (frame_of body)) ≡ one_more (record_of file) e
+    pub added : record_of (gate_opened file end (frame_of body)) ≡ one_more (record_of file) e
     added = ap record_in (reading_opened entry_of file is_made r.entries end r.is body e spells small) ∙ sym more_is
 
-    pub added_read : IsRead (reading_of (opened file end (frame_of body))) (end + length (frame_of body))
+    pub added_read : IsRead (reading_of (gate_opened file end (frame_of body))) (end + length (frame_of body))
     added_read = record { entries = r.entries ++ e ∷ []; is = reading_opened entry_of file is_made r.entries end r.is body e spells small }
 
-    pub added_made : opened file end (frame_of body) ≡ made (drop 9 (opened file end (frame_of body)))
+    pub added_made : gate_opened file end (frame_of body) ≡ made (drop 9 (gate_opened file end (frame_of body)))
     added_made = opened_made entry_of file is_made r.entries end r.is body e spells small
 
 pub read_ok : (read : Reading Entry) (end : ℕ) → IsRead read end → IsOk (record_in read) × (length_in read ≡ end)
@@ -59,10 +59,10 @@ pub frame_size : (body : List ℕ) → length (frame_of body) ≡ 5 + length bod
 frame_size body = omega (arith, length-append (to_be_bytes w32 (length body) ++ body) (0 ∷ []), length-append (to_be_bytes w32 (length body)) body)
 
 pub holds : (file new : List ℕ) (end size : ℕ) (e : Entry) (body : List ℕ) → file ≡ made (drop 9 file) → IsOk (record_of file) → length_of file ≡ end → entry_of body ≡ Some e → length body < 2 ^ 32
-    → new ≡ opened file end (frame_of body) → size ≡ end + (5 + length body) → Holds file new size e
+    → new ≡ gate_opened file end (frame_of body) → size ≡ end + (5 + length body) → Holds file new size e
 holds file new end size e body is_made ok ends spells small is grown =
     let r = read_whole (reading_of file) end ok ends in
-    let after = read_ok (reading_of (opened file end (frame_of body))) (end + length (frame_of body)) (added_read file is_made end r e body spells small) in
+    let after = read_ok (reading_of (gate_opened file end (frame_of body))) (end + length (frame_of body)) (added_read file is_made end r e body spells small) in
     record {
       is_made = is ∙ added_made file is_made end r e body spells small ∙ ap (λ (f : List ℕ). made (drop 9 f)) (sym is);
       is_read = ap (λ (f : List ℕ). is_ok (record_of f)) is ∙ after.0;

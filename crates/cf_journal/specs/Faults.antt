@@ -1,4 +1,4 @@
--- When the calls of a journal fail.
+-- When the calls of a journal fail (this project's own).
 use Rattle.std.specs.Prelude.{◌≡◌, ◌+◌, ◌<◌, ◌≤◌, ℕ, Bool, true, List, IsTrue, Result, Ok, Err}
 use Rattle.cf_tree.specs.Counts.{HasRisen}
 use Rattle.cf_entry.specs.declared.entry.Entry.{Entry}

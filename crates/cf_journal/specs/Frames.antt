@@ -41,7 +41,8 @@ frames_from entry_of zero at bytes = Err at
 frames_from entry_of (suc n) at [] = Err at
 frames_from entry_of (suc n) at (gate ∷ bytes) =
     if gate == 1 then
-    (if is_whole bytes then with_frame at (entry_of (body_of bytes)) (frames_from entry_of n (at + 5 + body_size bytes) (next_of bytes)) else Err at)
+    (if is_whole bytes then with_frame at (entry_of (body_of bytes))
+    (frames_from entry_of n (at + 5 + body_size bytes) (next_of bytes)) else Err at)
     else Ok ([], at + 1)
 
 -- all frames: each takes at least a byte

@@ -34,5 +34,5 @@ abbrev pub IsHarmless : List ℕ → Type 0
 IsHarmless bytes = (gate : ℕ) → IsEmpty (gate ∷ drop 1 bytes)
 
 -- a journal that is made and has no entry
-abbrev pub IsBegun : List ℕ → Type 0
-IsBegun bytes = (bytes ≡ made (drop 9 bytes)) × IsShut (drop 9 bytes)
+abbrev pub IsMadeEmpty : List ℕ → Type 0
+IsMadeEmpty bytes = (bytes ≡ made (drop 9 bytes)) × IsShut (drop 9 bytes)

@@ -1,4 +1,4 @@
--- How opening the journal of a disk ends.
+-- How opening the journal of a disk ends (this project's own).
 use Rattle.std.specs.Prelude.{◌≡◌, false, List, Result, Ok, Err}
 use Rattle.cf_entry.specs.declared.entry.Entry.{Entry}
 use Rattle.cf_journal.specs.Frames.{Reading}

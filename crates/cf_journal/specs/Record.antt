@@ -29,13 +29,13 @@ abbrev pub IsBeforeOrAfter : Result (List Entry) ℕ → Entry → List ℕ → 
 IsBeforeOrAfter before e bytes = (record_of bytes ≡ before) ⊎ (record_of bytes ≡ one_more before e)
 
 -- The record is the same; and so are the bytes, unless a journal without entries was there.
-pub record Keeps (old new : List ℕ) : Type 0 where
+pub record KeepsRecord (old new : List ℕ) : Type 0 where
   pub same : record_of new ≡ record_of old
   pub bytes : (record_of old ≡ Ok []) ⊎ (new ≡ old)
 
 -- what a crash might have left before, or bytes that keep the record
 abbrev pub IsOldOrKept : (List ℕ → Type 0) → List ℕ → List ℕ → Type 0
-IsOldOrKept may_leave old bytes = may_leave bytes ⊎ Keeps old bytes
+IsOldOrKept may_leave old bytes = may_leave bytes ⊎ KeepsRecord old bytes
 
 abbrev pub journal_length : Journal → ℕ
 journal_length j = j.length
@@ -48,8 +48,10 @@ spare_of j = j.spare
 abbrev pub is_broken : Journal → Bool
 is_broken j = j.broken
 
--- the journal stands for this disk: no append of it failed, and the disk holds one that is made, of this length, all of it there after any crash
-pub record Stands {D : Type 0} (tells : Bool) (seen : D → List ℕ) (may_leave : D → List ℕ → Type 0) (room_of : D → ℕ) (journal : Journal) (disk : D) : Type 0 where
+-- the journal stands for this disk: no append of it failed, and the disk holds one that is made, of this length, all of it there after any
+-- crash
+pub record Stands {D : Type 0} (tells : Bool) (seen : D → List ℕ) (may_leave : D → List ℕ → Type 0) (room_of : D → ℕ) (journal : Journal)
+    (disk : D) : Type 0 where
   pub sound : is_broken journal ≡ false
   pub is_made : IsTrue tells → seen disk ≡ made (drop 9 (seen disk))
   pub is_read : IsTrue tells → IsOk (record_of (seen disk))

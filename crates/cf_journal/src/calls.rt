@@ -1,7 +1,7 @@
 //! Runs of calls of a disk.
 ghost use Rattle.std.specs.Prelude.{◌≡◌, ◌+◌, ◌-◌, ◌≤◌, ◌<◌, ℕ, List, [], ◌∷◌, length, take, OnOk, IfOk, IsTrue};
 ghost use Rattle.cf_disk.specs.Disk.{overwritten, Torn, Only, LeavesOnly, HasCause};
-ghost use Rattle.cf_journal.specs.Runs.{Unchanged, opened, IsMidway};
+ghost use Rattle.cf_journal.specs.Runs.{Unchanged, gate_opened, IsMidway};
 
 use cf_disk::{Disk, DiskFail};
 
@@ -29,7 +29,7 @@ pub fn append_frame<D: Disk>(disk: &mut D, end: u64, frame: &[u8]) -> Result<(),
     requires gate { 0 < end }
     requires start { IsTrue D.tells → end ≤ length (D.seen disk.old) }
     requires room { end + length frame.now ≤ D.room_of disk.old }
-    ensures written { OnOk result (IsTrue D.tells → D.seen disk.new ≡ opened (D.seen disk.old) end frame.now) }
+    ensures written { OnOk result (IsTrue D.tells → D.seen disk.new ≡ gate_opened (D.seen disk.old) end frame.now) }
     ensures durable { OnOk result (IsTrue D.tells → Only (D.seen disk.new) (D.may_leave disk.new)) }
     ensures moments { IsTrue D.tells → LeavesOnly D.moment D.left_since disk.old disk.new (IsMidway (D.seen disk.old) end frame.now) }
     ensures room { D.room_of disk.new ≡ D.room_of disk.old }

@@ -1,7 +1,7 @@
 //! The head of a journal.
 ghost use Rattle.std.specs.Prelude.{◌≡◌, ◌≢◌, ◌≤◌, ◌<◌, [], ◌∷◌, List, ℕ, length, slice_index, IsTrue, OnOk};
 ghost use Rattle.cf_disk.specs.Disk.{Only, LeavesOnly, HasCause};
-ghost use Rattle.cf_journal.specs.Head.{head_of, IsEmpty, IsHarmless, IsBegun};
+ghost use Rattle.cf_journal.specs.Head.{head_of, IsEmpty, IsHarmless, IsMadeEmpty};
 
 use crate::calls::write_through;
 use cf_disk::{Disk, DiskFail};
@@ -42,7 +42,7 @@ pub fn make<D: Disk>(disk: &mut D, bytes: &[u8]) -> Result<(), DiskFail>
     requires seen { IsTrue D.tells → D.seen disk.old ≡ bytes.now }
     requires durable { IsTrue D.tells → Only (D.seen disk.old) (D.may_leave disk.old) }
     requires room { 16 ≤ D.room_of disk.old }
-    ensures begun { OnOk result (IsTrue D.tells → IsBegun (D.seen disk.new)) }
+    ensures begun { OnOk result (IsTrue D.tells → IsMadeEmpty (D.seen disk.new)) }
     ensures durable { OnOk result (IsTrue D.tells → Only (D.seen disk.new) (D.may_leave disk.new)) }
     ensures moments { IsTrue D.tells → LeavesOnly D.moment D.left_since disk.old disk.new IsEmpty }
     ensures room { D.room_of disk.new ≡ D.room_of disk.old }
@@ -95,7 +95,7 @@ fn write_title<D: Disk>(disk: &mut D) -> Result<(), DiskFail>
     requires closed { IsTrue D.tells → (rest : List ℕ) × (D.seen disk.old ≡ 0 ∷ rest) }
     requires durable { IsTrue D.tells → Only (D.seen disk.old) (D.may_leave disk.old) }
     requires room { 16 ≤ D.room_of disk.old }
-    ensures begun { OnOk result (IsTrue D.tells → IsBegun (D.seen disk.new)) }
+    ensures begun { OnOk result (IsTrue D.tells → IsMadeEmpty (D.seen disk.new)) }
     ensures durable { OnOk result (IsTrue D.tells → Only (D.seen disk.new) (D.may_leave disk.new)) }
     ensures moments { IsTrue D.tells → LeavesOnly D.moment D.left_since disk.old disk.new IsEmpty }
     ensures room { D.room_of disk.new ≡ D.room_of disk.old }

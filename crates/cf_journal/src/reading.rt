@@ -3,10 +3,10 @@ ghost use Rattle.std.specs.Prelude.{◌≡◌, ◌≤◌, ◌<◌, ◌^◌, ◌+
 ghost use Rattle.cf_disk.specs.Disk.{Only, LeavesOnly, HasCause};
 ghost use Rattle.cf_tree.specs.Counts.{HasRisen};
 ghost use Rattle.cf_entry.specs.EntryReading.{entry_of};
-ghost use Rattle.cf_journal.specs.Head.{head_of, IsEmpty, IsBegun};
+ghost use Rattle.cf_journal.specs.Head.{head_of, IsEmpty, IsMadeEmpty};
 ghost use Rattle.cf_journal.specs.Frames.{frames_of, with_front};
 ghost use Rattle.cf_journal.specs.Runs.{Unchanged};
-ghost use Rattle.cf_journal.specs.Record.{record_of, journal_length, is_broken, IsOldOrKept, Keeps, Stands};
+ghost use Rattle.cf_journal.specs.Record.{record_of, journal_length, is_broken, IsOldOrKept, KeepsRecord, Stands};
 ghost use Rattle.cf_journal.specs.Faults.{HasRecoverCause, HasReadCause, FramesEnd, IfRefused};
 ghost use Rattle.cf_journal.specs.Opens.{OpensAs};
 
@@ -80,7 +80,7 @@ fn begin<D: Disk>(
     requires durable { IsTrue D.tells → Only (D.seen disk.old) (D.may_leave disk.old) }
     requires room { 16 ≤ D.room_of disk.old }
     ensures found { IfOk result (λ found. (journal_length found.0 ≡ 10) × (is_broken found.0 ≡ false) × (found.1 ≡ [])) }
-    ensures begun { OnOk result (IsTrue D.tells → IsBegun (D.seen disk.new)) }
+    ensures begun { OnOk result (IsTrue D.tells → IsMadeEmpty (D.seen disk.new)) }
     ensures empty { IsTrue D.tells → IsEmpty (D.seen disk.new) }
     ensures durable { OnOk result (IsTrue D.tells → Only (D.seen disk.new) (D.may_leave disk.new)) }
     ensures moments { IsTrue D.tells → LeavesOnly D.moment D.left_since disk.old disk.new IsEmpty }
@@ -115,7 +115,7 @@ pub fn recover<D: Disk>(alloc: Global, disk: &mut D) -> Result<(Journal, Entries
     requires most { D.room_of disk.old ≤ 2 ^ 32 }
     ensures found { IfOk result (λ found. IsTrue D.tells → record_of (D.seen disk.old) ≡ Ok found.1) }
     ensures stands { IfOk result (λ found. Stands D.tells D.seen D.may_leave D.room_of found.0 disk.new) }
-    ensures kept { IsTrue D.tells → Keeps (D.seen disk.old) (D.seen disk.new) }
+    ensures kept { IsTrue D.tells → KeepsRecord (D.seen disk.old) (D.seen disk.new) }
     ensures cause { IfErr result (HasRecoverCause D.tells (D.seen disk.old) (D.count disk.old) (D.count disk.new)) }
     ensures refused { IfErr result (IfRefused (IsTrue D.tells → Unchanged D.seen D.may_leave D.moment D.left_since disk.old disk.new)) }
     ensures any_moment { IsTrue D.tells → LeavesOnly D.moment D.left_since disk.old disk.new (IsOldOrKept (D.may_leave disk.old) (D.seen disk.old)) }

@@ -14,7 +14,8 @@ use Rattle.cf_effect.specs.declared.held.Pending.{Pending}
 use Rattle.cf_effect.specs.Status.{Back, Forward, Gone, stage_of}
 use Rattle.cf_effect.specs.World.{StackState, World}
 use Rattle.cf_plan.specs.Start.{Start}
-use Rattle.cf_plan.specs.Forward.{In, AllDone, HasFailed, IsCause}
+use Rattle.cf_plan.specs.Forward.{AllDone, HasFailed, IsCause}
+use Rattle.cf_tree.specs.Lists.{In}
 use Rattle.cf_plan.specs.Follow.{MayKeep, MayTurn}
 use Rattle.cf_plan.specs.Starts.{AreOpen}
 use Rattle.cf_plan.proofs.Listed.{in_none}

@@ -7,7 +7,7 @@ use Rattle.cf_schema.specs.declared.described.Schema.{Schema}
 use Rattle.cf_entry.proofs.Codec.{some_is}
 use Rattle.cf_effect.specs.World.{StackState, World}
 use Rattle.cf_effect.specs.Status.{Stage}
-use Rattle.cf_plan.specs.Forward.{In}
+use Rattle.cf_tree.specs.Lists.{In}
 use Rattle.cf_plan.specs.Follow.{none_in_flight}
 use Rattle.cf_plan.proofs.Members.{in_none, not_both}
 use Rattle.cf_next.specs.declared.offer.Offer.{Offer}

@@ -12,7 +12,7 @@ use Rattle.cf_entry.specs.declared.turn.Why.{Why}
 use Rattle.cf_effect.specs.declared.held.Pending.{Pending}
 use Rattle.cf_effect.specs.World.{StackState, World}
 use Rattle.cf_effect.specs.Status.{Stage}
-use Rattle.cf_plan.specs.Forward.{In}
+use Rattle.cf_tree.specs.Lists.{In}
 use Rattle.cf_plan.specs.Follow.{FitsLane, MayIntend, is_lane_of, is_lane_leased}
 use Rattle.cf_plan.specs.Homes.{is_of_lane}
 use Rattle.cf_plan.proofs.Listed.{bytes_same, same_bytes}

@@ -14,7 +14,8 @@ use Rattle.cf_entry.specs.declared.turn.Phase.{Phase}
 use Rattle.cf_effect.specs.declared.call.Call.{Call}
 use Rattle.cf_effect.specs.World.{StackState, World}
 use Rattle.cf_effect.specs.Status.{Stage, Forward, stage_of}
-use Rattle.cf_plan.specs.Forward.{In, here}
+use Rattle.cf_tree.specs.Lists.{here}
+use Rattle.cf_tree.specs.Lists.{In}
 use Rattle.cf_plan.specs.Follow.{AreFailed, EndsAs, FitsLane, IsAtEnd, MayStep, calls_in_flight, is_cleared, is_in_flight, is_lane_leased}
 use Rattle.cf_plan.proofs.Members.{any_in, false_from, in_any, in_none, not_both}
 use Rattle.cf_next.specs.declared.offer.Keeping.{Keeping}
@@ -24,7 +25,7 @@ use Rattle.cf_next.specs.declared.offer.Turn.{Turn}
 use Rattle.cf_next.specs.declared.step.Next.{Next}
 use Rattle.cf_next.specs.declared.step.Next.TheVariants as next
 use Rattle.cf_next.specs.Offer.{IsMade, IsOffer}
-use Rattle.cf_next.specs.Joining.{HasNothing, IsLast, IsLastBy, end_of, fits, has_lane}
+use Rattle.cf_next.specs.Joining.{HasNothing, IsLast, IsLastBy, end_status, fits, has_lane}
 use Rattle.cf_next.proofs.Calls.{by_fits, fits_by}
 use Rattle.cf_next.proofs.FailedOnce.{one_failed}
 use Rattle.cf_next.proofs.Followed.{none_is}
@@ -102,7 +103,7 @@ module _ (schemas : List Schema) (name : List ℕ) (x : World) (s : StackState) 
     Ends now state = EndsAs schemas name x s now state
 
     abbrev Stated : Status → Option Status
-    Stated now = end_of now o.is_made (is_cleared s)
+    Stated now = end_status now o.is_made (is_cleared s)
 
     stated : (now state : Status) → s.status ≡ now → Ends now state → Stated now ≡ Some state
     stated status.CreateInProgress status.CreateComplete is w = rw ((made is).1 w) refl
@@ -182,18 +183,18 @@ module _ (x : World) (s : StackState) (o : Offer) where
   pub turn_last : (t : Turn) → o.turn ≡ Some t → IsLastBy x s o (Some (next.Turn t.phase t.cause))
   turn_last t is = λ schemas name stage in_stage offer. turns schemas name x s stage o offer in_stage t is
 
-  pub end_last : o.turn ≡ None → HasNothing x o → (state : Status) (failed : List (List ℕ)) → end_of s.status o.is_made (is_cleared s) ≡ Some state
+  pub end_last : o.turn ≡ None → HasNothing x o → (state : Status) (failed : List (List ℕ)) → end_status s.status o.is_made (is_cleared s) ≡ Some state
       → AreFailed s state failed → IsLastBy x s o (Some (next.End state failed))
   end_last none nothing state failed is are = λ schemas name stage in_stage offer.
       stops schemas name x s stage o offer in_stage none nothing state failed is are
 
   -- something is left, or the operation has no end in its status
-  pub none_last : o.turn ≡ None → ((HasNothing x o → ⊥) ⊎ (end_of s.status o.is_made (is_cleared s) ≡ None)) → IsLastBy x s o None
+  pub none_last : o.turn ≡ None → ((HasNothing x o → ⊥) ⊎ (end_status s.status o.is_made (is_cleared s) ≡ None)) → IsLastBy x s o None
   none_last none how = λ schemas name stage in_stage offer.
       goes_on schemas name x s stage o offer in_stage none (λ state end e. not_end schemas name stage offer how state end e)
     where
       not_end : (schemas : List Schema) (name : List ℕ) (stage : Stage) → IsOffer schemas name x [] s stage o
-          → ((HasNothing x o → ⊥) ⊎ (end_of s.status o.is_made (is_cleared s) ≡ None)) → (state : Status) → IsAtEnd schemas name x s stage
-          → end_of s.status o.is_made (is_cleared s) ≡ Some state → ⊥
+          → ((HasNothing x o → ⊥) ⊎ (end_status s.status o.is_made (is_cleared s) ≡ None)) → (state : Status) → IsAtEnd schemas name x s stage
+          → end_status s.status o.is_made (is_cleared s) ≡ Some state → ⊥
       not_end schemas name stage offer (inl left) state end e = left (end_has schemas name x s stage o offer end)
       not_end schemas name stage offer (inr none) state end e = none_is state (sym none ∙ e)

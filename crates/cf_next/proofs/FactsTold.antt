@@ -18,7 +18,7 @@ use Rattle.cf_plan.specs.Follow.{is_free}
 use Rattle.cf_next.specs.declared.unmaking.Unmaking.{Unmaking}
 use Rattle.cf_next.specs.declared.unmaking.Unmaking.TheVariants as unmaking
 use Rattle.cf_next.specs.Facts.{doubted_id, with_doubted, with_open, with_policy}
-use Rattle.cf_next.specs.Lookups.{has}
+use Rattle.cf_next.specs.Lookups.{has_key}
 use Rattle.cf_next.specs.Needed.{current_path}
 use Rattle.cf_next.specs.Tallies.{deleted_id}
 use Rattle.cf_next.specs.Unmaking.{is_doubted, is_doubted_by, is_needed, policy_at}
@@ -31,12 +31,12 @@ not_not : (b : Bool) → b ≡ not (not b)
 not_not true = refl
 not_not false = refl
 
-open_is : (path : List ℕ) (s : StackState) → has path (fold with_open [] s.tokens) ≡ not (is_free path s)
+open_is : (path : List ℕ) (s : StackState) → has_key path (fold with_open [] s.tokens) ≡ not (is_free path s)
 open_is path s = named_there (λ (p : Pending). Some p.path) (λ (p : Pending). tt) path s.tokens ∙ not_not (list_any (λ p. bytes_eq path p.path) s.tokens)
 
 pub told_open : {E : Type 0} (s : StackState) (tokens : List Pending) (made : Result (List (List ℕ × Unit {0})) E) → tokens ≡ s.tokens
-    → IfOk made (λ paths. paths ≡ fold with_open [] tokens) → IfOk made (λ paths. (path : List ℕ) → has path paths ≡ not (is_free path s))
-told_open s tokens (Ok paths) l e = λ path. ap (has path) (e ∙ ap (fold with_open []) l) ∙ open_is path s
+    → IfOk made (λ paths. paths ≡ fold with_open [] tokens) → IfOk made (λ paths. (path : List ℕ) → has_key path paths ≡ not (is_free path s))
+told_open s tokens (Ok paths) l e = λ path. ap (has_key path) (e ∙ ap (fold with_open []) l) ∙ open_is path s
 told_open s tokens (Err fault) l e = e
 
 -- an id that an open deletion names, where that was three times in doubt
@@ -53,15 +53,15 @@ doubted_as id r false = deleted_as id r ∙ and_true (deletes id r)
 abbrev nothing : Pending → Unit {0}
 nothing p = tt
 
-doubted_is : (id : List ℕ) (s : StackState) → has id (fold (with_doubted s) [] s.tokens) ≡ is_doubted id s
+doubted_is : (id : List ℕ) (s : StackState) → has_key id (fold (with_doubted s) [] s.tokens) ≡ is_doubted id s
 doubted_is id s =
     named_there (doubted_id s) nothing id s.tokens
     ∙ same_in (is_named (doubted_id s) nothing id) (is_doubted_by id s) s.tokens (λ p i. doubted_as id p.request (nat_lt (doubts_of p.token s) 3))
 
 pub told_doubted : {E : Type 0} (s : StackState) (tokens : List Pending) (made : Result (List (List ℕ × Unit {0})) E) (b : Bool)
     → tokens ≡ s.tokens → b ≡ true
-    → IfOk made (λ ids. ids ≡ fold (with_doubted s) [] tokens) → IfOk made (λ ids. (id : List ℕ) → has id ids ≡ (b && is_doubted id s))
-told_doubted s tokens (Ok ids) b l t e = λ id. ap (has id) (e ∙ ap (fold (with_doubted s) []) l) ∙ (doubted_is id s ∙ ap (λ (c : Bool). c && is_doubted id s) (sym t))
+    → IfOk made (λ ids. ids ≡ fold (with_doubted s) [] tokens) → IfOk made (λ ids. (id : List ℕ) → has_key id ids ≡ (b && is_doubted id s))
+told_doubted s tokens (Ok ids) b l t e = λ id. ap (has_key id) (e ∙ ap (fold (with_doubted s) []) l) ∙ (doubted_is id s ∙ ap (λ (c : Bool). c && is_doubted id s) (sym t))
 told_doubted s tokens (Err fault) b l t e = e
 
 policy_is : (path : List ℕ) (hs : List Held) → value_at path (fold with_policy [] hs) ≡ option_map (λ h. h.replace) (current_at path hs)
@@ -78,7 +78,7 @@ told_policies u s helds (Ok policies) same l e = λ path.
 told_policies u s helds (Err fault) same l e = e
 
 pub told_needed : {E : Type 0} (u : Unmaking) (s : StackState) (ids : List (List ℕ)) (made : Result (List (List ℕ × Unit {0})) E)
-    → ((r : Held) → is_among r.physical ids ≡ is_needed u s r) → IfOk made (λ set. (name : List ℕ) → has name set ≡ is_among name ids)
-    → IfOk made (λ set. (r : Held) → has r.physical set ≡ is_needed u s r)
+    → ((r : Held) → is_among r.physical ids ≡ is_needed u s r) → IfOk made (λ set. (name : List ℕ) → has_key name set ≡ is_among name ids)
+    → IfOk made (λ set. (r : Held) → has_key r.physical set ≡ is_needed u s r)
 told_needed u s ids (Ok set) are e = λ r. e r.physical ∙ are r
 told_needed u s ids (Err fault) are e = e

@@ -6,7 +6,9 @@ use Rattle.cf_tree.specs.Keys.{bytes_lt}
 use Rattle.cf_entry.specs.Entry.{texts_ascend, texts_ascend_from}
 use Rattle.cf_entry.specs.declared.status.Status.{Status}
 use Rattle.cf_effect.specs.World.{StackState}
-use Rattle.cf_plan.specs.Forward.{In, here, there}
+use Rattle.cf_tree.specs.Lists.{there}
+use Rattle.cf_tree.specs.Lists.{here}
+use Rattle.cf_tree.specs.Lists.{In}
 use Rattle.cf_plan.specs.Follow.{AreFailed, is_failed_path, is_failed_status}
 use Rattle.cf_plan.proofs.Members.{in_first, in_none, not_both}
 use Rattle.cf_plan.proofs.Listed.{in_cons}

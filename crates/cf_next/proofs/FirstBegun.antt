@@ -13,7 +13,7 @@ use Rattle.cf_effect.specs.declared.held.Pending.{Pending}
 use Rattle.cf_effect.specs.World.{StackState, World}
 use Rattle.cf_effect.specs.Status.{Stage}
 use Rattle.cf_plan.specs.Follow.{MayIntend, is_lane_leased, none_in_flight}
-use Rattle.cf_plan.specs.Forward.{In}
+use Rattle.cf_tree.specs.Lists.{In}
 use Rattle.cf_plan.specs.Homes.{first_home}
 use Rattle.cf_plan.specs.Start.{Start}
 use Rattle.cf_plan.proofs.CreatedStays.{found_one}
@@ -23,7 +23,7 @@ use Rattle.cf_next.specs.declared.offer.Keeping.{Keeping}
 use Rattle.cf_next.specs.declared.offer.Offer.{Offer}
 use Rattle.cf_next.specs.declared.step.Next.{Next}
 use Rattle.cf_next.specs.declared.step.Next.TheVariants as next
-use Rattle.cf_next.specs.Chosen.{GoesFirst, IsChosen, MayStart, is_placed_before, physical_id_of, place_of, precedes}
+use Rattle.cf_next.specs.Chosen.{GoesFirst, IsChosen, MayStart, is_placed_before, physical_id_of, step_place, precedes}
 use Rattle.cf_next.specs.Due.{is_step_before}
 use Rattle.cf_next.specs.First.{again, call_in, call_on, either_new, first_begun, first_keeping, first_new, first_repeat, first_start, fits_one}
 use Rattle.cf_next.specs.First.{homes_now, is_keeping_before, is_lane_home, is_opened_before, is_start_before, keep, keeping_place, repeat_or, start_place}
@@ -170,7 +170,7 @@ module _ (schemas : List Schema) (name : List ℕ) (x : World) (out : List ℕ) 
     -- none that may start precedes a place that no new call and no resource to keep precedes
     new_first : (q : List ℕ × List ℕ) (y : Why) → ((b : Start) → In b o.starts → fits_one homes b ≡ true → precedes (start_place b) q ≡ false)
         → ((k : Keeping) → In k o.keepings → precedes (keeping_place k) q ≡ false)
-        → (m : Next) → Starts m → is_placed_before (place_of m) (place_of (next.Keep q.0 q.1 y)) ≡ false
+        → (m : Next) → Starts m → is_placed_before (step_place m) (step_place (next.Keep q.0 q.1 y)) ≡ false
     new_first q y by_start by_keeping (next.Step path lane token r true) w = absurd (no_repeat path lane token r w)
     new_first q y by_start by_keeping (next.Step path lane token r false) w =
         let i = starts_in path lane token r w in by_start (start_of path r) i.0 i.1
@@ -307,7 +307,7 @@ module _ (schemas : List Schema) (name : List ℕ) (x : World) (out : List ℕ) 
         before : (m : Next) → (m ≡ next.Wait) ⊎ Last m → is_step_before m n ≡ false
         before m (inl w) = subst (λ (k : Next). is_step_before k n ≡ false) (sym w) (waits_after n ((is n).1 e))
         before m (inr l) =
-            subst (λ (k : Next). is_step_before k n ≡ false) (some_is n m (sym e ∙ (is m).0 l)) (places_in_order.not_itself (place_of n))
+            subst (λ (k : Next). is_step_before k n ≡ false) (some_is n m (sym e ∙ (is m).0 l)) (places_in_order.not_itself (step_place n))
 
         first : (m : Next) → Starts m → is_step_before m n ≡ false
         first m w = before m (last_or_wait m (begun_none none m w) w)
@@ -319,7 +319,7 @@ module _ (schemas : List Schema) (name : List ℕ) (x : World) (out : List ℕ) 
     pub wait_chosen : last ≡ None → out ≢ [] → Chosen next.Wait
     wait_chosen e leased = record {
       may = leased;
-      first = λ m w. subst (λ (k : Next). is_step_before k next.Wait ≡ false) (sym (only_wait e m w)) (places_in_order.not_itself (place_of next.Wait));
+      first = λ m w. subst (λ (k : Next). is_step_before k next.Wait ≡ false) (sym (only_wait e m w)) (places_in_order.not_itself (step_place next.Wait));
       lane = tt;
     }
 

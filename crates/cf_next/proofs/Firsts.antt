@@ -3,7 +3,9 @@ use Rattle.std.proofs.Common.{◌≡◌, ◌⊎◌, inl, inr, ℕ, nat_lt, arith
 use Rattle.std.specs.Cmp.{first_so, second_so}
 use Rattle.std.proofs.lemmas.Bool.{lt-ltb, ltb-true, and_from}
 use Rattle.cf_effect.specs.declared.held.Pending.{Pending}
-use Rattle.cf_plan.specs.Forward.{In, here, there}
+use Rattle.cf_tree.specs.Lists.{there}
+use Rattle.cf_tree.specs.Lists.{here}
+use Rattle.cf_tree.specs.Lists.{In}
 use Rattle.cf_plan.specs.Start.{Start}
 use Rattle.cf_plan.proofs.Listed.{in_cons, in_none}
 use Rattle.cf_plan.proofs.Members.{false_from, not_both}

@@ -13,7 +13,7 @@ use Rattle.cf_next.specs.declared.home.Home.{Home}
 use Rattle.cf_next.specs.declared.step.Next.{Next}
 use Rattle.cf_next.specs.declared.step.Next.TheVariants as next
 use Rattle.cf_plan.specs.Follow.{MayFollow}
-use Rattle.cf_next.specs.Chosen.{MayStart, IsNext, entry_of, leases_of}
+use Rattle.cf_next.specs.Chosen.{MayStart, IsNext, entry_for, leases_of}
 
 pub none_is : {A B : Type 0} (a : A) → None ≡ Some a → B
 none_is a e = absurd cc
@@ -23,7 +23,7 @@ module _ (schemas : List Schema) (x : World) (out : List ℕ) (number : ℕ) (na
   written : (f : Entry) → Some f ≡ Some e → MayFollow schemas x out f → MayFollow schemas x out e
   written f q w = subst (MayFollow schemas x out) (some_is f e q) w
 
-  follows : (n : Next) → MayStart schemas name x out s stage n → entry_of number n ≡ Some e → MayFollow schemas x out e
+  follows : (n : Next) → MayStart schemas name x out s stage n → entry_for number n ≡ Some e → MayFollow schemas x out e
   follows (next.Step path lane token r true) w q = none_is e q
   follows (next.Step path lane token r false) w q = written (entry.Intent number token lane path r) q (name, s, stage, going, in_stage, w)
   follows (next.Keep path physical y) w q = written (entry.Kept number path physical y) q (name, s, stage, going, in_stage, w)
@@ -33,7 +33,7 @@ module _ (schemas : List Schema) (x : World) (out : List ℕ) (number : ℕ) (na
 
 -- the entry that writes the next step down may follow
 pub next_follows : (schemas : List Schema) (x : World) (out : List ℕ) (number : ℕ) (n : Next) (e : Entry)
-    → IsNext schemas x out number n → entry_of number n ≡ Some e → MayFollow schemas x out e
+    → IsNext schemas x out number n → entry_for number n ≡ Some e → MayFollow schemas x out e
 next_follows schemas x out number n e (name, s, stage, going, in_stage, chosen) q =
     follows schemas x out number name s stage going in_stage e n chosen.may q
 

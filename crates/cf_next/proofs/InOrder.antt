@@ -6,12 +6,14 @@ use Rattle.std.specs.Option.{option_map_or}
 use Rattle.std.proofs.lemmas.Option.{none-some}
 use Rattle.std.specs.Cmp.{first_so, second_so}
 use Rattle.std.proofs.lemmas.Bool.{and_from}
-use Rattle.cf_plan.specs.Forward.{In, here, there}
+use Rattle.cf_tree.specs.Lists.{there}
+use Rattle.cf_tree.specs.Lists.{here}
+use Rattle.cf_tree.specs.Lists.{In}
 use Rattle.cf_plan.proofs.Members.{all_in, in_all, any_in, false_from, in_any, in_none, in_first, not_both, is_so, not_so}
 use Rattle.cf_plan.proofs.Listed.{in_cons}
 use Rattle.cf_plan.proofs.RunLists.{in_back, in_either, in_front}
 use Rattle.cf_next.specs.declared.step.Next.{Next}
-use Rattle.cf_next.specs.Chosen.{place_of}
+use Rattle.cf_next.specs.Chosen.{step_place}
 use Rattle.cf_next.specs.Due.{AreOnce, are_in_order, is_step_before}
 use Rattle.cf_next.specs.Joining.{goes_last, is_same_step, stays, with_due, with_step}
 use Rattle.cf_next.proofs.Orders.{places_in_order}
@@ -71,10 +73,10 @@ ordered n (m ∷ ms) e = by (stays m n) refl (ordered n ms (second_so (list_all 
     after l =
         in_first (λ k. not (is_step_before k n) ≡ true) m ms
         (not_so (is_step_before m n) (false_from (is_step_before m n) (λ t.
-        not_both (is_step_before n n) (places_in_order.goes_on (place_of n) (place_of m) (place_of n) l t) (places_in_order.not_itself (place_of n)))))
+        not_both (is_step_before n n) (places_in_order.goes_on (step_place n) (step_place m) (step_place n) l t) (places_in_order.not_itself (step_place n)))))
         (λ k i.
         not_so (is_step_before k n) (false_from (is_step_before k n) (λ t.
-        not_both (is_step_before k m) (places_in_order.goes_on (place_of k) (place_of n) (place_of m) t l) (none_before k i))))
+        not_both (is_step_before k m) (places_in_order.goes_on (step_place k) (step_place n) (step_place m) t l) (none_before k i))))
 
     by : (t : Bool) → stays m n ≡ t → are_in_order (with_step ms n) ≡ true → are_in_order (cond t (m ∷ with_step ms n) (n ∷ m ∷ ms)) ≡ true
     by true q rest =
@@ -133,7 +135,7 @@ none_after [] l o e k i = absurd (in_none i)
 none_after (m ∷ []) l o e k i =
     let same : m ≡ l = cc in
     elim (in_cons i) [
-      | inl s ↦ subst (λ (j : Next). is_step_before j k ≡ false) same (subst (λ (j : Next). is_step_before m j ≡ false) s (places_in_order.not_itself (place_of m)))
+      | inl s ↦ subst (λ (j : Next). is_step_before j k ≡ false) same (subst (λ (j : Next). is_step_before m j ≡ false) s (places_in_order.not_itself (step_place m)))
       | inr j ↦ absurd (in_none j)
     ]
 none_after (m ∷ j ∷ js) l o e k i =
@@ -158,7 +160,7 @@ module _ (ns : List Next) (n : Next) (last : goes_last ns n ≡ true) (o : are_i
     by None e q = absurd (in_none (subst (In k) (no_last ns e) i))
     by (Some l) e q =
         false_from (is_step_before n k) (λ t.
-        not_both (is_step_before l k) (places_in_order.goes_on (place_of l) (place_of n) (place_of k) q t) (none_after ns l o e k i))
+        not_both (is_step_before l k) (places_in_order.goes_on (step_place l) (step_place n) (step_place k) q t) (none_after ns l o e k i))
 
   not_there : In n ns → ⊥
   not_there i = by (slice_get ns (length ns - 1)) refl last where

@@ -4,7 +4,7 @@ use Rattle.cf_tree.specs.Keys.{ascends, place, put}
 use Rattle.cf_tree.proofs.Lookups.{entry_found, entry_missed}
 use Rattle.cf_tree.proofs.Order.{ascends_put}
 use Rattle.cf_tree.proofs.Placed.{entry_new}
-use Rattle.cf_next.specs.Lookups.{has, with_first}
+use Rattle.cf_next.specs.Lookups.{has_key, with_first}
 
 module _ {X : Type 0} (k : List ℕ) where
   module _ (v : X) (ps : List (List ℕ × X)) where
@@ -22,4 +22,4 @@ module _ {X : Type 0} (k : List ℕ) where
     put_or_kept false rise = ascends_put k v ps rise
 
     pub ascends_first : ascends ps ≡ true → ascends (with_first k v ps) ≡ true
-    ascends_first rise = put_or_kept (has k ps) rise
+    ascends_first rise = put_or_kept (has_key k ps) rise

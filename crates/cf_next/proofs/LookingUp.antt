@@ -8,7 +8,7 @@ use Rattle.cf_tree.specs.Keys.{put, value_at}
 use Rattle.cf_tree.specs.Lists.{is_among}
 use Rattle.cf_tree.proofs.Lookups.{put_else, put_here}
 use Rattle.cf_plan.proofs.Listed.{bytes_same}
-use Rattle.cf_next.specs.Lookups.{has, with_first, with_named}
+use Rattle.cf_next.specs.Lookups.{has_key, with_first, with_named}
 
 module _ {V : Type 0} (k : List ℕ) where
   -- under the name itself
@@ -30,7 +30,7 @@ module _ {V : Type 0} (k : List ℕ) where
       → value_at k (with_first name v map) ≡ option_or (value_at k map) (cond b (Some v) None)
   one_under name v map true e =
       ap (λ (n : List ℕ). value_at k (with_first n v map)) (sym (bytes_same k name e)) ∙ first_here v map (value_at k map) refl
-  one_under name v map false e = first_else name v map e (has name map) ∙ or_none (value_at k map)
+  one_under name v map false e = first_else name v map e (has_key name map) ∙ or_none (value_at k map)
 
   or_later : (a b c : Option V) → option_or (option_or a b) c ≡ option_or a (option_or b c)
   or_later None b c = refl
@@ -77,7 +77,7 @@ module _ {A V : Type 0} (name : A → Option (List ℕ)) (value : A → V) (k : 
       by false e = e
 
   -- whether there is one
-  pub named_there : (xs : List A) → has k (fold step [] xs) ≡ list_any is_named xs
+  pub named_there : (xs : List A) → has_key k (fold step [] xs) ≡ list_any is_named xs
   named_there xs = ap is_some (looked_up xs []) ∙ (some_mapped (find is_named xs) ∙ some_found is_named xs)
 
 -- tests that agree find the same
@@ -88,6 +88,6 @@ found_same f g (x ∷ xs) h = ap (λ (b : Bool). cond b (Some x) (find f xs)) (h
 -- A set of names.
 pub told_set : {E : Type 0} (names : List (List ℕ)) (made : Result (List (List ℕ × Unit {0})) E)
     → IfOk made (λ set. set ≡ fold (λ all name. with_first name tt all) [] names)
-    → IfOk made (λ set. (name : List ℕ) → has name set ≡ is_among name names)
-told_set names (Ok set) e = λ name. ap (has name) e ∙ named_there (λ (n : List ℕ). Some n) (λ (n : List ℕ). tt) name names
+    → IfOk made (λ set. (name : List ℕ) → has_key name set ≡ is_among name names)
+told_set names (Ok set) e = λ name. ap (has_key name) e ∙ named_there (λ (n : List ℕ). Some n) (λ (n : List ℕ). tt) name names
 told_set names (Err fault) e = e

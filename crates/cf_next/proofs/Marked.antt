@@ -18,7 +18,7 @@ use Rattle.cf_effect.specs.World.{StackState}
 use Rattle.cf_plan.specs.Follow.{is_free}
 use Rattle.cf_plan.proofs.FailedPaths.{put_is}
 use Rattle.cf_plan.proofs.Told.{any_filtered}
-use Rattle.cf_next.specs.Restoring.{IsPast, is_marked, told_by, told_of, with_mark, with_marks}
+use Rattle.cf_next.specs.Restoring.{AreMarksOf, is_marked, noting_call, noting_update, with_mark, with_marks}
 use Rattle.cf_next.specs.declared.past.Past.{Past}
 
 or_none : (b : Bool) → b ≡ (b || false)
@@ -65,7 +65,7 @@ marked_named name (e ∷ es) marks =
 -- what is marked of a call, and of many
 module _ (n : ℕ) (k : List ℕ) where
   updated_one : (past : Past) (c : Call) (r : Request)
-      → is_marked k (told_of n past c r).updated ≡ (is_marked k past.updated || (goes_forward c.status && (updates k r && succeeded c)))
+      → is_marked k (noting_update n past c r).updated ≡ (is_marked k past.updated || (goes_forward c.status && (updates k r && succeeded c)))
   updated_one past c (request.Update physical props) =
       marked_more k physical (goes_forward c.status && succeeded c) past.updated
       ∙ ap (λ b. is_marked k past.updated || b) (by (goes_forward c.status) (succeeded c) (bytes_eq k physical)) where
@@ -79,7 +79,7 @@ module _ (n : ℕ) (k : List ℕ) where
   updated_one past c (request.Delete physical) = and_none (goes_forward c.status) (is_marked k past.updated)
 
   restored_one : (past : Past) (c : Call) (r : Request)
-      → is_marked k (told_of n past c r).restored ≡ (is_marked k past.restored || (goes_back c.status && (updates k r && succeeded c)))
+      → is_marked k (noting_update n past c r).restored ≡ (is_marked k past.restored || (goes_back c.status && (updates k r && succeeded c)))
   restored_one past c (request.Update physical props) =
       marked_more k physical (goes_back c.status && succeeded c) past.restored
       ∙ ap (λ b. is_marked k past.restored || b) (by (goes_back c.status) (succeeded c) (bytes_eq k physical)) where
@@ -95,7 +95,7 @@ module _ (n : ℕ) (k : List ℕ) where
   abbrev goes_out : Call → Request → Bool
   goes_out c r = c.number == n && ((goes_back c.status && is_update r) && updates k r)
 
-  tried_one : (past : Past) (c : Call) (r : Request) → is_marked k (told_of n past c r).tried ≡ (is_marked k past.tried || goes_out c r)
+  tried_one : (past : Past) (c : Call) (r : Request) → is_marked k (noting_update n past c r).tried ≡ (is_marked k past.tried || goes_out c r)
   tried_one past c (request.Update physical props) =
       marked_more k physical (c.number == n && goes_back c.status) past.tried
       ∙ ap (λ b. is_marked k past.tried || b) (by (c.number == n) (goes_back c.status) (bytes_eq k physical)) where
@@ -115,24 +115,24 @@ module _ (n : ℕ) (k : List ℕ) where
     by true true = or_none (is_marked k past.tried)
 
 -- a mark that one call more sets where it passes is set where one of all passes
-folded : (n : ℕ) (mark : Past → Bool) (test : Call → Bool) → ((past : Past) (c : Call) → mark (told_by n past c) ≡ (mark past || test c))
-    → (cs : List Call) (past : Past) → mark (fold (told_by n) past cs) ≡ (mark past || list_any test cs)
+folded : (n : ℕ) (mark : Past → Bool) (test : Call → Bool) → ((past : Past) (c : Call) → mark (noting_call n past c) ≡ (mark past || test c))
+    → (cs : List Call) (past : Past) → mark (fold (noting_call n) past cs) ≡ (mark past || list_any test cs)
 folded n mark test one [] past = or_none (mark past)
 folded n mark test one (c ∷ cs) past =
-    folded n mark test one cs (told_by n past c) ∙ ap (λ b. b || list_any test cs) (one past c) ∙ or_more (mark past) (test c) (list_any test cs)
+    folded n mark test one cs (noting_call n past c) ∙ ap (λ b. b || list_any test cs) (one past c) ∙ or_more (mark past) (test c) (list_any test cs)
 
 -- what no call tells stays
-other : {A : Type 0} (n : ℕ) (part : Past → A) → ((past : Past) (c : Call) (r : Request) → part (told_of n past c r) ≡ part past)
-    → (cs : List Call) (past : Past) → part (fold (told_by n) past cs) ≡ part past
+other : {A : Type 0} (n : ℕ) (part : Past → A) → ((past : Past) (c : Call) (r : Request) → part (noting_update n past c r) ≡ part past)
+    → (cs : List Call) (past : Past) → part (fold (noting_call n) past cs) ≡ part past
 other n part one [] past = refl
-other n part one (c ∷ cs) past = other n part one cs (told_by n past c) ∙ one past c c.request
+other n part one (c ∷ cs) past = other n part one cs (noting_call n past c) ∙ one past c c.request
 
 abbrev blank : List (List ℕ × Bool) → List (List ℕ × Bool) → Past
 blank skipped called = record { updated = []; restored = []; tried = []; skipped = skipped; called = called }
 
 pub past_is : (s : StackState) (skipped called : List (List ℕ × Bool)) (past : Past)
-    → past ≡ fold (told_by s.operation) (blank skipped called) s.ledger
-    → ((path : List ℕ) → is_marked path skipped ≡ was_skipped path s) → ((path : List ℕ) → not (is_marked path called) ≡ is_free path s) → IsPast s past
+    → past ≡ fold (noting_call s.operation) (blank skipped called) s.ledger
+    → ((path : List ℕ) → is_marked path skipped ≡ was_skipped path s) → ((path : List ℕ) → not (is_marked path called) ≡ is_free path s) → AreMarksOf s past
 past_is s skipped called past e skips opens = record {
   updated = λ k. ap (λ (p : Past). is_marked k p.updated) e
       ∙ folded s.operation (λ p. is_marked k p.updated) (λ c. goes_forward c.status && (updates k c.request && succeeded c)) (λ p c. updated_one s.operation k p c c.request) s.ledger (blank skipped called);
@@ -145,12 +145,12 @@ past_is s skipped called past e skips opens = record {
   skipped = λ path. ap (is_marked path) (ap (λ (p : Past). p.skipped) e ∙ other s.operation (λ p. p.skipped) kept s.ledger (blank skipped called)) ∙ skips path;
   called = λ path. ap (λ ms. not (is_marked path ms)) (ap (λ (p : Past). p.called) e ∙ other s.operation (λ p. p.called) left s.ledger (blank skipped called)) ∙ opens path;
 } where
-  kept : (p : Past) (c : Call) (r : Request) → (told_of s.operation p c r).skipped ≡ p.skipped
+  kept : (p : Past) (c : Call) (r : Request) → (noting_update s.operation p c r).skipped ≡ p.skipped
   kept p c (request.Create kind props) = refl
   kept p c (request.Update physical props) = refl
   kept p c (request.Delete physical) = refl
 
-  left : (p : Past) (c : Call) (r : Request) → (told_of s.operation p c r).called ≡ p.called
+  left : (p : Past) (c : Call) (r : Request) → (noting_update s.operation p c r).called ≡ p.called
   left p c (request.Create kind props) = refl
   left p c (request.Update physical props) = refl
   left p c (request.Delete physical) = refl

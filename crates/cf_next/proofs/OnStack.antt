@@ -13,7 +13,7 @@ use Rattle.cf_next.specs.declared.step.Next.TheVariants as next
 use Rattle.cf_plan.specs.Follow.{MayFollow, MayIntend}
 use Rattle.cf_next.specs.declared.chosen.NextFault.{NextFault}
 use Rattle.cf_next.specs.declared.chosen.NextFault.TheVariants.{NoStep}
-use Rattle.cf_next.specs.Chosen.{HasNoStep, IsInProgress, IsNext, MayStart, MayStartOn, entry_of}
+use Rattle.cf_next.specs.Chosen.{HasNoStep, IsInProgress, IsNext, MayStart, MayStartOn, entry_for}
 use Rattle.cf_next.specs.Taking.{Chooses}
 use Rattle.cf_next.proofs.Followed.{next_follows}
 use Rattle.cf_next.specs.Due.{AreDue, AreDueIn, AreDueOn, IsCallDue, IsCallDueIn, IsDue, IsDueIn}
@@ -104,6 +104,6 @@ module _ (schemas : List Schema) (x : World) (out : List ℕ) (number : ℕ) whe
     no_step r w e = none_may (subst (Chooses schemas t.0 x out t.1) e w)
 
   pub next_may : (r : Result Next NextFault) → IfOk r (λ n. IsNext schemas x out number n)
-      → IfOk r (λ n. (e : Entry) → entry_of number n ≡ Some e → MayFollow schemas x out e)
+      → IfOk r (λ n. (e : Entry) → entry_for number n ≡ Some e → MayFollow schemas x out e)
   next_may (Ok n) w = λ e q. next_follows schemas x out number n e w q
   next_may (Err fault) w = tt

@@ -25,7 +25,9 @@ use Rattle.cf_rests.proofs.Viewed.{by_paths}
 use Rattle.cf_effect.specs.Begin.{seen_in}
 use Rattle.cf_effect.specs.End.{seen_now}
 use Rattle.cf_effect.specs.World.{StackState, World}
-use Rattle.cf_plan.specs.Forward.{In, there, IsBadAt, IsBadNested, IsBadPath, IsCause, path_of_token, plan_in, plan_now}
+use Rattle.cf_plan.specs.Forward.{IsBadAt, IsBadNested, IsBadPath, IsCause, path_of_token, plan_in, plan_now}
+use Rattle.cf_tree.specs.Lists.{there}
+use Rattle.cf_tree.specs.Lists.{In}
 use Rattle.cf_plan.proofs.Causing.{bad_same}
 use Rattle.cf_plan.proofs.Members.{is_so, any_in}
 use Rattle.cf_plan.proofs.Listed.{bytes_same, in_cons, in_map, in_none, same_bytes}

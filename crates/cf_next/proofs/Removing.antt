@@ -25,7 +25,9 @@ use Rattle.cf_effect.specs.Words.{current_at, is_create, is_create_at}
 use Rattle.cf_effect.specs.World.{StackState, World, empty_world}
 use Rattle.cf_plan.specs.Between.{is_needed_by_create, is_needed_by_held, is_needed_by_made}
 use Rattle.cf_plan.specs.Follow.{IntendsDeletion, IntendsIn, MayDelete, MayKeep, MayTurn, cleaned_in, is_deletion_of, is_free, is_repeat_in_flight, is_retained_or_excepted, is_to_retain, keeps, keeps_superseded, may_repeat, waits_for_repeats}
-use Rattle.cf_plan.specs.Forward.{In, here, there}
+use Rattle.cf_tree.specs.Lists.{there}
+use Rattle.cf_tree.specs.Lists.{here}
+use Rattle.cf_tree.specs.Lists.{In}
 use Rattle.cf_plan.proofs.Members.{is_so, not_so, any_in, false_from, in_any, not_both}
 use Rattle.cf_plan.proofs.Listed.{bytes_same, in_cons, in_none, same_bytes}
 use Rattle.cf_next.specs.declared.deletions.Removals.{Removals}
@@ -35,8 +37,8 @@ use Rattle.cf_plan.specs.Start.{Start}
 use Rattle.cf_next.specs.declared.tallies.Tally.{Tally}
 use Rattle.cf_next.specs.declared.unmaking.Unmaking.{Unmaking}
 use Rattle.cf_next.specs.declared.unmaking.Unmaking.TheVariants as unmaking
-use Rattle.cf_next.specs.Facts.{AreFacts, deletion_of, doubted_by, given_up, has_try_left, is_kept, keeping, keepings_by, may_delete, refused_by, retained_by, retention_of, starts_by, undeleted_by}
-use Rattle.cf_next.specs.Lookups.{has}
+use Rattle.cf_next.specs.Facts.{AreFacts, deletion_start, doubted_by, creates_given_up, has_try_left, is_kept, keeping_for, keepings_by, may_delete, refused_by, retained_by, retention_of, starts_for, undeleted_by}
+use Rattle.cf_next.specs.Lookups.{has_key}
 use Rattle.cf_next.specs.declared.offer.Offer.{Offer}
 use Rattle.cf_next.specs.declared.offer.Turn.{Turn}
 use Rattle.cf_next.specs.Offer.{AreKeepings, AreRepeats, AreStarts, MayBeginAt}
@@ -206,27 +208,27 @@ module _ (u : Unmaking) (out : List ℕ) (s : StackState) (status_is : status_in
     start r = record { path = r.path; request = request.Delete r.physical }
 
     abbrev all_starts : List Start
-    all_starts = flat_map (starts_by u f) (looked_at u s)
+    all_starts = flat_map (starts_for u f) (looked_at u s)
 
     abbrev all_kept : List Keeping
     all_kept = flat_map (keepings_by u f) (looked_at u s)
 
-    closed : (path : List ℕ) → is_free path s ≡ true → has path f.busy ≡ false
+    closed : (path : List ℕ) → is_free path s ≡ true → has_key path f.busy ≡ false
     closed path e = are.busy path ∙ ap not e
 
-    free : (path : List ℕ) → has path f.busy ≡ false → is_free path s ≡ true
+    free : (path : List ℕ) → has_key path f.busy ≡ false → is_free path s ≡ true
     free path e = not_true_false (is_free path s) (sym (are.busy path) ∙ e)
 
     -- Deletions.
     starting : (r : Held) → In r (looked_at u s) → is_deletable u s r ≡ true → keeps (stage_in u) s r ≡ false → is_free r.path s ≡ true
         → In (start r) all_starts
     starting r i d k o =
-        (in_flat (starts_by u f) (looked_at u s) (start r)).1 (
+        (in_flat (starts_for u f) (looked_at u s) (start r)).1 (
           r,
           i,
-          (in_then (may_delete u f r && not (is_kept u f r)) (deletion_of f r) (start r)).1 (
+          (in_then (may_delete u f r && not (is_kept u f r)) (deletion_start f r) (start r)).1 (
             and_from (may_delete u f r) (not (is_kept u f r)) (may_told u s f are r ∙ d) (not_so (is_kept u f r) (kept_told u s f are r ∙ k)),
-            (in_else (has r.path f.busy) (start r ∷ []) (start r)).1 (closed r.path o, here),
+            (in_else (has_key r.path f.busy) (start r ∷ []) (start r)).1 (closed r.path o, here),
           ),
         )
 
@@ -242,10 +244,10 @@ module _ (u : Unmaking) (out : List ℕ) (s : StackState) (status_is : status_in
 
     begins : (t : Start) → In t all_starts → Begins t.path t.request
     begins t i schemas name x =
-        let w = (in_flat (starts_by u f) (looked_at u s) t).0 i in
+        let w = (in_flat (starts_for u f) (looked_at u s) t).0 i in
         let r = w.0 in
-        let let_in = (in_then (may_delete u f r && not (is_kept u f r)) (deletion_of f r) t).0 w.2 in
-        let one = (in_else (has r.path f.busy) (start r ∷ []) t).0 let_in.1 in
+        let let_in = (in_then (may_delete u f r && not (is_kept u f r)) (deletion_start f r) t).0 w.2 in
+        let one = (in_else (has_key r.path f.busy) (start r ∷ []) t).0 let_in.1 in
         let may = sym (may_told u s f are r) ∙ first_so (may_delete u f r) (not (is_kept u f r)) let_in.0 in
         let kept = sym (kept_told u s f are r) ∙ is_so (is_kept u f r) (second_so (may_delete u f r) (not (is_kept u f r)) let_in.0) in
         subst (λ (t : Start). MayBeginAt schemas name x out s (stage_in u) t.path t.request) (only_one (start r) t one.1)
@@ -256,17 +258,17 @@ module _ (u : Unmaking) (out : List ℕ) (s : StackState) (status_is : status_in
 
     -- What is kept.
     retained_at : (r : Held) → is_deletable u s r ≡ true → keeps (stage_in u) s r ≡ true
-        → (is_free r.path s ≡ true) ⊎ (is_to_retain (stage_in u) s r.path ≡ true) → In (keeping r why.Retained) (retained_by u f r)
+        → (is_free r.path s ≡ true) ⊎ (is_to_retain (stage_in u) s r.path ≡ true) → In (keeping_for r why.Retained) (retained_by u f r)
     retained_at r d k o =
-        (in_then (may_delete u f r && is_kept u f r) (retention_of f r) (keeping r why.Retained)).1 (
+        (in_then (may_delete u f r && is_kept u f r) (retention_of f r) (keeping_for r why.Retained)).1 (
           and_from (may_delete u f r) (is_kept u f r) (may_told u s f are r ∙ d) (kept_told u s f are r ∙ k),
-          (in_else (has r.path f.busy && not (has r.path f.retained)) (keeping r why.Retained ∷ []) (keeping r why.Retained)).1 (by o, here),
+          (in_else (has_key r.path f.busy && not (has_key r.path f.retained)) (keeping_for r why.Retained ∷ []) (keeping_for r why.Retained)).1 (by o, here),
         )
       where
         by : (is_free r.path s ≡ true) ⊎ (is_to_retain (stage_in u) s r.path ≡ true)
-            → (has r.path f.busy && not (has r.path f.retained)) ≡ false
+            → (has_key r.path f.busy && not (has_key r.path f.retained)) ≡ false
         by (inl o) = rw (closed r.path o) refl
-        by (inr t) = rw (are.retained r.path ∙ (retain_told u s r.path ∙ t)) (never (has r.path f.busy))
+        by (inr t) = rw (are.retained r.path ∙ (retain_told u s r.path ∙ t)) (never (has_key r.path f.busy))
           where
             never : (b : Bool) → (b && false) ≡ false
             never true = refl
@@ -283,7 +285,7 @@ module _ (u : Unmaking) (out : List ℕ) (s : StackState) (status_is : status_in
     refused_told r = ap (λ (t : Tally). nat_lt t.refused 3) (are.tallies r.physical) ∙ less_same (refusals_of r.physical s)
 
     -- at the path and under the id that a keeping tells
-    told_at : (r : Held) (path physical : List ℕ) (w : Why) → path ≡ r.path → physical ≡ r.physical → In (keeping r w) all_kept
+    told_at : (r : Held) (path physical : List ℕ) (w : Why) → path ≡ r.path → physical ≡ r.physical → In (keeping_for r w) all_kept
         → In (record { path = path; physical = physical; why = w }) all_kept
     told_at r path physical w at_path of_id i =
         subst (λ (p : List ℕ). In (record { path = p; physical = physical; why = w }) all_kept) (sym at_path)
@@ -294,13 +296,13 @@ module _ (u : Unmaking) (out : List ℕ) (s : StackState) (status_is : status_in
     kept_in path physical why.Retained (r, may, waits, kept, at_path, of_id, o) =
         let d = (may_be u s status_is r).0 may in
         let at_r = subst (λ (p : List ℕ). (is_free p s ≡ true) ⊎ (is_to_retain (stage_in u) s p ≡ true)) at_path o in
-        told_at r path physical why.Retained at_path of_id (in_kept r d.0 (keeping r why.Retained) (inl (retained_at r d.1 kept at_r)))
+        told_at r path physical why.Retained at_path of_id (in_kept r d.0 (keeping_for r why.Retained) (inl (retained_at r d.1 kept at_r)))
     kept_in path physical why.Failed ((r, i, at_path, of_id), m) =
         let c = (cleaned u s r).0 i in
         let three : 3 ≤ refusals_of r.physical s = subst (λ (q : List ℕ). 3 ≤ refusals_of q s) of_id m in
         told_at r path physical why.Failed at_path of_id
-        (in_kept r c.0 (keeping r why.Failed) (inr (undeleted_at r (keeping r why.Failed) c.1
-        (inl ((in_else (nat_lt (tally_under r.physical f.tallies).refused 3) (keeping r why.Failed ∷ []) (keeping r why.Failed)).1
+        (in_kept r c.0 (keeping_for r why.Failed) (inr (undeleted_at r (keeping_for r why.Failed) c.1
+        (inl ((in_else (nat_lt (tally_under r.physical f.tallies).refused 3) (keeping_for r why.Failed ∷ []) (keeping_for r why.Failed)).1
         (refused_told r ∙ are_three (refusals_of r.physical s) three, here))))))
     kept_in path physical why.Doubt ((r, i, at_path, of_id), p, j, deletes, m) =
         let c = (cleaned u s r).0 i in
@@ -308,43 +310,43 @@ module _ (u : Unmaking) (out : List ℕ) (s : StackState) (status_is : status_in
         let one : is_doubted_by r.physical s p ≡ true = and_from (is_deletion_of r.physical p) (not (nat_lt (doubts_of p.token s) 3)) deletes_r (not_so (nat_lt (doubts_of p.token s) 3) (are_three (doubts_of p.token s) m)) in
         let doubted = are.doubted r.physical ∙ and_from (is_cleanup u) (is_doubted r.physical s) (first_so (is_cleanup u) (is_in_view u r) c.1) (any_in (is_doubted_by r.physical s) p s.tokens j one) in
         told_at r path physical why.Doubt at_path of_id
-        (in_kept r c.0 (keeping r why.Doubt) (inr (undeleted_at r (keeping r why.Doubt) c.1
-        (inr ((in_then (has r.physical f.doubted) (keeping r why.Doubt ∷ []) (keeping r why.Doubt)).1 (doubted, here))))))
+        (in_kept r c.0 (keeping_for r why.Doubt) (inr (undeleted_at r (keeping_for r why.Doubt) c.1
+        (inr ((in_then (has_key r.physical f.doubted) (keeping_for r why.Doubt ∷ []) (keeping_for r why.Doubt)).1 (doubted, here))))))
 
     abbrev IsKept : Keeping → Type 0
     IsKept k = KeepsResource (stage_in u) out s k.path k.physical k.why
 
-    when_retained : (r : Held) → (has r.path f.busy && not (has r.path f.retained)) ≡ false
+    when_retained : (r : Held) → (has_key r.path f.busy && not (has_key r.path f.retained)) ≡ false
         → (is_free r.path s ≡ true) ⊎ (is_to_retain (stage_in u) s r.path ≡ true)
-    when_retained r e = by (has r.path f.busy) refl e
+    when_retained r e = by (has_key r.path f.busy) refl e
       where
-        by : (b : Bool) → has r.path f.busy ≡ b → (b && not (has r.path f.retained)) ≡ false
+        by : (b : Bool) → has_key r.path f.busy ≡ b → (b && not (has_key r.path f.retained)) ≡ false
             → (is_free r.path s ≡ true) ⊎ (is_to_retain (stage_in u) s r.path ≡ true)
-        by true o e = inr (sym (retain_told u s r.path) ∙ (sym (are.retained r.path) ∙ not_true_false (has r.path f.retained) e))
+        by true o e = inr (sym (retain_told u s r.path) ∙ (sym (are.retained r.path) ∙ not_true_false (has_key r.path f.retained) e))
         by false o e = inl (free r.path o)
 
     kept_of : (r : Held) → In r (looked_at u s) → (k : Keeping) → In k (retained_by u f r) → IsKept k
     kept_of r i k j =
         let let_in = (in_then (may_delete u f r && is_kept u f r) (retention_of f r) k).0 j in
-        let one = (in_else (has r.path f.busy && not (has r.path f.retained)) (keeping r why.Retained ∷ []) k).0 let_in.1 in
+        let one = (in_else (has_key r.path f.busy && not (has_key r.path f.retained)) (keeping_for r why.Retained ∷ []) k).0 let_in.1 in
         let may = sym (may_told u s f are r) ∙ first_so (may_delete u f r) (is_kept u f r) let_in.0 in
         let kept = sym (kept_told u s f are r) ∙ second_so (may_delete u f r) (is_kept u f r) let_in.0 in
-        subst IsKept (only_one (keeping r why.Retained) k one.1)
+        subst IsKept (only_one (keeping_for r why.Retained) k one.1)
         (r, (may_be u s status_is r).1 (i, may), idle, kept, refl, refl, when_retained r one.0)
 
     refused_of : (r : Held) → In r (cleaned_in (stage_in u) s) → (k : Keeping) → In k (refused_by f r) → IsKept k
     refused_of r c k j =
-        let one = (in_else (nat_lt (tally_under r.physical f.tallies).refused 3) (keeping r why.Failed ∷ []) k).0 j in
-        subst IsKept (only_one (keeping r why.Failed) k one.1)
+        let one = (in_else (nat_lt (tally_under r.physical f.tallies).refused 3) (keeping_for r why.Failed ∷ []) k).0 j in
+        subst IsKept (only_one (keeping_for r why.Failed) k one.1)
         ((r, c, refl, refl), three_are (refusals_of r.physical s) (sym (refused_told r) ∙ one.0))
 
     doubted_of : (r : Held) → In r (cleaned_in (stage_in u) s) → (k : Keeping) → In k (doubted_by f r) → IsKept k
     doubted_of r c k j =
-        let one = (in_then (has r.physical f.doubted) (keeping r why.Doubt ∷ []) k).0 j in
+        let one = (in_then (has_key r.physical f.doubted) (keeping_for r why.Doubt ∷ []) k).0 j in
         let doubted = second_so (is_cleanup u) (is_doubted r.physical s) (sym (are.doubted r.physical) ∙ one.0) in
         let w = in_any (is_doubted_by r.physical s) s.tokens doubted in
         let p = w.0 in
-        subst IsKept (only_one (keeping r why.Doubt) k one.1) (
+        subst IsKept (only_one (keeping_for r why.Doubt) k one.1) (
           (r, c, refl, refl),
           p,
           w.1,
@@ -455,7 +457,7 @@ module _ (u : Unmaking) (out : List ℕ) (s : StackState) (status_is : status_in
   retained = retained_in (stage_in u) s
 
   abbrev all_given_up : List Keeping
-  all_given_up = flat_map (given_up retained) s.tokens
+  all_given_up = flat_map (creates_given_up retained) s.tokens
 
   abbrev GivesUp : List ℕ → List ℕ → Type 0
   GivesUp path physical =
@@ -478,7 +480,7 @@ module _ (u : Unmaking) (out : List ℕ) (s : StackState) (status_is : status_in
       (subst (λ (q : List ℕ). is_among q retained ≡ true) at (retains path e among)) in
       subst (λ (q : List ℕ). In (record { path = q; physical = physical; why = why.Retained }) all_given_up) (sym at)
       (subst (λ (i : List ℕ). In (record { path = p.path; physical = i; why = why.Retained }) all_given_up) (sym none)
-      ((in_flat (given_up retained) s.tokens (given p)).1 (p, w.1, (in_then (is_create p.request && is_among p.path retained) (given p ∷ []) (given p)).1 (test, here))))
+      ((in_flat (creates_given_up retained) s.tokens (given p)).1 (p, w.1, (in_then (is_create p.request && is_among p.path retained) (given p ∷ []) (given p)).1 (test, here))))
 
   only_gone : (v : Unmaking) (path : List ℕ) → is_among path (retained_in (stage_in v) s) ≡ true
       → (stage_in v ≡ Gone) × (is_among path (named_paths s) ≡ true)
@@ -489,7 +491,7 @@ module _ (u : Unmaking) (out : List ℕ) (s : StackState) (status_is : status_in
 
   gives_up : (k : Keeping) → In k all_given_up → MayKeep (stage_in u) out s k.path k.physical k.why
   gives_up k i =
-      let w = (in_flat (given_up retained) s.tokens k).0 i in
+      let w = (in_flat (creates_given_up retained) s.tokens k).0 i in
       let p = w.0 in
       let one = (in_then (is_create p.request && is_among p.path retained) (given p ∷ []) k).0 w.2 in
       let creates = first_so (is_create p.request) (is_among p.path retained) one.0 in
@@ -564,5 +566,5 @@ pub told_offer :
     → IfOk made (λ o. IsOfferWith paths s repeats r o) → IfOk made (λ o. IsOfferIn (stage_in u) out s o)
 told_offer u out s paths r repeats (Ok o) status_is same are again e =
     offered u out s status_is r.keepings are.1 r.starts are.0 repeats (subst (λ (ps : List (List ℕ)). AreRepeatsBut ps out s repeats) same again) o e.0 e.1
-    (e.2 ∙ ap (λ (ps : List (List ℕ)). r.keepings ++ flat_map (given_up ps) s.tokens) same) e.3
+    (e.2 ∙ ap (λ (ps : List (List ℕ)). r.keepings ++ flat_map (creates_given_up ps) s.tokens) same) e.3
 told_offer u out s paths r repeats (Err fault) status_is same are again e = e

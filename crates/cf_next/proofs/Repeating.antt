@@ -9,7 +9,9 @@ use Rattle.cf_effect.specs.Operation.{named_paths}
 use Rattle.cf_effect.specs.Status.{Stage, Back, BackClean, Clean, Forward, Gone}
 use Rattle.cf_effect.specs.World.{StackState, World}
 use Rattle.cf_plan.specs.Follow.{MayRepeat, is_in_flight, may_repeat}
-use Rattle.cf_plan.specs.Forward.{In, here, there}
+use Rattle.cf_tree.specs.Lists.{there}
+use Rattle.cf_tree.specs.Lists.{here}
+use Rattle.cf_tree.specs.Lists.{In}
 use Rattle.cf_plan.proofs.Listed.{in_cons, in_none}
 use Rattle.cf_next.specs.Offer.{AreRepeats}
 use Rattle.cf_next.specs.Repeats.{AreRepeatsBut, HasNotFailed, can_repeat, retained_in}

@@ -20,7 +20,7 @@ use Rattle.cf_effect.specs.Operation.{was_skipped}
 use Rattle.cf_effect.specs.Status.{Back, Forward, Gone, goes_back, stage_of}
 use Rattle.cf_effect.specs.Words.{is_update}
 use Rattle.cf_effect.specs.World.{StackState, World}
-use Rattle.cf_plan.specs.Forward.{In}
+use Rattle.cf_tree.specs.Lists.{In}
 use Rattle.cf_plan.specs.Follow.{IntendsDeletion, IntendsRestore, IsToRestore, MayKeep, MayTurn, has_refused_restore, has_restore, is_free, waits_for_repeats}
 use Rattle.cf_plan.proofs.Causing.{map_in}
 use Rattle.cf_plan.proofs.Members.{is_so, not_so, any_in, false_from, in_any}

@@ -57,13 +57,13 @@ abbrev pub physical_id_of : Request → List ℕ
 physical_id_of r = unwrap_or (id_named r) []
 
 -- a create, which names no physical id, precedes every other step of its path
-abbrev pub place_of : Next → Place
-place_of (next.Step path lane token r true) = record { rank = 0; token = token; path = []; physical = [] }
-place_of (next.Step path lane token r false) = record { rank = 1; token = 0; path = path; physical = physical_id_of r }
-place_of (next.Keep path physical w) = record { rank = 1; token = 0; path = path; physical = physical }
-place_of (next.Turn p cause) = record { rank = 2; token = 0; path = []; physical = [] }
-place_of (next.End state failed) = record { rank = 2; token = 0; path = []; physical = [] }
-place_of next.Wait = record { rank = 3; token = 0; path = []; physical = [] }
+abbrev pub step_place : Next → Place
+step_place (next.Step path lane token r true) = record { rank = 0; token = token; path = []; physical = [] }
+step_place (next.Step path lane token r false) = record { rank = 1; token = 0; path = path; physical = physical_id_of r }
+step_place (next.Keep path physical w) = record { rank = 1; token = 0; path = path; physical = physical }
+step_place (next.Turn p cause) = record { rank = 2; token = 0; path = []; physical = [] }
+step_place (next.End state failed) = record { rank = 2; token = 0; path = []; physical = [] }
+step_place next.Wait = record { rank = 3; token = 0; path = []; physical = [] }
 
 -- the paths in the order of their bytes, and where they are the same the physical ids
 abbrev pub precedes : List ℕ × List ℕ → List ℕ × List ℕ → Bool
@@ -83,7 +83,7 @@ GoesFirst out x _ = Unit {0}
 pub record IsChosen (schemas : List Schema) (name : List ℕ) (x : World) (out : List ℕ) (s : StackState) (stage : Stage)
     (n : Next) : Type 0 where
   pub may : MayStart schemas name x out s stage n
-  pub first : (m : Next) → MayStart schemas name x out s stage m → is_placed_before (place_of m) (place_of n) ≡ false
+  pub first : (m : Next) → MayStart schemas name x out s stage m → is_placed_before (step_place m) (step_place n) ≡ false
   pub lane : GoesFirst out x n
 
 -- the operation of this number is in progress
@@ -109,10 +109,10 @@ pub record HasNoStep (schemas : List Schema) (x : World) (out : List ℕ) (numbe
   pub none : (n : Next) → MayStartOn schemas x out number n → ⊥
 
 -- The entry that writes a step of the operation down; to repeat a call and to wait write none.
-abbrev pub entry_of : ℕ → Next → Option Entry
-entry_of number (next.Step path lane token r true) = None
-entry_of number (next.Step path lane token r false) = Some (entry.Intent number token lane path r)
-entry_of number (next.Keep path physical w) = Some (entry.Kept number path physical w)
-entry_of number (next.Turn p cause) = Some (entry.Phase number p cause)
-entry_of number (next.End state failed) = Some (entry.Done number state failed)
-entry_of number next.Wait = None
+abbrev pub entry_for : ℕ → Next → Option Entry
+entry_for number (next.Step path lane token r true) = None
+entry_for number (next.Step path lane token r false) = Some (entry.Intent number token lane path r)
+entry_for number (next.Keep path physical w) = Some (entry.Kept number path physical w)
+entry_for number (next.Turn p cause) = Some (entry.Phase number p cause)
+entry_for number (next.End state failed) = Some (entry.Done number state failed)
+entry_for number next.Wait = None

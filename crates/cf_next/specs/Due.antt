@@ -7,11 +7,11 @@ use Rattle.cf_schema.specs.declared.described.Schema.{Schema}
 use Rattle.cf_entry.specs.declared.entry.Entry.TheVariants as entry
 use Rattle.cf_effect.specs.World.{StackState, World}
 use Rattle.cf_effect.specs.Status.{Stage, stage_of}
-use Rattle.cf_plan.specs.Forward.{In}
+use Rattle.cf_tree.specs.Lists.{In}
 use Rattle.cf_plan.specs.Follow.{MayFollow, MayFollowIn, MayIntend, MayRepeat, MayRepeatOn}
 use Rattle.cf_next.specs.declared.step.Next.{Next}
 use Rattle.cf_next.specs.declared.step.Next.TheVariants as next
-use Rattle.cf_next.specs.Chosen.{is_placed_before, place_of}
+use Rattle.cf_next.specs.Chosen.{is_placed_before, step_place}
 
 -- a new call is due where its Intent may follow; a create names no lane, and is due where its Intent may follow on some lane
 abbrev pub IsCallDue : List Schema → World → List ℕ → ℕ → List ℕ → List ℕ → ℕ → Request → Type 0
@@ -47,7 +47,7 @@ IsDueIn schemas name x out s stage next.Wait = ⊥
 
 -- none of the list precedes an earlier one
 abbrev pub is_step_before : Next → Next → Bool
-is_step_before a b = is_placed_before (place_of a) (place_of b)
+is_step_before a b = is_placed_before (step_place a) (step_place b)
 
 abbrev pub are_in_order : List Next → Bool
 are_in_order [] = true

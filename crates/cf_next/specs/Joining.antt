@@ -120,14 +120,14 @@ pub record HasNothing (x : World) (o : Offer) : Type 0 where
   pub turn : o.turn ≡ None
 
 -- the status in which an operation ends that is at its end, where all is made, and where nothing is left
-abbrev pub end_of : Status → Bool → Bool → Option Status
-end_of status.CreateInProgress is_made is_cleared = if is_made then Some status.CreateComplete else None
-end_of status.RollbackInProgress is_made is_cleared = if is_cleared then Some status.RollbackComplete else Some status.RollbackFailed
-end_of status.DeleteInProgress is_made is_cleared = if is_cleared then Some status.DeleteComplete else Some status.DeleteFailed
-end_of status.UpdateCompleteCleanupInProgress is_made is_cleared = Some status.UpdateComplete
-end_of status.UpdateRollbackCompleteCleanupInProgress is_made is_cleared = Some status.UpdateRollbackComplete
-end_of status.UpdateRollbackInProgress is_made is_cleared = Some status.UpdateRollbackFailed
-end_of _ is_made is_cleared = None
+abbrev pub end_status : Status → Bool → Bool → Option Status
+end_status status.CreateInProgress is_made is_cleared = if is_made then Some status.CreateComplete else None
+end_status status.RollbackInProgress is_made is_cleared = if is_cleared then Some status.RollbackComplete else Some status.RollbackFailed
+end_status status.DeleteInProgress is_made is_cleared = if is_cleared then Some status.DeleteComplete else Some status.DeleteFailed
+end_status status.UpdateCompleteCleanupInProgress is_made is_cleared = Some status.UpdateComplete
+end_status status.UpdateRollbackCompleteCleanupInProgress is_made is_cleared = Some status.UpdateRollbackComplete
+end_status status.UpdateRollbackInProgress is_made is_cleared = Some status.UpdateRollbackFailed
+end_status _ is_made is_cleared = None
 
 -- a phase that may begin, or the end, once no call of the stack is out
 abbrev pub IsLast : List Schema → List ℕ → World → StackState → Stage → Next → Type 0

@@ -9,7 +9,8 @@ use Rattle.cf_entry.specs.declared.turn.Why.{Why}
 use Rattle.cf_effect.specs.declared.held.Pending.{Pending}
 use Rattle.cf_effect.specs.World.{StackState, World}
 use Rattle.cf_effect.specs.Status.{Stage, Forward, stage_of}
-use Rattle.cf_plan.specs.Forward.{In, AllDone, HasFailed}
+use Rattle.cf_plan.specs.Forward.{AllDone, HasFailed}
+use Rattle.cf_tree.specs.Lists.{In}
 use Rattle.cf_plan.specs.Follow.{IntendsIn, MayKeep, MayRepeat, MayTurn, is_free, waits_for_repeats}
 use Rattle.cf_next.specs.declared.offer.Keeping.{Keeping}
 use Rattle.cf_next.specs.declared.offer.Offer.{Offer}
@@ -20,7 +21,8 @@ use Rattle.cf_next.specs.declared.offer.Turn.{Turn}
 abbrev pub AreRepeats : List Schema → List ℕ → World → List ℕ → StackState → Stage → List Pending → Type 0
 AreRepeats schemas name x out s stage repeats = (p : Pending) → MayRepeat schemas name x out s stage p ↔ In p repeats
 
--- a call of this request may begin at the path, on whichever lane: no call is open there, none has to be made again first, and the stage intends it
+-- a call of this request may begin at the path, on whichever lane: no call is open there, none has to be made again first, and the stage
+-- intends it
 abbrev pub MayBeginAt : List Schema → List ℕ → World → List ℕ → StackState → Stage → List ℕ → Request → Type 0
 MayBeginAt schemas name x out s stage path r =
     (is_free path s ≡ true) × (waits_for_repeats stage out s ≡ false) × IntendsIn stage schemas name x s path r
@@ -33,23 +35,26 @@ AreStarts schemas name x out s stage starts =
 -- these are just the resources that may be kept
 abbrev pub AreKeepings : Stage → List ℕ → StackState → List Keeping → Type 0
 AreKeepings stage out s keepings =
-    (path physical : List ℕ) (w : Why) → MayKeep stage out s path physical w ↔ In (record { path = path; physical = physical; why = w }) keepings
+    (path physical : List ℕ) (w : Why) → MayKeep stage out s path physical w
+    ↔ In (record { path = path; physical = physical; why = w }) keepings
 
 -- this is just the phase that may begin, with its cause
 abbrev pub IsTurn : List Schema → List ℕ → World → StackState → Option Turn → Type 0
-IsTurn schemas name x s turn = (p : Phase) (c : Option Cause) → MayTurn schemas name x s p c ↔ (turn ≡ Some (record { phase = p; cause = c }))
+IsTurn schemas name x s turn =
+    (p : Phase) (c : Option Cause) → MayTurn schemas name x s p c ↔ (turn ≡ Some (record { phase = p; cause = c }))
 
 -- the forward phase has made all that its template says
 abbrev pub IsMade : List Schema → List ℕ → World → StackState → Type 0
 IsMade schemas name x s = ¬ HasFailed schemas name x s × AllDone s
 
 -- All that the operation of a stack may begin in its stage, while the leases of some tokens are out.
-pub record IsOffer (schemas : List Schema) (name : List ℕ) (x : World) (out : List ℕ) (s : StackState) (stage : Stage) (o : Offer) : Type 0 where
-  pub repeats : AreRepeats schemas name x out s stage o.repeats
-  pub starts : AreStarts schemas name x out s stage o.starts
-  pub keepings : AreKeepings stage out s o.keepings
-  pub turn : IsTurn schemas name x s o.turn
-  pub made : stage ≡ Forward → IsTrue o.is_made ↔ IsMade schemas name x s
+pub record IsOffer (schemas : List Schema) (name : List ℕ) (x : World) (out : List ℕ) (s : StackState) (stage : Stage) (o : Offer) : Type 0
+  where
+    pub repeats : AreRepeats schemas name x out s stage o.repeats
+    pub starts : AreStarts schemas name x out s stage o.starts
+    pub keepings : AreKeepings stage out s o.keepings
+    pub turn : IsTurn schemas name x s o.turn
+    pub made : stage ≡ Forward → IsTrue o.is_made ↔ IsMade schemas name x s
 
 -- this is all of the operation in progress of a stack, whichever its stage
 abbrev pub IsOfferOn : List Schema → List ℕ → World → List ℕ → StackState → Offer → Type 0

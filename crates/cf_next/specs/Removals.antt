@@ -8,14 +8,14 @@ use Rattle.cf_effect.specs.declared.held.Pending.{Pending}
 use Rattle.cf_effect.specs.Status.{Stage}
 use Rattle.cf_effect.specs.World.{StackState, World}
 use Rattle.cf_plan.specs.Follow.{MayDelete, MayKeep, is_free, is_to_retain, keeps, waits_for_repeats}
-use Rattle.cf_plan.specs.Forward.{In}
+use Rattle.cf_tree.specs.Lists.{In}
 use Rattle.cf_next.specs.declared.deletions.Removals.{Removals}
 use Rattle.cf_next.specs.declared.facts.Facts.{Facts}
 use Rattle.cf_next.specs.declared.offer.Keeping.{Keeping}
 use Rattle.cf_next.specs.declared.offer.Offer.{Offer}
 use Rattle.cf_plan.specs.Start.{Start}
 use Rattle.cf_next.specs.declared.unmaking.Unmaking.{Unmaking}
-use Rattle.cf_next.specs.Facts.{given_up, keepings_by, starts_by}
+use Rattle.cf_next.specs.Facts.{creates_given_up, keepings_by, starts_for}
 use Rattle.cf_next.specs.Offer.{AreStarts, IsOffer}
 use Rattle.cf_next.specs.Unmaking.{held_for, made_for, stage_in}
 
@@ -40,7 +40,7 @@ AreResourcesKept u out s keepings =
 
 -- what the walk over the resources makes of them, and that it is right
 abbrev pub IsWalked : Unmaking → StackState → Facts → Removals → Type 0
-IsWalked u s f r = (r.starts ≡ flat_map (starts_by u f) (looked_at u s)) × (r.keepings ≡ flat_map (keepings_by u f) (looked_at u s))
+IsWalked u s f r = (r.starts ≡ flat_map (starts_for u f) (looked_at u s)) × (r.keepings ≡ flat_map (keepings_by u f) (looked_at u s))
 
 abbrev pub AreRemovals : Unmaking → List ℕ → StackState → Removals → Type 0
 AreRemovals u out s r = AreAllStarts u out s r.starts × AreResourcesKept u out s r.keepings
@@ -51,4 +51,5 @@ IsOfferIn stage out s o = (schemas : List Schema) (name : List ℕ) (x : World) 
 
 abbrev pub IsOfferWith : List (List ℕ) → StackState → List Pending → Removals → Offer → Type 0
 IsOfferWith retained s repeats r o =
-    (o.repeats ≡ repeats) × (o.starts ≡ r.starts) × (o.keepings ≡ r.keepings ++ flat_map (given_up retained) s.tokens) × (o.turn ≡ None)
+    (o.repeats ≡ repeats) × (o.starts ≡ r.starts) × (o.keepings ≡ r.keepings ++ flat_map (creates_given_up retained) s.tokens)
+    × (o.turn ≡ None)

@@ -34,16 +34,16 @@ with_update number past c physical = record past {
   tried = with_mark (c.number == number && goes_back c.status) physical past.tried;
 }
 
-abbrev pub told_of : ℕ → Past → Call → Request → Past
-told_of number past c (request.Update physical props) = with_update number past c physical
-told_of number past c _ = past
+abbrev pub noting_update : ℕ → Past → Call → Request → Past
+noting_update number past c (request.Update physical props) = with_update number past c physical
+noting_update number past c _ = past
 
-abbrev pub told_by : ℕ → Past → Call → Past
-told_by number past c = told_of number past c c.request
+abbrev pub noting_call : ℕ → Past → Call → Past
+noting_call number past c = noting_update number past c c.request
 
 -- Marked are just the ids of resources that were updated in place, given back, and called to be given back; the paths that are
 -- skipped, and those at which a call is open.
-pub record IsPast (s : StackState) (past : Past) : Type 0 where
+pub record AreMarksOf (s : StackState) (past : Past) : Type 0 where
   pub updated : (physical : List ℕ) → is_marked physical past.updated ≡ was_updated physical s
   pub restored : (physical : List ℕ) → is_marked physical past.restored ≡ was_restored physical s
   pub tried : (physical : List ℕ) → is_marked physical past.tried ≡ has_restore physical s

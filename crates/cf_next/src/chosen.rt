@@ -3,7 +3,7 @@ ghost use Rattle.std.specs.Prelude.{◌≡◌, None, Some, Err, IfOk};
 ghost use Rattle.cf_entry.specs.declared.entry.Entry.{Entry};
 ghost use Rattle.cf_plan.specs.Follow.{MayFollow};
 ghost use Rattle.cf_next.specs.declared.chosen.NextFault.TheVariants.{NoStep};
-ghost use Rattle.cf_next.specs.Chosen.{HasNoStep, IsInProgress, IsNext, entry_of, leases_of, schemas_of};
+ghost use Rattle.cf_next.specs.Chosen.{HasNoStep, IsInProgress, IsNext, entry_for, leases_of, schemas_of};
 ghost use Rattle.cf_next.specs.First.{first_begun};
 ghost use Rattle.cf_next.specs.Forward.{IsOverviewIn};
 ghost use Rattle.cf_next.specs.Offer.{IsOfferOn};
@@ -183,7 +183,7 @@ pub fn next(alloc: Global, world: &mut World, number: u64, homes: &Homes) -> Res
     requires { IsInProgress world.old.world number }
     ensures stays { world.new ≡ world.old }
     ensures chosen { IfOk result (λ n. IsNext (schemas_of homes.now) world.old.world (leases_of homes.now) number n) }
-    ensures may_follow { IfOk result (λ n. (e : Entry) → entry_of number n ≡ Some e
+    ensures may_follow { IfOk result (λ n. (e : Entry) → entry_for number n ≡ Some e
         → MayFollow (schemas_of homes.now) world.old.world (leases_of homes.now) e) }
     ensures no_step { result ≡ Err NoStep → HasNoStep (schemas_of homes.now) world.old.world (leases_of homes.now) number }
 {

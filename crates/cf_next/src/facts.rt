@@ -5,7 +5,7 @@ ghost use Rattle.cf_tree.specs.Lists.{is_among};
 ghost use Rattle.cf_effect.specs.declared.held.Held.{Held as Resource};
 ghost use Rattle.cf_plan.specs.Follow.{is_free};
 ghost use Rattle.cf_next.specs.Facts.{AreFacts, with_doubted, with_open, with_policy};
-ghost use Rattle.cf_next.specs.Lookups.{has};
+ghost use Rattle.cf_next.specs.Lookups.{has_key};
 ghost use Rattle.cf_next.specs.Repeats.{retained_in};
 ghost use Rattle.cf_next.specs.Unmaking.{is_cleanup, is_doubted, is_needed, policy_at, stage_in};
 
@@ -63,7 +63,7 @@ fn opened_at<'a>(alloc: Global, tokens: &'a [Pending]) -> Result<LentSet<'a>, Al
 
 /// The paths with an open call.
 fn open_paths<'a>(alloc: Global, stack: &'a StackState) -> Result<LentSet<'a>, AllocError>
-    ensures { IfOk result (λ paths. (path : List ℕ) → has path paths ≡ not (is_free path stack.now.stack)) }
+    ensures { IfOk result (λ paths. (path : List ℕ) → has_key path paths ≡ not (is_free path stack.now.stack)) }
 {
     opened_at(alloc, stack.tokens().as_slice())
 }
@@ -106,7 +106,7 @@ fn doubted_for<'a>(
     stage: Unmaking,
     stack: &'a StackState,
 ) -> Result<LentSet<'a>, AllocError>
-    ensures { IfOk result (λ ids. (id : List ℕ) → has id ids ≡ (is_cleanup stage && is_doubted id stack.now.stack)) }
+    ensures { IfOk result (λ ids. (id : List ℕ) → has_key id ids ≡ (is_cleanup stage && is_doubted id stack.now.stack)) }
 {
     if is_cleanup(stage) {
         doubted_by(alloc, stack, stack.tokens().as_slice())
@@ -158,7 +158,7 @@ fn needed_set<'a>(
     stage: Unmaking,
     stack: &'a StackState,
 ) -> Result<LentSet<'a>, AllocError>
-    ensures { IfOk result (λ ids. (r : Resource) → has r.physical ids ≡ is_needed stage stack.now.stack r) }
+    ensures { IfOk result (λ ids. (r : Resource) → has_key r.physical ids ≡ is_needed stage stack.now.stack r) }
 {
     let ids = needed_for(alloc, stage, stack)?;
     let set = set_of(alloc, ids.as_slice());

@@ -3,7 +3,7 @@ ghost use Rattle.std.specs.Prelude.{◌≡◌, ℕ, ◌↔◌, List, None, false
 ghost use Rattle.std.specs.List.{list_any};
 ghost use Rattle.cf_plan.specs.Follow.{AreFailed, is_cleared, is_failed_status};
 ghost use Rattle.cf_next.specs.declared.step.Next.TheVariants as next;
-ghost use Rattle.cf_next.specs.Joining.{HasNothing, IsLastBy, end_of, has_lane};
+ghost use Rattle.cf_next.specs.Joining.{HasNothing, IsLastBy, end_status, has_lane};
 
 use crate::home::has_lane;
 use crate::offer::{Offer, Turn};
@@ -54,7 +54,7 @@ fn has_nothing(world: &World, open: &Offer) -> bool
 
 /// The status in which an operation ends that is at its end.
 fn end_of(stack: &StackState, is_made: bool) -> Option<Status>
-    ensures { result ≡ end_of stack.now.stack.status is_made (is_cleared stack.now.stack) }
+    ensures { result ≡ end_status stack.now.stack.status is_made (is_cleared stack.now.stack) }
 {
     match stack.status() {
         Status::CreateInProgress => {

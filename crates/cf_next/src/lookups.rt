@@ -5,7 +5,7 @@ ghost use Rattle.std.specs.Ordering.{nat_cmp};
 ghost use Rattle.std.specs.Cmp.Lexicographic.{slice_cmp};
 ghost use Rattle.cf_tree.specs.Keys.{ascends, place, put, value_at};
 ghost use Rattle.cf_tree.specs.Lists.{is_among};
-ghost use Rattle.cf_next.specs.Lookups.{has, with_first};
+ghost use Rattle.cf_next.specs.Lookups.{has_key, with_first};
 
 use cf_tree::{Listing, Txt};
 use std::alloc::{AllocError, Global};
@@ -185,7 +185,7 @@ impl<'a, V> LentMap<'a, V> {
 
     /// Whether there is something under a name.
     pub(crate) fn has(&self, name: &Txt) -> bool
-        ensures { result ≡ has name.now self.now }
+        ensures { result ≡ has_key name.now self.now }
     {
         self.get(name).is_some()
     }
@@ -228,7 +228,7 @@ fn joined<'a>(alloc: Global, names: &[Lent<'a>]) -> Result<LentSet<'a>, AllocErr
 
 /// The set of these names.
 pub(crate) fn set_of<'a>(alloc: Global, names: &[Lent<'a>]) -> Result<LentSet<'a>, AllocError>
-    ensures { IfOk result (λ set. (name : List ℕ) → has name set ≡ is_among name names.now) }
+    ensures { IfOk result (λ set. (name : List ℕ) → has_key name set ≡ is_among name names.now) }
 {
     joined(alloc, names)
 }

@@ -5,7 +5,7 @@ ghost use Rattle.cf_effect.specs.Calls.{succeeded};
 ghost use Rattle.cf_effect.specs.Operation.{named_in, was_skipped};
 ghost use Rattle.cf_effect.specs.Status.{goes_back, goes_forward};
 ghost use Rattle.cf_plan.specs.Follow.{is_free};
-ghost use Rattle.cf_next.specs.Restoring.{IsPast, is_marked, told_by, with_mark, with_marks, with_update};
+ghost use Rattle.cf_next.specs.Restoring.{AreMarksOf, is_marked, noting_call, with_mark, with_marks, with_update};
 
 use crate::marks::{Marks, mark, mark_all};
 use cf_entry::{Begun, Entry, Status};
@@ -72,7 +72,7 @@ fn note_update<'a>(
 
 /// Marks what a call tells. After an error nothing is said of the marks.
 fn note<'a>(past: &mut Past<'a>, number: u64, call: &'a Call) -> Result<(), AllocError>
-    ensures { IfOk result (λ _. past.new ≡ told_by number past.old call.now) }
+    ensures { IfOk result (λ _. past.new ≡ noting_call number past.old call.now) }
 {
     match &call.request {
         Request::Update { physical, props: _ } => note_update(past, number, call, physical),
@@ -82,7 +82,7 @@ fn note<'a>(past: &mut Past<'a>, number: u64, call: &'a Call) -> Result<(), Allo
 
 /// Marks what these calls tell. After an error nothing is said of the marks.
 fn note_all<'a>(past: &mut Past<'a>, number: u64, calls: &'a [Call]) -> Result<(), AllocError>
-    ensures { IfOk result (λ _. past.new ≡ fold (told_by number) past.old calls.now) }
+    ensures { IfOk result (λ _. past.new ≡ fold (noting_call number) past.old calls.now) }
 {
     for call in calls {
         note(past, number, call)?;
@@ -153,7 +153,7 @@ fn called_paths<'a>(alloc: Global, stack: &'a StackState) -> Result<Marks<'a>, A
 
 /// What is known of the resources of a stack.
 pub(crate) fn past_of<'a>(alloc: Global, stack: &'a StackState) -> Result<Past<'a>, AllocError>
-    ensures { IfOk result (λ past. IsPast stack.now.stack past) }
+    ensures { IfOk result (λ past. AreMarksOf stack.now.stack past) }
 {
     let skipped = skipped_paths(alloc, stack)?;
     let called = called_paths(alloc, stack)?;

@@ -4,7 +4,7 @@ ghost use Rattle.std.specs.Option.{option_copied};
 ghost use Rattle.cf_tree.specs.Lists.{is_among};
 ghost use Rattle.cf_effect.specs.Words.{is_create};
 ghost use Rattle.cf_next.specs.Facts.{AreAdded, IsAdded, IsRemovalAdded};
-ghost use Rattle.cf_next.specs.Facts.{deletion_of, doubted_by, given_up, is_kept, keeping};
+ghost use Rattle.cf_next.specs.Facts.{deletion_start, doubted_by, creates_given_up, is_kept, keeping_for};
 ghost use Rattle.cf_next.specs.Facts.{may_delete, refused_by, retention_of, undeleted_by};
 ghost use Rattle.cf_next.specs.Unmaking.{is_kept_by};
 
@@ -57,7 +57,7 @@ fn add_deletion<'a>(
     facts: &Facts,
     held: &'a Held,
 ) -> Result<(), AllocError>
-    ensures { IfOk result (λ _. starts.new ≡ starts.old ++ deletion_of facts.now held.now) }
+    ensures { IfOk result (λ _. starts.new ≡ starts.old ++ deletion_start facts.now held.now) }
 {
     if facts.busy.has(&held.path) {
         return Ok(());
@@ -73,7 +73,7 @@ fn add_keeping(
     held: &Held,
     why: Why,
 ) -> Result<(), AllocError>
-    ensures { IfOk result (λ _. keepings.new ≡ keepings.old ++ keeping held.now why ∷ []) }
+    ensures { IfOk result (λ _. keepings.new ≡ keepings.old ++ keeping_for held.now why ∷ []) }
 {
     let path = held.path.try_clone(alloc)?;
     let physical = held.physical.try_clone(alloc)?;
@@ -219,7 +219,7 @@ fn add_given_up(
     retained: &[Lent],
     pending: &Pending,
 ) -> Result<(), AllocError>
-    ensures { IfOk result (λ _. keepings.new ≡ keepings.old ++ given_up retained.now pending.now) }
+    ensures { IfOk result (λ _. keepings.new ≡ keepings.old ++ creates_given_up retained.now pending.now) }
 {
     if is_given_up(retained, pending) {
         let path = pending.path.try_clone(alloc)?;
@@ -241,7 +241,7 @@ pub(crate) fn add_all_given_up(
     retained: &[Lent],
     tokens: &[Pending],
 ) -> Result<(), AllocError>
-    ensures { IfOk result (λ _. keepings.new ≡ keepings.old ++ flat_map (given_up retained.now) tokens.now) }
+    ensures { IfOk result (λ _. keepings.new ≡ keepings.old ++ flat_map (creates_given_up retained.now) tokens.now) }
 {
     for pending in tokens {
         add_given_up(alloc, keepings, retained, pending)?;

@@ -9,7 +9,7 @@ ghost use Rattle.cf_effect.specs.Words.{is_update};
 ghost use Rattle.cf_effect.specs.World.{World};
 ghost use Rattle.cf_plan.specs.Follow.{has_refused_restore};
 ghost use Rattle.cf_next.specs.Offer.{IsOffer};
-ghost use Rattle.cf_next.specs.Restoring.{IsPast, is_restored, is_to_restore, may_restore, restore_of, restores, restores_out, turn_restored};
+ghost use Rattle.cf_next.specs.Restoring.{AreMarksOf, is_restored, is_to_restore, may_restore, restore_of, restores, restores_out, turn_restored};
 
 use crate::marks::is_marked;
 use crate::offer::{Keepings, Offer, Turn};
@@ -23,7 +23,7 @@ use std::alloc::{AllocError, Global};
 
 /// Whether a resource of before is to be given back what it had.
 fn is_to_restore(stack: &StackState, past: &Past, held: &Held) -> bool
-    requires { IsPast stack.now.stack past.now }
+    requires { AreMarksOf stack.now.stack past.now }
     ensures { result ≡ is_to_restore stack.now.stack held.now }
 {
     is_marked(&past.updated, &held.physical)
@@ -33,7 +33,7 @@ fn is_to_restore(stack: &StackState, past: &Past, held: &Held) -> bool
 
 /// Whether a call may begin that gives a resource of before back what it had, if no repeat is waited for.
 fn may_restore(stack: &StackState, past: &Past, held: &Held) -> bool
-    requires { IsPast stack.now.stack past.now }
+    requires { AreMarksOf stack.now.stack past.now }
     ensures { result ≡ may_restore stack.now.stack held.now }
 {
     is_to_restore(stack, past, held)
@@ -58,7 +58,7 @@ fn add_restores<'a>(
     starts: &mut Starts<'a>,
     helds: &'a [Held],
 ) -> Result<(), AllocError>
-    requires { IsPast stack.now.stack past.now }
+    requires { AreMarksOf stack.now.stack past.now }
     ensures { IfOk result (λ _. starts.new ≡ starts.old ++ restores stack.now.stack helds.now) }
 {
     for held in helds {
@@ -76,7 +76,7 @@ fn restores_out<'a>(
     past: &Past,
     out: &[u64],
 ) -> Result<Starts<'a>, AllocError>
-    requires { IsPast stack.now.stack past.now }
+    requires { AreMarksOf stack.now.stack past.now }
     ensures { IfOk result (λ starts. starts ≡ restores_out out.now stack.now.stack) }
 {
     let mut starts = Starts::new(alloc);
@@ -88,7 +88,7 @@ fn restores_out<'a>(
 
 /// Whether one of these resources of before is to be given back what it had.
 fn has_to_restore(stack: &StackState, past: &Past, helds: &[Held]) -> bool
-    requires { IsPast stack.now.stack past.now }
+    requires { AreMarksOf stack.now.stack past.now }
     ensures { result ≡ list_any (is_to_restore stack.now.stack) helds.now }
 {
     helds.iter().any(|held| is_to_restore(stack, past, held))
@@ -128,7 +128,7 @@ fn has_refused_restore(stack: &StackState) -> bool
 
 /// Whether all is given back.
 fn is_restored(stack: &StackState, past: &Past) -> bool
-    requires { IsPast stack.now.stack past.now }
+    requires { AreMarksOf stack.now.stack past.now }
     ensures { result ≡ is_restored stack.now.stack }
 {
     stack.tokens().as_slice().len() == 0

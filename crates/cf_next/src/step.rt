@@ -1,6 +1,6 @@
 //! The steps of an operation, and their order.
 ghost use Rattle.std.specs.Prelude.{◌≡◌, ◌==◌, ◌&&◌, ◌||◌, nat_lt};
-ghost use Rattle.cf_next.specs.Chosen.{physical_id_of, place_of, precedes};
+ghost use Rattle.cf_next.specs.Chosen.{physical_id_of, step_place, precedes};
 ghost use Rattle.cf_next.specs.Due.{is_step_before};
 ghost use Rattle.cf_next.specs.Joining.{is_same_step, is_same_call, is_same_request, is_same_why};
 
@@ -41,7 +41,7 @@ pub enum Next {
 
 /// Repeats come first, then new calls and what is kept, then a phase or the end.
 fn rank_of(step: &Next) -> u8
-    ensures { result ≡ (place_of step.now).rank }
+    ensures { result ≡ (step_place step.now).rank }
 {
     match step {
         Next::Step { repeated: true, .. } => 0,
@@ -58,7 +58,7 @@ fn rank_of(step: &Next) -> u8
 
 /// The token by which a step has its place.
 fn token_of(step: &Next) -> u64
-    ensures { result ≡ (place_of step.now).token }
+    ensures { result ≡ (step_place step.now).token }
 {
     match step {
         Next::Step {
@@ -90,7 +90,7 @@ fn physical_id_of(request: &Request) -> &str
 
 /// The path by which a step has its place.
 fn path_of(step: &Next) -> &str
-    ensures { result.now ≡ (place_of step.now).path }
+    ensures { result.now ≡ (step_place step.now).path }
 {
     match step {
         Next::Step { repeated: true, .. } => "",
@@ -108,7 +108,7 @@ fn path_of(step: &Next) -> &str
 
 /// The physical id by which a step has its place.
 fn physical_of(step: &Next) -> &str
-    ensures { result.now ≡ (place_of step.now).physical }
+    ensures { result.now ≡ (step_place step.now).physical }
 {
     match step {
         Next::Step { repeated: true, .. } => "",
@@ -126,16 +126,16 @@ fn physical_of(step: &Next) -> &str
 
 /// Whether one step precedes another by path, and then by physical id.
 fn precedes(a: &Next, b: &Next) -> bool
-    ensures { result ≡ precedes ((place_of a.now).path, (place_of a.now).physical) ((place_of b.now).path, (place_of b.now).physical) }
+    ensures { result ≡ precedes ((step_place a.now).path, (step_place a.now).physical) ((step_place b.now).path, (step_place b.now).physical) }
 {
     path_of(a) < path_of(b) || (path_of(a) == path_of(b) && physical_of(a) < physical_of(b))
 }
 
 /// Whether one of two steps of the same rank precedes the other.
 fn is_before_in_rank(a: &Next, b: &Next) -> bool
-    ensures { result ≡ (nat_lt (place_of a.now).token (place_of b.now).token
-        || ((place_of a.now).token == (place_of b.now).token
-        && precedes ((place_of a.now).path, (place_of a.now).physical) ((place_of b.now).path, (place_of b.now).physical))) }
+    ensures { result ≡ (nat_lt (step_place a.now).token (step_place b.now).token
+        || ((step_place a.now).token == (step_place b.now).token
+        && precedes ((step_place a.now).path, (step_place a.now).physical) ((step_place b.now).path, (step_place b.now).physical))) }
 {
     token_of(a) < token_of(b) || (token_of(a) == token_of(b) && precedes(a, b))
 }

@@ -8,7 +8,7 @@ use Rattle.std.specs.Cmp.Lexicographic.{slice_cmp, nat_list_cmp_total}
 use Rattle.std.specs.Str.{bytes_eq}
 use Rattle.std.proofs.lemmas.Slice.Eq.{bytes_eq-Decides}
 use Rattle.cf_tree.specs.Keys.{bytes_lt, ascends_from, ascends}
-use Rattle.cf_param.specs.Offered.{are_distinct, has_name}
+use Rattle.cf_param.specs.Offered.{names_distinct, has_name}
 
 is_less : (o : Ordering) → is_lt o ≡ true → o ≡ Less
 is_less Less h = refl
@@ -48,12 +48,12 @@ absent k (p ∷ ps) h =
     let below = first_so (bytes_lt k p.0) (ascends_from p.0 ps) h in
     neither (bytes_eq k p.0) (has_name k ps) (unlike k p.0 below) (absent k ps (past k p ps below (second_so (bytes_lt k p.0) (ascends_from p.0 ps) h)))
 
-distinct_from : {X : Type 0} (k : List ℕ) (ps : List (List ℕ × X)) → ascends_from k ps ≡ true → are_distinct ps ≡ true
+distinct_from : {X : Type 0} (k : List ℕ) (ps : List (List ℕ × X)) → ascends_from k ps ≡ true → names_distinct ps ≡ true
 distinct_from k [] h = refl
 distinct_from k (p ∷ ps) h =
     let rest = second_so (bytes_lt k p.0) (ascends_from p.0 ps) h in
-    both (has_name p.0 ps) (are_distinct ps) (absent p.0 ps rest) (distinct_from p.0 ps rest)
+    both (has_name p.0 ps) (names_distinct ps) (absent p.0 ps rest) (distinct_from p.0 ps rest)
 
-pub distinct : {X : Type 0} (ps : List (List ℕ × X)) → ascends ps ≡ true → are_distinct ps ≡ true
+pub distinct : {X : Type 0} (ps : List (List ℕ × X)) → ascends ps ≡ true → names_distinct ps ≡ true
 distinct [] h = refl
-distinct (p ∷ ps) h = both (has_name p.0 ps) (are_distinct ps) (absent p.0 ps h) (distinct_from p.0 ps h)
+distinct (p ∷ ps) h = both (has_name p.0 ps) (names_distinct ps) (absent p.0 ps h) (distinct_from p.0 ps h)

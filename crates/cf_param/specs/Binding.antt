@@ -25,11 +25,11 @@ use Rattle.cf_param.specs.declared.offered.Piece.TheVariants as piece
 use Rattle.cf_param.specs.Pattern.{is_usable, any_unmatched}
 
 -- the texts that the constraints of a parameter look at: its text, or the members of its list
-abbrev pub parts_of : Kind → List ℕ → List (List ℕ)
-parts_of Text t = t ∷ []
-parts_of Number t = t ∷ []
-parts_of Numbers t = members_of t
-parts_of Commas t = members_of t
+abbrev pub constrained_texts : Kind → List ℕ → List (List ℕ)
+constrained_texts Text t = t ∷ []
+constrained_texts Number t = t ∷ []
+constrained_texts Numbers t = members_of t
+constrained_texts Commas t = members_of t
 
 -- the kinds of parameters that each constraint is for
 abbrev pub is_numeric : Kind → Bool
@@ -57,8 +57,8 @@ is_shorter least t = option_map_or (λ n. nat_lt (length (chars t)) n) least fal
 abbrev pub is_longer : Option ℕ → List ℕ → Bool
 is_longer most t = option_map_or (λ n. nat_lt n (length (chars t))) most false
 
-abbrev pub is_smaller : Option ℤ → List ℕ → Bool
-is_smaller least t = option_map_or (λ n. option_map_or (λ x. int_lt x n) (number_of t) false) least false
+abbrev pub is_below : Option ℤ → List ℕ → Bool
+is_below least t = option_map_or (λ n. option_map_or (λ x. int_lt x n) (number_of t) false) least false
 
 abbrev pub is_larger : Option ℤ → List ℕ → Bool
 is_larger most t = option_map_or (λ n. option_map_or (λ x. int_lt n x) (number_of t) false) most false
@@ -78,7 +78,7 @@ abbrev pub breaks : Param → List (List ℕ) → Breach → Bool
 breaks p ts breach.NotANumber = is_numeric p.kind && list_any (λ t. is_none (number_of t)) ts
 breaks p ts breach.TooShort = has_length p.kind && list_any (is_shorter p.min_length) ts
 breaks p ts breach.TooLong = has_length p.kind && list_any (is_longer p.max_length) ts
-breaks p ts breach.TooSmall = has_size p.kind && list_any (is_smaller p.min_value) ts
+breaks p ts breach.TooSmall = has_size p.kind && list_any (is_below p.min_value) ts
 breaks p ts breach.TooLarge = has_size p.kind && list_any (is_larger p.max_value) ts
 breaks p ts breach.NotAllowed = list_any (is_foreign p.allowed) ts
 breaks p ts breach.BadPattern = has_pattern p.kind && is_unusable p.pattern
@@ -99,37 +99,39 @@ abbrev pub breach_of : Param → List (List ℕ) → Option Breach
 breach_of p ts = find (breaks p ts) (plain_constraints ++ pattern_constraints)
 
 -- how a breach is told
-abbrev pub fault_of : List ℕ → Breach → BindFault
-fault_of name breach.NotANumber = fault.NotANumber name
-fault_of name breach.TooShort = fault.TooShort name
-fault_of name breach.TooLong = fault.TooLong name
-fault_of name breach.TooSmall = fault.TooSmall name
-fault_of name breach.TooLarge = fault.TooLarge name
-fault_of name breach.NotAllowed = fault.NotAllowed name
-fault_of name breach.BadPattern = fault.BadPattern name
-fault_of name breach.NoMatch = fault.NoMatch name
+abbrev pub breach_fault : List ℕ → Breach → BindFault
+breach_fault name breach.NotANumber = fault.NotANumber name
+breach_fault name breach.TooShort = fault.TooShort name
+breach_fault name breach.TooLong = fault.TooLong name
+breach_fault name breach.TooSmall = fault.TooSmall name
+breach_fault name breach.TooLarge = fault.TooLarge name
+breach_fault name breach.NotAllowed = fault.NotAllowed name
+breach_fault name breach.BadPattern = fault.BadPattern name
+breach_fault name breach.NoMatch = fault.NoMatch name
 
 -- the value of a parameter: its text, or the list of the members
-abbrev pub value_of : Kind → List ℕ → Val
-value_of Text t = val.Text t
-value_of Number t = val.Text t
-value_of Numbers t = val.List (map tree.text (members_of t))
-value_of Commas t = val.List (map tree.text (members_of t))
+abbrev pub setting_value : Kind → List ℕ → Val
+setting_value Text t = val.Text t
+setting_value Number t = val.Text t
+setting_value Numbers t = val.List (map tree.text (members_of t))
+setting_value Commas t = val.List (map tree.text (members_of t))
 
 -- what a text binds a parameter to
-abbrev pub setting_of : Param → List ℕ → Result Setting BindFault
-setting_of p t = option_map_or (λ b. Err (fault_of p.name b)) (breach_of p (parts_of p.kind t)) (Ok (setting.Value (value_of p.kind t)))
+abbrev pub setting_from : Param → List ℕ → Result Setting BindFault
+setting_from p t =
+    option_map_or (λ b. Err (breach_fault p.name b)) (breach_of p (constrained_texts p.kind t))
+    (Ok (setting.Value (setting_value p.kind t)))
 
 -- what stands in where nothing is given
 abbrev pub default_of : Param → Option (List ℕ) → Result Setting BindFault
 default_of p None = Err (fault.Missing p.name)
-default_of p (Some t) = setting_of p t
+default_of p (Some t) = setting_from p t
 
 -- what is given, or else the default; what is not known yet breaks no constraint
 abbrev pub bound_to : Param → Option Piece → Result Setting BindFault
 bound_to p None = default_of p p.default
 bound_to p (Some piece.Later) = Ok setting.Later
-bound_to p (Some (piece.Text t)) = setting_of p t
+bound_to p (Some (piece.Text t)) = setting_from p t
 
 -- what follows from a value; a fault stays
 abbrev pub and_then : {A B : Type 0} → Result A BindFault → (A → Result B BindFault) → Result B BindFault

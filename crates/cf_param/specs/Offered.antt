@@ -9,5 +9,5 @@ abbrev pub has_name : {X : Type 0} → List ℕ → List (List ℕ × X) → Boo
 has_name name ps = list_any (λ p. bytes_eq name p.0) ps
 
 -- no name stands twice
-abbrev pub are_distinct : {X : Type 0} → List (List ℕ × X) → Bool
-are_distinct = all_differ (λ p q. bytes_eq p.0 q.0)
+abbrev pub names_distinct : {X : Type 0} → List (List ℕ × X) → Bool
+names_distinct = all_differ (λ p q. bytes_eq p.0 q.0)

@@ -1,4 +1,5 @@
--- Patterns by the grammar of `regex`, and whether one matches a whole text.
+-- Patterns by the grammar of `regex`, and whether one matches a whole text (template reference, AllowedPattern; the grammar is that of
+-- the crate, this project's own choice).
 use Rattle.std.specs.Prelude.{ℕ, ◌++◌, List, Option, Some, None, Bool, false, ◌&&◌, codes, chars, nat_le, is_some, not}
 use Rattle.std.specs.List.{list_any}
 use Rattle.regex.specs.Patterns.{Re, find_str, default_config}

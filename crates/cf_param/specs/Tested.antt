@@ -1,4 +1,4 @@
--- What a test of texts against a pattern tells.
+-- What a test of texts against a pattern tells (this project's own).
 use Rattle.std.specs.Prelude.{◌≡◌, ℕ, List, Bool, true, false, if◌then◌else◌, Option, Some, None, Result, Ok, Err, ⊤}
 use Rattle.cf_param.specs.declared.patterns.PatternFault.{PatternFault}
 use Rattle.cf_param.specs.declared.patterns.PatternFault.TheVariants.{BadPattern, NoMemory}
@@ -11,10 +11,10 @@ IsPatternFault pattern BadPattern = is_pattern pattern ≡ false
 IsPatternFault pattern NoMemory = ⊤
 
 -- the test is made of a usable pattern, and else the pattern is to blame
-abbrev pub Tests : List ℕ → List (List ℕ) → Result Bool PatternFault → Type 0
-Tests pattern ts (Ok b) = (is_usable pattern ≡ true) × (b ≡ any_unmatched pattern ts)
-Tests pattern ts (Err BadPattern) = is_usable pattern ≡ false
-Tests pattern ts (Err NoMemory) = ⊤
+abbrev pub TestsPattern : List ℕ → List (List ℕ) → Result Bool PatternFault → Type 0
+TestsPattern pattern ts (Ok b) = (is_usable pattern ≡ true) × (b ≡ any_unmatched pattern ts)
+TestsPattern pattern ts (Err BadPattern) = is_usable pattern ≡ false
+TestsPattern pattern ts (Err NoMemory) = ⊤
 
 -- the first constraint on a pattern that the texts break
 abbrev pub breach_by : List ℕ → List (List ℕ) → Option Breach

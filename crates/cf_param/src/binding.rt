@@ -2,8 +2,8 @@ ghost use Rattle.std.specs.Prelude.{◌≡◌, [], ◌∷◌, IfOk, map, option_
 ghost use Rattle.std.specs.Option.{option_copied};
 ghost use Rattle.cf_tree.specs.Datum.{text};
 ghost use Rattle.cf_funcs.specs.Pieces.{members_of};
-ghost use Rattle.cf_param.specs.Fault.{Binds, Faults};
-ghost use Rattle.cf_param.specs.Binding.{binding_of, bound_to, breach_of, default_of, fault_of, parts_of, setting_of, settings_of, undeclared, value_of};
+ghost use Rattle.cf_param.specs.Fault.{Binds, BindFaults};
+ghost use Rattle.cf_param.specs.Binding.{binding_of, bound_to, breach_of, default_of, breach_fault, constrained_texts, setting_from, settings_of, undeclared, setting_value};
 
 use crate::constraints::{Breach, plain_breach};
 use crate::fault::BindFault;
@@ -86,7 +86,7 @@ fn default(alloc: Global, param: &Param) -> Result<Setting, BindFault>
 
 /// What a text binds a parameter to.
 fn setting(alloc: Global, param: &Param, text: &str) -> Result<Setting, BindFault>
-    ensures { Binds (setting_of param.now text.now) result }
+    ensures { Binds (setting_from param.now text.now) result }
 {
     let parts = parts(alloc, param.kind, text)?;
     match breach(alloc, param, parts.as_slice())? {
@@ -97,7 +97,7 @@ fn setting(alloc: Global, param: &Param, text: &str) -> Result<Setting, BindFaul
 
 /// The texts that the constraints of a parameter look at.
 fn parts(alloc: Global, kind: Kind, text: &str) -> Result<Names, NoMemory>
-    ensures { IfOk result (λ ts. ts ≡ parts_of kind text.now) }
+    ensures { IfOk result (λ ts. ts ≡ constrained_texts kind text.now) }
 {
     match kind {
         Kind::Text | Kind::Number => one(alloc, text),
@@ -138,7 +138,7 @@ fn breach(alloc: Global, param: &Param, parts: &[Txt]) -> Result<Option<Breach>,
 
 /// How a breach is told.
 fn fault(alloc: Global, name: &Txt, breach: Breach) -> BindFault
-    ensures { Faults (fault_of name.now breach) result }
+    ensures { BindFaults (breach_fault name.now breach) result }
 {
     let Ok(name) = name.try_clone(alloc) else {
         return BindFault::NoMemory;
@@ -157,8 +157,8 @@ fn fault(alloc: Global, name: &Txt, breach: Breach) -> BindFault
 
 /// The value of a parameter.
 fn value(alloc: Global, kind: Kind, text: &str, parts: Names) -> Result<Val, AllocError>
-    requires { parts ≡ parts_of kind text.now }
-    ensures { IfOk result (λ v. v ≡ value_of kind text.now) }
+    requires { parts ≡ constrained_texts kind text.now }
+    ensures { IfOk result (λ v. v ≡ setting_value kind text.now) }
 {
     match kind {
         Kind::Text | Kind::Number => Ok(Val::Text(Txt::from_str(alloc, text)?)),

@@ -1,7 +1,7 @@
 ghost use Rattle.std.specs.Prelude.{◌≡◌, chars, length, is_none};
 ghost use Rattle.std.specs.List.{list_any};
 ghost use Rattle.cf_funcs.specs.Number.{number_of};
-ghost use Rattle.cf_param.specs.Binding.{breaks, is_foreign, is_larger, is_longer, is_shorter, is_smaller, plain_breach_of};
+ghost use Rattle.cf_param.specs.Binding.{breaks, is_foreign, is_larger, is_longer, is_shorter, is_below, plain_breach_of};
 
 use cf_funcs::number;
 use cf_tree::{Kind, Names, Param, Txt};
@@ -110,7 +110,7 @@ fn any_longer(most: Option<u64>, parts: &[Txt]) -> bool
 }
 
 fn any_smaller(least: Option<i128>, parts: &[Txt]) -> bool
-    ensures { result ≡ list_any (is_smaller least) parts.now }
+    ensures { result ≡ list_any (is_below least) parts.now }
 {
     parts.iter().any(|part| is_smaller(least, part.as_str()))
 }
@@ -140,7 +140,7 @@ fn is_longer(most: Option<u64>, text: &str) -> bool
 }
 
 fn is_smaller(least: Option<i128>, text: &str) -> bool
-    ensures { result ≡ is_smaller least text.now }
+    ensures { result ≡ is_below least text.now }
 {
     match (least, number(text)) {
         (Some(least), Some(size)) => size < least,

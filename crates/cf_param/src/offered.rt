@@ -1,7 +1,7 @@
 ghost use Rattle.std.specs.Prelude.{◌≡◌, [], Some, None, length, if◌then◌else◌};
 ghost use Rattle.std.specs.Option.{option_copied};
 ghost use Rattle.cf_tree.specs.Keys.{value_at};
-ghost use Rattle.cf_param.specs.Offered.{are_distinct, has_name};
+ghost use Rattle.cf_param.specs.Offered.{names_distinct, has_name};
 
 use cf_tree::{ByName, Txt};
 use std::alloc::Global;
@@ -25,13 +25,13 @@ pub struct Given {
 impl Model for Given {
     ghost use Rattle.std.specs.Prelude.{List, ℕ, IsTrue};
     ghost use Rattle.cf_param.specs.declared.offered.Piece.{Piece};
-    ghost use Rattle.cf_param.specs.Offered.{are_distinct};
+    ghost use Rattle.cf_param.specs.Offered.{names_distinct};
 
     ghost Value = { List (List ℕ × Piece) };
 
     ghost view = { λ g. g.items.items };
 
-    ghost invariant = { λ g. IsTrue (are_distinct g.items.items) };
+    ghost invariant = { λ g. IsTrue (names_distinct g.items.items) };
 }
 
 impl Given {
@@ -46,7 +46,7 @@ impl Given {
 
     /// What a vector gives, and None exactly where it has a name twice; it takes no memory.
     pub fn try_from_vec(items: Vec<(Txt, Piece)>) -> Option<Given>
-        ensures { result ≡ (if are_distinct items.items then Some items.items else None) }
+        ensures { result ≡ (if names_distinct items.items then Some items.items else None) }
     {
         if are_distinct(items.as_slice()) {
             Some(Given { items })
@@ -93,7 +93,7 @@ impl Given {
 }
 
 fn are_distinct(pairs: &[(Txt, Piece)]) -> bool
-    ensures { result ≡ are_distinct pairs.now }
+    ensures { result ≡ names_distinct pairs.now }
 {
     for at in 0..pairs.len() {
         if has_name(pairs[at].0.as_str(), &pairs[at + 1..]) {

@@ -3,7 +3,7 @@ ghost use Rattle.regex.specs.Patterns.{default_config, find_str};
 ghost use Rattle.regex.specs.Strings.{IsReadFromSource, matcher_pattern, regex_config, regex_source};
 ghost use Rattle.cf_param.specs.Binding.{breaks, pattern_constraints};
 ghost use Rattle.cf_param.specs.Pattern.{anchored, is_pattern};
-ghost use Rattle.cf_param.specs.Tested.{IsPatternFault, Tests, breach_by};
+ghost use Rattle.cf_param.specs.Tested.{IsPatternFault, TestsPattern, breach_by};
 
 use crate::constraints::Breach;
 use cf_tree::{Kind, NoMemory, Param, Txt};
@@ -47,7 +47,7 @@ fn breach_of(alloc: Global, pattern: &str, parts: &[Txt]) -> Result<Option<Breac
 
 /// Whether a text is there that the pattern doesn't match as a whole.
 fn unmatched(alloc: Global, pattern: &str, parts: &[Txt]) -> Result<bool, PatternFault>
-    ensures { Tests pattern.now parts.now result }
+    ensures { TestsPattern pattern.now parts.now result }
 {
     let alone = compiled(alloc, pattern)?;
     drop(alone);

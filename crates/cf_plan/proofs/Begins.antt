@@ -16,10 +16,13 @@ use Rattle.cf_schema.specs.declared.described.Schema.{Schema}
 use Rattle.cf_effect.specs.World.{StackState}
 use Rattle.cf_plan.specs.declared.forward.Wants.{Wants}
 use Rattle.cf_plan.specs.Between.{needs_at}
-use Rattle.cf_plan.specs.Forward.{In, here, there, IsDone, IsReady, plan_now}
+use Rattle.cf_plan.specs.Forward.{IsDone, IsReady, plan_now}
+use Rattle.cf_tree.specs.Lists.{there}
+use Rattle.cf_tree.specs.Lists.{here}
+use Rattle.cf_tree.specs.Lists.{In}
 use Rattle.cf_plan.specs.Follow.{IntendsForward, is_free}
-use Rattle.cf_plan.specs.Done.{AreDone, HasTerms, are_met, finding_by, needs_by}
-use Rattle.cf_plan.specs.Starts.{AreStarts, IsOneOf, may_start, starts_by, wants_by, with_start}
+use Rattle.cf_plan.specs.Done.{AreDone, HasTerms, are_met, finding_by, planned_needs}
+use Rattle.cf_plan.specs.Starts.{AreRequests, IsWanted, may_start, starts_by, wants_by, with_start}
 use Rattle.cf_plan.proofs.Doing.{all_met, met_all}
 use Rattle.cf_plan.proofs.Listed.{bytes_same, in_cons, in_none, map_more, or_cases, or_left, or_right, same_bytes}
 use Rattle.cf_plan.proofs.Starting.{intended}
@@ -119,37 +122,37 @@ module _ (schemas : List Schema) (s : StackState) (done : List (List ℕ)) (are 
   value_is : (p : List ℕ) (b : Bool) → (is_among p wants && may_start s terms done p) ≡ b → value_at p starts ≡ (if b then Some (wants_by schemas s p (finding_by p (plan_now s))) else None)
   value_is p b e = all_starts schemas s terms (plan_now s) done wants [] p ∙ ap (λ c. if c then Some (wants_by schemas s p (finding_by p (plan_now s))) else None) e
 
-  may_begin : (p : List ℕ) (r : Request) → (IsReady s p × ¬ IsDone s p × IsTrue (is_free p s) × IntendsForward schemas s p r) → IsOneOf (value_at p starts) r
+  may_begin : (p : List ℕ) (r : Request) → (IsReady s p × ¬ IsDone s p × IsTrue (is_free p s) × IntendsForward schemas s p r) → IsWanted (value_at p starts) r
   may_begin p r ((wanted, ready), new, free, intends) =
       let met = subst (λ ns. list_all (λ n. is_among n done) ns ≡ true) (sym (terms_are.needs p)) (met_all (needs_at p s) done (λ q m. (are q).0 (ready q m))) in
       let free_to = and_from (not (is_among p done)) (are_met p terms done && is_free p s) (not_true (is_among p done) (λ e. new ((are p).1 e))) (and_from (are_met p terms done) (is_free p s) met free) in
       let value = value_is p true (and_from (is_among p wants) (may_start s terms done p) (in_among p wants (subst (In p) (sym terms_are.paths) wanted)) free_to) in
-      subst (λ o. IsOneOf o r) (sym value) ((intended schemas s p (finding_by p (plan_now s)) refl r).0 intends)
+      subst (λ o. IsWanted o r) (sym value) ((intended schemas s p (finding_by p (plan_now s)) refl r).0 intends)
 
-  by_open : (p : List ℕ) (r : Request) (b : Bool) → (is_among p wants && may_start s terms done p) ≡ b → IsOneOf (if b then Some (wants_by schemas s p (finding_by p (plan_now s))) else None) r → IsReady s p × ¬ IsDone s p × IsTrue (is_free p s) × IntendsForward schemas s p r
+  by_open : (p : List ℕ) (r : Request) (b : Bool) → (is_among p wants && may_start s terms done p) ≡ b → IsWanted (if b then Some (wants_by schemas s p (finding_by p (plan_now s))) else None) r → IsReady s p × ¬ IsDone s p × IsTrue (is_free p s) × IntendsForward schemas s p r
   by_open p r false e i = absurd i
   by_open p r true e i =
       let (among, free_to) = and_parts (is_among p wants) (may_start s terms done p) e in
       let (new, rest) = and_parts (not (is_among p done)) (are_met p terms done && is_free p s) free_to in
       let (met, free) = and_parts (are_met p terms done) (is_free p s) rest in (
-        (subst (In p) terms_are.paths (among_in p wants among), λ q m. (are q).1 (all_met (needs_by p terms) done met q (subst (In q) (sym (terms_are.needs p)) m))),
+        (subst (In p) terms_are.paths (among_in p wants among), λ q m. (are q).1 (all_met (planned_needs p terms) done met q (subst (In q) (sym (terms_are.needs p)) m))),
         (λ d. true_not (is_among p done) new ((are p).0 d)),
         free,
         (intended schemas s p (finding_by p (plan_now s)) refl r).1 i,
       )
 
-  pub are_starts : AreStarts schemas s starts
+  pub are_starts : AreRequests schemas s starts
   are_starts p r = (
     may_begin p r,
     λ i. by_open p r (is_among p wants && may_start s terms done p) refl
-        (subst (λ o. IsOneOf o r) (value_is p (is_among p wants && may_start s terms done p) refl) i),
+        (subst (λ o. IsWanted o r) (value_is p (is_among p wants && may_start s terms done p) refl) i),
   )
 
 pub are_starts_by :
     (schemas : List Schema) (s : StackState) (terms now : Plan) (done : List (List ℕ)) → HasTerms s terms → now ≡ plan_now s → AreDone s done →
-    AreStarts schemas s (starts_by schemas s terms now done)
+    AreRequests schemas s (starts_by schemas s terms now done)
 are_starts_by schemas s terms now done terms_are f are =
-    subst (λ n. AreStarts schemas s (starts_by schemas s terms n done)) (sym f) (are_starts schemas s done are terms terms_are)
+    subst (λ n. AreRequests schemas s (starts_by schemas s terms n done)) (sym f) (are_starts schemas s done are terms terms_are)
 
 pub told : (r : Result (List (List ℕ × Wants)) AllocError) (v : List (List ℕ × Wants)) (P : List (List ℕ × Wants) → Type 0) → IfOk r (λ w. w ≡ v) → P v → IfOk r P
 told (Ok w) v P e p = subst P (sym e) p

@@ -14,9 +14,11 @@ use Rattle.cf_effect.specs.Words.{is_create, has_token, without_token, deletes}
 use Rattle.cf_effect.specs.Operation.{Response, is_doubt}
 use Rattle.cf_effect.specs.Calls.{is_success, is_refusal}
 use Rattle.cf_effect.specs.Reply.{still_open}
-use Rattle.cf_plan.specs.Forward.{In, here, there}
+use Rattle.cf_tree.specs.Lists.{there}
+use Rattle.cf_tree.specs.Lists.{here}
+use Rattle.cf_tree.specs.Lists.{In}
 use Rattle.cf_plan.specs.Follow.{IsCounted, settled_by}
-use Rattle.cf_plan.specs.Run.{Told}
+use Rattle.cf_plan.specs.Run.{LaneStates}
 use Rattle.cf_plan.proofs.CreatedRight.{in_filter, not_so}
 use Rattle.cf_plan.proofs.RunLists.{none_false, in_kept}
 use Rattle.cf_plan.proofs.BlameLanes.{IsCreated}
@@ -65,7 +67,7 @@ rose (reply.Failed c) before after h e = h.1
 rose reply.Doubt before after h e = h.1
 
 module _
-    (names : List (List ℕ)) (told told' : Told) (lanes : List (List ℕ × List ℕ)) (last : ℕ) (calls : List Pending) (replies : List Response)
+    (names : List (List ℕ)) (told told' : LaneStates) (lanes : List (List ℕ × List ℕ)) (last : ℕ) (calls : List Pending) (replies : List Response)
     (tokens : List Pending) (made : List Held) (h : AreBooked names told lanes last calls replies tokens made) (p : Pending) (i : In p tokens)
     (token : ℕ) (named : token ≡ p.token) (answer : Reply) (before after : ℕ) (counted : IsCounted answer before after) (made' : List Held)
     (from : (r : Held) → In r made' → From p answer made r)

@@ -10,9 +10,9 @@ use Rattle.cf_effect.specs.declared.held.Pending.{Pending}
 use Rattle.cf_effect.specs.Words.{has_token, is_create, deletes}
 use Rattle.cf_effect.specs.Operation.{Response, is_doubt}
 use Rattle.cf_effect.specs.Calls.{is_success, is_refusal}
-use Rattle.cf_plan.specs.Forward.{In}
+use Rattle.cf_tree.specs.Lists.{In}
 use Rattle.cf_plan.specs.Follow.{settled_by}
-use Rattle.cf_plan.specs.Run.{Told}
+use Rattle.cf_plan.specs.Run.{LaneStates}
 use Rattle.cf_plan.proofs.CreatedStays.{in_more, found_still, found_one}
 use Rattle.cf_plan.proofs.RunLists.{in_front, in_end, in_one, in_either, found_same, is_found_in}
 use Rattle.cf_plan.proofs.BlameLanes.{IsCreated}
@@ -42,14 +42,14 @@ abbrev pub IsOpen : ℕ → List Pending → Type 0
 IsOpen token ps = (p : Pending) × In p ps × (p.token ≡ token)
 
 -- a create that isn't open made what has this id, at this path
-pub record HasOrigin (names : List (List ℕ)) (told : Told) (calls tokens : List Pending) (id path : List ℕ) : Type 0 where
+pub record HasOrigin (names : List (List ℕ)) (told : LaneStates) (calls tokens : List Pending) (id path : List ℕ) : Type 0 where
   pub call : Pending
   pub created : IsCreated names told calls id call
   pub at_path : call.path ≡ path
   pub closed : IsOpen call.token tokens → ⊥
 
 -- The calls are those that the operation's rows have, each as it was written down, and the answers the newest first.
-pub record AreBooked (names : List (List ℕ)) (told : Told) (lanes : List (List ℕ × List ℕ)) (last : ℕ) (calls : List Pending) (replies : List Response)
+pub record AreBooked (names : List (List ℕ)) (told : LaneStates) (lanes : List (List ℕ × List ℕ)) (last : ℕ) (calls : List Pending) (replies : List Response)
     (tokens : List Pending) (made : List Held) : Type 0 where
   pub numbered : (c : Pending) → In c calls → c.token ≤ last
   pub distinct : (c d : Pending) → In c calls → In d calls → c.token ≡ d.token → c ≡ d
@@ -73,7 +73,7 @@ call_found calls distinct c token i e =
 
 -- A call that is written down.
 module _
-    (names : List (List ℕ)) (told : Told) (lanes : List (List ℕ × List ℕ)) (last : ℕ) (calls : List Pending) (replies : List Response)
+    (names : List (List ℕ)) (told : LaneStates) (lanes : List (List ℕ × List ℕ)) (last : ℕ) (calls : List Pending) (replies : List Response)
     (tokens : List Pending) (made : List Held) (h : AreBooked names told lanes last calls replies tokens made) (q : Pending) (new : q.token ≡ last + 1) where
   abbrev more : List Pending
   more = calls ++ q ∷ []
@@ -159,7 +159,7 @@ module _
 
 -- Fewer open calls and fewer resources: what is kept leaves its list, and with it the calls on it.
 module _
-    (names : List (List ℕ)) (told : Told) (lanes : List (List ℕ × List ℕ)) (last : ℕ) (calls : List Pending) (replies : List Response)
+    (names : List (List ℕ)) (told : LaneStates) (lanes : List (List ℕ × List ℕ)) (last : ℕ) (calls : List Pending) (replies : List Response)
     (tokens : List Pending) (made : List Held) (h : AreBooked names told lanes last calls replies tokens made) (tokens' : List Pending) (made' : List Held)
     (fewer : (p : Pending) → In p tokens' → In p tokens) (less : (r : Held) → In r made' → In r made) where
   origin_fewer : (id path : List ℕ) → HasOrigin names told calls tokens id path → HasOrigin names told calls tokens' id path

@@ -16,7 +16,7 @@ use Rattle.cf_effect.specs.Operation.{Response, own_of, replies_in, reply_in, is
 use Rattle.cf_effect.specs.Effect.{entries_with}
 use Rattle.cf_effect.specs.Fold.{effect_of, effect_at, world_after}
 use Rattle.cf_plan.specs.Follow.{MayFollowOn, MayFollowIn, failed_of, failed_in}
-use Rattle.cf_plan.specs.Run.{Told, IsOwn}
+use Rattle.cf_plan.specs.Run.{LaneStates, IsOwn}
 use Rattle.cf_plan.proofs.Frame.{IsOn, token_after, number_is, frame_of, on_after}
 use Rattle.cf_plan.proofs.RunLists.{reversed_more}
 use Rattle.cf_plan.proofs.BlameLanes.{AreTold}
@@ -30,7 +30,7 @@ IsMaking s = (s ≡ status.CreateInProgress) ⊎ (s ≡ status.RollbackInProgres
 abbrev pub answers : StackState → List Response
 answers s = reverse (replies_in (own_of s))
 
-pub record IsCourse (names : List (List ℕ)) (x : World) (told : Told) (number : ℕ) (name : List ℕ) (source : Source) (s : StackState) : Type 0 where
+pub record IsCourse (names : List (List ℕ)) (x : World) (told : LaneStates) (number : ℕ) (name : List ℕ) (source : Source) (s : StackState) : Type 0 where
   pub on : IsOn number name x s
   pub making : IsMaking s.status
   pub works : s.going ≡ Some source
@@ -94,7 +94,7 @@ going_by : (number : ℕ) (s : StackState) → s.operation ≡ number → IsMaki
 going_by number s e m = ap (λ b. b && is_in_progress s.status) (eq-eqb s.operation number e) ∙ making_going s.status m
 
 -- What an entry leaves on its stack, before the stack hears of it: it stays a creation, with what the calls tell.
-pub record Leaves (names : List (List ℕ)) (x : World) (told : Told) (number : ℕ) (source : Source) (e : Entry) (s u : StackState) : Type 0 where
+pub record Leaves (names : List (List ℕ)) (x : World) (told : LaneStates) (number : ℕ) (source : Source) (e : Entry) (s u : StackState) : Type 0 where
   pub making : IsMaking u.status
   pub works : u.going ≡ Some source
   pub none_held : u.held ≡ []
@@ -106,7 +106,7 @@ pub record Leaves (names : List (List ℕ)) (x : World) (told : Told) (number : 
   pub rows : AreRows number u.ledger (with_answer e (answers s)) u.tokens u.made
 
 module _
-    (names : List (List ℕ)) (x : World) (told : Told) (number : ℕ) (name : List ℕ) (source : Source) (s : StackState)
+    (names : List (List ℕ)) (x : World) (told : LaneStates) (number : ℕ) (name : List ℕ) (source : Source) (s : StackState)
     (h : IsCourse names x told number name source s) where
   pub operation_is : s.operation ≡ number
   operation_is = number_is number name x s h.on
@@ -131,7 +131,7 @@ module _
         ap (flat_map failed_in) own_now ∙ failed-append (own_of s) (e ∷ []) ∙ ap (λ ps. ps ++ (failed_in e ++ [])) h.none_failed ∙ append-nil (failed_in e)
 
   pub course_next :
-      (e : Entry) → IsOwn number e → (told' : Told) (u : StackState) → (effect_of e s).stack ≡ u → Leaves names x told' number source e s u
+      (e : Entry) → IsOwn number e → (told' : LaneStates) (u : StackState) → (effect_of e s).stack ≡ u → Leaves names x told' number source e s u
       → IsCourse names (world_after x e) told' number name source (effect_at (x.place + 1) e s).stack
   course_next e own told' u is l =
       let operation : (effect_of e s).stack.operation ≡ s.operation = ap (λ z. z.operation) is ∙ l.operation in

@@ -32,10 +32,11 @@ use Rattle.cf_desired.specs.Plan.{plan_of}
 use Rattle.cf_desired.specs.Whole.{wanted_at}
 use Rattle.cf_desired.specs.declared.wanted.Wanted.{Wanted}
 use Rattle.cf_plan.specs.Between.{needs_at, is_at_one, is_needed_by_made, is_needed_by_create}
-use Rattle.cf_plan.specs.Forward.{In, here}
+use Rattle.cf_tree.specs.Lists.{here}
+use Rattle.cf_tree.specs.Lists.{In}
 use Rattle.cf_plan.specs.Ends.{IsBlamedFor}
 use Rattle.cf_plan.specs.Follow.{IsAtEnd, is_failed_path, is_bad_last, is_bad_outcome, last_at, has_path, settled_by, is_not_needed, is_untried, keeps, MayDelete, is_in_flight, calls_in_flight, is_repeated, is_lane_leased, waits_for_repeats, may_repeat, is_free, is_cleared}
-use Rattle.cf_plan.specs.Run.{Told}
+use Rattle.cf_plan.specs.Run.{LaneStates}
 use Rattle.cf_plan.proofs.CreatedStays.{found_one}
 use Rattle.cf_plan.proofs.CreatedRight.{in_filter}
 use Rattle.cf_plan.proofs.RunLists.{none_false, or_true, in_back, in_reversed, to_reversed, any_of, some_of, none_any, greatest, some_counted, one_counted, found_same, is_found_in}
@@ -72,7 +73,7 @@ no_lane_out x lane = by_stacks x.stacks where
   by_stacks (s ∷ stacks) = ap (λ cs. list_any (λ c. bytes_eq lane c.lane) cs || list_any (λ s. list_any (λ c. bytes_eq lane c.lane) (calls_in_flight [] s.1)) stacks) (none_out_in (s.1).ledger) ∙ by_stacks stacks
 
 module _
-    (schemas : List Schema) (names : List (List ℕ)) (x : World) (told : Told) (number : ℕ) (name : List ℕ) (source : Source) (s : StackState)
+    (schemas : List Schema) (names : List (List ℕ)) (x : World) (told : LaneStates) (number : ℕ) (name : List ℕ) (source : Source) (s : StackState)
     (h : IsCourse names x told number name source s) where
   abbrev calls : List Pending
   calls = asked_in s.ledger

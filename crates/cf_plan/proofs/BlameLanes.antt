@@ -20,8 +20,8 @@ use Rattle.cf_entry.specs.declared.entry.Reply.{Reply}
 use Rattle.cf_entry.specs.declared.entry.Reply.TheVariants as reply
 use Rattle.cf_effect.specs.declared.held.Pending.{Pending}
 use Rattle.cf_effect.specs.Words.{is_create}
-use Rattle.cf_plan.specs.Forward.{In}
-use Rattle.cf_plan.specs.Run.{Told, answer_as, IsAsked, AreFresh}
+use Rattle.cf_tree.specs.Lists.{In}
+use Rattle.cf_plan.specs.Run.{LaneStates, answer_as, IsAsked, AreFresh}
 use Rattle.cf_plan.proofs.RunLanes.{same_lane, bytes_named, lane_named, one_place, settled_still, settled_now, used_in}
 use Rattle.cf_plan.proofs.RunLists.{in_front, in_one, in_either}
 
@@ -70,7 +70,7 @@ module _ (name : List ℕ) (before after : LaneState) (token : ℕ) (r : Request
   told_success physical attrs m = (moved_by (Success physical attrs) _ refl m).1
 
 -- the lane of a call has settled it as a create of this id
-pub record IsCreated (names : List (List ℕ)) (told : Told) (calls : List Pending) (id : List ℕ) (c : Pending) : Type 0 where
+pub record IsCreated (names : List (List ℕ)) (told : LaneStates) (calls : List Pending) (id : List ℕ) (c : Pending) : Type 0 where
   pub called : In c calls
   pub create : is_create c.request ≡ true
   pub place : ℕ
@@ -82,13 +82,13 @@ pub record IsCreated (names : List (List ℕ)) (told : Told) (calls : List Pendi
   pub settled : settlement_of c.token lane.settled ≡ Some (Success id attrs)
 
 -- each lane tells, no token to come is settled, and each created id is of its lane and of one call
-pub record AreTold (names : List (List ℕ)) (told : Told) (last : ℕ) (calls : List Pending) : Type 0 where
+pub record AreTold (names : List (List ℕ)) (told : LaneStates) (last : ℕ) (calls : List Pending) : Type 0 where
   pub fresh : AreFresh last told
   pub tells : (k : ℕ) → k < length told → (lane : LaneState) × (slice_index_or told k None ≡ Some lane)
   pub of_lane : (id : List ℕ) (c : Pending) → IsCreated names told calls id c → IsOfLane c.lane id
   pub once : (id : List ℕ) (c d : Pending) → IsCreated names told calls id c → IsCreated names told calls id d → c.token ≡ d.token
 
-module _ (names : List (List ℕ)) (told : Told) (last : ℕ) (calls : List Pending) (h : AreTold names told last calls) (n : Pending) (new : n.token ≡ last + 1) where
+module _ (names : List (List ℕ)) (told : LaneStates) (last : ℕ) (calls : List Pending) (h : AreTold names told last calls) (n : Pending) (new : n.token ≡ last + 1) where
   pub created_more : (id : List ℕ) (c : Pending) → IsCreated names told calls id c → IsCreated names told (calls ++ n ∷ []) id c
   created_more id c k = record {
     called = in_front c calls (n ∷ []) k.called;
@@ -131,7 +131,7 @@ module _ (names : List (List ℕ)) (told : Told) (last : ℕ) (calls : List Pend
   }
 
 module _
-    (names : List (List ℕ)) (named : list_all is_lane_name names ≡ true) (differ : all_differ bytes_eq names ≡ true) (told told' : Told)
+    (names : List (List ℕ)) (named : list_all is_lane_name names ≡ true) (differ : all_differ bytes_eq names ≡ true) (told told' : LaneStates)
     (counts counts' : List ℕ) (last : ℕ) (calls : List Pending) (h : AreTold names told last calls)
     (distinct : (c d : Pending) → In c calls → In d calls → c.token ≡ d.token → c ≡ d) (p : Pending) (low : p.token ≤ last) (called : In p calls)
     (a : Reply) (before after : ℕ) (asked : IsAsked names told told' counts counts' p (answer_as a) before after) where

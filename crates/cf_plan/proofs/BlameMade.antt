@@ -16,7 +16,9 @@ use Rattle.cf_effect.specs.World.{StackState}
 use Rattle.cf_effect.specs.Words.{is_create, has_physical, where_physical, without, current_at, deletes}
 use Rattle.cf_effect.specs.Calls.{is_refusal}
 use Rattle.cf_effect.specs.Reply.{with_status, updating, changing, deleting, answered, made_of, status_made, terms_at}
-use Rattle.cf_plan.specs.Forward.{In, here, there}
+use Rattle.cf_tree.specs.Lists.{there}
+use Rattle.cf_tree.specs.Lists.{here}
+use Rattle.cf_tree.specs.Lists.{In}
 use Rattle.cf_plan.specs.Follow.{settled_by}
 use Rattle.cf_plan.proofs.CreatedStays.{in_more}
 use Rattle.cf_plan.proofs.CreatedRight.{in_filter, not_so}

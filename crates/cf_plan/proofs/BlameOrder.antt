@@ -13,7 +13,7 @@ use Rattle.cf_desired.specs.Whole.{is_wanted_at, wanted_at}
 use Rattle.cf_desired.proofs.ComeFirst.{among_split}
 use Rattle.cf_desired.proofs.Planned.{WantedFirst, wanted_first}
 use Rattle.cf_desired.proofs.Puts.{among_pass}
-use Rattle.cf_plan.specs.Forward.{In}
+use Rattle.cf_tree.specs.Lists.{In}
 use Rattle.cf_plan.proofs.RunLists.{any_of}
 
 -- what each needs is wanted before it, or is among these

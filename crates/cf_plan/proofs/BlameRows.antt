@@ -16,9 +16,11 @@ use Rattle.cf_effect.specs.Words.{has_token, is_create, deletes}
 use Rattle.cf_effect.specs.Operation.{Response, is_doubt}
 use Rattle.cf_effect.specs.Calls.{new_call, anew, answered_call, is_call, where_call, is_success, is_refusal, was_refused}
 use Rattle.cf_effect.specs.Reply.{still_open}
-use Rattle.cf_plan.specs.Forward.{In, here, there}
+use Rattle.cf_tree.specs.Lists.{there}
+use Rattle.cf_tree.specs.Lists.{here}
+use Rattle.cf_tree.specs.Lists.{In}
 use Rattle.cf_plan.specs.Follow.{settled_by, has_path, is_bad_outcome}
-use Rattle.cf_plan.specs.Run.{Told}
+use Rattle.cf_plan.specs.Run.{LaneStates}
 use Rattle.cf_plan.proofs.CreatedStays.{in_more}
 use Rattle.cf_plan.proofs.RunLists.{in_front, in_end}
 use Rattle.cf_plan.proofs.BlameLanes.{IsCreated}
@@ -156,7 +158,7 @@ module _ (number : ℕ) (rows : List Call) (replies : List Response) (tokens : L
     tried = λ c m i j. each_mapped (λ x. deletes m.physical x.request ≡ true → IsTried tokens x) anew rows (λ x k. h.tried x m k j) c i;
   }
 
-  module _ (names : List (List ℕ)) (told : Told) (lanes : List (List ℕ × List ℕ)) (last : ℕ) (b : AreBooked names told lanes last (asked_in rows) replies tokens made) where
+  module _ (names : List (List ℕ)) (told : LaneStates) (lanes : List (List ℕ × List ℕ)) (last : ℕ) (b : AreBooked names told lanes last (asked_in rows) replies tokens made) where
     -- an open call of this token is that of the row
     open_row : (p : Pending) → In p tokens → (c : Call) → In c rows → p.token ≡ c.token → asked c ≡ p
     open_row p i c j e = b.distinct (asked c) p (into_mapped asked rows c j) (b.opened p i) (sym e)
@@ -179,7 +181,7 @@ module _ (number : ℕ) (rows : List Call) (replies : List Response) (tokens : L
 
     -- a call that is answered
     module _
-        (p : Pending) (i : In p tokens) (token : ℕ) (named : token ≡ p.token) (answer : Reply) (before after : ℕ) (told' : Told) (made' : List Held)
+        (p : Pending) (i : In p tokens) (token : ℕ) (named : token ≡ p.token) (answer : Reply) (before after : ℕ) (told' : LaneStates) (made' : List Held)
         (from : (r : Held) → In r made' → From p answer made r)
         (created_still : (id : List ℕ) (c : Pending) → IsCreated names told (asked_in rows) id c → IsCreated names told' (asked_in rows) id c)
         (once :

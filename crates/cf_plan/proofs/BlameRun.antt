@@ -19,10 +19,12 @@ use Rattle.cf_effect.specs.Status.{Forward, Back, is_in_progress}
 use Rattle.cf_effect.specs.Operation.{own_of, replies_in}
 use Rattle.cf_effect.specs.End.{ending, stopping}
 use Rattle.cf_effect.specs.Fold.{effect_at, world_after, fold_of}
-use Rattle.cf_plan.specs.Forward.{In, here, there}
+use Rattle.cf_tree.specs.Lists.{there}
+use Rattle.cf_tree.specs.Lists.{here}
+use Rattle.cf_tree.specs.Lists.{In}
 use Rattle.cf_plan.specs.Follow.{MayFollowOn, MayFollowIn, EndsAs, AreFailed, failed_of, failed_in}
 use Rattle.cf_plan.specs.Ends.{IsBlamed}
-use Rattle.cf_plan.specs.Run.{Told, IsDone, IsOwn, Runs, HasBegun, is_beginning}
+use Rattle.cf_plan.specs.Run.{LaneStates, IsRunEntry, IsOwn, Runs, HasBegun, is_beginning}
 use Rattle.cf_plan.specs.Blame.{RollbackBlames}
 use Rattle.cf_plan.proofs.Frame.{here_of, here_after, none_after}
 use Rattle.cf_plan.proofs.BlameLanes.{AreTold}
@@ -50,13 +52,13 @@ none_failed t (e ∷ es) h = by_test (t e) (by_entry e (first_so (is_beginning e
   by_test true d ih = ap (λ ps. ps ++ flat_map failed_in (filter t es)) d ∙ ih
   by_test false d ih = ih
 
-each_tells : (told : Told) → list_all is_some told ≡ true → (k : ℕ) → k < length told → (lane : LaneState) × (slice_index_or told k None ≡ Some lane)
+each_tells : (told : LaneStates) → list_all is_some told ≡ true → (k : ℕ) → k < length told → (lane : LaneState) × (slice_index_or told k None ≡ Some lane)
 each_tells [] h k l = absurd (omega arith)
 each_tells (None ∷ told) h k l = let no : ⊥ = cc in absurd no
 each_tells (Some lane ∷ told) h zero l = (lane, refl)
 each_tells (Some lane ∷ told) h (suc k) l = each_tells told h k (omega arith)
 
-none_booked : (names : List (List ℕ)) (told : Told) (lanes : List (List ℕ × List ℕ)) (last : ℕ) → AreBooked names told lanes last [] [] [] []
+none_booked : (names : List (List ℕ)) (told : LaneStates) (lanes : List (List ℕ × List ℕ)) (last : ℕ) → AreBooked names told lanes last [] [] [] []
 none_booked names told lanes last = record {
   numbered = λ c i. elim i [ ];
   distinct = λ c d i j. elim i [ ];
@@ -74,7 +76,7 @@ no_rows : (number : ℕ) → AreRows number [] [] [] []
 no_rows number = record { own = λ c i. elim i [ ]; refused = λ c i. elim i [ ]; doubted = λ c i. elim i [ ]; tried = λ c r i j. elim i [ ] }
 
 begun_course :
-    (names kinds : List (List ℕ)) (x : World) (told : Told) (number : ℕ) (name : List ℕ) (source : Source) (s : StackState)
+    (names kinds : List (List ℕ)) (x : World) (told : LaneStates) (number : ℕ) (name : List ℕ) (source : Source) (s : StackState)
     → HasBegun names kinds x told number name source s → IsCourse names x told number name source s
 begun_course names kinds x told number name source s b =
     let none : answers s ≡ [] = ap reverse b.none_answered in record {
@@ -153,7 +155,7 @@ never_so true b h = h
 never_so false b h = refl
 
 module _
-    (schemas : List Schema) (names : List (List ℕ)) (x : World) (told : Told) (number : ℕ) (name : List ℕ) (source : Source) (s : StackState)
+    (schemas : List Schema) (names : List (List ℕ)) (x : World) (told : LaneStates) (number : ℕ) (name : List ℕ) (source : Source) (s : StackState)
     (h : IsCourse names x told number name source s) (state : Status) (failed : List (List ℕ)) where
   abbrev done : Entry
   done = entry.Done number state failed
@@ -208,16 +210,16 @@ module _
     by_stage (inr m) = ended_by m.1.2 m.1.3 (λ e. m.1)
 
 -- what an entry that is written leaves: the course of the creation, or its end
-abbrev Left : List (List ℕ) → ℕ → List ℕ → Source → World → Told → Type 0
+abbrev Left : List (List ℕ) → ℕ → List ℕ → Source → World → LaneStates → Type 0
 Left names number name source x told = ((s : StackState) × IsCourse names x told number name source s) ⊎ HasEnded x number name
 
 module _
     (schemas : List Schema) (names : List (List ℕ)) (named : list_all is_lane_name names ≡ true) (differ : all_differ bytes_eq names ≡ true) (number : ℕ)
     (name : List ℕ) (source : Source) where
   module _
-      (x : World) (told told' : Told) (counts counts' : List ℕ) (s : StackState) (h : IsCourse names x told number name source s) where
+      (x : World) (told told' : LaneStates) (counts counts' : List ℕ) (s : StackState) (h : IsCourse names x told number name source s) where
     abbrev Leaves : Entry → Type 0
-    Leaves e = IsDone schemas names x told told' counts counts' e → Left names number name source (world_after x e) told'
+    Leaves e = IsRunEntry schemas names x told told' counts counts' e → Left names number name source (world_after x e) told'
 
     -- lanes stay but at an answer
     as_told : (e : Entry) → told' ≡ told → Left names number name source (world_after x e) told → Left names number name source (world_after x e) told'
@@ -249,7 +251,7 @@ module _
 
   -- an entry of the operation is written while it is in progress
   goes_on :
-      (x : World) (told told' : Told) (counts counts' : List ℕ) (e : Entry) → IsOwn number e → IsDone schemas names x told told' counts counts' e
+      (x : World) (told told' : LaneStates) (counts counts' : List ℕ) (e : Entry) → IsOwn number e → IsRunEntry schemas names x told told' counts counts' e
       → (p : List ℕ × StackState) × (stack_of_operation number x ≡ Some p)
   goes_on x told told' counts counts' (entry.Opened epoch lanes) own d = absurd own
   goes_on x told told' counts counts' (entry.Begin n stack k) own d = absurd own
@@ -263,7 +265,7 @@ module _
   abbrev IsBlamedIn : World → Type 0
   IsBlamedIn x = (t : StackState) → stack_at name x ≡ Some t → t.status ≡ status.RollbackFailed → IsBlamed t (failed_of t)
 
-  making_blamed : (x : World) (told : Told) (s : StackState) → IsCourse names x told number name source s → IsBlamedIn x
+  making_blamed : (x : World) (told : LaneStates) (s : StackState) → IsCourse names x told number name source s → IsBlamedIn x
   making_blamed x told s h t e d =
       let same : s ≡ t = (let both : Some s ≡ Some t = sym (here_of number name x s h.on) ∙ e in cc) in absurd (never h.making (ap (λ z. z.status) same ∙ d)) where
         never : IsMaking s.status → s.status ≡ status.RollbackFailed → ⊥
@@ -271,7 +273,7 @@ module _
         never (inr f) g = let both : status.RollbackInProgress ≡ status.RollbackFailed = sym f ∙ g in cc
 
   run_blames :
-      (es : List Entry) (x : World) (told told' : Told) (counts counts' : List ℕ) → Left names number name source x told
+      (es : List Entry) (x : World) (told told' : LaneStates) (counts counts' : List ℕ) → Left names number name source x told
       → Runs schemas names x told counts es told' counts' → ((e : Entry) → In e es → IsOwn number e) → IsBlamedIn (fold_of x es)
   run_blames [] x told told' counts counts' (inl k) run own = making_blamed x told k.0 k.1
   run_blames [] x told told' counts counts' (inr k) run own = k.blamed

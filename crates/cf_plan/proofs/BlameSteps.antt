@@ -30,9 +30,9 @@ use Rattle.cf_effect.specs.Calls.{new_call, is_restore}
 use Rattle.cf_effect.specs.Reply.{intending, replied, closing, answered, keeping, keeping_known, keeping_unknown}
 use Rattle.cf_effect.specs.End.{turning}
 use Rattle.cf_effect.specs.Fold.{effect_at, world_after}
-use Rattle.cf_plan.specs.Forward.{In}
+use Rattle.cf_tree.specs.Lists.{In}
 use Rattle.cf_plan.specs.Follow.{MayFollowOn, MayFollowIn, MayIntend, MayTurn, is_free, is_lane_of, IsCounted, IntendsDeletion, IntendsRestore}
-use Rattle.cf_plan.specs.Run.{Told, IsDone}
+use Rattle.cf_plan.specs.Run.{LaneStates, IsRunEntry}
 use Rattle.cf_plan.proofs.CreatedStays.{found_one}
 use Rattle.cf_plan.proofs.CreatedRight.{in_filter, not_so, free_path}
 use Rattle.cf_plan.proofs.RunLists.{some_of, any_of, none_any, in_kept}
@@ -48,13 +48,13 @@ lane_home : (lane k : List ℕ) (lanes : List (List ℕ × List ℕ)) → list_a
 lane_home lane k lanes h = let p = some_of (is_lane_of lane k) lanes h in any_of (λ l. bytes_eq lane l.0) lanes p.one p.of_list (first_so (bytes_eq lane (p.one).0) _ p.passes)
 
 module _
-    (schemas : List Schema) (names : List (List ℕ)) (x : World) (told : Told) (number : ℕ) (name : List ℕ) (source : Source) (s : StackState)
+    (schemas : List Schema) (names : List (List ℕ)) (x : World) (told : LaneStates) (number : ℕ) (name : List ℕ) (source : Source) (s : StackState)
     (h : IsCourse names x told number name source s) where
   abbrev calls : List Pending
   calls = asked_in s.ledger
 
   -- the course of the creation where the entry is written
-  abbrev Next : Entry → Told → Type 0
+  abbrev Next : Entry → LaneStates → Type 0
   Next e told' = IsCourse names (world_after x e) told' number name source (effect_at (x.place + 1) e s).stack
 
   module _ (token : ℕ) (lane path : List ℕ) (r : Request) where
@@ -135,7 +135,7 @@ module _
 -- An answer.
 module _
     (schemas : List Schema) (names : List (List ℕ)) (named : list_all is_lane_name names ≡ true) (differ : all_differ bytes_eq names ≡ true) (x : World)
-    (told told' : Told) (counts counts' : List ℕ) (number : ℕ) (name : List ℕ) (source : Source) (s : StackState)
+    (told told' : LaneStates) (counts counts' : List ℕ) (number : ℕ) (name : List ℕ) (source : Source) (s : StackState)
     (h : IsCourse names x told number name source s) (token before after : ℕ) (answer : Reply) where
   abbrev outcome : Entry
   outcome = entry.Outcome number token answer before after
@@ -152,7 +152,7 @@ module _
     by_stage (inr m) = m.1.2
 
   pub outcome_next :
-      IsDone schemas names x told told' counts counts' outcome
+      IsRunEntry schemas names x told told' counts counts' outcome
       → IsCourse names (world_after x outcome) told' number name source (effect_at (x.place + 1) outcome s).stack
   outcome_next d =
       let p = d.1 in
@@ -190,7 +190,7 @@ module _
 
 -- An entry that writes down neither a call nor an answer.
 module _
-    (names : List (List ℕ)) (x : World) (told : Told) (number : ℕ) (name : List ℕ) (source : Source) (s : StackState)
+    (names : List (List ℕ)) (x : World) (told : LaneStates) (number : ℕ) (name : List ℕ) (source : Source) (s : StackState)
     (h : IsCourse names x told number name source s) where
   -- a deletion is on its resource, and no create
   on_it : (physical : List ℕ) (r : Held) (q : Request) → deletes r.physical q ≡ true → has_physical physical r ≡ false → option_map_or (bytes_eq physical) (id_named q) false ≡ false

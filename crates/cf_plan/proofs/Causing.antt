@@ -21,9 +21,12 @@ use Rattle.cf_effect.specs.World.{StackState, World}
 use Rattle.cf_plan.specs.declared.cause.Failure.{Failure}
 use Rattle.cf_plan.specs.declared.cause.Failure.TheVariants.{Nothing}
 use Rattle.cf_plan.specs.Between.{needs_at}
-use Rattle.cf_plan.specs.Forward.{In, here, there, Finding, Bad, Later, finding, known_or_later, AllDone, HasFailed, IsBadAt, IsBadOutput, IsBadPath, IsLostExport, first_failing, is_lost, path_of_token, plan_now}
-use Rattle.cf_plan.specs.Done.{AreDone, HasTerms, are_met, needs_by}
-use Rattle.cf_plan.specs.Failed.{are_all_done, flaw_by, flaw_found, flaw_in, flaws_found, inner_found, least}
+use Rattle.cf_plan.specs.Forward.{Finding, Bad, Later, finding, known_or_later, AllDone, HasFailed, IsBadAt, IsBadOutput, IsBadPath, IsLostExport, first_failing, is_lost, path_of_token, plan_now}
+use Rattle.cf_tree.specs.Lists.{there}
+use Rattle.cf_tree.specs.Lists.{here}
+use Rattle.cf_tree.specs.Lists.{In}
+use Rattle.cf_plan.specs.Done.{AreDone, HasTerms, are_met, planned_needs}
+use Rattle.cf_plan.specs.Failed.{are_all_done, flaw_planned, flaw_found, flaw_in, flaws_found, inner_found, least}
 use Rattle.cf_plan.specs.Causes.{IsFailureOf, end_failure, failure_of_call, of_export, or_call, or_flaw, or_path, plan_failure}
 use Rattle.cf_plan.proofs.Doing.{all_met, met_all}
 use Rattle.cf_plan.proofs.FailingCalls.{failing_called}
@@ -143,9 +146,9 @@ module _ (schemas : List Schema) (name : List ℕ) (x : World) (s : StackState) 
   to_bad a i = elim (in_either a (filter_map (flaw_found terms (plan_now s) done) terms.wanted) (filter_map (inner_found done) (plan_now s).nested) i) [
     | inl j ↦ (
         let (w, at, e) = in_mapped (flaw_found terms (plan_now s) done) a terms.wanted j in
-        let (met, same, flaw) = test_found (are_met w.path terms done) w.path (flaw_by w.path (plan_now s)) a e in
+        let (met, same, flaw) = test_found (are_met w.path terms done) w.path (flaw_planned w.path (plan_now s)) a e in
         let wanted = subst (In w.path) terms_are.paths (in_map (λ (v : Wanted). v.path) w terms.wanted at) in
-        let ready = λ (q : List ℕ) (m : In q (needs_at w.path s)). (are q).1 (all_met (needs_by w.path terms) done met q (subst (In q) (sym (terms_are.needs w.path)) m)) in
+        let ready = λ (q : List ℕ) (m : In q (needs_at w.path s)). (are q).1 (all_met (planned_needs w.path terms) done met q (subst (In q) (sym (terms_are.needs w.path)) m)) in
         let bad = (flaw_of (wanted_at w.path (plan_now s)) a.1).0 flaw in
         inl (subst (λ p. IsBadAt s p a.1) same ((wanted, ready), bad)))
     | inr j ↦ (
@@ -160,8 +163,8 @@ module _ (schemas : List Schema) (name : List ℕ) (x : World) (s : StackState) 
       let met = subst (λ ns. list_all (λ m. is_among m done) ns ≡ true) (sym (terms_are.needs p)) (met_all (needs_at p s) done (λ q m. (are q).0 (ready q m))) in
       let flaw = (flaw_of (wanted_at p (plan_now s)) f).1 bad in
       let here_found : flaw_found terms (plan_now s) done w ≡ Some (p, f) =
-      subst (λ q. where_met (are_met q terms done) q (flaw_by q (plan_now s)) ≡ Some (p, f)) (sym same)
-      (found_test (are_met p terms done) p (flaw_by p (plan_now s)) f met flaw) in
+      subst (λ q. where_met (are_met q terms done) q (flaw_planned q (plan_now s)) ≡ Some (p, f)) (sym same)
+      (found_test (are_met p terms done) p (flaw_planned p (plan_now s)) f met flaw) in
       in_left (p, f) (filter_map (flaw_found terms (plan_now s) done) terms.wanted) (filter_map (inner_found done) (plan_now s).nested)
       (mapped_in (flaw_found terms (plan_now s) done) (p, f) w terms.wanted at here_found)
   from_bad p f (inr (n, at, same, ready, flaw)) =

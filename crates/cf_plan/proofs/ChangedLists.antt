@@ -1,6 +1,8 @@
 -- Lists in which the first that passes a test is changed, or each is, or one more stands at the end.
 use Rattle.std.proofs.Common.{ℕ, ◌≡◌, ◌⊎◌, inl, inr, List, ◌∷◌, ◌++◌, Bool, true, false, ◌&&◌, Option, Some, None, refl, sym, ap, subst, ◌∙◌, true≢false, find, filter, option_map, map, [], arith}
-use Rattle.cf_plan.specs.Forward.{In, here, there}
+use Rattle.cf_tree.specs.Lists.{there}
+use Rattle.cf_tree.specs.Lists.{here}
+use Rattle.cf_tree.specs.Lists.{In}
 use Rattle.cf_effect.specs.Words.{change_first}
 use Rattle.cf_tree.specs.Lists.{insert_by}
 use Rattle.std.specs.List.{list_any}

@@ -21,7 +21,7 @@ use Rattle.cf_effect.specs.World.{StackState, World, stack_at, is_going, empty_w
 use Rattle.cf_effect.specs.Status.{turned, begun, is_in_progress, reviewed}
 use Rattle.cf_effect.specs.Words.{pending_of, resources_of}
 use Rattle.cf_effect.specs.End.{marked, turned_effect}
-use Rattle.cf_stacks.specs.Apart.{AreApart, IsNext}
+use Rattle.cf_stacks.specs.Apart.{AreApart, HasNextNumber}
 use Rattle.cf_effect.specs.Fold.{effect_at, fold_of, world_after}
 use Rattle.cf_stacks.proofs.Apart.{stay_apart}
 use Rattle.cf_stacks.proofs.Worlds.{value_under}
@@ -227,7 +227,7 @@ module _ (schemas : List Schema) (out : List ℕ) (x : World) (h : FindsNothing 
   after_one (entry.ChangeSet number name source rows outputs) may = set_finds number name source rows outputs
 
 -- an operation begins with the next number
-next_one : (schemas : List Schema) (out : List ℕ) (x : World) (e : Entry) → MayFollow schemas x out e → IsNext e x
+next_one : (schemas : List Schema) (out : List ℕ) (x : World) (e : Entry) → MayFollow schemas x out e → HasNextNumber e x
 next_one schemas out x (entry.Begin number name k) may = let is = may.0 in omega (arith, is)
 next_one schemas out x (entry.Opened epoch lanes) may = tt
 next_one schemas out x (entry.Kept number path physical w) may = tt

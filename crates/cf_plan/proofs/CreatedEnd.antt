@@ -24,7 +24,10 @@ use Rattle.cf_effect.specs.Begin.{put_seen, seen_in}
 use Rattle.cf_effect.specs.End.{seen_now, is_physical_of, is_right_at, as_wanted, settled_in, completing, whole_over, empty_whole, ended_effect}
 use Rattle.cf_schema.specs.declared.described.Schema.{Schema}
 use Rattle.cf_plan.specs.Follow.{EndsAs}
-use Rattle.cf_plan.specs.Forward.{In, here, there, plan_now, AllDone}
+use Rattle.cf_plan.specs.Forward.{plan_now, AllDone}
+use Rattle.cf_tree.specs.Lists.{there}
+use Rattle.cf_tree.specs.Lists.{here}
+use Rattle.cf_tree.specs.Lists.{In}
 use Rattle.cf_plan.specs.Ends.{right_at}
 use Rattle.cf_plan.specs.Created.{IsCreating, IsRightCreate, IsSaid, IsMadeOf, IsHeldAs, IsWholeHeld, CreateEndsWhole}
 use Rattle.cf_plan.proofs.CreatedStays.{is_found, found_one}

@@ -33,8 +33,11 @@ use Rattle.cf_effect.specs.Begin.{seen_in}
 use Rattle.cf_effect.specs.Reply.{terms_of, wanted_in}
 use Rattle.cf_schema.specs.declared.described.Schema.{Schema}
 use Rattle.cf_plan.specs.Between.{needs_at}
-use Rattle.cf_plan.specs.Forward.{In, here, there, Finding, Bad, Later, Known, finding, known_or_later, plan_in, plan_now, evaluated_at, IsDone, is_made, IsReady, AllDone, HasFailed}
-use Rattle.cf_plan.specs.Created.{IsRightCreate, IsNext, CreateGoesOn}
+use Rattle.cf_plan.specs.Forward.{Finding, Bad, Later, Known, finding, known_or_later, plan_in, plan_now, evaluated_at, IsDone, is_made, IsReady, AllDone, HasFailed}
+use Rattle.cf_tree.specs.Lists.{there}
+use Rattle.cf_tree.specs.Lists.{here}
+use Rattle.cf_tree.specs.Lists.{In}
+use Rattle.cf_plan.specs.Created.{IsRightCreate, CanBeMade, CreateGoesOn}
 use Rattle.cf_plan.proofs.CreatedSeen.{shown, shown_at}
 use Rattle.cf_plan.proofs.CreatedStays.{found_one, said_now, found_in}
 use Rattle.cf_plan.proofs.CreatedWhole.{made_at, in_map, plan_shown}
@@ -192,7 +195,7 @@ module _ (source : Source) (s : StackState) (h : IsRightCreate source s) where
 
   goes_from :
       (schemas : List Schema) (name : List ℕ) (x : World) → IsRootBound → (HasFailed schemas name x s → ⊥) → (u : IsFirst s ordered) → (f : Finding)
-      → evaluated_at u.wanted.path s ≡ f → (path : List ℕ) × IsNext s path
+      → evaluated_at u.wanted.path s ≡ f → (path : List ℕ) × CanBeMade s path
   goes_from schemas name x root good u (Bad fault) e = absurd (good (inr (inl (u.wanted.path, fault, inl (first_ready u, e)))))
   goes_from schemas name x root good u Later e = absurd (first_known schemas name x good root u e)
   goes_from schemas name x root good u (Known k props) e = (
@@ -208,10 +211,10 @@ module _ (source : Source) (s : StackState) (h : IsRightCreate source s) where
 
   -- all is done, or a path can be made next, where the parameters of the root are bound
   goes_bound :
-      (schemas : List Schema) (name : List ℕ) (x : World) → IsRootBound → (HasFailed schemas name x s → ⊥) → AllDone s ⊎ ((path : List ℕ) × IsNext s path)
+      (schemas : List Schema) (name : List ℕ) (x : World) → IsRootBound → (HasFailed schemas name x s → ⊥) → AllDone s ⊎ ((path : List ℕ) × CanBeMade s path)
   goes_bound schemas name x root good =
       by_walk (walk s ordered [] ordered (record { first = wanted_first source before; done = λ q g. absurd (true≢false (sym g)); left = λ p m. refl })) where
-        by_walk : ((p : List ℕ) → In p (map (λ w. w.path) ordered) → IsDone s p) ⊎ IsFirst s ordered → AllDone s ⊎ ((path : List ℕ) × IsNext s path)
+        by_walk : ((p : List ℕ) → In p (map (λ w. w.path) ordered) → IsDone s p) ⊎ IsFirst s ordered → AllDone s ⊎ ((path : List ℕ) × CanBeMade s path)
         by_walk (inl d) = inl (λ p i. d p (subst (λ g. In p (map (λ x. x.path) (plan_in g before before).wanted)) h.0.going i))
         by_walk (inr u) = inr (goes_from schemas name x root good u (evaluated_at u.wanted.path s) refl)
 

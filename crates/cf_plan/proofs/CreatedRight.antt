@@ -25,7 +25,10 @@ use Rattle.cf_effect.specs.Begin.{seen_in}
 use Rattle.cf_effect.specs.Reply.{answered, closing, made_of, replied, status_made, terms_at}
 use Rattle.cf_effect.specs.Effect.{entries_with, heard, on_stack}
 use Rattle.cf_effect.specs.Fold.{effect_at}
-use Rattle.cf_plan.specs.Forward.{In, here, there, Known, evaluated_at, IsDone, is_made}
+use Rattle.cf_plan.specs.Forward.{Known, evaluated_at, IsDone, is_made}
+use Rattle.cf_tree.specs.Lists.{there}
+use Rattle.cf_tree.specs.Lists.{here}
+use Rattle.cf_tree.specs.Lists.{In}
 use Rattle.cf_plan.specs.Follow.{is_free}
 use Rattle.cf_plan.specs.Created.{IsCreating, IsSaid, IsRightCreate, BeginsRight, OpeningStaysRight, IntentStaysRight, OutcomeStaysRight}
 use Rattle.cf_plan.proofs.CreatedSeen.{more_shown}

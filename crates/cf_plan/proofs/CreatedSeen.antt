@@ -5,7 +5,7 @@ use Rattle.std.specs.Option.{option_and_then, option_or}
 use Rattle.std.specs.Str.{bytes_eq}
 use Rattle.cf_tree.specs.Keys.{value_at, put}
 use Rattle.std.proofs.lemmas.Slice.Eq.{bytes_eq-Decides}
-use Rattle.cf_eval.specs.Knows.{Keeps}
+use Rattle.cf_eval.specs.Knows.{StaysKnown}
 use Rattle.cf_effect.specs.declared.held.Held.{Held}
 use Rattle.cf_effect.specs.Words.{current_at, is_current_at}
 use Rattle.cf_effect.specs.Begin.{seen_in, put_seen, seen_as_held}
@@ -70,30 +70,30 @@ shown_behind path (h ∷ hs) seen = shown_with path h hs seen h.superseded (show
 pub shown_at : (path : List ℕ) (hs : List Held) → value_at path (seen_in hs) ≡ option_map shown (current_at path hs)
 shown_at path hs = shown_behind path hs []
 
-found_with : {A : Type 0} (b : Bool) (x : A) (o p : Option A) → Keeps o p → Keeps (cond b (Some x) o) (cond b (Some x) p)
+found_with : {A : Type 0} (b : Bool) (x : A) (o p : Option A) → StaysKnown o p → StaysKnown (cond b (Some x) o) (cond b (Some x) p)
 found_with true x o p h = refl
 found_with false x o p h = h
 
-found_first : {A : Type 0} (test : A → Bool) (xs ys : List A) → Keeps (find test xs) (find test (xs ++ ys))
+found_first : {A : Type 0} (test : A → Bool) (xs ys : List A) → StaysKnown (find test xs) (find test (xs ++ ys))
 found_first test [] ys = tt
 found_first test (x ∷ xs) ys = found_with (test x) x (find test xs) (find test (xs ++ ys)) (found_first test xs ys)
 
-kept_in : {A B : Type 0} (f : A → Option B) (o p : Option A) → Keeps o p → Keeps (option_and_then f o) (option_and_then f p)
+kept_in : {A B : Type 0} (f : A → Option B) (o p : Option A) → StaysKnown o p → StaysKnown (option_and_then f o) (option_and_then f p)
 kept_in f None p h = tt
-kept_in {A} {B} f (Some a) p h = subst (λ q. Keeps (f a) (option_and_then f q)) (sym h) (itself (f a)) where
-  itself : (o : Option B) → Keeps o o
+kept_in {A} {B} f (Some a) p h = subst (λ q. StaysKnown (f a) (option_and_then f q)) (sym h) (itself (f a)) where
+  itself : (o : Option B) → StaysKnown o o
   itself None = tt
   itself (Some b) = refl
 
-kept_shown : (o p : Option Held) → Keeps o p → Keeps (option_map shown o) (option_map shown p)
+kept_shown : (o p : Option Held) → StaysKnown o p → StaysKnown (option_map shown o) (option_map shown p)
 kept_shown None p h = tt
 kept_shown (Some r) p h = ap (option_map shown) h
 
 -- what is shown stays when others join
 pub more_shown : (hs more : List Held) → SeesMore (seen_in hs) (seen_in (hs ++ more))
 more_shown hs more path =
-    let h : Keeps (value_at path (seen_in hs)) (value_at path (seen_in (hs ++ more))) =
-    subst (λ o. Keeps o (value_at path (seen_in (hs ++ more)))) (sym (shown_at path hs))
-    (subst (λ o. Keeps (option_map shown (current_at path hs)) o) (sym (shown_at path (hs ++ more)))
+    let h : StaysKnown (value_at path (seen_in hs)) (value_at path (seen_in (hs ++ more))) =
+    subst (λ o. StaysKnown o (value_at path (seen_in (hs ++ more)))) (sym (shown_at path hs))
+    (subst (λ o. StaysKnown (option_map shown (current_at path hs)) o) (sym (shown_at path (hs ++ more)))
     (kept_shown (current_at path hs) (current_at path (hs ++ more)) (found_first (is_current_at path) hs more))) in
     (kept_in (λ s. s.physical) _ _ h, kept_in (λ s. s.attrs) _ _ h)

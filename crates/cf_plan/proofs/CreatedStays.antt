@@ -5,7 +5,7 @@ use Rattle.std.specs.Option.{option_map_or, option_and_then}
 use Rattle.std.proofs.lemmas.List.{append-nil}
 use Rattle.cf_tree.specs.Datum.{Data}
 use Rattle.cf_tree.specs.declared.source.Source.{Source}
-use Rattle.cf_eval.specs.Knows.{Keeps}
+use Rattle.cf_eval.specs.Knows.{StaysKnown}
 use Rattle.cf_effect.specs.declared.held.Held.{Held}
 use Rattle.cf_effect.specs.World.{StackState}
 use Rattle.cf_effect.specs.Begin.{seen_in}
@@ -19,7 +19,10 @@ use Rattle.cf_desired.specs.Shape.{shape_of}
 use Rattle.cf_desired.specs.Whole.{wanted_at, known_of, known_props_from}
 use Rattle.cf_desired.specs.Stays.{SeesMore, props_known}
 use Rattle.cf_desired.proofs.Termed.{terms_by}
-use Rattle.cf_plan.specs.Forward.{In, here, there, Finding, Later, Known, finding, known_or_later, plan_in, evaluated_at}
+use Rattle.cf_plan.specs.Forward.{Finding, Later, Known, finding, known_or_later, plan_in, evaluated_at}
+use Rattle.cf_tree.specs.Lists.{there}
+use Rattle.cf_tree.specs.Lists.{here}
+use Rattle.cf_tree.specs.Lists.{In}
 use Rattle.cf_plan.specs.Created.{HasOneShape, IsCreating}
 use Rattle.cf_plan.proofs.OneShape.{known_stays, plan_same, terms_same}
 
@@ -72,7 +75,7 @@ found_stays source one a b more path k ps h =
     let q = plan_of source b in
     let f = is_found k ps (wanted_at path p) h in
     let known : props_known path p ≡ Some ps = ap (option_and_then (λ w. known_of w.props)) f.there ∙ f.props in
-    let kept : props_known path q ≡ Some ps = subst (λ o. Keeps o (props_known path q)) known ((known_stays source one a b more).props path) in
+    let kept : props_known path q ≡ Some ps = subst (λ o. StaysKnown o (props_known path q)) known ((known_stays source one a b more).props path) in
     let kinds : option_map (λ w. w.kind) (wanted_at path p) ≡ option_map (λ w. w.kind) (wanted_at path q) = kind_by (wanted_at path p) (wanted_at path q) (terms_same source one a b path) in
     found_again k ps (wanted_at path q) kept (sym kinds ∙ ap (option_map (λ w. w.kind)) f.there ∙ ap (λ l. Some l) f.kind)
 

@@ -25,7 +25,10 @@ use Rattle.cf_desired.specs.Shape.{shape_of}
 use Rattle.cf_desired.specs.Whole.{Right, is_wanted_at, wanted_at, known_of, right_of, whole_of}
 use Rattle.cf_desired.proofs.AllKnown.{known_whole}
 use Rattle.cf_desired.proofs.Planned.{is_seen_at, plan_known}
-use Rattle.cf_plan.specs.Forward.{In, here, there, is_made, is_updated, is_right, plan_in, plan_now, wanted_paths, IsDone}
+use Rattle.cf_plan.specs.Forward.{is_made, is_updated, is_right, plan_in, plan_now, wanted_paths, IsDone}
+use Rattle.cf_tree.specs.Lists.{there}
+use Rattle.cf_tree.specs.Lists.{here}
+use Rattle.cf_tree.specs.Lists.{In}
 use Rattle.cf_plan.specs.Created.{IsCreating, CreatedIsWhole}
 use Rattle.cf_plan.proofs.CreatedSeen.{shown, shown_at}
 use Rattle.cf_plan.proofs.CreatedStays.{IsFound, is_found, said_now, found_one}

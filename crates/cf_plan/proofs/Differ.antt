@@ -3,7 +3,9 @@ use Rattle.std.proofs.Common.{◌≡◌, ◌∙◌, ◌++◌, ◌==◌, ℕ, Lis
 use Rattle.std.proofs.lemmas.{Bool.eq-eqb, Slice.Eq.bytes_eq-Decides}
 use Rattle.std.specs.{List.list_any, Str.bytes_eq}
 use Rattle.cf_tree.specs.Named.{all_differ}
-use Rattle.cf_plan.specs.Forward.{In, here, there}
+use Rattle.cf_tree.specs.Lists.{there}
+use Rattle.cf_tree.specs.Lists.{here}
+use Rattle.cf_tree.specs.Lists.{In}
 use Rattle.cf_plan.proofs.Listed.{in_map}
 use Rattle.cf_plan.proofs.RunLists.{any_of, in_back, is_found_in, none_false}
 

@@ -11,8 +11,11 @@ use Rattle.cf_effect.specs.Words.{current_at, is_current_at, is_update}
 use Rattle.cf_effect.specs.declared.call.Call.{Call}
 use Rattle.cf_effect.specs.Calls.{own_calls, succeeded}
 use Rattle.cf_plan.specs.Between.{needs_at}
-use Rattle.cf_plan.specs.Forward.{In, here, there, IsDone, is_made, is_updated, is_right, plan_now, was_updated_at}
-use Rattle.cf_plan.specs.Done.{AreDone, HasTerms, IsNext, Joined, none, one, is_good_update, made_paths, needs_by, updated_paths}
+use Rattle.cf_plan.specs.Forward.{IsDone, is_made, is_updated, is_right, plan_now, was_updated_at}
+use Rattle.cf_tree.specs.Lists.{there}
+use Rattle.cf_tree.specs.Lists.{here}
+use Rattle.cf_tree.specs.Lists.{In}
+use Rattle.cf_plan.specs.Done.{AreDone, HasTerms, CanJoin, Joined, none, one, is_good_update, made_paths, planned_needs, updated_paths}
 use Rattle.cf_plan.proofs.Listed.{among_more, bytes_same, in_cons, in_none, or_cases, or_left, or_right}
 
 -- a resource is made at a path just where the path is among those of what was made
@@ -84,9 +87,9 @@ module _ (s : StackState) (terms : Plan) (terms_are : HasTerms s terms) where
     | inr k ↦ is_updated (sym (updated_among s p) ∙ k)
   ]
 
-  fresh_done : (done : List (List ℕ)) (p : List ℕ) → ((q : List ℕ) → is_among q done ≡ true → IsDone s q) → IsNext terms (plan_now s) s.held done p → IsDone s p
+  fresh_done : (done : List (List ℕ)) (p : List ℕ) → ((q : List ℕ) → is_among q done ≡ true → IsDone s q) → CanJoin terms (plan_now s) s.held done p → IsDone s p
   fresh_done done p h (i, (new, met, (r, at, sure, props))) =
-      is_right r (subst (In p) terms_are.paths i) (λ q j. h q (all_met (needs_by p terms) done met q (subst (In q) (sym (terms_are.needs p)) j))) at sure props
+      is_right r (subst (In p) terms_are.paths i) (λ q j. h q (all_met (planned_needs p terms) done met q (subst (In q) (sym (terms_are.needs p)) j))) at sure props
 
   sound : (done : List (List ℕ)) → Joined terms (plan_now s) s.held start done → (p : List ℕ) → is_among p done ≡ true → IsDone s p
   sound _ none p e = start_done p e
@@ -104,7 +107,7 @@ module _ (s : StackState) (terms : Plan) (terms_are : HasTerms s terms) where
   yes_or false h = absurd (h refl)
 
   complete :
-      (done : List (List ℕ)) → Joined terms (plan_now s) s.held start done → ((p : List ℕ) → IsNext terms (plan_now s) s.held done p → ⊥) →
+      (done : List (List ℕ)) → Joined terms (plan_now s) s.held start done → ((p : List ℕ) → CanJoin terms (plan_now s) s.held done p → ⊥) →
       (p : List ℕ) → IsDone s p → is_among p done ≡ true
   complete done j all p (is_made r e) =
       kept done j p (among_both p (made_paths s) (updated_paths s) ∙ or_left (is_among p (made_paths s)) (is_among p (updated_paths s)) (made_among p s.made ∙ ap is_some e))
@@ -116,9 +119,9 @@ module _ (s : StackState) (terms : Plan) (terms_are : HasTerms s terms) where
 
   pub are_done :
       (now : Plan) → now ≡ plan_now s → (first done : List (List ℕ)) → first ≡ start → Joined terms now s.held first done →
-      ((p : List ℕ) → IsNext terms now s.held done p → ⊥) → AreDone s done
+      ((p : List ℕ) → CanJoin terms now s.held done p → ⊥) → AreDone s done
   are_done now f first done g j all =
       let k : Joined terms (plan_now s) s.held start done =
       subst (λ n. Joined terms n s.held start done) f (subst (λ l. Joined terms now s.held l done) g j) in
-      let last : (p : List ℕ) → IsNext terms (plan_now s) s.held done p → ⊥ = λ p n. all p (subst (λ m. IsNext terms m s.held done p) (sym f) n) in
+      let last : (p : List ℕ) → CanJoin terms (plan_now s) s.held done p → ⊥ = λ p n. all p (subst (λ m. CanJoin terms m s.held done p) (sym f) n) in
       λ p. (complete done k last p, sound done k p)

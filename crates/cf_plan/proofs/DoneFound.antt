@@ -1,8 +1,11 @@
 -- Which paths of a forward phase are done is found: one after another joins them, until none is left that may; and of the others
 -- the first in the order of work is ready.
 use Rattle.std.proofs.Common.{◌≡◌, ◌≢◌, ◌⊎◌, inl, inr, ℕ, true, false, ◌&&◌, List, ◌∷◌, ◌++◌, Option, Some, None, refl, sym, ap, subst, ◌∙◌, true≢false, map, find, [], suc, zero, ◌≤◌, ◌<◌, arith, length-append, ◌+◌, Bool, not, filter}
-use Rattle.cf_plan.specs.Forward.{AllDone, Bad, Finding, In, IsReady, Known, Later, evaluated_at, here, plan_before, plan_in, plan_now, there, wanted_paths, finding, known_or_later}
-use Rattle.cf_plan.specs.Done.{AreDone, HasTerms, made_paths, updated_paths, IsFresh, IsHeldRight, IsNext, Joined, one, none, are_met}
+use Rattle.cf_plan.specs.Forward.{AllDone, Bad, Finding, IsReady, Known, Later, evaluated_at, plan_before, plan_in, plan_now, wanted_paths, finding, known_or_later}
+use Rattle.cf_tree.specs.Lists.{there}
+use Rattle.cf_tree.specs.Lists.{here}
+use Rattle.cf_tree.specs.Lists.{In}
+use Rattle.cf_plan.specs.Done.{AreDone, HasTerms, made_paths, updated_paths, IsFresh, IsHeldRight, CanJoin, Joined, one, none, are_met}
 use Rattle.cf_tree.specs.Datum.{Data, members_of}
 use Rattle.cf_effect.specs.declared.held.Held.{Held}
 use Rattle.cf_desired.specs.Seeing.{Seen}
@@ -106,7 +109,7 @@ module _ (s : StackState) (source : Source) (going : s.going ≡ Some source) wh
   Joins done = Joined (plan_before s) (plan_now s) s.held start done
 
   abbrev Next : List (List ℕ) → List ℕ → Type 0
-  Next done p = IsNext (plan_before s) (plan_now s) s.held done p
+  Next done p = CanJoin (plan_before s) (plan_now s) s.held done p
 
   fresh_or : (done : List (List ℕ)) (p : List ℕ)
       → IsFresh (plan_before s) (plan_now s) s.held done p ⊎ (IsFresh (plan_before s) (plan_now s) s.held done p → ⊥)

@@ -5,7 +5,10 @@ use Rattle.cf_plan.specs.Done.{AreDone}
 use Rattle.cf_effect.specs.declared.call.Call.{Call}
 use Rattle.cf_entry.specs.declared.turn.Cause.{Cause}
 use Rattle.cf_entry.specs.declared.entry.Entry.{Entry}
-use Rattle.cf_plan.specs.Forward.{HasFailed, In, IsCause, doubting, first_failing, first_failing_behind, first_refusing, here, is_refused_call, path_of_token, plan_before, plan_now, refusing, there}
+use Rattle.cf_plan.specs.Forward.{HasFailed, IsCause, doubting, first_failing, first_failing_behind, first_refusing, is_refused_call, path_of_token, plan_before, plan_now, refusing}
+use Rattle.cf_tree.specs.Lists.{there}
+use Rattle.cf_tree.specs.Lists.{here}
+use Rattle.cf_tree.specs.Lists.{In}
 use Rattle.cf_entry.specs.declared.turn.Reason.{Reason}
 use Rattle.cf_effect.specs.Operation.{Response, after_last, before_first, doubts_in, forward_of, is_doubt, is_phase, is_turn_or_opening, now_of, replies_in, reply_in, up_to_last}
 use Rattle.cf_schema.specs.declared.described.Schema.{Schema}

@@ -21,9 +21,11 @@ use Rattle.cf_effect.specs.Words.{resources_of}
 use Rattle.cf_effect.specs.declared.call.Call.{Call}
 use Rattle.cf_effect.specs.Operation.{Response, replies_in, is_of}
 use Rattle.cf_effect.specs.Calls.{call_under, refusals_of}
-use Rattle.cf_plan.specs.Forward.{In, here, there}
+use Rattle.cf_tree.specs.Lists.{there}
+use Rattle.cf_tree.specs.Lists.{here}
+use Rattle.cf_tree.specs.Lists.{In}
 use Rattle.cf_plan.specs.Follow.{is_bad_outcome, has_path, last_at, is_bad_last, is_failed_path, AreFailed}
-use Rattle.cf_plan.specs.Blaming.{Verdicts, noted, noted_call, verdicts_of, blamed, blames_of, bad_among}
+use Rattle.cf_plan.specs.Blaming.{BadPaths, with_outcome, noted_call, bad_paths, with_refused, blames_of, bad_among}
 use Rattle.cf_plan.proofs.Members.{not_both, in_first}
 use Rattle.cf_plan.proofs.Orders.{lower, not_below_itself}
 use Rattle.std.proofs.lemmas.Bool.{cond_both}
@@ -67,7 +69,7 @@ module _ (s : StackState) (p : List ℕ) where
   verdict_or None b = refl
   verdict_or (Some r) b = refl
 
-  call_put : (o : Option Call) (answer : Reply) (vs : Verdicts)
+  call_put : (o : Option Call) (answer : Reply) (vs : BadPaths)
       → value_at p (noted_call o answer vs) ≡ option_or (cond (has_path p o) (Some (is_bad_outcome o answer)) None) (value_at p vs)
   call_put None answer vs = refl
   call_put (Some c) answer vs = put_is p c.path (is_bad_outcome (Some c) answer) vs ∙ by (bytes_eq p c.path)
@@ -82,12 +84,12 @@ module _ (s : StackState) (p : List ℕ) where
   verdict_if false r = refl
 
   -- the walk leaves under the path what its last outcome is
-  walked : (es : List Entry) (vs : Verdicts) → value_at p (fold (noted s) vs es) ≡ option_or (verdict (last_in es)) (value_at p vs)
+  walked : (es : List Entry) (vs : BadPaths) → value_at p (fold (with_outcome s) vs es) ≡ option_or (verdict (last_in es)) (value_at p vs)
   walked [] vs = refl
   walked (entry.Outcome number token answer before after ∷ es) vs = by (s.operation == number) (walked es)
     where
-      by : (b : Bool) → ((ws : Verdicts) → value_at p (fold (noted s) ws es) ≡ option_or (verdict (last_in es)) (value_at p ws))
-          → value_at p (fold (noted s) (cond b (noted_call (call_under token s) answer vs) vs) es)
+      by : (b : Bool) → ((ws : BadPaths) → value_at p (fold (with_outcome s) ws es) ≡ option_or (verdict (last_in es)) (value_at p ws))
+          → value_at p (fold (with_outcome s) (cond b (noted_call (call_under token s) answer vs) vs) es)
           ≡ option_or (verdict (find (λ q. has_path p (call_under q.token s))
           (reverse (replies_in (cond b (entry.Outcome number token answer before after ∷ filter (is_of s.operation) es) (filter (is_of s.operation) es))))))
           (value_at p vs)
@@ -104,40 +106,40 @@ module _ (s : StackState) (p : List ℕ) where
   walked (entry.ChangeSet number stack source rows outputs ∷ es) vs = walked es vs
   walked (entry.Begin number stack kind ∷ es) vs = passed (s.operation == number) (walked es vs)
     where
-      passed : (b : Bool) → value_at p (fold (noted s) vs es) ≡ option_or (verdict (last_in es)) (value_at p vs)
-          → value_at p (fold (noted s) vs es)
+      passed : (b : Bool) → value_at p (fold (with_outcome s) vs es) ≡ option_or (verdict (last_in es)) (value_at p vs)
+          → value_at p (fold (with_outcome s) vs es)
           ≡ option_or (verdict (find (λ q. has_path p (call_under q.token s))
           (reverse (replies_in (cond b (entry.Begin number stack kind ∷ filter (is_of s.operation) es) (filter (is_of s.operation) es)))))) (value_at p vs)
       passed true h = h
       passed false h = h
   walked (entry.Kept number path physical w ∷ es) vs = passed (s.operation == number) (walked es vs)
     where
-      passed : (b : Bool) → value_at p (fold (noted s) vs es) ≡ option_or (verdict (last_in es)) (value_at p vs)
-          → value_at p (fold (noted s) vs es)
+      passed : (b : Bool) → value_at p (fold (with_outcome s) vs es) ≡ option_or (verdict (last_in es)) (value_at p vs)
+          → value_at p (fold (with_outcome s) vs es)
           ≡ option_or (verdict (find (λ k. has_path p (call_under k.token s))
           (reverse (replies_in (cond b (entry.Kept number path physical w ∷ filter (is_of s.operation) es) (filter (is_of s.operation) es)))))) (value_at p vs)
       passed true h = h
       passed false h = h
   walked (entry.Intent number token lane path r ∷ es) vs = passed (s.operation == number) (walked es vs)
     where
-      passed : (b : Bool) → value_at p (fold (noted s) vs es) ≡ option_or (verdict (last_in es)) (value_at p vs)
-          → value_at p (fold (noted s) vs es)
+      passed : (b : Bool) → value_at p (fold (with_outcome s) vs es) ≡ option_or (verdict (last_in es)) (value_at p vs)
+          → value_at p (fold (with_outcome s) vs es)
           ≡ option_or (verdict (find (λ k. has_path p (call_under k.token s))
           (reverse (replies_in (cond b (entry.Intent number token lane path r ∷ filter (is_of s.operation) es) (filter (is_of s.operation) es)))))) (value_at p vs)
       passed true h = h
       passed false h = h
   walked (entry.Phase number q c ∷ es) vs = passed (s.operation == number) (walked es vs)
     where
-      passed : (b : Bool) → value_at p (fold (noted s) vs es) ≡ option_or (verdict (last_in es)) (value_at p vs)
-          → value_at p (fold (noted s) vs es)
+      passed : (b : Bool) → value_at p (fold (with_outcome s) vs es) ≡ option_or (verdict (last_in es)) (value_at p vs)
+          → value_at p (fold (with_outcome s) vs es)
           ≡ option_or (verdict (find (λ k. has_path p (call_under k.token s))
           (reverse (replies_in (cond b (entry.Phase number q c ∷ filter (is_of s.operation) es) (filter (is_of s.operation) es)))))) (value_at p vs)
       passed true h = h
       passed false h = h
   walked (entry.Done number state failed ∷ es) vs = passed (s.operation == number) (walked es vs)
     where
-      passed : (b : Bool) → value_at p (fold (noted s) vs es) ≡ option_or (verdict (last_in es)) (value_at p vs)
-          → value_at p (fold (noted s) vs es)
+      passed : (b : Bool) → value_at p (fold (with_outcome s) vs es) ≡ option_or (verdict (last_in es)) (value_at p vs)
+          → value_at p (fold (with_outcome s) vs es)
           ≡ option_or (verdict (find (λ k. has_path p (call_under k.token s))
           (reverse (replies_in (cond b (entry.Done number state failed ∷ filter (is_of s.operation) es) (filter (is_of s.operation) es)))))) (value_at p vs)
       passed true h = h
@@ -147,7 +149,7 @@ module _ (s : StackState) (p : List ℕ) where
   abbrev is_blamed : Held → Bool
   is_blamed r = bytes_eq p r.path && nat_lt 0 (refusals_of r.physical s)
 
-  blamed_is : (r : Held) (vs : Verdicts) → value_at p (blamed s vs r) ≡ cond (is_blamed r) (Some true) (value_at p vs)
+  blamed_is : (r : Held) (vs : BadPaths) → value_at p (with_refused s vs r) ≡ cond (is_blamed r) (Some true) (value_at p vs)
   blamed_is r vs = by (nat_lt 0 (refusals_of r.physical s))
     where
       at : (b : Bool) → cond b (Some true) (value_at p vs) ≡ cond (b && true) (Some true) (value_at p vs)
@@ -162,10 +164,10 @@ module _ (s : StackState) (p : List ℕ) where
       by true = put_is p r.path true vs ∙ at (bytes_eq p r.path)
       by false = not_at (bytes_eq p r.path)
 
-  blames_are : (rs : List Held) (vs : Verdicts) → value_at p (fold (blamed s) vs rs) ≡ cond (list_any is_blamed rs) (Some true) (value_at p vs)
+  blames_are : (rs : List Held) (vs : BadPaths) → value_at p (fold (with_refused s) vs rs) ≡ cond (list_any is_blamed rs) (Some true) (value_at p vs)
   blames_are [] vs = refl
   blames_are (r ∷ rs) vs =
-      blames_are rs (blamed s vs r)
+      blames_are rs (with_refused s vs r)
       ∙ (ap (λ (o : Option Bool). cond (list_any is_blamed rs) (Some true) o) (blamed_is r vs) ∙ by (is_blamed r) (list_any is_blamed rs))
     where
       by : (b c : Bool) → cond c (Some true) (cond b (Some true) (value_at p vs)) ≡ cond (b || c) (Some true) (value_at p vs)
@@ -197,19 +199,19 @@ module _ (s : StackState) (p : List ℕ) where
   failed_is : (value_at p (blames_of s) ≡ Some true) ↔ (is_failed_path s p ≡ true)
   failed_is =
       let e : value_at p (blames_of s) ≡ cond (list_any is_blamed (resources_of s)) (Some true) (option_or (verdict (last_at p s)) None) =
-      blames_are (resources_of s) (verdicts_of s) ∙ ap (λ (o : Option Bool). cond (list_any is_blamed (resources_of s)) (Some true) o) (walked s.entries []) in
+      blames_are (resources_of s) (bad_paths s) ∙ ap (λ (o : Option Bool). cond (list_any is_blamed (resources_of s)) (Some true) o) (walked s.entries []) in
       let w = either_way (list_any is_blamed (resources_of s)) (last_at p s) in
       (λ h. w.0 (sym e ∙ h), λ h. e ∙ w.1 h)
 
 -- the names under which true stands ascend, and are just those that a look-up finds
 module _ where
-  names_from : (k : List ℕ) (vs : Verdicts) → ascends_from k vs ≡ true → texts_ascend_from k (bad_among vs) ≡ true
+  names_from : (k : List ℕ) (vs : BadPaths) → ascends_from k vs ≡ true → texts_ascend_from k (bad_among vs) ≡ true
   names_from k [] h = refl
   names_from k (v ∷ vs) h =
       by (first_so (bytes_lt k v.0) (ascends_from v.0 vs) h) (names_from v.0 vs (second_so (bytes_lt k v.0) (ascends_from v.0 vs) h))
       (λ below. names_from k vs (further k v.0 vs below (second_so (bytes_lt k v.0) (ascends_from v.0 vs) h))) v.1
     where
-      further : (j l : List ℕ) (ws : Verdicts) → bytes_lt j l ≡ true → ascends_from l ws ≡ true → ascends_from j ws ≡ true
+      further : (j l : List ℕ) (ws : BadPaths) → bytes_lt j l ≡ true → ascends_from l ws ≡ true → ascends_from j ws ≡ true
       further j l [] below a = refl
       further j l (w ∷ ws) below a =
           rw (lower j l w.0 below (first_so (bytes_lt l w.0) (ascends_from w.0 ws) a)) (second_so (bytes_lt l w.0) (ascends_from w.0 ws) a)
@@ -220,7 +222,7 @@ module _ where
       by below rest skip true = rw below rest
       by below rest skip false = skip below
 
-pub names_ascend : (vs : Verdicts) → ascends vs ≡ true → texts_ascend (bad_among vs) ≡ true
+pub names_ascend : (vs : BadPaths) → ascends vs ≡ true → texts_ascend (bad_among vs) ≡ true
 names_ascend [] h = refl
 names_ascend (v ∷ vs) h = by (names_from v.0 vs h) v.1
   where
@@ -234,7 +236,7 @@ names_ascend (v ∷ vs) h = by (names_from v.0 vs h) v.1
     by a false = apart (bad_among vs) a
 
 -- a name that stands behind another is not the same
-not_behind : (vs : Verdicts) (k p : List ℕ) → ascends_from k vs ≡ true → In p (bad_among vs) → bytes_lt k p ≡ true
+not_behind : (vs : BadPaths) (k p : List ℕ) → ascends_from k vs ≡ true → In p (bad_among vs) → bytes_lt k p ≡ true
 not_behind [] k p h i = elim i [ ]
 not_behind (v ∷ vs) k p h i =
     by (first_so (bytes_lt k v.0) (ascends_from v.0 vs) h) (λ q j. not_behind vs v.0 q (second_so (bytes_lt k v.0) (ascends_from v.0 vs) h) j) v.1 i
@@ -244,11 +246,11 @@ not_behind (v ∷ vs) k p h i =
     by below rest true j = in_first (λ q. bytes_lt k q ≡ true) v.0 (bad_among vs) below (λ q l. lower k v.0 q below (rest q l)) p j
     by below rest false j = lower k v.0 p below (rest p j)
 
-listed : (p : List ℕ) (vs : Verdicts) → ascends vs ≡ true → In p (bad_among vs) ↔ (value_at p vs ≡ Some true)
+listed : (p : List ℕ) (vs : BadPaths) → ascends vs ≡ true → In p (bad_among vs) ↔ (value_at p vs ≡ Some true)
 listed p [] h = (λ i. elim i [ ], λ e. absurd cc)
 listed p (v ∷ vs) h = by (bytes_eq p v.0) refl v.1 (listed p vs (apart vs h))
   where
-    apart : (ws : Verdicts) → ascends_from v.0 ws ≡ true → ascends ws ≡ true
+    apart : (ws : BadPaths) → ascends_from v.0 ws ≡ true → ascends ws ≡ true
     apart [] a = refl
     apart (w ∷ ws) a = second_so (bytes_lt v.0 w.0) (ascends_from w.0 ws) a
 
@@ -272,7 +274,7 @@ listed p (v ∷ vs) h = by (bytes_eq p v.0) refl v.1 (listed p vs (apart vs h))
     by false n false rest = rest
 
 -- the list of the failed paths, made or not
-pub failing : {E : Type 0} (s : StackState) (vs : Verdicts) (made : Result (List (List ℕ)) E) → ascends vs ≡ true → vs ≡ blames_of s
+pub failing : {E : Type 0} (s : StackState) (vs : BadPaths) (made : Result (List (List ℕ)) E) → ascends vs ≡ true → vs ≡ blames_of s
     → IfOk made (λ ns. ns ≡ bad_among vs) → IfOk made (λ ns. AreFailed s status.RollbackFailed ns)
 failing s vs (Err fault) a e h = h
 failing s vs (Ok ns) a e h =
@@ -285,12 +287,12 @@ failing s vs (Ok ns) a e h =
     )
 
 -- the failed paths of an end
-module _ {A : Type 0} (f : Verdicts → A → Verdicts) (keeps : (vs : Verdicts) (a : A) → ascends vs ≡ true → ascends (f vs a) ≡ true) where
-  all_ascend : (xs : List A) (vs : Verdicts) → ascends vs ≡ true → ascends (fold f vs xs) ≡ true
+module _ {A : Type 0} (f : BadPaths → A → BadPaths) (keeps : (vs : BadPaths) (a : A) → ascends vs ≡ true → ascends (f vs a) ≡ true) where
+  all_ascend : (xs : List A) (vs : BadPaths) → ascends vs ≡ true → ascends (fold f vs xs) ≡ true
   all_ascend [] vs e = e
   all_ascend (x ∷ xs) vs e = all_ascend xs (f vs x) (keeps vs x e)
 
-noted_ascends : (s : StackState) (vs : Verdicts) (e : Entry) → ascends vs ≡ true → ascends (noted s vs e) ≡ true
+noted_ascends : (s : StackState) (vs : BadPaths) (e : Entry) → ascends vs ≡ true → ascends (with_outcome s vs e) ≡ true
 noted_ascends s vs (entry.Outcome number token a before after) h = cond_both (s.operation == number) _ vs (λ ws. ascends ws ≡ true) (λ e. by (call_under token s)) (λ e. h) where
   by : (o : Option Call) → ascends (noted_call o a vs) ≡ true
   by None = h
@@ -303,5 +305,5 @@ failed_list s = bad_among (blames_of s)
 pub are_failed : (s : StackState) → AreFailed s status.RollbackFailed (failed_list s)
 are_failed s =
     failing {E = AllocError} s (blames_of s) (Ok (failed_list s))
-    (all_ascend (blamed s) (λ vs r e. cond_both (nat_lt 0 (refusals_of r.physical s)) _ vs (λ ws. ascends ws ≡ true) (λ f. ascends_put r.path true vs e) (λ f. e)) (resources_of s)
-    (verdicts_of s) (all_ascend (noted s) (noted_ascends s) s.entries [] refl)) refl refl
+    (all_ascend (with_refused s) (λ vs r e. cond_both (nat_lt 0 (refusals_of r.physical s)) _ vs (λ ws. ascends ws ≡ true) (λ f. ascends_put r.path true vs e) (λ f. e)) (resources_of s)
+    (bad_paths s) (all_ascend (with_outcome s) (noted_ascends s) s.entries [] refl)) refl refl

@@ -6,8 +6,8 @@ use Rattle.cf_tree.specs.Lists.{is_among}
 use Rattle.cf_desired.specs.declared.wanted.Wanted.{Wanted}
 use Rattle.cf_desired.specs.declared.wanted.Plan.{Plan}
 use Rattle.cf_effect.specs.declared.held.Held.{Held}
-use Rattle.cf_plan.specs.Forward.{In}
-use Rattle.cf_plan.specs.Done.{Adds, IsFresh, Joined, none, one}
+use Rattle.cf_tree.specs.Lists.{In}
+use Rattle.cf_plan.specs.Done.{AddsPath, IsFresh, Joined, none, one}
 use Rattle.cf_plan.proofs.Answered.{counted}
 use Rattle.cf_plan.proofs.Listed.{among_more, in_at, in_cons, in_last, in_map, in_none, map_more, same_bytes}
 
@@ -35,12 +35,12 @@ module _ (before now : Plan) (held : List Held) where
   NoneOf old new seen = new ≡ old → (q : List ℕ) → In q seen → IsFresh before now held old q → ⊥
 
   pub one_joined :
-      (old done new : Paths) (p : List ℕ) → In p wants → Joined before now held old done → Adds before now held p done new → Joined before now held old new
+      (old done new : Paths) (p : List ℕ) → In p wants → Joined before now held old done → AddsPath before now held p done new → Joined before now held old new
   one_joined old done new p i j (inl (f, e)) = subst (Joined before now held old) (sym e) (one j (i, f))
   one_joined old done new p i j (inr (f, e)) = subst (Joined before now held old) (sym e) j
 
   pub one_seen :
-      (old done new : Paths) (p : List ℕ) (seen : Paths) → Joined before now held old done → NoneOf old done seen → Adds before now held p done new →
+      (old done new : Paths) (p : List ℕ) (seen : Paths) → Joined before now held old done → NoneOf old done seen → AddsPath before now held p done new →
       NoneOf old new (seen ++ p ∷ [])
   one_seen old done new p seen j h (inl (f, e)) same q i g =
       let l = joined_longer old done j in let n = ap length (sym e ∙ same) in absurd (omega (arith, l, n, length-append done (p ∷ [])))
@@ -54,7 +54,7 @@ module _ (before now : Plan) (held : List Held) where
   -- a step of the round
   pub round :
       (old done new : Paths) (i : ℕ) (w : Wanted) → i < length before.wanted → w ≡ get_or before.wanted i w →
-      Joined before now held old done × NoneOf old done (map (λ (v : Wanted). v.path) (take i before.wanted)) → Adds before now held w.path done new →
+      Joined before now held old done × NoneOf old done (map (λ (v : Wanted). v.path) (take i before.wanted)) → AddsPath before now held w.path done new →
       Joined before now held old new × NoneOf old new (map (λ (v : Wanted). v.path) (take (i + 1) before.wanted))
   round old done new i w l e (j, n) a =
       let wanted : In w.path wants = in_map (λ (v : Wanted). v.path) w before.wanted (subst (λ v. In v before.wanted) (sym e) (in_at before.wanted i w l)) in

@@ -35,10 +35,12 @@ use Rattle.cf_effect.specs.Reply.{answered, changing, intending, keeping, keepin
 use Rattle.cf_effect.specs.End.{ended_effect}
 use Rattle.cf_effect.specs.Effect.{Effect}
 use Rattle.cf_effect.specs.Fold.{effect_at, fold_of, world_after}
-use Rattle.cf_plan.specs.Forward.{In, here, there}
+use Rattle.cf_tree.specs.Lists.{there}
+use Rattle.cf_tree.specs.Lists.{here}
+use Rattle.cf_tree.specs.Lists.{In}
 use Rattle.cf_plan.specs.Follow.{MayFollow, MayFollowOn, MayFollowIn, MayTurn, EndsAs}
-use Rattle.cf_plan.specs.Run.{Told, IsDone, IsOwn, Runs}
-use Rattle.cf_plan.specs.Going.{Creates, IsUnderWay, ends_creation, IsOver, Leaves, CreationStarts, CreationGoesOn, CreationEnds, CreationIsProper, AnswerFollows, IntentOpens}
+use Rattle.cf_plan.specs.Run.{LaneStates, IsRunEntry, IsOwn, Runs}
+use Rattle.cf_plan.specs.Going.{Creates, IsUnderWay, ends_creation, IsOver, CreationLeaves, CreationStarts, CreationGoesOn, CreationEnds, CreationIsProper, AnswerFollows, IntentOpens}
 use Rattle.cf_plan.proofs.Frame.{IsOn, begun_here, begun_on, created, found_passes, here_after, none_after, number_is, on_after}
 
 in_progress : (s : StackState) → Creates s → is_in_progress s.status ≡ true
@@ -358,7 +360,7 @@ goes_on schemas names x told now counts counted number name (entry.Begin n stack
 goes_on schemas names x told now counts counted number name (entry.ChangeSet n stack from rows outputs) u own done = absurd own
 
 -- a creation goes on or is over
-either_way : (number : ℕ) (name : List ℕ) (e : Entry) (y : World) → Leaves number name e y → IsUnderWay number name y ⊎ IsOver number name y
+either_way : (number : ℕ) (name : List ℕ) (e : Entry) (y : World) → CreationLeaves number name e y → IsUnderWay number name y ⊎ IsOver number name y
 either_way number name (entry.Kept n path physical w) y l = inl l
 either_way number name (entry.Intent n token lane path r) y l = inl l
 either_way number name (entry.Outcome n token a before after) y l = inl l
@@ -371,12 +373,12 @@ either_way number name (entry.ChangeSet n stack from rows outputs) y l = inl l
 none_some : {A : Type 0} (a : A) → None ≡ Some a → ⊥
 none_some a e = let no : ⊥ = cc in no
 
-module _ (schemas : List Schema) (names : List (List ℕ)) (told now : Told) (counts counted : List ℕ) (number : ℕ) (x : World) (none : stack_of_operation number x ≡ None) where
+module _ (schemas : List Schema) (names : List (List ℕ)) (told now : LaneStates) (counts counted : List ℕ) (number : ℕ) (x : World) (none : stack_of_operation number x ≡ None) where
   never : (n : ℕ) (f : Entry) (out : List ℕ) → n ≡ number → MayFollowOn schemas n x out f → ⊥
   never n f out same may = none_some (may.0, may.1) (sym none ∙ ap (λ m. stack_of_operation m x) (sym same) ∙ may.3)
 
   -- nothing of an operation follows where none is in progress
-  none_follows : (f : Entry) → IsOwn number f → IsDone schemas names x told now counts counted f → ⊥
+  none_follows : (f : Entry) → IsOwn number f → IsRunEntry schemas names x told now counts counted f → ⊥
   none_follows (entry.Kept n path physical w) own d = never n (entry.Kept n path physical w) [] own d.0
   none_follows (entry.Intent n token lane path r) own d = never n (entry.Intent n token lane path r) [] own d.0
   none_follows (entry.Outcome n token a before after) own d = never n (entry.Outcome n token a before after) (token ∷ []) own d.0
@@ -386,24 +388,24 @@ module _ (schemas : List Schema) (names : List (List ℕ)) (told now : Told) (co
   none_follows (entry.Begin n stack k) own d = own
   none_follows (entry.ChangeSet n stack from rows outputs) own d = own
 
-module _ (schemas : List Schema) (names : List (List ℕ)) (now : Told) (counted : List ℕ) (number : ℕ) (name : List ℕ) (state : Status) (failed : List (List ℕ)) where
+module _ (schemas : List Schema) (names : List (List ℕ)) (now : LaneStates) (counted : List ℕ) (number : ℕ) (name : List ℕ) (state : Status) (failed : List (List ℕ)) where
   abbrev whole : List Entry → List Entry
   whole es = es ++ entry.Done number state failed ∷ []
 
   after_one :
-      (x : World) (told next : Told) (counts counts' : List ℕ) (e : Entry) → IsUnderWay number name x ⊎ IsOver number name x → IsOwn number e
-      → IsDone schemas names x told next counts counts' e → IsUnderWay number name (world_after x e) ⊎ IsOver number name (world_after x e)
+      (x : World) (told next : LaneStates) (counts counts' : List ℕ) (e : Entry) → IsUnderWay number name x ⊎ IsOver number name x → IsOwn number e
+      → IsRunEntry schemas names x told next counts counts' e → IsUnderWay number name (world_after x e) ⊎ IsOver number name (world_after x e)
   after_one x told next counts counts' e (inl u) own d =
       either_way number name e (world_after x e) (goes_on schemas names x told next counts counts' number name e u own d)
   after_one x told next counts counts' e (inr o) own d = absurd (none_follows schemas names told next counts counts' number x o.none_going e own d)
 
-  ends_last : (x : World) (told next : Told) (counts counts' : List ℕ) → IsUnderWay number name x ⊎ IsOver number name x
-      → IsDone schemas names x told next counts counts' (entry.Done number state failed) → IsOver number name (world_after x (entry.Done number state failed))
+  ends_last : (x : World) (told next : LaneStates) (counts counts' : List ℕ) → IsUnderWay number name x ⊎ IsOver number name x
+      → IsRunEntry schemas names x told next counts counts' (entry.Done number state failed) → IsOver number name (world_after x (entry.Done number state failed))
   ends_last x told next counts counts' (inl u) d = goes_on schemas names x told next counts counts' number name (entry.Done number state failed) u refl d
   ends_last x told next counts counts' (inr o) d = absurd (none_follows schemas names told next counts counts' number x o.none_going (entry.Done number state failed) refl d)
 
   ends_run :
-      (es : List Entry) (x : World) (told : Told) (counts : List ℕ) → IsUnderWay number name x ⊎ IsOver number name x
+      (es : List Entry) (x : World) (told : LaneStates) (counts : List ℕ) → IsUnderWay number name x ⊎ IsOver number name x
       → Runs schemas names x told counts (whole es) now counted → ((e : Entry) → In e (whole es) → IsOwn number e) → IsOver number name (fold_of x (whole es))
   ends_run [] x told counts a r own = ends_last x told r.0 counts r.1 a r.2
   ends_run (e ∷ es) x told counts a r own =

@@ -26,13 +26,15 @@ use Rattle.cf_effect.specs.End.{marked, left_in_doubt, as_wanted, is_physical_of
 use Rattle.cf_effect.specs.Fold.{world_after}
 use Rattle.cf_effect.specs.Begin.{seen_in}
 use Rattle.cf_effect.specs.Listed.{reexported, is_export_before, not_export_of, export_by}
-use Rattle.cf_plan.specs.Forward.{In, here, there}
+use Rattle.cf_tree.specs.Lists.{there}
+use Rattle.cf_tree.specs.Lists.{here}
+use Rattle.cf_tree.specs.Lists.{In}
 use Rattle.cf_plan.specs.Follow.{EndsAs, is_cleared}
 use Rattle.cf_plan.specs.Lanes.{Lane, lane_at}
 use Rattle.cf_plan.specs.Ends.{IsLive, IsComplete, IsRestored}
 use Rattle.cf_plan.specs.Created.{IsRightCreate, IsWholeHeld}
-use Rattle.cf_plan.specs.Run.{Told, AreFresh, told_lane, lanes_told, Tells, name_at, IsBorn, IsOurs, was_live, is_left, is_made, is_born, OnlyOurs, NothingNewer}
-use Rattle.cf_plan.specs.Keeping.{live_as, live_in, IsAlive, AreAlive, IsKept}
+use Rattle.cf_plan.specs.Run.{LaneStates, AreFresh, told_lane, lanes_told, IsState, name_at, IsSettledCreate, IsOurs, was_live, is_left, is_made, is_born, OnlyOurs, NothingNewer}
+use Rattle.cf_plan.specs.Keeping.{live_as, live_with, IsAlive, AreAlive, IsKept}
 use Rattle.cf_plan.proofs.CreatedRight.{not_so, none_of, in_filter}
 use Rattle.cf_plan.proofs.CreatedSeen.{shown, shown_at}
 use Rattle.cf_plan.proofs.CreatedEnd.{in_changed, ends_over}
@@ -115,7 +117,7 @@ only_those name exports all e = (
 
 -- the lane of a place is handed in under its name
 lane_found :
-    (names kinds : List (List ℕ)) (told : Told) (k : ℕ) (l : LaneState) → all_differ bytes_eq names ≡ true → length kinds ≡ length names → k < length names → Tells told k l
+    (names kinds : List (List ℕ)) (told : LaneStates) (k : ℕ) (l : LaneState) → all_differ bytes_eq names ≡ true → length kinds ≡ length names → k < length names → IsState told k l
     → lane_at (name_at names k) (lanes_told names kinds told) ≡ Some (told_lane (name_at names k) (name_at kinds k) l)
 lane_found [] kinds told k l d n i t = let no : ⊥ = omega arith in absurd no
 lane_found (a ∷ names) [] told k l d n i t = let no : ⊥ = omega arith in absurd no
@@ -157,12 +159,12 @@ marked_live ps h = by_found (find (is_on h.physical) ps) where
   by_found (Some p) = refl
 
 -- how a creation has ended
-pub data EndsSo (names kinds : List (List ℕ)) (began told : Told) (name : List ℕ) (source : Source) (y : World) (t : StackState) : Type 0 where
+pub data EndsSo (names kinds : List (List ℕ)) (began told : LaneStates) (name : List ℕ) (source : Source) (y : World) (t : StackState) : Type 0 where
   completes : t.status ≡ status.CreateComplete → IsComplete name y t (lanes_told names kinds told) → t.source ≡ Some source → EndsSo names kinds began told name source y t
   restores : t.status ≡ status.RollbackComplete → IsRestored t (lanes_told names kinds told) → t.before ≡ [] → NothingNewer t began told → EndsSo names kinds began told name source y t
   fails : t.status ≡ status.RollbackFailed → EndsSo names kinds began told name source y t
 
-pub record HasEnded (names kinds : List (List ℕ)) (began told : Told) (number : ℕ) (name : List ℕ) (source : Source) (y : World) : Type 0 where
+pub record HasEnded (names kinds : List (List ℕ)) (began told : LaneStates) (number : ℕ) (name : List ℕ) (source : Source) (y : World) : Type 0 where
   pub none : stack_of_operation number y ≡ None
   pub stack : StackState
   pub at_name : stack_at name y ≡ Some stack
@@ -170,7 +172,7 @@ pub record HasEnded (names kinds : List (List ℕ)) (began told : Told) (number 
   pub so : EndsSo names kinds began told name source y stack
   pub only_ours : OnlyOurs names stack began told
   pub as_many : length told ≡ length names
-  pub all_tell : (k : ℕ) (before : LaneState) → Tells began k before → (lane : LaneState) × Tells told k lane
+  pub all_tell : (k : ℕ) (before : LaneState) → IsState began k before → (lane : LaneState) × IsState told k lane
   pub fresh : AreFresh y.token told
 
 pub not_in : {A : Type 0} (x : A) (xs : List A) → xs ≡ [] → In x xs → ⊥
@@ -183,7 +185,7 @@ unmarked : (hs : List Held) → map (marked []) hs ≡ hs
 unmarked [] = refl
 unmarked (h ∷ hs) = ap (λ t. h ∷ t) (unmarked hs)
 
-module _ (schemas : List Schema) (names kinds : List (List ℕ)) (began told : Told) (number : ℕ) (name : List ℕ) (source : Source) (x : World) (s : StackState)
+module _ (schemas : List Schema) (names kinds : List (List ℕ)) (began told : LaneStates) (number : ℕ) (name : List ℕ) (source : Source) (x : World) (s : StackState)
     (h : IsKept names began told number name source x s) (lanes_differ : all_differ bytes_eq names ≡ true) (as_many : length kinds ≡ length names) (failed : List (List ℕ)) where
   abbrev lanes : List Lane
   lanes = lanes_told names kinds told
@@ -207,7 +209,7 @@ module _ (schemas : List Schema) (names kinds : List (List ℕ)) (began told : T
       record {
         lane = told_lane (name_at names a.place) (name_at kinds a.place) a.lane;
         home = record { handed_in = lane_found names kinds told a.place a.lane lanes_differ as_many i a.tells; named = subst (IsOfLane (name_at names a.place)) e a.named };
-        live = ap (λ id. live_in id a.lane) (sym e) ∙ a.live;
+        live = ap (λ id. live_with id a.lane) (sym e) ∙ a.live;
       }
 
   -- the stack as it stops, before what is made is held
@@ -296,7 +298,7 @@ module _ (schemas : List Schema) (names kinds : List (List ℕ)) (began told : T
     by_part (was_live e) = was_live e
     by_part (is_left e) = is_left (subst (λ ls. list_any (λ l. bytes_eq v.id l.physical) ls ≡ true) (sym leftovers) e)
     by_part (is_made r j e o) = let q = kept r j in is_made q.0 q.1 (q.2 ∙ e) o
-    by_part (is_born w) = is_born (subst (λ ps. IsBorn names told ps k after v.id) (sym tokens) w)
+    by_part (is_born w) = is_born (subst (λ ps. IsSettledCreate names told ps k after v.id) (sym tokens) w)
 
   -- where the creation is complete, what was made is held
   made_held : (r : Held) → In r s.made → (q : Held) × In q (resources_of (end_of status.CreateComplete)) × (q.physical ≡ r.physical)

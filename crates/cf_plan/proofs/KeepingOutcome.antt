@@ -32,10 +32,10 @@ use Rattle.cf_effect.specs.Calls.{is_restore}
 use Rattle.cf_effect.specs.Reply.{answered, closing, deleting, made_of, replied, replying, status_made, still_open, terms_at, with_status}
 use Rattle.cf_effect.specs.Fold.{world_after}
 use Rattle.cf_effect.specs.declared.held.HeldStatus.TheVariants as held
-use Rattle.cf_plan.specs.Forward.{In}
+use Rattle.cf_tree.specs.Lists.{In}
 use Rattle.cf_plan.specs.Created.{IsRightCreate, IsSaid}
-use Rattle.cf_plan.specs.Run.{Told, IsDone, IsAsked, answer_as, Tells, name_at, IsSettledAs}
-use Rattle.cf_plan.specs.Keeping.{has_gone, Agree, AreAlive, IsOnItsWay, makes, takes_back, IsKept}
+use Rattle.cf_plan.specs.Run.{LaneStates, IsRunEntry, IsAsked, answer_as, IsState, name_at, IsSettledAs}
+use Rattle.cf_plan.specs.Keeping.{has_gone, LanesAgree, AreAlive, IsOnItsWay, makes, takes_back, IsKept}
 use Rattle.cf_plan.proofs.CreatedStays.{found_one}
 use Rattle.cf_plan.proofs.CreatedRight.{outcome_right}
 use Rattle.cf_plan.proofs.RunLanes.{settled_now}
@@ -49,25 +49,25 @@ abbrev AllCreate : List Pending → Type 0
 AllCreate ps = (q : Pending) → In q ps → is_create q.request ≡ true
 
 -- What the lanes tell once an open call was answered: they agree with the stack, and the call is settled so.
-pub record Acted (names : List (List ℕ)) (began told now : Told) (made : List Held) (tokens : List Pending) (leftovers : List Leftover) (last : ℕ) : Type 0 where
-  pub agree : Agree names began now made tokens leftovers last
+pub record Acted (names : List (List ℕ)) (began told now : LaneStates) (made : List Held) (tokens : List Pending) (leftovers : List Leftover) (last : ℕ) : Type 0 where
+  pub agree : LanesAgree names began now made tokens leftovers last
   pub alive : AreAlive names told made tokens → AllCreate tokens → AreAlive names now made tokens
 
-pub record Settled (names : List (List ℕ)) (now : Told) (p : Pending) (s : Settlement) : Type 0 where
+pub record Settled (names : List (List ℕ)) (now : LaneStates) (p : Pending) (s : Settlement) : Type 0 where
   pub place : ℕ
   pub lane : LaneState
   pub settled : IsSettledAs names now p place lane s
 
-module _ (names : List (List ℕ)) (began told : Told) (made : List Held) (tokens : List Pending) (leftovers : List Leftover) (last : ℕ)
-    (h : Agree names began told made tokens leftovers last) (lanes_named : list_all is_lane_name names ≡ true) (lanes_differ : all_differ bytes_eq names ≡ true)
-    (p : Pending) (i : In p tokens) (k : ℕ) (named : name_at names k ≡ p.lane) (lane after : LaneState) (tells : Tells told k lane) (now : Told)
+module _ (names : List (List ℕ)) (began told : LaneStates) (made : List Held) (tokens : List Pending) (leftovers : List Leftover) (last : ℕ)
+    (h : LanesAgree names began told made tokens leftovers last) (lanes_named : list_all is_lane_name names ≡ true) (lanes_differ : all_differ bytes_eq names ≡ true)
+    (p : Pending) (i : In p tokens) (k : ℕ) (named : name_at names k ≡ p.lane) (lane after : LaneState) (tells : IsState told k lane) (now : LaneStates)
     (moves : now ≡ slice_set told k (Some after)) where
   -- a lane that didn't move
   quiet : after ≡ lane → Acted names began told now made tokens leftovers last × (now ≡ told)
   quiet e =
       let same : now ≡ told = moves ∙ ap (λ l. slice_set told k (Some l)) e ∙ ap (slice_set told k) (sym tells) ∙ set-get_or told k None in (
         record {
-          agree = subst (λ t. Agree names began t made tokens leftovers last) (sym same) h;
+          agree = subst (λ t. LanesAgree names began t made tokens leftovers last) (sym same) h;
           alive = λ all creates. subst (λ t. AreAlive names t made tokens) (sym same) all;
         },
         same,
@@ -86,7 +86,7 @@ module _ (names : List (List ℕ)) (began told : Told) (made : List Held) (token
   settled_by s None e m =
       let same : slice_set told k (Some (with_settled lane (record { token = p.token; request = p.request; settlement = s }))) ≡ now = ap (λ l. slice_set told k (Some l)) (sym m.1) ∙ sym moves in (
         record {
-          agree = subst (λ t. Agree names began t made tokens leftovers last) same (agree_settled names began told made tokens leftovers last h lanes_named lanes_differ p i k lane tells named s e m.0);
+          agree = subst (λ t. LanesAgree names began t made tokens leftovers last) same (agree_settled names began told made tokens leftovers last h lanes_named lanes_differ p i k lane tells named s e m.0);
           alive = λ all creates. subst (λ t. AreAlive names t made tokens) same (alive_settled names began told made tokens leftovers last h lanes_named lanes_differ p i k lane tells named s e m.0 all creates);
         },
         record {
@@ -117,12 +117,12 @@ all_create source s right q i = by_request q.request (right.1.said q i) where
   by_request (request.Delete physical) said = absurd said
 
 -- what an answer tells of its call: it is settled so; a doubt tells nothing
-abbrev IsToldBy : List (List ℕ) → Told → Pending → Reply → Type 0
+abbrev IsToldBy : List (List ℕ) → LaneStates → Pending → Reply → Type 0
 IsToldBy names now p (reply.Success id attrs) = Settled names now p (Success id attrs)
 IsToldBy names now p (reply.Failed c) = Settled names now p (Failed c)
 IsToldBy names now p reply.Doubt = ⊤
 
-module _ (names : List (List ℕ)) (began told now : Told) (number : ℕ) (name : List ℕ) (source : Source) (x : World) (s : StackState)
+module _ (names : List (List ℕ)) (began told now : LaneStates) (number : ℕ) (name : List ℕ) (source : Source) (x : World) (s : StackState)
     (h : IsKept names began told number name source x s) (lanes_named : list_all is_lane_name names ≡ true) (lanes_differ : all_differ bytes_eq names ≡ true)
     (p : Pending) (i : In p s.tokens) (acted : Acted names began told now s.made s.tokens s.leftovers x.token) where
   abbrev closed : Request → Reply → StackState
@@ -134,7 +134,7 @@ module _ (names : List (List ℕ)) (began told now : Told) (number : ℕ) (name 
     pub status : u.status ≡ s.status
     pub before : u.before ≡ s.before
     pub none_held : u.held ≡ []
-    pub agree : Agree names began now u.made u.tokens u.leftovers x.token
+    pub agree : LanesAgree names began now u.made u.tokens u.leftovers x.token
     pub alive : AreAlive names told s.made s.tokens → AllCreate s.tokens → AreAlive names now u.made u.tokens
 
   -- a call that deletes is none of a create
@@ -179,7 +179,7 @@ module _ (names : List (List ℕ)) (began told now : Told) (number : ℕ) (name 
     before = refl;
     none_held = ap (without id) h.none_held;
     agree =
-        subst (λ ps. Agree names began now (without id s.made) ps s.leftovers x.token) (sym tokens)
+        subst (λ ps. LanesAgree names began now (without id s.made) ps s.leftovers x.token) (sym tokens)
         (agree_deleted names began now s.made s.tokens s.leftovers x.token acted.agree lanes_named lanes_differ p i so.place so.lane t so.settled id e gone);
     alive = λ all creates. never_deletes _ id e creates;
   }
@@ -194,7 +194,7 @@ module _ (names : List (List ℕ)) (began told now : Told) (number : ℕ) (name 
     before = refl;
     none_held = h.none_held;
     agree =
-        subst (λ ps. Agree names began now (restated id held.DeleteFailed s.made) ps s.leftovers x.token) (sym tokens)
+        subst (λ ps. LanesAgree names began now (restated id held.DeleteFailed s.made) ps s.leftovers x.token) (sym tokens)
         (agree_undeleted names began now s.made s.tokens s.leftovers x.token acted.agree lanes_named lanes_differ p i so.place so.lane t so.settled id e held.DeleteFailed);
     alive = λ all creates. never_deletes _ id e creates;
   })
@@ -235,12 +235,12 @@ module _ (names : List (List ℕ)) (began told now : Told) (number : ℕ) (name 
             makes (l.status ∙ forward) (outcome_right source s right (x.place + 1) number p.token before after a) (l.alive all (all_create source s right))
         by_way (takes_back back) = takes_back (l.status ∙ back)
 
-module _ (schemas : List Schema) (names : List (List ℕ)) (began told now : Told) (counts counted : List ℕ) (number : ℕ) (name : List ℕ) (source : Source) (x : World) (s : StackState)
+module _ (schemas : List Schema) (names : List (List ℕ)) (began told now : LaneStates) (counts counted : List ℕ) (number : ℕ) (name : List ℕ) (source : Source) (x : World) (s : StackState)
     (h : IsKept names began told number name source x s) (lanes_named : list_all is_lane_name names ≡ true) (lanes_differ : all_differ bytes_eq names ≡ true)
-    (all_began : (k : ℕ) → k < length names → (lane : LaneState) × Tells began k lane) where
+    (all_began : (k : ℕ) → k < length names → (lane : LaneState) × IsState began k lane) where
   -- what an answer tells, and what its call did
   acted_by :
-      (a : Reply) (p : Pending) → In p s.tokens → (k : ℕ) → name_at names k ≡ p.lane → (lane after : LaneState) → Tells told k lane → now ≡ slice_set told k (Some after)
+      (a : Reply) (p : Pending) → In p s.tokens → (k : ℕ) → name_at names k ≡ p.lane → (lane after : LaneState) → IsState told k lane → now ≡ slice_set told k (Some after)
       → LaneMove (name_at names k) lane after p.token p.request (answer_as a) → Acted names began told now s.made s.tokens s.leftovers x.token × IsToldBy names now p a
   acted_by (reply.Success id attrs) p i k named lane after tells moves m = settled_so names began told s.made s.tokens s.leftovers x.token h.agree lanes_named lanes_differ p i k named lane after tells now moves (Success id attrs) m
   acted_by (reply.Failed c) p i k named lane after tells moves m = settled_so names began told s.made s.tokens s.leftovers x.token h.agree lanes_named lanes_differ p i k named lane after tells now moves (Failed c) m
@@ -253,7 +253,7 @@ module _ (schemas : List Schema) (names : List (List ℕ)) (began told now : Tol
   tells_by (Some l) lane k p a e m = let same : l ≡ lane = cc in (m.0, m.1, subst (λ b. LaneMove (name_at names k) b m.0 p.token p.request (answer_as a)) same m.2)
 
   pub kept_outcome :
-      (token : ℕ) (a : Reply) (before after : ℕ) → IsDone schemas names x told now counts counted (entry.Outcome number token a before after)
+      (token : ℕ) (a : Reply) (before after : ℕ) → IsRunEntry schemas names x told now counts counted (entry.Outcome number token a before after)
       → IsKept names began now number name source (world_after x (entry.Outcome number token a before after)) (left_by x (entry.Outcome number token a before after) s)
   kept_outcome token a before after done =
       let p : Pending = done.1 in

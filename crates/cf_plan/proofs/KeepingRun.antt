@@ -17,10 +17,12 @@ use Rattle.cf_effect.specs.declared.held.Pending.{Pending}
 use Rattle.cf_effect.specs.World.{StackState, World, stack_at, stack_of_operation}
 use Rattle.cf_effect.specs.Words.{resources_of}
 use Rattle.cf_effect.specs.Fold.{world_after, fold_of}
-use Rattle.cf_plan.specs.Forward.{In, here, there}
+use Rattle.cf_tree.specs.Lists.{there}
+use Rattle.cf_tree.specs.Lists.{here}
+use Rattle.cf_tree.specs.Lists.{In}
 use Rattle.cf_plan.specs.Follow.{MayFollowOn, EndsAs}
 use Rattle.cf_plan.specs.Promise.{Promised}
-use Rattle.cf_plan.specs.Run.{Told, IsDone, IsOwn, Runs, lanes_told, HasBegun, Tells, IsOurs, was_live, is_left, is_made, is_born, OnlyOurs, NothingNewer, KeepsPromise, CreationKeepsPromise}
+use Rattle.cf_plan.specs.Run.{LaneStates, IsRunEntry, IsOwn, Runs, lanes_told, HasBegun, IsState, IsOurs, was_live, is_left, is_made, is_born, OnlyOurs, NothingNewer, KeepsPromise, CreationKeepsPromise}
 use Rattle.cf_plan.specs.Blame.{RollbackBlames}
 use Rattle.cf_plan.specs.Keeping.{IsOnItsWay, makes, takes_back, IsKept}
 use Rattle.cf_plan.proofs.Frame.{number_is}
@@ -32,21 +34,21 @@ use Rattle.cf_plan.proofs.KeepingOutcome.{kept_outcome}
 use Rattle.cf_plan.proofs.KeepingEnd.{EndsSo, completes, restores, fails, HasEnded, not_in, ends_forward, ends_back}
 
 -- a creation goes on, or has ended
-pub data After (names kinds : List (List ℕ)) (began told : Told) (number : ℕ) (name : List ℕ) (source : Source) (y : World) : Type 0 where
+pub data After (names kinds : List (List ℕ)) (began told : LaneStates) (number : ℕ) (name : List ℕ) (source : Source) (y : World) : Type 0 where
   goes : (s : StackState) → IsKept names began told number name source y s → After names kinds began told number name source y
   is_over : HasEnded names kinds began told number name source y → After names kinds began told number name source y
 
-module _ (schemas : List Schema) (names kinds : List (List ℕ)) (began : Told) (number : ℕ) (name : List ℕ) (source : Source)
+module _ (schemas : List Schema) (names kinds : List (List ℕ)) (began : LaneStates) (number : ℕ) (name : List ℕ) (source : Source)
     (lanes_named : list_all is_lane_name names ≡ true) (lanes_differ : all_differ bytes_eq names ≡ true) (as_many : length kinds ≡ length names)
-    (all_began : (k : ℕ) → k < length names → (lane : LaneState) × Tells began k lane) where
-  abbrev Later : Told → World → Type 0
+    (all_began : (k : ℕ) → k < length names → (lane : LaneState) × IsState began k lane) where
+  abbrev Later : LaneStates → World → Type 0
   Later told y = After names kinds began told number name source y
 
   -- nothing told changes but by an outcome
-  same_told : (told now : Told) (y : World) → now ≡ told → Later told y → Later now y
+  same_told : (told now : LaneStates) (y : World) → now ≡ told → Later told y → Later now y
   same_told told now y e a = subst (λ t. Later t y) (sym e) a
 
-  ended : (told : Told) (x : World) (s : StackState) → IsKept names began told number name source x s → (state : Status) (failed : List (List ℕ))
+  ended : (told : LaneStates) (x : World) (s : StackState) → IsKept names began told number name source x s → (state : Status) (failed : List (List ℕ))
       → MayFollowOn schemas number x [] (entry.Done number state failed) → HasEnded names kinds began told number name source (world_after x (entry.Done number state failed))
   ended told x s h state failed may = by_way h.way (step_of schemas names began told number name source x s h (entry.Done number state failed) [] may) where
     by_way : IsOnItsWay names told source s → IsStep schemas names began told number name source x s h (entry.Done number state failed) [] → HasEnded names kinds began told number name source (world_after x (entry.Done number state failed))
@@ -58,9 +60,9 @@ module _ (schemas : List Schema) (names kinds : List (List ℕ)) (began : Told) 
         (subst (λ st. EndsAs schemas step.stack x s st state) back step.may.2)
 
   -- an entry of the operation
-  module _ (told now : Told) (counts counted : List ℕ) (x : World) (s : StackState) (h : IsKept names began told number name source x s) where
+  module _ (told now : LaneStates) (counts counted : List ℕ) (x : World) (s : StackState) (h : IsKept names began told number name source x s) where
     abbrev Steps : Entry → Type 0
-    Steps e = IsDone schemas names x told now counts counted e → Later now (world_after x e)
+    Steps e = IsRunEntry schemas names x told now counts counted e → Later now (world_after x e)
 
     step : (e : Entry) → IsOwn number e → Steps e
     step (entry.Kept n path physical w) own done =
@@ -85,13 +87,13 @@ module _ (schemas : List Schema) (names kinds : List (List ℕ)) (began : Told) 
   none_some a e = let no : ⊥ = cc in no
 
   -- nothing of an operation follows where none is in progress
-  none_follows : (told now : Told) (counts counted : List ℕ) (x : World) → stack_of_operation number x ≡ None → (e : Entry) → IsOwn number e → IsDone schemas names x told now counts counted e → ⊥
+  none_follows : (told now : LaneStates) (counts counted : List ℕ) (x : World) → stack_of_operation number x ≡ None → (e : Entry) → IsOwn number e → IsRunEntry schemas names x told now counts counted e → ⊥
   none_follows told now counts counted x none e own done = by_entry e own done where
     never : (n : ℕ) (f : Entry) (out : List ℕ) → n ≡ number → MayFollowOn schemas n x out f → ⊥
     never n f out same may =
         none_some (may.0, may.1) (sym none ∙ ap (λ m. stack_of_operation m x) (sym same) ∙ may.3)
 
-    by_entry : (f : Entry) → IsOwn number f → IsDone schemas names x told now counts counted f → ⊥
+    by_entry : (f : Entry) → IsOwn number f → IsRunEntry schemas names x told now counts counted f → ⊥
     by_entry (entry.Kept n path physical w) own d = never n (entry.Kept n path physical w) [] own d.0
     by_entry (entry.Intent n token lane path r) own d = never n (entry.Intent n token lane path r) [] own d.0
     by_entry (entry.Outcome n token a before after) own d = never n (entry.Outcome n token a before after) (token ∷ []) own d.0
@@ -102,7 +104,7 @@ module _ (schemas : List Schema) (names kinds : List (List ℕ)) (began : Told) 
     by_entry (entry.ChangeSet n stack from rows outputs) own d = own
 
   pub run :
-      (es : List Entry) (x : World) (told now : Told) (counts counted : List ℕ) → After names kinds began told number name source x → Runs schemas names x told counts es now counted
+      (es : List Entry) (x : World) (told now : LaneStates) (counts counted : List ℕ) → After names kinds began told number name source x → Runs schemas names x told counts es now counted
       → ((e : Entry) → In e es → IsOwn number e) → After names kinds began now number name source (fold_of x es)
   run [] x told now counts counted a r own = same_told told now x r.0 a
   run (e ∷ es) x told now counts counted a r own =
@@ -111,7 +113,7 @@ module _ (schemas : List Schema) (names kinds : List (List ℕ)) (began : Told) 
         by_state (goes s h) = step told r.0 counts r.1 x s h e (own e here) r.2
         by_state (is_over w) = absurd (none_follows told r.0 counts r.1 x w.none e (own e here) r.2)
 
-tells_all : (told : Told) (k : ℕ) → list_all is_some told ≡ true → k < length told → (lane : LaneState) × Tells told k lane
+tells_all : (told : LaneStates) (k : ℕ) → list_all is_some told ≡ true → k < length told → (lane : LaneState) × IsState told k lane
 tells_all [] k a i = let no : ⊥ = omega arith in absurd no
 tells_all (None ∷ told) k a i = absurd (true≢false (sym a))
 tells_all (Some lane ∷ told) zero a i = (lane, refl)
@@ -120,7 +122,7 @@ tells_all (Some lane ∷ told) (suc k) a i = let j : k < length told = omega ari
 none_tells : (lane : LaneState) → None ≡ Some lane → ⊥
 none_tells lane e = let no : ⊥ = cc in no
 
-all_tells : (told : Told) → ((k : ℕ) → k < length told → (lane : LaneState) × Tells told k lane) → list_all is_some told ≡ true
+all_tells : (told : LaneStates) → ((k : ℕ) → k < length told → (lane : LaneState) × IsState told k lane) → list_all is_some told ≡ true
 all_tells [] tells = refl
 all_tells (None ∷ told) tells =
     let first : 0 < suc (length told) = omega arith in
@@ -129,7 +131,7 @@ all_tells (Some lane ∷ told) tells = all_tells told (λ k i. (let j : suc k < 
 
 -- as a creation begins, nothing is made and no call is open
 pub begun :
-    (names kinds : List (List ℕ)) (x : World) (told : Told) (number : ℕ) (name : List ℕ) (source : Source) (s : StackState)
+    (names kinds : List (List ℕ)) (x : World) (told : LaneStates) (number : ℕ) (name : List ℕ) (source : Source) (s : StackState)
     → HasBegun names kinds x told number name source s → IsKept names told told number name source x s
 begun names kinds x told number name source s h =
     let none_made = λ (r : Held) (i : In r s.made). not_in r s.made h.none_made i in
@@ -164,7 +166,7 @@ begun names kinds x told number name source s h =
 pub keeps_promise : RollbackBlames → CreationKeepsPromise
 keeps_promise blames schemas names kinds x told now counts counted number name source s es h r own =
     by_end (run schemas names kinds told number name source h.lanes_named h.lanes_differ h.as_many.0 tells es x told now counts counted (goes s (begun names kinds x told number name source s h)) r own) where
-      tells : (k : ℕ) → k < length names → (lane : LaneState) × Tells told k lane
+      tells : (k : ℕ) → k < length names → (lane : LaneState) × IsState told k lane
       tells k i = tells_all told k h.all_tell (subst (λ n. k < n) (sym h.as_many.1) i)
 
       promised : (t : StackState) → EndsSo names kinds told now name source (fold_of x es) t → stack_at name (fold_of x es) ≡ Some t → Promised t.status name (fold_of x es) t (lanes_told names kinds now)
@@ -206,7 +208,7 @@ keeps_promise blames schemas names kinds x told now counts counted number name s
       not_complete t (takes_back back) f = let no : status.RollbackInProgress ≡ status.CreateComplete = sym back ∙ f in let never : ⊥ = cc in never
 
       -- each lane that told its state as the run began tells it at its end
-      tells_still : ((k : ℕ) (before : LaneState) → Tells told k before → (lane : LaneState) × Tells now k lane) → length now ≡ length names → list_all is_some now ≡ true
+      tells_still : ((k : ℕ) (before : LaneState) → IsState told k before → (lane : LaneState) × IsState now k lane) → length now ≡ length names → list_all is_some now ≡ true
       tells_still all as_many =
           all_tells now (λ k i. (let t = tells k (subst (λ n. k < n) as_many i) in all k t.0 t.1))
 

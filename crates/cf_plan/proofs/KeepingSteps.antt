@@ -26,10 +26,10 @@ use Rattle.cf_effect.specs.Words.{current_at, is_update, is_create_at, has_physi
 use Rattle.cf_effect.specs.Calls.{new_call}
 use Rattle.cf_effect.specs.Reply.{intending, keeping, keeping_known, keeping_unknown}
 use Rattle.cf_effect.specs.Fold.{world_after}
-use Rattle.cf_plan.specs.Forward.{In}
+use Rattle.cf_tree.specs.Lists.{In}
 use Rattle.cf_plan.specs.Follow.{MayFollowOn, MayFollowIn, MayIntend, IntendsForward, IntendsDeletion, IntendsRestore, FitsLane, MayKeep, MayTurn}
-use Rattle.cf_plan.specs.Run.{Told}
-use Rattle.cf_plan.specs.Keeping.{IsKnown, Agree, AreAlive, IsOnItsWay, makes, takes_back, IsKept}
+use Rattle.cf_plan.specs.Run.{LaneStates}
+use Rattle.cf_plan.specs.Keeping.{IsKnown, LanesAgree, AreAlive, IsOnItsWay, makes, takes_back, IsKept}
 use Rattle.cf_plan.proofs.CreatedRight.{intent_right}
 use Rattle.cf_plan.proofs.Frame.{IsOn, frame_of}
 use Rattle.cf_plan.proofs.RunLists.{any_of, none_any}
@@ -55,7 +55,7 @@ some_id : (name id : List ℕ) → IsOfLane name id → bytes_eq id [] ≡ false
 some_id [] id o = ap (λ i. bytes_eq i []) o.1
 some_id (b ∷ name) id o = ap (λ i. bytes_eq i []) o.1
 
-module _ (schemas : List Schema) (names : List (List ℕ)) (began told : Told) (number : ℕ) (name : List ℕ) (source : Source) (x : World) (s : StackState)
+module _ (schemas : List Schema) (names : List (List ℕ)) (began told : LaneStates) (number : ℕ) (name : List ℕ) (source : Source) (x : World) (s : StackState)
     (h : IsKept names began told number name source x s) where
   on : IsOn number name x s
   on = is_on_it names began told number name source x s h
@@ -136,7 +136,7 @@ module _ (schemas : List Schema) (names : List (List ℕ)) (began told : Told) (
         let same : intending number (call token lane path r) s ≡ opened token lane path r = opens token lane path r next in
         kept_with names began told number name source x s h e refl told token (frame_of number name x s on e refl).token
         (ap (λ t. t.operation) same) (ap (λ t. is_in_progress t.status) same ∙ goes) (ap (λ t. t.before) same) (ap (λ t. t.held) same ∙ h.none_held) way
-        (subst (λ t. Agree names began told t.made t.tokens t.leftovers token) (sym same)
+        (subst (λ t. LanesAgree names began told t.made t.tokens t.leftovers token) (sym same)
         (agree_intended names began told s.made s.tokens s.leftovers x.token h.agree (call token lane path r) next none del))
 
     by_way : IsOnItsWay names told source s → IsStep e [] → Goes e
@@ -198,7 +198,7 @@ module _ (schemas : List Schema) (names : List (List ℕ)) (began told : Told) (
         kept_with names began told number name source x s h keep refl told x.token (frame_of number name x s on keep refl).token
         (ap (λ t. t.operation) same) (ap (λ t. is_in_progress t.status) same ∙ goes_back s back) (ap (λ t. t.before) same)
         (ap (λ t. t.held) same ∙ ap (without physical) h.none_held) (takes_back (ap (λ t. t.status) same ∙ back))
-        (subst (λ t. Agree names began told t.made t.tokens t.leftovers x.token) (sym same)
+        (subst (λ t. LanesAgree names began told t.made t.tokens t.leftovers x.token) (sym same)
         (agree_kept names began told s.made s.tokens s.leftovers x.token h.agree physical (record { path = path; physical = physical; why = w }) refl))
 
     pub kept_kept : MayFollowOn schemas number x [] keep → Goes keep

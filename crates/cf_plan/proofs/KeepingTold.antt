@@ -19,9 +19,11 @@ use Rattle.cf_effect.specs.declared.held.HeldStatus.{HeldStatus}
 use Rattle.cf_effect.specs.declared.held.Leftover.{Leftover}
 use Rattle.cf_effect.specs.declared.held.Pending.{Pending}
 use Rattle.cf_effect.specs.Words.{is_update, has_token, without_token, has_physical, without, where_physical, is_on, id_named}
-use Rattle.cf_plan.specs.Forward.{In, here, there}
-use Rattle.cf_plan.specs.Run.{Told, Tells, name_at, IsSettledAs, IsOurs, was_live, is_left, is_made, is_born}
-use Rattle.cf_plan.specs.Keeping.{IsKnown, has_gone, Agree, live_as, live_in, IsAlive, AreAlive}
+use Rattle.cf_tree.specs.Lists.{there}
+use Rattle.cf_tree.specs.Lists.{here}
+use Rattle.cf_tree.specs.Lists.{In}
+use Rattle.cf_plan.specs.Run.{LaneStates, IsState, name_at, IsSettledAs, IsOurs, was_live, is_left, is_made, is_born}
+use Rattle.cf_plan.specs.Keeping.{IsKnown, has_gone, LanesAgree, live_as, live_with, IsAlive, AreAlive}
 use Rattle.cf_plan.proofs.CreatedRight.{in_filter}
 use Rattle.cf_plan.proofs.CreatedStays.{in_more}
 use Rattle.cf_plan.proofs.RunLists.{in_front, in_end, in_kept, any_of}
@@ -58,13 +60,13 @@ module _ (physical : List ℕ) (state : HeldStatus) where
     by_test false ih = (ih.0, there ih.1, ih.2)
   is_there [] r i = elim i [ ]
 
-module _ (names : List (List ℕ)) (began told : Told) (made : List Held) (tokens : List Pending) (leftovers : List Leftover) (last : ℕ)
-    (h : Agree names began told made tokens leftovers last) where
+module _ (names : List (List ℕ)) (began told : LaneStates) (made : List Held) (tokens : List Pending) (leftovers : List Leftover) (last : ℕ)
+    (h : LanesAgree names began told made tokens leftovers last) where
   -- with other lists, whose calls are open already, whose resources are known, and which have all that is live
   with_lists :
       (ms : List Held) (ps : List Pending) (ls : List Leftover) → ((q : Pending) → In q ps → In q tokens) → ((r : Held) → In r ms → IsKnown names told r.physical)
-      → ((k : ℕ) (before after : LaneState) (v : Live) → Tells began k before → Tells told k after → In v (live_of after)
-      → IsOurs names told made tokens leftovers k before after v.id → IsOurs names told ms ps ls k before after v.id) → Agree names began told ms ps ls last
+      → ((k : ℕ) (before after : LaneState) (v : Live) → IsState began k before → IsState told k after → In v (live_of after)
+      → IsOurs names told made tokens leftovers k before after v.id → IsOurs names told ms ps ls k before after v.id) → LanesAgree names began told ms ps ls last
   with_lists ms ps ls fewer known ours = record {
     as_many = h.as_many;
     all_tell = h.all_tell;
@@ -88,7 +90,7 @@ module _ (names : List (List ℕ)) (began told : Told) (made : List Held) (token
 
   pub agree_intended :
       (n : Pending) → n.token ≡ last + 1 → is_update n.request ≡ false → ((id : List ℕ) → n.request ≡ Delete id → IsOfLane n.lane id × IsKnown names told id)
-      → Agree names began told made (tokens ++ n ∷ []) leftovers n.token
+      → LanesAgree names began told made (tokens ++ n ∷ []) leftovers n.token
   agree_intended n next none del =
       record {
         as_many = h.as_many;
@@ -121,7 +123,7 @@ module _ (names : List (List ℕ)) (began told : Told) (made : List Held) (token
   alive_intended n next all = record {
     alive = all.alive;
     called = λ q kind props k lane id attrs i.
-        in_more (λ x. x.request ≡ Create kind props → IsSettledAs names told x k lane (Success id attrs) → live_in id lane ≡ Some (live_as id kind props attrs)) n tokens
+        in_more (λ x. x.request ≡ Create kind props → IsSettledAs names told x k lane (Success id attrs) → live_with id lane ≡ Some (live_as id kind props attrs)) n tokens
         (λ x j. all.called x kind props k lane id attrs j)
         (λ e a. absurd (not_yet n next k lane (Success id attrs) a)) q i;
   }
@@ -129,7 +131,7 @@ module _ (names : List (List ℕ)) (began told : Told) (made : List Held) (token
   -- a resource that is kept leaves the list, with the calls on it, and is left over
   pub agree_kept :
       (physical : List ℕ) (l : Leftover) → l.physical ≡ physical
-      → Agree names began told (without physical made) (filter (λ q. not (is_on physical q)) tokens) (leftovers ++ l ∷ []) last
+      → LanesAgree names began told (without physical made) (filter (λ q. not (is_on physical q)) tokens) (leftovers ++ l ∷ []) last
   agree_kept physical l named =
       with_lists (without physical made) (filter (λ q. not (is_on physical q)) tokens) (leftovers ++ l ∷ [])
       (λ q i. (in_filter (λ x. not (is_on physical x)) tokens q i).0)
@@ -177,7 +179,7 @@ module _ (names : List (List ℕ)) (began told : Told) (made : List Held) (token
     in_rest : (q : Pending) → In q rest → In q tokens
     in_rest q j = (in_filter (λ x. not (has_token p.token x)) tokens q j).0
 
-    within : (j : ℕ) (l : LaneState) → Tells told j l → j < length names
+    within : (j : ℕ) (l : LaneState) → IsState told j l → j < length names
     within j l t = subst (λ n. j < n) h.as_many (tells_within told j l t)
 
     -- it is settled once
@@ -208,7 +210,7 @@ module _ (names : List (List ℕ)) (began told : Told) (made : List Held) (token
           by_token (inr e) = is_born (q, kind, props, attrs, in_kept (λ x. not (has_token p.token x)) tokens q m (not_from_false (has_token p.token q) e), asked, a)
 
     -- a create that was refused made nothing
-    pub agree_refused : ((id : List ℕ) (attrs : List (List ℕ × Data)) → s ≡ Success id attrs → ⊥) → Agree names began told made rest leftovers last
+    pub agree_refused : ((id : List ℕ) (attrs : List (List ℕ × Data)) → s ≡ Success id attrs → ⊥) → LanesAgree names began told made rest leftovers last
     agree_refused none =
         with_lists made rest leftovers in_rest h.known
         (λ j before after v b t m. ours_with j before after v.id made (λ r n e o. is_made r n e o) (λ attrs e kind props asked o. absurd (none v.id attrs e)))
@@ -218,7 +220,7 @@ module _ (names : List (List ℕ)) (began told : Told) (made : List Held) (token
       is_settled : IsSettledAs names told p k lane (Success id attrs)
       is_settled = subst (λ t. IsSettledAs names told p k lane t) so settled
 
-      pub agree_created : (m : Held) → m.physical ≡ id → Agree names began told (made ++ m ∷ []) rest leftovers last
+      pub agree_created : (m : Held) → m.physical ≡ id → LanesAgree names began told (made ++ m ∷ []) rest leftovers last
       agree_created m named =
           with_lists (made ++ m ∷ []) rest leftovers in_rest
           (in_more (λ r. IsKnown names told r.physical) m made h.known (record {
@@ -254,7 +256,7 @@ module _ (names : List (List ℕ)) (began told : Told) (made : List Held) (token
       not_born A kind props e = let both : Delete id ≡ Create kind props = sym asked ∙ e in let no : ⊥ = cc in absurd no
 
       -- what it took away is no more made, as nothing of its id is live
-      pub agree_deleted : has_gone s ≡ true → Agree names began told (without id made) rest leftovers last
+      pub agree_deleted : has_gone s ≡ true → LanesAgree names began told (without id made) rest leftovers last
       agree_deleted gone =
           with_lists (without id made) rest leftovers in_rest
           (λ r n. h.known r ((in_filter (λ x. not (has_physical id x)) made r n).0))
@@ -263,7 +265,7 @@ module _ (names : List (List ℕ)) (began told : Told) (made : List Held) (token
           (λ r m e o. still_made j before after v t n r m e o (cases_Bool (has_physical id r)))
           (λ others e kind props again o. not_born (IsOurs names told (without id made) rest leftovers j before after v.id) kind props again)) where
             still_made :
-                (j : ℕ) (before after : LaneState) (v : Live) → Tells told j after → In v (live_of after) → (r : Held) → In r made → r.physical ≡ v.id → IsOfLane (name_at names j) v.id
+                (j : ℕ) (before after : LaneState) (v : Live) → IsState told j after → In v (live_of after) → (r : Held) → In r made → r.physical ≡ v.id → IsOfLane (name_at names j) v.id
                 → (has_physical id r ≡ true) ⊎ (has_physical id r ≡ false) → IsOurs names told (without id made) rest leftovers j before after v.id
             still_made j before after v t n r m e o (inr other) = is_made r (in_kept (λ x. not (has_physical id x)) made r m (not_from_false (has_physical id r) other)) e o
             still_made j before after v t n r m e o (inl yes_it) =
@@ -279,7 +281,7 @@ module _ (names : List (List ℕ)) (began told : Told) (made : List Held) (token
                 absurd (true≢false (sym (any_of (λ x. bytes_eq v.id x.id) (live_of after) v n (same_bytes v.id v.id refl)) ∙ none))
 
       -- a refusal leaves what is made, with another status
-      pub agree_undeleted : (state : HeldStatus) → Agree names began told (restated id state made) rest leftovers last
+      pub agree_undeleted : (state : HeldStatus) → LanesAgree names began told (restated id state made) rest leftovers last
       agree_undeleted state =
           with_lists (restated id state made) rest leftovers in_rest
           (λ r n. let w = was_there id state made r n in subst (IsKnown names told) w.2 (h.known w.0 w.1))

@@ -14,27 +14,29 @@ use Rattle.cf_desired.specs.declared.flaw.Flaw.{Flaw}
 use Rattle.cf_desired.specs.declared.wanted.Plan.{Plan}
 use Rattle.cf_desired.specs.declared.wanted.Wanted.{Wanted}
 use Rattle.cf_plan.specs.Done.{are_met}
-use Rattle.cf_plan.specs.Failed.{flaw_by, flaw_found, least, lesser, lesser_of}
-use Rattle.cf_plan.specs.Forward.{In, here, there}
+use Rattle.cf_plan.specs.Failed.{flaw_planned, flaw_found, least, lesser_flaw, lesser_of}
+use Rattle.cf_tree.specs.Lists.{there}
+use Rattle.cf_tree.specs.Lists.{here}
+use Rattle.cf_tree.specs.Lists.{In}
 use Rattle.cf_plan.proofs.Listed.{bytes_same, in_cons, in_none, mapped_more}
 
 abbrev B : Type 0
 B = List ℕ × Flaw
 
-one_folded : (m : Option B) (o : Option B) → fold lesser m (option_to_list o) ≡ lesser_of m o
+one_folded : (m : Option B) (o : Option B) → fold lesser_flaw m (option_to_list o) ≡ lesser_of m o
 one_folded m None = refl
 one_folded m (Some b) = refl
 
 -- one more is folded in
 pub folded_more :
     {A : Type 0} (f : A → Option B) (xs : List A) (i : ℕ) (d : A) (a mid o new : Option B) → i < length xs → d ≡ get_or xs i d →
-    mid ≡ fold lesser a (filter_map f (take i xs)) → o ≡ f d → new ≡ lesser_of mid o → new ≡ fold lesser a (filter_map f (take (i + 1) xs))
+    mid ≡ fold lesser_flaw a (filter_map f (take i xs)) → o ≡ f d → new ≡ lesser_of mid o → new ≡ fold lesser_flaw a (filter_map f (take (i + 1) xs))
 folded_more f xs i d a mid o new l at was is now =
     let next : suc i ≡ i + 1 = omega arith in
-    now ∙ ap (λ m. lesser_of m o) was ∙ sym (one_folded (fold lesser a (filter_map f (take i xs))) o)
-    ∙ ap (λ x. fold lesser (fold lesser a (filter_map f (take i xs))) (option_to_list x)) (is ∙ ap f at)
-    ∙ sym (fold-append lesser a (filter_map f (take i xs)) (option_to_list (f (get_or xs i d))))
-    ∙ ap (fold lesser a) (sym (mapped_more f xs i d l)) ∙ ap (λ k. fold lesser a (filter_map f (take k xs))) next
+    now ∙ ap (λ m. lesser_of m o) was ∙ sym (one_folded (fold lesser_flaw a (filter_map f (take i xs))) o)
+    ∙ ap (λ x. fold lesser_flaw (fold lesser_flaw a (filter_map f (take i xs))) (option_to_list x)) (is ∙ ap f at)
+    ∙ sym (fold-append lesser_flaw a (filter_map f (take i xs)) (option_to_list (f (get_or xs i d))))
+    ∙ ap (fold lesser_flaw a) (sym (mapped_more f xs i d l)) ∙ ap (λ k. fold lesser_flaw a (filter_map f (take k xs))) next
 
 less_from : (o : Ordering) → is_lt o ≡ true → o ≡ Less
 less_from Less h = refl
@@ -44,16 +46,16 @@ less_from Greater h = absurd (true≢false (sym h))
 lt_trans : (a b c : List ℕ) → bytes_lt a b ≡ true → bytes_lt b c ≡ true → bytes_lt a c ≡ true
 lt_trans a b c h g = ap is_lt (nat_list_cmp_total.trans a b c (less_from _ h) (less_from _ g))
 
-fold_by : (c x : B) (xs : List B) (a : B) (b : Bool) → bytes_lt x.0 c.0 ≡ b → (lesser (Some c) x ≡ Some a) ⊎ In a xs → (Some c ≡ Some a) ⊎ In a (x ∷ xs)
+fold_by : (c x : B) (xs : List B) (a : B) (b : Bool) → bytes_lt x.0 c.0 ≡ b → (lesser_flaw (Some c) x ≡ Some a) ⊎ In a xs → (Some c ≡ Some a) ⊎ In a (x ∷ xs)
 fold_by c x xs a b k (inr i) = inr (there i)
-fold_by c x xs a true k (inl f) = let one : lesser (Some c) x ≡ Some x = rw k refl in inr (subst (λ z. In a (z ∷ xs)) (sym (same_Some x a (sym one ∙ f))) here)
-fold_by c x xs a false k (inl f) = let one : lesser (Some c) x ≡ Some c = rw k refl in inl (sym one ∙ f)
+fold_by c x xs a true k (inl f) = let one : lesser_flaw (Some c) x ≡ Some x = rw k refl in inr (subst (λ z. In a (z ∷ xs)) (sym (same_Some x a (sym one ∙ f))) here)
+fold_by c x xs a false k (inl f) = let one : lesser_flaw (Some c) x ≡ Some c = rw k refl in inl (sym one ∙ f)
 
 -- what the fold gives is where it began, or one of the list
-from_fold : (o : Option B) (xs : List B) (a : B) → fold lesser o xs ≡ Some a → (o ≡ Some a) ⊎ In a xs
+from_fold : (o : Option B) (xs : List B) (a : B) → fold lesser_flaw o xs ≡ Some a → (o ≡ Some a) ⊎ In a xs
 from_fold o [] a e = inl e
 from_fold None (x ∷ xs) a e = elim (from_fold (Some x) xs a e) [ inl k ↦ inr (subst (λ c. In a (c ∷ xs)) (sym (same_Some x a k)) here) | inr k ↦ inr (there k) ]
-from_fold (Some c) (x ∷ xs) a e = fold_by c x xs a (bytes_lt x.0 c.0) refl (from_fold (lesser (Some c) x) xs a e)
+from_fold (Some c) (x ∷ xs) a e = fold_by c x xs a (bytes_lt x.0 c.0) refl (from_fold (lesser_flaw (Some c) x) xs a e)
 
 not_itself : (a : List ℕ) → bytes_lt a a ≡ false
 not_itself a = by_order (slice_cmp nat_cmp a a) (nat_list_cmp_total.antisymm a a)
@@ -82,23 +84,23 @@ two_low : (c x a : B) (b : Bool) → bytes_lt x.0 c.0 ≡ b → ((d : B) → (if
 two_low c x a true k h = let xa = h x refl in (false_from_ne_true (bytes_lt c.0 a.0) (λ t. true≢false (sym (lt_trans x.0 c.0 a.0 k t) ∙ xa)), xa)
 two_low c x a false k h = let ca = h c refl in (ca, below x.0 c.0 a.0 k ca)
 
-low : (xs : List B) (o : Option B) (a : B) → fold lesser o xs ≡ Some a → ((c : B) → o ≡ Some c → bytes_lt c.0 a.0 ≡ false) × ((b : B) → In b xs → bytes_lt b.0 a.0 ≡ false)
+low : (xs : List B) (o : Option B) (a : B) → fold lesser_flaw o xs ≡ Some a → ((c : B) → o ≡ Some c → bytes_lt c.0 a.0 ≡ false) × ((b : B) → In b xs → bytes_lt b.0 a.0 ≡ false)
 low [] o a e = (λ c f. subst (λ (z : B). bytes_lt z.0 a.0 ≡ false) (sym (same_Some c a (sym f ∙ e))) (not_itself a.0), λ b i. absurd (in_none i))
 low (x ∷ xs) None a e =
     let h = low xs (Some x) a e in
     (λ c f. absurd (none-some c f), λ b i. elim (in_cons i) [ inl k ↦ subst (λ (z : B). bytes_lt z.0 a.0 ≡ false) k (h.0 x refl) | inr j ↦ h.1 b j ])
 low (x ∷ xs) (Some c) a e =
-    let h = low xs (lesser (Some c) x) a e in
+    let h = low xs (lesser_flaw (Some c) x) a e in
     let p = two_low c x a (bytes_lt x.0 c.0) refl h.0 in (
       λ d f. subst (λ (z : B). bytes_lt z.0 a.0 ≡ false) (same_Some c d f) p.0,
       λ b i. elim (in_cons i) [ inl k ↦ subst (λ (z : B). bytes_lt z.0 a.0 ≡ false) k p.1 | inr j ↦ h.1 b j ],
     )
 
-keep_by : (x c : B) (xs : List B) (b : Bool) → bytes_lt x.0 c.0 ≡ b → ((d : B) → fold lesser (Some d) xs ≡ None → ⊥) → fold lesser (Some c) (x ∷ xs) ≡ None → ⊥
-keep_by x c xs true k h e = let one : lesser (Some c) x ≡ Some x = rw k refl in h x (ap (λ o. fold lesser o xs) (sym one) ∙ e)
-keep_by x c xs false k h e = let one : lesser (Some c) x ≡ Some c = rw k refl in h c (ap (λ o. fold lesser o xs) (sym one) ∙ e)
+keep_by : (x c : B) (xs : List B) (b : Bool) → bytes_lt x.0 c.0 ≡ b → ((d : B) → fold lesser_flaw (Some d) xs ≡ None → ⊥) → fold lesser_flaw (Some c) (x ∷ xs) ≡ None → ⊥
+keep_by x c xs true k h e = let one : lesser_flaw (Some c) x ≡ Some x = rw k refl in h x (ap (λ o. fold lesser_flaw o xs) (sym one) ∙ e)
+keep_by x c xs false k h e = let one : lesser_flaw (Some c) x ≡ Some c = rw k refl in h c (ap (λ o. fold lesser_flaw o xs) (sym one) ∙ e)
 
-keeps : (xs : List B) (c : B) → fold lesser (Some c) xs ≡ None → ⊥
+keeps : (xs : List B) (c : B) → fold lesser_flaw (Some c) xs ≡ None → ⊥
 keeps [] c e = none-some c (sym e)
 keeps (x ∷ xs) c e = keep_by x c xs (bytes_lt x.0 c.0) refl (keeps xs) e
 
@@ -114,7 +116,7 @@ least_none [] e b i = in_none i
 least_none (x ∷ xs) e b i = keeps xs x e
 
 -- of a path without a flaw none is found, whatever it needs
-pub none_found : (before now : Plan) (done : List (List ℕ)) (w : Wanted) → flaw_by w.path now ≡ None → flaw_found before now done w ≡ None
+pub none_found : (before now : Plan) (done : List (List ℕ)) (w : Wanted) → flaw_planned w.path now ≡ None → flaw_found before now done w ≡ None
 none_found before now done w h =
     ap (λ o. if are_met w.path before done then option_map (λ f. (w.path, f)) o else None) h ∙ either (are_met w.path before done)
   where

@@ -12,7 +12,7 @@ use Rattle.cf_desired.specs.Plan.{at_path, flaw_of, member_at, plan_by, plan_of,
 use Rattle.cf_desired.specs.Seeing.{Seen}
 use Rattle.cf_desired.specs.Shape.{given_root, shape_of}
 use Rattle.cf_desired.specs.Stays.{KeepsKnown, SeesMore, is_of_evaluation, is_settled, is_shown, other_flaws}
-use Rattle.cf_desired.specs.Turns.{terms_of}
+use Rattle.cf_desired.specs.Turns.{member_terms}
 use Rattle.cf_desired.specs.Valued.{resources_in, valued_in}
 use Rattle.cf_desired.specs.Whole.{is_wanted_at, wanted_at}
 use Rattle.cf_desired.specs.Work.{Member, Body, Shape, barred, halted, opened}
@@ -50,7 +50,7 @@ module _ (source : Source) (one : HasOneShape source) (a b : Seen) where
   -- what is asked of a path is the same
   pub terms_same : (path : List ℕ) → option_map terms_by (wanted_at path (plan_of source a)) ≡ option_map terms_by (wanted_at path (plan_of source b))
   terms_same path =
-      wanted_terms source a (shape_of source a) path ∙ ap (λ (s : Shape). option_map terms_of (member_at s path)) same
+      wanted_terms source a (shape_of source a) path ∙ ap (λ (s : Shape). option_map member_terms (member_at s path)) same
       ∙ sym (wanted_terms source b (shape_of source b) path)
 
   -- so are the paths and their order

@@ -18,7 +18,7 @@ use Rattle.cf_effect.specs.Outset.{Outset}
 use Rattle.cf_effect.specs.End.{seen_now}
 use Rattle.cf_effect.specs.Reply.{terms_of, wanted_in}
 use Rattle.cf_effect.specs.World.{StackState}
-use Rattle.cf_plan.specs.Done.{HasTerms, needs_by}
+use Rattle.cf_plan.specs.Done.{HasTerms, planned_needs}
 use Rattle.cf_plan.specs.Forward.{plan_before, plan_in, plan_now}
 use Rattle.cf_plan.proofs.OneShape.{plan_paths}
 
@@ -35,7 +35,7 @@ paths_are : (going : Option Source) (before seen : Seen) → map (λ w. w.path) 
 paths_are None before seen = refl
 paths_are (Some source) before seen = plan_paths source (shape_of source before) seen ∙ sym (plan_paths source (shape_of source before) before)
 
-needs_are : (going : Option Source) (before seen : Seen) (path : List ℕ) → needs_by path (plan_in going before seen) ≡ (terms_of (wanted_in going before path)).needs
+needs_are : (going : Option Source) (before seen : Seen) (path : List ℕ) → planned_needs path (plan_in going before seen) ≡ (terms_of (wanted_in going before path)).needs
 needs_are None before seen path = refl
 needs_are (Some source) before seen path =
     needs_of (wanted_at path (plan_by source (shape_of source before) seen))

@@ -9,7 +9,7 @@ use Rattle.cf_desired.specs.declared.wanted.Evaluated.{Evaluated}
 use Rattle.cf_desired.specs.declared.flaw.Flaw.{Flaw}
 use Rattle.cf_desired.specs.declared.wanted.Evaluated.TheVariants.{Flawed as flawed, Known as evaluated}
 use Rattle.std.specs.Prelude.{⊤, cond, option_map}
-use Rattle.cf_plan.specs.Forward.{In}
+use Rattle.cf_tree.specs.Lists.{In}
 use Rattle.cf_eval.specs.Knows.{KnowsMore}
 use Rattle.cf_schema.specs.declared.changed.Difference.TheVariants.{MayReplace, Replace, Same, Update}
 use Rattle.cf_schema.specs.declared.described.Schema.{Schema}
@@ -21,14 +21,14 @@ use Rattle.cf_schema.specs.Change.{any_differs, difference_of, differs_at, value
 use Rattle.cf_tree.specs.Keys.{ascends, ascends_from, bytes_lt, value_at}
 use Rattle.cf_desired.specs.Plan.{at_path, plan_by}
 use Rattle.std.specs.Str.{bytes_eq}
-use Rattle.cf_change.specs.Changes.{differs, is_never, is_property, names_of as names_held, property_detail, property_details, recreation_by, recreation_of}
+use Rattle.cf_change.specs.Changes.{differs, is_never, is_property, names_on_either as names_held, property_detail, property_details, recreation_by, recreation_of}
 use Rattle.std.specs.Cmp.{first_so, second_so}
 use Rattle.cf_tree.specs.Lists.{is_among}
 use Rattle.cf_desired.specs.Whole.{known_of, known_props_from}
 use Rattle.std.specs.List.{list_any}
 use Rattle.cf_tree.specs.Datum.{members_of}
 use Rattle.std.specs.Option.{option_map_or}
-use Rattle.cf_desired.specs.Valued.{unless_flaw, valued_along, valued_in, valued_inside, evaluated_at}
+use Rattle.cf_desired.specs.Valued.{unless_flaw, valued_along, valued_in, valued_inside, member_props}
 use Rattle.cf_tree.specs.Same.{same_data, same_members}
 use Rattle.cf_tree.specs.SameLaws.{same_decides}
 use Rattle.cf_desired.proofs.Termed.{Valued}
@@ -122,7 +122,7 @@ module _ (s t : Scope) (k : KnowsMore s t) (path : List ℕ) where
   props_become [] = no_props
   props_become (p ∷ ps) = one_becomes path p.0 (value_in s p.1) (value_in t p.1) (props_in path s ps) (props_in path t ps) (value_stands s t k p.1) (props_become ps)
 
-  member_becomes : (m : Member) → PropsBecome (evaluated_at path s m) (evaluated_at path t m)
+  member_becomes : (m : Member) → PropsBecome (member_props path s m) (member_props path t m)
   member_becomes m = unless_becomes m.unnamed (props_in path s m.props) (props_in path t m.props) (props_become m.props)
 
 -- the properties of one resource, in a scope and in one that knows more
@@ -132,12 +132,12 @@ pub record IsValued (x y : Valued) : Type 0 where
   scope : Scope
   further : Scope
   knows : KnowsMore scope further
-  was : x ≡ (member, evaluated_at path scope member)
-  now : y ≡ (member, evaluated_at path further member)
+  was : x ≡ (member, member_props path scope member)
+  now : y ≡ (member, member_props path further member)
 
 pub valued_become : (x y : Valued) → IsValued x y → PropsBecome x.1 y.1
 valued_become x y v =
-    subst (λ (u : Valued). PropsBecome u.1 y.1) (sym v.was) (subst (λ (u : Valued). PropsBecome (evaluated_at v.path v.scope v.member) u.1) (sym v.now)
+    subst (λ (u : Valued). PropsBecome u.1 y.1) (sym v.was) (subst (λ (u : Valued). PropsBecome (member_props v.path v.scope v.member) u.1) (sym v.now)
     (member_becomes v.scope v.further v.knows v.path v.member))
 
 -- path by path
@@ -264,8 +264,8 @@ module _ (source : Source) (seen : Seen) where
     along_sound : (path : List ℕ) (over : Scoping) (m : Sights) (w : Work) → HasNone (met_along source seen path over m w) → IsSound (valued_along source seen path over m w)
     along_sound path over m no_work h = tt
     along_sound path over m (resource r w) h =
-        let both = none_in (map (λ f. a_flaw f) (flaws_of (evaluated_at path (over m) r))) (met_along source seen path over m w) h in
-        (no_flaws (evaluated_at path (over m) r) both.0, along_sound path over m w both.1)
+        let both = none_in (map (λ f. a_flaw f) (flaws_of (member_props path (over m) r))) (met_along source seen path over m w) h in
+        (no_flaws (member_props path (over m) r) both.0, along_sound path over m w both.1)
     along_sound path over m (nested n i w) h =
         let both = none_in (met_inside source seen path (over m) i) (met_along source seen path over (nested_sight source n (outputs_inside source seen (over m) i) m) w) h in
         sound_and (valued_inside source seen (over m) i) (valued_along source seen path over (nested_sight source n (outputs_inside source seen (over m) i) m) w)

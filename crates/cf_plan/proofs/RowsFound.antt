@@ -4,9 +4,11 @@ use Rattle.cf_desired.specs.Stays.{SeesMore, attrs_seen, id_seen}
 use Rattle.cf_tree.specs.declared.row.Detail.{Detail}
 use Rattle.cf_desired.specs.declared.wanted.Evaluated.{Evaluated}
 use Rattle.cf_desired.specs.declared.wanted.Evaluated.TheVariants.{Flawed as flawed, Known as evaluated}
-use Rattle.cf_change.specs.Changes.{Found, HeldAt, found_next, found_of, found_with, held_seen, is_always_static, is_empty, is_never, is_other_kind, is_property, is_row_before, keeps_id, modify_row, removed_rows, replacement_of, resource_held, row_for, row_list, seen_after}
-use Rattle.cf_plan.specs.Forward.{In, here, there}
-use Rattle.cf_eval.specs.Knows.{Keeps}
+use Rattle.cf_change.specs.Changes.{RowsFound, HeldAt, found_next, found_of, found_with, held_seen, is_always_static, is_empty, is_never, is_other_kind, is_property, is_row_before, keeps_id, modify_row, removed_rows, replacement_of, resource_held, row_for, row_list, seen_after}
+use Rattle.cf_tree.specs.Lists.{there}
+use Rattle.cf_tree.specs.Lists.{here}
+use Rattle.cf_tree.specs.Lists.{In}
+use Rattle.cf_eval.specs.Knows.{StaysKnown}
 use Rattle.cf_desired.specs.ShapeStays.{KeepsRest, hidden_of}
 use Rattle.cf_schema.specs.declared.changed.Difference.TheVariants.{Update}
 use Rattle.cf_desired.specs.Work.{Member, Shape}
@@ -71,7 +73,7 @@ abbrev paths : List Member → List (List ℕ)
 paths ms = map (λ m. m.path) ms
 
 module _ (schemas : List Schema) (held : List HeldAt) (source : Source) (shape : Shape) where
-  abbrev found_step : Found → Member → Found
+  abbrev found_step : RowsFound → Member → RowsFound
   found_step f m = found_next schemas held source shape f m
 
   -- the row of a member with these properties
@@ -79,7 +81,7 @@ module _ (schemas : List Schema) (held : List HeldAt) (source : Source) (shape :
   row m v = row_for schemas (resource_held m.path held) (wanted_of (m, v))
 
   -- a step is of one path, and many are of theirs; rows and clashes are added
-  record IsStep (among : List ℕ → Bool) (f g : Found) : Type 0 where
+  record IsStep (among : List ℕ → Bool) (f g : RowsFound) : Type 0 where
     seen : (q : List ℕ) → among q ≡ false → value_at q g.seen ≡ value_at q f.seen
     rows : (test : Row → Bool) → list_any test g.rows ≡ false → list_any test f.rows ≡ false
     clash : g.clash ≡ [] → f.clash ≡ []
@@ -91,29 +93,29 @@ module _ (schemas : List Schema) (held : List HeldAt) (source : Source) (shape :
   none_left [] p h = let no : ⊥ = cc in no
   none_left (q ∷ ps) p h = let no : ⊥ = cc in no
 
-  abbrev with_kind : Found → Wanted → Found
+  abbrev with_kind : RowsFound → Wanted → RowsFound
   with_kind f w = record f {
     rows = f.rows ++ row_list (row_for schemas (resource_held w.path held) w);
     seen = put w.path (seen_after (resource_held w.path held) (row_for schemas (resource_held w.path held) w)) f.seen;
   }
 
-  abbrev with_clash : Found → Wanted → Found
+  abbrev with_clash : RowsFound → Wanted → RowsFound
   with_clash f w = record f { clash = f.clash ++ w.path ∷ []; seen = put w.path (seen_after (resource_held w.path held) None) f.seen }
 
-  step_with : (f : Found) (w : Wanted) → IsStep (λ q. bytes_eq q w.path) f (found_with schemas held f w)
+  step_with : (f : RowsFound) (w : Wanted) → IsStep (λ q. bytes_eq q w.path) f (found_with schemas held f w)
   step_with f w =
       either_way (IsStep (λ q. bytes_eq q w.path) f) (is_other_kind (resource_held w.path held) w) (with_clash f w) (with_kind f w)
       (record { seen = λ q e. put_past q w.path _ f.seen e; rows = λ test h. h; clash = λ h. absurd (none_left f.clash w.path h) })
       (record { seen = λ q e. put_past q w.path _ f.seen e; rows = λ test h. none_first test f.rows _ h; clash = λ h. h })
 
-  one_step : (f : Found) (m : Member) → IsStep (λ q. bytes_eq q m.path) f (found_step f m)
+  one_step : (f : RowsFound) (m : Member) → IsStep (λ q. bytes_eq q m.path) f (found_step f m)
   one_step f m = either (props_at source shape f.seen m.path) where
     either : (o : Option Evaluated) → IsStep (λ q. bytes_eq q m.path) f (option_map_or (λ v. found_with schemas held f (wanted_of (m, v))) o f)
     either None = record { seen = λ q e. refl; rows = λ test h. h; clash = λ h. h }
     either (Some v) = step_with f (wanted_of (m, v))
 
   -- many steps
-  steps : (ms : List Member) (f : Found) → IsStep (λ q. is_among q (paths ms)) f (fold found_step f ms)
+  steps : (ms : List Member) (f : RowsFound) → IsStep (λ q. is_among q (paths ms)) f (fold found_step f ms)
   steps [] f = record { seen = λ q e. refl; rows = λ test h. h; clash = λ h. h }
   steps (m ∷ ms) f =
       let one = one_step f m in
@@ -125,26 +127,26 @@ module _ (schemas : List Schema) (held : List HeldAt) (source : Source) (shape :
       }
 
   -- the row of a path with the properties over what was seen earlier, which is what is seen in the end of all that it needs
-  pub record IsFoundAt (all : List (List ℕ)) (m : Member) (f : Found) : Type 0 where
-    pub earlier : Found
+  pub record IsFoundAt (all : List (List ℕ)) (m : Member) (f : RowsFound) : Type 0 where
+    pub earlier : RowsFound
     pub needs : (q : List ℕ) → is_among q m.needs ≡ true → (is_among q all ≡ true) × (value_at q f.seen ≡ value_at q earlier.seen)
     pub kind : (v : Evaluated) → props_at source shape earlier.seen m.path ≡ Some v → is_other_kind (resource_held m.path held) (wanted_of (m, v)) ≡ false
     pub rows : (v : Evaluated) → props_at source shape earlier.seen m.path ≡ Some v → (test : Row → Bool) → list_any test f.rows ≡ false
         → list_any test (row_list (row m v)) ≡ false
 
-  same_kind : (f : Found) (w : Wanted) → (found_with schemas held f w).clash ≡ [] → is_other_kind (resource_held w.path held) w ≡ false
+  same_kind : (f : RowsFound) (w : Wanted) → (found_with schemas held f w).clash ≡ [] → is_other_kind (resource_held w.path held) w ≡ false
   same_kind f w = either (is_other_kind (resource_held w.path held) w) where
     either : (b : Bool) → (cond b (with_clash f w) (with_kind f w)).clash ≡ [] → b ≡ false
     either true h = absurd (none_left f.clash w.path h)
     either false h = refl
 
-  has_row : (f : Found) (w : Wanted) → is_other_kind (resource_held w.path held) w ≡ false → (test : Row → Bool) → list_any test (found_with schemas held f w).rows ≡ false
+  has_row : (f : RowsFound) (w : Wanted) → is_other_kind (resource_held w.path held) w ≡ false → (test : Row → Bool) → list_any test (found_with schemas held f w).rows ≡ false
       → list_any test (row_list (row_for schemas (resource_held w.path held) w)) ≡ false
   has_row f w k test h =
       none_second test f.rows (row_list (row_for schemas (resource_held w.path held) w)) (subst (λ b. list_any test (cond b (with_clash f w) (with_kind f w)).rows ≡ false) k h)
 
   walk :
-      (all done : List (List ℕ)) (f : Found) (ms : List Member) → all ≡ done ++ paths ms → all_differ bytes_eq all ≡ true → ComeFirst done ms
+      (all done : List (List ℕ)) (f : RowsFound) (ms : List Member) → all ≡ done ++ paths ms → all_differ bytes_eq all ≡ true → ComeFirst done ms
       → (fold found_step f ms).clash ≡ [] → (m : Member) → In m ms → IsFoundAt all m (fold found_step f ms)
   walk all done f [] same d first none m i = elim i [ ]
   walk all done f (x ∷ ms) same d first none m (there i) =
@@ -154,7 +156,7 @@ module _ (schemas : List Schema) (held : List HeldAt) (source : Source) (shape :
       let is_step : (v : Evaluated) → props_at source shape f.seen m.path ≡ Some v → found_step f m ≡ found_with schemas held f (wanted_of (m, v)) =
       λ v e. ap (λ o. option_map_or (λ u. found_with schemas held f (wanted_of (m, u))) o f) e in
       let kind : (v : Evaluated) → props_at source shape f.seen m.path ≡ Some v → is_other_kind (resource_held m.path held) (wanted_of (m, v)) ≡ false =
-      λ v e. same_kind f (wanted_of (m, v)) (subst (λ (g : Found). g.clash ≡ []) (is_step v e) (rest.clash none)) in
+      λ v e. same_kind f (wanted_of (m, v)) (subst (λ (g : RowsFound). g.clash ≡ []) (is_step v e) (rest.clash none)) in
       record {
         earlier = f;
         needs = λ q i.
@@ -163,7 +165,7 @@ module _ (schemas : List Schema) (held : List HeldAt) (source : Source) (shape :
               (steps (m ∷ ms) f).seen q (apart_behind done (paths (m ∷ ms)) q (subst (λ ps. all_differ bytes_eq ps ≡ true) same d) among),
             );
         kind = kind;
-        rows = λ v e test h. has_row f (wanted_of (m, v)) (kind v e) test (subst (λ (g : Found). list_any test g.rows ≡ false) (is_step v e) (rest.rows test h));
+        rows = λ v e test h. has_row f (wanted_of (m, v)) (kind v e) test (subst (λ (g : RowsFound). list_any test g.rows ≡ false) (is_step v e) (rest.rows test h));
       }
 
 -- along the shape of what is held
@@ -196,17 +198,17 @@ module _ (ids attrs : List ℕ → Bool) where
     either true e ih = ap (λ p. Some (hide_at p s.1)) (sym ((bytes_eq-Decides path s.0).0 e))
     either false e ih = ih
 
-  kept_unless : {A : Type 0} (b : Bool) (o p : Option A) → (b ≡ false → Keeps o p) → Keeps (cond b None o) p
+  kept_unless : {A : Type 0} (b : Bool) (o p : Option A) → (b ≡ false → StaysKnown o p) → StaysKnown (cond b None o) p
   kept_unless true o p h = tt
   kept_unless false o p h = h refl
 
   pub hidden_less : (seen now : Seen) → KeepsRest ids attrs seen now → SeesMore (hidden_of ids attrs seen) now
   hidden_less seen now rest path =
-      subst (λ (o : Option SeenAt). Keeps (option_and_then (λ x. x.physical) o) (id_seen path now) × Keeps (option_and_then (λ x. x.attrs) o) (attrs_seen path now))
+      subst (λ (o : Option SeenAt). StaysKnown (option_and_then (λ x. x.physical) o) (id_seen path now) × StaysKnown (option_and_then (λ x. x.attrs) o) (attrs_seen path now))
       (sym (hidden_at path seen)) (by_value (value_at path seen) (rest path))
     where
-      by_value : (o : Option SeenAt) → (ids path ≡ false → Keeps (option_and_then (λ x. x.physical) o) (id_seen path now)) × (attrs path ≡ false → Keeps (option_and_then (λ x. x.attrs) o) (attrs_seen path now))
-          → Keeps (option_and_then (λ x. x.physical) (option_map (hide_at path) o)) (id_seen path now) × Keeps (option_and_then (λ x. x.attrs) (option_map (hide_at path) o)) (attrs_seen path now)
+      by_value : (o : Option SeenAt) → (ids path ≡ false → StaysKnown (option_and_then (λ x. x.physical) o) (id_seen path now)) × (attrs path ≡ false → StaysKnown (option_and_then (λ x. x.attrs) o) (attrs_seen path now))
+          → StaysKnown (option_and_then (λ x. x.physical) (option_map (hide_at path) o)) (id_seen path now) × StaysKnown (option_and_then (λ x. x.attrs) (option_map (hide_at path) o)) (attrs_seen path now)
       by_value None h = (tt, tt)
       by_value (Some v) h = (kept_unless (ids path) v.physical (id_seen path now) h.0, kept_unless (attrs path) v.attrs (attrs_seen path now) h.1)
 

@@ -14,11 +14,13 @@ use Rattle.cf_tree.specs.declared.request.Request.TheVariants.{Create, Update, D
 use Rattle.cf_handler.specs.declared.settled.Settlement.{Settlement}
 use Rattle.cf_handler.specs.declared.settled.Settlement.TheVariants.{Success, Failed}
 use Rattle.cf_handler.specs.declared.settled.Settled.{Settled}
-use Rattle.cf_handler.specs.Lane.{LaneState, Live, live_of, live_after, changed_by, updated, has_id, is_used, succeeded_with, settlement_of}
+use Rattle.cf_handler.specs.Lane.{LaneState, Live, live_of, live_after, live_changed, updated, has_id, is_used, succeeded_with, settlement_of}
 use Rattle.cf_handler.specs.Move.{with_settled, IsOfLane}
 use Rattle.cf_handler.specs.Name.{is_lane_name, is_name_byte}
-use Rattle.cf_plan.specs.Forward.{In, here, there}
-use Rattle.cf_plan.specs.Run.{Told, Tells, name_at}
+use Rattle.cf_tree.specs.Lists.{there}
+use Rattle.cf_tree.specs.Lists.{here}
+use Rattle.cf_tree.specs.Lists.{In}
+use Rattle.cf_plan.specs.Run.{LaneStates, IsState, name_at}
 use Rattle.cf_plan.proofs.CreatedRight.{first_not, second_not, not_so, none_of, in_filter}
 
 pub same_bytes : (a b : List ℕ) → a ≡ b → bytes_eq a b ≡ true
@@ -42,15 +44,15 @@ none_here test [] h = refl
 none_here test (x ∷ xs) h = or_from (test x) (list_any test xs) (h x here) (none_here test xs (λ y i. h y (there i)))
 
 -- a lane that tells is one of all
-pub tells_within : (told : Told) (k : ℕ) (lane : LaneState) → Tells told k lane → k < length told
+pub tells_within : (told : LaneStates) (k : ℕ) (lane : LaneState) → IsState told k lane → k < length told
 tells_within [] k lane t = let no : ⊥ = cc in absurd no
 tells_within (o ∷ told) zero lane t = omega arith
 tells_within (o ∷ told) (suc k) lane t = let i : k < length told = tells_within told k lane t in omega arith
 
 -- what is live after one more call
-pub live_more : (live : List Live) (ss : List Settled) (s : Settled) → live_after live (ss ++ s ∷ []) ≡ changed_by s.request s.settlement (live_after live ss)
+pub live_more : (live : List Live) (ss : List Settled) (s : Settled) → live_after live (ss ++ s ∷ []) ≡ live_changed s.request s.settlement (live_after live ss)
 live_more live [] s = refl
-live_more live (t ∷ ss) s = live_more (changed_by t.request t.settlement live) ss s
+live_more live (t ∷ ss) s = live_more (live_changed t.request t.settlement live) ss s
 
 -- a token that is settled stays so; one more settles its own token, and no other
 pub settled_still : (token : ℕ) (ss : List Settled) (s : Settled) (a : Settlement) → settlement_of token ss ≡ Some a → settlement_of token (ss ++ s ∷ []) ≡ Some a
@@ -115,7 +117,7 @@ ids_updated other id props attrs (r ∷ live) =
 pub none_passed : (id : List ℕ) (test : Live → Bool) (live : List Live) → has_id id live ≡ false → has_id id (filter test live) ≡ false
 none_passed id test live h = none_here (λ r. bytes_eq id r.id) (filter test live) (λ r i. none_of (λ r. bytes_eq id r.id) live r h (in_filter test live r i).0)
 
-pub none_changed : (id : List ℕ) (r : Request) (s : Settlement) (live : List Live) → succeeded_with id s ≡ false → has_id id live ≡ false → has_id id (changed_by r s live) ≡ false
+pub none_changed : (id : List ℕ) (r : Request) (s : Settlement) (live : List Live) → succeeded_with id s ≡ false → has_id id live ≡ false → has_id id (live_changed r s live) ≡ false
 none_changed id (Create kind props) (Success physical attrs) live u h =
     list_any-append (λ r. bytes_eq id r.id) live (record { id = physical; kind = kind; props = props; attrs = attrs } ∷ [])
     ∙ or_from (has_id id live) (bytes_eq id physical || false) h (or_from (bytes_eq id physical) false u refl)
@@ -128,7 +130,7 @@ none_changed id (Delete other) (Failed code) live u h = h
 none_after : (id : List ℕ) (ss : List Settled) (live : List Live) → has_id id live ≡ false → list_any (λ t. succeeded_with id t.settlement) ss ≡ false → has_id id (live_after live ss) ≡ false
 none_after id [] live h u = h
 none_after id (t ∷ ss) live h u =
-    none_after id ss (changed_by t.request t.settlement live)
+    none_after id ss (live_changed t.request t.settlement live)
     (none_changed id t.request t.settlement live (first_not (succeeded_with id t.settlement) (list_any (λ s. succeeded_with id s.settlement) ss) u) h)
     (second_not (succeeded_with id t.settlement) (list_any (λ s. succeeded_with id s.settlement) ss) u)
 

@@ -10,8 +10,9 @@ use Rattle.cf_schema.specs.declared.described.Schema.{Schema}
 use Rattle.cf_effect.specs.World.{StackState}
 use Rattle.cf_plan.specs.declared.forward.Wants.{Wants}
 use Rattle.cf_plan.specs.Start.{Start}
-use Rattle.cf_plan.specs.Forward.{In, here}
-use Rattle.cf_plan.specs.Starts.{AreOpen, AreStarts, IsOneOf, start_of, starts_at, starts_in}
+use Rattle.cf_tree.specs.Lists.{here}
+use Rattle.cf_tree.specs.Lists.{In}
+use Rattle.cf_plan.specs.Starts.{AreOpen, AreRequests, IsWanted, start_of, starts_at, starts_in}
 use Rattle.cf_plan.proofs.Members.{not_both, in_none}
 use Rattle.cf_plan.proofs.Listed.{in_cons}
 use Rattle.cf_plan.proofs.Causing.{in_left, in_right, in_either}
@@ -39,31 +40,31 @@ of_path path r e i = elim (in_either (start path r) (start_of e.0 e.1.create) (s
   | inr j ↦ (let w = of_start path e.0 r e.1.update j in (w.0, inr w.1))
 ]
 
-listed_of : (ps : List (List ℕ × Wants)) (path : List ℕ) (r : Request) → IsOneOf (value_at path ps) r → In (start path r) (starts_in ps)
+listed_of : (ps : List (List ℕ × Wants)) (path : List ℕ) (r : Request) → IsWanted (value_at path ps) r → In (start path r) (starts_in ps)
 listed_of [] path r w = absurd w
 listed_of (p ∷ ps) path r w = by (listed_of ps path r) (bytes_eq path p.0) refl w
   where
-    by : (IsOneOf (value_at path ps) r → In (start path r) (starts_in ps)) → (b : Bool) → bytes_eq path p.0 ≡ b
-        → IsOneOf (cond b (Some p.1) (value_at path ps)) r → In (start path r) (starts_in (p ∷ ps))
+    by : (IsWanted (value_at path ps) r → In (start path r) (starts_in ps)) → (b : Bool) → bytes_eq path p.0 ≡ b
+        → IsWanted (cond b (Some p.1) (value_at path ps)) r → In (start path r) (starts_in (p ∷ ps))
     by rest true e v =
         in_left (start path r) (starts_at p) (starts_in ps)
         (subst (λ (k : List ℕ). In (start path r) (starts_at (k, p.1))) ((bytes_eq-Decides path p.0).0 e) (at_path path r p.1 v))
     by rest false e v = in_right (start path r) (starts_at p) (starts_in ps) (rest v)
 
-one_of_none : (o : Option Wants) (r : Request) → o ≡ None → IsOneOf o r → ⊥
-one_of_none o r e w = subst (λ (p : Option Wants). IsOneOf p r) e w
+one_of_none : (o : Option Wants) (r : Request) → o ≡ None → IsWanted o r → ⊥
+one_of_none o r e w = subst (λ (p : Option Wants). IsWanted p r) e w
 
 ascends_on : (p : List ℕ × Wants) (ps : List (List ℕ × Wants)) → ascends_from p.0 ps ≡ true → ascends ps ≡ true
 ascends_on p [] e = refl
 ascends_on p (q ∷ qs) e = second_so (bytes_lt p.0 q.0) (ascends_from q.0 qs) e
 
-of_listed : (ps : List (List ℕ × Wants)) → ascends ps ≡ true → (path : List ℕ) (r : Request) → In (start path r) (starts_in ps) → IsOneOf (value_at path ps) r
+of_listed : (ps : List (List ℕ × Wants)) → ascends ps ≡ true → (path : List ℕ) (r : Request) → In (start path r) (starts_in ps) → IsWanted (value_at path ps) r
 of_listed [] up path r i = absurd (in_none i)
 of_listed (p ∷ ps) up path r i =
     by (of_listed ps (ascends_on p ps up) path r) (bytes_eq path p.0) refl (in_either (start path r) (starts_at p) (starts_in ps) i)
   where
-    by : (In (start path r) (starts_in ps) → IsOneOf (value_at path ps) r) → (b : Bool) → bytes_eq path p.0 ≡ b
-        → In (start path r) (starts_at p) ⊎ In (start path r) (starts_in ps) → IsOneOf (cond b (Some p.1) (value_at path ps)) r
+    by : (In (start path r) (starts_in ps) → IsWanted (value_at path ps) r) → (b : Bool) → bytes_eq path p.0 ≡ b
+        → In (start path r) (starts_at p) ⊎ In (start path r) (starts_in ps) → IsWanted (cond b (Some p.1) (value_at path ps)) r
     by rest true e (inl j) = (of_path path r p j).1
     by rest true e (inr j) =
         absurd (one_of_none (value_at path ps) r
@@ -72,5 +73,5 @@ of_listed (p ∷ ps) up path r i =
     by rest false e (inl j) = absurd (not_both (bytes_eq path p.0) ((bytes_eq-Decides path p.0).1 (of_path path r p j).0) e)
     by rest false e (inr j) = rest j
 
-pub are_open : (schemas : List Schema) (s : StackState) (ps : List (List ℕ × Wants)) → ascends ps ≡ true → AreStarts schemas s ps → AreOpen schemas s (starts_in ps)
+pub are_open : (schemas : List Schema) (s : StackState) (ps : List (List ℕ × Wants)) → ascends ps ≡ true → AreRequests schemas s ps → AreOpen schemas s (starts_in ps)
 are_open schemas s ps up are path r = (λ w. listed_of ps path r ((are path r).0 w), λ i. (are path r).1 (of_listed ps up path r i))

@@ -13,7 +13,10 @@ use Rattle.cf_effect.specs.declared.held.Held.{Held}
 use Rattle.cf_effect.specs.World.{StackState}
 use Rattle.cf_effect.specs.Words.{current_at}
 use Rattle.cf_plan.specs.Between.{needs_at}
-use Rattle.cf_plan.specs.Forward.{In, here, there, Finding, Bad, Later, Known, IsDone, is_made, is_updated, is_right, IsReady, AllDone, evaluated_at, wanted_paths, was_updated_at}
+use Rattle.cf_plan.specs.Forward.{Finding, Bad, Later, Known, IsDone, is_made, is_updated, is_right, IsReady, AllDone, evaluated_at, wanted_paths, was_updated_at}
+use Rattle.cf_tree.specs.Lists.{there}
+use Rattle.cf_tree.specs.Lists.{here}
+use Rattle.cf_tree.specs.Lists.{In}
 use Rattle.cf_plan.specs.PathStates.{AreInPlace, AreStatesOf, IsStateOf, are_all_done_at, are_done_at, are_enough, done_by_places, finding_in, has_props, is_as_wanted, is_done_at, is_done_by, is_read, is_enough, with_done}
 use Rattle.cf_plan.specs.declared.path_state.PathFinding.{PathFinding}
 use Rattle.cf_plan.specs.declared.path_state.PathFinding.TheVariants as it

@@ -17,7 +17,10 @@ use Rattle.cf_plan.specs.Between.{needs_at}
 use Rattle.cf_plan.specs.Causes.{IsFailureOf, or_call, or_path}
 use Rattle.cf_plan.specs.Failed.{least}
 use Rattle.cf_plan.specs.Follow.{IntendsForward, is_free}
-use Rattle.cf_plan.specs.Forward.{In, here, there, Finding, Bad, Later, Known, IsDone, IsReady, AllDone, HasFailed, IsBadAt, IsBadPath, evaluated_at, first_failing, path_of_token, plan_now, wanted_paths, was_answered_at}
+use Rattle.cf_plan.specs.Forward.{Finding, Bad, Later, Known, IsDone, IsReady, AllDone, HasFailed, IsBadAt, IsBadPath, evaluated_at, first_failing, path_of_token, plan_now, wanted_paths, was_answered_at}
+use Rattle.cf_tree.specs.Lists.{there}
+use Rattle.cf_tree.specs.Lists.{here}
+use Rattle.cf_tree.specs.Lists.{In}
 use Rattle.cf_plan.specs.PathStates.{AreStatesOf, are_all_done_at, are_done_at, are_enough, create_of, done_by_places, finding_in, flaw_seen, is_done_at, may_begin, ready_flaw, ready_flaws, starts_from, starts_from_all, starts_of_path, update_of, update_unless}
 use Rattle.cf_plan.specs.Start.{Start}
 use Rattle.cf_plan.specs.Starts.{AreOpen, update_over, wants_by}

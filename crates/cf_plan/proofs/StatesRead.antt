@@ -21,7 +21,7 @@ use Rattle.cf_desired.specs.Seeing.{Seen}
 use Rattle.cf_desired.specs.Shape.{shape_of}
 use Rattle.cf_desired.specs.Valued.{resources_in}
 use Rattle.cf_desired.proofs.Termed.{terms_by, wanted_terms}
-use Rattle.cf_desired.specs.Turns.{terms_of as member_terms}
+use Rattle.cf_desired.specs.Turns.{member_terms}
 use Rattle.cf_desired.specs.Whole.{known_of, wanted_at}
 use Rattle.cf_desired.specs.declared.shape.Terms.{Terms}
 use Rattle.cf_desired.specs.declared.wanted.Wanted.{Wanted}
@@ -47,7 +47,10 @@ use Rattle.cf_effect.specs.declared.layout.Placed.{Placed}
 use Rattle.cf_rests.proofs.Viewed.{by_paths}
 use Rattle.cf_rests.specs.Views.{IsPlanOf, wanted_from}
 use Rattle.cf_plan.specs.Between.{needs_at}
-use Rattle.cf_plan.specs.Forward.{In, here, there, Finding, Later, evaluated_at, finding, known_or_later, plan_in, wanted_paths, was_answered_at, was_updated_at}
+use Rattle.cf_plan.specs.Forward.{Finding, Later, evaluated_at, finding, known_or_later, plan_in, wanted_paths, was_answered_at, was_updated_at}
+use Rattle.cf_tree.specs.Lists.{there}
+use Rattle.cf_tree.specs.Lists.{here}
+use Rattle.cf_tree.specs.Lists.{In}
 use Rattle.cf_plan.specs.PathStates.{AreInPlace, AreStatesOf, IsStateOf, finding_in, is_done_at}
 use Rattle.cf_plan.specs.StatesKept.{AreRead, IsRead, at_place, finding_kept, finding_from, is_marking, marked_at, marks_of, with_mark}
 use Rattle.cf_plan.specs.declared.path_state.PathState.{PathState}

@@ -1,6 +1,8 @@
 -- Where all is done and nothing is at fault, what is left of the resources of a stack is what its template wants.
 use Rattle.std.proofs.Common.{◌≡◌, ◌⊎◌, inl, inr, ◌↔◌, ℕ, List, ◌∷◌, Bool, true, false, not, Some, refl, sym, ap, subst, ◌∙◌, true≢false, map, filter, find, ◌++◌, ◌&&◌, Option, None, option_map, ◌+◌, []}
-use Rattle.cf_plan.specs.Forward.{In, Known, evaluated_at, plan_in, plan_now, there, wanted_paths}
+use Rattle.cf_plan.specs.Forward.{Known, evaluated_at, plan_in, plan_now, wanted_paths}
+use Rattle.cf_tree.specs.Lists.{there}
+use Rattle.cf_tree.specs.Lists.{In}
 use Rattle.cf_export.specs.declared.Export.{Export}
 use Rattle.cf_effect.specs.declared.held.Held.{Held}
 use Rattle.cf_desired.specs.Stays.{IsWholeOf}

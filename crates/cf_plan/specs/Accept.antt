@@ -1,6 +1,6 @@
--- When a source is accepted before anything is called: its plan has no flaw, and so each text that the plan meets is a
--- template; its types have lanes, its imports are just those that it uses, no export is taken, and something changes. Texts
--- that the plan does not meet are not read.
+-- When a source is accepted before anything is called: its plan has no flaw, and so each text that the plan meets is a template; its
+-- types have lanes, its imports are just those that it uses, no export is taken, and something changes (User Guide: change sets,
+-- exports that are in use; which names are taken is this project's own). Texts that the plan does not meet are not read.
 use Rattle.std.specs.Prelude.{◌≡◌, ◌≢◌, ℕ, ◌⊎◌, Bool, true, false, ◌&&◌, ◌||◌, not, List, [], Some, IsTrue, filter, map}
 use Rattle.std.specs.List.{list_any, list_all}
 use Rattle.std.specs.Str.{bytes_eq}
@@ -53,7 +53,8 @@ changes_on schemas name x s source = changes_of schemas (held_by s) s.outputs (e
 abbrev pub seen_before : List Schema → StackState → Source → Seen
 seen_before schemas s source = (found_of schemas (held_by s) source).seen
 
--- Imports: each is an export of another stack with its value of now; with all of these the source would come to the same; without one of them it would not.
+-- Imports: each is an export of another stack with its value of now; with all of these the source would come to the same; without one of
+-- them it would not.
 abbrev pub exports_of_others : List ℕ → World → List (List ℕ × List ℕ)
 exports_of_others name x = by_names (map (λ e. (e.name, e.value)) (filter (λ e. not (bytes_eq name e.stack)) x.exports))
 
@@ -94,18 +95,25 @@ abbrev pub Changing : Changes → Type 0
 Changing c = (is_empty c.rows ≡ false) ⊎ (c.outputs_differ ≡ true)
 
 -- The source is accepted where these are the types that there are.
-pub record IsAccepted (schemas : List Schema) (kinds : List (List ℕ)) (name : List ℕ) (x : World) (s : StackState) (source : Source) : Type 0 where
+pub record IsAccepted (schemas : List Schema) (kinds : List (List ℕ)) (name : List ℕ) (x : World) (s : StackState) (source : Source) : Type
+    0 where
   pub no_flaw : (changes_on schemas name x s source).flaws ≡ []
   pub known_types : IsTrue (list_all (λ w. is_among w.kind kinds) (plan_of source (seen_before schemas s source)).wanted)
   pub same_types : (changes_on schemas name x s source).clash ≡ []
   pub imports : ImportsWhatItUses name x source (seen_before schemas s source)
   pub free : IsTrue (are_free name x (map (λ e. e.0) (plan_of source (seen_before schemas s source)).exports))
-  pub not_in_use : list_any (is_taken_away name x (map (λ e. e.0) (plan_of source (seen_before schemas s source)).exports)) x.exports ≡ false
+  pub not_in_use : list_any (is_taken_away name x (map (λ e. e.0) (plan_of source (seen_before schemas s source)).exports)) x.exports
+      ≡ false
   pub changing : IsTrue (creates_from s.status) ⊎ Changing (changes_on schemas name x s source)
 
+-- the types that have a schema
+abbrev pub schema_kinds : List Schema → List (List ℕ)
+schema_kinds schemas = map (λ g. g.kind) schemas
+
 -- A change set is kept where its source is accepted over all known types, and has just the rows that it has now.
-pub record IsReviewed (schemas : List Schema) (name : List ℕ) (x : World) (s : StackState) (source : Source) (rows : List Row) (outputs : Bool) : Type 0 where
-  pub accepted : IsAccepted schemas (map (λ g. g.kind) schemas) name x s source
+pub record IsReviewed (schemas : List Schema) (name : List ℕ) (x : World) (s : StackState) (source : Source) (rows : List Row)
+    (outputs : Bool) : Type 0 where
+  pub accepted : IsAccepted schemas (schema_kinds schemas) name x s source
   pub changing : Changing (changes_on schemas name x s source)
   pub rows_are : rows ≡ (changes_on schemas name x s source).rows
   pub outputs_are : outputs ≡ (changes_on schemas name x s source).outputs_differ

@@ -1,4 +1,5 @@
--- Which resource of a stack needs which (User Guide, DependsOn and references: what is needed is made before and deleted after what needs it).
+-- Which resource of a stack needs which (User Guide, DependsOn and references: what is needed is made before and deleted after what needs
+-- it).
 use Rattle.std.specs.Prelude.{ℕ, Bool, ◌&&◌, not, List, filter}
 use Rattle.std.specs.List.{list_any}
 use Rattle.cf_effect.specs.declared.held.Held.{Held}

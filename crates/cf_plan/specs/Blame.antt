@@ -6,15 +6,16 @@ use Rattle.cf_entry.specs.declared.entry.Entry.{Entry}
 use Rattle.cf_entry.specs.declared.status.Status.TheVariants as status
 use Rattle.cf_effect.specs.World.{StackState, World, stack_at}
 use Rattle.cf_effect.specs.Fold.{fold_of}
-use Rattle.cf_plan.specs.Forward.{In}
+use Rattle.cf_tree.specs.Lists.{In}
 use Rattle.cf_plan.specs.Follow.{failed_of}
 use Rattle.cf_plan.specs.Ends.{IsBlamed}
-use Rattle.cf_plan.specs.Run.{Told, Runs, IsOwn, HasBegun}
+use Rattle.cf_plan.specs.Run.{LaneStates, Runs, IsOwn, HasBegun}
 
 -- where a run of a creation leaves its stack with a rollback that failed, paths are named, and each is blamed
 abbrev pub RollbackBlames : Type 0
 RollbackBlames =
-    (schemas : List Schema) (names kinds : List (List ℕ)) (x : World) (told told' : Told) (counts counts' : List ℕ) (number : ℕ) (name : List ℕ)
+    (schemas : List Schema) (names kinds : List (List ℕ)) (x : World) (told told' : LaneStates) (counts counts' : List ℕ) (number : ℕ)
+    (name : List ℕ)
     (source : Source) (s : StackState) (es : List Entry)
     → HasBegun names kinds x told number name source s → Runs schemas names x told counts es told' counts'
     → ((e : Entry) → In e es → IsOwn number e) → (t : StackState) → stack_at name (fold_of x es) ≡ Some t → t.status ≡ status.RollbackFailed

@@ -12,26 +12,27 @@ use Rattle.cf_effect.specs.Calls.{call_under, refusals_of}
 use Rattle.cf_plan.specs.Follow.{is_bad_outcome}
 
 -- of each path, whether its last outcome is a doubt or a refusal
-abbrev pub Verdicts : Type 0
-Verdicts = List (List ℕ × Bool)
+abbrev pub BadPaths : Type 0
+BadPaths = List (List ℕ × Bool)
 
-abbrev pub noted_call : Option Call → Reply → Verdicts → Verdicts
+abbrev pub noted_call : Option Call → Reply → BadPaths → BadPaths
 noted_call None answer vs = vs
 noted_call (Some c) answer vs = put c.path (is_bad_outcome (Some c) answer) vs
 
-abbrev pub noted : StackState → Verdicts → Entry → Verdicts
-noted s vs (entry.Outcome number token answer before after) = if s.operation == number then noted_call (call_under token s) answer vs else vs
-noted s vs _ = vs
+abbrev pub with_outcome : StackState → BadPaths → Entry → BadPaths
+with_outcome s vs (entry.Outcome number token answer before after) =
+    if s.operation == number then noted_call (call_under token s) answer vs else vs
+with_outcome s vs _ = vs
 
-abbrev pub verdicts_of : StackState → Verdicts
-verdicts_of s = fold (noted s) [] s.entries
+abbrev pub bad_paths : StackState → BadPaths
+bad_paths s = fold (with_outcome s) [] s.entries
 
 -- the path of a resource, where its deletion was refused
-abbrev pub blamed : StackState → Verdicts → Held → Verdicts
-blamed s vs r = if nat_lt 0 (refusals_of r.physical s) then put r.path true vs else vs
+abbrev pub with_refused : StackState → BadPaths → Held → BadPaths
+with_refused s vs r = if nat_lt 0 (refusals_of r.physical s) then put r.path true vs else vs
 
-abbrev pub blames_of : StackState → Verdicts
-blames_of s = fold (blamed s) (verdicts_of s) (resources_of s)
+abbrev pub blames_of : StackState → BadPaths
+blames_of s = fold (with_refused s) (bad_paths s) (resources_of s)
 
-abbrev pub bad_among : Verdicts → List (List ℕ)
+abbrev pub bad_among : BadPaths → List (List ℕ)
 bad_among vs = map (λ v. v.0) (filter (λ v. v.1) vs)

@@ -20,4 +20,5 @@ abbrev pub FindsNothing : World → Type 0
 FindsNothing x = (name : List ℕ) → IsTrue (creates_from (known_stack name x).status) → IsCleared (known_stack name x)
 
 abbrev pub CreationFindsNothing : Type 0
-CreationFindsNothing = (es : List Entry) → IsJournal empty_world es → AreApart (fold_of empty_world es) × FindsNothing (fold_of empty_world es)
+CreationFindsNothing =
+    (es : List Entry) → IsJournal empty_world es → AreApart (fold_of empty_world es) × FindsNothing (fold_of empty_world es)

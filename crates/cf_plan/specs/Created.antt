@@ -23,7 +23,8 @@ use Rattle.cf_desired.specs.Seeing.{Seen}
 use Rattle.cf_desired.specs.Plan.{plan_of}
 use Rattle.cf_desired.specs.Shape.{shape_of}
 use Rattle.cf_desired.specs.Stays.{other_flaws}
-use Rattle.cf_plan.specs.Forward.{In, Known, evaluated_at, plan_now, IsDone, IsReady, AllDone, HasFailed}
+use Rattle.cf_plan.specs.Forward.{Known, evaluated_at, plan_now, IsDone, IsReady, AllDone, HasFailed}
+use Rattle.cf_tree.specs.Lists.{In}
 use Rattle.cf_plan.specs.Ends.{right_at}
 use Rattle.cf_plan.specs.Follow.{MayIntend, EndsAs}
 use Rattle.cf_effect.specs.Calls.{own_calls}
@@ -71,7 +72,8 @@ IsRightCreate source s = IsCreating source s × AreRight s
 -- it begins right, where nothing is held and no call is open
 abbrev pub BeginsRight : Type 0
 BeginsRight =
-    (name : List ℕ) (place number : ℕ) (source : Source) (s : StackState) → HasOneShape (source_for name number source) → s.held ≡ [] → s.tokens ≡ []
+    (name : List ℕ) (place number : ℕ) (source : Source) (s : StackState) → HasOneShape (source_for name number source) → s.held ≡ []
+    → s.tokens ≡ []
     → IsRightCreate (source_for name number source) (effect_at place (entry.Begin number name (begin.Create source)) s).stack
 
 -- it stays right at an opening
@@ -94,7 +96,7 @@ OutcomeStaysRight =
     → IsRightCreate source (effect_at place (entry.Outcome number token answer before after) s).stack
 
 -- a path that can be made next: it is ready and not done, and the template says what to make
-pub record IsNext (s : StackState) (path : List ℕ) : Type 0 where
+pub record CanBeMade (s : StackState) (path : List ℕ) : Type 0 where
   pub ready : IsReady s path
   pub open_still : ¬ IsDone s path
   pub kind : List ℕ
@@ -105,8 +107,9 @@ pub record IsNext (s : StackState) (path : List ℕ) : Type 0 where
 -- is made, its template has no flaw but those of evaluations.
 abbrev pub CreateGoesOn : Type 0
 CreateGoesOn =
-    (schemas : List Schema) (name : List ℕ) (x : World) (source : Source) (s : StackState) → IsRightCreate source s → other_flaws (plan_of source []) ≡ []
-    → ¬ HasFailed schemas name x s → AllDone s ⊎ ((path : List ℕ) × IsNext s path)
+    (schemas : List Schema) (name : List ℕ) (x : World) (source : Source) (s : StackState) → IsRightCreate source s
+    → other_flaws (plan_of source []) ≡ []
+    → ¬ HasFailed schemas name x s → AllDone s ⊎ ((path : List ℕ) × CanBeMade s path)
 
 -- the whole map has just the made paths, with their kinds and properties
 pub record IsMadeOf (s : StackState) (whole : Whole) : Type 0 where

@@ -15,7 +15,8 @@ use Rattle.cf_effect.specs.Calls.{own_calls, succeeded}
 use Rattle.cf_plan.specs.declared.found.Found as found
 use Rattle.cf_plan.specs.declared.found.Found.TheVariants.{Bad as bad, Later as not_yet, Known as known}
 use Rattle.cf_plan.specs.Between.{needs_at}
-use Rattle.cf_plan.specs.Forward.{In, IsDone, Finding, Bad, Later, Known, finding, wanted_paths}
+use Rattle.cf_plan.specs.Forward.{IsDone, Finding, Bad, Later, Known, finding, wanted_paths}
+use Rattle.cf_tree.specs.Lists.{In}
 
 -- what properties come to, as code has it
 abbrev pub finding_of : found.Found → Finding
@@ -30,23 +31,23 @@ finding_over o = option_map_or (λ w. finding w.kind w.props) o Later
 abbrev pub finding_by : List ℕ → Plan → Finding
 finding_by path p = option_map_or (λ w. finding w.kind w.props) (wanted_at path p) Later
 
-abbrev pub needs_by : List ℕ → Plan → List (List ℕ)
-needs_by path p = (terms_of (wanted_at path p)).needs
+abbrev pub planned_needs : List ℕ → Plan → List (List ℕ)
+planned_needs path p = (terms_of (wanted_at path p)).needs
 
 abbrev pub are_met : List ℕ → Plan → List (List ℕ) → Bool
-are_met path p done = list_all (λ n. is_among n done) (needs_by path p)
+are_met path p done = list_all (λ n. is_among n done) (planned_needs path p)
 
 -- a plan with the paths of the operation's template and what each of them needs, whatever it has of their properties
 pub record HasTerms (s : StackState) (p : Plan) : Type 0 where
   pub paths : map (λ w. w.path) p.wanted ≡ wanted_paths s
-  pub needs : (path : List ℕ) → needs_by path p ≡ needs_at path s
+  pub needs : (path : List ℕ) → planned_needs path p ≡ needs_at path s
 
 -- what is held at a path is sure and has the type and properties that a plan gives the path
 abbrev pub IsHeldRight : List ℕ → Plan → List Held → Type 0
 IsHeldRight path p held = (h : Held) × (current_at path held ≡ Some h) × (h.unsure ≡ false) × (finding_by path p ≡ Known h.kind h.props)
 
-abbrev pub IsRight : Option Wanted → Option Held → Type 0
-IsRight w o = (h : Held) × (o ≡ Some h) × (h.unsure ≡ false) × (finding_over w ≡ Known h.kind h.props)
+abbrev pub IsFoundRight : Option Wanted → Option Held → Type 0
+IsFoundRight w o = (h : Held) × (o ≡ Some h) × (h.unsure ≡ false) × (finding_over w ≡ Known h.kind h.props)
 
 -- the paths that are done whatever the template says: those of what was made, and of the updates that succeeded
 abbrev pub made_paths : StackState → List (List ℕ)
@@ -62,17 +63,19 @@ updated_paths s = map (λ c. c.path) (filter is_good_update (own_calls s))
 abbrev pub IsFresh : Plan → Plan → List Held → List (List ℕ) → List ℕ → Type 0
 IsFresh before now held done p = (is_among p done ≡ false) × IsTrue (are_met p before done) × IsHeldRight p now held
 
-abbrev pub IsNext : Plan → Plan → List Held → List (List ℕ) → List ℕ → Type 0
-IsNext before now held done p = In p (map (λ w. w.path) before.wanted) × IsFresh before now held done p
+abbrev pub CanJoin : Plan → Plan → List Held → List (List ℕ) → List ℕ → Type 0
+CanJoin before now held done p = In p (map (λ w. w.path) before.wanted) × IsFresh before now held done p
 
 -- a path joins where it is fresh, and nothing changes where it isn't
-abbrev pub Adds : Plan → Plan → List Held → List ℕ → List (List ℕ) → List (List ℕ) → Type 0
-Adds before now held p old new = (IsFresh before now held old p × (new ≡ old ++ p ∷ [])) ⊎ ((IsFresh before now held old p → ⊥) × (new ≡ old))
+abbrev pub AddsPath : Plan → Plan → List Held → List ℕ → List (List ℕ) → List (List ℕ) → Type 0
+AddsPath before now held p old new =
+    (IsFresh before now held old p × (new ≡ old ++ p ∷ [])) ⊎ ((IsFresh before now held old p → ⊥) × (new ≡ old))
 
 -- one such path after another has joined
 pub data Joined (before now : Plan) (held : List Held) (old : List (List ℕ)) : List (List ℕ) → Type 0 where
   none : Joined before now held old old
-  one : {done : List (List ℕ)} {p : List ℕ} → Joined before now held old done → IsNext before now held done p → Joined before now held old (done ++ p ∷ [])
+  one : {done : List (List ℕ)} {p : List ℕ} → Joined before now held old done → CanJoin before now held done p
+      → Joined before now held old (done ++ p ∷ [])
 
 -- these are just the paths that are done
 abbrev pub AreDone : StackState → List (List ℕ) → Type 0

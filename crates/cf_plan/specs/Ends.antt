@@ -18,7 +18,7 @@ use Rattle.cf_effect.specs.End.{is_right_at}
 use Rattle.cf_desired.specs.Seeing.{Seen}
 use Rattle.cf_desired.specs.Whole.{Right, Whole, whole_of}
 use Rattle.cf_plan.specs.Accept.{exports_in}
-use Rattle.cf_plan.specs.Forward.{In}
+use Rattle.cf_tree.specs.Lists.{In}
 use Rattle.cf_plan.specs.Lanes.{Lane, IsHome}
 use Rattle.cf_plan.specs.Follow.{settled_by}
 use Rattle.cf_effect.specs.Operation.{own_of}

@@ -18,12 +18,12 @@ abbrev pub flaw_in : Evaluated → Option Flaw
 flaw_in (result.Flawed f) = Some f
 flaw_in (result.Known ps) = None
 
-abbrev pub flaw_by : List ℕ → Plan → Option Flaw
-flaw_by path p = option_and_then (λ w. flaw_in w.props) (wanted_at path p)
+abbrev pub flaw_planned : List ℕ → Plan → Option Flaw
+flaw_planned path p = option_and_then (λ w. flaw_in w.props) (wanted_at path p)
 
 -- a path whose needs are done with its flaw; a nested stack whose needs are done with its flaw
 abbrev pub flaw_found : Plan → Plan → List (List ℕ) → Wanted → Option (List ℕ × Flaw)
-flaw_found before now done w = if are_met w.path before done then option_map (λ f. (w.path, f)) (flaw_by w.path now) else None
+flaw_found before now done w = if are_met w.path before done then option_map (λ f. (w.path, f)) (flaw_planned w.path now) else None
 
 abbrev pub inner_found : List (List ℕ) → Inner → Option (List ℕ × Flaw)
 inner_found done i = if list_all (λ n. is_among n done) i.needs then option_map (λ f. (i.path, f)) i.fault else None
@@ -32,16 +32,16 @@ abbrev pub flaws_found : Plan → Plan → List (List ℕ) → List (List ℕ ×
 flaws_found before now done = filter_map (flaw_found before now done) before.wanted ++ filter_map (inner_found done) now.nested
 
 -- the first of the least path in byte order
-abbrev pub lesser : Option (List ℕ × Flaw) → List ℕ × Flaw → Option (List ℕ × Flaw)
-lesser None b = Some b
-lesser (Some a) b = if bytes_lt b.0 a.0 then Some b else Some a
+abbrev pub lesser_flaw : Option (List ℕ × Flaw) → List ℕ × Flaw → Option (List ℕ × Flaw)
+lesser_flaw None b = Some b
+lesser_flaw (Some a) b = if bytes_lt b.0 a.0 then Some b else Some a
 
 abbrev pub lesser_of : Option (List ℕ × Flaw) → Option (List ℕ × Flaw) → Option (List ℕ × Flaw)
 lesser_of a None = a
-lesser_of a (Some b) = lesser a b
+lesser_of a (Some b) = lesser_flaw a b
 
 abbrev pub least : List (List ℕ × Flaw) → Option (List ℕ × Flaw)
-least flaws = fold lesser None flaws
+least flaws = fold lesser_flaw None flaws
 
 abbrev pub bad_of : bad.BadAt → List ℕ × Flaw
 bad_of b = (b.path.now, b.flaw.now)

@@ -1,4 +1,5 @@
--- Which entry may follow a world (this project's own; what each phase does is that of the User Guide: stack updates, rollbacks and deletions).
+-- Which entry may follow a world (this project's own; what each phase does is that of the User Guide: stack updates, rollbacks and
+-- deletions).
 use Rattle.std.specs.Prelude.{◌≡◌, ◌≢◌, ℕ, ◌+◌, ◌==◌, ◌≤◌, ◌⊎◌, ◌↔◌, Bool, true, false, ◌&&◌, ◌||◌, not, List, [], ◌∷◌, Option, Some, None, IsTrue, nat_lt, is_some, filter, find, map, flat_map, length, reverse, MatchBool, if◌then◌else◌}
 use Rattle.std.specs.List.{list_any, list_all}
 use Rattle.cf_tree.specs.Datum.{Data}
@@ -6,7 +7,7 @@ use Rattle.std.specs.Str.{bytes_eq}
 use Rattle.cf_tree.specs.declared.request.Request.{Request}
 use Rattle.cf_tree.specs.declared.request.Request.TheVariants as request
 use Rattle.cf_tree.specs.declared.code.Code.TheVariants as code
-use Rattle.cf_handler.specs.Move.{IsOfLane}
+use Rattle.cf_handler.specs.Move.{IsKindFor, IsOfLane}
 use Rattle.cf_tree.specs.Counts.{HasRisen}
 use Rattle.cf_entry.specs.Entry.{texts_ascend}
 use Rattle.cf_entry.specs.declared.entry.Entry.{Entry}
@@ -30,7 +31,7 @@ use Rattle.cf_effect.specs.World.{StackState, World, stack_at, stack_of_operatio
 use Rattle.cf_effect.specs.Status.{Stage, Forward, Clean, Back, BackClean, Gone, stage_of}
 use Rattle.cf_effect.specs.Words.{current_at, resources_of, is_update, is_create_at, pending_of, is_pinned, deletes, updates}
 use Rattle.cf_effect.specs.Begin.{source_for}
-use Rattle.cf_effect.specs.Fold.{world_after}
+use Rattle.cf_effect.specs.Fold.{is_opening, world_after}
 use Rattle.cf_effect.specs.declared.call.Call.{Call}
 use Rattle.cf_effect.specs.Operation.{Response, after_last, replies_in, own_of, was_skipped, named_paths}
 use Rattle.cf_effect.specs.Calls.{doubts_of, deletions_of, refusals_of, was_updated, was_restored, was_refused, is_refusal, call_under}
@@ -40,7 +41,8 @@ use Rattle.cf_tree.specs.declared.template.Replace.{Replace}
 use Rattle.cf_tree.specs.declared.template.Replace.TheVariants as replace
 use Rattle.cf_tree.specs.Lists.{is_among}
 use Rattle.cf_plan.specs.Between.{is_needed_by_held, is_needed_by_made, is_needed_by_create}
-use Rattle.cf_plan.specs.Forward.{In, IsDone, IsReady, AllDone, HasFailed, IsCause, Known, evaluated_at, was_answered_at, difference_to}
+use Rattle.cf_plan.specs.Forward.{IsDone, IsReady, AllDone, HasFailed, IsCause, Known, evaluated_at, was_answered_at, difference_to}
+use Rattle.cf_tree.specs.Lists.{In}
 use Rattle.cf_schema.specs.declared.described.Schema.{Schema}
 use Rattle.cf_schema.specs.declared.changed.Difference.TheVariants.{Same, MayReplace, Replace as ToReplace}
 use Rattle.cf_change.specs.Changes.{is_empty}
@@ -96,7 +98,8 @@ MayDelete Back s r = (s.status ≡ status.RollbackInProgress) × In r s.made × 
 MayDelete BackClean s r = In r s.made × IsTrue (is_tried_less s r)
 MayDelete Gone s r = In r (resources_of s) × IsTrue (is_not_needed s r) × (is_needed_by_held s r ≡ false) × IsTrue (is_untried s r)
 
--- What the forward phase makes and changes: a create-only property that differs wants a new resource, as does a conditional one where the handler says so.
+-- What the forward phase makes and changes: a create-only property that differs wants a new resource, as does a conditional one where the
+-- handler says so.
 abbrev pub is_not_updatable : Option Settled → Bool
 is_not_updatable (Some (settled.Failed code.NotUpdatable)) = true
 is_not_updatable _ = false
@@ -114,7 +117,8 @@ abbrev pub WantsUpdate : List Schema → StackState → Held → List (List ℕ 
 WantsUpdate schemas s h props = (difference_to schemas h props ≢ ToReplace) × ((h.unsure ≡ true) ⊎ (difference_to schemas h props ≢ Same))
 
 abbrev pub IntendsForward : List Schema → StackState → List ℕ → Request → Type 0
-IntendsForward schemas s path (request.Create k props) = (evaluated_at path s ≡ Known k props) × WantsNew schemas s (current_at path s.held) props
+IntendsForward schemas s path (request.Create k props) =
+    (evaluated_at path s ≡ Known k props) × WantsNew schemas s (current_at path s.held) props
 IntendsForward schemas s path (request.Update physical props) =
     (h : Held) × (current_at path s.held ≡ Some h) × (physical ≡ h.physical) × (evaluated_at path s ≡ Known h.kind props)
     × WantsUpdate schemas s h props × (was_answered_at path s ≡ false)
@@ -143,7 +147,8 @@ IntendsDeletion stage s path (request.Delete physical) =
 IntendsDeletion stage s path _ = ⊥
 
 abbrev pub IntendsIn : Stage → List Schema → List ℕ → World → StackState → List ℕ → Request → Type 0
-IntendsIn Forward schemas name x s path r = ¬ HasFailed schemas name x s × IsReady s path × ¬ IsDone s path × IntendsForward schemas s path r
+IntendsIn Forward schemas name x s path r =
+    ¬ HasFailed schemas name x s × IsReady s path × ¬ IsDone s path × IntendsForward schemas s path r
 IntendsIn Back schemas name x s path r = IntendsDeletion Back s path r ⊎ IntendsRestore s path r
 IntendsIn stage schemas name x s path r = IntendsDeletion stage s path r
 
@@ -275,7 +280,8 @@ EndsAs schemas name x s status.UpdateRollbackCompleteCleanupInProgress status.Up
 EndsAs schemas name x s status.UpdateRollbackInProgress status.UpdateRollbackFailed = Unit {0}
 EndsAs schemas name x s _ _ = ⊥
 
--- The failed paths: those whose last outcome in the operation is a doubt or a refusal, and those of a resource whose deletion in it was refused.
+-- The failed paths: those whose last outcome in the operation is a doubt or a refusal, and those of a resource whose deletion in it was
+-- refused.
 abbrev pub is_failed_status : Status → Bool
 is_failed_status status.RollbackFailed = true
 is_failed_status status.UpdateRollbackFailed = true
@@ -304,11 +310,13 @@ is_bad_last s None = false
 is_bad_last s (Some r) = is_bad_outcome (call_under r.token s) r.answer
 
 abbrev pub is_failed_path : StackState → List ℕ → Bool
-is_failed_path s path = is_bad_last s (last_at path s) || list_any (λ r. bytes_eq path r.path && nat_lt 0 (refusals_of r.physical s)) (resources_of s)
+is_failed_path s path =
+    is_bad_last s (last_at path s) || list_any (λ r. bytes_eq path r.path && nat_lt 0 (refusals_of r.physical s)) (resources_of s)
 
 abbrev pub AreFailed : StackState → Status → List (List ℕ) → Type 0
 AreFailed s state failed =
-    MatchBool (is_failed_status state) (IsTrue (texts_ascend failed) × ((p : List ℕ) → In p failed ↔ IsTrue (is_failed_path s p))) (failed ≡ [])
+    MatchBool (is_failed_status state) (IsTrue (texts_ascend failed) × ((p : List ℕ) → In p failed ↔ IsTrue (is_failed_path s p)))
+    (failed ≡ [])
 
 -- Beginning an operation, and keeping a change set.
 abbrev pub failed_in : Entry → List (List ℕ)
@@ -323,12 +331,8 @@ abbrev pub is_done_entry : Entry → Bool
 is_done_entry (entry.Done number state failed) = true
 is_done_entry _ = false
 
-abbrev pub is_opened : Entry → Bool
-is_opened (entry.Opened epoch lanes) = true
-is_opened _ = false
-
 abbrev pub is_opened_since : StackState → Bool
-is_opened_since s = list_any is_opened (after_last is_done_entry s.entries)
+is_opened_since s = list_any is_opening (after_last is_done_entry s.entries)
 
 -- the statuses from which each kind may begin (User Guide: what a stack's status lets be done)
 abbrev pub updates_from : Status → Bool
@@ -336,6 +340,10 @@ updates_from status.CreateComplete = true
 updates_from status.UpdateComplete = true
 updates_from status.UpdateRollbackComplete = true
 updates_from _ = false
+
+-- a source creates a stack or updates one
+abbrev pub deploys_from : Status → Bool
+deploys_from s = creates_from s || updates_from s
 
 abbrev pub deletes_from : Status → Bool
 deletes_from status.ReviewInProgress = true
@@ -366,11 +374,17 @@ abbrev pub may_retain : Status → StackState → List (List ℕ) → Bool
 may_retain status.DeleteFailed s paths = are_among paths (failed_of s)
 may_retain _ s paths = is_empty paths
 
+-- the types of the lanes of the last opening
+abbrev pub lane_kinds : World → List (List ℕ)
+lane_kinds x = map (λ l. l.1) x.lanes
+
 abbrev pub BeginsBy : List Schema → List ℕ → World → ℕ → StackState → Begun → Type 0
-BeginsBy schemas name x number s (begin.Create source) = IsAccepted schemas (map (λ l. l.1) x.lanes) name x s (source_for name number source)
-BeginsBy schemas name x number s (begin.Update source) = IsAccepted schemas (map (λ l. l.1) x.lanes) name x s (source_for name s.number source)
-BeginsBy schemas name x number s (begin.Delete paths) = IsTrue (texts_ascend paths) × IsTrue (may_retain s.status s paths) × (is_pinned_export name x ≡ false)
-BeginsBy schemas name x number s (begin.Continue paths) = IsTrue (texts_ascend paths) × IsTrue (are_among paths (failed_of s)) × IsTrue (is_opened_since s)
+BeginsBy schemas name x number s (begin.Create source) = IsAccepted schemas (lane_kinds x) name x s (source_for name number source)
+BeginsBy schemas name x number s (begin.Update source) = IsAccepted schemas (lane_kinds x) name x s (source_for name s.number source)
+BeginsBy schemas name x number s (begin.Delete paths) =
+    IsTrue (texts_ascend paths) × IsTrue (may_retain s.status s paths) × (is_pinned_export name x ≡ false)
+BeginsBy schemas name x number s (begin.Continue paths) =
+    IsTrue (texts_ascend paths) × IsTrue (are_among paths (failed_of s)) × IsTrue (is_opened_since s)
 
 abbrev pub MayBegin : List Schema → World → ℕ → List ℕ → Begun → Type 0
 MayBegin schemas x number name k =
@@ -382,16 +396,12 @@ set_number x s = if creates_from s.status then x.operation + 1 else s.number
 
 abbrev pub MayReview : List Schema → World → ℕ → List ℕ → Source → List Row → Bool → Type 0
 MayReview schemas x number name source rows outputs =
-    (number ≡ x.set + 1) × IsTrue (creates_from (known_stack name x).status || updates_from (known_stack name x).status)
+    (number ≡ x.set + 1) × IsTrue (deploys_from (known_stack name x).status)
     × IsReviewed schemas name x (known_stack name x) (source_for name (set_number x (known_stack name x)) source) rows outputs
 
 -- An opening: no lease is out, and each resource and each open token has its lane among those named.
 abbrev pub IsNamedLane : List (List ℕ × List ℕ) → List ℕ → List ℕ → Type 0
 IsNamedLane lanes physical k = (l : List ℕ × List ℕ) × In l lanes × IsOfLane l.0 physical × (l.1 ≡ k)
-
-abbrev pub IsKindFor : Request → List ℕ → Type 0
-IsKindFor (request.Create made props) k = k ≡ made
-IsKindFor _ k = Unit {0}
 
 abbrev pub IsLaneFor : Pending → List ℕ × List ℕ → Type 0
 IsLaneFor p l = (l.0 ≡ p.lane) × IsKindFor p.request l.1
@@ -413,7 +423,8 @@ none_in_flight out s = is_empty (calls_in_flight out s)
 abbrev pub MayFollowIn : List Schema → List ℕ → World → List ℕ → StackState → Stage → Entry → Type 0
 MayFollowIn schemas name x out s stage (entry.Outcome number token answer before after) =
     IsTrue (is_in_flight out token) × IsTrue (is_some (pending_of token s)) × IsCounted answer before after
-MayFollowIn schemas name x out s stage (entry.Phase number p c) = IsTrue (none_in_flight out s) × MayStep schemas name x out s stage (entry.Phase number p c)
+MayFollowIn schemas name x out s stage (entry.Phase number p c) =
+    IsTrue (none_in_flight out s) × MayStep schemas name x out s stage (entry.Phase number p c)
 MayFollowIn schemas name x out s stage (entry.Done number state failed) =
     IsTrue (none_in_flight out s) × IsAtEnd schemas name x s stage × EndsAs schemas name x s s.status state × AreFailed s state failed
 MayFollowIn schemas name x out s stage e = MayStep schemas name x out s stage e
@@ -438,7 +449,8 @@ MayFollow schemas x out (entry.Begin number name k) = MayBegin schemas x number 
 MayFollow schemas x out (entry.ChangeSet number name source rows outputs) = MayReview schemas x number name source rows outputs
 MayFollow schemas x out (entry.Kept number path physical w) = MayFollowOn schemas number x out (entry.Kept number path physical w)
 MayFollow schemas x out (entry.Intent number token lane path r) = MayFollowOn schemas number x out (entry.Intent number token lane path r)
-MayFollow schemas x out (entry.Outcome number token answer before after) = MayFollowOn schemas number x out (entry.Outcome number token answer before after)
+MayFollow schemas x out (entry.Outcome number token answer before after) =
+    MayFollowOn schemas number x out (entry.Outcome number token answer before after)
 MayFollow schemas x out (entry.Phase number p c) = MayFollowOn schemas number x out (entry.Phase number p c)
 MayFollow schemas x out (entry.Done number state failed) = MayFollowOn schemas number x out (entry.Done number state failed)
 

@@ -1,4 +1,5 @@
--- The forward phase: which paths are done and which are ready, when it has failed, and why.
+-- The forward phase: which paths are done and which are ready, when it has failed, and why (User Guide: creating and updating a stack;
+-- how often a call is made, and which cause is told, are this project's own).
 use Rattle.std.specs.Prelude.{◌≡◌, ℕ, ◌==◌, ◌⊎◌, Bool, true, false, ◌&&◌, not, List, [], ◌∷◌, ◌++◌, Option, Some, None, IsTrue, filter, find, is_some, map, option_map, if◌then◌else◌}
 use Rattle.std.specs.List.{list_any}
 use Rattle.std.specs.Option.{option_or, option_map_or}
@@ -18,7 +19,7 @@ use Rattle.cf_entry.specs.declared.turn.Reason.TheVariants as reason
 use Rattle.cf_entry.specs.declared.turn.Cause.{Cause}
 use Rattle.cf_entry.specs.declared.turn.Cause.TheVariants as cause
 use Rattle.cf_tree.specs.declared.source.Source.{Source}
-use Rattle.cf_tree.specs.Lists.{first_in}
+use Rattle.cf_tree.specs.Lists.{In, first_in}
 use Rattle.cf_effect.specs.declared.held.Held.{Held}
 use Rattle.cf_effect.specs.World.{StackState, World}
 use Rattle.cf_effect.specs.Words.{current_at, has_physical, is_update, is_pinned}
@@ -44,11 +45,6 @@ use Rattle.cf_desired.specs.Whole.{wanted_at, known_props_from}
 use Rattle.cf_desired.specs.FlawText.{flaw_text}
 use Rattle.cf_plan.specs.Between.{needs_at}
 use Rattle.cf_effect.specs.Calls.{own_calls}
-
--- one of the list
-pub data In {A : Type 0} (a : A) : List A → Type 0 where
-  here : {rest : List A} → In a (a ∷ rest)
-  there : {b : A} {rest : List A} → In a rest → In a (b ∷ rest)
 
 -- What the operation's template says, over what was held before and over the resources of now: both by the shape that it has
 -- over what was held before, so that paths and needs are the same.
@@ -107,7 +103,8 @@ IsReady s p = In p (wanted_paths s) × ((q : List ℕ) → In q (needs_at p s) �
 abbrev pub AllDone : StackState → Type 0
 AllDone s = (p : List ℕ) → In p (wanted_paths s) → IsDone s p
 
--- An update that is answered NotUpdatable where a conditional create-only property differs is no failure: a new resource is made in its place.
+-- An update that is answered NotUpdatable where a conditional create-only property differs is no failure: a new resource is made in its
+-- place.
 abbrev pub is_conditional : Difference → Bool
 is_conditional MayReplace = true
 is_conditional _ = false
@@ -191,12 +188,14 @@ HasFailed schemas name x s =
     ((f : ℕ × Reason) × (first_failing schemas s ≡ Some f)) ⊎ ((p : List ℕ) × (fault : Flaw) × IsBadPath s p fault)
     ⊎ ((fault : Flaw) × IsBadOutput s fault) ⊎ ((export : List ℕ) × IsLostExport name x s export)
 
--- Its cause: the first outcome that fails it; else the fault of the first path in byte order, outputs after all paths; else the first export name.
+-- Its cause: the first outcome that fails it; else the fault of the first path in byte order, outputs after all paths; else the first
+-- export name.
 abbrev pub path_of_token : ℕ → StackState → Option (List ℕ)
 path_of_token token s = option_map (λ c. c.path) (call_under token s)
 
 abbrev pub IsCause : List Schema → List ℕ → World → StackState → Cause → Type 0
-IsCause schemas name x s (cause.Handler path r) = (token : ℕ) × (first_failing schemas s ≡ Some (token, r)) × (path_of_token token s ≡ Some path)
+IsCause schemas name x s (cause.Handler path r) =
+    (token : ℕ) × (first_failing schemas s ≡ Some (token, r)) × (path_of_token token s ≡ Some path)
 IsCause schemas name x s (cause.Plan text) =
     (fault : Flaw) × (text ≡ flaw_text fault) × (first_failing schemas s ≡ None)
     × (((p : List ℕ) × IsBadPath s p fault × ((q : List ℕ) (other : Flaw) → IsBadPath s q other → bytes_lt q p ≡ false))

@@ -14,9 +14,9 @@ use Rattle.cf_effect.specs.declared.held.Pending.{Pending}
 use Rattle.cf_effect.specs.World.{StackState, World, stack_at, stack_of_operation}
 use Rattle.cf_effect.specs.Fold.{fold_of, world_after}
 use Rattle.cf_stacks.specs.Apart.{AreApart}
-use Rattle.cf_plan.specs.Forward.{In}
+use Rattle.cf_tree.specs.Lists.{In}
 use Rattle.cf_plan.specs.Follow.{MayFollow, IsCounted}
-use Rattle.cf_plan.specs.Run.{Told, IsDone, IsOwn, Runs, open_call}
+use Rattle.cf_plan.specs.Run.{LaneStates, IsRunEntry, IsOwn, Runs, open_call}
 
 -- a creation is in progress on a stack, or is rolled back
 abbrev pub Creates : StackState → Type 0
@@ -47,9 +47,9 @@ pub record IsOver (number : ℕ) (name : List ℕ) (x : World) : Type 0 where
   pub ended : IsTrue (ends_creation stack.status)
 
 -- what an entry of a creation leaves of it
-abbrev pub Leaves : ℕ → List ℕ → Entry → World → Type 0
-Leaves number name (entry.Done n state failed) y = IsOver number name y
-Leaves number name _ y = IsUnderWay number name y
+abbrev pub CreationLeaves : ℕ → List ℕ → Entry → World → Type 0
+CreationLeaves number name (entry.Done n state failed) y = IsOver number name y
+CreationLeaves number name _ y = IsUnderWay number name y
 
 -- a creation begins under a number above that of the last operation
 abbrev pub CreationStarts : Type 0
@@ -60,13 +60,16 @@ CreationStarts =
 -- it goes on with each of its entries, until its end
 abbrev pub CreationGoesOn : Type 0
 CreationGoesOn =
-    (schemas : List Schema) (names : List (List ℕ)) (x : World) (told told' : Told) (counts counts' : List ℕ) (number : ℕ) (name : List ℕ) (e : Entry)
-    → IsUnderWay number name x → IsOwn number e → IsDone schemas names x told told' counts counts' e → Leaves number name e (world_after x e)
+    (schemas : List Schema) (names : List (List ℕ)) (x : World) (told told' : LaneStates) (counts counts' : List ℕ) (number : ℕ)
+    (name : List ℕ) (e : Entry)
+    → IsUnderWay number name x → IsOwn number e → IsRunEntry schemas names x told told' counts counts' e
+    → CreationLeaves number name e (world_after x e)
 
 -- a run of a creation that ends leaves its stack in a status in which a creation ends
 abbrev pub CreationEnds : Type 0
 CreationEnds =
-    (schemas : List Schema) (names : List (List ℕ)) (x : World) (told told' : Told) (counts counts' : List ℕ) (number : ℕ) (name : List ℕ)
+    (schemas : List Schema) (names : List (List ℕ)) (x : World) (told told' : LaneStates) (counts counts' : List ℕ) (number : ℕ)
+    (name : List ℕ)
     (es : List Entry) (state : Status) (failed : List (List ℕ)) → IsUnderWay number name x
     → Runs schemas names x told counts (es ++ entry.Done number state failed ∷ []) told' counts'
     → ((e : Entry) → In e (es ++ entry.Done number state failed ∷ []) → IsOwn number e)
@@ -82,7 +85,8 @@ CreationIsProper =
 abbrev pub AnswerFollows : Type 0
 AnswerFollows =
     (schemas : List Schema) (x : World) (number token : ℕ) (p : Pending) (answer : Reply) (before after : ℕ)
-    → open_call number token x ≡ Some p → IsCounted answer before after → MayFollow schemas x (token ∷ []) (entry.Outcome number token answer before after)
+    → open_call number token x ≡ Some p → IsCounted answer before after
+    → MayFollow schemas x (token ∷ []) (entry.Outcome number token answer before after)
 
 -- a call that is written down is open
 abbrev pub IntentOpens : Type 0

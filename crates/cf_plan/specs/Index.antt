@@ -6,7 +6,8 @@ use Rattle.cf_effect.specs.declared.held.Held.{Held}
 
 -- under each path is the place of the first element that the path passes
 abbrev pub ArePlaces : {A : Type 0} → (List ℕ → A → Bool) → List A → List (List ℕ × ℕ) → Type 0
-ArePlaces test xs places = (p : List ℕ) → option_map (λ at. slice_get xs at) (value_at p places) ≡ option_map (λ x. Some x) (find (test p) xs)
+ArePlaces test xs places =
+    (p : List ℕ) → option_map (λ at. slice_get xs at) (value_at p places) ≡ option_map (λ x. Some x) (find (test p) xs)
 
 -- of two of one path the first counts, and none that is superseded
 abbrev pub put_place : List (List ℕ × ℕ) → List ℕ → ℕ → List (List ℕ × ℕ)

@@ -14,7 +14,6 @@ pub mod Failed
 pub mod Causes
 pub mod Starts
 pub mod Lanes
-pub mod Agrees
 pub mod Ends
 pub mod Life
 pub mod Promise

@@ -1,4 +1,5 @@
--- The life of an engine (this project's own): openings, appends that end whole or broken, calls, late effects, crashes. Each event says what it leaves.
+-- The life of an engine (this project's own): openings, appends that end whole or broken, calls, late effects, crashes. Each event says
+-- what it leaves.
 use Rattle.std.specs.Prelude.{◌≡◌, ℕ, ◌==◌, ◌≤◌, Bool, true, false, not, List, [], ◌∷◌, ◌++◌, Option, Some, None, IsTrue, find, filter, map, option_map, if◌then◌else◌}
 use Rattle.std.specs.Option.{option_or}
 use Rattle.std.specs.Str.{bytes_eq}
@@ -7,7 +8,8 @@ use Rattle.cf_tree.specs.declared.request.Answer.{Answer}
 use Rattle.cf_tree.specs.declared.request.Answer.TheVariants as answer
 use Rattle.cf_handler.specs.declared.settled.Settlement.{Settlement}
 use Rattle.cf_handler.specs.declared.settled.Settlement.TheVariants as settlement
-use Rattle.cf_handler.specs.Lane.{live_of, settlement_of}
+use Rattle.cf_handler.specs.Lane.{live_of}
+use Rattle.cf_handler.specs.Answered.{settlement_in}
 use Rattle.cf_handler.specs.Move.{HasCause}
 use Rattle.cf_handler.specs.Fence.{FencedLane, CallMove, IsStale, Left, left_by, late_by, LateMove, FenceAnswer, FenceMove, raised_to}
 use Rattle.cf_entry.specs.declared.entry.Entry.{Entry}
@@ -21,11 +23,10 @@ use Rattle.cf_effect.specs.Fold.{fold_of}
 use Rattle.cf_effect.specs.declared.call.Call.{Call}
 use Rattle.cf_effect.specs.Calls.{call_under}
 use Rattle.cf_tree.specs.Named.{all_differ}
-use Rattle.cf_plan.specs.Forward.{In}
+use Rattle.cf_tree.specs.Lists.{In}
 use Rattle.cf_plan.specs.Follow.{MayFollow, MayRepeat, is_lane_leased}
 use Rattle.cf_schema.specs.declared.described.Schema.{Schema}
 use Rattle.cf_plan.specs.Lanes.{Lane, AreLanes, AreSchemas, lane_at}
-use Rattle.cf_plan.specs.Agrees.{Agrees, FitsCall, IsAccounted}
 
 -- what a call came to: an answer, or that its opening is past
 pub data CallEnd : Type 0 where
@@ -93,23 +94,23 @@ without_lease token life = record life { leases = filter (λ l. not (token == l.
 abbrev pub with_lease : Lease → Life → Life
 with_lease lease life = record life { leases = life.leases ++ lease ∷ []; has_granted = true }
 
-abbrev pub replying : ℕ → CallEnd → Lease → Lease
-replying token reply l = if token == l.token then record l { reply = Some reply } else l
+abbrev pub lease_replying : ℕ → CallEnd → Lease → Lease
+lease_replying token reply l = if token == l.token then record l { reply = Some reply } else l
 
 abbrev pub replied_to : ℕ → CallEnd → Life → Life
-replied_to token reply life = record life { leases = map (replying token reply) life.leases }
+replied_to token reply life = record life { leases = map (lease_replying token reply) life.leases }
 
 -- the lane of a name, changed
 abbrev pub changed : List ℕ → (FencedLane → FencedLane) → Lane → Lane
 changed name change l = if bytes_eq name l.name then record l { state = change l.state } else l
 
-abbrev pub changing : List ℕ → (FencedLane → FencedLane) → Life → Life
-changing name change life = record life { lanes = map (changed name change) life.lanes }
+abbrev pub lane_changing : List ℕ → (FencedLane → FencedLane) → Life → Life
+lane_changing name change life = record life { lanes = map (changed name change) life.lanes }
 
 -- what the holder of a lease leaves on its lane
-abbrev pub acted : Left → Option Lease → Life → Life
-acted left None life = life
-acted left (Some l) life = changing l.lane (left_by left (world_of life).epoch l.token l.request) life
+abbrev pub lane_acted : Left → Option Lease → Life → Life
+lane_acted left None life = life
+lane_acted left (Some l) life = lane_changing l.lane (left_by left (world_of life).epoch l.token l.request) life
 
 -- a granted Intent's call goes out, if its append was whole; every other entry hands out nothing
 abbrev pub granted : End → Entry → Life → Life
@@ -137,13 +138,15 @@ IsGranted _ = ⊥
 abbrev pub IsOutcomeOf : Lease → CallEnd → Entry → Type 0
 IsOutcomeOf lease (Answered (answer.Success physical attrs) before after) e =
     e ≡ entry.Outcome lease.number lease.token (reply.Success physical attrs) before after
-IsOutcomeOf lease (Answered (answer.Failed code) before after) e = e ≡ entry.Outcome lease.number lease.token (reply.Failed code) before after
+IsOutcomeOf lease (Answered (answer.Failed code) before after) e =
+    e ≡ entry.Outcome lease.number lease.token (reply.Failed code) before after
 IsOutcomeOf lease (Answered answer.Fault before after) e = e ≡ entry.Outcome lease.number lease.token reply.Doubt before after
 IsOutcomeOf lease (Answered answer.NoMemory before after) e = ⊥
 IsOutcomeOf lease (Stale fence) e = ⊥
 
 -- the open call of a token of this stack, at this stage, may be made again
-pub record MayBeRepeated (schemas : List Schema) (life : Life) (token : ℕ) (name : List ℕ) (s : StackState) (stage : Stage) (p : Pending) : Type 0 where
+pub record MayBeRepeated (schemas : List Schema) (life : Life) (token : ℕ) (name : List ℕ) (s : StackState) (stage : Stage)
+    (p : Pending) : Type 0 where
   pub stands : stack_at name (world_of life) ≡ Some s
   pub at_stage : stage_of s.status ≡ Some stage
   pub of_token : p.token ≡ token
@@ -189,15 +192,17 @@ life_after life (Grant e end) = granted end e (appended end e life)
 life_after life (Repeat token) = repeated (first_again token (world_of life).stacks) life
 life_after life (Settle token e end) = without_lease token (appended end e life)
 life_after life (Park token) = without_lease token life
-life_after life (Raise name a moved before counted) = if moved then changing name (λ l. raised_to l (world_of life).epoch) life else life
-life_after life (Act token reply left) = replied_to token reply (acted left (lease_at token life) life)
-life_after life (Late name place s) = changing name (late_by place s) life
+life_after life (Raise name a moved before counted) =
+    if moved then lane_changing name (λ l. raised_to l (world_of life).epoch) life else life
+life_after life (Act token reply left) = replied_to token reply (lane_acted left (lease_at token life) life)
+life_after life (Late name place s) = lane_changing name (late_by place s) life
 life_after life Close = record life { is_open = false; is_stopped = false }
 life_after life Crash = record life { leases = []; is_open = false; has_granted = false; is_stopped = false }
 
 -- A call that comes to this may leave its lane so.
 abbrev pub MayLeave : Lane → FencedLane → ℕ → Lease → CallEnd → Type 0
-MayLeave lane after epoch lease (Answered a before counted) = HasCause before counted a × CallMove lane.name lane.state after epoch lease.token lease.request a
+MayLeave lane after epoch lease (Answered a before counted) =
+    HasCause before counted a × CallMove lane.name lane.state after epoch lease.token lease.request a
 MayLeave lane after epoch lease (Stale fence) = IsStale lane.state after epoch fence
 
 -- the fence of a lane, moved or not
@@ -205,43 +210,39 @@ abbrev pub fenced : Bool → ℕ → FencedLane → FencedLane
 fenced moved epoch lane = if moved then raised_to lane epoch else lane
 
 -- An event may come where it does.
-abbrev pub MayHappen : List Schema → Life → Event → Type 0
-MayHappen schemas life (Opened epoch lanes end) =
+abbrev pub Happens : List Schema → Life → Event → Type 0
+Happens schemas life (Opened epoch lanes end) =
     (life.is_open ≡ false) × MayFollow schemas (world_of life) [] (entry.Opened epoch lanes) × AreHandedIn life lanes
-MayHappen schemas life (ChangeSet e end) = (life.is_open ≡ false) × IsChangeSet e × MayFollow schemas (world_of life) [] e
-MayHappen schemas life (Begin e end) = IsTrue (is_running life) × AreRaised life × IsBegin e × MayFollow schemas (world_of life) (tokens_out life) e
-MayHappen schemas life (Grant e end) = IsTrue (is_running life) × IsGranted e × MayFollow schemas (world_of life) (tokens_out life) e
-MayHappen schemas life (Repeat token) =
-    IsTrue (is_running life) × (name : List ℕ) × (s : StackState) × (stage : Stage) × (p : Pending) × MayBeRepeated schemas life token name s stage p
-MayHappen schemas life (Settle token e end) =
+Happens schemas life (ChangeSet e end) = (life.is_open ≡ false) × IsChangeSet e × MayFollow schemas (world_of life) [] e
+Happens schemas life (Begin e end) =
+    IsTrue (is_running life) × AreRaised life × IsBegin e × MayFollow schemas (world_of life) (tokens_out life) e
+Happens schemas life (Grant e end) = IsTrue (is_running life) × IsGranted e × MayFollow schemas (world_of life) (tokens_out life) e
+Happens schemas life (Repeat token) =
+    IsTrue (is_running life) × (name : List ℕ) × (s : StackState) × (stage : Stage) × (p : Pending)
+    × MayBeRepeated schemas life token name s stage p
+Happens schemas life (Settle token e end) =
     IsTrue (is_running life) × (lease : Lease) × (reply : CallEnd) × (lease_at token life ≡ Some lease) × (lease.reply ≡ Some reply)
     × IsOutcomeOf lease reply e × MayFollow schemas (world_of life) (tokens_out life) e
-MayHappen schemas life (Park token) = IsTrue life.is_open × (lease : Lease) × (lease_at token life ≡ Some lease)
-MayHappen schemas life (Raise name a moved before counted) =
+Happens schemas life (Park token) = IsTrue life.is_open × (lease : Lease) × (lease_at token life ≡ Some lease)
+Happens schemas life (Raise name a moved before counted) =
     IsTrue (is_running life) × (life.has_granted ≡ false) × (lane : Lane) × (lane_at name life.lanes ≡ Some lane)
     × In (named_lane lane) (world_of life).lanes × (before ≤ counted)
     × FenceMove lane.state (fenced moved (world_of life).epoch lane.state) (world_of life).epoch a before counted
-MayHappen schemas life (Act token reply left) =
+Happens schemas life (Act token reply left) =
     (lease : Lease) × (lane : Lane) × (lease_at token life ≡ Some lease) × (lease.reply ≡ None)
     × (lane_at lease.lane life.lanes ≡ Some lane)
     × MayLeave lane (left_by left (world_of life).epoch lease.token lease.request lane.state) (world_of life).epoch lease reply
-MayHappen schemas life (Late name place s) =
+Happens schemas life (Late name place s) =
     (lane : Lane) × (lane_at name life.lanes ≡ Some lane) × LateMove name lane.state (late_by place s lane.state) place s
-MayHappen schemas life Close = IsTrue life.is_open × (life.leases ≡ [])
-MayHappen schemas life Crash = Unit {0}
+Happens schemas life Close = IsTrue life.is_open × (life.leases ≡ [])
+Happens schemas life Crash = Unit {0}
 
 -- each event comes in its turn, and this is the end
 abbrev pub IsLife : List Schema → Life → List Event → Life → Type 0
 IsLife schemas life [] end = end ≡ life
-IsLife schemas life (e ∷ es) end = MayHappen schemas life e × IsLife schemas (life_after life e) es end
+IsLife schemas life (e ∷ es) end = Happens schemas life e × IsLife schemas (life_after life e) es end
 
--- A lease is a promise of one call: no two are of one token, each has its own call, which is open or accounted for, and
--- an answer that it has for good is the settled one of its token.
-abbrev pub settlement_in : Answer → Option Settlement
-settlement_in (answer.Success physical attrs) = Some (settlement.Success physical attrs)
-settlement_in (answer.Failed code) = Some (settlement.Failed code)
-settlement_in _ = None
-
+-- the answer for good of a call that came to its end
 abbrev pub settled_reply : CallEnd → Option Settlement
 settled_reply (Answered a before after) = settlement_in a
 settled_reply (Stale fence) = None
@@ -258,21 +259,6 @@ pub record IsGoing (x : World) (lease : Lease) : Type 0 where
   pub written : call_under lease.token stack ≡ Some call
   pub lane : call.lane ≡ lease.lane
 
-pub record AreLeased (life : Life) : Type 0 where
-  pub once : all_differ ◌==◌ (tokens_out life) ≡ true
-  pub own_call : (lease : Lease) → In lease life.leases → FitsCall life.entries (world_of life) lease.lane lease.token lease.request
-  pub accounted : (lease : Lease) → In lease life.leases → IsAccounted (world_of life) lease.token lease.request
-  pub settled :
-      (lease : Lease) (reply : CallEnd) (s : Settlement) (lane : Lane) → In lease life.leases → lease.reply ≡ Some reply
-      → settled_reply reply ≡ Some s → lane_at lease.lane life.lanes ≡ Some lane
-      → settlement_of lease.token lane.state.state.settled ≡ Some s
-  pub going : (lease : Lease) → In lease life.leases → IsGoing (world_of life) lease
-
--- what holds at each moment of a life: journal and lanes agree, and the leases are sound
-pub record Holds (schemas : List Schema) (life : Life) : Type 0 where
-  pub agrees : Agrees schemas life.entries life.lanes
-  pub leased : AreLeased life
-
 -- a new journal, over lanes on which nothing was ever called or is live
 pub record IsStart (schemas : List Schema) (life : Life) : Type 0 where
   pub no_entries : life.entries ≡ []
@@ -280,4 +266,5 @@ pub record IsStart (schemas : List Schema) (life : Life) : Type 0 where
   pub no_leases : life.leases ≡ []
   pub named : AreLanes life.lanes
   pub described : AreSchemas schemas life.lanes
-  pub untouched : (l : Lane) → In l life.lanes → (l.state.state.settled ≡ []) × (l.state.flying ≡ []) × (l.state.fence ≡ 0) × (live_of l.state.state ≡ [])
+  pub untouched : (l : Lane) → In l life.lanes → (l.state.state.settled ≡ []) × (l.state.flying ≡ []) × (l.state.fence ≡ 0)
+      × (live_of l.state.state ≡ [])

@@ -15,7 +15,8 @@ use Rattle.cf_tree.specs.declared.request.Request.{Request}
 use Rattle.cf_tree.specs.declared.request.Request.TheVariants as request
 use Rattle.cf_plan.specs.Between.{needs_at}
 use Rattle.cf_plan.specs.Follow.{is_free}
-use Rattle.cf_plan.specs.Forward.{In, Finding, Bad, Later, Known, evaluated_at, wanted_paths, was_answered_at, was_updated_at}
+use Rattle.cf_plan.specs.Forward.{Finding, Bad, Later, Known, evaluated_at, wanted_paths, was_answered_at, was_updated_at}
+use Rattle.cf_tree.specs.Lists.{In}
 use Rattle.cf_plan.specs.Start.{Start}
 use Rattle.cf_plan.specs.Starts.{create_over, start_of, wants_update}
 use Rattle.cf_plan.specs.declared.path_state.PathFinding.{PathFinding}

@@ -22,4 +22,5 @@ Promised _ name x s lanes = Unit {0}
 
 -- every stack keeps what its status promises
 abbrev pub AreKept : Life → Type 0
-AreKept life = (name : List ℕ) (s : StackState) → stack_at name (world_of life) ≡ Some s → Promised s.status name (world_of life) s life.lanes
+AreKept life =
+    (name : List ℕ) (s : StackState) → stack_at name (world_of life) ≡ Some s → Promised s.status name (world_of life) s life.lanes

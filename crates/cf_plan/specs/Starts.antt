@@ -14,7 +14,8 @@ use Rattle.cf_tree.specs.Keys.{put, value_at}
 use Rattle.cf_tree.specs.Lists.{is_among}
 use Rattle.cf_desired.specs.declared.wanted.Plan.{Plan}
 use Rattle.cf_plan.specs.Done.{are_met, finding_by}
-use Rattle.cf_plan.specs.Forward.{Finding, In, Known, IsDone, IsReady, difference_to, is_conditional, was_answered_at}
+use Rattle.cf_plan.specs.Forward.{Finding, Known, IsDone, IsReady, difference_to, is_conditional, was_answered_at}
+use Rattle.cf_tree.specs.Lists.{In}
 use Rattle.cf_plan.specs.Follow.{IntendsForward, is_free, was_not_updatable}
 use Rattle.cf_plan.specs.declared.forward.Wants.{Wants}
 use Rattle.cf_plan.specs.Start.{Start}
@@ -29,10 +30,12 @@ is_same _ = false
 
 -- over what is held at a path: other properties want a new resource, or an update
 abbrev pub wants_new : List Schema → StackState → Held → List (List ℕ × Data) → Bool
-wants_new schemas s h props = is_replacing (difference_to schemas h props) || (is_conditional (difference_to schemas h props) && was_not_updatable s h)
+wants_new schemas s h props =
+    is_replacing (difference_to schemas h props) || (is_conditional (difference_to schemas h props) && was_not_updatable s h)
 
 abbrev pub wants_update : List Schema → Held → List (List ℕ × Data) → Bool
-wants_update schemas h props = not (is_replacing (difference_to schemas h props)) && (h.unsure || not (is_same (difference_to schemas h props)))
+wants_update schemas h props =
+    not (is_replacing (difference_to schemas h props)) && (h.unsure || not (is_same (difference_to schemas h props)))
 
 abbrev pub create_over : List Schema → StackState → List ℕ → List (List ℕ × Data) → Option Held → Option Request
 create_over schemas s kind props None = Some (request.Create kind props)
@@ -41,7 +44,8 @@ create_over schemas s kind props (Some h) = if wants_new schemas s h props then 
 abbrev pub update_over : List Schema → StackState → List ℕ → List ℕ → List (List ℕ × Data) → Option Held → Option Request
 update_over schemas s path kind props None = None
 update_over schemas s path kind props (Some h) =
-    if bytes_eq h.kind kind && (wants_update schemas h props && not (was_answered_at path s)) then Some (request.Update h.physical props) else None
+    if bytes_eq h.kind kind && (wants_update schemas h props && not (was_answered_at path s)) then Some
+    (request.Update h.physical props) else None
 
 -- the requests that a path wants by what its properties come to
 abbrev pub wants_by : List Schema → StackState → List ℕ → Finding → Wants
@@ -60,21 +64,22 @@ abbrev pub may_start : StackState → Plan → List (List ℕ) → List ℕ → 
 may_start s before done path = not (is_among path done) && (are_met path before done && is_free path s)
 
 abbrev pub with_start : List Schema → StackState → Plan → Plan → List (List ℕ) → List (List ℕ × Wants) → List ℕ → List (List ℕ × Wants)
-with_start schemas s before now done starts path = if may_start s before done path then put path (wants_by schemas s path (finding_by path now)) starts else starts
+with_start schemas s before now done starts path =
+    if may_start s before done path then put path (wants_by schemas s path (finding_by path now)) starts else starts
 
 abbrev pub starts_by : List Schema → StackState → Plan → Plan → List (List ℕ) → List (List ℕ × Wants)
 starts_by schemas s before now done = fold (with_start schemas s before now done) [] (map (λ w. w.path) before.wanted)
 
 -- one of these requests
-abbrev pub IsOneOf : Option Wants → Request → Type 0
-IsOneOf None r = ⊥
-IsOneOf (Some w) r = (w.create ≡ Some r) ⊎ (w.update ≡ Some r)
+abbrev pub IsWanted : Option Wants → Request → Type 0
+IsWanted None r = ⊥
+IsWanted (Some w) r = (w.create ≡ Some r) ⊎ (w.update ≡ Some r)
 
 -- these are just the requests that may begin, by path, while the phase has not failed
-abbrev pub AreStarts : List Schema → StackState → List (List ℕ × Wants) → Type 0
-AreStarts schemas s starts =
+abbrev pub AreRequests : List Schema → StackState → List (List ℕ × Wants) → Type 0
+AreRequests schemas s starts =
     (path : List ℕ) (r : Request) →
-    (IsReady s path × ¬ IsDone s path × IsTrue (is_free path s) × IntendsForward schemas s path r) ↔ IsOneOf (value_at path starts) r
+    (IsReady s path × ¬ IsDone s path × IsTrue (is_free path s) × IntendsForward schemas s path r) ↔ IsWanted (value_at path starts) r
 
 -- the requests that a map of paths has, each with its path
 abbrev pub start_of : List ℕ → Option Request → List Start
@@ -91,4 +96,5 @@ starts_in starts = flat_map starts_at starts
 abbrev pub AreOpen : List Schema → StackState → List Start → Type 0
 AreOpen schemas s starts =
     (path : List ℕ) (r : Request)
-    → (IsReady s path × ¬ IsDone s path × IsTrue (is_free path s) × IntendsForward schemas s path r) ↔ In (record { path = path; request = r }) starts
+    → (IsReady s path × ¬ IsDone s path × IsTrue (is_free path s) × IntendsForward schemas s path r)
+    ↔ In (record { path = path; request = r }) starts

@@ -1,7 +1,7 @@
 //! The path that fails the forward phase by a flaw of its template.
 ghost use Rattle.std.specs.Prelude.{◌≡◌, Some, filter_map, fold, option_map};
 ghost use Rattle.std.specs.Option.{option_copied};
-ghost use Rattle.cf_plan.specs.Failed.{bad_of, flaw_by, flaw_found, flaws_found, inner_found, least, lesser, lesser_of};
+ghost use Rattle.cf_plan.specs.Failed.{bad_of, flaw_planned, flaw_found, flaws_found, inner_found, least, lesser_flaw, lesser_of};
 
 use crate::done::{are_among, are_met};
 use crate::index::{NameIndex, PlanIndex};
@@ -17,7 +17,7 @@ pub(crate) struct BadAt<'a> {
 
 /// The flaw of a path by a plan.
 fn flaw_at<'a>(plan: &PlanIndex<'a>, path: &Txt) -> Option<&'a Flaw>
-    ensures { option_copied result ≡ flaw_by path.now plan.now }
+    ensures { option_copied result ≡ flaw_planned path.now plan.now }
 {
     match plan.wanted_at(path) {
         Some(wanted) => match &wanted.props {
@@ -73,7 +73,7 @@ fn inner_found<'a>(done: &NameIndex, inner: &'a Inner) -> Option<BadAt<'a>>
 
 /// Of two paths the one that comes first in byte order, the first of them where they are the same.
 fn lesser<'a>(first: Option<BadAt<'a>>, second: BadAt<'a>) -> BadAt<'a>
-    ensures { Some (bad_of result) ≡ lesser (option_map bad_of first.entry) (bad_of second.entry) }
+    ensures { Some (bad_of result) ≡ lesser_flaw (option_map bad_of first.entry) (bad_of second.entry) }
 {
     match first {
         Some(first) => {
@@ -106,7 +106,7 @@ fn first_inner<'a>(
     nested: &'a [Inner],
     first: Option<BadAt<'a>>,
 ) -> Option<BadAt<'a>>
-    ensures { option_map bad_of result ≡ fold lesser (option_map bad_of first.entry) (filter_map (inner_found done.now) nested.now) }
+    ensures { option_map bad_of result ≡ fold lesser_flaw (option_map bad_of first.entry) (filter_map (inner_found done.now) nested.now) }
 {
     let mut first = first;
     for inner in nested.iter() {

@@ -3,7 +3,7 @@ ghost use Rattle.std.specs.Prelude.{◌≡◌, ◌==◌, ◌&&◌, ◌↔◌, �
 ghost use Rattle.std.specs.List.{list_all};
 ghost use Rattle.cf_tree.specs.Lists.{is_among};
 ghost use Rattle.cf_plan.specs.Forward.{plan_before, plan_now};
-ghost use Rattle.cf_plan.specs.Done.{Adds, AreDone, HasTerms, IsFresh, IsNext, Joined, are_met, is_good_update, made_paths, updated_paths};
+ghost use Rattle.cf_plan.specs.Done.{AddsPath, AreDone, HasTerms, IsFresh, CanJoin, Joined, are_met, is_good_update, made_paths, updated_paths};
 
 use crate::calls::is_good_update;
 use crate::found::is_right_at;
@@ -109,7 +109,7 @@ fn add_one(
     done: &mut NameIndex,
     path: &Txt,
 ) -> Result<(), AllocError>
-    ensures { IfOk result (λ _. Adds before.now now.now held.now path.now done.old done.new) }
+    ensures { IfOk result (λ _. AddsPath before.now now.now held.now path.now done.old done.new) }
 {
     if is_fresh(alloc, before, now, held, done, path)? {
         done.push(alloc, path)
@@ -128,7 +128,7 @@ fn add_right(
     done: &mut NameIndex,
 ) -> Result<(), AllocError>
     ensures joined { IfOk result (λ _. Joined before.now now.now held.now done.old done.new) }
-    ensures all { IfOk result (λ _. done.new ≡ done.old → (p : List ℕ) → IsNext before.now now.now held.now done.old p → ⊥) }
+    ensures all { IfOk result (λ _. done.new ≡ done.old → (p : List ℕ) → CanJoin before.now now.now held.now done.old p → ⊥) }
 {
     for wanted in before.plan().wanted.as_slice() {
         add_one(alloc, before, now, held, done, &wanted.path)?;
@@ -146,7 +146,7 @@ fn add_all_right(
     done: &mut NameIndex,
 ) -> Result<(), AllocError>
     ensures joined { IfOk result (λ _. Joined before.now now.now held.now done.old done.new) }
-    ensures all { IfOk result (λ _. (p : List ℕ) → IsNext before.now now.now held.now done.new p → ⊥) }
+    ensures all { IfOk result (λ _. (p : List ℕ) → CanJoin before.now now.now held.now done.new p → ⊥) }
 {
     loop {
         let count = done.len();

@@ -7,7 +7,7 @@ ghost use Rattle.cf_effect.specs.Words.{deletes};
 ghost use Rattle.cf_plan.specs.Follow.{is_cleared, is_bad_outcome, settled_by, AreFailed};
 ghost use Rattle.cf_entry.specs.declared.status.Status.TheVariants as status;
 ghost use Rattle.cf_change.specs.Changes.{is_empty};
-ghost use Rattle.cf_plan.specs.Blaming.{noted, verdicts_of, blamed, blames_of, bad_among};
+ghost use Rattle.cf_plan.specs.Blaming.{with_outcome, bad_paths, with_refused, blames_of, bad_among};
 
 use crate::calls::{call_of, deletes};
 use cf_entry::{Entry, Reply};
@@ -77,7 +77,7 @@ fn note_entry(
     stack: &StackState,
     entry: &Entry,
 ) -> Result<(), AllocError>
-    ensures { IfOk result (λ _. verdicts.new ≡ noted stack.now.stack verdicts.old entry.now) }
+    ensures { IfOk result (λ _. verdicts.new ≡ with_outcome stack.now.stack verdicts.old entry.now) }
 {
     let Entry::Outcome {
         number,
@@ -108,7 +108,7 @@ fn note(
     stack: &StackState,
     heard: &HeardEntry,
 ) -> Result<(), AllocError>
-    ensures { IfOk result (λ _. verdicts.new ≡ noted stack.now.stack verdicts.old heard.now) }
+    ensures { IfOk result (λ _. verdicts.new ≡ with_outcome stack.now.stack verdicts.old heard.now) }
 {
     match heard.as_entry() {
         Some(entry) => note_entry(alloc, verdicts, stack, entry),
@@ -129,7 +129,7 @@ fn note_all(
     stack: &StackState,
     entries: &[HeardEntry],
 ) -> Result<(), AllocError>
-    ensures { IfOk result (λ _. verdicts.new ≡ fold (noted stack.now.stack) verdicts.old entries.now) }
+    ensures { IfOk result (λ _. verdicts.new ≡ fold (with_outcome stack.now.stack) verdicts.old entries.now) }
 {
     for heard in entries {
         note(alloc, verdicts, stack, heard)?;
@@ -139,7 +139,7 @@ fn note_all(
 
 /// Of each path, whether the operation's last outcome at it is a doubt or a refusal.
 fn verdicts_of(alloc: Global, stack: &StackState) -> Result<ByName<bool>, AllocError>
-    ensures { IfOk result (λ v. v ≡ verdicts_of stack.now.stack) }
+    ensures { IfOk result (λ v. v ≡ bad_paths stack.now.stack) }
 {
     let mut verdicts = ByName::new(alloc);
     note_all(alloc, &mut verdicts, stack, stack.entries().as_slice())?;
@@ -172,7 +172,7 @@ fn blame(
     stack: &StackState,
     helds: &[Held],
 ) -> Result<(), AllocError>
-    ensures { IfOk result (λ _. verdicts.new ≡ fold (blamed stack.now.stack) verdicts.old helds.now) }
+    ensures { IfOk result (λ _. verdicts.new ≡ fold (with_refused stack.now.stack) verdicts.old helds.now) }
 {
     for held in helds {
         if has_refusal(stack, &held.physical) {

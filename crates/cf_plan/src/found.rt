@@ -7,7 +7,7 @@ ghost use Rattle.cf_tree.specs.Same.{same_members};
 ghost use Rattle.cf_desired.specs.Whole.{wanted_at};
 ghost use Rattle.cf_effect.specs.Words.{current_at};
 ghost use Rattle.cf_plan.specs.Forward.{Known, finding};
-ghost use Rattle.cf_plan.specs.Done.{IsHeldRight, IsRight, finding_by, finding_of, finding_over};
+ghost use Rattle.cf_plan.specs.Done.{IsHeldRight, IsFoundRight, finding_by, finding_of, finding_over};
 
 use crate::index::{HeldIndex, PlanIndex};
 use cf_desired::{Evaluated, Flaw, Plan, Wanted};
@@ -101,7 +101,7 @@ fn has_props(
 
 /// Whether what is held is sure and has the type and properties that are wanted.
 fn is_right(alloc: Global, wanted: Option<&Wanted>, held: Option<&Held>) -> Result<bool, AllocError>
-    ensures { IfOk result (λ right. IsTrue right ↔ IsRight (option_copied wanted.entry) (option_copied held.entry)) }
+    ensures { IfOk result (λ right. IsTrue right ↔ IsFoundRight (option_copied wanted.entry) (option_copied held.entry)) }
 {
     match held {
         Some(held) => {

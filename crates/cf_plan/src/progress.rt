@@ -6,7 +6,7 @@ ghost use Rattle.cf_plan.specs.Forward.{AllDone, plan_now};
 ghost use Rattle.cf_plan.specs.Overview.{IsOverview};
 ghost use Rattle.cf_plan.specs.PathStates.{AreStatesOf, are_enough, done_by_places};
 ghost use Rattle.cf_plan.specs.Progress.{IsProgressOf};
-ghost use Rattle.cf_plan.specs.Starts.{AreOpen, AreStarts};
+ghost use Rattle.cf_plan.specs.Starts.{AreOpen, AreRequests};
 ghost use Rattle.cf_plan.specs.declared.cause.Failure.TheVariants.{Nothing};
 
 use crate::bad::BadAt;
@@ -205,7 +205,7 @@ fn listed_starts<'a>(
     stack: &StackState,
     starts: &'a ByName<Wants>,
 ) -> Result<Starts<'a>, AllocError>
-    requires { AreStarts schemas.now stack.now.stack starts.now }
+    requires { AreRequests schemas.now stack.now.stack starts.now }
     ensures { IfOk result (λ starts. AreOpen schemas.now stack.now.stack starts) }
 {
     listed(alloc, starts)
@@ -221,7 +221,7 @@ fn progress_anew<'a>(
     starts: &'a ByName<Wants>,
     is_done: bool,
 ) -> Result<Progress<'a>, AllocError>
-    requires starts { AreStarts schemas.now stack.now.stack starts.now }
+    requires starts { AreRequests schemas.now stack.now.stack starts.now }
     requires done { IsTrue is_done ↔ AllDone stack.now.stack }
     ensures { IfOk result (λ p. IsProgressOf schemas.now name.now world.now.world stack.now.stack p) }
 {

@@ -2,7 +2,7 @@
 ghost use Rattle.std.specs.Prelude.{◌≡◌, [], IfOk, fold};
 ghost use Rattle.cf_plan.specs.Forward.{plan_before, plan_now};
 ghost use Rattle.cf_plan.specs.Done.{AreDone, HasTerms};
-ghost use Rattle.cf_plan.specs.Starts.{AreStarts, may_start, starts_by, with_start};
+ghost use Rattle.cf_plan.specs.Starts.{AreRequests, may_start, starts_by, with_start};
 
 use crate::done::are_met;
 use crate::forward::{Wants, is_free, wants_over};
@@ -90,7 +90,7 @@ pub(crate) fn starts_over<'a>(
     requires now { now.now ≡ plan_now stack.now.stack }
     requires held { held.now ≡ stack.now.stack.held }
     requires done { AreDone stack.now.stack done.now }
-    ensures { IfOk result (λ starts. AreStarts schemas.now stack.now.stack starts) }
+    ensures { IfOk result (λ starts. AreRequests schemas.now stack.now.stack starts) }
 {
     starts_by(alloc, schemas, stack, terms, now, held, done)
 }
@@ -116,7 +116,7 @@ pub fn starts_of(
     requires before { before.now ≡ plan_before stack.now.stack }
     requires now { now.now ≡ plan_now stack.now.stack }
     requires done { AreDone stack.now.stack done.now }
-    ensures { IfOk result (λ starts. AreStarts schemas.now stack.now.stack starts) }
+    ensures { IfOk result (λ starts. AreRequests schemas.now stack.now.stack starts) }
 {
     let before = PlanIndex::new(alloc, before)?;
     let now = PlanIndex::new(alloc, now)?;

@@ -6,7 +6,7 @@ use Rattle.std.specs.Str.{bytes_eq}
 use Rattle.cf_tree.specs.Keys.{put, value_at}
 use Rattle.cf_tree.specs.declared.source.Source.{Source}
 use Rattle.cf_eval.specs.declared.env.OutputSight.{OutputSight}
-use Rattle.cf_eval.specs.Knows.{Keeps}
+use Rattle.cf_eval.specs.Knows.{StaysKnown}
 use Rattle.cf_eval.specs.Scope.{Scope}
 use Rattle.cf_schema.specs.declared.described.Schema.{Schema}
 use Rattle.cf_desired.specs.Given.{Given, given_in, settings_for}
@@ -18,14 +18,14 @@ use Rattle.cf_desired.specs.Shape.{given_root, shape_of}
 use Rattle.cf_desired.specs.Stays.{SeesMore, attrs_seen, id_seen}
 use Rattle.cf_desired.specs.Seeing.{SeenAt}
 use Rattle.cf_desired.specs.Stack.{Sights, Scoping, Stack, Verdicts, scoping}
-use Rattle.cf_desired.specs.Valued.{evaluated_at, resources_in, valued_along, valued_inside, valued_in}
+use Rattle.cf_desired.specs.Valued.{member_props, resources_in, valued_along, valued_inside, valued_in}
 use Rattle.cf_desired.specs.Work.{Member, Work, Inside, Body, Shape, no_work, resource, nested, shut, barred, halted, opened}
 use Rattle.cf_desired.specs.Work as inside
 use Rattle.cf_desired.specs.declared.wanted.Evaluated.{Evaluated}
 use Rattle.cf_desired.proofs.Flawless.{flawless_clear}
 use Rattle.cf_desired.proofs.Puts.{value_put}
 use Rattle.cf_desired.proofs.ShapeStays.{shape_stays}
-use Rattle.cf_change.specs.Changes.{Found, found_next, found_of, found_with}
+use Rattle.cf_change.specs.Changes.{RowsFound, found_next, found_of, found_with}
 
 module _ (source : Source) (seen other : Seen) (alike : (p : List ℕ) → seen_as (value_at p seen) ≡ seen_as (value_at p other)) where
   made_alike : (t : Stack) (ids : List (List ℕ)) → map (made_sight t seen) ids ≡ map (made_sight t other) ids
@@ -64,7 +64,7 @@ module _ (source : Source) (seen other : Seen) (alike : (p : List ℕ) → seen_
   mutual
     values_along : (path : List ℕ) (over : Scoping) (s : Sights) (w : Work) → valued_along source seen path over s w ≡ valued_along source other path over s w
     values_along path over s no_work = refl
-    values_along path over s (resource m w) = ap (λ (rs : List (Member × Evaluated)). (m, evaluated_at path (over s) m) ∷ rs) (values_along path over s w)
+    values_along path over s (resource m w) = ap (λ (rs : List (Member × Evaluated)). (m, member_props path (over s) m) ∷ rs) (values_along path over s w)
     values_along path over s (nested n i w) =
         let rest : valued_along source seen path over (nested_sight source n (outputs_inside source seen (over s) i) s) w
         ≡ valued_along source other path over (nested_sight source n (outputs_inside source other (over s) i) s) w =
@@ -86,7 +86,7 @@ module _ (source : Source) (seen other : Seen) (alike : (p : List ℕ) → seen_
   mutual
     mets_along : (path : List ℕ) (over : Scoping) (s : Sights) (w : Work) → met_along source seen path over s w ≡ met_along source other path over s w
     mets_along path over s no_work = refl
-    mets_along path over s (resource m w) = ap (λ (ms : List Met). map (λ f. a_flaw f) (flaws_of (evaluated_at path (over s) m)) ++ ms) (mets_along path over s w)
+    mets_along path over s (resource m w) = ap (λ (ms : List Met). map (λ f. a_flaw f) (flaws_of (member_props path (over s) m)) ++ ms) (mets_along path over s w)
     mets_along path over s (nested n i w) =
         let rest : met_along source seen path over (nested_sight source n (outputs_inside source seen (over s) i) s) w
         ≡ met_along source other path over (nested_sight source n (outputs_inside source other (over s) i) s) w =
@@ -146,8 +146,8 @@ plan_back seen blank source none =
     ∙ ap (λ (shape : Shape). plan_by source shape []) (sym (shape_stays source seen [] shows (flawless_clear source (shape_of source seen) seen none))) where
       shows : SeesMore seen []
       shows p = (
-        subst (λ o. Keeps o (id_seen p [])) (sym (no_id (value_at p seen) (blank p))) tt,
-        subst (λ o. Keeps o (attrs_seen p [])) (sym (no_attrs (value_at p seen) (blank p))) tt,
+        subst (λ o. StaysKnown o (id_seen p [])) (sym (no_id (value_at p seen) (blank p))) tt,
+        subst (λ o. StaysKnown o (attrs_seen p [])) (sym (no_attrs (value_at p seen) (blank p))) tt,
       )
 
 blank_put : (p q : List ℕ) (seen : Seen) → IsBlankAt p seen → IsBlankAt p (put q (record { physical = None; attrs = None }) seen)
@@ -157,18 +157,18 @@ blank_put p q seen e = ap seen_as (value_put p q (record { physical = None; attr
     by true = refl
     by false = e
 
-abbrev pub IsNew : Found → Type 0
+abbrev pub IsNew : RowsFound → Type 0
 IsNew f = IsBlank f.seen × (f.clash ≡ [])
 
 module _ (schemas : List Schema) (source : Source) (shape : Shape) where
-  new_next : (f : Found) (m : Member) → IsNew f → IsNew (found_next schemas [] source shape f m)
+  new_next : (f : RowsFound) (m : Member) → IsNew f → IsNew (found_next schemas [] source shape f m)
   new_next f m new = by (props_at source shape f.seen m.path)
     where
       by : (o : Option Evaluated) → IsNew (option_map_or (λ v. found_with schemas [] f (wanted_of (m, v))) o f)
       by None = new
       by (Some v) = (λ p. blank_put p m.path f.seen (new.0 p), new.1)
 
-  new_among : (ms : List Member) (f : Found) → IsNew f → IsNew (fold (found_next schemas [] source shape) f ms)
+  new_among : (ms : List Member) (f : RowsFound) → IsNew f → IsNew (fold (found_next schemas [] source shape) f ms)
   new_among [] f new = new
   new_among (m ∷ ms) f new = new_among ms (found_next schemas [] source shape f m) (new_next f m new)
 

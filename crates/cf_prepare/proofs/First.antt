@@ -14,7 +14,8 @@ use Rattle.cf_plan.specs.Accept.{exports_of_others, held_by, with_imports}
 use Rattle.cf_plan.specs.Follow.{set_number}
 use Rattle.cf_prepare.specs.First.{FirstDeployment, IsFirst}
 use Rattle.cf_prepare.specs.Orders.{IsWritten, kind_by}
-use Rattle.cf_prepare.specs.Refusals.{deploy_refusal, deploys_from, if_barred, if_unchanged, if_flawed, proposal, proposed_changes, proposed_plan, seen_proposed, unless_created}
+use Rattle.cf_prepare.specs.Refusals.{deploy_refusal, if_barred, if_unchanged, if_flawed, proposal, proposed_changes, proposed_plan, seen_proposed, unless_created}
+use Rattle.cf_plan.specs.Follow.{deploys_from}
 use Rattle.cf_prepare.specs.declared.wish.Order.{Order}
 use Rattle.cf_prepare.specs.declared.wish.Order.TheVariants as order
 use Rattle.cf_prepare.proofs.BlankSeen.{IsBlank, new_found, plan_alike, plan_back}

@@ -15,7 +15,7 @@ use Rattle.cf_desired.specs.Plan.{plan_of}
 use Rattle.cf_desired.specs.Seeing.{Seen}
 use Rattle.cf_desired.specs.declared.wanted.Plan.{Plan}
 use Rattle.cf_desired.specs.declared.wanted.Wanted.{Wanted}
-use Rattle.cf_change.specs.Changes.{Changes, Found, changes_by, found_of, is_empty, least_of, lesser}
+use Rattle.cf_change.specs.Changes.{Changes, RowsFound, changes_by, found_of, is_empty, least_of, lesser}
 use Rattle.cf_change.proofs.Shown.{held_shows_more}
 use Rattle.cf_entry.specs.declared.entry.Begun.TheVariants as begin
 use Rattle.cf_entry.specs.declared.status.Status.{Status}
@@ -31,7 +31,11 @@ use Rattle.cf_prepare.specs.Answer.{first_of}
 use Rattle.cf_prepare.specs.Imports.{UsesJust}
 use Rattle.cf_prepare.specs.Orders.{IsContinuation, IsDeletion, IsDeployment, IsReview, IsSorted, IsWritten, kind_by}
 use Rattle.cf_prepare.specs.Prepare.{ExecutesAs, ExecutesFound, OrderFollows, PreparesAs}
-use Rattle.cf_prepare.specs.Refusals.{continue_refusal, delete_refusal, deploy_refusal, deploys_from, execute_refusal, export_names, first_unknown, if_barred, if_flawed, if_in_use, if_missing, if_no_set, if_not_failed, if_taken, if_type_changed, if_unchanged, if_unknown, is_unknown, lane_kinds, lost_names, may_keep, proposal, proposed_changes, proposed_plan, review_refusal, schema_kinds, seen_proposed, set_of, set_refusal, sooner, source_refusals, taken_names, twice_in, unless_created}
+use Rattle.cf_prepare.specs.Refusals.{continue_refusal, delete_refusal, deploy_refusal, execute_refusal, first_unknown, if_barred, if_flawed, if_in_use, if_missing, if_no_set, if_not_failed, if_taken, if_type_changed, if_unchanged, if_unknown, is_unknown_type, lost_names, may_keep, proposal, proposed_changes, proposed_plan, review_refusal, seen_proposed, set_of, set_refusal, lesser_wanted, source_refusals, taken_names, twice_in, unless_created}
+use Rattle.cf_desired.specs.Whole.{export_names}
+use Rattle.cf_plan.specs.Accept.{schema_kinds}
+use Rattle.cf_plan.specs.Follow.{lane_kinds}
+use Rattle.cf_plan.specs.Follow.{deploys_from}
 use Rattle.cf_prepare.specs.declared.wish.Order.{Order}
 use Rattle.cf_prepare.specs.declared.wish.PrepareFault.{PrepareFault}
 use Rattle.cf_prepare.specs.declared.wish.PrepareFault.TheVariants as fault
@@ -70,10 +74,10 @@ none_in (x ∷ xs) e = some_none x e
 pub flawless : (p : Plan) → if_flawed p ≡ None → p.flaws ≡ []
 flawless p h = none_in p.flaws (unmapped (λ f. fault.Plan f) (first_in p.flaws) h)
 
-some_stays : (v : Wanted) (ws : List Wanted) → fold sooner (Some v) ws ≡ None → ⊥
+some_stays : (v : Wanted) (ws : List Wanted) → fold lesser_wanted (Some v) ws ≡ None → ⊥
 some_stays v [] e = some_none v e
 some_stays v (w ∷ ws) e = by (λ u. some_stays u ws) (bytes_lt w.path v.path) e where
-  by : ((u : Wanted) → fold sooner (Some u) ws ≡ None → ⊥) → (b : Bool) → fold sooner (cond b (Some w) (Some v)) ws ≡ None → ⊥
+  by : ((u : Wanted) → fold lesser_wanted (Some u) ws ≡ None → ⊥) → (b : Bool) → fold lesser_wanted (cond b (Some w) (Some v)) ws ≡ None → ⊥
   by rest true h = rest w h
   by rest false h = rest v h
 
@@ -81,10 +85,10 @@ all_known : (kinds : List (List ℕ)) (ws : List Wanted) → first_unknown kinds
 all_known kinds [] e = refl
 all_known kinds (w ∷ ws) e = by (all_known kinds ws) (is_among w.kind kinds) e where
   by : (first_unknown kinds ws ≡ None → list_all (λ v. is_among v.kind kinds) ws ≡ true) → (b : Bool)
-      → fold sooner None (cond (not b) (w ∷ filter (is_unknown kinds) ws) (filter (is_unknown kinds) ws)) ≡ None
+      → fold lesser_wanted None (cond (not b) (w ∷ filter (is_unknown_type kinds) ws) (filter (is_unknown_type kinds) ws)) ≡ None
       → (b && list_all (λ v. is_among v.kind kinds) ws) ≡ true
   by rest true h = rest h
-  by rest false h = absurd (some_stays w (filter (is_unknown kinds) ws) h)
+  by rest false h = absurd (some_stays w (filter (is_unknown_type kinds) ws) h)
 
 known : (kinds : List (List ℕ)) (p : Plan) → if_unknown kinds p ≡ None → list_all (λ w. is_among w.kind kinds) p.wanted ≡ true
 known kinds p h = all_known kinds p.wanted (unmapped (λ w. fault.UnknownType w.path w.kind) (first_unknown kinds p.wanted) h)
@@ -183,16 +187,16 @@ module _ (kinds : List (List ℕ)) (schemas : List Schema) (x : World) (name : L
   found_same = used_suffice held_shows_more schemas (held_by s) all imports no_flaw uses.enough
 
   plan_same : plan_of some (seen_before schemas s some) ≡ p
-  plan_same = ap (λ (f : Found). plan_of some f.seen) found_same ∙ uses.enough
+  plan_same = ap (λ (f : RowsFound). plan_of some f.seen) found_same ∙ uses.enough
 
   pub changes_same : changes_on schemas name x s some ≡ c
   changes_same =
-      ap (λ (f : Found). changes_by (held_by s) s.outputs (exports_by name x) f (plan_of some f.seen)) found_same
+      ap (λ (f : RowsFound). changes_by (held_by s) s.outputs (exports_by name x) f (plan_of some f.seen)) found_same
       ∙ ap (changes_by (held_by s) s.outputs (exports_by name x) (found_of schemas (held_by s) all)) uses.enough
 
   imports_used : ImportsWhatItUses name x some (seen_before schemas s some)
   imports_used =
-      subst (λ (f : Found). ImportsWhatItUses name x some f.seen) (sym found_same)
+      subst (λ (f : RowsFound). ImportsWhatItUses name x some f.seen) (sym found_same)
       (record { are_exports = uses.part; enough = uses.enough; all_used = uses.all_used })
 
   pub accepted : IsTrue (creates_from s.status) ⊎ Changing c → IsAccepted schemas kinds name x s some

@@ -17,7 +17,7 @@ use Rattle.cf_desired.specs.Seeing.{Seen}
 use Rattle.cf_desired.specs.declared.wanted.Plan.{Plan}
 use Rattle.cf_plan.specs.Accept.{with_imports, without_import}
 use Rattle.cf_prepare.specs.Imports.{UsesJust}
-use Rattle.cf_prepare.specs.Leaving.{AllUsed, IsUsed, Keeps, Left, LeavesOut, LeavesSome, leaving}
+use Rattle.cf_prepare.specs.Leaving.{AllUsed, IsUsed, KeepsPlan, HasOnlyUsed, LeavesOut, LeavesSome, leaving_out}
 
 both : {a b : Bool} → a ≡ true → b ≡ true → (a && b) ≡ true
 both p q = λ i. p i && q i
@@ -122,14 +122,14 @@ TriedAll seen p s left names =
 
 abbrev pub TriedSome : Seen → Plan → Source → Source → List (List ℕ) → List (List ℕ) → Bool → Type 0
 TriedSome seen p old new left names out =
-    Keeps seen p old new × MatchBool out (length new.imports < length old.imports) ((new ≡ old) × TriedAll seen p old left names)
+    KeepsPlan seen p old new × MatchBool out (length new.imports < length old.imports) ((new ≡ old) × TriedAll seen p old left names)
 
 pub tried_none : (seen : Seen) (p : Plan) (s : Source) (names : List (List ℕ)) → TriedSome seen p s s names names false
 tried_none seen p s names = (record { rest = refl; part = λ n v h. h; same = λ h. h }, (refl, λ h. h))
 
-keeps_on : (seen : Seen) (p : Plan) (old mid new : Source) (n : List ℕ) → Keeps seen p old mid → new ≡ leaving n mid → plan_of new seen ≡ p → Keeps seen p old new
+keeps_on : (seen : Seen) (p : Plan) (old mid new : Source) (n : List ℕ) → KeepsPlan seen p old mid → new ≡ leaving_out n mid → plan_of new seen ≡ p → KeepsPlan seen p old new
 keeps_on seen p old mid new n k e same =
-    subst (λ (s : Source). plan_of s seen ≡ p → Keeps seen p old s) (sym e)
+    subst (λ (s : Source). plan_of s seen ≡ p → KeepsPlan seen p old s) (sym e)
     (λ h. record {
       rest = ap (λ (s : Source). with_imports s (without_import n mid.imports)) k.rest;
       part = λ m v g. k.part m v (kept_value n m v mid.imports g);
@@ -149,12 +149,12 @@ tried_more seen p old mid new n rest names true true there h l = (
 tried_more seen p old mid new n rest names false true there h l = (
   keeps_on seen p old mid new n h.0 l.0 l.1,
   let less : length (without_import n old.imports) < length old.imports = one_fewer n old.imports (there refl) in
-      subst (λ (s : Source). length s.imports < length old.imports) (sym (l.0 ∙ ap (leaving n) h.1.0)) less,
+      subst (λ (s : Source). length s.imports < length old.imports) (sym (l.0 ∙ ap (leaving_out n) h.1.0)) less,
 )
 tried_more seen p old mid new n rest names true false there h l =
-    (subst (Keeps seen p old) (sym l.0) h.0, subst (λ (s : Source). length s.imports < length old.imports) (sym l.0) h.1)
+    (subst (KeepsPlan seen p old) (sym l.0) h.0, subst (λ (s : Source). length s.imports < length old.imports) (sym l.0) h.1)
 tried_more seen p old mid new n rest names false false there h l = (
-  subst (Keeps seen p old) (sym l.0) h.0,
+  subst (KeepsPlan seen p old) (sym l.0) h.0,
   (l.0 ∙ h.1.0, λ used. h.1.1 (λ m among. by m (bytes_eq m n) refl among used)),
 ) where
   by : (m : List ℕ) (b : Bool) → bytes_eq m n ≡ b → (b || is_among m rest) ≡ true → ((k : List ℕ) → is_among k rest ≡ true → IsUsed seen p old k) → IsUsed seen p old m
@@ -191,14 +191,14 @@ tried_over seen p old new items k out over h =
     tried_all seen p old new out (subst (λ (ns : List (List ℕ)). TriedSome seen p old new ns (map (λ i. i.0) old.imports) out) (drop_all k items over) h)
 
 -- round after round
-pub keeps_both : (seen : Seen) (p : Plan) (old mid new : Source) → Keeps seen p old mid → Keeps seen p mid new → Keeps seen p old new
+pub keeps_both : (seen : Seen) (p : Plan) (old mid new : Source) → KeepsPlan seen p old mid → KeepsPlan seen p mid new → KeepsPlan seen p old new
 keeps_both seen p old mid new a b = record {
   rest = b.rest ∙ ap (λ (s : Source). with_imports s new.imports) a.rest;
   part = λ n v h. a.part n v (b.part n v h);
   same = λ h. b.same (a.same h);
 }
 
-pub keeps_self : (seen : Seen) (p : Plan) (s : Source) → Keeps seen p s s
+pub keeps_self : (seen : Seen) (p : Plan) (s : Source) → KeepsPlan seen p s s
 keeps_self seen p s = record { rest = refl; part = λ n v h. h; same = λ h. h }
 
 -- what is used in the end
@@ -218,7 +218,7 @@ uses_nothing source seen same = record {
   none = λ h. refl;
 }
 
-pub uses_left : (source : Source) (seen : Seen) (p : Plan) (new : Source) → p ≡ plan_of source seen → (plan_of (with_imports source []) seen ≡ p → ⊥) → Left seen p source new → UsesJust source seen new.imports
+pub uses_left : (source : Source) (seen : Seen) (p : Plan) (new : Source) → p ≡ plan_of source seen → (plan_of (with_imports source []) seen ≡ p → ⊥) → HasOnlyUsed seen p source new → UsesJust source seen new.imports
 uses_left source seen p new e differs h = record {
   part = h.0.part;
   enough = ap (λ (s : Source). plan_of s seen) (sym h.0.rest) ∙ h.0.same (sym e) ∙ e;

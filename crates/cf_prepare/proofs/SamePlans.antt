@@ -36,7 +36,7 @@ use Rattle.cf_desired.specs.Plan.{inner_of, outputs_in, plan_by, plan_of, wanted
 use Rattle.cf_desired.specs.Seeing.{Seen, first_sights, nested_sight, outputs_inside, own_ids}
 use Rattle.cf_desired.specs.Shape.{given_root, shape_of}
 use Rattle.cf_desired.specs.Stack.{Sights, Scoping, scoping}
-use Rattle.cf_desired.specs.Valued.{evaluated_at, valued_along, valued_inside, valued_in}
+use Rattle.cf_desired.specs.Valued.{member_props, valued_along, valued_inside, valued_in}
 use Rattle.cf_desired.specs.Work.{Member, Nesting, Work, Inside, Body, Shape, no_work, resource, nested, shut, barred, halted, opened}
 use Rattle.cf_desired.specs.Work as inside
 use Rattle.cf_desired.proofs.Flawless.{HasNone, none_in}
@@ -305,8 +305,8 @@ module _ (source : Source) (seen : Seen) where
     known_along : (path : List ℕ) (over : Scoping) (m : Sights) (w : Work) → HasNone (met_along source seen path over m w) → list_all is_valued (valued_along source seen path over m w) ≡ true
     known_along path over m no_work h = refl
     known_along path over m (resource r w) h =
-        let parts = none_in (map (λ f. a_flaw f) (flaws_of (evaluated_at path (over m) r))) (met_along source seen path over m w) h in
-        both (known_so (evaluated_at path (over m) r) parts.0) (known_along path over m w parts.1)
+        let parts = none_in (map (λ f. a_flaw f) (flaws_of (member_props path (over m) r))) (met_along source seen path over m w) h in
+        both (known_so (member_props path (over m) r) parts.0) (known_along path over m w parts.1)
     known_along path over m (nested n i w) h =
         let parts = none_in (met_inside source seen path (over m) i) (met_along source seen path over (nested_sight source n (outputs_inside source seen (over m) i) m) w) h in
         all_both is_valued (valued_inside source seen (over m) i) (valued_along source seen path over (nested_sight source n (outputs_inside source seen (over m) i) m) w)
@@ -340,9 +340,9 @@ module _ (source : Source) (seen : Seen) where
     sound_along : (path : List ℕ) (over : Scoping) (m : Sights) (w : Work) → HasNone (met_along source seen path over m w) → AreSound (met_along source seen path over m w)
     sound_along path over m no_work h = refl
     sound_along path over m (resource r w) h =
-        sound_both (map (λ f. a_flaw f) (flaws_of (evaluated_at path (over m) r))) (met_along source seen path over m w)
-        (sound_flaws (flaws_of (evaluated_at path (over m) r)))
-        (sound_along path over m w (none_in (map (λ f. a_flaw f) (flaws_of (evaluated_at path (over m) r))) (met_along source seen path over m w) h).1)
+        sound_both (map (λ f. a_flaw f) (flaws_of (member_props path (over m) r))) (met_along source seen path over m w)
+        (sound_flaws (flaws_of (member_props path (over m) r)))
+        (sound_along path over m w (none_in (map (λ f. a_flaw f) (flaws_of (member_props path (over m) r))) (met_along source seen path over m w) h).1)
     sound_along path over m (nested n i w) h =
         let parts = none_in (met_inside source seen path (over m) i) (met_along source seen path over (nested_sight source n (outputs_inside source seen (over m) i) m) w) h in
         both (ap is_none (bound_inside path (over m) i parts.0))

@@ -13,10 +13,13 @@ use Rattle.cf_desired.specs.declared.wanted.Wanted.{Wanted}
 use Rattle.cf_effect.specs.Status.{goes_forward}
 use Rattle.cf_effect.specs.World.{StackState}
 use Rattle.cf_plan.specs.Done.{AreDone}
-use Rattle.cf_plan.specs.Forward.{In, here, plan_before, there}
+use Rattle.cf_plan.specs.Forward.{plan_before}
+use Rattle.cf_tree.specs.Lists.{there}
+use Rattle.cf_tree.specs.Lists.{here}
+use Rattle.cf_tree.specs.Lists.{In}
 use Rattle.cf_prepare.specs.Answer.{RefusesAs}
-use Rattle.cf_prepare.specs.Refusals.{is_unknown, sooner}
-use Rattle.cf_prepare.specs.Resuming.{GoesOn, IsStuck, first_stuck, is_stuck}
+use Rattle.cf_prepare.specs.Refusals.{is_unknown_type, lesser_wanted}
+use Rattle.cf_prepare.specs.Resuming.{IsNotStuck, IsStuck, first_stuck, is_stuck}
 use Rattle.cf_prepare.specs.declared.wish.PrepareFault.{PrepareFault}
 use Rattle.cf_prepare.specs.declared.wish.PrepareFault.TheVariants as fault
 
@@ -88,7 +91,7 @@ some_if : (b : Bool) (x u : Wanted) → cond b (Some x) (Some u) ≡ Some (cond 
 some_if true x u = refl
 some_if false x u = refl
 
-chosen : (xs : List Wanted) (u a : Wanted) → fold sooner (Some u) xs ≡ Some a → IsChosen u xs a
+chosen : (xs : List Wanted) (u a : Wanted) → fold lesser_wanted (Some u) xs ≡ Some a → IsChosen u xs a
 chosen [] u a e = record {
   there = inl (same_some u a e);
   first = subst (λ (z : Wanted). bytes_lt u.path z.path ≡ false) (same_some u a e) (not_itself u.path);
@@ -96,12 +99,12 @@ chosen [] u a e = record {
 }
 chosen (x ∷ xs) u a e =
     later u x a xs (bytes_lt x.path u.path) refl
-    (chosen xs (cond (bytes_lt x.path u.path) x u) a (ap (λ (o : Option Wanted). fold sooner o xs) (sym (some_if (bytes_lt x.path u.path) x u)) ∙ e))
+    (chosen xs (cond (bytes_lt x.path u.path) x u) a (ap (λ (o : Option Wanted). fold lesser_wanted o xs) (sym (some_if (bytes_lt x.path u.path) x u)) ∙ e))
 
-stays : (xs : List Wanted) (u : Wanted) → fold sooner (Some u) xs ≡ None → ⊥
+stays : (xs : List Wanted) (u : Wanted) → fold lesser_wanted (Some u) xs ≡ None → ⊥
 stays [] u e = some_none u e
 stays (x ∷ xs) u e =
-    stays xs (cond (bytes_lt x.path u.path) x u) (ap (λ (o : Option Wanted). fold sooner o xs) (sym (some_if (bytes_lt x.path u.path) x u)) ∙ e)
+    stays xs (cond (bytes_lt x.path u.path) x u) (ap (λ (o : Option Wanted). fold lesser_wanted o xs) (sym (some_if (bytes_lt x.path u.path) x u)) ∙ e)
 
 -- those that pass a test
 kept : (test : Wanted → Bool) (xs : List Wanted) (v : Wanted) → In v xs → test v ≡ true → In v (filter test xs)
@@ -129,7 +132,7 @@ pub record IsFirst (test : Wanted → Bool) (xs : List Wanted) (a : Wanted) : Ty
   pub fits : test a ≡ true
   pub least : (v : Wanted) → In v xs → test v ≡ true → bytes_lt v.path a.path ≡ false
 
-first_of_all : (ys : List Wanted) (a : Wanted) → fold sooner None ys ≡ Some a → In a ys × ((v : Wanted) → In v ys → bytes_lt v.path a.path ≡ false)
+first_of_all : (ys : List Wanted) (a : Wanted) → fold lesser_wanted None ys ≡ Some a → In a ys × ((v : Wanted) → In v ys → bytes_lt v.path a.path ≡ false)
 first_of_all [] a e = some_none a (sym e)
 first_of_all (y ∷ ys) a e =
     let c : IsChosen y ys a = chosen ys y a e in (
@@ -137,13 +140,13 @@ first_of_all (y ∷ ys) a e =
       λ v i. elim (in_cons i) [ inl k ↦ subst (λ (z : Wanted). bytes_lt z.path a.path ≡ false) k c.first | inr j ↦ c.rest v j ],
     )
 
-is_first : (test : Wanted → Bool) (xs : List Wanted) (a : Wanted) → fold sooner None (filter test xs) ≡ Some a → IsFirst test xs a
+is_first : (test : Wanted → Bool) (xs : List Wanted) (a : Wanted) → fold lesser_wanted None (filter test xs) ≡ Some a → IsFirst test xs a
 is_first test xs a e =
     let f = first_of_all (filter test xs) a e in
     let p = passes test xs a f.0 in
     record { member = p.0; fits = p.1; least = λ v i t. f.1 v (kept test xs v i t) }
 
-none_kept : (ys : List Wanted) → fold sooner None ys ≡ None → (v : Wanted) → In v ys → ⊥
+none_kept : (ys : List Wanted) → fold lesser_wanted None ys ≡ None → (v : Wanted) → In v ys → ⊥
 none_kept [] e v i = in_none i
 none_kept (y ∷ ys) e v i = stays ys y e
 
@@ -160,8 +163,8 @@ module _ (kinds done : List (List ℕ)) (s : StackState) (are : AreDone s done) 
   passes_stuck v forward i t = (
     forward,
     i,
-    λ d. not_so (is_among v.path done) (second_so (is_unknown kinds v) (not (is_among v.path done)) t) ((are v.path).0 d),
-    first_so (is_unknown kinds v) (not (is_among v.path done)) t,
+    λ d. not_so (is_among v.path done) (second_so (is_unknown_type kinds v) (not (is_among v.path done)) t) ((are v.path).0 d),
+    first_so (is_unknown_type kinds v) (not (is_among v.path done)) t,
   )
 
   pub none_stuck : None ≡ first_stuck kinds done (plan_before s).wanted → (w : Wanted) → IsStuck kinds s w → ⊥
@@ -170,7 +173,7 @@ module _ (kinds done : List (List ℕ)) (s : StackState) (are : AreDone s done) 
       (kept (is_stuck kinds done) (plan_before s).wanted w h.1 (stuck_passes w h))
 
   pub stuck_first : (w : Wanted) (e : PrepareFault) → goes_forward s.status ≡ true → Some w ≡ first_stuck kinds done (plan_before s).wanted
-      → RefusesAs (fault.UnknownType w.path w.kind) e → GoesOn {A = Unit {0}} kinds s (Err e)
+      → RefusesAs (fault.UnknownType w.path w.kind) e → IsNotStuck {A = Unit {0}} kinds s (Err e)
   stuck_first w fault.NoMemory forward found r = tt
   stuck_first w (fault.Stack g) forward found r = absurd cc
   stuck_first w (fault.Plan g) forward found r = absurd cc

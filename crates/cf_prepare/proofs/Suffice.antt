@@ -30,7 +30,7 @@ use Rattle.cf_desired.proofs.NeedsMatter.{needs_suffice}
 use Rattle.cf_desired.proofs.Puts.{among_pass, value_put}
 use Rattle.cf_desired.proofs.ShapeStays.{shape_stays}
 use Rattle.cf_desired.proofs.Termed.{Valued, member_of, members_in}
-use Rattle.cf_change.specs.Changes.{Found, HeldAt, found_next, found_of, found_with, held_seen, is_other_kind, resource_held, row_for, row_list, seen_after}
+use Rattle.cf_change.specs.Changes.{RowsFound, HeldAt, found_next, found_of, found_with, held_seen, is_other_kind, resource_held, row_for, row_list, seen_after}
 use Rattle.cf_change.specs.Hidden.{HeldShowsMore}
 use Rattle.cf_plan.specs.Accept.{with_imports}
 use Rattle.cf_prepare.specs.Imports.{UsedSuffice}
@@ -92,25 +92,25 @@ paths_same (r ∷ rs) = ap (λ ps. path_of r ∷ ps) (paths_same rs)
 
 -- what is found of one path leaves the others as they were
 module _ (schemas : List Schema) (held : List HeldAt) where
-  abbrev with_row : Found → Wanted → Found
+  abbrev with_row : RowsFound → Wanted → RowsFound
   with_row f w = record f {
     rows = f.rows ++ row_list (row_for schemas (resource_held w.path held) w);
     seen = put w.path (seen_after (resource_held w.path held) (row_for schemas (resource_held w.path held) w)) f.seen;
   }
 
-  abbrev with_clash : Found → Wanted → Found
+  abbrev with_clash : RowsFound → Wanted → RowsFound
   with_clash f w = record f { clash = f.clash ++ w.path ∷ []; seen = put w.path (seen_after (resource_held w.path held) None) f.seen }
 
   past_put : (q p : List ℕ) (v : SeenAt) (seen : Seen) → bytes_eq q p ≡ false → value_at q (put p v seen) ≡ value_at q seen
   past_put q p v seen e = value_put q p v seen ∙ ap (λ b. cond b (Some v) (value_at q seen)) e
 
-  past_with : (q : List ℕ) (f : Found) (w : Wanted) → bytes_eq q w.path ≡ false → value_at q (found_with schemas held f w).seen ≡ value_at q f.seen
+  past_with : (q : List ℕ) (f : RowsFound) (w : Wanted) → bytes_eq q w.path ≡ false → value_at q (found_with schemas held f w).seen ≡ value_at q f.seen
   past_with q f w e = by (is_other_kind (resource_held w.path held) w) where
     by : (b : Bool) → value_at q (cond b (with_clash f w) (with_row f w)).seen ≡ value_at q f.seen
     by true = past_put q w.path (seen_after (resource_held w.path held) None) f.seen e
     by false = past_put q w.path (seen_after (resource_held w.path held) (row_for schemas (resource_held w.path held) w)) f.seen e
 
-  past_all : (q : List ℕ) (f : Found) (rs : List Valued) → is_among q (paths_in rs) ≡ false
+  past_all : (q : List ℕ) (f : RowsFound) (rs : List Valued) → is_among q (paths_in rs) ≡ false
       → value_at q (fold (found_with schemas held) f (map wanted_of rs)).seen ≡ value_at q f.seen
   past_all q f [] h = refl
   past_all q f (r ∷ rs) h =
@@ -124,23 +124,23 @@ module _ (schemas : List Schema) (held : List HeldAt) where
     abbrev all : List Valued
     all = valued_in source end (given_root source) shape
 
-    abbrev step : Found → Member → Found
+    abbrev step : RowsFound → Member → RowsFound
     step f m = found_next schemas held source shape f m
 
-    past_step : (q : List ℕ) (f : Found) (m : Member) → bytes_eq q m.path ≡ false → value_at q (step f m).seen ≡ value_at q f.seen
+    past_step : (q : List ℕ) (f : RowsFound) (m : Member) → bytes_eq q m.path ≡ false → value_at q (step f m).seen ≡ value_at q f.seen
     past_step q f m e = by (props_at source shape f.seen m.path) where
       by : (o : Option Evaluated) → value_at q (option_map_or (λ v. found_with schemas held f (wanted_of (m, v))) o f).seen ≡ value_at q f.seen
       by None = refl
       by (Some v) = past_with q f (wanted_of (m, v)) e
 
-    past_steps : (q : List ℕ) (f : Found) (rs : List Valued) → is_among q (paths_in rs) ≡ false → value_at q (fold step f (map member_of rs)).seen ≡ value_at q f.seen
+    past_steps : (q : List ℕ) (f : RowsFound) (rs : List Valued) → is_among q (paths_in rs) ≡ false → value_at q (fold step f (map member_of rs)).seen ≡ value_at q f.seen
     past_steps q f [] h = refl
     past_steps q f (r ∷ rs) h =
         let apart = neither_so (bytes_eq q (path_of r)) (is_among q (paths_in rs)) h in
         past_steps q (step f r.0) rs apart.1 ∙ past_step q f r.0 apart.0
 
     -- the properties of a path over what is seen before it are those over what is seen in the end
-    agrees : (ps : List (List ℕ)) (f : Found) → ((q : List ℕ) → is_among q ps ≡ true → value_at q end ≡ value_at q f.seen) → AgreeAt ps end f.seen
+    agrees : (ps : List (List ℕ)) (f : RowsFound) → ((q : List ℕ) → is_among q ps ≡ true → value_at q end ≡ value_at q f.seen) → AgreeAt ps end f.seen
     agrees ps f h q among = (ap (option_and_then (λ s. s.physical)) (sym (h q among)), ap (option_and_then (λ s. s.attrs)) (sym (h q among)))
 
     own_member : (r : Valued) → at_path (path_of r) all ≡ Some r → member_at shape (path_of r) ≡ Some r.0
@@ -148,7 +148,7 @@ module _ (schemas : List Schema) (held : List HeldAt) where
         ap (find (λ m. bytes_eq (path_of r) m.path)) (sym (members_in source end (given_root source) shape))
         ∙ find_member (path_of r) all ∙ ap (option_map member_of) o
 
-    one_step : (f : Found) (r : Valued) → at_path (path_of r) all ≡ Some r
+    one_step : (f : RowsFound) (r : Valued) → at_path (path_of r) all ≡ Some r
         → ((q : List ℕ) → is_among q r.0.needs ≡ true → value_at q end ≡ value_at q f.seen) → step f r.0 ≡ found_with schemas held f (wanted_of r)
     one_step f r o h =
         ap (λ v. option_map_or (λ v. found_with schemas held f (wanted_of (r.0, v))) v f)
@@ -183,7 +183,7 @@ module _ (schemas : List Schema) (held : List HeldAt) where
     needed done r rs h q among = h.apart q (among_pass (λ p. is_among p done) r.0.needs q h.first.0 among)
 
     -- where the end is that of the steps, they find what is wanted over the end
-    by_steps : (done : List (List ℕ)) (f : Found) (rs : List Valued) → IsLeft done rs → end ≡ (fold step f (map member_of rs)).seen
+    by_steps : (done : List (List ℕ)) (f : RowsFound) (rs : List Valued) → IsLeft done rs → end ≡ (fold step f (map member_of rs)).seen
         → fold step f (map member_of rs) ≡ fold (found_with schemas held) f (map wanted_of rs)
     by_steps done f [] h e = refl
     by_steps done f (r ∷ rs) h e =
@@ -192,7 +192,7 @@ module _ (schemas : List Schema) (held : List HeldAt) where
         (one_step f r h.own.0 (λ q among. ap (value_at q) e ∙ past_steps q f (r ∷ rs) (needed done r rs h q among)))
 
     -- and where the end is that of what is wanted
-    by_wanted : (done : List (List ℕ)) (f : Found) (rs : List Valued) → IsLeft done rs → end ≡ (fold (found_with schemas held) f (map wanted_of rs)).seen
+    by_wanted : (done : List (List ℕ)) (f : RowsFound) (rs : List Valued) → IsLeft done rs → end ≡ (fold (found_with schemas held) f (map wanted_of rs)).seen
         → fold step f (map member_of rs) ≡ fold (found_with schemas held) f (map wanted_of rs)
     by_wanted done f [] h e = refl
     by_wanted done f (r ∷ rs) h e =
@@ -214,10 +214,10 @@ module _ (schemas : List Schema) (held : List HeldAt) where
           apart = λ q among. absurd (true≢false (sym among));
         }
 
-    abbrev first : Found
+    abbrev first : RowsFound
     first = record { rows = []; seen = []; clash = [] }
 
-    abbrev found : Found
+    abbrev found : RowsFound
     found = fold step first (resources_in shape)
 
     pub found_steps : end ≡ found.seen → found ≡ fold (found_with schemas held) first (plan_by source shape end).wanted
@@ -235,10 +235,10 @@ module _ (shows : HeldShowsMore) (schemas : List Schema) (held : List HeldAt) (s
   abbrev fewer : Source
   fewer = with_imports source imports
 
-  abbrev none_found : Found
+  abbrev none_found : RowsFound
   none_found = record { rows = []; seen = []; clash = [] }
 
-  abbrev run : List Wanted → Found
+  abbrev run : List Wanted → RowsFound
   run ws = fold (found_with schemas held) none_found ws
 
   plan_kept : (s : Source) → (plan_of s end).flaws ≡ [] → plan_by s (shape_of s (held_seen held)) end ≡ plan_of s end
@@ -250,7 +250,7 @@ module _ (shows : HeldShowsMore) (schemas : List Schema) (held : List HeldAt) (s
   by_source = found_steps schemas held source (held_seen held) end refl
 
   by_fewer : (plan_of source end).flaws ≡ [] → plan_of fewer end ≡ plan_of source end → found_of schemas held fewer ≡ found_of schemas held source
-  by_fewer none same = found_wanted schemas held fewer (held_seen held) end (ap (λ (f : Found). f.seen) (sym wanted_same)) ∙ wanted_same where
+  by_fewer none same = found_wanted schemas held fewer (held_seen held) end (ap (λ (f : RowsFound). f.seen) (sym wanted_same)) ∙ wanted_same where
     plans : plan_by fewer (shape_of fewer (held_seen held)) end ≡ plan_by source (shape_of source (held_seen held)) end
     plans = plan_kept fewer (ap (λ (p : Plan). p.flaws) same ∙ none) ∙ same ∙ sym (plan_kept source none)
 

@@ -7,7 +7,7 @@ use Rattle.cf_tree.specs.Lists.{first_in}
 use Rattle.cf_tree.specs.declared.row.Row.{Row}
 use Rattle.cf_tree.specs.declared.source.Source.{Source}
 use Rattle.cf_schema.specs.declared.described.Schema.{Schema}
-use Rattle.cf_change.specs.Changes.{Changed, Changes, Found, found_of, is_empty, least_of, refusal_by, refusal_of}
+use Rattle.cf_change.specs.Changes.{Changed, Changes, RowsFound, found_of, is_empty, least_of, refusal_by, refusal_of}
 use Rattle.cf_change.specs.declared.held.HeldMap.{HeldMap}
 use Rattle.cf_change.specs.declared.set.ChangeFault.{ChangeFault}
 use Rattle.cf_change.specs.declared.set.ChangeFault.TheVariants as change
@@ -24,7 +24,11 @@ use Rattle.cf_plan.specs.Accept.{creates_from, exports_by, held_by, with_imports
 use Rattle.cf_prepare.specs.Answer.{TestsAs, first_of}
 use Rattle.cf_prepare.specs.Orders.{IsDeployment, IsReview, kind_by}
 use Rattle.cf_prepare.specs.Prepare.{ExecutesAs, ExecutesFound, ExecutesSet}
-use Rattle.cf_prepare.specs.Refusals.{deploy_refusal, deploys_from, execute_refusal, export_names, if_barred, if_flawed, if_in_use, if_missing, if_no_set, if_taken, if_type_changed, if_unchanged, if_unknown, is_unchanged, lane_kinds, proposal, proposed_changes, proposed_plan, refusals_by, review_refusal, schema_kinds, set_of, set_refusal, source_refusals, unless_created}
+use Rattle.cf_prepare.specs.Refusals.{deploy_refusal, execute_refusal, if_barred, if_flawed, if_in_use, if_missing, if_no_set, if_taken, if_type_changed, if_unchanged, if_unknown, is_unchanged, proposal, proposed_changes, proposed_plan, refusals_by, review_refusal, set_of, set_refusal, source_refusals, unless_created}
+use Rattle.cf_desired.specs.Whole.{export_names}
+use Rattle.cf_plan.specs.Accept.{schema_kinds}
+use Rattle.cf_plan.specs.Follow.{lane_kinds}
+use Rattle.cf_plan.specs.Follow.{deploys_from}
 use Rattle.cf_prepare.specs.Worked.{IsMild, IsWorked, WorksBy, changes_over, refusal_over, set_by}
 use Rattle.cf_prepare.specs.declared.wish.Order.{Order}
 use Rattle.cf_prepare.specs.declared.wish.Order.TheVariants as order
@@ -85,16 +89,16 @@ set_left c f (Ok t) none clash h g =
     g.1 ∙ nothing c (left_so c change.NoChanges none clash (subst (λ (k : ChangeFault). Changed c (Err k)) g.0 h)).1
 
 -- by what was found
-module _ (kinds : List (List ℕ)) (x : World) (name : List ℕ) (schemas : List Schema) (held : HeldMap) (source : Source) (found : Found) (plan : Plan)
+module _ (kinds : List (List ℕ)) (x : World) (name : List ℕ) (schemas : List Schema) (held : HeldMap) (source : Source) (found : RowsFound) (plan : Plan)
     (found_is : found ≡ found_of schemas held.resources source) (plan_is : plan ≡ plan_of source found.seen) where
   abbrev c : Changes
   c = changes_over schemas held source
 
   clash_is : c.clash ≡ found.clash
-  clash_is = ap (λ (f : Found). f.clash) (sym found_is)
+  clash_is = ap (λ (f : RowsFound). f.clash) (sym found_is)
 
   plan_found : plan ≡ plan_of source (found_of schemas held.resources source).seen
-  plan_found = plan_is ∙ ap (λ (f : Found). plan_of source f.seen) found_is
+  plan_found = plan_is ∙ ap (λ (f : RowsFound). plan_of source f.seen) found_is
 
   abbrev Tests : {A : Type 0} → (A → Type 0) → Result A PrepareFault → Type 0
   Tests P r = (d : Changes) → d.clash ≡ found.clash → TestsAs (first_of (refusals_by kinds x name d plan)) P r

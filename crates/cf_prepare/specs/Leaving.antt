@@ -8,20 +8,20 @@ use Rattle.cf_desired.specs.declared.wanted.Plan.{Plan}
 use Rattle.cf_plan.specs.Accept.{with_imports, without_import}
 
 -- the source without an import
-abbrev pub leaving : List ℕ → Source → Source
-leaving name source = with_imports source (without_import name source.imports)
+abbrev pub leaving_out : List ℕ → Source → Source
+leaving_out name source = with_imports source (without_import name source.imports)
 
 -- without it the source comes to another plan than this
 abbrev pub IsUsed : Seen → Plan → Source → List ℕ → Type 0
-IsUsed seen p source name = plan_of (leaving name source) seen ≢ p
+IsUsed seen p source name = plan_of (leaving_out name source) seen ≢ p
 
 -- the import is left out where that makes no difference, and else nothing changes
 abbrev pub LeavesOut : Seen → Plan → List ℕ → Source → Source → Bool → Type 0
 LeavesOut seen p name old new out =
-    MatchBool out ((new ≡ leaving name old) × (plan_of new seen ≡ p)) ((new ≡ old) × IsUsed seen p old name)
+    MatchBool out ((new ≡ leaving_out name old) × (plan_of new seen ≡ p)) ((new ≡ old) × IsUsed seen p old name)
 
 -- new is old with some of its imports, and comes to this plan where old does
-pub record Keeps (seen : Seen) (p : Plan) (old new : Source) : Type 0 where
+pub record KeepsPlan (seen : Seen) (p : Plan) (old new : Source) : Type 0 where
   pub rest : new ≡ with_imports old new.imports
   pub part : (n v : List ℕ) → value_at n new.imports ≡ Some v → value_at n old.imports ≡ Some v
   pub same : plan_of old seen ≡ p → plan_of new seen ≡ p
@@ -32,7 +32,7 @@ AllUsed seen p source = (n v : List ℕ) → value_at n source.imports ≡ Some 
 -- there are fewer, or each is used
 abbrev pub LeavesSome : Seen → Plan → Source → Source → Bool → Type 0
 LeavesSome seen p old new out =
-    Keeps seen p old new × MatchBool out (length new.imports < length old.imports) (AllUsed seen p new)
+    KeepsPlan seen p old new × MatchBool out (length new.imports < length old.imports) (AllUsed seen p new)
 
-abbrev pub Left : Seen → Plan → Source → Source → Type 0
-Left seen p old new = Keeps seen p old new × AllUsed seen p new
+abbrev pub HasOnlyUsed : Seen → Plan → Source → Source → Type 0
+HasOnlyUsed seen p old new = KeepsPlan seen p old new × AllUsed seen p new

@@ -1,4 +1,5 @@
--- What a wish orders: the entry that begins its operation, or that keeps its change set, by the number that is next.
+-- What a wish orders: the entry that begins its operation, or that keeps its change set, by the number that is next (this project's
+-- own).
 use Rattle.std.specs.Prelude.{◌≡◌, ℕ, ◌+◌, List, IsTrue, if◌then◌else◌}
 use Rattle.cf_tree.specs.Lists.{is_among}
 use Rattle.cf_tree.specs.declared.source.Source.{Source}

@@ -1,4 +1,4 @@
--- What preparing a wish answers, and that what it orders may follow.
+-- What preparing a wish answers, and that what it orders may follow (User Guide: change sets; the answers are this project's own).
 use Rattle.std.specs.Prelude.{◌≡◌, ◌≢◌, ⊤, ℕ, List, None, Option, Some, IsTrue, Result, Ok, Err}
 use Rattle.cf_tree.specs.declared.row.Row.{Row}
 use Rattle.cf_tree.specs.declared.template.Template.{Template}
@@ -11,7 +11,8 @@ use Rattle.cf_effect.specs.World.{World, known_stack}
 use Rattle.cf_plan.specs.Follow.{MayFollow, is_opened_since}
 use Rattle.cf_prepare.specs.Answer.{TestsAs}
 use Rattle.cf_prepare.specs.Orders.{IsContinuation, IsDeletion, IsDeployment, IsReview}
-use Rattle.cf_prepare.specs.Refusals.{continue_refusal, delete_refusal, deploy_refusal, execute_refusal, lane_kinds, proposed_changes, resume_refusal, review_refusal, set_of, set_refusal}
+use Rattle.cf_prepare.specs.Refusals.{continue_refusal, delete_refusal, deploy_refusal, execute_refusal, proposed_changes, resume_refusal, review_refusal, set_of, set_refusal}
+use Rattle.cf_plan.specs.Follow.{lane_kinds}
 use Rattle.cf_prepare.specs.Resuming.{ResumesAs}
 use Rattle.cf_prepare.specs.declared.wish.Order.{Order}
 use Rattle.cf_prepare.specs.declared.wish.Order.TheVariants as order

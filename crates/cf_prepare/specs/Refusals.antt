@@ -7,6 +7,7 @@ use Rattle.cf_tree.specs.declared.source.Source.{Source}
 use Rattle.cf_schema.specs.declared.described.Schema.{Schema}
 use Rattle.cf_desired.specs.Plan.{plan_of}
 use Rattle.cf_desired.specs.Seeing.{Seen}
+use Rattle.cf_desired.specs.Whole.{export_names}
 use Rattle.cf_desired.specs.declared.wanted.Plan.{Plan}
 use Rattle.cf_desired.specs.declared.wanted.Wanted.{Wanted}
 use Rattle.cf_change.specs.Changes.{Changes, is_empty, least_of}
@@ -16,8 +17,8 @@ use Rattle.cf_effect.specs.declared.held.KeptSet.{KeptSet}
 use Rattle.cf_effect.specs.World.{StackState, World, known_stack, stack_at}
 use Rattle.cf_effect.specs.Begin.{source_for}
 use Rattle.cf_effect.specs.Status.{is_in_progress}
-use Rattle.cf_plan.specs.Accept.{changes_on, creates_from, exports_of_others, is_exported_elsewhere, is_taken_away, seen_before, with_imports}
-use Rattle.cf_plan.specs.Follow.{continues_from, deletes_from, failed_of, set_number, updates_from}
+use Rattle.cf_plan.specs.Accept.{changes_on, creates_from, exports_of_others, is_exported_elsewhere, is_taken_away, schema_kinds, seen_before, with_imports}
+use Rattle.cf_plan.specs.Follow.{continues_from, deletes_from, deploys_from, failed_of, lane_kinds, set_number}
 use Rattle.cf_prepare.specs.Answer.{first_of}
 use Rattle.cf_prepare.specs.declared.wish.StackFault.TheVariants as stack
 use Rattle.cf_prepare.specs.declared.wish.PrepareFault.{PrepareFault}
@@ -29,10 +30,6 @@ if_missing name x = if is_some (stack_at name x) then None else Some (fault.Stac
 
 abbrev pub if_barred : (Status → Bool) → StackState → Option PrepareFault
 if_barred may s = if may s.status then None else Some (fault.Stack (stack.WrongStatus s.status))
-
--- a source creates a stack or updates one
-abbrev pub deploys_from : Status → Bool
-deploys_from s = creates_from s || updates_from s
 
 -- the change set of a number
 abbrev pub set_of : ℕ → StackState → Option KeptSet
@@ -55,15 +52,15 @@ abbrev pub if_flawed : Plan → Option PrepareFault
 if_flawed p = option_map (λ f. fault.Plan f) (first_in p.flaws)
 
 -- the first path, in byte order, of a type that there is not
-abbrev pub sooner : Option Wanted → Wanted → Option Wanted
-sooner None w = Some w
-sooner (Some v) w = if bytes_lt w.path v.path then Some w else Some v
+abbrev pub lesser_wanted : Option Wanted → Wanted → Option Wanted
+lesser_wanted None w = Some w
+lesser_wanted (Some v) w = if bytes_lt w.path v.path then Some w else Some v
 
-abbrev pub is_unknown : List (List ℕ) → Wanted → Bool
-is_unknown kinds w = not (is_among w.kind kinds)
+abbrev pub is_unknown_type : List (List ℕ) → Wanted → Bool
+is_unknown_type kinds w = not (is_among w.kind kinds)
 
 abbrev pub first_unknown : List (List ℕ) → List Wanted → Option Wanted
-first_unknown kinds ws = fold sooner None (filter (is_unknown kinds) ws)
+first_unknown kinds ws = fold lesser_wanted None (filter (is_unknown_type kinds) ws)
 
 abbrev pub if_unknown : List (List ℕ) → Plan → Option PrepareFault
 if_unknown kinds p = option_map (λ w. fault.UnknownType w.path w.kind) (first_unknown kinds p.wanted)
@@ -73,9 +70,6 @@ abbrev pub if_type_changed : Changes → Option PrepareFault
 if_type_changed c = option_map (λ p. fault.Stack (stack.TypeChanged p)) (least_of c.clash)
 
 -- the least name that is exported twice, or that another stack exports or means to export
-abbrev pub export_names : Plan → List (List ℕ)
-export_names p = map (λ e. e.0) p.exports
-
 abbrev pub twice_in : List (List ℕ) → List (List ℕ)
 twice_in [] = []
 twice_in (n ∷ ns) = if is_among n ns then n ∷ twice_in ns else twice_in ns
@@ -124,13 +118,6 @@ abbrev pub source_refusals : List (List ℕ) → List Schema → World → List 
 source_refusals kinds schemas x name source =
     refusals_by kinds x name (proposed_changes schemas x name source) (proposed_plan schemas x name source)
 
--- the types that there are: those of the lanes of the last opening, or for a change set all that have a schema
-abbrev pub lane_kinds : World → List (List ℕ)
-lane_kinds x = map (λ l. l.1) x.lanes
-
-abbrev pub schema_kinds : List Schema → List (List ℕ)
-schema_kinds schemas = map (λ g. g.kind) schemas
-
 -- The refusals of each wish, in their order. A stack is created also from a source that has nothing in it.
 abbrev pub unless_created : StackState → Option PrepareFault → Option PrepareFault
 unless_created s o = if creates_from s.status then None else o
@@ -147,7 +134,8 @@ review_refusal schemas x name source =
 
 -- of a change set that is executed: before its source is looked at, and then
 abbrev pub set_refusal : World → List ℕ → ℕ → Option PrepareFault
-set_refusal x name number = first_of (if_missing name x ∷ if_barred deploys_from (known_stack name x) ∷ if_no_set number (known_stack name x) ∷ [])
+set_refusal x name number =
+    first_of (if_missing name x ∷ if_barred deploys_from (known_stack name x) ∷ if_no_set number (known_stack name x) ∷ [])
 
 abbrev pub execute_refusal : List Schema → World → List ℕ → Source → Option PrepareFault
 execute_refusal schemas x name source =

@@ -5,10 +5,11 @@ use Rattle.cf_tree.specs.Keys.{bytes_lt}
 use Rattle.cf_desired.specs.declared.wanted.Wanted.{Wanted}
 use Rattle.cf_effect.specs.Status.{goes_forward}
 use Rattle.cf_effect.specs.World.{StackState}
-use Rattle.cf_plan.specs.Forward.{In, IsDone, plan_before}
+use Rattle.cf_plan.specs.Forward.{IsDone, plan_before}
+use Rattle.cf_tree.specs.Lists.{In}
 use Rattle.cf_prepare.specs.Answer.{TestsAs}
 use Rattle.cf_tree.specs.Lists.{is_among}
-use Rattle.cf_prepare.specs.Refusals.{is_unknown, sooner}
+use Rattle.cf_prepare.specs.Refusals.{is_unknown_type, lesser_wanted}
 use Rattle.cf_prepare.specs.declared.wish.Order.{Order}
 use Rattle.cf_prepare.specs.declared.wish.Order.TheVariants as order
 use Rattle.cf_prepare.specs.declared.wish.PrepareFault.{PrepareFault}
@@ -16,7 +17,7 @@ use Rattle.cf_prepare.specs.declared.wish.PrepareFault.TheVariants as fault
 
 -- the operation can't do this path
 abbrev pub IsStuck : List (List ℕ) → StackState → Wanted → Type 0
-IsStuck kinds s w = IsTrue (goes_forward s.status) × In w (plan_before s).wanted × (IsDone s w.path → ⊥) × IsTrue (is_unknown kinds w)
+IsStuck kinds s w = IsTrue (goes_forward s.status) × In w (plan_before s).wanted × (IsDone s w.path → ⊥) × IsTrue (is_unknown_type kinds w)
 
 -- the first such path in byte order
 abbrev pub IsFirstStuck : List (List ℕ) → StackState → List ℕ → List ℕ → Type 0
@@ -30,15 +31,15 @@ ResumesAs o kinds s (Err (fault.UnknownType path name)) = (o ≡ None) × IsFirs
 ResumesAs o kinds s (Err f) = TestsAs {A = Order} o (λ r. ⊤) (Err f)
 
 -- the same of a test of what is stuck
-abbrev pub GoesOn : {A : Type 0} → List (List ℕ) → StackState → Result A PrepareFault → Type 0
-GoesOn kinds s (Ok u) = (w : Wanted) → IsStuck kinds s w → ⊥
-GoesOn kinds s (Err fault.NoMemory) = ⊤
-GoesOn kinds s (Err (fault.UnknownType path name)) = IsFirstStuck kinds s path name
-GoesOn kinds s (Err f) = ⊥
+abbrev pub IsNotStuck : {A : Type 0} → List (List ℕ) → StackState → Result A PrepareFault → Type 0
+IsNotStuck kinds s (Ok u) = (w : Wanted) → IsStuck kinds s w → ⊥
+IsNotStuck kinds s (Err fault.NoMemory) = ⊤
+IsNotStuck kinds s (Err (fault.UnknownType path name)) = IsFirstStuck kinds s path name
+IsNotStuck kinds s (Err f) = ⊥
 
 -- among what is wanted and still to be done
 abbrev pub is_stuck : List (List ℕ) → List (List ℕ) → Wanted → Bool
-is_stuck kinds done w = is_unknown kinds w && not (is_among w.path done)
+is_stuck kinds done w = is_unknown_type kinds w && not (is_among w.path done)
 
 abbrev pub first_stuck : List (List ℕ) → List (List ℕ) → List Wanted → Option Wanted
-first_stuck kinds done ws = fold sooner None (filter (is_stuck kinds done) ws)
+first_stuck kinds done ws = fold lesser_wanted None (filter (is_stuck kinds done) ws)

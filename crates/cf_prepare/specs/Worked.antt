@@ -39,4 +39,5 @@ WorksBy schemas held source w =
 -- on the stack of a name
 abbrev pub IsWorked : List Schema → World → List ℕ → Source → Worked → Type 0
 IsWorked schemas x name source w =
-    UsesJust (proposal x name source) (seen_proposed schemas x name source) w.imports × (w.changes ≡ set_by (proposed_changes schemas x name source))
+    UsesJust (proposal x name source) (seen_proposed schemas x name source) w.imports
+    × (w.changes ≡ set_by (proposed_changes schemas x name source))

@@ -4,7 +4,7 @@ ghost use Rattle.std.specs.Str.{bytes_eq};
 ghost use Rattle.cf_desired.specs.Seeing.{by_names};
 ghost use Rattle.cf_tree.specs.Keys.{put};
 ghost use Rattle.cf_plan.specs.Accept.{exports_by, exports_of_others};
-ghost use Rattle.cf_prepare.specs.Exported.{is_of};
+ghost use Rattle.cf_prepare.specs.Exported.{is_exported_by};
 
 use cf_export::Export;
 use cf_stacks::World;
@@ -13,7 +13,7 @@ use std::alloc::{AllocError, Global};
 
 /// Whether an export is of a stack, or else of another one.
 fn is_of(export: &Export, name: &Txt, own: bool) -> bool
-    ensures { result ≡ is_of own name.now export.now }
+    ensures { result ≡ is_exported_by own name.now export.now }
 {
     if own {
         *name == export.stack
@@ -31,7 +31,7 @@ fn put_export(
     name: &Txt,
     own: bool,
 ) -> Result<(), AllocError>
-    ensures { IfOk result (λ _. pairs.new ≡ (if is_of own name.now export.now then put export.now.name export.now.value pairs.old else pairs.old)) }
+    ensures { IfOk result (λ _. pairs.new ≡ (if is_exported_by own name.now export.now then put export.now.name export.now.value pairs.old else pairs.old)) }
 {
     if is_of(export, name, own) {
         pairs.insert(
@@ -46,7 +46,7 @@ fn put_export(
 /// The exports of a stack, or else those of the others, with their values: of two of one name the
 /// first counts.
 fn listed(alloc: Global, exports: &[Export], name: &Txt, own: bool) -> Result<Pairs, AllocError>
-    ensures { IfOk result (λ p. p ≡ by_names (map (λ e. (e.name, e.value)) (filter (is_of own name.now) exports.now))) }
+    ensures { IfOk result (λ p. p ≡ by_names (map (λ e. (e.name, e.value)) (filter (is_exported_by own name.now) exports.now))) }
 {
     let mut pairs = Pairs::new(alloc);
     let mut at = exports.len();

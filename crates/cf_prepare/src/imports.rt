@@ -5,7 +5,7 @@ ghost use Rattle.cf_desired.specs.Plan.{plan_of};
 ghost use Rattle.cf_desired.specs.Templates.{templates_of};
 ghost use Rattle.cf_plan.specs.Accept.{with_imports, without_import};
 ghost use Rattle.cf_prepare.specs.Imports.{UsesJust};
-ghost use Rattle.cf_prepare.specs.Leaving.{LeavesOut, LeavesSome, Left};
+ghost use Rattle.cf_prepare.specs.Leaving.{LeavesOut, LeavesSome, HasOnlyUsed};
 
 use crate::same::same_plan;
 use cf_desired::{Plan, Seen, Templates, plan};
@@ -111,7 +111,7 @@ fn leave_unused_out(
 ) -> Result<(), AllocError>
     requires templates { templates.now ≡ templates_of source.old }
     requires flawless { wanted.now.flaws ≡ [] }
-    ensures { IfOk result (λ _. Left seen.now wanted.now source.old source.new) }
+    ensures { IfOk result (λ _. HasOnlyUsed seen.now wanted.now source.old source.new) }
 {
     'rounds: loop {
         if !leave_some_out(alloc, source, templates, seen, wanted)? {

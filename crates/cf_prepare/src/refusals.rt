@@ -3,7 +3,8 @@ ghost use Rattle.std.specs.Prelude.{◌≡◌, ⊤, Some, None, not, find, optio
 ghost use Rattle.cf_tree.specs.Lists.{is_among};
 ghost use Rattle.cf_plan.specs.Follow.{continues_from, deletes_from};
 ghost use Rattle.cf_prepare.specs.Answer.{RefusesAs, TestsAs};
-ghost use Rattle.cf_prepare.specs.Refusals.{deploys_from, if_barred, if_missing, if_not_failed};
+ghost use Rattle.cf_prepare.specs.Refusals.{if_barred, if_missing, if_not_failed};
+ghost use Rattle.cf_plan.specs.Follow.{deploys_from};
 ghost use Rattle.cf_prepare.specs.declared.wish.StackFault.TheVariants as stack;
 ghost use Rattle.cf_prepare.specs.declared.wish.PrepareFault.TheVariants as fault;
 ghost use Rattle.cf_effect.specs.Status.{is_in_progress};

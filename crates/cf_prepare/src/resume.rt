@@ -3,8 +3,9 @@ ghost use Rattle.std.specs.Prelude.{◌≡◌, true, None, IfOk};
 ghost use Rattle.std.specs.Option.{option_copied};
 ghost use Rattle.cf_plan.specs.Done.{AreDone};
 ghost use Rattle.cf_plan.specs.Forward.{plan_before};
-ghost use Rattle.cf_prepare.specs.Refusals.{lane_kinds, resume_refusal};
-ghost use Rattle.cf_prepare.specs.Resuming.{GoesOn, ResumesAs, first_stuck};
+ghost use Rattle.cf_prepare.specs.Refusals.{resume_refusal};
+ghost use Rattle.cf_plan.specs.Follow.{lane_kinds};
+ghost use Rattle.cf_prepare.specs.Resuming.{IsNotStuck, ResumesAs, first_stuck};
 ghost use Rattle.cf_effect.specs.Status.{goes_forward};
 ghost use Rattle.cf_effect.specs.World.{known_stack};
 
@@ -49,7 +50,7 @@ fn test_wanted(
     requires plan { before.now ≡ plan_before stack.now.stack }
     requires done { AreDone stack.now.stack done.now }
     requires forward { goes_forward stack.now.stack.status ≡ true }
-    ensures { GoesOn kinds.now stack.now.stack result }
+    ensures { IsNotStuck kinds.now stack.now.stack result }
 {
     match first_stuck(kinds, done, before.wanted.as_slice()) {
         Some(wanted) => Err(unknown(alloc, &wanted.path, &wanted.kind)),
@@ -60,7 +61,7 @@ fn test_wanted(
 /// The same of a stack whose operation is in its forward phase.
 fn test_forward(alloc: Global, kinds: &Names, stack: &StackState) -> Result<(), PrepareFault>
     requires { goes_forward stack.now.stack.status ≡ true }
-    ensures { GoesOn kinds.now stack.now.stack result }
+    ensures { IsNotStuck kinds.now stack.now.stack result }
 {
     let before = plan_before(alloc, stack)?;
     match paths_done(alloc, stack, &before) {
@@ -90,7 +91,7 @@ fn paths_done(alloc: Global, stack: &StackState, before: &Plan) -> Result<Names,
 
 /// Refuses a path that the operation can't do.
 fn test_stuck(alloc: Global, world: &World, stack: &StackState) -> Result<(), PrepareFault>
-    ensures { GoesOn (lane_kinds world.now.world) stack.now.stack result }
+    ensures { IsNotStuck (lane_kinds world.now.world) stack.now.stack result }
 {
     if !goes_forward(stack.status()) {
         return Ok(());

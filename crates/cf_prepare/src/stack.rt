@@ -4,7 +4,7 @@ ghost use Rattle.std.specs.Option.{option_copied};
 ghost use Rattle.cf_plan.specs.Accept.{creates_from};
 ghost use Rattle.cf_plan.specs.Follow.{continues_from, deletes_from, set_number, updates_from};
 ghost use Rattle.cf_effect.specs.World.{known_stack};
-ghost use Rattle.cf_prepare.specs.Refusals.{deploys_from};
+ghost use Rattle.cf_plan.specs.Follow.{deploys_from};
 
 use cf_entry::Status;
 use cf_stacks::{KeptSet, World};

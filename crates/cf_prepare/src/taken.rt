@@ -7,7 +7,8 @@ ghost use Rattle.cf_change.specs.Changes.{least_of};
 ghost use Rattle.cf_tree.specs.Lists.{is_among};
 ghost use Rattle.cf_plan.specs.Accept.{is_exported_elsewhere, is_taken_away};
 ghost use Rattle.cf_prepare.specs.Answer.{RefusesAs, TestsAs};
-ghost use Rattle.cf_prepare.specs.Refusals.{export_names, if_in_use, if_taken, lost_names, taken_names, twice_in};
+ghost use Rattle.cf_prepare.specs.Refusals.{if_in_use, if_taken, lost_names, taken_names, twice_in};
+ghost use Rattle.cf_desired.specs.Whole.{export_names};
 ghost use Rattle.cf_prepare.specs.declared.wish.StackFault.TheVariants as stack;
 ghost use Rattle.cf_prepare.specs.declared.wish.PrepareFault.TheVariants as fault;
 

@@ -6,7 +6,8 @@ ghost use Rattle.cf_change.specs.declared.held.HeldMap.{HeldMap as Resources};
 ghost use Rattle.cf_desired.specs.Plan.{plan_of};
 ghost use Rattle.cf_desired.specs.Templates.{templates_of};
 ghost use Rattle.cf_prepare.specs.Answer.{TestsAs, first_of};
-ghost use Rattle.cf_prepare.specs.Refusals.{export_names, if_in_use, if_taken, if_unchanged, is_unchanged, proposal, refusals_by, source_refusals};
+ghost use Rattle.cf_prepare.specs.Refusals.{if_in_use, if_taken, if_unchanged, is_unchanged, proposal, refusals_by, source_refusals};
+ghost use Rattle.cf_desired.specs.Whole.{export_names};
 ghost use Rattle.cf_prepare.specs.Worked.{IsMild, IsWorked, WorksBy, changes_over, refusal_over, set_by};
 
 use crate::held::held_of;

@@ -7,7 +7,7 @@ use Rattle.cf_tree.specs.Forms.{Form}
 use Rattle.cf_tree.specs.Keys.{value_at}
 use Rattle.cf_tree.specs.declared.source.Source.{Source}
 use Rattle.cf_tree.specs.declared.template.Out.{Out}
-use Rattle.cf_eval.specs.Knows.{Keeps, KnowsMore}
+use Rattle.cf_eval.specs.Knows.{StaysKnown, KnowsMore}
 use Rattle.cf_eval.specs.Outcome.{Outcome, got, later, bad}
 use Rattle.cf_eval.specs.Scope.{Scope}
 use Rattle.cf_eval.proofs.Knowing.{Stands}
@@ -18,7 +18,7 @@ use Rattle.cf_desired.specs.Seeing.{Seen, export_stop, export_wanted, first_sigh
 use Rattle.cf_desired.specs.Shape.{given_root}
 use Rattle.cf_desired.specs.Stack.{Stack, Verdicts, Sights, flaw_at, stop_in}
 use Rattle.cf_desired.specs.Stays.{SeesMore}
-use Rattle.cf_desired.specs.Valued.{evaluated_at}
+use Rattle.cf_desired.specs.Valued.{member_props}
 use Rattle.cf_desired.specs.Work.{Member, Nesting, Work, Inside, Body, no_work, resource, nested, shut, barred, halted, opened}
 use Rattle.cf_desired.specs.Work as inside
 use Rattle.cf_desired.specs.declared.flaw.Flaw.{Flaw}
@@ -33,7 +33,7 @@ use Rattle.cf_rests.proofs.Rested.{outputs_among, outputs_both, behind_flaws, be
 
 -- an output that had no fault has the name that it is exported by, and a value that was known
 abbrev KeepsOne : WantedOutput → WantedOutput → Type 0
-KeepsOne x y = Keeps x.value y.value × (x.fault ≡ None → y.export ≡ x.export)
+KeepsOne x y = StaysKnown x.value y.value × (x.fault ≡ None → y.export ≡ x.export)
 
 abbrev KeepsEach : List WantedOutput → List WantedOutput → Type 0
 KeepsEach [] [] = ⊤
@@ -60,7 +60,7 @@ first_none (Some x) y h = let no : ⊥ = cc in absurd no
 
 module _ (source : Source) (a b : Seen) (more : SeesMore a b) where
   module _ (s u : Scope) (k : KnowsMore s u) (path : List ℕ) (conds : Verdicts) where
-    value_kept : (x y : Outcome (List ℕ)) → Stands false x y → Keeps (text_known x) (text_known y)
+    value_kept : (x y : Outcome (List ℕ)) → Stands false x y → StaysKnown (text_known x) (text_known y)
     value_kept (got v) y g = ap text_known g
     value_kept later y g = tt
     value_kept (bad w) y g = tt
@@ -105,8 +105,8 @@ module _ (source : Source) (a b : Seen) (more : SeesMore a b) where
     along_kept t conds g h k m n s no_work = tt
     along_kept t conds g h k m n s (resource r w) =
         met_as _ _ _ _
-        (behind_flaws (flaws_of (evaluated_at t.path (over source a b more t conds g m) r)) (met_along source a t.path (over source a b more t conds g) m w))
-        (behind_flaws (flaws_of (evaluated_at t.path (over source a b more t conds h n) r)) (met_along source b t.path (over source a b more t conds h) n w))
+        (behind_flaws (flaws_of (member_props t.path (over source a b more t conds g m) r)) (met_along source a t.path (over source a b more t conds g) m w))
+        (behind_flaws (flaws_of (member_props t.path (over source a b more t conds h n) r)) (met_along source b t.path (over source a b more t conds h) n w))
         (along_kept t conds g h k m n s w)
     along_kept t conds g h k m n s (nested x i w) =
         let knows = scope_knows source a b more t conds g h k m n s in
@@ -155,7 +155,7 @@ none_broken (a_flaw f ∷ ms) h = let no : ⊥ = cc in absurd no
 -- so exports stay, one by one
 abbrev ExportsKeep : List (List ℕ × Option (List ℕ)) → List (List ℕ × Option (List ℕ)) → Type 0
 ExportsKeep [] [] = ⊤
-ExportsKeep (x ∷ xs) (y ∷ ys) = ((y.0 ≡ x.0) × Keeps x.1 y.1) × ExportsKeep xs ys
+ExportsKeep (x ∷ xs) (y ∷ ys) = ((y.0 ≡ x.0) × StaysKnown x.1 y.1) × ExportsKeep xs ys
 ExportsKeep _ _ = ⊥
 
 exports_and : (xs ys vs ws : List (List ℕ × Option (List ℕ))) → ExportsKeep xs ys → ExportsKeep vs ws → ExportsKeep (xs ++ vs) (ys ++ ws)
@@ -164,7 +164,7 @@ exports_and [] (y ∷ ys) vs ws h k = absurd h
 exports_and (x ∷ xs) [] vs ws h k = absurd h
 exports_and (x ∷ xs) (y ∷ ys) vs ws h k = (h.0, exports_and xs ys vs ws h.1 k)
 
-export_kept : (v w : Option (List ℕ)) (e f : Exporting) → f ≡ e → Keeps v w → ExportsKeep (exported_as v e) (exported_as w f)
+export_kept : (v w : Option (List ℕ)) (e f : Exporting) → f ≡ e → StaysKnown v w → ExportsKeep (exported_as v e) (exported_as w f)
 export_kept v w e f g k = subst (λ x. ExportsKeep (exported_as v e) (exported_as w x)) (sym g) (either e) where
   either : (x : Exporting) → ExportsKeep (exported_as v x) (exported_as w x)
   either exporting.Nothing = tt
@@ -184,15 +184,15 @@ same_names [] (y ∷ ys) h = absurd h
 same_names (x ∷ xs) [] h = absurd h
 same_names (x ∷ xs) (y ∷ ys) h = ap (λ n. n ∷ map (λ e. e.0) ys) h.0.0 ∙ ap (λ ns. x.0 ∷ ns) (same_names xs ys h.1)
 
-known_kept : (name : List ℕ) (xs ys : List (List ℕ × Option (List ℕ))) → ExportsKeep xs ys → Keeps (option_and_then (λ v. v) (value_at name xs)) (option_and_then (λ v. v) (value_at name ys))
+known_kept : (name : List ℕ) (xs ys : List (List ℕ × Option (List ℕ))) → ExportsKeep xs ys → StaysKnown (option_and_then (λ v. v) (value_at name xs)) (option_and_then (λ v. v) (value_at name ys))
 known_kept name [] [] h = tt
 known_kept name [] (y ∷ ys) h = absurd h
 known_kept name (x ∷ xs) [] h = absurd h
 known_kept name (x ∷ xs) (y ∷ ys) h =
-    subst (λ n. Keeps (option_and_then (λ v. v) (value_at name (x ∷ xs))) (option_and_then (λ v. v) (cond (bytes_eq name n) (Some y.1) (value_at name ys)))) (sym h.0.0)
+    subst (λ n. StaysKnown (option_and_then (λ v. v) (value_at name (x ∷ xs))) (option_and_then (λ v. v) (cond (bytes_eq name n) (Some y.1) (value_at name ys)))) (sym h.0.0)
     (either (bytes_eq name x.0) (known_kept name xs ys h.1)) where
-      either : (t : Bool) → Keeps (option_and_then (λ v. v) (value_at name xs)) (option_and_then (λ v. v) (value_at name ys))
-          → Keeps (option_and_then (λ v. v) (cond t (Some x.1) (value_at name xs))) (option_and_then (λ v. v) (cond t (Some y.1) (value_at name ys)))
+      either : (t : Bool) → StaysKnown (option_and_then (λ v. v) (value_at name xs)) (option_and_then (λ v. v) (value_at name ys))
+          → StaysKnown (option_and_then (λ v. v) (cond t (Some x.1) (value_at name xs))) (option_and_then (λ v. v) (cond t (Some y.1) (value_at name ys)))
       either true ih = h.0.1
       either false ih = ih
 
@@ -204,7 +204,7 @@ names_stay source shape a b more none =
     exports_kept xs ys (body_kept source a b more (given_root source) (given_root source) (given_self (given_root source)) shape) (none_broken (met_in source a (given_root source) shape) none) in (
       ap (map (λ e. e.0)) (exports_of_outputs source shape b) ∙ same_names (flat_map exported xs) (flat_map exported ys) kept ∙ ap (map (λ e. e.0)) (sym (exports_of_outputs source shape a)),
       λ name.
-          subst (λ es. Keeps (option_and_then (λ v. v) (value_at name (plan_by source shape a).exports)) (option_and_then (λ v. v) (value_at name es))) (sym (exports_of_outputs source shape b))
-          (subst (λ es. Keeps (option_and_then (λ v. v) (value_at name es)) (option_and_then (λ v. v) (value_at name (flat_map exported ys)))) (sym (exports_of_outputs source shape a))
+          subst (λ es. StaysKnown (option_and_then (λ v. v) (value_at name (plan_by source shape a).exports)) (option_and_then (λ v. v) (value_at name es))) (sym (exports_of_outputs source shape b))
+          (subst (λ es. StaysKnown (option_and_then (λ v. v) (value_at name es)) (option_and_then (λ v. v) (value_at name (flat_map exported ys)))) (sym (exports_of_outputs source shape a))
           (known_kept name (flat_map exported xs) (flat_map exported ys) kept)),
     )

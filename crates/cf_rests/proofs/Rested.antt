@@ -17,13 +17,13 @@ use Rattle.cf_graph.specs.Needs.{holds_in, is_parameter, meant}
 use Rattle.cf_desired.specs.Given.{Given, given_in, settings_for}
 use Rattle.cf_desired.specs.Met.{Met, a_stack, an_output, a_flaw, bind_flaw, flaw_met, flaws_of, met_along, met_inside, met_in, offers_flaw, output_at, outputs_wanted, scope_after}
 use Rattle.cf_desired.specs.Names.{pseudo_of, stack_id}
-use Rattle.cf_desired.specs.Plan.{export_of, exported, outputs_in}
-use Rattle.cf_desired.specs.Rests.{AllAgree, maybe_mentions}
+use Rattle.cf_desired.specs.Plan.{export_met, exported, outputs_in}
+use Rattle.cf_desired.specs.Rests.{SeesAllSame, maybe_mentions}
 use Rattle.cf_desired.specs.Seeing.{Seen, by_names, first_sights, is_output_made, nested_sight, outputs_inside, own_ids, sights_after}
 use Rattle.cf_desired.specs.Shape.{StandsFor, first_stands, given_root, paths_inside, shape_of, stood_for, those}
 use Rattle.cf_desired.specs.Stack.{Stack, Verdicts, Sights}
 use Rattle.cf_desired.specs.Stays.{AgreeAt}
-use Rattle.cf_desired.specs.Valued.{evaluated_at}
+use Rattle.cf_desired.specs.Valued.{member_props}
 use Rattle.cf_desired.specs.Work.{Member, Nesting, Work, Inside, Body, Shape, no_work, resource, nested, shut, barred, halted, opened}
 use Rattle.cf_desired.specs.Work as inside
 use Rattle.cf_desired.specs.declared.flaw.Flaw.{Flaw}
@@ -33,15 +33,15 @@ use Rattle.cf_desired.proofs.Mentions.{first_agree, second_agree}
 use Rattle.cf_desired.proofs.NeedsMatter.{SightsRest, over, first_rest, put_rest, all_agree, given_rest, inside_outputs}
 use Rattle.cf_desired.proofs.OrderNeeds.{among_first, among_order, among_second, either_so}
 use Rattle.cf_desired.proofs.OutputRest.{output_rests}
-use Rattle.cf_rests.specs.Outputs.{Resting, ExportsAreOutputs, ExportsMatter, OutputsMatter, SameEach, named_by, output_mentions, output_named, output_needs, output_of, outputs_resting, resting, resting_along, resting_in, resting_inside, stands_after}
+use Rattle.cf_rests.specs.Outputs.{Resting, ExportsAreOutputs, ExportsMatter, OutputsMatter, SameEach, ids_mentioned, output_mentions, output_named, output_needs, output_met, outputs_resting, resting, resting_along, resting_in, resting_inside, stands_after}
 
 -- outputs among what is met
 abbrev pub outputs_among : List Met → List WantedOutput
-outputs_among ms = flat_map output_of ms
+outputs_among ms = flat_map output_met ms
 
 pub outputs_both : (xs ys : List Met) → outputs_among (xs ++ ys) ≡ outputs_among xs ++ outputs_among ys
 outputs_both [] ys = refl
-outputs_both (x ∷ xs) ys = ap (λ l. output_of x ++ l) (outputs_both xs ys) ∙ sym (append_assoc (output_of x) (outputs_among xs) (outputs_among ys))
+outputs_both (x ∷ xs) ys = ap (λ l. output_met x ++ l) (outputs_both xs ys) ∙ sym (append_assoc (output_met x) (outputs_among xs) (outputs_among ys))
 
 none_flaws : (fs : List Flaw) → outputs_among (map (λ f. a_flaw f) fs) ≡ []
 none_flaws [] = refl
@@ -113,17 +113,17 @@ module _ (source : Source) (a b : Seen) where
     needs_for o = (resting t conds around stands o).needs
 
     needs_around : (o : Out) → In (needs_for o) around
-    needs_around o q i = among_order q (stood_for stands (named_by t.template conds o) ++ around) (among_second q (stood_for stands (named_by t.template conds o)) around i)
+    needs_around o q i = among_order q (stood_for stands (ids_mentioned t.template conds o) ++ around) (among_second q (stood_for stands (ids_mentioned t.template conds o)) around i)
 
-    needs_named : (o : Out) (id : List ℕ) → is_among id (named_by t.template conds o) ≡ true → In (needs_for o) (those (value_at id stands))
+    needs_named : (o : Out) (id : List ℕ) → is_among id (ids_mentioned t.template conds o) ≡ true → In (needs_for o) (those (value_at id stands))
     needs_named o id i q j =
-        among_order q (stood_for stands (named_by t.template conds o) ++ around)
-        (among_first q (stood_for stands (named_by t.template conds o)) around (stood stands id (named_by t.template conds o) i q j))
+        among_order q (stood_for stands (ids_mentioned t.template conds o) ++ around)
+        (among_first q (stood_for stands (ids_mentioned t.template conds o)) around (stood stands id (ids_mentioned t.template conds o) i q j))
 
-    all_same : (o : Out) → AgreeAt (needs_for o) a b → AllAgree (settings_for t.template.params g) m n (output_mentions conds o)
+    all_same : (o : Out) → AgreeAt (needs_for o) a b → SeesAllSame (settings_for t.template.params g) m n (output_mentions conds o)
     all_same o agree =
         all_agree source a b t.template g (needs_for o) stands m n k agree (output_mentions conds o)
-        (covers_named t.template (named_by t.template conds o) stands (needs_for o) (needs_named o) (output_mentions conds o) (λ id i. i))
+        (covers_named t.template (ids_mentioned t.template conds o) stands (needs_for o) (needs_named o) (output_mentions conds o) (λ id i. i))
 
     output_same : (o : Out) → AgreeAt (needs_for o) a b → output_at t.path conds (over source a b t conds h n) o ≡ output_at t.path conds (over source a b t conds g m) o
     output_same o agree =
@@ -159,8 +159,8 @@ module _ (source : Source) (a b : Seen) where
     along_same t conds needs g h same stands m n no_work c k = tt
     along_same t conds needs g h same stands m n (resource r w) c k =
         met_as (resting_along w) _ _ _ _
-        (behind_flaws (flaws_of (evaluated_at t.path (over source a b t conds g m) r)) (met_along source a t.path (over source a b t conds g) m w))
-        (behind_flaws (flaws_of (evaluated_at t.path (over source a b t conds h n) r)) (met_along source b t.path (over source a b t conds h) n w))
+        (behind_flaws (flaws_of (member_props t.path (over source a b t conds g m) r)) (met_along source a t.path (over source a b t conds g) m w))
+        (behind_flaws (flaws_of (member_props t.path (over source a b t conds h n) r)) (met_along source b t.path (over source a b t conds h) n w))
         (along_same t conds needs g h same stands m n w c.1 k)
     along_same t conds needs g h same stands m n (nested x i w) c k =
         met_as (resting_inside x.needs i ++ resting_along w) _ _ _ _
@@ -225,7 +225,7 @@ pub exports_rest : ExportsMatter
 exports_rest source before a b = body_same source a b [] (shape_of source before) (shape_covered source before) (given_root source) (given_root source) (λ k. refl)
 
 -- exports are those of outputs
-exports_met : (ms : List Met) → flat_map export_of ms ≡ flat_map exported (outputs_among ms)
+exports_met : (ms : List Met) → flat_map export_met ms ≡ flat_map exported (outputs_among ms)
 exports_met [] = refl
 exports_met (a_stack n f ∷ ms) = exports_met ms
 exports_met (an_output o ∷ ms) = ap (λ l. exported o ++ l) (exports_met ms)

@@ -11,7 +11,7 @@ use Rattle.cf_desired.specs.Plan.{at_path, fault_at, inner_of, stacks_met, wante
 use Rattle.cf_desired.specs.Seeing.{Seen, first_sights, nested_sight, outputs_inside, own_ids}
 use Rattle.cf_desired.specs.Shape.{given_root}
 use Rattle.cf_desired.specs.Stack.{Sights, Scoping, scoping}
-use Rattle.cf_desired.specs.Valued.{evaluated_at, nestings_along, nestings_inside, nestings_in, valued_in}
+use Rattle.cf_desired.specs.Valued.{member_props, nestings_along, nestings_inside, nestings_in, valued_in}
 use Rattle.cf_desired.specs.Whole.{is_wanted_at}
 use Rattle.cf_desired.specs.Work.{Member, Nesting, Work, Inside, Body, Shape, no_work, resource, nested, shut, barred, halted, opened}
 use Rattle.cf_desired.specs.Work as inside
@@ -93,7 +93,7 @@ module _ (source : Source) (seen : Seen) where
   mutual
     along_stacks : (path : List ℕ) (over : Scoping) (sights : Sights) (w : Work) → stacks_in (met_along source seen path over sights w) ≡ nestings_along w
     along_stacks path over sights no_work = refl
-    along_stacks path over sights (resource m w) = none_flaws (flaws_of (evaluated_at path (over sights) m)) (met_along source seen path over sights w) ∙ along_stacks path over sights w
+    along_stacks path over sights (resource m w) = none_flaws (flaws_of (member_props path (over sights) m)) (met_along source seen path over sights w) ∙ along_stacks path over sights w
     along_stacks path over sights (nested n i w) =
         let behind = nested_sight source n (outputs_inside source seen (over sights) i) sights in
         ap (λ l. n ∷ l)

@@ -36,15 +36,16 @@ stands_after stands (nested n i w) = stands_after (put n.id (paths_inside i ++ n
 abbrev pub output_mentions : Verdicts → Out → List Mention
 output_mentions conds o = mentions_of (holds_in conds) o.value ++ maybe_mentions conds o.export
 
-abbrev pub named_by : Template → Verdicts → Out → List (List ℕ)
-named_by t conds o = filter_map (meant t) (output_mentions conds o)
+abbrev pub ids_mentioned : Template → Verdicts → Out → List (List ℕ)
+ids_mentioned t conds o = filter_map (meant t) (output_mentions conds o)
 
 abbrev pub resting : Stack → Verdicts → List (List ℕ) → StandsFor → Out → Resting
-resting t conds around stands o = record { name = o.name; needs = in_order (stood_for stands (named_by t.template conds o) ++ around) }
+resting t conds around stands o = record { name = o.name; needs = in_order (stood_for stands (ids_mentioned t.template conds o) ++ around) }
 
 -- the outputs of a template that are made
 abbrev pub outputs_resting : Stack → Verdicts → List (List ℕ) → Work → List Resting
-outputs_resting t conds around w = map (resting t conds around (stands_after (first_stands t (own_ids w)) w)) (filter (is_output_made conds) t.template.outputs)
+outputs_resting t conds around w =
+    map (resting t conds around (stands_after (first_stands t (own_ids w)) w)) (filter (is_output_made conds) t.template.outputs)
 
 -- All outputs of a shape in the order in which they are met: those of a nested stack in its place, those of the root last.
 abbrev mutual
@@ -71,12 +72,12 @@ abbrev pub output_needs : Shape → List ℕ → List (List ℕ)
 output_needs shape name = option_map_or (λ r. r.needs) (find (λ r. bytes_eq name r.name) (root_resting shape)) []
 
 -- all outputs as they are met over what is seen
-abbrev pub output_of : Met → List WantedOutput
-output_of (an_output o) = o ∷ []
-output_of _ = []
+abbrev pub output_met : Met → List WantedOutput
+output_met (an_output o) = o ∷ []
+output_met _ = []
 
 abbrev pub all_outputs : Source → Shape → Seen → List WantedOutput
-all_outputs source shape seen = flat_map output_of (met_in source seen (given_root source) shape)
+all_outputs source shape seen = flat_map output_met (met_in source seen (given_root source) shape)
 
 -- two lists of outputs are of the same outputs, one by one, each equal where a and b agree on what it rests on
 abbrev pub SameEach : Seen → Seen → List Resting → List WantedOutput → List WantedOutput → Type 0
@@ -91,14 +92,18 @@ output_named name os = find (λ o. bytes_eq name o.name) os
 abbrev pub OutputsMatter : Type 0
 OutputsMatter =
     (source : Source) (before a b : Seen) (name : List ℕ) → AgreeAt (output_needs (shape_of source before) name) a b
-    → output_named name (plan_by source (shape_of source before) b).outputs ≡ output_named name (plan_by source (shape_of source before) a).outputs
+    → output_named name (plan_by source (shape_of source before) b).outputs
+    ≡ output_named name (plan_by source (shape_of source before) a).outputs
 
 -- All outputs, nested ones as well; and the exports of a plan are theirs, one after another. So an entry of the exports is the
 -- same where a and b agree on what its output rests on.
 abbrev pub ExportsMatter : Type 0
 ExportsMatter =
     (source : Source) (before a b : Seen)
-    → SameEach a b (resting_in [] (shape_of source before)) (all_outputs source (shape_of source before) a) (all_outputs source (shape_of source before) b)
+    → SameEach a b (resting_in [] (shape_of source before)) (all_outputs source (shape_of source before) a)
+    (all_outputs source (shape_of source before) b)
 
 abbrev pub ExportsAreOutputs : Type 0
-ExportsAreOutputs = (source : Source) (shape : Shape) (seen : Seen) → (plan_by source shape seen).exports ≡ flat_map exported (all_outputs source shape seen)
+ExportsAreOutputs =
+    (source : Source) (shape : Shape) (seen : Seen) → (plan_by source shape seen).exports
+    ≡ flat_map exported (all_outputs source shape seen)

@@ -7,7 +7,7 @@ use Rattle.std.proofs.lemmas.List.Folds.{list_any-append}
 use Rattle.std.proofs.lemmas.Option.{none-some}
 use Rattle.std.proofs.lemmas.Slice.Eq.{bytes_eq-Decides}
 use Rattle.cf_schema.specs.declared.described.Schema.{Schema}
-use Rattle.cf_schema.specs.Kinds.{found, are_distinct}
+use Rattle.cf_schema.specs.Kinds.{found, kinds_distinct}
 
 unlike : (k l : List ℕ) → bytes_eq k l ≡ false → bytes_eq l k ≡ false
 unlike k l h = false_from _ (λ e. true≢false (sym ((bytes_eq-Decides k l).1 (sym ((bytes_eq-Decides l k).0 e))) ∙ h))
@@ -24,10 +24,10 @@ kept : (a b : Bool) (x y : Bool) → x ≡ false → (not a && b) ≡ true → y
 kept true b x y e h k = absurd (true≢false (sym h))
 kept false b x y e h k = rw e k
 
-pub distinct_more : (s : Schema) (ss : List Schema) → are_distinct ss ≡ true → found s.kind ss ≡ None → are_distinct (ss ++ s ∷ []) ≡ true
+pub distinct_more : (s : Schema) (ss : List Schema) → kinds_distinct ss ≡ true → found s.kind ss ≡ None → kinds_distinct (ss ++ s ∷ []) ≡ true
 distinct_more s [] d f = refl
 distinct_more s (t ∷ ts) d f =
     let gone = missed (bytes_eq s.kind t.kind) t (found s.kind ts) f in
-    let earlier = distinct_more s ts (second_so (not (list_any (λ u. bytes_eq t.kind u.kind) ts)) (are_distinct ts) d) gone.1 in
+    let earlier = distinct_more s ts (second_so (not (list_any (λ u. bytes_eq t.kind u.kind) ts)) (kinds_distinct ts) d) gone.1 in
     rw (list_any-append (λ (u : Schema). bytes_eq t.kind u.kind) ts (s ∷ []))
-    (kept (list_any (λ u. bytes_eq t.kind u.kind) ts) (are_distinct ts) (bytes_eq t.kind s.kind) _ (unlike s.kind t.kind gone.0) d earlier)
+    (kept (list_any (λ u. bytes_eq t.kind u.kind) ts) (kinds_distinct ts) (bytes_eq t.kind s.kind) _ (unlike s.kind t.kind gone.0) d earlier)

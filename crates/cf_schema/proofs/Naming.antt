@@ -4,7 +4,7 @@ use Rattle.std.proofs.Math.Seq.{drop-cons}
 use Rattle.std.specs.Str.{bytes_eq}
 use Rattle.cf_schema.specs.declared.fault.SchemaFault.{SchemaFault}
 use Rattle.cf_schema.specs.declared.fault.SchemaFault.TheVariants.{BadPointer}
-use Rattle.cf_schema.specs.Reading.{and_then, named_by}
+use Rattle.cf_schema.specs.Reading.{and_then, properties_named}
 
 front : (xs : List (List ℕ)) (i : ℕ) (x : List ℕ) → i < length xs → x ≡ get_or xs i x → drop i xs ≡ x ∷ drop (i + 1) xs
 front xs i x h e = rw (add-one, drop-cons xs i x h) (ap (λ y. y ∷ drop (suc i) xs) (sym e))
@@ -16,7 +16,7 @@ pub passed : (t : List ℕ → Bool) (xs : List (List ℕ)) (i : ℕ) (x : List 
 passed t xs i x h e k = rw (front xs i x h e, k) refl
 
 pub named_not : (spelled : List ℕ → List ℕ) (props : List (List ℕ)) (t : List ℕ) (ts found : List (List ℕ)) → find (λ p. bytes_eq t (spelled p)) props ≡ None
-    → and_then (named_by spelled props (t ∷ ts)) (λ ps. Ok (found ++ ps)) ≡ Err (BadPointer t)
+    → and_then (properties_named spelled props (t ∷ ts)) (λ ps. Ok (found ++ ps)) ≡ Err (BadPointer t)
 named_not spelled props t ts found e = rw e refl
 
 behind : (found : List (List ℕ)) (p : List ℕ) (r : Result (List (List ℕ)) SchemaFault)
@@ -25,5 +25,5 @@ behind found p (Ok ps) = ap Ok (sym (append_assoc found (p ∷ []) ps))
 behind found p (Err e) = refl
 
 pub named_more : (spelled : List ℕ → List ℕ) (props : List (List ℕ)) (t : List ℕ) (ts found : List (List ℕ)) (p : List ℕ) → find (λ p. bytes_eq t (spelled p)) props ≡ Some p
-    → and_then (named_by spelled props (t ∷ ts)) (λ ps. Ok (found ++ ps)) ≡ and_then (named_by spelled props ts) (λ ps. Ok ((found ++ p ∷ []) ++ ps))
-named_more spelled props t ts found p e = rw e (behind found p (named_by spelled props ts))
+    → and_then (properties_named spelled props (t ∷ ts)) (λ ps. Ok (found ++ ps)) ≡ and_then (properties_named spelled props ts) (λ ps. Ok ((found ++ p ∷ []) ++ ps))
+named_more spelled props t ts found p e = rw e (behind found p (properties_named spelled props ts))

@@ -1,4 +1,4 @@
--- The faults of reading a schema, and what an answer with one says.
+-- The faults of reading a schema, and what an answer with one says (the numbers are this project's own).
 use Rattle.std.specs.Prelude.{◌≡◌, ℕ, List, None, Result, Ok, Err, ⊤}
 use Rattle.cf_schema.specs.declared.fault.SchemaFault.{SchemaFault}
 use Rattle.cf_schema.specs.declared.fault.SchemaFault.TheVariants.{NotJson, Missing, WrongShape, BadPointer, NoMemory}
@@ -8,9 +8,9 @@ abbrev pub no_memory : SchemaFault
 no_memory = NoMemory
 
 -- the fault is the one that is told, or memory was not there
-abbrev pub Faults : SchemaFault → SchemaFault → Type 0
-Faults told NoMemory = ⊤
-Faults told e = told ≡ e
+abbrev pub SchemaFaults : SchemaFault → SchemaFault → Type 0
+SchemaFaults told NoMemory = ⊤
+SchemaFaults told e = told ≡ e
 
 -- the answer is the one that is told, value and fault alike, or memory was not there
 abbrev pub Reads : {A : Type 0} → Result A SchemaFault → Result A SchemaFault → Type 0

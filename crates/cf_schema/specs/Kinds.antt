@@ -9,8 +9,8 @@ abbrev pub found : List ℕ → List Schema → Option Schema
 found kind ss = find (λ s. bytes_eq kind s.kind) ss
 
 -- no two schemas are of one type
-abbrev pub are_distinct : List Schema → Bool
-are_distinct = all_differ (λ s t. bytes_eq s.kind t.kind)
+abbrev pub kinds_distinct : List Schema → Bool
+kinds_distinct = all_differ (λ s t. bytes_eq s.kind t.kind)
 
 -- the schemas, and behind them s where none is of its type
 abbrev pub with_kind : Schema → List Schema → List Schema

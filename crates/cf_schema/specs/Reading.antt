@@ -20,16 +20,16 @@ abbrev pub texts_in : Items → Option (List (List ℕ))
 texts_in no_items = Some []
 texts_in (item d ds) = option_and_then (λ t. option_map (λ ts. t ∷ ts) (texts_in ds)) (as_str d)
 
-abbrev pub texts_of : Data → Option (List (List ℕ))
-texts_of d = option_and_then texts_in (as_array d)
+abbrev pub listed_texts : Data → Option (List (List ℕ))
+listed_texts d = option_and_then texts_in (as_array d)
 
 -- the names of an object's members
 abbrev pub names_in : Members → List (List ℕ)
 names_in no_members = []
 names_in (member k d ms) = k ∷ names_in ms
 
-abbrev pub names_of : Data → Option (List (List ℕ))
-names_of d = option_map names_in (as_object d)
+abbrev pub member_names : Data → Option (List (List ℕ))
+member_names d = option_map names_in (as_object d)
 
 -- a member's value, where it is of its kind
 abbrev pub shaped : {A : Type 0} → List ℕ → Option A → Result A SchemaFault
@@ -43,7 +43,7 @@ needed kind name None = Err (Missing name)
 
 -- a list of texts that may be absent
 abbrev pub listed : List ℕ → Option Data → Result (List (List ℕ)) SchemaFault
-listed name (Some d) = shaped name (texts_of d)
+listed name (Some d) = shaped name (listed_texts d)
 listed name None = Ok []
 
 -- a byte of a name in a pointer (RFC 6901): `~0` stands for `~`, and `~1` for `/`
@@ -51,13 +51,13 @@ abbrev pub escape_of : ℕ → List ℕ
 escape_of b = if b == 126 then codes "~0" else if b == 47 then codes "~1" else b ∷ []
 
 -- a name in a pointer
-abbrev pub escaped : List ℕ → List ℕ
-escaped [] = []
-escaped (b ∷ bs) = escape_of b ++ escaped bs
+abbrev pub escaped_name : List ℕ → List ℕ
+escaped_name [] = []
+escaped_name (b ∷ bs) = escape_of b ++ escaped_name bs
 
 -- the pointer to a property
 abbrev pub pointer_to : List ℕ → List ℕ
-pointer_to name = codes "/properties/" ++ escaped name
+pointer_to name = codes "/properties/" ++ escaped_name name
 
 -- the property that a text names, before those of the later texts
 abbrev pub before : List ℕ → Option (List ℕ) → Result (List (List ℕ)) SchemaFault → Result (List (List ℕ)) SchemaFault
@@ -65,35 +65,47 @@ before text None later = Err (BadPointer text)
 before text (Some p) later = and_then later (λ ps. Ok (p ∷ ps))
 
 -- the properties that texts name, each spelled as `spelled` has it; or the first text that names none
-abbrev pub named_by : (List ℕ → List ℕ) → List (List ℕ) → List (List ℕ) → Result (List (List ℕ)) SchemaFault
-named_by spelled props [] = Ok []
-named_by spelled props (t ∷ ts) = before t (find (λ p. bytes_eq t (spelled p)) props) (named_by spelled props ts)
+abbrev pub properties_named : (List ℕ → List ℕ) → List (List ℕ) → List (List ℕ) → Result (List (List ℕ)) SchemaFault
+properties_named spelled props [] = Ok []
+properties_named spelled props (t ∷ ts) = before t (find (λ p. bytes_eq t (spelled p)) props) (properties_named spelled props ts)
 
 -- the members of a schema, and what each says
-abbrev pub kind_of : Data → Result (List ℕ) SchemaFault
-kind_of d = needed as_str (codes "typeName") (get (codes "typeName") d)
+abbrev pub kind_in : Data → Result (List ℕ) SchemaFault
+kind_in d = needed as_str (codes "typeName") (get (codes "typeName") d)
 
-abbrev pub props_of : Data → Result (List (List ℕ)) SchemaFault
-props_of d = needed names_of (codes "properties") (get (codes "properties") d)
+abbrev pub props_declared : Data → Result (List (List ℕ)) SchemaFault
+props_declared d = needed member_names (codes "properties") (get (codes "properties") d)
 
 abbrev pub identifier_of : List (List ℕ) → Data → Result (List (List ℕ)) SchemaFault
-identifier_of props d = and_then (needed texts_of (codes "primaryIdentifier") (get (codes "primaryIdentifier") d)) (named_by pointer_to props)
+identifier_of props d =
+    and_then (needed listed_texts (codes "primaryIdentifier") (get (codes "primaryIdentifier") d)) (properties_named pointer_to props)
 
 abbrev pub required_of : List (List ℕ) → Data → Result (List (List ℕ)) SchemaFault
-required_of props d = and_then (listed (codes "required") (get (codes "required") d)) (named_by (λ p. p) props)
+required_of props d = and_then (listed (codes "required") (get (codes "required") d)) (properties_named (λ p. p) props)
 
 abbrev pub pointers_of : List ℕ → List (List ℕ) → Data → Result (List (List ℕ)) SchemaFault
-pointers_of name props d = and_then (listed name (get name d)) (named_by pointer_to props)
+pointers_of name props d = and_then (listed name (get name d)) (properties_named pointer_to props)
 
 -- the schema that an object says, its members in the order in which they are refused
-abbrev pub fields_of : Data → Result Schema SchemaFault
-fields_of d =
-    and_then (kind_of d) (λ kind. and_then (props_of d) (λ props. and_then (identifier_of props d) (λ identifier. and_then (required_of props d) (λ required.
-    and_then (pointers_of (codes "createOnlyProperties") props d) (λ create_only. and_then (pointers_of (codes "conditionalCreateOnlyProperties") props d) (λ conditional. and_then (pointers_of (codes "readOnlyProperties") props d) (λ read_only.
-    Ok (record { kind = kind; props = props; required = required; create_only = create_only; conditional = conditional; read_only = read_only; identifier = identifier }))))))))
+abbrev pub schema_fields : Data → Result Schema SchemaFault
+schema_fields d =
+    and_then (kind_in d) (λ kind. and_then (props_declared d)
+    (λ props. and_then (identifier_of props d) (λ identifier. and_then (required_of props d) (λ required.
+    and_then (pointers_of (codes "createOnlyProperties") props d)
+    (λ create_only. and_then (pointers_of (codes "conditionalCreateOnlyProperties") props d)
+    (λ conditional. and_then (pointers_of (codes "readOnlyProperties") props d) (λ read_only.
+    Ok (record {
+      kind = kind;
+      props = props;
+      required = required;
+      create_only = create_only;
+      conditional = conditional;
+      read_only = read_only;
+      identifier = identifier;
+    }))))))))
 
 abbrev pub schema_of : Data → Result Schema SchemaFault
-schema_of (object ms) = fields_of (object ms)
+schema_of (object ms) = schema_fields (object ms)
 schema_of d = Err (WrongShape [])
 
 -- the schema that bytes are, or the first fault

@@ -15,13 +15,13 @@ pub struct Schemas {
 impl Model for Schemas {
     ghost use Rattle.std.specs.Prelude.{List, IsTrue};
     ghost use Rattle.cf_schema.specs.declared.described.Schema.{Schema};
-    ghost use Rattle.cf_schema.specs.Kinds.{are_distinct};
+    ghost use Rattle.cf_schema.specs.Kinds.{kinds_distinct};
 
     ghost Value = { List Schema };
 
     ghost view = { λ s. s.items.items };
 
-    ghost invariant = { λ s. IsTrue (are_distinct s.items.items) };
+    ghost invariant = { λ s. IsTrue (kinds_distinct s.items.items) };
 }
 
 impl Schemas {

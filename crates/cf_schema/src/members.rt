@@ -1,8 +1,8 @@
 ghost use Rattle.std.specs.Prelude.{◌≡◌, IfOk};
 ghost use Rattle.serde_json.specs.Find.{as_str, get};
 ghost use Rattle.serde_json.specs.View.{items_view, members_view, view};
-ghost use Rattle.cf_schema.specs.Fault.{Faults, Reads};
-ghost use Rattle.cf_schema.specs.Reading.{identifier_of, listed, names_in, names_of, needed, pointers_of, required_of, shaped, texts_in, texts_of};
+ghost use Rattle.cf_schema.specs.Fault.{SchemaFaults, Reads};
+ghost use Rattle.cf_schema.specs.Reading.{identifier_of, listed, names_in, member_names, needed, pointers_of, required_of, shaped, texts_in, listed_texts};
 
 use crate::fault::SchemaFault;
 use crate::pointers::{Spelling, properties};
@@ -11,7 +11,7 @@ use serde_json::{Map, Value};
 use std::alloc::{AllocError, Global};
 
 fn missing(alloc: Global, name: &str) -> SchemaFault
-    ensures { Faults (SchemaFault.Missing name.now) result }
+    ensures { SchemaFaults (SchemaFault.Missing name.now) result }
 {
     match Txt::from_str(alloc, name) {
         Ok(name) => SchemaFault::Missing { name },
@@ -20,7 +20,7 @@ fn missing(alloc: Global, name: &str) -> SchemaFault
 }
 
 pub(crate) fn wrong_shape(alloc: Global, name: &str) -> SchemaFault
-    ensures { Faults (SchemaFault.WrongShape name.now) result }
+    ensures { SchemaFaults (SchemaFault.WrongShape name.now) result }
 {
     match Txt::from_str(alloc, name) {
         Ok(name) => SchemaFault::WrongShape { name },
@@ -43,7 +43,7 @@ pub(crate) fn text_member(alloc: Global, root: &Value, name: &str) -> Result<Txt
 
 /// An object that every schema has, and of which the names alone are read.
 pub(crate) fn names_member(alloc: Global, root: &Value, name: &str) -> Result<Names, SchemaFault>
-    ensures { Reads (needed names_of name.now (get name.now (view root.now))) result }
+    ensures { Reads (needed member_names name.now (get name.now (view root.now))) result }
 {
     match root.get(name) {
         Some(value) => match value.as_object() {
@@ -102,7 +102,7 @@ pub(crate) fn pointers_member(
 }
 
 fn needed_list(alloc: Global, root: &Value, name: &str) -> Result<Names, SchemaFault>
-    ensures { Reads (needed texts_of name.now (get name.now (view root.now))) result }
+    ensures { Reads (needed listed_texts name.now (get name.now (view root.now))) result }
 {
     match root.get(name) {
         Some(value) => list_from(alloc, value, name),
@@ -120,7 +120,7 @@ fn list(alloc: Global, root: &Value, name: &str) -> Result<Names, SchemaFault>
 }
 
 fn list_from(alloc: Global, value: &Value, name: &str) -> Result<Names, SchemaFault>
-    ensures { Reads (shaped name.now (texts_of (view value.now))) result }
+    ensures { Reads (shaped name.now (listed_texts (view value.now))) result }
 {
     match value.as_array() {
         Some(items) => texts(alloc, items, name),

@@ -2,9 +2,9 @@ ghost use Rattle.std.specs.Prelude.{◌≡◌, find, option_map};
 ghost use Rattle.std.specs.Option.{option_copied};
 ghost use Rattle.std.specs.Str.{bytes_eq};
 ghost use Rattle.cf_schema.specs.Fault.{Reads};
-ghost use Rattle.cf_schema.specs.Past.{IsPast};
-ghost use Rattle.cf_schema.specs.Spelling.{spelled};
-ghost use Rattle.cf_schema.specs.Reading.{escape_of, escaped, named_by, pointer_to};
+ghost use Rattle.cf_schema.specs.Past.{IsBehind};
+ghost use Rattle.cf_schema.specs.Spelling.{spelled_as};
+ghost use Rattle.cf_schema.specs.Reading.{escape_of, escaped_name, properties_named, pointer_to};
 
 use crate::fault::SchemaFault;
 use cf_tree::{Names, Txt};
@@ -27,7 +27,7 @@ pub(crate) fn properties(
     props: &Names,
     texts: Names,
 ) -> Result<Names, SchemaFault>
-    ensures { Reads (named_by (spelled spelling) props.now texts) result }
+    ensures { Reads (properties_named (spelled_as spelling) props.now texts) result }
 {
     let mut found = Names::new(alloc);
     for text in texts.into_vec() {
@@ -41,7 +41,7 @@ pub(crate) fn properties(
 
 #[tactic(auto, using(crate::proofs::Naming::found_here, crate::proofs::Naming::passed))]
 fn property<'a>(spelling: Spelling, props: &'a [Txt], text: &str) -> Option<&'a Txt>
-    ensures { option_copied result ≡ find (λ p. bytes_eq text.now (spelled spelling p)) props.now }
+    ensures { option_copied result ≡ find (λ p. bytes_eq text.now (spelled_as spelling p)) props.now }
 {
     for property in props {
         if is_spelled(spelling, text, property.as_str()) {
@@ -52,7 +52,7 @@ fn property<'a>(spelling: Spelling, props: &'a [Txt], text: &str) -> Option<&'a 
 }
 
 fn is_spelled(spelling: Spelling, text: &str, property: &str) -> bool
-    ensures { result ≡ bytes_eq text.now (spelled spelling property.now) }
+    ensures { result ≡ bytes_eq text.now (spelled_as spelling property.now) }
 {
     match spelling {
         Spelling::Name => text == property,
@@ -73,7 +73,7 @@ fn is_pointer_to(text: &str, property: &str) -> bool
 // Whether a name in a pointer is this property's.
 #[tactic(auto, using(crate::proofs::Spelled::spelled_on, crate::proofs::Spelled::spelled_otherwise))]
 fn is_escaped(text: &[u8], property: &[u8]) -> bool
-    ensures { result ≡ bytes_eq text.now (escaped property.now) }
+    ensures { result ≡ bytes_eq text.now (escaped_name property.now) }
 {
     let mut rest = text;
     for byte in property {
@@ -87,7 +87,7 @@ fn is_escaped(text: &[u8], property: &[u8]) -> bool
 
 // What follows a byte of a property's name.
 fn past(text: &[u8], byte: u8) -> Option<&[u8]>
-    ensures { IsPast (escape_of byte) text.now (option_map (λ rest. rest.now) result) }
+    ensures { IsBehind (escape_of byte) text.now (option_map (λ rest. rest.now) result) }
 {
     match byte {
         b'~' => text.strip_prefix(b"~0"),

@@ -2,7 +2,7 @@ ghost use Rattle.std.specs.Prelude.{◌≡◌, Some, Ok, IfOk, IfErr};
 ghost use Rattle.serde_json.specs.View.{view};
 ghost use Rattle.cf_schema.specs.Fault.{IsJsonFault, Reads};
 ghost use Rattle.cf_schema.specs.Json.{json_of};
-ghost use Rattle.cf_schema.specs.Reading.{fields_of, schema_in, schema_of};
+ghost use Rattle.cf_schema.specs.Reading.{schema_fields, schema_in, schema_of};
 
 use crate::described::Schema;
 use crate::fault::SchemaFault;
@@ -57,7 +57,7 @@ fn schema_from(alloc: Global, root: &Value) -> Result<Schema, SchemaFault>
 }
 
 fn fields(alloc: Global, root: &Value) -> Result<Schema, SchemaFault>
-    ensures { Reads (fields_of (view root.now)) result }
+    ensures { Reads (schema_fields (view root.now)) result }
 {
     let kind = text_member(alloc, root, "typeName")?;
     let props = names_member(alloc, root, "properties")?;

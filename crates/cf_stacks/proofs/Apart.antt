@@ -32,7 +32,7 @@ use Rattle.cf_effect.specs.Words.{has_physical, has_token, is_create_at, pending
 use Rattle.cf_effect.specs.Calls.{is_restore, new_call}
 use Rattle.cf_effect.specs.End.{ended_effect, turned_effect}
 use Rattle.cf_effect.specs.Reply.{answered, changing, intending, keeping, keeping_known, keeping_unknown, replied, updating}
-use Rattle.cf_stacks.specs.Apart.{AreApart, IsNext, StayApart}
+use Rattle.cf_stacks.specs.Apart.{AreApart, HasNextNumber, StayApart}
 use Rattle.cf_effect.specs.Effect.{leaving}
 use Rattle.cf_effect.specs.Fold.{effect_at, numbered, world_after}
 use Rattle.cf_stacks.proofs.Worlds.{found_stands, value_under}

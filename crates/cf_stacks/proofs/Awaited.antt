@@ -13,7 +13,7 @@ use Rattle.cf_entry.specs.declared.entry.Reply.{Reply}
 use Rattle.cf_effect.specs.World.{StackState, World, stack_at, stack_of_operation}
 use Rattle.cf_effect.specs.Bounds.{IsShortReply}
 use Rattle.cf_stacks.specs.Room.{Standing, has_call, is_awaited, stack_of_call, stepped, with_awaited, with_room, without_awaited}
-use Rattle.cf_stacks.specs.RoomStays.{Act, MakesRoom, Steps, AwaitedStays, RepeatIsAwaited, RoomStays, Spare, acted, all_acted, spares}
+use Rattle.cf_stacks.specs.RoomStays.{RoomAct, MakesRoom, Steps, AwaitedStays, RepeatIsAwaited, RoomStays, Spare, room_acted, all_acted, spares}
 
 same_number : (t : ℕ) → (t == t) ≡ true
 same_number t = Prim.grind (arith)
@@ -130,10 +130,10 @@ stays_room name t x (entry.Phase number p cause) h = h
 stays_room name t x (entry.Done number state failed) h = h
 stays_room name t x (entry.ChangeSet number other source rows outputs) h = h
 
-stays_all : (name : List ℕ) (t : ℕ) (x : Standing) (acts : List Act) → Spare name t acts → has_call t (calls_at name x.awaited) ≡ true → has_call t (calls_at name (all_acted x acts).awaited) ≡ true
+stays_all : (name : List ℕ) (t : ℕ) (x : Standing) (acts : List RoomAct) → Spare name t acts → has_call t (calls_at name x.awaited) ≡ true → has_call t (calls_at name (all_acted x acts).awaited) ≡ true
 stays_all name t x [] n h = h
-stays_all name t x (MakesRoom e ∷ acts) n h = stays_all name t (acted x (MakesRoom e)) acts n (stays_room name t x e h)
-stays_all name t x (Steps e ∷ acts) n h = stays_all name t (acted x (Steps e)) acts n.1 (stays name t x e n.0 h)
+stays_all name t x (MakesRoom e ∷ acts) n h = stays_all name t (room_acted x (MakesRoom e)) acts n (stays_room name t x e h)
+stays_all name t x (Steps e ∷ acts) n h = stays_all name t (room_acted x (Steps e)) acts n.1 (stays name t x e n.0 h)
 
 intended : (name : List ℕ) (t : ℕ) (s : StackState) (all : List (List ℕ × List ℕ)) (o : Option (List ℕ × StackState)) → o ≡ Some (name, s)
     → has_call t (calls_at name (option_map_or (λ (s : List ℕ × StackState). put s.0 (with_awaited t (calls_at s.0 all)) all) o all)) ≡ true

@@ -6,7 +6,7 @@ use Rattle.cf_entry.specs.declared.entry.Entry.{Entry}
 use Rattle.cf_entry.specs.declared.entry.Entry.TheVariants as entry
 use Rattle.cf_stacks.specs.declared.standing.Fields.{Fields}
 use Rattle.cf_stacks.specs.Room.{Standing, StackStanding, awaited_with, stack_of_call, with_awaited}
-use Rattle.cf_stacks.specs.Standing.{Named, awaited_in, awaited_known, awaits_on, calls_in, calls_total, has_open, stack_in, standing_in, world_in}
+use Rattle.cf_stacks.specs.Standing.{NamedStanding, awaited_in, awaited_known, awaits_on, calls_in, calls_total, has_open, stack_in, standing_in, world_in}
 use Rattle.cf_effect.specs.Words.{pending_of}
 use Rattle.cf_effect.specs.World.{StackState, World}
 use Rattle.cf_tree.proofs.Order.{ascends_map}
@@ -29,8 +29,8 @@ awaited_bare (entry.Done number state failed) x = refl
 awaited_bare (entry.ChangeSet number name source rows outputs) x = refl
 
 module _ (x : Fields) (order : ascends x.stacks ≡ true) (token : ℕ) where
-  awaits_by : (o : Option Named) → ((s : Named) → o ≡ Some s → value_at s.0 x.stacks ≡ Some s.1)
-      → option_map_or (λ (s : Named). put s.0 (with_awaited token s.1.awaited) (awaited_in x)) o (awaited_in x)
+  awaits_by : (o : Option NamedStanding) → ((s : NamedStanding) → o ≡ Some s → value_at s.0 x.stacks ≡ Some s.1)
+      → option_map_or (λ (s : NamedStanding). put s.0 (with_awaited token s.1.awaited) (awaited_in x)) o (awaited_in x)
       ≡ option_map_or (λ (s : List ℕ × StackState). put s.0 (with_awaited token (unwrap_or (value_at s.0 (awaited_in x)) [])) (awaited_in x)) (option_map stack_in o) (awaited_in x)
   awaits_by None f = refl
   awaits_by (Some s) f =
@@ -45,13 +45,13 @@ module _ (x : Fields) (order : ascends x.stacks ≡ true) (token : ℕ) where
       (sym (find_under (λ (s : StackStanding). s.stack) (λ (t : StackState). is_some (pending_of token t)) x.stacks))
 
 -- one call more is awaited at most
-pub awaits_total : (token : ℕ) (ss ts : List Named) → ascends ss ≡ true → map calls_in ts ≡ awaits_on token ss → calls_total ts ≤ calls_total ss + 1
+pub awaits_total : (token : ℕ) (ss ts : List NamedStanding) → ascends ss ≡ true → map calls_in ts ≡ awaits_on token ss → calls_total ts ≤ calls_total ss + 1
 awaits_total token ss ts order h = by (find (has_open token) ss) refl
   where
-    on : Option Named → List (List ℕ × List ℕ)
-    on o = option_map_or (λ (s : Named). put s.0 (with_awaited token s.1.awaited) (map calls_in ss)) o (map calls_in ss)
+    on : Option NamedStanding → List (List ℕ × List ℕ)
+    on o = option_map_or (λ (s : NamedStanding). put s.0 (with_awaited token s.1.awaited) (map calls_in ss)) o (map calls_in ss)
 
-    by : (o : Option Named) → find (has_open token) ss ≡ o → calls_total ts ≤ calls_total ss + 1
+    by : (o : Option NamedStanding) → find (has_open token) ss ≡ o → calls_total ts ≤ calls_total ss + 1
     by None e = let same = total_same ts ss (h ∙ ap on e) in omega (arith, same)
     by (Some s) e =
         let v : StackStanding = record s.1 { awaited = with_awaited token s.1.awaited } in
@@ -61,10 +61,10 @@ awaits_total token ss ts order h = by (find (has_open token) ss) refl
         omega (arith, same, most)
 
 -- the names of stacks stay in their order where only room is made
-pub same_order : (ss ts : List Named) → map calls_in ss ≡ map calls_in ts → ascends ts ≡ true → ascends ss ≡ true
+pub same_order : (ss ts : List NamedStanding) → map calls_in ss ≡ map calls_in ts → ascends ts ≡ true → ascends ss ≡ true
 same_order ss ts h order =
     sym (ascends_map {X = StackStanding} {Y = List ℕ} calls_in (λ p. refl) ss) ∙ ap ascends h ∙ ascends_map {X = StackStanding} {Y = List ℕ} calls_in (λ p. refl) ts ∙ order
 
-pub same_order_stacks : (ss ts : List Named) → map stack_in ss ≡ map stack_in ts → ascends ts ≡ true → ascends ss ≡ true
+pub same_order_stacks : (ss ts : List NamedStanding) → map stack_in ss ≡ map stack_in ts → ascends ts ≡ true → ascends ss ≡ true
 same_order_stacks ss ts h order =
     sym (ascends_map {X = StackStanding} {Y = StackState} stack_in (λ p. refl) ss) ∙ ap ascends h ∙ ascends_map {X = StackStanding} {Y = StackState} stack_in (λ p. refl) ts ∙ order

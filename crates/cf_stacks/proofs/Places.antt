@@ -14,7 +14,7 @@ use Rattle.cf_tree.proofs.Placed.{entry_kept}
 use Rattle.cf_entry.specs.declared.entry.Entry.{Entry}
 use Rattle.cf_effect.specs.declared.state.State.{State}
 use Rattle.cf_stacks.specs.Room.{StackStanding, with_awaited}
-use Rattle.cf_stacks.specs.Standing.{LeftFits, Named, awaits_on, calls_in, has_open}
+use Rattle.cf_stacks.specs.Standing.{LeftFits, NamedStanding, awaits_on, calls_in, has_open}
 use Rattle.cf_effect.specs.World.{no_stack}
 use Rattle.cf_effect.proofs.Closed.{first_closed, none_closed}
 use Rattle.cf_stacks.proofs.Worlds.{less_from, own, put_under, tail_ascends}
@@ -60,20 +60,20 @@ module _ {X : Type 0} where
       rw (greater p.0 (get_or ps i d).0 (above_at p.0 ps i d h (omega (arith, l)))) (ap (λ qs. p ∷ qs) (put_at ps i d v (tail_ascends p.0 ps h) (omega (arith, l))))
 
 -- the calls that are awaited once one more is, where its stack stands
-pub awaits_at : (token : ℕ) (ss : List Named) (i : ℕ) (s : Named) (v : StackStanding) → ascends ss ≡ true → position (has_open token) ss ≡ Some i → s ≡ get_or ss i s → v.awaited ≡ with_awaited token s.1.awaited
+pub awaits_at : (token : ℕ) (ss : List NamedStanding) (i : ℕ) (s : NamedStanding) (v : StackStanding) → ascends ss ≡ true → position (has_open token) ss ≡ Some i → s ≡ get_or ss i s → v.awaited ≡ with_awaited token s.1.awaited
     → map calls_in (set ss i (s.0, v)) ≡ awaits_on token ss
 awaits_at token ss i s v order at is h =
     let l = within (has_open token) ss i s at in
-    ap (λ (t : Named). map calls_in (set ss i (t.0, v))) is
+    ap (λ (t : NamedStanding). map calls_in (set ss i (t.0, v))) is
     ∙ ap (map calls_in) (put_at ss i s v order l)
     ∙ put_under (λ (t : StackStanding). t.awaited) (get_or ss i s).0 v ss
-    ∙ ap (λ (t : Named). put t.0 v.awaited (map calls_in ss)) (sym is)
+    ∙ ap (λ (t : NamedStanding). put t.0 v.awaited (map calls_in ss)) (sym is)
     ∙ ap (λ (ts : List ℕ). put s.0 ts (map calls_in ss)) h
-    ∙ ap (λ (o : Option Named). option_map_or (λ (t : Named). put t.0 (with_awaited token t.1.awaited) (map calls_in ss)) o (map calls_in ss)) (first_closed (has_open token) ss i s at is)
+    ∙ ap (λ (o : Option NamedStanding). option_map_or (λ (t : NamedStanding). put t.0 (with_awaited token t.1.awaited) (map calls_in ss)) o (map calls_in ss)) (first_closed (has_open token) ss i s at is)
 
-pub awaits_none : (token : ℕ) (ss : List Named) → position (has_open token) ss ≡ None → map calls_in ss ≡ awaits_on token ss
+pub awaits_none : (token : ℕ) (ss : List NamedStanding) → position (has_open token) ss ≡ None → map calls_in ss ≡ awaits_on token ss
 awaits_none token ss at =
-    ap (λ (o : Option Named). option_map_or (λ (t : Named). put t.0 (with_awaited token t.1.awaited) (map calls_in ss)) o (map calls_in ss)) (none_closed (has_open token) ss at)
+    ap (λ (o : Option NamedStanding). option_map_or (λ (t : NamedStanding). put t.0 (with_awaited token t.1.awaited) (map calls_in ss)) o (map calls_in ss)) (none_closed (has_open token) ss at)
 
 module _ {A : Type 0} (P : A → Type 0) where
   pub all_last : (xs : List A) (y : A) → AllByRecursion P (xs ++ y ∷ []) → P y × AllByRecursion P xs
@@ -93,32 +93,32 @@ module _ {A : Type 0} (P : A → Type 0) where
   all_before (x ∷ xs) (suc i) y l p h = (h.0, all_before xs i y (omega (arith, l)) p h.1)
 
 -- some stack under some name
-abbrev pub some_named : Named
+abbrev pub some_named : NamedStanding
 some_named = ([], record { stack = no_stack; awaited = []; spare = 0 })
 
 -- the stack that is found is changed where it stands
-module _ (change : StackStanding → StackStanding) (p : Named → Bool) (ss : List Named) where
-  pub answers_at : (i : ℕ) (s : Named) (v : StackStanding) → ascends ss ≡ true → position p ss ≡ Some i → s ≡ get_or ss i s → v ≡ change s.1
-      → set ss i (s.0, v) ≡ option_map_or (λ (t : Named). put t.0 (change t.1) ss) (find p ss) ss
+module _ (change : StackStanding → StackStanding) (p : NamedStanding → Bool) (ss : List NamedStanding) where
+  pub answers_at : (i : ℕ) (s : NamedStanding) (v : StackStanding) → ascends ss ≡ true → position p ss ≡ Some i → s ≡ get_or ss i s → v ≡ change s.1
+      → set ss i (s.0, v) ≡ option_map_or (λ (t : NamedStanding). put t.0 (change t.1) ss) (find p ss) ss
   answers_at i s v order at is so =
-      ap (λ (t : Named). set ss i (t.0, v)) is
+      ap (λ (t : NamedStanding). set ss i (t.0, v)) is
       ∙ put_at ss i s v order (within p ss i s at)
-      ∙ ap (λ (t : Named). put t.0 v ss) (sym is)
+      ∙ ap (λ (t : NamedStanding). put t.0 v ss) (sym is)
       ∙ ap (λ (w : StackStanding). put s.0 w ss) so
-      ∙ ap (λ (o : Option Named). option_map_or (λ (t : Named). put t.0 (change t.1) ss) o ss) (first_closed p ss i s at is)
+      ∙ ap (λ (o : Option NamedStanding). option_map_or (λ (t : NamedStanding). put t.0 (change t.1) ss) o ss) (first_closed p ss i s at is)
 
-  pub answers_none : position p ss ≡ None → ss ≡ option_map_or (λ (t : Named). put t.0 (change t.1) ss) (find p ss) ss
-  answers_none at = ap (λ (o : Option Named). option_map_or (λ (t : Named). put t.0 (change t.1) ss) o ss) (none_closed p ss at)
+  pub answers_none : position p ss ≡ None → ss ≡ option_map_or (λ (t : NamedStanding). put t.0 (change t.1) ss) (find p ss) ss
+  answers_none at = ap (λ (o : Option NamedStanding). option_map_or (λ (t : NamedStanding). put t.0 (change t.1) ss) o ss) (none_closed p ss at)
 
 -- the stack of a name
-module _ (name : List ℕ) (ss : List Named) (order : ascends ss ≡ true) where
-  pub found_there : (i : ℕ) (s : Named) → place name ss ≡ Ok i → s ≡ get_or ss i s → value_at name ss ≡ Some s.1
-  found_there i s at is = entry_found name ss i order s at ∙ ap (λ (t : Named). Some t.1) (sym is)
+module _ (name : List ℕ) (ss : List NamedStanding) (order : ascends ss ≡ true) where
+  pub found_there : (i : ℕ) (s : NamedStanding) → place name ss ≡ Ok i → s ≡ get_or ss i s → value_at name ss ≡ Some s.1
+  found_there i s at is = entry_found name ss i order s at ∙ ap (λ (t : NamedStanding). Some t.1) (sym is)
 
-  pub puts_at : (i : ℕ) (s : Named) (v : StackStanding) → place name ss ≡ Ok i → s ≡ get_or ss i s → set ss i (s.0, v) ≡ put name v ss
-  puts_at i s v at is = ap (λ (t : Named). set ss i (t.0, v)) is ∙ entry_kept name v ss i s at
+  pub puts_at : (i : ℕ) (s : NamedStanding) (v : StackStanding) → place name ss ≡ Ok i → s ≡ get_or ss i s → set ss i (s.0, v) ≡ put name v ss
+  puts_at i s v at is = ap (λ (t : NamedStanding). set ss i (t.0, v)) is ∙ entry_kept name v ss i s at
 
-  pub calls_place : (change : StackStanding → StackStanding) (i : ℕ) (s : Named) (v : StackStanding) → place name ss ≡ Ok i → s ≡ get_or ss i s → v ≡ change s.1
+  pub calls_place : (change : StackStanding → StackStanding) (i : ℕ) (s : NamedStanding) (v : StackStanding) → place name ss ≡ Ok i → s ≡ get_or ss i s → v ≡ change s.1
       → set ss i (s.0, v) ≡ option_map_or (λ (t : StackStanding). put name (change t) ss) (value_at name ss) ss
   calls_place change i s v at is so =
       puts_at i s v at is ∙ ap (λ (w : StackStanding). put name w ss) so

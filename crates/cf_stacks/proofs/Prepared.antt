@@ -11,7 +11,7 @@ use Rattle.cf_stacks.specs.declared.standing.Fields.{Fields}
 use Rattle.cf_effect.specs.Fold.{stack_for}
 use Rattle.cf_stacks.specs.Ready.{IsOfStack}
 use Rattle.cf_stacks.specs.Room.{StackStanding, has_call, is_awaited}
-use Rattle.cf_stacks.specs.Standing.{Named, awaited_in, calls_in, stack_in, stack_known, standing_in, world_in}
+use Rattle.cf_stacks.specs.Standing.{NamedStanding, awaited_in, calls_in, stack_in, stack_known, standing_in, world_in}
 use Rattle.cf_effect.specs.World.{StackState, is_going, no_stack, stack_at, stack_of_operation}
 use Rattle.cf_stacks.proofs.Worlds.{find_under, found_stands, value_under}
 
@@ -84,27 +84,27 @@ module _ (x : Fields) (order : ascends x.stacks ≡ true) where
   is_for (entry.ChangeSet number other source rows outputs) name h = known_name other name (some_name other name (unwrap_or (value_at other (map stack_in x.stacks)) no_stack) h)
 
   -- whether the outcome of a call is awaited, by the stack of the operation as it stands
-  awaited_by : (token : ℕ) (o : Option Named) → ((s : Named) → o ≡ Some s → value_at s.0 x.stacks ≡ Some s.1)
-      → option_map_or (λ (s : List ℕ × StackState). has_call token (unwrap_or (value_at s.0 (awaited_in x)) [])) (option_map stack_in o) false ≡ option_map_or (λ (s : Named). has_call token s.1.awaited) o false
+  awaited_by : (token : ℕ) (o : Option NamedStanding) → ((s : NamedStanding) → o ≡ Some s → value_at s.0 x.stacks ≡ Some s.1)
+      → option_map_or (λ (s : List ℕ × StackState). has_call token (unwrap_or (value_at s.0 (awaited_in x)) [])) (option_map stack_in o) false ≡ option_map_or (λ (s : NamedStanding). has_call token s.1.awaited) o false
   awaited_by token None f = refl
   awaited_by token (Some s) f =
       ap (λ (o : Option (List ℕ)). has_call token (unwrap_or o [])) (value_under (λ (t : StackStanding). t.awaited) s.0 x.stacks ∙ ap (λ (o : Option StackStanding). option_map (λ (t : StackStanding). t.awaited) o) (f s refl))
 
-  pub awaited_so : (number token : ℕ) → is_awaited number token (standing_in x) ≡ option_map_or (λ (s : Named). has_call token s.1.awaited) (find (λ s. is_going number s.1.stack) x.stacks) false
+  pub awaited_so : (number token : ℕ) → is_awaited number token (standing_in x) ≡ option_map_or (λ (s : NamedStanding). has_call token s.1.awaited) (find (λ s. is_going number s.1.stack) x.stacks) false
   awaited_so number token =
       ap (λ (o : Option (List ℕ × StackState)). option_map_or (λ (s : List ℕ × StackState). has_call token (unwrap_or (value_at s.0 (awaited_in x)) [])) o false) (find_under (λ (s : StackStanding). s.stack) (is_going number) x.stacks)
-      ∙ awaited_by token (find (λ s. is_going number s.1.stack) x.stacks) (λ s e. found_stands (λ (s : Named). is_going number s.1.stack) x.stacks s order e)
+      ∙ awaited_by token (find (λ s. is_going number s.1.stack) x.stacks) (λ s e. found_stands (λ (s : NamedStanding). is_going number s.1.stack) x.stacks s order e)
 
   -- an entry that has no name is of no stack
   pub is_for_none : (e : Entry) → option_map (λ (s : List ℕ × StackState). s.0) (stack_for e (world_in x)) ≡ None → stack_for e (world_in x) ≡ None
   is_for_none e h = none_so (stack_for e (world_in x)) h
 
-names_of : (o : Option Named) → option_map (λ (s : List ℕ × StackState). s.0) (option_map stack_in o) ≡ option_map (λ (s : Named). s.0) o
+names_of : (o : Option NamedStanding) → option_map (λ (s : List ℕ × StackState). s.0) (option_map stack_in o) ≡ option_map (λ (s : NamedStanding). s.0) o
 names_of None = refl
 names_of (Some s) = refl
 
 -- the name of the stack on which an operation is in progress
-pub name_going : (x : Fields) (number : ℕ) → option_map (λ (s : List ℕ × StackState). s.0) (stack_of_operation number (world_in x)) ≡ option_map (λ (s : Named). s.0) (find (λ s. is_going number s.1.stack) x.stacks)
+pub name_going : (x : Fields) (number : ℕ) → option_map (λ (s : List ℕ × StackState). s.0) (stack_of_operation number (world_in x)) ≡ option_map (λ (s : NamedStanding). s.0) (find (λ s. is_going number s.1.stack) x.stacks)
 name_going x number = ap (λ (o : Option (List ℕ × StackState)). option_map (λ (s : List ℕ × StackState). s.0) o) (find_under (λ (s : StackStanding). s.stack) (is_going number) x.stacks) ∙ names_of (find (λ s. is_going number s.1.stack) x.stacks)
 
 name_by : (name : List ℕ) (o : Option StackStanding) (p : Option StackState) → p ≡ option_map (λ (t : StackStanding). t.stack) o → option_map (λ (s : List ℕ × StackState). s.0) (under_name name p) ≡ option_map (λ (t : StackStanding). name) o

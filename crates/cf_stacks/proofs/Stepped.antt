@@ -17,7 +17,7 @@ use Rattle.cf_effect.specs.Event.{lines_of}
 use Rattle.cf_effect.specs.Listed.{NamesAfter, Same, exports_after, pins_after}
 use Rattle.cf_effect.specs.Reply.{intending}
 use Rattle.cf_stacks.specs.Room.{Standing, StackStanding, awaited_after, calls_after, with_awaited}
-use Rattle.cf_stacks.specs.Standing.{IsPartsOf, Named, StepsOver, awaited_in, awaited_known, called, calls_in, stack_in, stack_known, standing_in, world_in}
+use Rattle.cf_stacks.specs.Standing.{IsPartsOf, NamedStanding, StepsOver, awaited_in, awaited_known, stack_called, calls_in, stack_in, stack_known, standing_in, world_in}
 use Rattle.cf_effect.specs.Words.{has_token}
 use Rattle.cf_effect.specs.World.{StackState, World}
 use Rattle.cf_stacks.proofs.Worlds.{put_under, value_under}
@@ -67,10 +67,10 @@ module _ (x mid : Fields) (e : Entry) (name : List ℕ) (s : StackState) (v : St
 
 -- an opening is of every stack
 pub changed_all : (x mid : Fields) (e : Entry) (change : StackStanding → StackStanding) → is_opening e ≡ true → ((s : StackStanding) → (change s).stack ≡ (effect_at (x.place + 1) e s.stack).stack)
-    → mid ≡ record x { stacks = map (λ (s : Named). (s.0, change s.1)) x.stacks } → world_in mid ≡ changed_by (x.place + 1) e (world_in x)
+    → mid ≡ record x { stacks = map (λ (s : NamedStanding). (s.0, change s.1)) x.stacks } → world_in mid ≡ changed_by (x.place + 1) e (world_in x)
 changed_all x mid e change o h is_mid = ap world_in is_mid ∙ ap (λ (stacks : List (List ℕ × StackState)). record (world_in x) { stacks = stacks }) (each x.stacks) ∙ by e o
   where
-    each : (ss : List Named) → map stack_in (map (λ (s : Named). (s.0, change s.1)) ss) ≡ map (opening_heard (x.place + 1) e) (map stack_in ss)
+    each : (ss : List NamedStanding) → map stack_in (map (λ (s : NamedStanding). (s.0, change s.1)) ss) ≡ map (opening_heard (x.place + 1) e) (map stack_in ss)
     each [] = refl
     each (s ∷ ss) = rw (h s.1) (ap (λ (l : List (List ℕ × StackState)). (s.0, (effect_at (x.place + 1) e s.1.stack).stack) ∷ l) (each ss))
 
@@ -94,10 +94,10 @@ intending_rest n p s = by (list_any (has_token p.token) s.tokens)
     by false = (refl, refl)
 
 pub awaited_all : (x : Fields) (e : Entry) (change : StackStanding → StackStanding) → is_opening e ≡ true → ((s : StackStanding) → (change s).awaited ≡ s.awaited)
-    → map calls_in (map (λ (s : Named). (s.0, change s.1)) x.stacks) ≡ awaited_after e (standing_in x)
+    → map calls_in (map (λ (s : NamedStanding). (s.0, change s.1)) x.stacks) ≡ awaited_after e (standing_in x)
 awaited_all x e change o h = each x.stacks ∙ sym (by e o)
   where
-    each : (ss : List Named) → map calls_in (map (λ (s : Named). (s.0, change s.1)) ss) ≡ map calls_in ss
+    each : (ss : List NamedStanding) → map calls_in (map (λ (s : NamedStanding). (s.0, change s.1)) ss) ≡ map calls_in ss
     each [] = refl
     each (s ∷ ss) = rw (h s.1) (ap (λ (l : List (List ℕ × List ℕ)). (s.0, s.1.awaited) ∷ l) (each ss))
 
@@ -113,7 +113,7 @@ awaited_all x e change o h = each x.stacks ∙ sym (by e o)
 
 -- an intent with its parts leaves its stack so
 pub called_so : (place : ℕ) (e : Entry) (parts : CallParts) (s : StackStanding) → IsPartsOf e parts place s.stack
-    → ((called parts e s).stack ≡ (effect_at place e s.stack).stack) × ((called parts e s).awaited ≡ calls_after e s.awaited)
+    → ((stack_called parts e s).stack ≡ (effect_at place e s.stack).stack) × ((stack_called parts e s).awaited ≡ calls_after e s.awaited)
 called_so place (entry.Opened epoch lanes) parts s h = absurd h
 called_so place (entry.Begin number name k) parts s h = absurd h
 called_so place (entry.Kept number path physical w) parts s h = absurd h
@@ -148,7 +148,7 @@ pub there : (o : Option StackStanding) → is_some o ≡ true → (s : StackStan
 there None h = absurd cc
 there (Some s) h = (s, refl)
 
-module _ (x : Fields) (stacks : List Named) (y : Fields) (e : Entry) (name : List ℕ) (s v : StackStanding) (order : ascends x.stacks ≡ true) (stands : value_at name x.stacks ≡ Some s)
+module _ (x : Fields) (stacks : List NamedStanding) (y : Fields) (e : Entry) (name : List ℕ) (s v : StackStanding) (order : ascends x.stacks ≡ true) (stands : value_at name x.stacks ≡ Some s)
     (of_it : stack_for e (world_in x) ≡ Some (name, stack_known (value_at name x.stacks))) (is_put : stacks ≡ put name v x.stacks) where
   -- a stack that is left with what it lists
   pub stepped_on : is_opening e ≡ false → v.stack ≡ (effect_at (x.place + 1) e s.stack).stack → v.awaited ≡ calls_after e s.awaited
@@ -157,7 +157,7 @@ module _ (x : Fields) (stacks : List Named) (y : Fields) (e : Entry) (name : Lis
   stepped_on n vs va he hp hc w a =
       let known : stack_known (value_at name x.stacks) ≡ s.stack = ap stack_known stands in
       let calls : awaited_known (value_at name x.stacks) ≡ s.awaited = ap awaited_known stands in
-      let is_mid : record x { stacks = stacks } ≡ record x { stacks = put name v x.stacks } = ap (λ (ss : List Named). record x { stacks = ss }) is_put in
+      let is_mid : record x { stacks = stacks } ≡ record x { stacks = put name v x.stacks } = ap (λ (ss : List NamedStanding). record x { stacks = ss }) is_put in
       record {
         world = after (world_in x) (world_in (record x { stacks = stacks })) (world_in y) e
             (changed_put x (record x { stacks = stacks }) e name s.stack v x.exports x.pins x.claims (of_it ∙ ap (λ (t : StackState). Some (name, t)) known) is_mid n vs

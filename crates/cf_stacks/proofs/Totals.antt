@@ -8,7 +8,7 @@ use Rattle.cf_entry.specs.declared.entry.Entry.TheVariants as entry
 use Rattle.cf_effect.specs.Bounds.{IsShortOutcomeOf}
 use Rattle.cf_stacks.specs.Room.{StackStanding, calls_after, has_call, with_awaited, without_awaited}
 use Rattle.cf_effect.specs.Fold.{is_intent}
-use Rattle.cf_stacks.specs.Standing.{Named, awaited_known, calls_in, calls_total, opened_as}
+use Rattle.cf_stacks.specs.Standing.{NamedStanding, awaited_known, calls_in, calls_total, opened_as}
 use Rattle.cf_stacks.proofs.Worlds.{total_put}
 
 count_known : (o : Option StackStanding) → option_map_or (λ s. length s.awaited) o 0 ≡ length (awaited_known o)
@@ -47,7 +47,7 @@ calls_fewer (entry.Phase number p cause) ts h = omega arith
 calls_fewer (entry.Done number state failed) ts h = omega arith
 calls_fewer (entry.ChangeSet number name source rows outputs) ts h = omega arith
 
-module _ (ss : List Named) (order : ascends ss ≡ true) (name : List ℕ) (v : StackStanding) where
+module _ (ss : List NamedStanding) (order : ascends ss ≡ true) (name : List ℕ) (v : StackStanding) where
   counted : calls_total (put name v ss) + length (awaited_known (value_at name ss)) ≡ calls_total ss + length v.awaited
   counted = ap (λ (n : ℕ). calls_total (put name v ss) + n) (sym (count_known (value_at name ss))) ∙ total_put name v ss order
 
@@ -60,7 +60,7 @@ module _ (ss : List Named) (order : ascends ss ≡ true) (name : List ℕ) (v : 
   pub total_answered : (t : ℕ) → has_call t (awaited_known (value_at name ss)) ≡ true → v.awaited ≡ without_awaited t (awaited_known (value_at name ss)) → calls_total (put name v ss) + 1 ≤ calls_total ss
   total_answered t e h = let less = without_less t (awaited_known (value_at name ss)) e in let same = ap (λ (ts : List ℕ). length ts) h in omega (arith, counted, less, same)
 
-pub total_opened : (place : ℕ) (e : Entry) (ss : List Named) → calls_total (map (λ s. (s.0, opened_as place e s.1)) ss) ≡ calls_total ss
+pub total_opened : (place : ℕ) (e : Entry) (ss : List NamedStanding) → calls_total (map (λ s. (s.0, opened_as place e s.1)) ss) ≡ calls_total ss
 total_opened place e [] = refl
 total_opened place e (s ∷ ss) = ap (λ (n : ℕ). length s.1.awaited + n) (total_opened place e ss)
 
@@ -69,9 +69,9 @@ abbrev total_of : List (List ℕ × List ℕ) → ℕ
 total_of [] = 0
 total_of (c ∷ cs) = length c.1 + total_of cs
 
-total_seen : (ss : List Named) → calls_total ss ≡ total_of (map calls_in ss)
+total_seen : (ss : List NamedStanding) → calls_total ss ≡ total_of (map calls_in ss)
 total_seen [] = refl
 total_seen (s ∷ ss) = ap (λ (n : ℕ). length s.1.awaited + n) (total_seen ss)
 
-pub total_same : (ss ts : List Named) → map calls_in ss ≡ map calls_in ts → calls_total ss ≡ calls_total ts
+pub total_same : (ss ts : List NamedStanding) → map calls_in ss ≡ map calls_in ts → calls_total ss ≡ calls_total ts
 total_same ss ts h = total_seen ss ∙ ap total_of h ∙ sym (total_seen ts)

@@ -16,7 +16,7 @@ use Rattle.cf_entry.specs.declared.entry.Entry.{Entry}
 use Rattle.cf_entry.specs.declared.entry.Entry.TheVariants as entry
 use Rattle.cf_stacks.specs.Room.{StackStanding, calls_after}
 use Rattle.cf_effect.specs.Fold.{is_intent}
-use Rattle.cf_stacks.specs.Standing.{Named, calls_total, opened_as}
+use Rattle.cf_stacks.specs.Standing.{NamedStanding, calls_total, opened_as}
 
 turned_round : (o : Ordering) → o ≡ ordering_reverse o → o ≡ Equal
 turned_round Less e = absurd (cc)
@@ -121,7 +121,7 @@ none_after (entry.Phase number p cause) h = refl
 none_after (entry.Done number state failed) h = refl
 none_after (entry.ChangeSet number name source rows outputs) h = refl
 
-pub opened_ascend : (place : ℕ) (e : Entry) (ps : List Named) → ascends ps ≡ true → ascends (map (λ s. (s.0, opened_as place e s.1)) ps) ≡ true
+pub opened_ascend : (place : ℕ) (e : Entry) (ps : List NamedStanding) → ascends ps ≡ true → ascends (map (λ s. (s.0, opened_as place e s.1)) ps) ≡ true
 opened_ascend place e ps h = ascends_map {X = StackStanding} {Y = StackStanding} (λ s. (s.0, opened_as place e s.1)) (λ p. refl) ps ∙ h
 
 same_if_equal : (k l : List ℕ) → slice_cmp nat_cmp k l ≡ Equal → bytes_eq k l ≡ true
@@ -146,7 +146,7 @@ module _ {X : Type 0} (k : List ℕ) (p : List ℕ × X) (ps : List (List ℕ ×
 
 -- how many calls are awaited, once a stack is put in its place
 module _ (k : List ℕ) (v : StackStanding) where
-  pub total_put : (ps : List Named) → ascends ps ≡ true → calls_total (put k v ps) + option_map_or (λ s. length s.awaited) (value_at k ps) 0 ≡ calls_total ps + length v.awaited
+  pub total_put : (ps : List NamedStanding) → ascends ps ≡ true → calls_total (put k v ps) + option_map_or (λ s. length s.awaited) (value_at k ps) 0 ≡ calls_total ps + length v.awaited
   total_put [] h = omega arith
   total_put (p ∷ ps) h = by (slice_cmp nat_cmp k p.0) refl (total_put ps (tail_ascends p.0 ps h))
     where
@@ -157,13 +157,13 @@ module _ (k : List ℕ) (v : StackStanding) where
       by Greater e g = rw (past k p ps e) (omega (arith, g))
 
 -- where a call goes out the names stay in their order
-pub called_ascend : (k : List ℕ) (change : StackStanding → StackStanding) (o : Option StackStanding) (ps : List Named) → ascends ps ≡ true → ascends (option_map_or (λ (s : StackStanding). put k (change s) ps) o ps) ≡ true
+pub called_ascend : (k : List ℕ) (change : StackStanding → StackStanding) (o : Option StackStanding) (ps : List NamedStanding) → ascends ps ≡ true → ascends (option_map_or (λ (s : StackStanding). put k (change s) ps) o ps) ≡ true
 called_ascend k change None ps h = h
 called_ascend k change (Some s) ps h = ascends_put k (change s) ps h
 
-pub answered_ascend : (change : StackStanding → StackStanding) (o : Option Named) (ps : List Named) → ascends ps ≡ true → ascends (option_map_or (λ (s : Named). put s.0 (change s.1) ps) o ps) ≡ true
+pub answered_ascend : (change : StackStanding → StackStanding) (o : Option NamedStanding) (ps : List NamedStanding) → ascends ps ≡ true → ascends (option_map_or (λ (s : NamedStanding). put s.0 (change s.1) ps) o ps) ≡ true
 answered_ascend change None ps h = h
 answered_ascend change (Some s) ps h = ascends_put s.0 (change s.1) ps h
 
-pub none_called : (k : List ℕ) (change : StackStanding → StackStanding) (o : Option StackStanding) (ps : List Named) → o ≡ None → ps ≡ option_map_or (λ (s : StackStanding). put k (change s) ps) o ps
+pub none_called : (k : List ℕ) (change : StackStanding → StackStanding) (o : Option StackStanding) (ps : List NamedStanding) → o ≡ None → ps ≡ option_map_or (λ (s : StackStanding). put k (change s) ps) o ps
 none_called k change o ps h = sym (ap (λ (p : Option StackStanding). option_map_or (λ (s : StackStanding). put k (change s) ps) p ps) h)

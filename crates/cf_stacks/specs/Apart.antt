@@ -11,11 +11,12 @@ use Rattle.cf_effect.specs.Fold.{world_after}
 pub record AreApart (x : World) : Type 0 where
   pub names : IsTrue (ascends x.stacks)
   pub last : (name : List ℕ) (s : StackState) → stack_at name x ≡ Some s → s.operation ≤ x.operation
-  pub apart : (a b : List ℕ) (s t : StackState) → stack_at a x ≡ Some s → stack_at b x ≡ Some t → s.operation ≡ t.operation → 0 < s.operation → a ≡ b
+  pub apart : (a b : List ℕ) (s t : StackState) → stack_at a x ≡ Some s → stack_at b x ≡ Some t → s.operation ≡ t.operation → 0
+      < s.operation → a ≡ b
 
-abbrev pub IsNext : Entry → World → Type 0
-IsNext (entry.Begin number name k) x = x.operation < number
-IsNext e x = ⊤
+abbrev pub HasNextNumber : Entry → World → Type 0
+HasNextNumber (entry.Begin number name k) x = x.operation < number
+HasNextNumber e x = ⊤
 
 abbrev pub StayApart : Type 0
-StayApart = (x : World) (e : Entry) → AreApart x → IsNext e x → AreApart (world_after x e)
+StayApart = (x : World) (e : Entry) → AreApart x → HasNextNumber e x → AreApart (world_after x e)

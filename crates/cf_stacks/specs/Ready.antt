@@ -32,7 +32,8 @@ pub record IsCall (e : Entry) (name : List ℕ) (brought : CallParts) (x : Field
 
 -- the entry is a short outcome of this call, which is awaited on the stack of this operation
 abbrev pub IsAnswer : ℕ → ℕ → Entry → Fields → Type 0
-IsAnswer number token (entry.Outcome n t answer before after) x = (n ≡ number) × (t ≡ token) × (is_awaited number token (standing_in x) ≡ true) × IsShortReply answer
+IsAnswer number token (entry.Outcome n t answer before after) x =
+    (n ≡ number) × (t ≡ token) × (is_awaited number token (standing_in x) ≡ true) × IsShortReply answer
 IsAnswer number token e x = ⊥
 
 abbrev pub IsPrepared : Entry → Fields → Work → Type 0

@@ -53,7 +53,8 @@ stack_of_call token x = find (λ s. is_some (pending_of token s.1)) x.stacks
 -- Room is made for one entry, in place of that for another one. By the intent of a call that is open already it is made for
 -- the call's next outcome as well, before the call goes out again.
 abbrev pub awaited_with : Entry → Standing → List (List ℕ × List ℕ)
-awaited_with (entry.Intent number token lane path r) x = option_map_or (λ s. put s.0 (with_awaited token (awaited_at s.0 x)) x.awaited) (stack_of_call token x.world) x.awaited
+awaited_with (entry.Intent number token lane path r) x =
+    option_map_or (λ s. put s.0 (with_awaited token (awaited_at s.0 x)) x.awaited) (stack_of_call token x.world) x.awaited
 awaited_with e x = x.awaited
 
 abbrev pub with_room : Entry → Standing → Standing

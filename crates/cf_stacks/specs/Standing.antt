@@ -24,14 +24,14 @@ use Rattle.cf_effect.specs.Reserve.{HasSpare}
 use Rattle.cf_stacks.specs.Stacked.{places_for}
 use Rattle.cf_effect.specs.State.{state_of}
 
-abbrev pub Named : Type 0
-Named = List ℕ × StackStanding
+abbrev pub NamedStanding : Type 0
+NamedStanding = List ℕ × StackStanding
 
 -- a stack without what it has room for, and its calls whose outcome has room
-abbrev pub stack_in : Named → List ℕ × StackState
+abbrev pub stack_in : NamedStanding → List ℕ × StackState
 stack_in s = (s.0, s.1.stack)
 
-abbrev pub calls_in : Named → List ℕ × List ℕ
+abbrev pub calls_in : NamedStanding → List ℕ × List ℕ
 calls_in s = (s.0, s.1.awaited)
 
 abbrev pub world_in : Fields → World
@@ -52,7 +52,7 @@ abbrev pub awaited_in : Fields → List (List ℕ × List ℕ)
 awaited_in x = map calls_in x.stacks
 
 -- how many calls are awaited
-abbrev pub calls_total : List Named → ℕ
+abbrev pub calls_total : List NamedStanding → ℕ
 calls_total [] = 0
 calls_total (s ∷ stacks) = length s.1.awaited + calls_total stacks
 
@@ -69,21 +69,25 @@ left_as e state was = record { stack = state_of state; awaited = calls_after e (
 -- the memory for that: for a stack that is new the map of all stacks gets longer
 abbrev pub LeftFits : Entry → State → ℕ → ℕ → Option StackStanding → Type 0
 LeftFits e state room count None = HasSpare 0 state × HaveOwnTokens state.tokens.items × (count + 1 ≤ room)
-LeftFits e state room count (Some s) = HasSpare (places_for (length s.awaited)) state × (HaveOwnTokens s.stack.tokens → LeavesCalls e s.stack (state_of state))
+LeftFits e state room count (Some s) =
+    HasSpare (places_for (length s.awaited)) state × (HaveOwnTokens s.stack.tokens → LeavesCalls e s.stack (state_of state))
 
 -- what an entry leaves of its stack and of the lists of all stacks
 pub record IsLeft (e : Entry) (name : List ℕ) (left : Left) (x : Fields) : Type 0 where
   pub stack : state_of left.state ≡ (effect_at (x.place + 1) e (stack_known (value_at name x.stacks))).stack
-  pub exports : unwrap_or left.exports x.exports ≡ exports_after name (effect_at (x.place + 1) e (stack_known (value_at name x.stacks))).exports x.exports
+  pub exports : unwrap_or left.exports x.exports
+      ≡ exports_after name (effect_at (x.place + 1) e (stack_known (value_at name x.stacks))).exports x.exports
   pub pins : unwrap_or left.pins x.pins ≡ pins_after name (effect_at (x.place + 1) e (stack_known (value_at name x.stacks))).pins x.pins
-  pub claims : unwrap_or left.claims x.claims ≡ pins_after name (effect_at (x.place + 1) e (stack_known (value_at name x.stacks))).claims x.claims
+  pub claims : unwrap_or left.claims x.claims
+      ≡ pins_after name (effect_at (x.place + 1) e (stack_known (value_at name x.stacks))).claims x.claims
   pub fits : LeftFits e left.state (vec_capacity left.more) (length x.stacks) (value_at name x.stacks)
   pub empty : left.more.items ≡ []
 
 -- a stack on which a call goes out, of which it hears: that takes what is laid by for the intent and for its outcome
-abbrev pub called : CallParts → Entry → StackStanding → StackStanding
-called parts e s = record {
-  stack = record (intending parts.call.number parts.pending s.stack) { entries = s.stack.entries ++ e ∷ []; events = s.stack.events ++ parts.line ∷ [] };
+abbrev pub stack_called : CallParts → Entry → StackStanding → StackStanding
+stack_called parts e s = record {
+  stack = record (intending parts.call.number parts.pending s.stack)
+      { entries = s.stack.entries ++ e ∷ []; events = s.stack.events ++ parts.line ∷ [] };
   awaited = with_awaited parts.pending.token s.awaited;
   spare = s.spare - 2;
 }
@@ -101,13 +105,14 @@ answered_at place e s = record { stack = (effect_at place e s.stack).stack; awai
 abbrev pub opened_as : ℕ → Entry → StackStanding → StackStanding
 opened_as place e s = record { stack = (effect_at place e s.stack).stack; awaited = s.awaited; spare = s.spare - 1 }
 
-abbrev pub HasOne : Named → Type 0
+abbrev pub HasOne : NamedStanding → Type 0
 HasOne s = 1 ≤ s.1.spare
 
 -- what an intent brings to its stack
 abbrev pub IsPartsOf : Entry → CallParts → ℕ → StackState → Type 0
 IsPartsOf (entry.Intent number token lane path r) parts place s =
-    (parts.call.number ≡ number) × (parts.pending ≡ record { token = token; path = path; lane = lane; request = r }) × (parts.line ∷ [] ≡ lines_of place (entry.Intent number token lane path r) s)
+    (parts.call.number ≡ number) × (parts.pending ≡ record { token = token; path = path; lane = lane; request = r })
+    × (parts.line ∷ [] ≡ lines_of place (entry.Intent number token lane path r) s)
 IsPartsOf e parts place s = ⊥
 
 -- a step over an entry
@@ -125,8 +130,9 @@ pub record KeepsStacks (old new : Fields) : Type 0 where
   pub calls : map calls_in new.stacks ≡ map calls_in old.stacks
 
 -- the calls that are awaited once the first open call of a token is, too
-abbrev pub has_open : ℕ → Named → Bool
+abbrev pub has_open : ℕ → NamedStanding → Bool
 has_open token s = is_some (pending_of token s.1.stack)
 
-abbrev pub awaits_on : ℕ → List Named → List (List ℕ × List ℕ)
-awaits_on token stacks = option_map_or (λ s. put s.0 (with_awaited token s.1.awaited) (map calls_in stacks)) (find (has_open token) stacks) (map calls_in stacks)
+abbrev pub awaits_on : ℕ → List NamedStanding → List (List ℕ × List ℕ)
+awaits_on token stacks =
+    option_map_or (λ s. put s.0 (with_awaited token s.1.awaited) (map calls_in stacks)) (find (has_open token) stacks) (map calls_in stacks)

@@ -13,7 +13,7 @@ ghost use Rattle.cf_stacks.specs.Room.{StackStanding, calls_after, has_call, wit
 ghost use Rattle.cf_stacks.specs.Spare.{HaveOwnTokens, IsRoomFor, KeepsCalls};
 ghost use Rattle.cf_effect.specs.Reserve.{HasSpare};
 ghost use Rattle.cf_stacks.specs.Stacked.{places_for};
-ghost use Rattle.cf_stacks.specs.Standing.{CallFits, called};
+ghost use Rattle.cf_stacks.specs.Standing.{CallFits, stack_called};
 ghost use Rattle.cf_effect.specs.State.{before_in, source_in, state_of};
 ghost use Rattle.cf_effect.specs.Words.{pending_of};
 ghost use Rattle.cf_effect.specs.World.{no_stack};
@@ -242,7 +242,7 @@ impl StackState {
     /// A call goes out, of which the stack hears; it takes no memory.
     pub(crate) fn call(&mut self, parts: CallParts, entry: Entry)
         requires { CallFits parts self.old }
-        ensures { self.new ≡ called parts entry self.old }
+        ensures { self.new ≡ stack_called parts entry self.old }
     {
         let CallParts {
             pending,

@@ -9,7 +9,7 @@ ghost use Rattle.cf_stacks.specs.Room.{StackStanding, calls_after, has_call};
 ghost use Rattle.cf_stacks.specs.Spare.{HaveOwnTokens, LeavesCalls};
 ghost use Rattle.cf_effect.specs.Reserve.{HasSpare};
 ghost use Rattle.cf_stacks.specs.Stacked.{places_for};
-ghost use Rattle.cf_stacks.specs.Standing.{CallFits, HasOne, IsLeft, LeftFits, answered_at, called, left_as, opened_as, world_in};
+ghost use Rattle.cf_stacks.specs.Standing.{CallFits, HasOne, IsLeft, LeftFits, answered_at, stack_called, left_as, opened_as, world_in};
 ghost use Rattle.cf_effect.specs.State.{state_of};
 ghost use Rattle.cf_effect.specs.World.{is_going};
 
@@ -177,7 +177,7 @@ fn call_at(
     requires order { ascends pairs.old.items ≡ true }
     requires fits { IfSome (value_at name.now pairs.old.items) (CallFits parts) }
     ensures { pairs.new.items
-        ≡ option_map_or (λ s. put name.now (called parts entry s) pairs.old.items) (value_at name.now pairs.old.items) pairs.old.items }
+        ≡ option_map_or (λ s. put name.now (stack_called parts entry s) pairs.old.items) (value_at name.now pairs.old.items) pairs.old.items }
 {
     pairs[at].1.call(parts, entry);
 }
@@ -186,7 +186,7 @@ fn call_at(
 #[tactic(auto, using(cf_tree::proofs::Lookups::entry_missed, crate::proofs::Worlds::called_ascend, crate::proofs::Worlds::none_called))]
 pub(crate) fn call_on(stacks: &mut Stacks, name: &Txt, parts: CallParts, entry: Entry)
     requires { IfSome (value_at name.now stacks.old) (CallFits parts) }
-    ensures { stacks.new ≡ option_map_or (λ s. put name.now (called parts entry s) stacks.old) (value_at name.now stacks.old) stacks.old }
+    ensures { stacks.new ≡ option_map_or (λ s. put name.now (stack_called parts entry s) stacks.old) (value_at name.now stacks.old) stacks.old }
 {
     let alloc = *parts.room.spelled.allocator();
     let mut pairs = mem::replace(stacks, Stacks::new(alloc)).into_vec();

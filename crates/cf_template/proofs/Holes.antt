@@ -13,7 +13,7 @@ use Rattle.cf_funcs.proofs.Parts.{cut_shorter}
 use Rattle.cf_tree.specs.declared.parts.Part.{Part}
 use Rattle.cf_template.specs.declared.subs.SubFault.{SubFault}
 use Rattle.cf_template.specs.declared.subs.SubFault.TheVariants as fault
-use Rattle.cf_template.specs.Subs.{plain_parts, hole_part, in_front, behind, closed, opened, parts_up_to, parts_of}
+use Rattle.cf_template.specs.Subs.{plain_parts, hole_part, in_front, behind_part, hole_closed, hole_opened, parts_up_to, parts_of}
 
 -- how long the pieces of a cut are
 abbrev Fits : List ℕ → List ℕ → Option (List ℕ × List ℕ) → Type 0
@@ -41,13 +41,13 @@ More = ℕ → List ℕ → Result (List Part) SubFault
 
 -- more holes than a text has bytes change nothing
 closed_same : (f g : More) (at : ℕ) (s : List ℕ) (o : Option (List ℕ × List ℕ)) → cut_at (codes "}") s ≡ o
-    → ((later : ℕ) (t : List ℕ) → length t < length s → f later t ≡ g later t) → closed f at o ≡ closed g at o
+    → ((later : ℕ) (t : List ℕ) → length t < length s → f later t ≡ g later t) → hole_closed f at o ≡ hole_closed g at o
 closed_same f g at s None e h = refl
 closed_same f g at s (Some k) e h =
-    ap (λ r. behind (hole_part at k.0) (λ p. in_front (p ∷ []) r)) (h (at + length k.0 + 3) k.1 (cut_shorter (codes "}") s k (omega arith) e))
+    ap (λ r. behind_part (hole_part at k.0) (λ p. in_front (p ∷ []) r)) (h (at + length k.0 + 3) k.1 (cut_shorter (codes "}") s k (omega arith) e))
 
 opened_same : (f g : More) (at : ℕ) (s : List ℕ) (o : Option (List ℕ × List ℕ)) → cut_at (codes "${") s ≡ o
-    → ((later : ℕ) (t : List ℕ) → length t < length s → f later t ≡ g later t) → opened f at s o ≡ opened g at s o
+    → ((later : ℕ) (t : List ℕ) → length t < length s → f later t ≡ g later t) → hole_opened f at s o ≡ hole_opened g at s o
 opened_same f g at s None e h = refl
 opened_same f g at s (Some k) e h =
     let shorter = cut_shorter (codes "${") s k (omega arith) e in
@@ -67,7 +67,7 @@ enough (suc m) (suc n) at s a b =
 abbrev pub parts_at : ℕ → List ℕ → Result (List Part) SubFault
 parts_at at s = parts_up_to (length s) at s
 
-pub parts_opened : (at : ℕ) (s : List ℕ) → parts_at at s ≡ opened parts_at at s (cut_at (codes "${") s)
+pub parts_opened : (at : ℕ) (s : List ℕ) → parts_at at s ≡ hole_opened parts_at at s (cut_at (codes "${") s)
 parts_opened at [] = refl
 parts_opened at (c ∷ cs) =
     opened_same (λ later rest. parts_up_to (length cs) later rest) parts_at at (c ∷ cs) (cut_at (codes "${") (c ∷ cs)) refl
@@ -88,26 +88,26 @@ parts_begun text = nothing (parts_at 0 text)
 module _ (all : Result (List Part) SubFault) (found : List Part) (at : ℕ) (s : List ℕ) (so_far : all ≡ in_front found (parts_at at s)) where
   -- no hole is left
   pub ended : None ≡ cut_at (codes "${") s → all ≡ Ok (found ++ plain_parts s)
-  ended e = so_far ∙ ap (in_front found) (parts_opened at s ∙ ap (opened parts_at at s) (sym e))
+  ended e = so_far ∙ ap (in_front found) (parts_opened at s ∙ ap (hole_opened parts_at at s) (sym e))
 
   module _ (k : List ℕ × List ℕ) (begun : Some k ≡ cut_at (codes "${") s) where
-    in_hole : all ≡ in_front found (in_front (plain_parts k.0) (closed parts_at (at + length k.0) (cut_at (codes "}") k.1)))
-    in_hole = so_far ∙ ap (in_front found) (parts_opened at s ∙ ap (opened parts_at at s) (sym begun))
+    in_hole : all ≡ in_front found (in_front (plain_parts k.0) (hole_closed parts_at (at + length k.0) (cut_at (codes "}") k.1)))
+    in_hole = so_far ∙ ap (in_front found) (parts_opened at s ∙ ap (hole_opened parts_at at s) (sym begun))
 
     pub unclosed : None ≡ cut_at (codes "}") k.1 → all ≡ Err (fault.Unclosed (at + length k.0))
-    unclosed e = in_hole ∙ ap (λ o. in_front found (in_front (plain_parts k.0) (closed parts_at (at + length k.0) o))) (sym e)
+    unclosed e = in_hole ∙ ap (λ o. in_front found (in_front (plain_parts k.0) (hole_closed parts_at (at + length k.0) o))) (sym e)
 
     module _ (h : List ℕ × List ℕ) (close : Some h ≡ cut_at (codes "}") k.1) where
-      in_part : all ≡ in_front found (in_front (plain_parts k.0) (behind (hole_part (at + length k.0) h.0) (λ p. in_front (p ∷ []) (parts_at (at + length k.0 + length h.0 + 3) h.1))))
-      in_part = in_hole ∙ ap (λ o. in_front found (in_front (plain_parts k.0) (closed parts_at (at + length k.0) o))) (sym close)
+      in_part : all ≡ in_front found (in_front (plain_parts k.0) (behind_part (hole_part (at + length k.0) h.0) (λ p. in_front (p ∷ []) (parts_at (at + length k.0 + length h.0 + 3) h.1))))
+      in_part = in_hole ∙ ap (λ o. in_front found (in_front (plain_parts k.0) (hole_closed parts_at (at + length k.0) o))) (sym close)
 
       pub refused : (e : SubFault) → hole_part (at + length k.0) h.0 ≡ Err e → all ≡ Err e
-      refused e r = in_part ∙ ap (λ o. in_front found (in_front (plain_parts k.0) (behind o (λ p. in_front (p ∷ []) (parts_at (at + length k.0 + length h.0 + 3) h.1))))) r
+      refused e r = in_part ∙ ap (λ o. in_front found (in_front (plain_parts k.0) (behind_part o (λ p. in_front (p ∷ []) (parts_at (at + length k.0 + length h.0 + 3) h.1))))) r
 
       pub passed : (p : Part) → hole_part (at + length k.0) h.0 ≡ Ok p
           → all ≡ in_front ((found ++ plain_parts k.0) ++ p ∷ []) (parts_at (at + length k.0 + length h.0 + 3) h.1)
       passed p r =
-          in_part ∙ ap (λ o. in_front found (in_front (plain_parts k.0) (behind o (λ q. in_front (q ∷ []) (parts_at (at + length k.0 + length h.0 + 3) h.1))))) r
+          in_part ∙ ap (λ o. in_front found (in_front (plain_parts k.0) (behind_part o (λ q. in_front (q ∷ []) (parts_at (at + length k.0 + length h.0 + 3) h.1))))) r
           ∙ in_front_twice found (plain_parts k.0) _ ∙ in_front_twice (found ++ plain_parts k.0) (p ∷ []) _
 
 no_mark : (b : ℕ) (bs : List ℕ) → ((rest : List ℕ) → b ∷ bs ≢ encode_utf8 33 ++ rest) → (b == 33) ≡ false

@@ -24,7 +24,7 @@ use Rattle.cf_tree.specs.declared.template.Res.{Res}
 use Rattle.cf_tree.specs.declared.template.Template.{Template}
 use Rattle.cf_template.specs.declared.refusal.TemplateFault.{TemplateFault}
 use Rattle.cf_template.specs.Refusals.{Reading, after, mapped, provided, unless}
-use Rattle.cf_template.specs.Places.{member_at}
+use Rattle.cf_template.specs.Places.{member_place}
 use Rattle.cf_tree.specs.Datum as tree
 use Rattle.cf_tree.specs.Forms.{Form}
 use Rattle.cf_tree.specs.Tests.{Test}
@@ -32,14 +32,14 @@ use Rattle.cf_tree.specs.declared.template.Deletion.{Deletion}
 use Rattle.cf_template.specs.declared.refusal.TemplateFault.TheVariants.{WrongShape, BadName, BadVersion, TooLong}
 use Rattle.cf_template.specs.declared.walk.Region.TheVariants.{Root}
 use Rattle.cf_template.specs.Words.{is_name}
-use Rattle.cf_template.specs.Shapes.{has, optional, required, plain_text, unread}
+use Rattle.cf_template.specs.Shapes.{has_member, optional, required, plain_text, unread}
 use Rattle.cf_template.specs.Exprs.{values_of}
 use Rattle.cf_template.specs.Walk.{walk_fault}
 use Rattle.cf_template.specs.Params.{params_in}
 use Rattle.cf_template.specs.Maps.{mappings_in}
 use Rattle.cf_template.specs.Conds.{conds_in}
-use Rattle.cf_template.specs.Outputs.{outputs_in}
-use Rattle.cf_template.specs.Resources.{resources_in, resource_of, resource_fields, resource_members_fault, names_of, deletion_of, replace_of, or_none}
+use Rattle.cf_template.specs.Outputs.{outputs_form}
+use Rattle.cf_template.specs.Resources.{resources_in, resource_of, resource_fields, resource_members_fault, depends_form, deletion_form, replace_of, or_none}
 use Rattle.cf_template.specs.Json.{json_of, count}
 use Rattle.cf_template.specs.Whole.{section, free_section, required_section, count_fault, empty_fault, sections_fault, is_version, sections_of, template_from, value_template, template_of}
 
@@ -207,24 +207,24 @@ module _ (ps : List Param) (k : List ℕ) (d : Data) (at : List ℕ) where
   with_depends c del dep = after (optional unread (codes "Metadata") d at) (λ _. with_metadata c del dep)
 
   abbrev with_deletion : Option (List ℕ) → Option Deletion → Reading Res
-  with_deletion c del = after (optional names_of (codes "DependsOn") d at) (with_depends c del)
+  with_deletion c del = after (optional depends_form (codes "DependsOn") d at) (with_depends c del)
 
   abbrev with_condition : Option (List ℕ) → Reading Res
-  with_condition c = after (optional deletion_of (codes "DeletionPolicy") d at) (with_deletion c)
+  with_condition c = after (optional deletion_form (codes "DeletionPolicy") d at) (with_deletion c)
 
   fields_named : IfOk (resource_fields ps k d at) IsNamed
   fields_named =
       after_ok IsNamed (optional plain_text (codes "Condition") d at) with_condition (λ c.
-      after_ok IsNamed (optional deletion_of (codes "DeletionPolicy") d at) (with_deletion c) (λ del.
-      after_ok IsNamed (optional names_of (codes "DependsOn") d at) (with_depends c del) (λ dep.
+      after_ok IsNamed (optional deletion_form (codes "DeletionPolicy") d at) (with_deletion c) (λ del.
+      after_ok IsNamed (optional depends_form (codes "DependsOn") d at) (with_depends c del) (λ dep.
       after_ok IsNamed (optional unread (codes "Metadata") d at) (λ _. with_metadata c del dep) (λ u.
       after_ok IsNamed (optional (values_of ps) (codes "Properties") d at) (with_props c del dep) (λ props.
       after_ok IsNamed (required plain_text (codes "Type") d at) (with_kind c del dep props) (λ kind. kind_named c del dep props kind))))))
 
 resource_named : (ps : List Param) (k : List ℕ) (d : Data) (at : List ℕ) → IfOk (resource_of ps k d at) (λ r. r.name ≡ k)
 resource_named ps k (object ms) at =
-    unless_ok (λ r. r.name ≡ k) (resource_members_fault ms at) (provided (has (codes "Type") (object ms)) (WrongShape at) (resource_fields ps k (object ms) at))
-    (provided_ok (λ r. r.name ≡ k) (has (codes "Type") (object ms)) (WrongShape at) (resource_fields ps k (object ms) at) (fields_named ps k (object ms) at))
+    unless_ok (λ r. r.name ≡ k) (resource_members_fault ms at) (provided (has_member (codes "Type") (object ms)) (WrongShape at) (resource_fields ps k (object ms) at))
+    (provided_ok (λ r. r.name ≡ k) (has_member (codes "Type") (object ms)) (WrongShape at) (resource_fields ps k (object ms) at) (fields_named ps k (object ms) at))
 resource_named ps k (array ds) at = tt
 resource_named ps k null at = tt
 resource_named ps k (boolean b) at = tt
@@ -244,14 +244,14 @@ AreOrdered rs = ascends (under_names rs) ≡ true
 resources_ordered : (ps : List Param) (ms : Members) (at : List ℕ) (found : List Res) → ascends (under_names found ++ names_in ms) ≡ true → IfOk (resources_in ps ms at found) AreOrdered
 resources_ordered ps no_members at found h = ap ascends (sym (append-nil (under_names found))) ∙ h
 resources_ordered ps (member k d ms) at found h =
-    provided_ok AreOrdered (is_name k) (BadName (member_at at k)) (after (resource_of ps k d (member_at at k)) (λ r. resources_in ps ms at (found ++ r ∷ [])))
-    (then_ok (λ r. r.name ≡ k) AreOrdered (resource_of ps k d (member_at at k)) (λ r. resources_in ps ms at (found ++ r ∷ []))
+    provided_ok AreOrdered (is_name k) (BadName (member_place at k)) (after (resource_of ps k d (member_place at k)) (λ r. resources_in ps ms at (found ++ r ∷ [])))
+    (then_ok (λ r. r.name ≡ k) AreOrdered (resource_of ps k d (member_place at k)) (λ r. resources_in ps ms at (found ++ r ∷ []))
     (λ r e.
     resources_ordered ps ms at (found ++ r ∷ [])
     (ap (λ ns. ascends (ns ++ names_in ms)) (map-append (λ (x : Res). (x.name, true)) found (r ∷ []))
     ∙ ap ascends (append_assoc (under_names found) ((r.name, true) ∷ []) (names_in ms))
     ∙ ap (λ n. ascends (under_names found ++ (n, true) ∷ names_in ms)) e ∙ h))
-    (resource_named ps k d (member_at at k)))
+    (resource_named ps k d (member_place at k)))
 
 -- names of the form that ids have
 abbrev pub AreNamed : List Res → Type 0
@@ -267,16 +267,16 @@ one_more found r h n = list_all-append (λ x. is_name x.name) found (r ∷ []) �
 resources_all_named : (ps : List Param) (ms : Members) (at : List ℕ) (found : List Res) → AreNamed found → IfOk (resources_in ps ms at found) AreNamed
 resources_all_named ps no_members at found h = h
 resources_all_named ps (member k d ms) at found h =
-    provided_so AreNamed (is_name k) (BadName (member_at at k)) (after (resource_of ps k d (member_at at k)) (λ r. resources_in ps ms at (found ++ r ∷ []))) (λ n.
-    then_ok (λ r. r.name ≡ k) AreNamed (resource_of ps k d (member_at at k)) (λ r. resources_in ps ms at (found ++ r ∷ []))
+    provided_so AreNamed (is_name k) (BadName (member_place at k)) (after (resource_of ps k d (member_place at k)) (λ r. resources_in ps ms at (found ++ r ∷ []))) (λ n.
+    then_ok (λ r. r.name ≡ k) AreNamed (resource_of ps k d (member_place at k)) (λ r. resources_in ps ms at (found ++ r ∷ []))
     (λ r e. resources_all_named ps ms at (found ++ r ∷ []) (one_more found r h (ap is_name e ∙ n)))
-    (resource_named ps k d (member_at at k)))
+    (resource_named ps k d (member_place at k)))
 
 -- what the resources that were read have, the section has
-section_has : (P : List Res → Type 0) (ps : List Param) (ms : Members) → IfOk (resources_in ps ms (member_at [] (codes "Resources")) []) P
+section_has : (P : List Res → Type 0) (ps : List Param) (ms : Members) → IfOk (resources_in ps ms (member_place [] (codes "Resources")) []) P
     → IfOk (required_section (resources_in ps) 500 (codes "Resources") (Some (object ms))) P
 section_has P ps ms h =
-    let read = resources_in ps ms (member_at [] (codes "Resources")) [] in
+    let read = resources_in ps ms (member_place [] (codes "Resources")) [] in
     unless_ok P (empty_fault (codes "Resources") (count ms)) (unless (count_fault (codes "Resources") 500 (count ms)) read)
     (unless_ok P (count_fault (codes "Resources") 500 (count ms)) read h)
 
@@ -284,7 +284,7 @@ section_ordered : (ps : List Param) (o : Option Data) → IfSome Sorted o → If
 section_ordered ps None s = tt
 section_ordered ps (Some (object ms)) s =
     section_has AreOrdered ps ms
-    (resources_ordered ps ms (member_at [] (codes "Resources")) [] (ascends_map (λ (p : List ℕ × Data). (p.0, true)) (λ p. refl) (pairs_in ms) ∙ s.0))
+    (resources_ordered ps ms (member_place [] (codes "Resources")) [] (ascends_map (λ (p : List ℕ × Data). (p.0, true)) (λ p. refl) (pairs_in ms) ∙ s.0))
 section_ordered ps (Some (array ds)) s = tt
 section_ordered ps (Some null) s = tt
 section_ordered ps (Some (boolean b)) s = tt
@@ -293,7 +293,7 @@ section_ordered ps (Some (string t)) s = tt
 
 section_named : (ps : List Param) (o : Option Data) → IfOk (required_section (resources_in ps) 500 (codes "Resources") o) AreNamed
 section_named ps None = tt
-section_named ps (Some (object ms)) = section_has AreNamed ps ms (resources_all_named ps ms (member_at [] (codes "Resources")) [] refl)
+section_named ps (Some (object ms)) = section_has AreNamed ps ms (resources_all_named ps ms (member_place [] (codes "Resources")) [] refl)
 section_named ps (Some (array ds)) = tt
 section_named ps (Some null) = tt
 section_named ps (Some (boolean b)) = tt
@@ -316,7 +316,7 @@ module _ (P : List Res → Type 0) (d : Data) where
         conds = conds;
         resources = resources;
         outputs = outputs;
-      }) (section (outputs_in params) 200 (codes "Outputs") (get (codes "Outputs") d))
+      }) (section (outputs_form params) 200 (codes "Outputs") (get (codes "Outputs") d))
 
   abbrev with_conds : List Param → Mappings → List (List ℕ × Test) → Reading Template
   with_conds params mappings conds = after (required_section (resources_in params) 500 (codes "Resources") (get (codes "Resources") d)) (with_resources params mappings conds)
@@ -341,7 +341,7 @@ module _ (P : List Res → Type 0) (d : Data) where
       after_ok HasAll (section mappings_in 200 (codes "Mappings") (get (codes "Mappings") d)) (with_mappings params) (λ mappings.
       after_ok HasAll (free_section (conds_in params) (codes "Conditions") (get (codes "Conditions") d)) (with_conds params mappings) (λ conds.
       then_ok P HasAll (required_section (resources_in params) 500 (codes "Resources") (get (codes "Resources") d)) (with_resources params mappings conds)
-      (λ resources o. map_ok HasAll _ (section (outputs_in params) 200 (codes "Outputs") (get (codes "Outputs") d)) (λ outputs. o)) (h params))))))
+      (λ resources o. map_ok HasAll _ (section (outputs_form params) 200 (codes "Outputs") (get (codes "Outputs") d)) (λ outputs. o)) (h params))))))
 
 from_has : (Q : Template → Type 0) (ms : Members) → IfOk (sections_of (object ms)) Q → IfOk (template_from (object ms)) Q
 from_has Q ms h =

@@ -7,7 +7,7 @@ use Rattle.cf_tree.specs.Tests.{Test}
 use Rattle.cf_tree.specs.declared.template.Param.{Param}
 use Rattle.cf_template.specs.declared.refusal.TemplateFault.{TemplateFault}
 use Rattle.cf_template.specs.declared.refusal.TemplateFault.TheVariants.{NoMemory}
-use Rattle.cf_template.specs.Refusals.{Reading, after, mapped, Gives, GivesBy}
+use Rattle.cf_template.specs.Refusals.{Reading, after, mapped, ReadsAs, GivesBy}
 use Rattle.cf_template.specs.Places.{item_at}
 use Rattle.cf_template.specs.Conds.{test_of, tests_in}
 
@@ -30,7 +30,7 @@ pub mapped_gives : {A C : Type 0} (f : A → C) (r : Reading A) (a : A) → r �
 mapped_gives f r a o = ap (mapped f) o
 
 -- a refusal that is passed on, by a reader that leaves what it read in a place
-pub refused : {A : Type 0} (rules : Reading A) (left : A) (r : Reading ⊤) (e : TemplateFault) → IsErrAnd r (λ x. x ≡ e) → (e ≡ NoMemory) ⊎ (rules ≡ Err e) → Gives rules (mapped (λ _. left) r)
+pub refused : {A : Type 0} (rules : Reading A) (left : A) (r : Reading ⊤) (e : TemplateFault) → IsErrAnd r (λ x. x ≡ e) → (e ≡ NoMemory) ⊎ (rules ≡ Err e) → ReadsAs rules (mapped (λ _. left) r)
 refused rules left (Ok t) e h g = absurd h
 refused rules left (Err x) e h (inl m) = inl (h ∙ m)
 refused rules left (Err x) e h (inr q) = inr (cc)

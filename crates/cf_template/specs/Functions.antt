@@ -1,4 +1,5 @@
--- The functions of templates by name (template reference: intrinsic functions, condition functions). Which of them aren't taken is this project's own.
+-- The functions of templates by name (template reference: intrinsic functions, condition functions). Which of them aren't taken is this
+-- project's own.
 use Rattle.std.specs.Prelude.{ℕ, List, [], ◌∷◌, codes, Bool, false, ◌||◌, nat_eq, if◌then◌else◌}
 use Rattle.std.specs.Str.{bytes_eq}
 use Rattle.std.specs.List.{starts_with, list_any}
@@ -64,7 +65,8 @@ stray_object ms at = WrongShape at
 -- the pseudo parameters that have a value (template reference, pseudo parameters)
 abbrev pub is_pseudo : List ℕ → Bool
 is_pseudo k =
-    is_among (codes "AWS::AccountId" ∷ codes "AWS::NotificationARNs" ∷ codes "AWS::Partition" ∷ codes "AWS::Region" ∷ codes "AWS::URLSuffix" ∷ codes "AWS::StackName" ∷ codes "AWS::StackId" ∷ []) k
+    is_among (codes "AWS::AccountId" ∷ codes "AWS::NotificationARNs" ∷ codes "AWS::Partition" ∷ codes "AWS::Region" ∷ codes "AWS::URLSuffix"
+    ∷ codes "AWS::StackName" ∷ codes "AWS::StackId" ∷ []) k
 
 -- whether a template declares a parameter
 abbrev pub is_declared : List Param → List ℕ → Bool

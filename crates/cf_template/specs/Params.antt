@@ -12,14 +12,15 @@ use Rattle.cf_template.specs.declared.refusal.TemplateFault.TheVariants.{WrongSh
 use Rattle.cf_template.specs.declared.param.Words.{Words}
 use Rattle.cf_template.specs.declared.param.Limits.{Limits}
 use Rattle.cf_template.specs.Refusals.{Reading, after, mapped, provided}
-use Rattle.cf_template.specs.Places.{member_at}
+use Rattle.cf_template.specs.Places.{member_place}
 use Rattle.cf_template.specs.Words.{is_name}
 use Rattle.cf_template.specs.Functions.{is_among}
-use Rattle.cf_template.specs.Shapes.{has_only, has, optional, required, plain_text, items_from}
+use Rattle.cf_template.specs.Shapes.{has_only, has_member, optional, required, plain_text, items_from}
 
 abbrev pub is_param_member : List ℕ → Bool
 is_param_member =
-    is_among (codes "AllowedPattern" ∷ codes "AllowedValues" ∷ codes "ConstraintDescription" ∷ codes "Default" ∷ codes "Description" ∷ codes "MaxLength" ∷ codes "MaxValue" ∷ codes "MinLength" ∷ codes "MinValue" ∷ codes "NoEcho" ∷ codes "Type" ∷ [])
+    is_among (codes "AllowedPattern" ∷ codes "AllowedValues" ∷ codes "ConstraintDescription" ∷ codes "Default" ∷ codes "Description"
+    ∷ codes "MaxLength" ∷ codes "MaxValue" ∷ codes "MinLength" ∷ codes "MinValue" ∷ codes "NoEcho" ∷ codes "Type" ∷ [])
 
 -- the value that an option has
 abbrev pub found_or : {A : Type 0} → List ℕ → Option A → Reading A
@@ -58,10 +59,11 @@ bound_of (string t) at = found_or at (number_of t)
 bound_of d at = Err (WrongShape at)
 
 -- a truth value, also as a text
-abbrev pub truth_of : Data → List ℕ → Reading Bool
-truth_of (boolean b) at = Ok b
-truth_of (string t) at = if bytes_eq t (codes "true") then Ok true else if bytes_eq t (codes "false") then Ok false else Err (WrongShape at)
-truth_of d at = Err (WrongShape at)
+abbrev pub truth_form : Data → List ℕ → Reading Bool
+truth_form (boolean b) at = Ok b
+truth_form (string t) at =
+    if bytes_eq t (codes "true") then Ok true else if bytes_eq t (codes "false") then Ok false else Err (WrongShape at)
+truth_form d at = Err (WrongShape at)
 
 abbrev pub kind_named : List ℕ → List ℕ → Reading Kind
 kind_named t at =
@@ -71,9 +73,9 @@ kind_named t at =
     else if bytes_eq t (codes "CommaDelimitedList") then Ok kind.Commas
     else Err (Unsupported at t)
 
-abbrev pub kind_of : Data → List ℕ → Reading Kind
-kind_of (string t) at = kind_named t at
-kind_of d at = Err (WrongShape at)
+abbrev pub kind_form : Data → List ℕ → Reading Kind
+kind_form (string t) at = kind_named t at
+kind_form d at = Err (WrongShape at)
 
 -- the members of a parameter, one after another in byte order: first those that are texts, then the others
 abbrev pub words_of : Data → List ℕ → Reading Words
@@ -96,7 +98,7 @@ limits_of d at =
     after (optional bound_of (codes "MaxValue") d at) (λ max_value.
     after (optional length_of (codes "MinLength") d at) (λ min_length.
     after (optional bound_of (codes "MinValue") d at) (λ min_value.
-    after (optional truth_of (codes "NoEcho") d at) (λ no_echo.
+    after (optional truth_form (codes "NoEcho") d at) (λ no_echo.
     mapped (λ kind. record {
       max_length = max_length;
       max_value = max_value;
@@ -104,7 +106,7 @@ limits_of d at =
       min_value = min_value;
       no_echo = no_echo;
       kind = kind;
-    }) (required kind_of (codes "Type") d at))))))
+    }) (required kind_form (codes "Type") d at))))))
 
 abbrev pub param_with : List ℕ → Words → Limits → Param
 param_with name w l = record {
@@ -127,10 +129,10 @@ param_fields name d at = after (words_of d at) (λ w. mapped (param_with name w)
 
 -- a parameter: an object with known members and a type
 abbrev pub param_of : List ℕ → Data → List ℕ → Reading Param
-param_of name d at = provided (has_only is_param_member d && has (codes "Type") d) (WrongShape at) (param_fields name d at)
+param_of name d at = provided (has_only is_param_member d && has_member (codes "Type") d) (WrongShape at) (param_fields name d at)
 
 -- the members of the section behind those found before
 abbrev pub params_in : Members → List ℕ → List Param → Reading (List Param)
 params_in no_members at found = Ok found
 params_in (member k d ms) at found =
-    provided (is_name k) (BadName (member_at at k)) (after (param_of k d (member_at at k)) (λ p. params_in ms at (found ++ p ∷ [])))
+    provided (is_name k) (BadName (member_place at k)) (after (param_of k d (member_place at k)) (λ p. params_in ms at (found ++ p ∷ [])))

@@ -11,8 +11,8 @@ abbrev pub escaped : List ℕ → List ℕ
 escaped name = replaced 47 (codes "~1") (replaced 126 (codes "~0") name)
 
 -- the member of a name, at an object's place
-abbrev pub member_at : List ℕ → List ℕ → List ℕ
-member_at at name = at ++ (47 ∷ []) ++ escaped name
+abbrev pub member_place : List ℕ → List ℕ → List ℕ
+member_place at name = at ++ (47 ∷ []) ++ escaped name
 
 -- the item of an index, at a list's place
 abbrev pub item_at : List ℕ → ℕ → List ℕ

@@ -1,4 +1,4 @@
--- What a part of a template gives when it is read: what it is, or the first refusal.
+-- What a part of a template gives when it is read: what it is, or the first refusal (the order of refusals is this project's own).
 use Rattle.std.specs.Prelude.{◌≡◌, ℕ, Bool, Option, Some, None, Result, Ok, Err, ⊤, if◌then◌else◌}
 use Rattle.std.proofs.Common.{◌⊎◌}
 use Rattle.std.specs.Global.{Box}
@@ -39,9 +39,9 @@ mapped f (Ok a) = Ok (f a)
 mapped f (Err e) = Err e
 
 -- the first refusal, where one comes before another
-abbrev pub first_of : Option TemplateFault → Option TemplateFault → Option TemplateFault
-first_of (Some e) later = Some e
-first_of None later = later
+abbrev pub first_refusal : Option TemplateFault → Option TemplateFault → Option TemplateFault
+first_refusal (Some e) later = Some e
+first_refusal None later = later
 
 -- what is read where a test holds, else the refusal
 abbrev pub provided : {A : Type 0} → Bool → TemplateFault → Reading A → Reading A
@@ -61,9 +61,9 @@ GivesBy f r (Err e) = (e ≡ NoMemory) ⊎ (r ≡ Err e)
 abbrev pub inside : Box Form → Form
 inside b = b.value
 
-abbrev pub Gives : {A : Type 0} → Reading A → Reading A → Type 0
-Gives r (Ok a) = r ≡ Ok a
-Gives r (Err e) = (e ≡ NoMemory) ⊎ (r ≡ Err e)
+abbrev pub ReadsAs : {A : Type 0} → Reading A → Reading A → Type 0
+ReadsAs r (Ok a) = r ≡ Ok a
+ReadsAs r (Err e) = (e ≡ NoMemory) ⊎ (r ≡ Err e)
 
 -- what a test answers: nothing exactly where nothing is refused, else the refusal, or that memory was not there
 abbrev pub Finds : Option TemplateFault → Result ⊤ TemplateFault → Type 0

@@ -10,16 +10,17 @@ use Rattle.cf_tree.specs.declared.template.Replace.{Replace}
 use Rattle.cf_tree.specs.declared.template.Replace.TheVariants as replace
 use Rattle.cf_template.specs.declared.refusal.TemplateFault.{TemplateFault}
 use Rattle.cf_template.specs.declared.refusal.TemplateFault.TheVariants.{WrongShape, BadName, Unsupported}
-use Rattle.cf_template.specs.Refusals.{Reading, after, mapped, provided, unless, first_of}
-use Rattle.cf_template.specs.Places.{member_at}
+use Rattle.cf_template.specs.Refusals.{Reading, after, mapped, provided, unless, first_refusal}
+use Rattle.cf_template.specs.Places.{member_place}
 use Rattle.cf_template.specs.Words.{is_name}
 use Rattle.cf_template.specs.Functions.{is_among}
-use Rattle.cf_template.specs.Shapes.{has, optional, required, plain_text, unread, items_from}
+use Rattle.cf_template.specs.Shapes.{has_member, optional, required, plain_text, unread, items_from}
 use Rattle.cf_template.specs.Exprs.{values_of}
 
 abbrev pub is_resource_member : List ℕ → Bool
 is_resource_member =
-    is_among (codes "Condition" ∷ codes "DeletionPolicy" ∷ codes "DependsOn" ∷ codes "Metadata" ∷ codes "Properties" ∷ codes "Type" ∷ codes "UpdateReplacePolicy" ∷ [])
+    is_among (codes "Condition" ∷ codes "DeletionPolicy" ∷ codes "DependsOn" ∷ codes "Metadata" ∷ codes "Properties" ∷ codes "Type"
+    ∷ codes "UpdateReplacePolicy" ∷ [])
 
 abbrev pub is_untaken_member : List ℕ → Bool
 is_untaken_member = is_among (codes "CreationPolicy" ∷ codes "UpdatePolicy" ∷ [])
@@ -28,18 +29,18 @@ is_untaken_member = is_among (codes "CreationPolicy" ∷ codes "UpdatePolicy" �
 abbrev pub resource_member_fault : List ℕ → List ℕ → Option TemplateFault
 resource_member_fault k at =
     if is_resource_member k then None
-    else if is_untaken_member k then Some (Unsupported (member_at at k) k)
+    else if is_untaken_member k then Some (Unsupported (member_place at k) k)
     else Some (WrongShape at)
 
 abbrev pub resource_members_fault : Members → List ℕ → Option TemplateFault
 resource_members_fault no_members at = None
-resource_members_fault (member k d ms) at = first_of (resource_member_fault k at) (resource_members_fault ms at)
+resource_members_fault (member k d ms) at = first_refusal (resource_member_fault k at) (resource_members_fault ms at)
 
 -- a text, or a list of texts
-abbrev pub names_of : Data → List ℕ → Reading (List (List ℕ))
-names_of (string t) at = Ok (t ∷ [])
-names_of (array ds) at = items_from plain_text ds at 0 []
-names_of d at = Err (WrongShape at)
+abbrev pub depends_form : Data → List ℕ → Reading (List (List ℕ))
+depends_form (string t) at = Ok (t ∷ [])
+depends_form (array ds) at = items_from plain_text ds at 0 []
+depends_form d at = Err (WrongShape at)
 
 abbrev pub deletion_named : List ℕ → List ℕ → Reading Deletion
 deletion_named t at =
@@ -49,9 +50,9 @@ deletion_named t at =
     else if bytes_eq t (codes "Snapshot") then Err (Unsupported at t)
     else Err (WrongShape at)
 
-abbrev pub deletion_of : Data → List ℕ → Reading Deletion
-deletion_of (string t) at = deletion_named t at
-deletion_of d at = Err (WrongShape at)
+abbrev pub deletion_form : Data → List ℕ → Reading Deletion
+deletion_form (string t) at = deletion_named t at
+deletion_form d at = Err (WrongShape at)
 
 abbrev pub replace_named : List ℕ → List ℕ → Reading Replace
 replace_named t at =
@@ -73,8 +74,8 @@ or_none (Some xs) = xs
 abbrev pub resource_fields : List Param → List ℕ → Data → List ℕ → Reading Res
 resource_fields ps name d at =
     after (optional plain_text (codes "Condition") d at) (λ condition.
-    after (optional deletion_of (codes "DeletionPolicy") d at) (λ deletion.
-    after (optional names_of (codes "DependsOn") d at) (λ depends.
+    after (optional deletion_form (codes "DeletionPolicy") d at) (λ deletion.
+    after (optional depends_form (codes "DependsOn") d at) (λ depends.
     after (optional unread (codes "Metadata") d at) (λ _.
     after (optional (values_of ps) (codes "Properties") d at) (λ props.
     after (required plain_text (codes "Type") d at) (λ kind.
@@ -90,11 +91,14 @@ resource_fields ps name d at =
 
 -- a resource: an object whose members are taken, and that has a type
 abbrev pub resource_of : List Param → List ℕ → Data → List ℕ → Reading Res
-resource_of ps name (object ms) at = unless (resource_members_fault ms at) (provided (has (codes "Type") (object ms)) (WrongShape at) (resource_fields ps name (object ms) at))
+resource_of ps name (object ms) at =
+    unless (resource_members_fault ms at)
+    (provided (has_member (codes "Type") (object ms)) (WrongShape at) (resource_fields ps name (object ms) at))
 resource_of ps name d at = Err (WrongShape at)
 
 -- the members of the section behind those found before
 abbrev pub resources_in : List Param → Members → List ℕ → List Res → Reading (List Res)
 resources_in ps no_members at found = Ok found
 resources_in ps (member k d ms) at found =
-    provided (is_name k) (BadName (member_at at k)) (after (resource_of ps k d (member_at at k)) (λ r. resources_in ps ms at (found ++ r ∷ [])))
+    provided (is_name k) (BadName (member_place at k))
+    (after (resource_of ps k d (member_place at k)) (λ r. resources_in ps ms at (found ++ r ∷ [])))

@@ -1,10 +1,10 @@
--- What the objects and lists of a template must be, member by member.
+-- What the objects and lists of a template must be, member by member (template reference; the order of refusals is this project's own).
 use Rattle.std.specs.Prelude.{ℕ, suc, List, [], ◌∷◌, ◌++◌, ◌&&◌, Bool, true, false, is_some, Option, Some, None, Ok, Err}
 use Rattle.serde_json.specs.Data.{Data, string, object, Items, no_items, item, Members, no_members, member}
 use Rattle.serde_json.specs.Find.{get}
 use Rattle.cf_template.specs.declared.refusal.TemplateFault.TheVariants.{WrongShape}
 use Rattle.cf_template.specs.Refusals.{Reading, after, mapped}
-use Rattle.cf_template.specs.Places.{member_at, item_at}
+use Rattle.cf_template.specs.Places.{member_place, item_at}
 
 -- whether each member of an object has a name that passes a test; a value that is no object has no members
 abbrev pub all_named : (List ℕ → Bool) → Members → Bool
@@ -17,8 +17,8 @@ has_only known (object ms) = all_named known ms
 has_only known d = false
 
 -- whether an object has the member of a name
-abbrev pub has : List ℕ → Data → Bool
-has k d = is_some (get k d)
+abbrev pub has_member : List ℕ → Data → Bool
+has_member k d = is_some (get k d)
 
 -- a member that may be missing
 abbrev pub optional_from : {A : Type 0} → (Data → List ℕ → Reading A) → Option Data → List ℕ → Reading (Option A)
@@ -26,7 +26,7 @@ optional_from read None at = Ok None
 optional_from read (Some d) at = mapped Some (read d at)
 
 abbrev pub optional : {A : Type 0} → (Data → List ℕ → Reading A) → List ℕ → Data → List ℕ → Reading (Option A)
-optional read k d at = optional_from read (get k d) (member_at at k)
+optional read k d at = optional_from read (get k d) (member_place at k)
 
 -- a member that stands where it must
 abbrev pub required_from : {A : Type 0} → (Data → List ℕ → Reading A) → Option Data → List ℕ → List ℕ → Reading A
@@ -34,7 +34,7 @@ required_from read None at in_ = Err (WrongShape at)
 required_from read (Some d) at in_ = read d in_
 
 abbrev pub required : {A : Type 0} → (Data → List ℕ → Reading A) → List ℕ → Data → List ℕ → Reading A
-required read k d at = required_from read (get k d) at (member_at at k)
+required read k d at = required_from read (get k d) at (member_place at k)
 
 -- a text of any kind
 abbrev pub plain_text : Data → List ℕ → Reading (List ℕ)

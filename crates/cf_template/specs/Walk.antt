@@ -1,4 +1,6 @@
--- Nulls and numbers, wherever they stand in a template: a null is refused everywhere, and a number that is no signed whole number of 64 bits everywhere but in the Metadata of the template and of its resources (this project's own; User Guide: Metadata is free). An object or a list comes before its members, members come in the order of their names' bytes.
+-- Nulls and numbers, wherever they stand in a template: a null is refused everywhere, and a number that is no signed whole number of 64
+-- bits everywhere but in the Metadata of the template and of its resources (this project's own; User Guide: Metadata is free). An object
+-- or a list comes before its members, members come in the order of their names' bytes.
 use Rattle.std.specs.Prelude.{◌≡◌, ◌⊎◌, ℕ, suc, List, codes, Bool, true, is_some, Option, Some, None, Result, Ok, Err, ⊤, if◌then◌else◌}
 use Rattle.std.specs.Str.{bytes_eq}
 use Rattle.serde_json.specs.Data.{Num, Data, null, boolean, number, string, array, object, Items, no_items, item, Members, no_members, member}
@@ -7,8 +9,8 @@ use Rattle.cf_template.specs.declared.refusal.TemplateFault.{TemplateFault}
 use Rattle.cf_template.specs.declared.refusal.TemplateFault.TheVariants.{NullValue, BadNumber, NoMemory}
 use Rattle.cf_template.specs.declared.walk.Region.{Region}
 use Rattle.cf_template.specs.declared.walk.Region.TheVariants.{Root, Resources, Resource, Metadata, Other}
-use Rattle.cf_template.specs.Refusals.{first_of}
-use Rattle.cf_template.specs.Places.{member_at, item_at}
+use Rattle.cf_template.specs.Refusals.{first_refusal}
+use Rattle.cf_template.specs.Places.{member_place, item_at}
 
 -- where the member of a name stands, in an object that stands somewhere
 abbrev pub member_region : Region → List ℕ → Region
@@ -43,13 +45,14 @@ abbrev mutual
 
   pub items_fault : Items → Region → List ℕ → ℕ → Option TemplateFault
   items_fault no_items r at i = None
-  items_fault (item d ds) r at i = first_of (walk_fault d r (item_at at i)) (items_fault ds r at (suc i))
+  items_fault (item d ds) r at i = first_refusal (walk_fault d r (item_at at i)) (items_fault ds r at (suc i))
 
   pub members_fault : Members → Region → List ℕ → Option TemplateFault
   members_fault no_members r at = None
-  members_fault (member k d ms) r at = first_of (walk_fault d (member_region r k) (member_at at k)) (members_fault ms r at)
+  members_fault (member k d ms) r at = first_refusal (walk_fault d (member_region r k) (member_place at k)) (members_fault ms r at)
 
--- what a walk from a place answers: nothing where nothing is refused, and the place is as it was; else the first refusal, or that memory was not there
+-- what a walk from a place answers: nothing where nothing is refused, and the place is as it was; else the first refusal, or that memory
+-- was not there
 abbrev pub Walks : Option TemplateFault → List ℕ → List ℕ → Result ⊤ TemplateFault → Type 0
 Walks fault before later (Ok _) = (fault ≡ None) × (later ≡ before)
 Walks fault before later (Err e) = (e ≡ NoMemory) ⊎ (fault ≡ Some e)

@@ -1,4 +1,4 @@
--- The names and texts of a template that its rules speak of.
+-- The names and texts of a template that its rules speak of (User Guide and template reference, as each says).
 use Rattle.std.specs.Prelude.{ℕ, List, [], ◌∷◌, Bool, false, ◌&&◌, ◌||◌, nat_lt, nat_le, nat_eq, length, codes}
 use Rattle.std.specs.Str.{bytes_eq}
 use Rattle.std.specs.Char.{is_ascii_alphanumeric}

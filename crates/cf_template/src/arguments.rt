@@ -4,11 +4,11 @@ ghost use Rattle.std.specs.Prelude.{◌≡◌, codes, IfOk};
 ghost use Rattle.serde_json.specs.Data.{array, item, no_items, object};
 ghost use Rattle.serde_json.specs.View.{view, members_view};
 ghost use Rattle.cf_tree.specs.Form.{node_of};
-ghost use Rattle.cf_template.specs.Exprs.{attribute_of, delimiter, dotted, get_att_of, literal, reference, text_form, text_of};
+ghost use Rattle.cf_template.specs.Exprs.{attribute_form, delimiter, dotted, get_att_of, literal, reference, text_form, literal_text};
 ghost use Rattle.cf_template.specs.Functions.{function_in, function_named, is_declared, stray, stray_object};
 ghost use Rattle.cf_funcs.specs.Pieces.{cut_at};
 ghost use Rattle.cf_template.specs.declared.refusal.TemplateFault.TheVariants.{WrongShape};
-ghost use Rattle.cf_template.specs.Refusals.{Gives, GivesBy, after, mapped};
+ghost use Rattle.cf_template.specs.Refusals.{ReadsAs, GivesBy, after, mapped};
 ghost use Rattle.cf_template.specs.Places.{item_at};
 
 use crate::function::{Function, function_named, has_function, is_declared};
@@ -22,7 +22,7 @@ use std::alloc::{AllocError, Global};
 
 /// A literal text; none may hold a dynamic reference.
 pub(crate) fn literal(alloc: Global, text: &str, at: &Txt) -> Result<Txt, TemplateFault>
-    ensures { Gives (literal text.now at.now) result }
+    ensures { ReadsAs (literal text.now at.now) result }
 {
     if has_reference(text) {
         Err(TemplateFault::Unsupported {
@@ -36,7 +36,7 @@ pub(crate) fn literal(alloc: Global, text: &str, at: &Txt) -> Result<Txt, Templa
 
 /// A literal text where only a text may stand.
 pub(crate) fn text(alloc: Global, value: &Value, at: Txt) -> Result<Txt, TemplateFault>
-    ensures { Gives (text_of (view value.now) at) result }
+    ensures { ReadsAs (literal_text (view value.now) at) result }
 {
     match value {
         Value::String(text) => literal(alloc, text.as_str(), &at),
@@ -53,7 +53,7 @@ pub(crate) fn text_item(
     at: &Txt,
     index: usize,
 ) -> Result<Txt, TemplateFault>
-    ensures { Gives (text_of (view value.now) (item_at at.now index)) result }
+    ensures { ReadsAs (literal_text (view value.now) (item_at at.now index)) result }
 {
     let place = item_at(alloc, at.as_str(), index)?;
     text(alloc, value, place)
@@ -61,7 +61,7 @@ pub(crate) fn text_item(
 
 /// A literal text as an expression.
 pub(crate) fn text_form(alloc: Global, text: &str, at: Txt) -> Result<Expr, TemplateFault>
-    ensures { Gives (mapped (text_form at) (literal text.now at)) result }
+    ensures { ReadsAs (mapped (text_form at) (literal text.now at)) result }
 {
     let text = literal(alloc, text, &at)?;
     Ok(Expr::new(at, ExprNode::Lit(Val::Text(text))))
@@ -173,7 +173,7 @@ fn attribute_of(
     value: &Value,
     at: Txt,
 ) -> Result<Expr, TemplateFault>
-    ensures { Gives (attribute_of params.now (view value.now) at) result }
+    ensures { ReadsAs (attribute_form params.now (view value.now) at) result }
 {
     match value {
         Value::String(text) => text_form(alloc, text.as_str(), at),
@@ -197,7 +197,7 @@ fn parameter(
     members: &Map<String, Value>,
     at: Txt,
 ) -> Result<Expr, TemplateFault>
-    ensures { Gives (reference (is_declared params.now) (function_in (members_view members.now.entries)) (members_view members.now.entries) at) result }
+    ensures { ReadsAs (reference (is_declared params.now) (function_in (members_view members.now.entries)) (members_view members.now.entries) at) result }
 {
     let mut left = members.iter();
     let (Some((name, argument)), None) = (left.next(), left.next()) else {
@@ -219,7 +219,7 @@ fn parameter(
 
 /// A delimiter at which texts are cut: a literal text that isn't empty.
 fn cut_at(alloc: Global, value: &Value, at: Txt) -> Result<Txt, TemplateFault>
-    ensures { Gives (delimiter (view value.now) at) result }
+    ensures { ReadsAs (delimiter (view value.now) at) result }
 {
     let place = at.try_clone(alloc)?;
     let text = text(alloc, value, at)?;
@@ -237,7 +237,7 @@ pub(crate) fn cut_at_item(
     at: &Txt,
     index: usize,
 ) -> Result<Txt, TemplateFault>
-    ensures { Gives (delimiter (view value.now) (item_at at.now index)) result }
+    ensures { ReadsAs (delimiter (view value.now) (item_at at.now index)) result }
 {
     let place = item_at(alloc, at.as_str(), index)?;
     cut_at(alloc, value, place)

@@ -3,9 +3,9 @@ ghost use Rattle.std.specs.Prelude.{◌≡◌, []};
 ghost use Rattle.serde_json.specs.Data.{array, item, no_items};
 ghost use Rattle.serde_json.specs.View.{view, items_view, members_view};
 ghost use Rattle.cf_tree.specs.Test.{test_node_of};
-ghost use Rattle.cf_template.specs.Conds.{conds_in, equals_of, is_two_to_ten, items_count, name_of, negation_of, several_of, test_call, test_of, tests_in};
+ghost use Rattle.cf_template.specs.Conds.{conds_in, equals_of, is_two_to_ten, items_count, condition_named, negation_of, several_of, test_call, test_of, tests_in};
 ghost use Rattle.cf_template.specs.Functions.{function_in};
-ghost use Rattle.cf_template.specs.Refusals.{Gives, GivesBy, mapped};
+ghost use Rattle.cf_template.specs.Refusals.{ReadsAs, GivesBy, mapped};
 
 use crate::arguments::{stray, text, wrong_shape};
 use crate::expr::value;
@@ -25,7 +25,7 @@ pub(crate) fn conditions(
     at: &Txt,
     found: &mut NamedConds,
 ) -> Result<(), TemplateFault>
-    ensures { Gives (conds_in params.now (members_view members.now.entries) at.now found.old) (mapped (λ _. found.new) result) }
+    ensures { ReadsAs (conds_in params.now (members_view members.now.entries) at.now found.old) (mapped (λ _. found.new) result) }
 {
     for (name, member) in members.iter() {
         let place = member_at(alloc, at.as_str(), name.as_str())?;
@@ -40,7 +40,7 @@ pub(crate) fn conditions(
 
 #[cycle(condition)]
 fn condition(alloc: Global, params: &Params, value: &Value, at: Txt) -> Result<Cond, TemplateFault>
-    ensures { Gives (test_of params.now (view value.now) at) result }
+    ensures { ReadsAs (test_of params.now (view value.now) at) result }
 {
     let Value::Object(members) = value else {
         return Err(TemplateFault::WrongShape { path: at });
@@ -56,7 +56,7 @@ fn condition(alloc: Global, params: &Params, value: &Value, at: Txt) -> Result<C
 
 /// The object that names a condition.
 fn named(alloc: Global, members: &Map<String, Value>, at: &Txt) -> Result<CondNode, TemplateFault>
-    ensures { GivesBy test_node_of (name_of (members_view members.now.entries) at.now) result }
+    ensures { GivesBy test_node_of (condition_named (members_view members.now.entries) at.now) result }
 {
     let mut left = members.iter();
     let (Some((key, argument)), None) = (left.next(), left.next()) else {
@@ -197,7 +197,7 @@ fn several(
     argument: &Value,
     at: Txt,
 ) -> Result<Conds, TemplateFault>
-    ensures { Gives (several_of params.now (view argument.now) at) result }
+    ensures { ReadsAs (several_of params.now (view argument.now) at) result }
 {
     let Value::Array(items) = argument else {
         return Err(TemplateFault::WrongShape { path: at });
@@ -229,7 +229,7 @@ fn each(
     items: &Vec<Value>,
     at: &Txt,
 ) -> Result<Conds, TemplateFault>
-    ensures { Gives (tests_in params.now (items_view items.now.items) at.now 0 []) result }
+    ensures { ReadsAs (tests_in params.now (items_view items.now.items) at.now 0 []) result }
 {
     let mut found = Conds::new(alloc);
     match push_each(alloc, params, items, at, &mut found) {
@@ -250,7 +250,7 @@ fn push_each(
     at: &Txt,
     found: &mut Conds,
 ) -> Result<(), TemplateFault>
-    ensures { Gives (tests_in params.now (items_view items.now.items) at.now 0 found.old) (mapped (λ _. found.new) result) }
+    ensures { ReadsAs (tests_in params.now (items_view items.now.items) at.now 0 found.old) (mapped (λ _. found.new) result) }
 {
     let mut index = 0;
     for item in items {

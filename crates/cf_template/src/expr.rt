@@ -5,7 +5,7 @@ ghost use Rattle.serde_json.specs.View.{view, items_view, members_view};
 ghost use Rattle.cf_tree.specs.Form.{node_of};
 ghost use Rattle.cf_template.specs.Functions.{function_in};
 ghost use Rattle.cf_template.specs.Exprs.{call_of, choice_of, fields_in, form_of, forms_in, holed_text, join_of, map_of, select_of, split_of, sub_of, values_of};
-ghost use Rattle.cf_template.specs.Refusals.{Gives, GivesBy, inside, mapped};
+ghost use Rattle.cf_template.specs.Refusals.{ReadsAs, GivesBy, inside, mapped};
 ghost use Rattle.cf_template.specs.Places.{item_at};
 
 use crate::arguments::{
@@ -28,7 +28,7 @@ pub(crate) fn value(
     value: &Value,
     at: Txt,
 ) -> Result<Expr, TemplateFault>
-    ensures { Gives (form_of params.now (view value.now) at) result }
+    ensures { ReadsAs (form_of params.now (view value.now) at) result }
 {
     match value {
         Value::Null => Err(TemplateFault::WrongShape { path: at }),
@@ -53,7 +53,7 @@ fn object(
     members: &Map<String, Value>,
     at: Txt,
 ) -> Result<Expr, TemplateFault>
-    ensures { Gives (form_of params.now (object (members_view members.now.entries)) at) result }
+    ensures { ReadsAs (form_of params.now (object (members_view members.now.entries)) at) result }
 {
     if has_function(members) {
         let node = call(alloc, params, members, &at)?;
@@ -71,7 +71,7 @@ fn values(
     items: &Vec<Value>,
     at: &Txt,
 ) -> Result<Exprs, TemplateFault>
-    ensures { Gives (forms_in params.now (items_view items.now.items) at.now 0 []) result }
+    ensures { ReadsAs (forms_in params.now (items_view items.now.items) at.now 0 []) result }
 {
     let mut found = Exprs::new(alloc);
     match push_values(alloc, params, items, at, &mut found) {
@@ -92,7 +92,7 @@ fn push_values(
     at: &Txt,
     found: &mut Exprs,
 ) -> Result<(), TemplateFault>
-    ensures { Gives (forms_in params.now (items_view items.now.items) at.now 0 found.old) (mapped (λ _. found.new) result) }
+    ensures { ReadsAs (forms_in params.now (items_view items.now.items) at.now 0 found.old) (mapped (λ _. found.new) result) }
 {
     let mut index = 0;
     for item in items {
@@ -110,7 +110,7 @@ fn fields(
     members: &Map<String, Value>,
     at: &Txt,
 ) -> Result<ExprDict, TemplateFault>
-    ensures { Gives (fields_in params.now (members_view members.now.entries) at.now []) result }
+    ensures { ReadsAs (fields_in params.now (members_view members.now.entries) at.now []) result }
 {
     let mut found = ExprDict::new(alloc);
     match put_fields(alloc, params, members, at, &mut found) {
@@ -131,7 +131,7 @@ fn put_fields(
     at: &Txt,
     found: &mut ExprDict,
 ) -> Result<(), TemplateFault>
-    ensures { Gives (fields_in params.now (members_view members.now.entries) at.now found.old) (mapped (λ _. found.new) result) }
+    ensures { ReadsAs (fields_in params.now (members_view members.now.entries) at.now found.old) (mapped (λ _. found.new) result) }
 {
     for (name, member) in members.iter() {
         let place = member_at(alloc, at.as_str(), name.as_str())?;
@@ -260,7 +260,7 @@ fn map_item(
     at: &Txt,
     index: usize,
 ) -> Result<ExprDict, TemplateFault>
-    ensures { Gives (map_of params.now (view value.now) (item_at at.now index)) result }
+    ensures { ReadsAs (map_of params.now (view value.now) (item_at at.now index)) result }
 {
     let place = item_at(alloc, at.as_str(), index)?;
     map_of(alloc, params, value, place)
@@ -274,7 +274,7 @@ pub(crate) fn map_of(
     value: &Value,
     at: Txt,
 ) -> Result<ExprDict, TemplateFault>
-    ensures { Gives (map_of params.now (view value.now) at) result }
+    ensures { ReadsAs (map_of params.now (view value.now) at) result }
 {
     match value {
         Value::Object(members) => {
@@ -471,7 +471,7 @@ fn choice_items(
 
 /// A text with holes.
 fn holed_text(alloc: Global, value: &Value, at: Txt) -> Result<Parts, TemplateFault>
-    ensures { Gives (holed_text (view value.now) at) result }
+    ensures { ReadsAs (holed_text (view value.now) at) result }
 {
     let place = at.try_clone(alloc)?;
     let text = text(alloc, value, at)?;
@@ -485,7 +485,7 @@ fn holed_text(alloc: Global, value: &Value, at: Txt) -> Result<Parts, TemplateFa
 }
 
 fn holed_item(alloc: Global, value: &Value, at: &Txt, index: usize) -> Result<Parts, TemplateFault>
-    ensures { Gives (holed_text (view value.now) (item_at at.now index)) result }
+    ensures { ReadsAs (holed_text (view value.now) (item_at at.now index)) result }
 {
     let place = item_at(alloc, at.as_str(), index)?;
     holed_text(alloc, value, place)

@@ -5,7 +5,7 @@ ghost use Rattle.serde_json.specs.View.{view, items_view, members_view};
 ghost use Rattle.cf_tree.specs.Form.{node_of};
 ghost use Rattle.cf_template.specs.Exprs.{find_of, key_call, key_of, may_find};
 ghost use Rattle.cf_template.specs.Functions.{function_in};
-ghost use Rattle.cf_template.specs.Refusals.{Gives, GivesBy, inside};
+ghost use Rattle.cf_template.specs.Refusals.{ReadsAs, GivesBy, inside};
 ghost use Rattle.cf_template.specs.Places.{item_at};
 
 use crate::arguments::{stray, text, text_form, wrong_shape};
@@ -92,7 +92,7 @@ fn key_item(
 /// A text, a `Ref` of what is known when the template is read, or a `Fn::FindInMap`.
 #[cycle(find)]
 fn key(alloc: Global, params: &Params, value: &Value, at: Txt) -> Result<Expr, TemplateFault>
-    ensures { Gives (key_of params.now (view value.now) at) result }
+    ensures { ReadsAs (key_of params.now (view value.now) at) result }
 {
     match value {
         Value::String(text) => text_form(alloc, text.as_str(), at),
@@ -116,7 +116,7 @@ fn key_function(
     members: &Map<String, Value>,
     at: Txt,
 ) -> Result<Expr, TemplateFault>
-    ensures { Gives (key_call params.now (function_in (members_view members.now.entries)) (members_view members.now.entries) at) result }
+    ensures { ReadsAs (key_call params.now (function_in (members_view members.now.entries)) (members_view members.now.entries) at) result }
 {
     let mut left = members.iter();
     let (Some((name, argument)), None) = (left.next(), left.next()) else {

@@ -2,9 +2,9 @@
 ghost use Rattle.std.specs.Prelude.{◌≡◌, []};
 ghost use Rattle.cf_tree.specs.Value.{datum_of};
 ghost use Rattle.serde_json.specs.View.{view, items_view, members_view};
-ghost use Rattle.cf_template.specs.Maps.{mapped_text, mapped_value, mapping_of, mappings_in, row_of, rows_in, values_in};
+ghost use Rattle.cf_template.specs.Maps.{mapped_text, mapped_value, mapping_of, mappings_in, mapping_row, rows_in, values_in};
 ghost use Rattle.cf_template.specs.Shapes.{items_from};
-ghost use Rattle.cf_template.specs.Refusals.{Gives, GivesBy, mapped};
+ghost use Rattle.cf_template.specs.Refusals.{ReadsAs, GivesBy, mapped};
 
 use crate::path::{item_at, member_at};
 use crate::refusal::TemplateFault;
@@ -21,7 +21,7 @@ pub(crate) fn mappings(
     at: &Txt,
     found: &mut Mappings,
 ) -> Result<(), TemplateFault>
-    ensures { Gives (mappings_in (members_view members.now.entries) at.now found.old) (mapped (λ _. found.new) result) }
+    ensures { ReadsAs (mappings_in (members_view members.now.entries) at.now found.old) (mapped (λ _. found.new) result) }
 {
     for (name, member) in members.iter() {
         let place = member_at(alloc, at.as_str(), name.as_str())?;
@@ -35,7 +35,7 @@ pub(crate) fn mappings(
 }
 
 fn mapping(alloc: Global, value: &Value, at: Txt) -> Result<ByName<Dict>, TemplateFault>
-    ensures { Gives (mapping_of (view value.now) at) result }
+    ensures { ReadsAs (mapping_of (view value.now) at) result }
 {
     match value {
         Value::Object(members) => rows(alloc, members, &at),
@@ -50,7 +50,7 @@ fn rows(
     members: &Map<String, Value>,
     at: &Txt,
 ) -> Result<ByName<Dict>, TemplateFault>
-    ensures { Gives (rows_in (members_view members.now.entries) at.now []) result }
+    ensures { ReadsAs (rows_in (members_view members.now.entries) at.now []) result }
 {
     let mut found = ByName::new(alloc);
     for (name, member) in members.iter() {
@@ -62,7 +62,7 @@ fn rows(
 }
 
 fn row(alloc: Global, value: &Value, at: Txt) -> Result<Dict, TemplateFault>
-    ensures { Gives (row_of (view value.now) at) result }
+    ensures { ReadsAs (mapping_row (view value.now) at) result }
 {
     match value {
         Value::Object(members) => cells(alloc, members, &at),
@@ -73,7 +73,7 @@ fn row(alloc: Global, value: &Value, at: Txt) -> Result<Dict, TemplateFault>
 }
 
 fn cells(alloc: Global, members: &Map<String, Value>, at: &Txt) -> Result<Dict, TemplateFault>
-    ensures { Gives (values_in (members_view members.now.entries) at.now []) result }
+    ensures { ReadsAs (values_in (members_view members.now.entries) at.now []) result }
 {
     let mut found = Dict::new(alloc);
     for (name, member) in members.iter() {
@@ -101,7 +101,7 @@ fn cell(alloc: Global, value: &Value, at: Txt) -> Result<Val, TemplateFault>
 }
 
 fn texts(alloc: Global, items: &Vec<Value>, at: &Txt) -> Result<Vals, TemplateFault>
-    ensures { Gives (items_from mapped_text (items_view items.now.items) at.now 0 []) result }
+    ensures { ReadsAs (items_from mapped_text (items_view items.now.items) at.now 0 []) result }
 {
     let mut found = Vals::new(alloc);
     let mut index = 0;

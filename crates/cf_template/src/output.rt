@@ -2,9 +2,9 @@
 ghost use Rattle.std.specs.Prelude.{◌≡◌, []};
 ghost use Rattle.serde_json.specs.View.{view, members_view};
 ghost use Rattle.cf_template.specs.Exprs.{form_of};
-ghost use Rattle.cf_template.specs.Outputs.{export_of, is_output_member, output_fields, output_of, outputs_in};
+ghost use Rattle.cf_template.specs.Outputs.{export_form, is_output_member, output_fields, output_form, outputs_form};
 ghost use Rattle.cf_template.specs.Shapes.{all_named, has_only, optional, required};
-ghost use Rattle.cf_template.specs.Refusals.{Gives, mapped};
+ghost use Rattle.cf_template.specs.Refusals.{ReadsAs, mapped};
 
 use crate::expr::value;
 use crate::path::member_at;
@@ -23,7 +23,7 @@ pub(crate) fn outputs(
     at: &Txt,
     found: &mut Outs,
 ) -> Result<(), TemplateFault>
-    ensures { Gives (outputs_in params.now (members_view members.now.entries) at.now found.old) (mapped (λ _. found.new) result) }
+    ensures { ReadsAs (outputs_form params.now (members_view members.now.entries) at.now found.old) (mapped (λ _. found.new) result) }
 {
     for (name, member) in members.iter() {
         let place = member_at(alloc, at.as_str(), name.as_str())?;
@@ -43,7 +43,7 @@ fn output(
     value: &Value,
     at: &Txt,
 ) -> Result<Out, TemplateFault>
-    ensures { Gives (output_of params.now name.now (view value.now) at.now) result }
+    ensures { ReadsAs (output_form params.now name.now (view value.now) at.now) result }
 {
     if has_only_known(value) && has(value, "Value") {
         fields(alloc, params, name, value, at)
@@ -89,7 +89,7 @@ fn fields(
     object: &Value,
     at: &Txt,
 ) -> Result<Out, TemplateFault>
-    ensures { Gives (output_fields params.now name.now (view object.now) at.now) result }
+    ensures { ReadsAs (output_fields params.now name.now (view object.now) at.now) result }
 {
     let name = Txt::from_str(alloc, name)?;
     let condition = optional_text(alloc, object, "Condition", at)?;
@@ -112,7 +112,7 @@ fn fields(
 
 /// An object with the one member `Name`.
 fn export(alloc: Global, params: &Params, object: &Value, at: Txt) -> Result<Expr, TemplateFault>
-    ensures { Gives (export_of params.now (view object.now) at) result }
+    ensures { ReadsAs (export_form params.now (view object.now) at) result }
 {
     let Value::Object(members) = object else {
         return Err(TemplateFault::WrongShape { path: at });
@@ -136,7 +136,7 @@ fn optional_export(
     name: &str,
     at: &Txt,
 ) -> Result<Option<Expr>, TemplateFault>
-    ensures { Gives (optional (export_of params.now) name.now (view object.now) at.now) result }
+    ensures { ReadsAs (optional (export_form params.now) name.now (view object.now) at.now) result }
 {
     match object.get(name) {
         Some(value) => {
@@ -154,7 +154,7 @@ fn required_value(
     name: &str,
     at: &Txt,
 ) -> Result<Expr, TemplateFault>
-    ensures { Gives (required (form_of params.now) name.now (view object.now) at.now) result }
+    ensures { ReadsAs (required (form_of params.now) name.now (view object.now) at.now) result }
 {
     match object.get(name) {
         Some(found) => {

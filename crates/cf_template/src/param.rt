@@ -4,9 +4,9 @@ ghost use Rattle.std.specs.Char.{is_ascii_digit};
 ghost use Rattle.std.specs.List.{list_all};
 ghost use Rattle.cf_funcs.specs.Number.{are_digits, digits_of, number_of};
 ghost use Rattle.serde_json.specs.View.{view, items_view, members_view};
-ghost use Rattle.cf_template.specs.Params.{bound_of, is_param_member, found_or, kind_named, kind_of, length_in, length_of, limits_of, param_fields, param_of, param_with, params_in, scalar_of, scalars_of, truth_of, words_of};
+ghost use Rattle.cf_template.specs.Params.{bound_of, is_param_member, found_or, kind_named, kind_form, length_in, length_of, limits_of, param_fields, param_of, param_with, params_in, scalar_of, scalars_of, truth_form, words_of};
 ghost use Rattle.cf_template.specs.Shapes.{all_named, has_only, items_from, optional, required};
-ghost use Rattle.cf_template.specs.Refusals.{Gives, mapped};
+ghost use Rattle.cf_template.specs.Refusals.{ReadsAs, mapped};
 
 use crate::path::{item_at, member_at};
 use crate::refusal::TemplateFault;
@@ -27,7 +27,7 @@ pub(crate) fn parameters(
     at: &Txt,
     found: &mut Params,
 ) -> Result<(), TemplateFault>
-    ensures { Gives (params_in (members_view members.now.entries) at.now found.old) (mapped (λ _. found.new) result) }
+    ensures { ReadsAs (params_in (members_view members.now.entries) at.now found.old) (mapped (λ _. found.new) result) }
 {
     for (name, member) in members.iter() {
         let place = member_at(alloc, at.as_str(), name.as_str())?;
@@ -41,7 +41,7 @@ pub(crate) fn parameters(
 }
 
 fn parameter(alloc: Global, name: &str, value: &Value, at: &Txt) -> Result<Param, TemplateFault>
-    ensures { Gives (param_of name.now (view value.now) at.now) result }
+    ensures { ReadsAs (param_of name.now (view value.now) at.now) result }
 {
     if has_only_known(value) && has(value, "Type") {
         fields(alloc, name, value, at)
@@ -115,7 +115,7 @@ pub struct Limits {
 }
 
 fn fields(alloc: Global, name: &str, object: &Value, at: &Txt) -> Result<Param, TemplateFault>
-    ensures { Gives (param_fields name.now (view object.now) at.now) result }
+    ensures { ReadsAs (param_fields name.now (view object.now) at.now) result }
 {
     let words = words_of(alloc, object, at)?;
     match limits_of(alloc, object, at) {
@@ -158,7 +158,7 @@ fn parameter_with(
 }
 
 fn words_of(alloc: Global, object: &Value, at: &Txt) -> Result<Words, TemplateFault>
-    ensures { Gives (words_of (view object.now) at.now) result }
+    ensures { ReadsAs (words_of (view object.now) at.now) result }
 {
     let mut words = Words {
         pattern: None,
@@ -183,7 +183,7 @@ fn read_words(
     at: &Txt,
     words: &mut Words,
 ) -> Result<(), TemplateFault>
-    ensures { Gives (words_of (view object.now) at.now) (mapped (λ _. words.new) result) }
+    ensures { ReadsAs (words_of (view object.now) at.now) (mapped (λ _. words.new) result) }
 {
     words.pattern = optional_text(alloc, object, "AllowedPattern", at)?;
     words.allowed = optional_scalars(alloc, object, "AllowedValues", at)?;
@@ -194,7 +194,7 @@ fn read_words(
 }
 
 fn limits_of(alloc: Global, object: &Value, at: &Txt) -> Result<Limits, TemplateFault>
-    ensures { Gives (limits_of (view object.now) at.now) result }
+    ensures { ReadsAs (limits_of (view object.now) at.now) result }
 {
     let max_length = optional_length(alloc, object, "MaxLength", at)?;
     let max_value = optional_bound(alloc, object, "MaxValue", at)?;
@@ -214,7 +214,7 @@ fn limits_of(alloc: Global, object: &Value, at: &Txt) -> Result<Limits, Template
 
 /// A text, a whole number or a truth value, as a text.
 fn scalar(alloc: Global, value: &Value, at: Txt) -> Result<Txt, TemplateFault>
-    ensures { Gives (scalar_of (view value.now) at) result }
+    ensures { ReadsAs (scalar_of (view value.now) at) result }
 {
     match value {
         Value::String(text) => Ok(Txt::from_str(alloc, text.as_str())?),
@@ -236,7 +236,7 @@ fn optional_scalar(
     name: &str,
     at: &Txt,
 ) -> Result<Option<Txt>, TemplateFault>
-    ensures { Gives (optional scalar_of name.now (view object.now) at.now) result }
+    ensures { ReadsAs (optional scalar_of name.now (view object.now) at.now) result }
 {
     match object.get(name) {
         Some(value) => {
@@ -248,7 +248,7 @@ fn optional_scalar(
 }
 
 fn scalars(alloc: Global, value: &Value, at: Txt) -> Result<Names, TemplateFault>
-    ensures { Gives (scalars_of (view value.now) at) result }
+    ensures { ReadsAs (scalars_of (view value.now) at) result }
 {
     match value {
         Value::Array(items) => each_scalar(alloc, items, &at),
@@ -259,7 +259,7 @@ fn scalars(alloc: Global, value: &Value, at: Txt) -> Result<Names, TemplateFault
 }
 
 fn each_scalar(alloc: Global, items: &Vec<Value>, at: &Txt) -> Result<Names, TemplateFault>
-    ensures { Gives (items_from scalar_of (items_view items.now.items) at.now 0 []) result }
+    ensures { ReadsAs (items_from scalar_of (items_view items.now.items) at.now 0 []) result }
 {
     let mut found = Names::new(alloc);
     let mut index = 0;
@@ -277,7 +277,7 @@ fn optional_scalars(
     name: &str,
     at: &Txt,
 ) -> Result<Option<Names>, TemplateFault>
-    ensures { Gives (optional scalars_of name.now (view object.now) at.now) result }
+    ensures { ReadsAs (optional scalars_of name.now (view object.now) at.now) result }
 {
     match object.get(name) {
         Some(value) => {
@@ -290,7 +290,7 @@ fn optional_scalars(
 
 /// A bound on lengths: 0 to 999,999,999, as a number or in 1 to 18 digits.
 fn length(value: &Value, at: Txt) -> Result<u64, TemplateFault>
-    ensures { Gives (length_of (view value.now) at) result }
+    ensures { ReadsAs (length_of (view value.now) at) result }
 {
     match length_in(value) {
         Some(length) => {
@@ -344,7 +344,7 @@ fn optional_length(
     name: &str,
     at: &Txt,
 ) -> Result<Option<u64>, TemplateFault>
-    ensures { Gives (optional length_of name.now (view object.now) at.now) result }
+    ensures { ReadsAs (optional length_of name.now (view object.now) at.now) result }
 {
     match object.get(name) {
         Some(value) => {
@@ -357,7 +357,7 @@ fn optional_length(
 
 /// A bound on values, in 10^-9: a number text, or a number whose decimal text is one.
 fn bound(alloc: Global, value: &Value, at: Txt) -> Result<i128, TemplateFault>
-    ensures { Gives (bound_of (view value.now) at) result }
+    ensures { ReadsAs (bound_of (view value.now) at) result }
 {
     match value {
         Value::Number(whole) => match whole.as_i64() {
@@ -375,7 +375,7 @@ fn bound(alloc: Global, value: &Value, at: Txt) -> Result<i128, TemplateFault>
 }
 
 fn bound_text(text: &str, at: Txt) -> Result<i128, TemplateFault>
-    ensures { Gives (found_or at (number_of text.now)) result }
+    ensures { ReadsAs (found_or at (number_of text.now)) result }
 {
     match number(text) {
         Some(value) => Ok(value),
@@ -389,7 +389,7 @@ fn optional_bound(
     name: &str,
     at: &Txt,
 ) -> Result<Option<i128>, TemplateFault>
-    ensures { Gives (optional bound_of name.now (view object.now) at.now) result }
+    ensures { ReadsAs (optional bound_of name.now (view object.now) at.now) result }
 {
     match object.get(name) {
         Some(value) => {
@@ -402,7 +402,7 @@ fn optional_bound(
 
 /// A truth value, also as a text.
 fn truth(value: &Value, at: Txt) -> Result<bool, TemplateFault>
-    ensures { Gives (truth_of (view value.now) at) result }
+    ensures { ReadsAs (truth_form (view value.now) at) result }
 {
     match value {
         Value::Bool(truth) => Ok(*truth),
@@ -427,7 +427,7 @@ fn optional_truth(
     name: &str,
     at: &Txt,
 ) -> Result<Option<bool>, TemplateFault>
-    ensures { Gives (optional truth_of name.now (view object.now) at.now) result }
+    ensures { ReadsAs (optional truth_form name.now (view object.now) at.now) result }
 {
     match object.get(name) {
         Some(value) => {
@@ -439,7 +439,7 @@ fn optional_truth(
 }
 
 fn kind(alloc: Global, value: &Value, at: Txt) -> Result<Kind, TemplateFault>
-    ensures { Gives (kind_of (view value.now) at) result }
+    ensures { ReadsAs (kind_form (view value.now) at) result }
 {
     match value {
         Value::String(text) => kind_named(alloc, text.as_str(), at),
@@ -450,7 +450,7 @@ fn kind(alloc: Global, value: &Value, at: Txt) -> Result<Kind, TemplateFault>
 }
 
 fn kind_named(alloc: Global, text: &str, at: Txt) -> Result<Kind, TemplateFault>
-    ensures { Gives (kind_named text.now at) result }
+    ensures { ReadsAs (kind_named text.now at) result }
 {
     match text {
         "String" => Ok(Kind::Text),
@@ -465,7 +465,7 @@ fn kind_named(alloc: Global, text: &str, at: Txt) -> Result<Kind, TemplateFault>
 }
 
 fn required_kind(alloc: Global, object: &Value, name: &str, at: &Txt) -> Result<Kind, TemplateFault>
-    ensures { Gives (required kind_of name.now (view object.now) at.now) result }
+    ensures { ReadsAs (required kind_form name.now (view object.now) at.now) result }
 {
     match object.get(name) {
         Some(value) => {

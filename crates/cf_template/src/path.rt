@@ -1,5 +1,5 @@
 ghost use Rattle.std.specs.Prelude.{◌≡◌, ◌<◌, [], ◌++◌, length, take, slice_index, IfOk, OnOk, string_bytes};
-ghost use Rattle.cf_template.specs.Places.{replaced, escaped, member_at, item_at};
+ghost use Rattle.cf_template.specs.Places.{replaced, escaped, member_place, item_at};
 
 use cf_funcs::cut;
 use cf_tree::Txt;
@@ -39,7 +39,7 @@ impl Path {
 
     /// Goes to the member of a name, and tells the length at which to leave it.
     pub(crate) fn enter_member(&mut self, alloc: Global, name: &str) -> Result<usize, AllocError>
-        ensures place { OnOk result (self.new ≡ member_at self.old name.now) }
+        ensures place { OnOk result (self.new ≡ member_place self.old name.now) }
         ensures slash { IfOk result (λ n. slice_index self.new n ≡ 47) }
         ensures back { IfOk result (λ n. take n self.new ≡ self.old) }
     {
@@ -72,7 +72,7 @@ impl Path {
 
 /// The member of a name, at an object's place.
 pub(crate) fn member_at(alloc: Global, at: &str, name: &str) -> Result<Txt, AllocError>
-    ensures { IfOk result (λ t. t ≡ member_at at.now name.now) }
+    ensures { IfOk result (λ t. t ≡ member_place at.now name.now) }
 {
     let mut text = String::from_str(alloc, at)?;
     text.push_str("/")?;

@@ -3,9 +3,9 @@ ghost use Rattle.std.specs.Prelude.{◌≡◌, []};
 ghost use Rattle.serde_json.specs.Data.{object};
 ghost use Rattle.serde_json.specs.View.{view, members_view};
 ghost use Rattle.cf_template.specs.Exprs.{values_of};
-ghost use Rattle.cf_template.specs.Resources.{deletion_of, deletion_named, names_of, replace_named, replace_of, resource_fields, resource_member_fault, resource_members_fault, resource_of, resources_in, is_resource_member, is_untaken_member};
+ghost use Rattle.cf_template.specs.Resources.{deletion_form, deletion_named, depends_form, replace_named, replace_of, resource_fields, resource_member_fault, resource_members_fault, resource_of, resources_in, is_resource_member, is_untaken_member};
 ghost use Rattle.cf_template.specs.Shapes.{optional};
-ghost use Rattle.cf_template.specs.Refusals.{Gives, Finds, mapped};
+ghost use Rattle.cf_template.specs.Refusals.{ReadsAs, Finds, mapped};
 
 use crate::expr::map_of;
 use crate::path::member_at;
@@ -24,7 +24,7 @@ pub(crate) fn resources(
     at: &Txt,
     found: &mut Resources,
 ) -> Result<(), TemplateFault>
-    ensures { Gives (resources_in params.now (members_view members.now.entries) at.now found.old) (mapped (λ _. found.new) result) }
+    ensures { ReadsAs (resources_in params.now (members_view members.now.entries) at.now found.old) (mapped (λ _. found.new) result) }
 {
     for (name, member) in members.iter() {
         let place = member_at(alloc, at.as_str(), name.as_str())?;
@@ -44,7 +44,7 @@ fn resource(
     value: &Value,
     at: &Txt,
 ) -> Result<Res, TemplateFault>
-    ensures { Gives (resource_of params.now name.now (view value.now) at.now) result }
+    ensures { ReadsAs (resource_of params.now name.now (view value.now) at.now) result }
 {
     let Value::Object(members) = value else {
         return Err(TemplateFault::WrongShape {
@@ -116,7 +116,7 @@ fn fields(
     object: &Value,
     at: &Txt,
 ) -> Result<Res, TemplateFault>
-    ensures { Gives (resource_fields params.now name.now (view object.now) at.now) result }
+    ensures { ReadsAs (resource_fields params.now name.now (view object.now) at.now) result }
 {
     let condition = optional_text(alloc, object, "Condition", at)?;
     let deletion = optional_deletion(alloc, object, "DeletionPolicy", at)?;
@@ -138,7 +138,7 @@ fn fields(
 
 /// A text, or a list of texts.
 fn names(alloc: Global, value: &Value, at: Txt) -> Result<Names, TemplateFault>
-    ensures { Gives (names_of (view value.now) at) result }
+    ensures { ReadsAs (depends_form (view value.now) at) result }
 {
     match value {
         Value::String(text) => {
@@ -159,7 +159,7 @@ fn optional_names(
     name: &str,
     at: &Txt,
 ) -> Result<Option<Names>, TemplateFault>
-    ensures { Gives (optional names_of name.now (view object.now) at.now) result }
+    ensures { ReadsAs (optional depends_form name.now (view object.now) at.now) result }
 {
     match object.get(name) {
         Some(value) => {
@@ -177,7 +177,7 @@ fn optional_values(
     name: &str,
     at: &Txt,
 ) -> Result<Option<ExprDict>, TemplateFault>
-    ensures { Gives (optional (values_of params.now) name.now (view object.now) at.now) result }
+    ensures { ReadsAs (optional (values_of params.now) name.now (view object.now) at.now) result }
 {
     match object.get(name) {
         Some(value) => {
@@ -189,7 +189,7 @@ fn optional_values(
 }
 
 fn deletion(alloc: Global, value: &Value, at: Txt) -> Result<Deletion, TemplateFault>
-    ensures { Gives (deletion_of (view value.now) at) result }
+    ensures { ReadsAs (deletion_form (view value.now) at) result }
 {
     match value {
         Value::String(text) => deletion_named(alloc, text.as_str(), at),
@@ -200,7 +200,7 @@ fn deletion(alloc: Global, value: &Value, at: Txt) -> Result<Deletion, TemplateF
 }
 
 fn deletion_named(alloc: Global, text: &str, at: Txt) -> Result<Deletion, TemplateFault>
-    ensures { Gives (deletion_named text.now at) result }
+    ensures { ReadsAs (deletion_named text.now at) result }
 {
     match text {
         "Delete" => Ok(Deletion::Delete),
@@ -220,7 +220,7 @@ fn optional_deletion(
     name: &str,
     at: &Txt,
 ) -> Result<Option<Deletion>, TemplateFault>
-    ensures { Gives (optional deletion_of name.now (view object.now) at.now) result }
+    ensures { ReadsAs (optional deletion_form name.now (view object.now) at.now) result }
 {
     match object.get(name) {
         Some(value) => {
@@ -232,7 +232,7 @@ fn optional_deletion(
 }
 
 fn replace(alloc: Global, value: &Value, at: Txt) -> Result<Replace, TemplateFault>
-    ensures { Gives (replace_of (view value.now) at) result }
+    ensures { ReadsAs (replace_of (view value.now) at) result }
 {
     match value {
         Value::String(text) => replace_named(alloc, text.as_str(), at),
@@ -243,7 +243,7 @@ fn replace(alloc: Global, value: &Value, at: Txt) -> Result<Replace, TemplateFau
 }
 
 fn replace_named(alloc: Global, text: &str, at: Txt) -> Result<Replace, TemplateFault>
-    ensures { Gives (replace_named text.now at) result }
+    ensures { ReadsAs (replace_named text.now at) result }
 {
     match text {
         "Delete" => Ok(Replace::Delete),
@@ -262,7 +262,7 @@ fn optional_replace(
     name: &str,
     at: &Txt,
 ) -> Result<Option<Replace>, TemplateFault>
-    ensures { Gives (optional replace_of name.now (view object.now) at.now) result }
+    ensures { ReadsAs (optional replace_of name.now (view object.now) at.now) result }
 {
     match object.get(name) {
         Some(value) => {

@@ -3,8 +3,8 @@ ghost use Rattle.std.specs.Prelude.{◌≡◌, [], option_map, Some};
 ghost use Rattle.serde_json.specs.Data.{Data};
 ghost use Rattle.serde_json.specs.Find.{get};
 ghost use Rattle.serde_json.specs.View.{view, items_view, members_view};
-ghost use Rattle.cf_template.specs.Shapes.{has, items_from, optional, plain_text, required, unread};
-ghost use Rattle.cf_template.specs.Refusals.{Gives};
+ghost use Rattle.cf_template.specs.Shapes.{has_member, items_from, optional, plain_text, required, unread};
+ghost use Rattle.cf_template.specs.Refusals.{ReadsAs};
 
 use crate::path::{item_at, member_at};
 use crate::refusal::TemplateFault;
@@ -14,7 +14,7 @@ use std::alloc::Global;
 
 /// A text of any kind.
 pub(crate) fn plain_text(alloc: Global, value: &Value, at: Txt) -> Result<Txt, TemplateFault>
-    ensures { Gives (plain_text (view value.now) at) result }
+    ensures { ReadsAs (plain_text (view value.now) at) result }
 {
     match value {
         Value::String(text) => Ok(Txt::from_str(alloc, text.as_str())?),
@@ -31,7 +31,7 @@ pub(crate) fn optional_text(
     name: &str,
     at: &Txt,
 ) -> Result<Option<Txt>, TemplateFault>
-    ensures { Gives (optional plain_text name.now (view object.now) at.now) result }
+    ensures { ReadsAs (optional plain_text name.now (view object.now) at.now) result }
 {
     match object.get(name) {
         Some(value) => {
@@ -49,7 +49,7 @@ pub(crate) fn required_text(
     name: &str,
     at: &Txt,
 ) -> Result<Txt, TemplateFault>
-    ensures { Gives (required plain_text name.now (view object.now) at.now) result }
+    ensures { ReadsAs (required plain_text name.now (view object.now) at.now) result }
 {
     match object.get(name) {
         Some(value) => {
@@ -69,7 +69,7 @@ pub(crate) fn skip_object(
     name: &str,
     at: &Txt,
 ) -> Result<Option<bool>, TemplateFault>
-    ensures { Gives (optional unread name.now (view object.now) at.now) result }
+    ensures { ReadsAs (optional unread name.now (view object.now) at.now) result }
 {
     match object.get(name) {
         Some(Value::Object(_)) => Ok(Some(true)),
@@ -82,7 +82,7 @@ pub(crate) fn skip_object(
 
 /// Whether an object has the member of a name.
 pub(crate) fn has(object: &Value, name: &str) -> bool
-    ensures { result ≡ has name.now (view object.now) }
+    ensures { result ≡ has_member name.now (view object.now) }
 {
     object.get(name).is_some()
 }
@@ -93,7 +93,7 @@ pub(crate) fn plain_texts(
     items: &Vec<Value>,
     at: &Txt,
 ) -> Result<Names, TemplateFault>
-    ensures { Gives (items_from plain_text (items_view items.now.items) at.now 0 []) result }
+    ensures { ReadsAs (items_from plain_text (items_view items.now.items) at.now 0 []) result }
 {
     let mut found = Names::new(alloc);
     let mut index = 0;

@@ -4,10 +4,10 @@ ghost use Rattle.serde_json.specs.Find.{get};
 ghost use Rattle.serde_json.specs.View.{view, members_view};
 ghost use Rattle.cf_template.specs.Conds.{conds_in};
 ghost use Rattle.cf_template.specs.Maps.{mappings_in};
-ghost use Rattle.cf_template.specs.Outputs.{outputs_in};
+ghost use Rattle.cf_template.specs.Outputs.{outputs_form};
 ghost use Rattle.cf_template.specs.Params.{params_in};
 ghost use Rattle.cf_template.specs.Resources.{resources_in};
-ghost use Rattle.cf_template.specs.Refusals.{Finds, Gives, mapped};
+ghost use Rattle.cf_template.specs.Refusals.{Finds, ReadsAs, mapped};
 ghost use Rattle.cf_template.specs.Shapes.{optional, plain_text, unread};
 ghost use Rattle.cf_template.specs.Whole.{count_fault, empty_fault, free_section, is_section, is_untaken_section, is_version, required_section, section, section_fault, sections_fault, sections_of, template_from, template_of, value_template};
 
@@ -37,7 +37,7 @@ const MOST_BYTES: usize = 1_048_576;
 /// sections; `BadVersion`; then what stands in the sections, in the order Description, Metadata, Parameters, Mappings,
 /// Conditions, Resources, Outputs. `NoMemory` says nothing of the template.
 pub fn read_template(alloc: Global, bytes: &[u8]) -> Result<Template, TemplateFault>
-    ensures { Gives (template_of bytes.now) result }
+    ensures { ReadsAs (template_of bytes.now) result }
 {
     if bytes.len() > MOST_BYTES {
         return Err(TemplateFault::TooLong {
@@ -49,7 +49,7 @@ pub fn read_template(alloc: Global, bytes: &[u8]) -> Result<Template, TemplateFa
 }
 
 fn template(alloc: Global, value: &Value) -> Result<Template, TemplateFault>
-    ensures { Gives (value_template (Some (view value.now))) result }
+    ensures { ReadsAs (value_template (Some (view value.now))) result }
 {
     let mut path = Path::root(alloc);
     walk(alloc, value, Region::Root, &mut path)?;
@@ -57,7 +57,7 @@ fn template(alloc: Global, value: &Value) -> Result<Template, TemplateFault>
 }
 
 fn root(alloc: Global, value: &Value) -> Result<Template, TemplateFault>
-    ensures { Gives (template_from (view value.now)) result }
+    ensures { ReadsAs (template_from (view value.now)) result }
 {
     let Value::Object(members) = value else {
         return Err(TemplateFault::WrongShape {
@@ -134,7 +134,7 @@ fn has_version(root: &Value) -> bool
 
 /// The description, which the template keeps in its bytes alone.
 fn description(alloc: Global, root: &Value) -> Result<Option<Txt>, TemplateFault>
-    ensures { Gives (optional plain_text (codes "Description") (view root.now) []) result }
+    ensures { ReadsAs (optional plain_text (codes "Description") (view root.now) []) result }
 {
     let at = Txt::from_str(alloc, "")?;
     optional_text(alloc, root, "Description", &at)
@@ -142,14 +142,14 @@ fn description(alloc: Global, root: &Value) -> Result<Option<Txt>, TemplateFault
 
 /// The metadata, which the template keeps in its bytes alone.
 fn metadata(alloc: Global, root: &Value) -> Result<Option<bool>, TemplateFault>
-    ensures { Gives (optional unread (codes "Metadata") (view root.now) []) result }
+    ensures { ReadsAs (optional unread (codes "Metadata") (view root.now) []) result }
 {
     let at = Txt::from_str(alloc, "")?;
     skip_object(alloc, root, "Metadata", &at)
 }
 
 fn sections(alloc: Global, root: &Value) -> Result<Template, TemplateFault>
-    ensures { Gives (sections_of (view root.now)) result }
+    ensures { ReadsAs (sections_of (view root.now)) result }
 {
     let mut template = Template {
         params: Params::new(alloc),
@@ -170,7 +170,7 @@ fn sections(alloc: Global, root: &Value) -> Result<Template, TemplateFault>
 /// Reads each section into its place, where nothing stands. After an error nothing is said of what stands there.
 fn read_sections(alloc: Global, root: &Value, template: &mut Template) -> Result<(), TemplateFault>
     requires { template.old ≡ record { params = []; mappings = []; conds = []; resources = []; outputs = [] } }
-    ensures { Gives (sections_of (view root.now)) (mapped (λ _. template.new) result) }
+    ensures { ReadsAs (sections_of (view root.now)) (mapped (λ _. template.new) result) }
 {
     description(alloc, root)?;
     metadata(alloc, root)?;
@@ -211,7 +211,7 @@ fn test_some(alloc: Global, name: &str, count: usize) -> Result<(), TemplateFaul
 
 fn read_parameters(alloc: Global, root: &Value, found: &mut Params) -> Result<(), TemplateFault>
     requires { found.old ≡ [] }
-    ensures { Gives (section params_in 200 (codes "Parameters") (get (codes "Parameters") (view root.now))) (mapped (λ _. found.new) result) }
+    ensures { ReadsAs (section params_in 200 (codes "Parameters") (get (codes "Parameters") (view root.now))) (mapped (λ _. found.new) result) }
 {
     match root.get("Parameters") {
         Some(value) => present_parameters(alloc, value, found),
@@ -221,7 +221,7 @@ fn read_parameters(alloc: Global, root: &Value, found: &mut Params) -> Result<()
 
 fn present_parameters(alloc: Global, value: &Value, found: &mut Params) -> Result<(), TemplateFault>
     requires { found.old ≡ [] }
-    ensures { Gives (section params_in 200 (codes "Parameters") (Some (view value.now))) (mapped (λ _. found.new) result) }
+    ensures { ReadsAs (section params_in 200 (codes "Parameters") (Some (view value.now))) (mapped (λ _. found.new) result) }
 {
     let place = member_at(alloc, "", "Parameters")?;
     let Value::Object(members) = value else {
@@ -233,7 +233,7 @@ fn present_parameters(alloc: Global, value: &Value, found: &mut Params) -> Resul
 
 fn read_mappings(alloc: Global, root: &Value, found: &mut Mappings) -> Result<(), TemplateFault>
     requires { found.old ≡ [] }
-    ensures { Gives (section mappings_in 200 (codes "Mappings") (get (codes "Mappings") (view root.now))) (mapped (λ _. found.new) result) }
+    ensures { ReadsAs (section mappings_in 200 (codes "Mappings") (get (codes "Mappings") (view root.now))) (mapped (λ _. found.new) result) }
 {
     match root.get("Mappings") {
         Some(value) => present_mappings(alloc, value, found),
@@ -243,7 +243,7 @@ fn read_mappings(alloc: Global, root: &Value, found: &mut Mappings) -> Result<()
 
 fn present_mappings(alloc: Global, value: &Value, found: &mut Mappings) -> Result<(), TemplateFault>
     requires { found.old ≡ [] }
-    ensures { Gives (section mappings_in 200 (codes "Mappings") (Some (view value.now))) (mapped (λ _. found.new) result) }
+    ensures { ReadsAs (section mappings_in 200 (codes "Mappings") (Some (view value.now))) (mapped (λ _. found.new) result) }
 {
     let place = member_at(alloc, "", "Mappings")?;
     let Value::Object(members) = value else {
@@ -260,7 +260,7 @@ fn read_conditions(
     found: &mut NamedConds,
 ) -> Result<(), TemplateFault>
     requires { found.old ≡ [] }
-    ensures { Gives (free_section (conds_in params.now) (codes "Conditions") (get (codes "Conditions") (view root.now))) (mapped (λ _. found.new) result) }
+    ensures { ReadsAs (free_section (conds_in params.now) (codes "Conditions") (get (codes "Conditions") (view root.now))) (mapped (λ _. found.new) result) }
 {
     match root.get("Conditions") {
         Some(value) => present_conditions(alloc, params, value, found),
@@ -275,7 +275,7 @@ fn present_conditions(
     found: &mut NamedConds,
 ) -> Result<(), TemplateFault>
     requires { found.old ≡ [] }
-    ensures { Gives (free_section (conds_in params.now) (codes "Conditions") (Some (view value.now))) (mapped (λ _. found.new) result) }
+    ensures { ReadsAs (free_section (conds_in params.now) (codes "Conditions") (Some (view value.now))) (mapped (λ _. found.new) result) }
 {
     let place = member_at(alloc, "", "Conditions")?;
     let Value::Object(members) = value else {
@@ -291,7 +291,7 @@ fn read_resources(
     found: &mut Resources,
 ) -> Result<(), TemplateFault>
     requires { found.old ≡ [] }
-    ensures { Gives (required_section (resources_in params.now) 500 (codes "Resources") (get (codes "Resources") (view root.now))) (mapped (λ _. found.new) result) }
+    ensures { ReadsAs (required_section (resources_in params.now) 500 (codes "Resources") (get (codes "Resources") (view root.now))) (mapped (λ _. found.new) result) }
 {
     match root.get("Resources") {
         Some(value) => present_resources(alloc, params, value, found),
@@ -308,7 +308,7 @@ fn present_resources(
     found: &mut Resources,
 ) -> Result<(), TemplateFault>
     requires { found.old ≡ [] }
-    ensures { Gives (required_section (resources_in params.now) 500 (codes "Resources") (Some (view value.now))) (mapped (λ _. found.new) result) }
+    ensures { ReadsAs (required_section (resources_in params.now) 500 (codes "Resources") (Some (view value.now))) (mapped (λ _. found.new) result) }
 {
     let place = member_at(alloc, "", "Resources")?;
     let Value::Object(members) = value else {
@@ -326,7 +326,7 @@ fn read_outputs(
     found: &mut Outs,
 ) -> Result<(), TemplateFault>
     requires { found.old ≡ [] }
-    ensures { Gives (section (outputs_in params.now) 200 (codes "Outputs") (get (codes "Outputs") (view root.now))) (mapped (λ _. found.new) result) }
+    ensures { ReadsAs (section (outputs_form params.now) 200 (codes "Outputs") (get (codes "Outputs") (view root.now))) (mapped (λ _. found.new) result) }
 {
     match root.get("Outputs") {
         Some(value) => present_outputs(alloc, params, value, found),
@@ -341,7 +341,7 @@ fn present_outputs(
     found: &mut Outs,
 ) -> Result<(), TemplateFault>
     requires { found.old ≡ [] }
-    ensures { Gives (section (outputs_in params.now) 200 (codes "Outputs") (Some (view value.now))) (mapped (λ _. found.new) result) }
+    ensures { ReadsAs (section (outputs_form params.now) 200 (codes "Outputs") (Some (view value.now))) (mapped (λ _. found.new) result) }
 {
     let place = member_at(alloc, "", "Outputs")?;
     let Value::Object(members) = value else {

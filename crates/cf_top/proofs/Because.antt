@@ -24,9 +24,9 @@ use Rattle.cf_effect.specs.Operation.{Response, is_of, own_of, reply_in}
 use Rattle.cf_effect.specs.Calls.{call_under, is_success}
 use Rattle.cf_effect.specs.Fold.{fold_of, world_after}
 use Rattle.cf_plan.specs.Follow.{settled_by}
-use Rattle.cf_plan.specs.Forward.{In}
+use Rattle.cf_tree.specs.Lists.{In}
 use Rattle.cf_plan.specs.Ends.{IsBlamed, IsBlamedFor}
-use Rattle.cf_plan.specs.Run.{IsOwn, Runs, Told, answer_as}
+use Rattle.cf_plan.specs.Run.{IsOwn, Runs, LaneStates, answer_as}
 use Rattle.cf_plan.proofs.Frame.{begun_on, created}
 use Rattle.cf_top.specs.Telling.{cause_in, cause_of}
 use Rattle.cf_top.specs.Turning.{AreBlamed, HasFailedCall, IsHandlers, TurnsBack, reason_in}
@@ -80,7 +80,7 @@ module _ (schemas : List Schema) (names : List (List ℕ)) (x : World) (number :
   no_outcome : (n token before after : ℕ) (answer : Reply) → In (entry.Outcome n token answer before after) kept → ⊥
   no_outcome n token before after answer i = let e : entry.Outcome n token answer before after ≡ begun = in_one (entry.Outcome n token answer before after) begun i in cc
 
-  module _ (es : List Entry) (told told' : Told) (counts counts' : List ℕ) (t : StackState) (r : Runs schemas names behind told counts es told' counts') (own : (e : Entry) → In e es → IsOwn number e) (found : stack_at name (fold_of behind es) ≡ Some t) where
+  module _ (es : List Entry) (told told' : LaneStates) (counts counts' : List ℕ) (t : StackState) (r : Runs schemas names behind told counts es told' counts') (own : (e : Entry) → In e es → IsOwn number e) (found : stack_at name (fold_of behind es) ≡ Some t) where
     leaves : IsLeft schemas names behind number name kept es t
     leaves = left schemas names behind number name kept no_outcome es told told' counts counts' first t (begun_on number name x source apart above) refl refl r own found
 

@@ -8,15 +8,15 @@ use Rattle.cf_stacks.specs.Room.{HasRoom, Standing, stepped, with_room}
 use Rattle.cf_effect.specs.Fold.{fold_of, world_after}
 use Rattle.cf_top.specs.declared.book.Halt.{Halt}
 use Rattle.cf_top.specs.declared.book.Halt.TheVariants as halt
-use Rattle.cf_top.specs.Book.{HasFaulted, HaltsAt, world_of}
+use Rattle.cf_top.specs.Book.{HasFaulted, HaltsAt, world_left}
 
 pub fold_append : (x : World) (es fs : List Entry) → fold_of x (es ++ fs) ≡ fold_of (fold_of x es) fs
 fold_append x [] fs = refl
 fold_append x (e ∷ es) fs = fold_append (world_after x e) es fs
 
 -- one entry more
-pub world_more : (w : World) (es more : List Entry) (e : Entry) → w ≡ world_after (world_of es) e → more ≡ es ++ e ∷ [] → w ≡ world_of more
-world_more w es more e s m = s ∙ sym (fold_append empty_world es (e ∷ [])) ∙ ap world_of (sym m)
+pub world_more : (w : World) (es more : List Entry) (e : Entry) → w ≡ world_after (world_left es) e → more ≡ es ++ e ∷ [] → w ≡ world_left more
+world_more w es more e s m = s ∙ sym (fold_append empty_world es (e ∷ [])) ∙ ap world_left (sym m)
 
 -- the room that was made is room for the entry
 pub room_made : (was now : Standing) (e : Entry) → now ≡ with_room e was → HasRoom now e
@@ -30,7 +30,7 @@ room_made was now (entry.Done number state failed) h = ap (λ (x : Standing). x.
 room_made was now (entry.ChangeSet number name source rows outputs) h = ap (λ (x : Standing). x.ready) h
 
 -- the same of a world that was stepped over it
-pub world_stepped : (was now : Standing) (es more : List Entry) (e : Entry) → was.world ≡ world_of es → now ≡ stepped was e → more ≡ es ++ e ∷ [] → now.world ≡ world_of more
+pub world_stepped : (was now : Standing) (es more : List Entry) (e : Entry) → was.world ≡ world_left es → now ≡ stepped was e → more ≡ es ++ e ∷ [] → now.world ≡ world_left more
 world_stepped was now es more e r s m = world_more now.world es more e (ap (λ (x : Standing). x.world) s ∙ ap (λ (x : World). world_after x e) r) m
 
 -- faults of a disk that rose later rose since an earlier moment

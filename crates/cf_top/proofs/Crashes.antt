@@ -14,7 +14,7 @@ use Rattle.cf_face.specs.declared.exit.Exit.TheVariants as exit
 use Rattle.cf_top.specs.declared.book.Book.{Book}
 use Rattle.cf_top.specs.declared.book.Halt.{Halt}
 use Rattle.cf_top.specs.Book.{IsOpen}
-use Rattle.cf_top.specs.Opening.{exit_of}
+use Rattle.cf_top.specs.Opening.{halt_exit}
 use Rattle.cf_top.specs.Crash.{Breaks, Extends, Grows, HasKnown, IsBetween, Passes, with_doubt}
 
 pub extends_itself : (es : List Entry) → Extends es es
@@ -156,7 +156,7 @@ module _ {D : Type 0} (tells : Bool) (may_leave : D → List ℕ → Type 0) (mo
       {T : Type 0} (old new : D) (es es' : List Entry) (May Must : Entry → Type 0) (r : Result T Halt) → ((h : Halt) (x : Entry) → r ≡ Err h → May x → Must x)
       → Passes tells may_leave moment left_since old new es es' May r → Passes tells may_leave moment left_since old new es es' Must r
   passes_as old new es es' May Must (Ok done) f p = p
-  passes_as old new es es' May Must (Err h) f p = λ told. breaks_as may_leave moment left_since old new es es' May Must (exit_of h) (λ x. f h x refl) (p told)
+  passes_as old new es es' May Must (Err h) f p = λ told. breaks_as may_leave moment left_since old new es es' May Must (halt_exit h) (λ x. f h x refl) (p told)
 
   -- behind a run that ended as it should
   pub passes_on :
@@ -164,7 +164,7 @@ module _ {D : Type 0} (tells : Bool) (may_leave : D → List ℕ → Type 0) (mo
       → (IsTrue tells → Grows moment left_since old mid es es1) → Passes tells may_leave moment left_since mid new es1 es2 May r
       → Passes tells may_leave moment left_since old new es es2 May r
   passes_on old mid new es es1 es2 May (Ok done) a p = λ told. grows_on may_leave moment left_since old mid new es es1 es2 (a told) (p told)
-  passes_on old mid new es es1 es2 May (Err h) a p = λ told. breaks_on may_leave moment left_since old mid new es es1 es2 May (exit_of h) (a told) (p told)
+  passes_on old mid new es es1 es2 May (Err h) a p = λ told. breaks_on may_leave moment left_since old mid new es es1 es2 May (halt_exit h) (a told) (p told)
 
   module _ (seen : D → List ℕ) (room_of : D → ℕ) (only_now : (d : D) (c : List ℕ) → IsTrue tells → left_since d (moment d) c → may_leave d c) where
     -- all of what a crash leaves of an open journal has its entries

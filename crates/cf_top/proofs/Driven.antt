@@ -20,25 +20,27 @@ use Rattle.cf_effect.specs.Words.{has_token, pending_of}
 use Rattle.cf_effect.specs.Fold.{fold_of, world_after}
 use Rattle.cf_next.specs.declared.step.Next.{Next}
 use Rattle.cf_next.specs.declared.step.Next.TheVariants as next
-use Rattle.cf_plan.specs.Forward.{In, here, there}
+use Rattle.cf_tree.specs.Lists.{there}
+use Rattle.cf_tree.specs.Lists.{here}
+use Rattle.cf_tree.specs.Lists.{In}
 use Rattle.cf_plan.specs.Follow.{MayFollow, MayRepeat, IsCounted}
-use Rattle.cf_next.specs.Chosen.{IsNext, entry_of}
+use Rattle.cf_next.specs.Chosen.{IsNext, entry_for}
 use Rattle.cf_next.specs.Chosen.{IsInProgress}
 use Rattle.cf_plan.specs.Going.{Creates, AnswerFollows, CreationGoesOn, CreationIsProper, IntentOpens, IsUnderWay}
-use Rattle.cf_plan.specs.Run.{Told, IsAsked, IsDone, IsOwn, MovesAt, Runs, open_call, answer_as}
+use Rattle.cf_plan.specs.Run.{LaneStates, IsAsked, IsRunEntry, IsOwn, MovesAt, Runs, open_call, answer_as}
 use Rattle.cf_plan.proofs.Frame.{found_passes}
 use Rattle.cf_top.specs.declared.book.Halt.{Halt}
 use Rattle.cf_top.specs.declared.book.Halt.TheVariants as halt
 use Rattle.cf_top.specs.declared.drive.Taken.{Taken}
 use Rattle.cf_top.specs.declared.drive.Taken.TheVariants.{Moved, Over}
-use Rattle.cf_top.specs.Book.{AppendTells, Holds, world_of}
-use Rattle.cf_top.specs.Scene.{Scene, since}
-use Rattle.cf_top.specs.Driving.{Wrote, EndsWith, Halts, WasCutShort, DriveTells, GoesOn, Leaves, TakeTells, called_by, taken_by, NoteTells, ConcludeTells, CallEnds, CallsEnd}
+use Rattle.cf_top.specs.Book.{AppendTells, Holds, world_left}
+use Rattle.cf_top.specs.Scene.{EngineRun, since}
+use Rattle.cf_top.specs.Driving.{Wrote, EndsWith, Halts, WasCutShort, DriveTells, StaysInProgress, StepLeaves, TakeTells, called_by, taken_by, NoteTells, ConcludeTells, CallEnds, CallsEnd}
 use Rattle.cf_top.proofs.Books.{fold_append, halts_since, world_more}
 
 -- the world of one entry more
-pub world_one : (es : List Entry) (e : Entry) → world_of (es ++ e ∷ []) ≡ world_after (world_of es) e
-world_one es e = sym (world_more (world_after (world_of es) e) es (es ++ e ∷ []) e refl refl)
+pub world_one : (es : List Entry) (e : Entry) → world_left (es ++ e ∷ []) ≡ world_after (world_left es) e
+world_one es e = sym (world_more (world_after (world_left es) e) es (es ++ e ∷ []) e refl refl)
 
 -- the open call of a token has the token
 token_is : (number token : ℕ) (x : World) (p : Pending) → open_call number token x ≡ Some p → p.token ≡ token
@@ -61,7 +63,7 @@ concluded tells bytes room faults faults' es more number token a r before after 
 concluded tells bytes room faults faults' es more number token a r before after (Err h) e t = (t.0, inr (r, e, t.1))
 
 -- a call that was made
-module _ (follows : AnswerFollows) (s : Scene) (number token : ℕ) (p : Pending) (k : ℕ) (a : Answer) (before after : ℕ) (is_open : open_call number token (world_of s.entries) ≡ Some p)
+module _ (follows : AnswerFollows) (s : EngineRun) (number token : ℕ) (p : Pending) (k : ℕ) (a : Answer) (before after : ℕ) (is_open : open_call number token (world_left s.entries) ≡ Some p)
     (named : k < length s.names) (told : k < length s.told) (lane : slice_index_or s.names k [] ≡ p.lane)
     (moves : MovesAt k s.names s.told s.told' s.counts s.counts' token p.request a before after) where
   asked : (b : Answer) → b ≡ a → IsAsked s.names s.told s.told' s.counts s.counts' p b before after
@@ -70,13 +72,13 @@ module _ (follows : AnswerFollows) (s : Scene) (number token : ℕ) (p : Pending
     named,
     told,
     lane,
-    subst (λ t. MovesAt k s.names s.told s.told' s.counts s.counts' t p.request b before after) (sym (token_is number token (world_of s.entries) p is_open))
+    subst (λ t. MovesAt k s.names s.told s.told' s.counts s.counts' t p.request b before after) (sym (token_is number token (world_left s.entries) p is_open))
         (subst (λ c. MovesAt k s.names s.told s.told' s.counts s.counts' token p.request c before after) (sym e) moves),
   )
 
-  is_done : (r : Reply) → answer_as r ≡ a → IsDone s.schemas s.names (world_of s.entries) s.told s.told' s.counts s.counts' (entry.Outcome number token r before after)
+  is_done : (r : Reply) → answer_as r ≡ a → IsRunEntry s.schemas s.names (world_left s.entries) s.told s.told' s.counts s.counts' (entry.Outcome number token r before after)
   is_done r e = (
-    follows s.schemas (world_of s.entries) number token p r before after is_open (counted_as r before after (subst (HasCause before after) (sym e) moves.4)),
+    follows s.schemas (world_left s.entries) number token p r before after is_open (counted_as r before after (subst (HasCause before after) (sym e) moves.4)),
     p,
     is_open,
     asked (answer_as r) e,
@@ -105,7 +107,7 @@ all_of_one P f p e (there i) = elim i [ ]
 
 module _ (schemas : List Schema) (names : List (List ℕ)) where
   runs_on :
-      (x : World) (told : Told) (counts : List ℕ) (es : List Entry) (told1 : Told) (counts1 : List ℕ) (fs : List Entry) (told2 : Told) (counts2 : List ℕ)
+      (x : World) (told : LaneStates) (counts : List ℕ) (es : List Entry) (told1 : LaneStates) (counts1 : List ℕ) (fs : List Entry) (told2 : LaneStates) (counts2 : List ℕ)
       → Runs schemas names x told counts es told1 counts1 → Runs schemas names (fold_of x es) told1 counts1 fs told2 counts2
       → Runs schemas names x told counts (es ++ fs) told2 counts2
   runs_on x told counts [] told1 counts1 fs told2 counts2 r q =
@@ -114,15 +116,15 @@ module _ (schemas : List Schema) (names : List (List ℕ)) where
       (r.0, r.1, r.2, runs_on (world_after x e) r.0 r.1 es told1 counts1 fs told2 counts2 r.3 q)
 
   pub runs_behind :
-      (before : List Entry) (told : Told) (counts : List ℕ) (es : List Entry) (told1 : Told) (counts1 : List ℕ) (fs : List Entry) (told2 : Told) (counts2 : List ℕ)
-      → Runs schemas names (world_of before) told counts es told1 counts1 → Runs schemas names (world_of (before ++ es)) told1 counts1 fs told2 counts2
-      → Runs schemas names (world_of before) told counts (es ++ fs) told2 counts2
+      (before : List Entry) (told : LaneStates) (counts : List ℕ) (es : List Entry) (told1 : LaneStates) (counts1 : List ℕ) (fs : List Entry) (told2 : LaneStates) (counts2 : List ℕ)
+      → Runs schemas names (world_left before) told counts es told1 counts1 → Runs schemas names (world_left (before ++ es)) told1 counts1 fs told2 counts2
+      → Runs schemas names (world_left before) told counts (es ++ fs) told2 counts2
   runs_behind before told counts es told1 counts1 fs told2 counts2 r q =
-      runs_on (world_of before) told counts es told1 counts1 fs told2 counts2 r
+      runs_on (world_left before) told counts es told1 counts1 fs told2 counts2 r
       (subst (λ x. Runs schemas names x told1 counts1 fs told2 counts2) (fold_append _ before es) q)
 
 pub wrote_on :
-    (s : Scene) (number : ℕ) (es : List Entry) (told1 : Told) (counts1 : List ℕ) (fs : List Entry) (told2 : Told) (counts2 : List ℕ)
+    (s : EngineRun) (number : ℕ) (es : List Entry) (told1 : LaneStates) (counts1 : List ℕ) (fs : List Entry) (told2 : LaneStates) (counts2 : List ℕ)
     → Wrote s number es told1 counts1 → Wrote (since s es told1 counts1) number fs told2 counts2 → Wrote s number (es ++ fs) told2 counts2
 wrote_on s number es told1 counts1 fs told2 counts2 w v = (
   runs_behind s.schemas s.names s.entries s.told s.counts es told1 counts1 fs told2 counts2 w.0 v.0,
@@ -130,12 +132,12 @@ wrote_on s number es told1 counts1 fs told2 counts2 w v = (
 )
 
 wrote_one :
-    (s : Scene) (number : ℕ) (e : Entry) (told' : Told) (counts' : List ℕ) → IsOwn number e
-    → IsDone s.schemas s.names (world_of s.entries) s.told told' s.counts counts' e → Wrote s number (e ∷ []) told' counts'
+    (s : EngineRun) (number : ℕ) (e : Entry) (told' : LaneStates) (counts' : List ℕ) → IsOwn number e
+    → IsRunEntry s.schemas s.names (world_left s.entries) s.told told' s.counts counts' e → Wrote s number (e ∷ []) told' counts'
 wrote_one s number e told' counts' own d = ((told', counts', d, (refl, refl)), all_of_one (IsOwn number) e own)
 
 -- a run that halts before anything was written
-pub cut_here : (s : Scene) (number : ℕ) (h : Halt) → Halts s number h → WasCutShort s number h
+pub cut_here : (s : EngineRun) (number : ℕ) (h : Halt) → Halts s number h → WasCutShort s number h
 cut_here s number h c = record {
   es = [];
   told = s.told;
@@ -145,7 +147,7 @@ cut_here s number h c = record {
 }
 
 -- it halts later than it began
-pub later_halts : (s : Scene) (faults_now number : ℕ) (h : Halt) → s.faults ≤ faults_now → Halts (record s { faults = faults_now }) number h → Halts s number h
+pub later_halts : (s : EngineRun) (faults_now number : ℕ) (h : Halt) → s.faults ≤ faults_now → Halts (record s { faults = faults_now }) number h → Halts s number h
 later_halts s faults_now number h k (q, inl (t, c, inl z)) = (q, inl (t, c, inl z))
 later_halts s faults_now number h k (q, inl (t, c, inr (e, m, o, at))) =
     (q, inl (t, c, inr (e, m, o, halts_since s.tells s.bytes' s.room s.faults faults_now s.faults' s.entries e h k at)))
@@ -154,7 +156,7 @@ later_halts s faults_now number h k (q, inr (token, p, b, d, a, is_open, asked, 
     (q, inr (token, p, b, d, a, is_open, asked, inr (e, m, o, halts_since s.tells s.bytes' s.room s.faults faults_now s.faults' s.entries e h k at)))
 
 halts_as :
-    (s : Scene) (es : List Entry) (room_now faults_now number : ℕ) (h : Halt) → es ≡ s.entries → room_now ≡ s.room → s.faults ≤ faults_now
+    (s : EngineRun) (es : List Entry) (room_now faults_now number : ℕ) (h : Halt) → es ≡ s.entries → room_now ≡ s.room → s.faults ≤ faults_now
     → Halts (record s { entries = es; room = room_now; faults = faults_now }) number h → Halts s number h
 halts_as s es room_now faults_now number h e r k c =
     later_halts s faults_now number h k
@@ -199,7 +201,7 @@ stage_there : (s : StackState) → Creates s → (stage : Stage) × (stage_of s.
 stage_there s (inl q) = (Forward, ap stage_of q)
 stage_there s (inr q) = (Back, ap stage_of q)
 
-pub in_progress : (x y : World) (number : ℕ) → y ≡ x → GoesOn number x → IsInProgress y number
+pub in_progress : (x y : World) (number : ℕ) → y ≡ x → StaysInProgress number x → IsInProgress y number
 in_progress x y number e (name, u) =
     let at = stage_there u.stack u.creates in
     subst (λ w. IsInProgress w number) (sym e) (name, u.stack, at.0, u.going, at.1)
@@ -219,26 +221,26 @@ pub record Laws : Type 0 where
   pub proper : CreationIsProper
   pub opens : IntentOpens
 
-module _ (laws : Laws) (s : Scene) (number : ℕ) (goes : GoesOn number (world_of s.entries)) where
+module _ (laws : Laws) (s : EngineRun) (number : ℕ) (goes : StaysInProgress number (world_left s.entries)) where
   -- the step comes next, and what it writes down may follow
   abbrev Comes : Next → Type 0
-  Comes n = IsNext s.schemas (world_of s.entries) [] number n × ((e : Entry) → entry_of number n ≡ Some e → MayFollow s.schemas (world_of s.entries) [] e)
+  Comes n = IsNext s.schemas (world_left s.entries) [] number n × ((e : Entry) → entry_for number n ≡ Some e → MayFollow s.schemas (world_left s.entries) [] e)
 
   abbrev note_of : Next → List Entry
-  note_of n = noted (entry_of number n)
+  note_of n = noted (entry_for number n)
 
-  may : (n : Next) (e : Entry) → Comes n → entry_of number n ≡ Some e → MayFollow s.schemas (world_of s.entries) [] e
+  may : (n : Next) (e : Entry) → Comes n → entry_for number n ≡ Some e → MayFollow s.schemas (world_left s.entries) [] e
   may n e c q = c.1 e q
 
   -- what is noted can be written
-  pub note_proper : (n : Next) → Comes n → IfSome (entry_of number n) IsProper
+  pub note_proper : (n : Next) → Comes n → IfSome (entry_for number n) IsProper
   note_proper (next.Step path lane token r true) c = tt
   note_proper (next.Step path lane token r false) c = tt
   note_proper (next.Keep path physical w) c = tt
   note_proper (next.Turn p cause) c =
-      laws.proper s.schemas (world_of s.entries) [] number goes.0 (entry.Phase number p cause) goes.1 refl (may (next.Turn p cause) (entry.Phase number p cause) c refl)
+      laws.proper s.schemas (world_left s.entries) [] number goes.0 (entry.Phase number p cause) goes.1 refl (may (next.Turn p cause) (entry.Phase number p cause) c refl)
   note_proper (next.End state failed) c =
-      laws.proper s.schemas (world_of s.entries) [] number goes.0 (entry.Done number state failed) goes.1 refl (may (next.End state failed) (entry.Done number state failed) c refl)
+      laws.proper s.schemas (world_left s.entries) [] number goes.0 (entry.Done number state failed) goes.1 refl (may (next.End state failed) (entry.Done number state failed) c refl)
   note_proper next.Wait c = tt
 
   -- it is written, and no lane is called
@@ -258,7 +260,7 @@ module _ (laws : Laws) (s : Scene) (number : ℕ) (goes : GoesOn number (world_o
   note_own n e c i = (note_wrote n c).1 e i
 
   -- the operation goes on behind an entry that is not its end
-  goes_to : (e : Entry) → IsUnderWay number goes.0 (world_after (world_of s.entries) e) → GoesOn number (world_of (s.entries ++ e ∷ []))
+  goes_to : (e : Entry) → IsUnderWay number goes.0 (world_after (world_left s.entries) e) → StaysInProgress number (world_left (s.entries ++ e ∷ []))
   goes_to e u = (goes.0, subst (λ x. IsUnderWay number goes.0 x) (sym (world_one s.entries e)) u)
 
   none_some : {A B : Type 0} (a : A) → None ≡ Some a → B
@@ -268,23 +270,23 @@ module _ (laws : Laws) (s : Scene) (number : ℕ) (goes : GoesOn number (world_o
   some_none a e = let no : ⊥ = cc in absurd no
 
   -- a step without a call
-  quiet : (n : Next) → Comes n → called_by n ≡ None → Leaves number s.entries (note_of n) (taken_by n)
+  quiet : (n : Next) → Comes n → called_by n ≡ None → StepLeaves number s.entries (note_of n) (taken_by n)
   quiet (next.Step path lane token r repeated) c q = some_none token q
   quiet (next.Keep path physical w) c q =
       let e : Entry = entry.Kept number path physical w in
-      goes_to e (laws.goes_on s.schemas s.names (world_of s.entries) s.told s.told s.counts s.counts number goes.0 e goes.1 refl (may (next.Keep path physical w) e c refl, refl, refl))
+      goes_to e (laws.goes_on s.schemas s.names (world_left s.entries) s.told s.told s.counts s.counts number goes.0 e goes.1 refl (may (next.Keep path physical w) e c refl, refl, refl))
   quiet (next.Turn p cause) c q =
       let e : Entry = entry.Phase number p cause in
-      goes_to e (laws.goes_on s.schemas s.names (world_of s.entries) s.told s.told s.counts s.counts number goes.0 e goes.1 refl (may (next.Turn p cause) e c refl, refl, refl))
+      goes_to e (laws.goes_on s.schemas s.names (world_left s.entries) s.told s.told s.counts s.counts number goes.0 e goes.1 refl (may (next.Turn p cause) e c refl, refl, refl))
   quiet (next.End state failed) c q = ([], state, failed, refl)
-  quiet next.Wait c q = absurd (never_waits s.schemas (world_of s.entries) number c.0)
+  quiet next.Wait c q = absurd (never_waits s.schemas (world_left s.entries) number c.0)
 
   -- before a call the operation goes on
-  goes_noted : (n : Next) (token : ℕ) → Comes n → called_by n ≡ Some token → GoesOn number (world_of (s.entries ++ note_of n))
-  goes_noted (next.Step path lane token r true) t c q = subst (λ l. GoesOn number (world_of l)) (sym (append-nil s.entries)) goes
+  goes_noted : (n : Next) (token : ℕ) → Comes n → called_by n ≡ Some token → StaysInProgress number (world_left (s.entries ++ note_of n))
+  goes_noted (next.Step path lane token r true) t c q = subst (λ l. StaysInProgress number (world_left l)) (sym (append-nil s.entries)) goes
   goes_noted (next.Step path lane token r false) t c q =
       let e : Entry = entry.Intent number token lane path r in
-      goes_to e (laws.goes_on s.schemas s.names (world_of s.entries) s.told s.told s.counts s.counts number goes.0 e goes.1 refl (may (next.Step path lane token r false) e c refl, refl, refl))
+      goes_to e (laws.goes_on s.schemas s.names (world_left s.entries) s.told s.told s.counts s.counts number goes.0 e goes.1 refl (may (next.Step path lane token r false) e c refl, refl, refl))
   goes_noted (next.Keep path physical w) t c q = none_some t q
   goes_noted (next.Turn p cause) t c q = none_some t q
   goes_noted (next.End state failed) t c q = none_some t q
@@ -298,13 +300,13 @@ module _ (laws : Laws) (s : Scene) (number : ℕ) (goes : GoesOn number (world_o
   moved_by next.Wait t q = refl
 
   -- the call that is to be made is open
-  pub note_opens : (n : Next) (es : List Entry) → Comes n → es ≡ s.entries ++ note_of n → IfSome (called_by n) (λ t. (p : Pending) × (open_call number t (world_of es) ≡ Some p))
+  pub note_opens : (n : Next) (es : List Entry) → Comes n → es ≡ s.entries ++ note_of n → IfSome (called_by n) (λ t. (p : Pending) × (open_call number t (world_left es) ≡ Some p))
   note_opens (next.Step path lane token r true) es c e =
-      let o = repeats_open s.schemas (world_of s.entries) number path lane token r c.0 in
-      (o.0, ap (λ l. open_call number token (world_of l)) (e ∙ append-nil s.entries) ∙ o.1)
+      let o = repeats_open s.schemas (world_left s.entries) number path lane token r c.0 in
+      (o.0, ap (λ l. open_call number token (world_left l)) (e ∙ append-nil s.entries) ∙ o.1)
   note_opens (next.Step path lane token r false) es c e =
-      let o = laws.opens (world_of s.entries) number goes.0 token lane path r goes.1 in
-      (o.0, ap (open_call number token) (ap world_of e ∙ world_one s.entries (entry.Intent number token lane path r)) ∙ o.1)
+      let o = laws.opens (world_left s.entries) number goes.0 token lane path r goes.1 in
+      (o.0, ap (open_call number token) (ap world_left e ∙ world_one s.entries (entry.Intent number token lane path r)) ∙ o.1)
   note_opens (next.Keep path physical w) es c e = tt
   note_opens (next.Turn p cause) es c e = tt
   note_opens (next.End state failed) es c e = tt
@@ -313,14 +315,14 @@ module _ (laws : Laws) (s : Scene) (number : ℕ) (goes : GoesOn number (world_o
   -- the run halts at the note
   pub note_halts :
       (n : Next) (h : Halt) → Comes n → s.told' ≡ s.told → s.counts' ≡ s.counts
-      → NoteTells s.tells s.bytes' s.room s.faults s.faults' s.entries s.entries' (entry_of number n) (Err h) → WasCutShort s number h
-  note_halts n h c told counts t = by_entry (entry_of number n) refl t where
-    by_entry : (o : Option Entry) → entry_of number n ≡ o → NoteTells s.tells s.bytes' s.room s.faults s.faults' s.entries s.entries' o (Err h) → WasCutShort s number h
+      → NoteTells s.tells s.bytes' s.room s.faults s.faults' s.entries s.entries' (entry_for number n) (Err h) → WasCutShort s number h
+  note_halts n h c told counts t = by_entry (entry_for number n) refl t where
+    by_entry : (o : Option Entry) → entry_for number n ≡ o → NoteTells s.tells s.bytes' s.room s.faults s.faults' s.entries s.entries' o (Err h) → WasCutShort s number h
     by_entry None q f = absurd f
     by_entry (Some e) q f = cut_here s number h (f.0, inl (told, counts, inr (e, may n e c q, note_own n e c (subst (λ o. In e (noted o)) (sym q) here), f.1)))
 
   module _ (n : Next) (es : List Entry) (room_now faults_now : ℕ) (c : Comes n) (e : es ≡ s.entries ++ note_of n) where
-    abbrev behind_note : Scene
+    abbrev behind_note : EngineRun
     behind_note = record s { entries = es; room = room_now; faults = faults_now }
 
     -- or in the call
@@ -348,31 +350,31 @@ module _ (laws : Laws) (s : Scene) (number : ℕ) (goes : GoesOn number (world_o
       )
       by_call (Some token) q (r, before, after, d, w) =
           let o : Entry = entry.Outcome number token r before after in
-          let done_there : IsDone s.schemas s.names (world_of (s.entries ++ note_of n)) s.told s.told' s.counts s.counts' o =
-          subst (λ l. IsDone s.schemas s.names (world_of l) s.told s.told' s.counts s.counts' o) e d in
+          let done_there : IsRunEntry s.schemas s.names (world_left (s.entries ++ note_of n)) s.told s.told' s.counts s.counts' o =
+          subst (λ l. IsRunEntry s.schemas s.names (world_left l) s.told s.told' s.counts s.counts' o) e d in
           let on = goes_noted n token c q in
-          let further : IsUnderWay number on.0 (world_after (world_of (s.entries ++ note_of n)) o) =
-          laws.goes_on s.schemas s.names (world_of (s.entries ++ note_of n)) s.told s.told' s.counts s.counts' number on.0 o on.1 refl done_there in (
+          let further : IsUnderWay number on.0 (world_after (world_left (s.entries ++ note_of n)) o) =
+          laws.goes_on s.schemas s.names (world_left (s.entries ++ note_of n)) s.told s.told' s.counts s.counts' number on.0 o on.1 refl done_there in (
             note_of n ++ o ∷ [],
             wrote_on s number (note_of n) s.told s.counts (o ∷ []) s.told' s.counts' (note_wrote n c) (wrote_one (since s (note_of n) s.told s.counts) number o s.told' s.counts' refl done_there),
-            subst (λ t. Leaves number s.entries (note_of n ++ o ∷ []) t) (moved_by n token q) (
+            subst (λ t. StepLeaves number s.entries (note_of n ++ o ∷ []) t) (moved_by n token q) (
               on.0,
-              subst (λ x. IsUnderWay number on.0 x) (sym (world_one (s.entries ++ note_of n) o) ∙ ap world_of (append_assoc s.entries (note_of n) (o ∷ []))) further,
+              subst (λ x. IsUnderWay number on.0 x) (sym (world_one (s.entries ++ note_of n) o) ∙ ap world_left (append_assoc s.entries (note_of n) (o ∷ []))) further,
             ),
             w ∙ ap (λ l. l ++ o ∷ []) e ∙ append_assoc s.entries (note_of n) (o ∷ []),
           )
 
 -- an operation so far: what was written, and that it goes on
-pub record IsSoFar (schemas : List Schema) (names : List (List ℕ)) (told : Told) (counts : List ℕ) (entries : List Entry) (number : ℕ)
-    (labels : List (List ℕ)) (told1 : Told) (counts1 : List ℕ) (entries1 : List Entry) : Type 0 where
+pub record IsSoFar (schemas : List Schema) (names : List (List ℕ)) (told : LaneStates) (counts : List ℕ) (entries : List Entry) (number : ℕ)
+    (labels : List (List ℕ)) (told1 : LaneStates) (counts1 : List ℕ) (entries1 : List Entry) : Type 0 where
   pub es : List Entry
-  pub runs : Runs schemas names (world_of entries) told counts es told1 counts1
+  pub runs : Runs schemas names (world_left entries) told counts es told1 counts1
   pub own : (e : Entry) → In e es → IsOwn number e
   pub written : entries1 ≡ entries ++ es
-  pub goes : GoesOn number (world_of entries1)
+  pub goes : StaysInProgress number (world_left entries1)
   pub labels_are : labels ≡ names
 
-pub so_far : (schemas : List Schema) (names : List (List ℕ)) (told : Told) (counts : List ℕ) (entries : List Entry) (number : ℕ) → GoesOn number (world_of entries)
+pub so_far : (schemas : List Schema) (names : List (List ℕ)) (told : LaneStates) (counts : List ℕ) (entries : List Entry) (number : ℕ) → StaysInProgress number (world_left entries)
     → IsSoFar schemas names told counts entries number names told counts entries
 so_far schemas names told counts entries number g = record {
   es = [];
@@ -384,18 +386,18 @@ so_far schemas names told counts entries number g = record {
 }
 
 -- entries that were written behind others
-module _ (schemas : List Schema) (names : List (List ℕ)) (told : Told) (counts : List ℕ) (entries : List Entry) (number : ℕ)
-    (labels : List (List ℕ)) (told1 : Told) (counts1 : List ℕ) (entries1 : List Entry)
+module _ (schemas : List Schema) (names : List (List ℕ)) (told : LaneStates) (counts : List ℕ) (entries : List Entry) (number : ℕ)
+    (labels : List (List ℕ)) (told1 : LaneStates) (counts1 : List ℕ) (entries1 : List Entry)
     (i : IsSoFar schemas names told counts entries number labels told1 counts1 entries1) where
-  abbrev Behind : List Entry → Told → List ℕ → Type 0
-  Behind fs told2 counts2 = Runs schemas labels (world_of entries1) told1 counts1 fs told2 counts2 × ((e : Entry) → In e fs → IsOwn number e)
+  abbrev Behind : List Entry → LaneStates → List ℕ → Type 0
+  Behind fs told2 counts2 = Runs schemas labels (world_left entries1) told1 counts1 fs told2 counts2 × ((e : Entry) → In e fs → IsOwn number e)
 
-  pub both : (fs : List Entry) (told2 : Told) (counts2 : List ℕ) → Behind fs told2 counts2
-      → Runs schemas names (world_of entries) told counts (i.es ++ fs) told2 counts2 × ((e : Entry) → In e (i.es ++ fs) → IsOwn number e)
+  pub both : (fs : List Entry) (told2 : LaneStates) (counts2 : List ℕ) → Behind fs told2 counts2
+      → Runs schemas names (world_left entries) told counts (i.es ++ fs) told2 counts2 × ((e : Entry) → In e (i.es ++ fs) → IsOwn number e)
   both fs told2 counts2 w = (
     runs_behind schemas names entries told counts i.es told1 counts1 fs told2 counts2 i.runs
-        (subst (λ l. Runs schemas names (world_of l) told1 counts1 fs told2 counts2) i.written
-        (subst (λ ns. Runs schemas ns (world_of entries1) told1 counts1 fs told2 counts2) i.labels_are w.0)),
+        (subst (λ l. Runs schemas names (world_left l) told1 counts1 fs told2 counts2) i.written
+        (subst (λ ns. Runs schemas ns (world_left entries1) told1 counts1 fs told2 counts2) i.labels_are w.0)),
     all_of_both (IsOwn number) i.es fs i.own w.1,
   )
 
@@ -404,31 +406,31 @@ module _ (schemas : List Schema) (names : List (List ℕ)) (told : Told) (counts
 
 -- it goes on with a step
 goes_moved :
-    (schemas : List Schema) (names : List (List ℕ)) (told : Told) (counts : List ℕ) (entries : List Entry) (number : ℕ) (u : Scene) (labels : List (List ℕ))
+    (schemas : List Schema) (names : List (List ℕ)) (told : LaneStates) (counts : List ℕ) (entries : List Entry) (number : ℕ) (u : EngineRun) (labels : List (List ℕ))
     → u.schemas ≡ schemas → labels ≡ u.names → IsSoFar schemas names told counts entries number u.names u.told u.counts u.entries → TakeTells u number (Ok Moved)
     → IsSoFar schemas names told counts entries number labels u.told' u.counts' u.entries'
 goes_moved schemas names told counts entries number u labels same kept i (fs, w, goes, written) =
-    let all = both schemas names told counts entries number u.names u.told u.counts u.entries i fs u.told' u.counts' (subst (λ gs. Runs gs u.names (world_of u.entries) u.told u.counts fs u.told' u.counts') same w.0, w.1) in
+    let all = both schemas names told counts entries number u.names u.told u.counts u.entries i fs u.told' u.counts' (subst (λ gs. Runs gs u.names (world_left u.entries) u.told u.counts fs u.told' u.counts') same w.0, w.1) in
     record {
       es = i.es ++ fs;
       runs = all.0;
       own = all.1;
       written = written_on schemas names told counts entries number u.names u.told u.counts u.entries i fs u.entries' written;
-      goes = subst (λ l. GoesOn number (world_of l)) (sym written) goes;
+      goes = subst (λ l. StaysInProgress number (world_left l)) (sym written) goes;
       labels_are = kept ∙ i.labels_are;
     }
 
 pub goes_further :
-    (schemas : List Schema) (names : List (List ℕ)) (told : Told) (counts : List ℕ) (entries : List Entry) (number : ℕ) (u : Scene) (labels : List (List ℕ))
+    (schemas : List Schema) (names : List (List ℕ)) (told : LaneStates) (counts : List ℕ) (entries : List Entry) (number : ℕ) (u : EngineRun) (labels : List (List ℕ))
     → u.schemas ≡ schemas → labels ≡ u.names → IsSoFar schemas names told counts entries number u.names u.told u.counts u.entries → (t : Taken) → t ≡ Moved → TakeTells u number (Ok t)
     → IsSoFar schemas names told counts entries number labels u.told' u.counts' u.entries'
 goes_further schemas names told counts entries number u labels same kept i t e w =
     goes_moved schemas names told counts entries number u labels same kept i (subst (λ m. TakeTells u number (Ok m)) e w)
 
 -- from where it is the run goes to its end, or is cut short
-module _ (s : Scene) (number : ℕ) (labels : List (List ℕ)) (told_now : Told) (counts_now : List ℕ) (entries_now : List Entry) (room_now faults_now : ℕ)
+module _ (s : EngineRun) (number : ℕ) (labels : List (List ℕ)) (told_now : LaneStates) (counts_now : List ℕ) (entries_now : List Entry) (room_now faults_now : ℕ)
     (i : IsSoFar s.schemas s.names s.told s.counts s.entries number labels told_now counts_now entries_now) where
-  abbrev now : Scene
+  abbrev now : EngineRun
   now = record s { names = labels; told = told_now; counts = counts_now; entries = entries_now; room = room_now; faults = faults_now }
 
   ends_last : (fs before : List Entry) → EndsWith fs number → EndsWith (before ++ fs) number
@@ -461,6 +463,6 @@ module _ (s : Scene) (number : ℕ) (labels : List (List ℕ)) (told_now : Told)
 
 -- for want of memory nothing more is done
 pub no_memory :
-    (s : Scene) (number : ℕ) → s.told' ≡ s.told → s.counts' ≡ s.counts → s.entries' ≡ s.entries → Holds s.tells s.bytes' s.entries
+    (s : EngineRun) (number : ℕ) → s.told' ≡ s.told → s.counts' ≡ s.counts → s.entries' ≡ s.entries → Holds s.tells s.bytes' s.entries
     → WasCutShort s number halt.NoMemory
 no_memory s number told counts kept holds = cut_here s number halt.NoMemory (kept, inl (told, counts, inl (refl, holds)))

@@ -10,9 +10,9 @@ use Rattle.cf_top.specs.Book.{Holds}
 use Rattle.cf_top.specs.Lanes.{kinds_of}
 use Rattle.cf_top.specs.Opening.{EnterTells}
 use Rattle.cf_top.specs.Deployment.{IsUnasked, DeploysAs}
-use Rattle.cf_top.specs.Meeting.{AreQuiet, EndsEarly, MayOpen, Meeting, WasEntered, open_over, opened}
+use Rattle.cf_top.specs.Meeting.{AreQuiet, EndsEarly, HasNeededLanes, Environment, WasEntered, open_over, run_opened}
 
-pub entered : (m : Meeting) (name : List ℕ) (choice : Choice) (outcome : Result (Unit {0}) Exit) (old es now : List Entry) (room_now faults : ℕ) → m.faults ≤ faults → Holds m.tells m.bytes old → MayOpen m old → IsTrue (list_all is_lane_name m.names) → es ≡ open_over m old → room_now ≡ m.room → DeploysAs m.shelf (record (opened m old faults now) { entries = es; room = room_now }) name choice outcome → WasEntered m name choice now outcome
+pub entered : (m : Environment) (name : List ℕ) (choice : Choice) (outcome : Result (Unit {0}) Exit) (old es now : List Entry) (room_now faults : ℕ) → m.faults ≤ faults → Holds m.tells m.bytes old → HasNeededLanes m old → IsTrue (list_all is_lane_name m.names) → es ≡ open_over m old → room_now ≡ m.room → DeploysAs m.shelf (record (run_opened m old faults now) { entries = es; room = room_now }) name choice outcome → WasEntered m name choice now outcome
 entered m name choice outcome old es now room_now faults k h o f e r t = record {
   old = old;
   faults = faults;
@@ -21,12 +21,12 @@ entered m name choice outcome old es now room_now faults k h o f e r t = record 
   may = o;
   named = f;
   came =
-      subst (λ (x : List Entry). DeploysAs m.shelf (record (opened m old faults now) { entries = x }) name choice outcome) e
-      (subst (λ (x : ℕ). DeploysAs m.shelf (record (opened m old faults now) { entries = es; room = x }) name choice outcome) r t);
+      subst (λ (x : List Entry). DeploysAs m.shelf (record (run_opened m old faults now) { entries = x }) name choice outcome) e
+      (subst (λ (x : ℕ). DeploysAs m.shelf (record (run_opened m old faults now) { entries = es; room = x }) name choice outcome) r t);
 }
 
 -- the opening was not written
-pub not_entered : (m : Meeting) (name : List ℕ) (choice : Choice) (e : Exit) (old now : List Entry) (room_now faults : ℕ) → m.faults ≤ faults → Holds m.tells m.bytes old → room_now ≡ m.room → EnterTells m.tells m.bytes' room_now faults m.faults' m.names (kinds_of m.schemas) old now (Err e) → AreQuiet m → IsUnasked m.shelf → EndsEarly m name choice e
+pub not_entered : (m : Environment) (name : List ℕ) (choice : Choice) (e : Exit) (old now : List Entry) (room_now faults : ℕ) → m.faults ≤ faults → Holds m.tells m.bytes old → room_now ≡ m.room → EnterTells m.tells m.bytes' room_now faults m.faults' m.names (kinds_of m.schemas) old now (Err e) → AreQuiet m → IsUnasked m.shelf → EndsEarly m name choice e
 not_entered m name choice e old now room_now faults k h r t q a = inr (inl (record {
   old = old;
   now = now;

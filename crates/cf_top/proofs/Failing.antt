@@ -13,7 +13,10 @@ use Rattle.cf_entry.specs.declared.turn.Reason.TheVariants as reason
 use Rattle.cf_effect.specs.World.{StackState}
 use Rattle.cf_effect.specs.Operation.{before_first, up_to_last, after_last, is_phase, is_turn_or_opening, forward_of, now_of, doubts_in}
 use Rattle.cf_effect.specs.Calls.{call_under}
-use Rattle.cf_plan.specs.Forward.{In, here, there, is_refused_call, refusing, doubting, first_refusing, first_failing_behind, first_failing}
+use Rattle.cf_plan.specs.Forward.{is_refused_call, refusing, doubting, first_refusing, first_failing_behind, first_failing}
+use Rattle.cf_tree.specs.Lists.{there}
+use Rattle.cf_tree.specs.Lists.{here}
+use Rattle.cf_tree.specs.Lists.{In}
 use Rattle.cf_top.specs.Turning.{reason_in}
 
 before_by : {A : Type 0} (test : A → Bool) (y : A) (xs : List A) (x : A) (b : Bool) → In x (cond b [] (y ∷ before_first test xs)) → (In x (before_first test xs) → In x xs) → In x (y ∷ xs)

@@ -9,7 +9,7 @@ use Rattle.cf_tree.specs.Keys.{ascends, value_at}
 use Rattle.cf_tree.proofs.Order.{ascends_map}
 use Rattle.cf_stacks.specs.Apart.{AreApart}
 use Rattle.cf_stacks.specs.Room.{StackStanding}
-use Rattle.cf_stacks.specs.Standing.{Named, stack_in}
+use Rattle.cf_stacks.specs.Standing.{NamedStanding, stack_in}
 use Rattle.cf_effect.specs.World.{StackState, World}
 use Rattle.cf_top.specs.Creating.{are_apart, stands_apart}
 
@@ -40,7 +40,7 @@ abbrev has_it : ℕ → List ℕ × StackState → Bool
 has_it n s = s.1.operation == n
 
 -- a stack has the operation with what it has room for just where it has it without
-pub any_operation : (n : ℕ) (ss : List Named) → list_any (λ s. s.1.operation == n) (map stack_in ss) ≡ list_any (λ s. s.1.stack.operation == n) ss
+pub any_operation : (n : ℕ) (ss : List NamedStanding) → list_any (λ s. s.1.operation == n) (map stack_in ss) ≡ list_any (λ s. s.1.stack.operation == n) ss
 any_operation n [] = refl
 any_operation n (s ∷ ss) = ap (λ b. s.1.stack.operation == n || b) (any_operation n ss)
 

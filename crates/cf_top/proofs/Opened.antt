@@ -22,15 +22,18 @@ use Rattle.cf_effect.specs.declared.held.Pending.{Pending}
 use Rattle.cf_effect.specs.World.{StackState, World, empty_world, stack_at}
 use Rattle.cf_effect.specs.Fold.{fold_of, world_after}
 use Rattle.cf_effect.specs.Words.{resources_of}
-use Rattle.cf_plan.specs.Forward.{In, here, there}
-use Rattle.cf_plan.specs.Follow.{HasLanes, IsKindFor, IsLaneFor, IsNamedLane, MayFollow}
+use Rattle.cf_tree.specs.Lists.{there}
+use Rattle.cf_tree.specs.Lists.{here}
+use Rattle.cf_tree.specs.Lists.{In}
+use Rattle.cf_plan.specs.Follow.{HasLanes, IsLaneFor, IsNamedLane, MayFollow}
+use Rattle.cf_handler.specs.Move.{IsKindFor}
 use Rattle.cf_plan.specs.Cleared.{IsJournal}
-use Rattle.cf_plan.specs.Run.{AreFresh, IsDone, Runs, Told}
+use Rattle.cf_plan.specs.Run.{AreFresh, IsRunEntry, Runs, LaneStates}
 use Rattle.cf_plan.proofs.RunLists.{in_either}
-use Rattle.cf_top.specs.Book.{world_of}
+use Rattle.cf_top.specs.Book.{world_left}
 use Rattle.cf_top.specs.Lanes.{kinds_of, lane_pairs}
-use Rattle.cf_top.specs.Meeting.{MayOpen, Meeting, open_over}
-use Rattle.cf_top.specs.Opening.{has_lane, lane_of, lower, missing, missing_in, opening, or_missing_call, or_missing_held, serves_call, serves_held}
+use Rattle.cf_top.specs.Meeting.{HasNeededLanes, Environment, open_over}
+use Rattle.cf_top.specs.Opening.{is_handed_in, lane_of, lower, missing, missing_in, opening, or_missing_call, or_missing_held, serves_call, serves_held}
 use Rattle.cf_top.proofs.Books.{fold_append}
 
 -- a text that is cut at a colon
@@ -51,13 +54,13 @@ cut_whole (b ∷ bs) c e = by (starts_with nat_eq (b ∷ bs) (58 ∷ [])) refl (
 
 -- a lane of this name and type, and one of this name, is among those handed in
 has_pair :
-    (names kinds : List (List ℕ)) (name kind : List ℕ) → has_lane names kinds name kind ≡ true
+    (names kinds : List (List ℕ)) (name kind : List ℕ) → is_handed_in names kinds name kind ≡ true
     → (l : List ℕ × List ℕ) × In l (lane_pairs names kinds) × (l.0 ≡ name) × (l.1 ≡ kind)
 has_pair [] kinds name kind e = absurd (true≢false (sym e))
 has_pair (n ∷ names) [] name kind e = absurd (true≢false (sym e))
 has_pair (n ∷ names) (k ∷ kinds) name kind e = by (bytes_eq name n && bytes_eq kind k) refl e (has_pair names kinds name kind) where
-  by : (t : Bool) → (bytes_eq name n && bytes_eq kind k) ≡ t → (t || has_lane names kinds name kind) ≡ true
-      → (has_lane names kinds name kind ≡ true → (l : List ℕ × List ℕ) × In l (lane_pairs names kinds) × (l.0 ≡ name) × (l.1 ≡ kind))
+  by : (t : Bool) → (bytes_eq name n && bytes_eq kind k) ≡ t → (t || is_handed_in names kinds name kind) ≡ true
+      → (is_handed_in names kinds name kind ≡ true → (l : List ℕ × List ℕ) × In l (lane_pairs names kinds) × (l.0 ≡ name) × (l.1 ≡ kind))
       → (l : List ℕ × List ℕ) × In l ((n, k) ∷ lane_pairs names kinds) × (l.0 ≡ name) × (l.1 ≡ kind)
   by true s q rest = (
     (n, k),
@@ -105,7 +108,7 @@ module _ {A : Type 0} (serves : A → Bool) (name : A → List ℕ) where
 module _ (names kinds : List (List ℕ)) (as_many : length kinds ≡ length names) where
   named_lane : (h : Held) → serves_held names kinds h ≡ true → IsNamedLane (lane_pairs names kinds) h.physical h.kind
   named_lane h e = by (cut_at (58 ∷ []) h.physical) refl e where
-    by : (o : Option (List ℕ × List ℕ)) → cut_at (58 ∷ []) h.physical ≡ o → option_map_or (λ c. has_lane names kinds c.0 h.kind) o false ≡ true
+    by : (o : Option (List ℕ × List ℕ)) → cut_at (58 ∷ []) h.physical ≡ o → option_map_or (λ c. is_handed_in names kinds c.0 h.kind) o false ≡ true
         → IsNamedLane (lane_pairs names kinds) h.physical h.kind
     by None s q = absurd (true≢false (sym q))
     by (Some c) s q =
@@ -161,20 +164,20 @@ both_legal x [] fs j k = k
 both_legal x (e ∷ es) fs j k = (j.0, both_legal (world_after x e) es fs j.1 k)
 
 -- the opening of a run may follow, so a journal each of whose entries could follow is one with it too
-pub opened_legal : (m : Meeting) (old : List Entry) → length m.schemas ≡ length m.names → MayOpen m old → IsJournal empty_world old → IsJournal empty_world (open_over m old)
+pub opened_legal : (m : Environment) (old : List Entry) → length m.schemas ≡ length m.names → HasNeededLanes m old → IsJournal empty_world old → IsJournal empty_world (open_over m old)
 opened_legal m old k may j =
-    both_legal empty_world old (opening m.names (kinds_of m.schemas) (world_of old) ∷ []) j
-    (([], [], opening_follows m.names (kinds_of m.schemas) (length-map m.schemas (λ (g : Schema). g.kind) ∙ k) [] (world_of old) may.1), tt)
+    both_legal empty_world old (opening m.names (kinds_of m.schemas) (world_left old) ∷ []) j
+    (([], [], opening_follows m.names (kinds_of m.schemas) (length-map m.schemas (λ (g : Schema). g.kind) ∙ k) [] (world_left old) may.1), tt)
 
 -- it gives no token
-pub opened_fresh : (m : Meeting) (old : List Entry) (told : Told) → AreFresh (world_of old).token told → AreFresh (world_of (open_over m old)).token told
+pub opened_fresh : (m : Environment) (old : List Entry) (told : LaneStates) → AreFresh (world_left old).token told → AreFresh (world_left (open_over m old)).token told
 opened_fresh m old told f =
-    subst (λ (x : World). AreFresh x.token told) (sym (fold_append empty_world old (opening m.names (kinds_of m.schemas) (world_of old) ∷ []))) f
+    subst (λ (x : World). AreFresh x.token told) (sym (fold_append empty_world old (opening m.names (kinds_of m.schemas) (world_left old) ∷ []))) f
 
 -- the entries that a run writes may each follow
 done_follows :
-    (schemas : List Schema) (names : List (List ℕ)) (x : World) (told told' : Told) (counts counts' : List ℕ) (e : Entry)
-    → IsDone schemas names x told told' counts counts' e → (out : List ℕ) × MayFollow schemas x out e
+    (schemas : List Schema) (names : List (List ℕ)) (x : World) (told told' : LaneStates) (counts counts' : List ℕ) (e : Entry)
+    → IsRunEntry schemas names x told told' counts counts' e → (out : List ℕ) × MayFollow schemas x out e
 done_follows schemas names x told told' counts counts' (entry.Outcome number token a before after) d = (token ∷ [], d.0)
 done_follows schemas names x told told' counts counts' (entry.Opened epoch lanes) d = ([], d.0)
 done_follows schemas names x told told' counts counts' (entry.Begin number name k) d = ([], d.0)
@@ -185,7 +188,7 @@ done_follows schemas names x told told' counts counts' (entry.Done number state 
 done_follows schemas names x told told' counts counts' (entry.ChangeSet number name source rows outputs) d = ([], d.0)
 
 pub runs_legal :
-    (schemas : List Schema) (names : List (List ℕ)) (es : List Entry) (x : World) (told told' : Told) (counts counts' : List ℕ)
+    (schemas : List Schema) (names : List (List ℕ)) (es : List Entry) (x : World) (told told' : LaneStates) (counts counts' : List ℕ)
     → Runs schemas names x told counts es told' counts' → IsJournal x es
 runs_legal schemas names [] x told told' counts counts' r = tt
 runs_legal schemas names (e ∷ es) x told told' counts counts' r =

@@ -25,12 +25,12 @@ use Rattle.cf_prepare.specs.declared.wish.PrepareFault.{PrepareFault}
 use Rattle.cf_prepare.specs.declared.wish.PrepareFault.TheVariants as fault
 use Rattle.cf_prepare.specs.declared.wish.Wish.TheVariants.{Deploy}
 use Rattle.cf_face.specs.declared.words.Choice.{Choice}
-use Rattle.cf_top.specs.Creating.{beginning}
-use Rattle.cf_top.specs.Deployment.{IsBegunBy, barred, barring}
-use Rattle.cf_top.specs.Refusals.{TestsAs, exit_of_fault, refusal_in, source_of}
+use Rattle.cf_top.specs.Creating.{create_entry}
+use Rattle.cf_top.specs.Deployment.{IsBegunBy, status_in_use, existing_status}
+use Rattle.cf_top.specs.Refusals.{TestsTemplate, exit_of_fault, refusal_in, deployed_source}
 
 -- where no stack bars the name, a creation may begin
-creates_by : (o : Option StackState) → option_and_then (λ st. barred st.status) o ≡ None → creates_from (unwrap_or o no_stack).status ≡ true
+creates_by : (o : Option StackState) → option_and_then (λ st. status_in_use st.status) o ≡ None → creates_from (unwrap_or o no_stack).status ≡ true
 creates_by None e = refl
 creates_by (Some st) e = by_case (creates_from st.status) e
   where
@@ -38,7 +38,7 @@ creates_by (Some st) e = by_case (creates_from st.status) e
     by_case true e = refl
     by_case false e = absurd cc
 
-pub creates_where_free : (name : List ℕ) (x : World) → barring name x ≡ None → creates_from (known_stack name x).status ≡ true
+pub creates_where_free : (name : List ℕ) (x : World) → existing_status name x ≡ None → creates_from (known_stack name x).status ≡ true
 creates_where_free name x free = creates_by (stack_at name x) free
 
 -- an order is a beginning alone where it is one
@@ -47,7 +47,7 @@ begun_same a b e = cc
 
 module _ (schemas : List Schema) (x : World) (name : List ℕ) (choice : Choice) (bytes : List ℕ) where
   abbrev source : Source
-  source = source_of name choice bytes
+  source = deployed_source name choice bytes
 
   -- what is ordered begins an operation
   pub is_begin : (o : Order) → Tests (deploy_refusal schemas x name source) (IsDeployment schemas x name source) (Ok o) → (begun : Entry) × (o ≡ order.Begin begun)
@@ -55,14 +55,14 @@ module _ (schemas : List Schema) (x : World) (name : List ℕ) (choice : Choice)
 
   -- and this creates the stack
   pub ordered :
-      (o : Order) (begun : Entry) → o ≡ order.Begin begun → barring name x ≡ None
+      (o : Order) (begun : Entry) → o ≡ order.Begin begun → existing_status name x ≡ None
       → Tests (deploy_refusal schemas x name source) (IsDeployment schemas x name source) (Ok o) → OrderFollows schemas x (Deploy name source) o
-      → TestsAs (refusal_in (deploy_refusal schemas x name source)) (IsBegunBy schemas x name choice bytes) (Ok begun)
+      → TestsTemplate (refusal_in (deploy_refusal schemas x name source)) (IsBegunBy schemas x name choice bytes) (Ok begun)
   ordered o begun e free t f =
       let written : Source = t.1.0 in
       let kind : kind_by (known_stack name x) written ≡ begin.Create written =
       ap (λ (b : Bool). cond b (begin.Create written) (begin.Update written)) (creates_where_free name x free) in
-      let same : begun ≡ beginning (x.operation + 1) name written =
+      let same : begun ≡ create_entry (x.operation + 1) name written =
       begun_same begun (entry.Begin (x.operation + 1) name (kind_by (known_stack name x) written)) (sym e ∙ t.1.2)
       ∙ ap (λ (k : Begun). entry.Begin (x.operation + 1) name k) kind in
       let follows : OrderFollows schemas x (Deploy name source) (order.Begin begun) = subst (OrderFollows schemas x (Deploy name source)) e f in
@@ -71,7 +71,7 @@ module _ (schemas : List Schema) (x : World) (name : List ℕ) (choice : Choice)
   -- what is refused is told
   pub refused_for :
       (f : PrepareFault) → Tests (deploy_refusal schemas x name source) (IsDeployment schemas x name source) (Err f)
-      → TestsAs (refusal_in (deploy_refusal schemas x name source)) (IsBegunBy schemas x name choice bytes) (Err (exit_of_fault f))
+      → TestsTemplate (refusal_in (deploy_refusal schemas x name source)) (IsBegunBy schemas x name choice bytes) (Err (exit_of_fault f))
   refused_for (fault.Plan flaw) t = ap refusal_in t
   refused_for (fault.UnknownType path type) t = ap refusal_in t
   refused_for (fault.Stack s) t = tt
@@ -80,6 +80,6 @@ module _ (schemas : List Schema) (x : World) (name : List ℕ) (choice : Choice)
 -- the templates of a source whose one text was read
 pub one_template :
     (name : List ℕ) (choice : Choice) (bytes : List ℕ) (t : Template) (ts : List (List ℕ × Template)) → template_of bytes ≡ Ok t → ts ≡ (choice.template, t) ∷ []
-    → ts ≡ templates_of (source_of name choice bytes)
+    → ts ≡ templates_of (deployed_source name choice bytes)
 one_template name choice bytes t ts read e =
     e ∙ sym (ap (λ (r : Reading Template). filter_map (λ (x : List ℕ × List ℕ). option_map (λ (u : Template). (x.0, u)) (accepted r)) ((choice.template, bytes) ∷ [])) read)

@@ -14,19 +14,19 @@ use Rattle.cf_effect.specs.Fold.{fold_of, world_after}
 use Rattle.cf_effect.specs.Begin.{source_for}
 use Rattle.cf_plan.specs.Ends.{IsBlamed}
 use Rattle.cf_plan.specs.Follow.{failed_of}
-use Rattle.cf_plan.specs.Forward.{In}
+use Rattle.cf_tree.specs.Lists.{In}
 use Rattle.cf_plan.specs.Going.{IsOver, ends_creation}
 use Rattle.cf_plan.specs.Promise.{Promised}
 use Rattle.cf_plan.specs.Cleared.{CreationFindsNothing}
 use Rattle.cf_plan.specs.Created.{FlawlessHasOneShape}
-use Rattle.cf_plan.specs.Run.{CreationKeepsPromise, HasBegun, IsOwn, KeepsPromise, Runs, Told, lanes_told}
+use Rattle.cf_plan.specs.Run.{CreationKeepsPromise, HasBegun, IsOwn, KeepsPromise, Runs, LaneStates, lanes_told}
 use Rattle.cf_plan.specs.RunBegins.{CreationBegins}
 use Rattle.cf_face.specs.declared.words.Choice.{Choice}
-use Rattle.cf_top.specs.Book.{world_of}
+use Rattle.cf_top.specs.Book.{world_left}
 use Rattle.cf_top.specs.Lanes.{kinds_of, one_of_each}
 use Rattle.cf_top.specs.Driving.{Wrote}
 use Rattle.cf_top.specs.Deployment.{IsApart, IsFound}
-use Rattle.cf_top.specs.Meeting.{MayOpen, Meeting, open_over, opened}
+use Rattle.cf_top.specs.Meeting.{HasNeededLanes, Environment, open_over, run_opened}
 use Rattle.cf_top.specs.Telling.{cause_of, exit_at, exit_for}
 use Rattle.cf_top.specs.Turning.{TurnsBack}
 use Rattle.cf_top.specs.Alone.{BeginsSoundly, EndsFor, IsSound, begun_in, begun_world, number_in, run_in}
@@ -46,11 +46,11 @@ pub record Laws : Type 0 where
   pub keeps_promise : CreationKeepsPromise
 
 -- what a creation that began soundly, and of which these entries are written, keeps
-module _ (laws : Laws) (m : Meeting) (name : List ℕ) (choice : Choice) (source : Source) (old now : List Entry) (faults : ℕ)
-    (f : IsFound m.shelf (opened m old faults now) name choice source) (may : MayOpen m old) (named : IsTrue (list_all is_lane_name m.names))
+module _ (laws : Laws) (m : Environment) (name : List ℕ) (choice : Choice) (source : Source) (old now : List Entry) (faults : ℕ)
+    (f : IsFound m.shelf (run_opened m old faults now) name choice source) (may : HasNeededLanes m old) (named : IsTrue (list_all is_lane_name m.names))
     (as_many : (length m.schemas ≡ length m.names) × (length m.told ≡ length m.names)) where
   abbrev opened_world : World
-  opened_world = world_of (open_over m old)
+  opened_world = world_left (open_over m old)
 
   abbrev behind_it : World
   behind_it = world_after opened_world (begun_in m old name source)
@@ -66,7 +66,7 @@ module _ (laws : Laws) (m : Meeting) (name : List ℕ) (choice : Choice) (source
       as_many.1 sound.tell (opened_fresh m old m.told sound.fresh)
 
   pub kept_by :
-      (es : List Entry) (told : Told) (counts : List ℕ)
+      (es : List Entry) (told : LaneStates) (counts : List ℕ)
       → Runs (one_of_each m.schemas) m.names behind_it m.told m.counts es told counts → ((e : Entry) → In e es → IsOwn (number_in m old) e) → IsSound old m.told
       → KeepsPromise m.names (kinds_of m.schemas) (fold_of behind_it es) m.told told (number_in m old) name (source_for name (number_in m old) source)
   kept_by es told counts runs own sound =
@@ -74,14 +74,14 @@ module _ (laws : Laws) (m : Meeting) (name : List ℕ) (choice : Choice) (source
       laws.keeps_promise (one_of_each m.schemas) m.names (kinds_of m.schemas) behind_it m.told told m.counts counts (number_in m old) name
       (source_for name (number_in m old) source) b.0 es b.1 runs own
 
-module _ (laws : Laws) (m : Meeting) (name : List ℕ) (choice : Choice) (source : Source) (old now es : List Entry) (faults : ℕ) (t : StackState)
-    (f : IsFound m.shelf (opened m old faults now) name choice source) (may : MayOpen m old) (lone : IsApart (opened m old faults now))
+module _ (laws : Laws) (m : Environment) (name : List ℕ) (choice : Choice) (source : Source) (old now es : List Entry) (faults : ℕ) (t : StackState)
+    (f : IsFound m.shelf (run_opened m old faults now) name choice source) (may : HasNeededLanes m old) (lone : IsApart (run_opened m old faults now))
     (wrote : Wrote (run_in m old faults now name source) (number_in m old) es m.told' m.counts')
     (written : now ≡ (open_over m old ++ begun_in m old name source ∷ []) ++ es)
     (named : IsTrue (list_all is_lane_name m.names)) (as_many : (length m.schemas ≡ length m.names) × (length m.told ≡ length m.names))
-    (here_now : stack_at name (world_of now) ≡ Some t) where
+    (here_now : stack_at name (world_left now) ≡ Some t) where
   abbrev x : World
-  x = world_of (open_over m old)
+  x = world_left (open_over m old)
 
   abbrev number : ℕ
   number = number_in m old
@@ -98,9 +98,9 @@ module _ (laws : Laws) (m : Meeting) (name : List ℕ) (choice : Choice) (source
   last : begun_world m old name source ≡ behind
   last = fold_append empty_world (open_over m old) (begun ∷ [])
 
-  after : fold_of behind es ≡ world_of now
+  after : fold_of behind es ≡ world_left now
   after =
-      ap (λ (y : World). fold_of y es) (sym last) ∙ sym (fold_append empty_world (open_over m old ++ begun ∷ []) es) ∙ ap world_of (sym written)
+      ap (λ (y : World). fold_of y es) (sym last) ∙ sym (fold_append empty_world (open_over m old ++ begun ∷ []) es) ∙ ap world_left (sym written)
 
   runs : Runs (one_of_each m.schemas) m.names behind m.told m.counts es m.told' m.counts'
   runs = subst (λ (y : World). Runs (one_of_each m.schemas) m.names y m.told m.counts es m.told' m.counts') last wrote.0
@@ -109,7 +109,7 @@ module _ (laws : Laws) (m : Meeting) (name : List ℕ) (choice : Choice) (source
   found_there = ap (stack_at name) after ∙ here_now
 
   -- the stack of a creation that began soundly keeps what its status promises
-  pub promised : BeginsSoundly m old → KeepsPromise m.names (kinds_of m.schemas) (world_of now) m.told m.told' number name (source_for name number source)
+  pub promised : BeginsSoundly m old → KeepsPromise m.names (kinds_of m.schemas) (world_left now) m.told m.told' number name (source_for name number source)
   promised sound =
       subst (λ (y : World). KeepsPromise m.names (kinds_of m.schemas) y m.told m.told' number name (source_for name number source)) after
       (kept_by laws m name choice source old now faults f may named as_many es m.told' m.counts' runs wrote.1 sound)
@@ -119,9 +119,9 @@ module _ (laws : Laws) (m : Meeting) (name : List ℕ) (choice : Choice) (source
   blamed q sound =
       let k = promised sound in
       let same : k.stack ≡ t = some_same (sym k.here ∙ here_now) in
-      let kept : Promised t.status name (world_of now) t (lanes_told m.names (kinds_of m.schemas) m.told') =
-      subst (λ (s : StackState). Promised s.status name (world_of now) s (lanes_told m.names (kinds_of m.schemas) m.told')) same k.promised in
-      subst (λ (st : Status). Promised st name (world_of now) t (lanes_told m.names (kinds_of m.schemas) m.told')) q kept
+      let kept : Promised t.status name (world_left now) t (lanes_told m.names (kinds_of m.schemas) m.told') =
+      subst (λ (s : StackState). Promised s.status name (world_left now) s (lanes_told m.names (kinds_of m.schemas) m.told')) same k.promised in
+      subst (λ (st : Status). Promised st name (world_left now) t (lanes_told m.names (kinds_of m.schemas) m.told')) q kept
 
   -- why it ended so
   ends_at : (st : Status) → t.status ≡ st → ends_creation st ≡ true → EndsFor m old name source es t (exit_at t st)
@@ -145,7 +145,7 @@ module _ (laws : Laws) (m : Meeting) (name : List ℕ) (choice : Choice) (source
   ends_at status.DeleteFailed q e = absurd (true≢false (sym e))
   ends_at status.ReviewInProgress q e = absurd (true≢false (sym e))
 
-  pub because : ((n : ℕ) × IsOver n name (world_of now)) → EndsFor m old name source es t (exit_for t)
+  pub because : ((n : ℕ) × IsOver n name (world_left now)) → EndsFor m old name source es t (exit_for t)
   because o =
       let same : o.1.stack ≡ t = some_same (sym o.1.here ∙ here_now) in
       ends_at t.status refl (subst (λ (s : StackState). ends_creation s.status ≡ true) same o.1.ended)

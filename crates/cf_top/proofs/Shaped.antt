@@ -11,7 +11,7 @@ use Rattle.cf_effect.specs.declared.held.Held.{Held}
 use Rattle.cf_plan.specs.Accept.{seen_before}
 use Rattle.cf_plan.specs.Follow.{MayFollow}
 use Rattle.cf_prepare.proofs.BlankSeen.{IsBlank, new_found, plan_back}
-use Rattle.cf_top.specs.Creating.{beginning}
+use Rattle.cf_top.specs.Creating.{create_entry}
 
 -- over a stack that holds nothing, nothing is known of any path
 blank_before : (schemas : List Schema) (s : StackState) (source : Source) → s.held ≡ [] → IsBlank (seen_before schemas s source)
@@ -20,7 +20,7 @@ blank_before schemas s source none =
 
 pub begins_flawless :
     (schemas : List Schema) (x : World) (number : ℕ) (name : List ℕ) (source : Source) → (known_stack name x).held ≡ []
-    → MayFollow schemas x [] (beginning number name source) → (plan_of (source_for name number source) []).flaws ≡ []
+    → MayFollow schemas x [] (create_entry number name source) → (plan_of (source_for name number source) []).flaws ≡ []
 begins_flawless schemas x number name source none follows =
     let s : Source = source_for name number source in
     let seen : Seen = seen_before schemas (known_stack name x) s in

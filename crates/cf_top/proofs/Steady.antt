@@ -10,8 +10,10 @@ use Rattle.cf_entry.specs.declared.entry.Reply.TheVariants as reply
 use Rattle.cf_effect.specs.World.{StackState, World}
 use Rattle.cf_effect.specs.Fold.{world_after}
 use Rattle.cf_handler.specs.Move.{HasCause}
-use Rattle.cf_plan.specs.Forward.{In, here, there}
-use Rattle.cf_plan.specs.Run.{AreLater, IsDone, Runs, Told, answer_as}
+use Rattle.cf_tree.specs.Lists.{there}
+use Rattle.cf_tree.specs.Lists.{here}
+use Rattle.cf_tree.specs.Lists.{In}
+use Rattle.cf_plan.specs.Run.{AreLater, IsRunEntry, Runs, LaneStates, answer_as}
 use Rattle.cf_entry.specs.declared.turn.Reason.{Reason}
 use Rattle.cf_top.specs.Turning.{HasFailedCall}
 use Rattle.cf_top.specs.Alone.{IsNoFailure, IsSuccess, RoseAt}
@@ -22,7 +24,7 @@ same_later counts counts' e = subst (AreLater counts) (sym e) (λ k. let le : sl
 then_later : (a b c : List ℕ) → AreLater a b → AreLater b c → AreLater a c
 then_later a b c p q k = let first = p k in let second = q k in omega (arith, first, second)
 
-done_later : (schemas : List Schema) (names : List (List ℕ)) (x : World) (told told' : Told) (counts counts' : List ℕ) (e : Entry) → IsDone schemas names x told told' counts counts' e → AreLater counts counts'
+done_later : (schemas : List Schema) (names : List (List ℕ)) (x : World) (told told' : LaneStates) (counts counts' : List ℕ) (e : Entry) → IsRunEntry schemas names x told told' counts counts' e → AreLater counts counts'
 done_later schemas names x told told' counts counts' (entry.Outcome number token a before after) d = d.3.4.5
 done_later schemas names x told told' counts counts' (entry.Opened epoch lanes) d = same_later counts counts' d.2
 done_later schemas names x told told' counts counts' (entry.Begin number name k) d = same_later counts counts' d.2
@@ -32,7 +34,7 @@ done_later schemas names x told told' counts counts' (entry.Phase number p c) d 
 done_later schemas names x told told' counts counts' (entry.Done number state failed) d = same_later counts counts' d.2
 done_later schemas names x told told' counts counts' (entry.ChangeSet number name source rows outputs) d = same_later counts counts' d.2
 
-pub runs_later : (schemas : List Schema) (names : List (List ℕ)) (es : List Entry) (x : World) (told told' : Told) (counts counts' : List ℕ) → Runs schemas names x told counts es told' counts' → AreLater counts counts'
+pub runs_later : (schemas : List Schema) (names : List (List ℕ)) (es : List Entry) (x : World) (told told' : LaneStates) (counts counts' : List ℕ) → Runs schemas names x told counts es told' counts' → AreLater counts counts'
 runs_later schemas names [] x told told' counts counts' r = same_later counts counts' r.1
 runs_later schemas names (e ∷ es) x told told' counts counts' r =
     then_later counts r.1 counts' (done_later schemas names x told r.0 counts r.1 e r.2) (runs_later schemas names es (world_after x e) r.0 told' r.1 counts' r.3)
@@ -46,7 +48,7 @@ by_answer (reply.Success physical attrs) before after last c q n = tt
 by_answer (reply.Failed code) before after last c q n = absurd (n (risen_then before after last c.1 q))
 by_answer reply.Doubt before after last c q n = absurd (n (risen_then before after last c.1 q))
 
-one_succeeds : (schemas : List Schema) (names : List (List ℕ)) (x : World) (told told' : Told) (counts counts' last : List ℕ) (e : Entry) → IsDone schemas names x told told' counts counts' e → AreLater counts' last → ((k : ℕ) → RoseAt k counts last → ⊥) → IsNoFailure e
+one_succeeds : (schemas : List Schema) (names : List (List ℕ)) (x : World) (told told' : LaneStates) (counts counts' last : List ℕ) (e : Entry) → IsRunEntry schemas names x told told' counts counts' e → AreLater counts' last → ((k : ℕ) → RoseAt k counts last → ⊥) → IsNoFailure e
 one_succeeds schemas names x told told' counts counts' last (entry.Outcome number token a before after) d q n =
     let k : ℕ = d.3.0 in
     by_answer a before after (slice_index_or last k 0) d.3.4.4
@@ -65,7 +67,7 @@ risen_since : (a b c : ℕ) → a ≤ b → HasRisen b c → b ≤ c → HasRise
 risen_since a b c p r q h =
     elim (leb_tells (suc b) (2 ^ 64 - 1)) [ inl d ↦ (let rose = r d.1 in omega (arith, p, rose)) | inr d ↦ omega (arith, p, q, d.1, h) ]
 
-pub all_succeed : (schemas : List Schema) (names : List (List ℕ)) (es : List Entry) (x : World) (told told' : Told) (counts counts' : List ℕ) → Runs schemas names x told counts es told' counts' → ((k : ℕ) → RoseAt k counts counts' → ⊥) → (e : Entry) → In e es → IsNoFailure e
+pub all_succeed : (schemas : List Schema) (names : List (List ℕ)) (es : List Entry) (x : World) (told told' : LaneStates) (counts counts' : List ℕ) → Runs schemas names x told counts es told' counts' → ((k : ℕ) → RoseAt k counts counts' → ⊥) → (e : Entry) → In e es → IsNoFailure e
 all_succeed schemas names [] x told told' counts counts' r n e i = elim i [ ]
 all_succeed schemas names (d ∷ es) x told told' counts counts' r n e here =
     one_succeeds schemas names x told r.0 counts r.1 counts' d r.2 (runs_later schemas names es (world_after x d) r.0 told' r.1 counts' r.3) n
@@ -80,7 +82,7 @@ IsCountedIn counts counts' (entry.Outcome number token answer before after) =
     HasCause before after (answer_as answer) × (k : ℕ) × (slice_index_or counts k 0 ≤ before) × (after ≤ slice_index_or counts' k 0)
 IsCountedIn counts counts' _ = Unit {0}
 
-one_counted : (schemas : List Schema) (names : List (List ℕ)) (x : World) (told told' : Told) (counts counts' last : List ℕ) (e : Entry) → IsDone schemas names x told told' counts counts' e → AreLater counts' last → IsCountedIn counts last e
+one_counted : (schemas : List Schema) (names : List (List ℕ)) (x : World) (told told' : LaneStates) (counts counts' last : List ℕ) (e : Entry) → IsRunEntry schemas names x told told' counts counts' e → AreLater counts' last → IsCountedIn counts last e
 one_counted schemas names x told told' counts counts' last (entry.Outcome number token a before after) d q =
     let k : ℕ = d.3.0 in
     let same : slice_index_or counts k 0 ≤ slice_index_or counts k 0 = omega arith in (
@@ -110,7 +112,7 @@ counted_since counts mid last (entry.Phase number p cause) q c = tt
 counted_since counts mid last (entry.Done number state failed) q c = tt
 counted_since counts mid last (entry.ChangeSet number name source rows outputs) q c = tt
 
-pub all_counted : (schemas : List Schema) (names : List (List ℕ)) (es : List Entry) (x : World) (told told' : Told) (counts counts' : List ℕ) → Runs schemas names x told counts es told' counts' → (e : Entry) → In e es → IsCountedIn counts counts' e
+pub all_counted : (schemas : List Schema) (names : List (List ℕ)) (es : List Entry) (x : World) (told told' : LaneStates) (counts counts' : List ℕ) → Runs schemas names x told counts es told' counts' → (e : Entry) → In e es → IsCountedIn counts counts' e
 all_counted schemas names [] x told told' counts counts' r e i = elim i [ ]
 all_counted schemas names (d ∷ es) x told told' counts counts' r e here =
     one_counted schemas names x told r.0 counts r.1 counts' d r.2 (runs_later schemas names es (world_after x d) r.0 told' r.1 counts' r.3)

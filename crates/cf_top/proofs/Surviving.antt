@@ -7,21 +7,21 @@ use Rattle.cf_disk.specs.Disk.{LeavesOnly}
 use Rattle.cf_schema.specs.declared.described.Schema.{Schema}
 use Rattle.cf_entry.specs.declared.entry.Entry.{Entry}
 use Rattle.cf_entry.specs.declared.entry.Entry.TheVariants as entry
-use Rattle.cf_journal.specs.Record.{record_of, IsOldOrKept, Keeps}
+use Rattle.cf_journal.specs.Record.{record_of, IsOldOrKept, KeepsRecord}
 use Rattle.cf_journal.proofs.Moments.{weaker}
 use Rattle.cf_effect.specs.World.{StackState, World, empty_world}
 use Rattle.cf_effect.specs.Effect.{leaving}
 use Rattle.cf_effect.specs.Fold.{effect_at, stack_for, world_after}
 use Rattle.cf_plan.specs.Follow.{MayFollow}
-use Rattle.cf_plan.specs.Run.{AreFresh, Told}
+use Rattle.cf_plan.specs.Run.{AreFresh, LaneStates}
 use Rattle.cf_face.specs.declared.words.Choice.{Choice}
 use Rattle.cf_face.specs.declared.exit.Exit.{Exit}
 use Rattle.cf_face.specs.declared.exit.Exit.TheVariants as exit
 use Rattle.cf_face.specs.Print.{PrintTells}
-use Rattle.cf_top.specs.Book.{world_of}
+use Rattle.cf_top.specs.Book.{world_left}
 use Rattle.cf_top.specs.Lanes.{kinds_of}
 use Rattle.cf_top.specs.Crash.{Breaks, Extends, Follows, Grows, HasKnown, IsAlong, IsBetween, IsOldOrAlong, MayDoubt, MayEnter, with_doubt}
-use Rattle.cf_top.specs.Meeting.{AreQuiet, Meeting, WasEntered, open_over}
+use Rattle.cf_top.specs.Meeting.{AreQuiet, Environment, WasEntered, open_over}
 use Rattle.cf_top.specs.Alone.{IsSound, Printing}
 use Rattle.cf_top.specs.Surviving.{EachSound, LeavesAs, Survives}
 use Rattle.cf_top.proofs.Crashes.{extends_itself, further, is_at, joined}
@@ -58,23 +58,23 @@ token_stays schemas x out (entry.Done number state failed) f =
     stays_low x.token (world_after x (entry.Done number state failed)).token
     (same_token (x.place + 1) x (entry.Done number state failed) (stack_for (entry.Done number state failed) x))
 
-fresh_later : (a b : ℕ) (told : Told) → a ≤ b → AreFresh a told → AreFresh b told
+fresh_later : (a b : ℕ) (told : LaneStates) → a ≤ b → AreFresh a told → AreFresh b told
 fresh_later a b told h f = λ k t lane q low. f k t lane q (omega (arith, h, low))
 
 -- sound is a journal with the entry in doubt too, of which no call was made
-doubt_sound : (known : List Entry) (doubt : Option Entry) (told : Told) → IfSome doubt (Follows known) → IsSound known told → IsSound (with_doubt known doubt) told
+doubt_sound : (known : List Entry) (doubt : Option Entry) (told : LaneStates) → IfSome doubt (Follows known) → IsSound known told → IsSound (with_doubt known doubt) told
 doubt_sound known None told f s = s
 doubt_sound known (Some e) told f s = record {
   legal = both_legal empty_world known (e ∷ []) s.legal (f, tt);
   tell = s.tell;
   fresh =
       subst (λ (x : World). AreFresh x.token told) (sym (world_one known e))
-      (fresh_later (world_of known).token (world_after (world_of known) e).token told (token_stays f.0 (world_of known) f.1 e f.2) s.fresh);
+      (fresh_later (world_left known).token (world_after (world_left known) e).token told (token_stays f.0 (world_left known) f.1 e f.2) s.fresh);
 }
 
 -- what a deployment acknowledged is sound
 entered_sound :
-    Laws → (m : Meeting) → AreAsMany m → (name : List ℕ) (choice : Choice) (now : List Entry) (outcome : Result (Unit {0}) Exit)
+    Laws → (m : Environment) → AreAsMany m → (name : List ℕ) (choice : Choice) (now : List Entry) (outcome : Result (Unit {0}) Exit)
     → (w : WasEntered m name choice now outcome) → IsSound w.old m.told → IsSound now m.told'
 entered_sound laws m k name choice now (Ok done) w sound =
     whole_known laws m k name choice w.came.0 w.old now w.faults w.was w.may w.named w.came.1 w.came.2 sound
@@ -91,7 +91,7 @@ certain_of e doubt (inl q) = inl (subst MayDoubt (sym q) tt)
 certain_of e doubt (inr q) = inr q
 
 opened_doubt :
-    (m : Meeting) (es now : List Entry) (doubt : Option Entry) → AreAsMany m → now ≡ es → AreQuiet m → IfSome doubt (MayEnter m.names (kinds_of m.schemas) es)
+    (m : Environment) (es now : List Entry) (doubt : Option Entry) → AreAsMany m → now ≡ es → AreQuiet m → IfSome doubt (MayEnter m.names (kinds_of m.schemas) es)
     → IsSound es m.told → IsSound (with_doubt now doubt) m.told'
 opened_doubt m es now None k q quiet f sound = subst (λ (l : List Entry). IsSound l m.told') (sym q) (told_stays m es quiet sound)
 opened_doubt m es now (Some e) k q quiet f sound =
@@ -99,7 +99,7 @@ opened_doubt m es now (Some e) k q quiet f sound =
     subst (λ (l : List Entry). IsSound l m.told') (sym last) (opening_sound m es k (f.0, f.1) quiet sound)
 
 module _ {D : Type 0} (may_leave : D → List ℕ → Type 0) (moment : D → ℕ) (left_since : D → ℕ → List ℕ → Type 0) where
-  module _ (m : Meeting) (as_many : AreAsMany m) (tells : IsTrue m.tells) (mid new : D) (es now : List Entry) (was : record_of m.bytes ≡ Ok es) where
+  module _ (m : Environment) (as_many : AreAsMany m) (tells : IsTrue m.tells) (mid new : D) (es now : List Entry) (was : record_of m.bytes ≡ Ok es) where
     -- the opening was not written
     pub unopened :
         (e : Exit) → now ≡ es → AreQuiet m → Breaks may_leave moment left_since mid new es now (MayEnter m.names (kinds_of m.schemas) es) e
@@ -204,7 +204,7 @@ module _ {D : Type 0} (may_leave : D → List ℕ → Type 0) (moment : D → �
             (further es es es (with_doubt now doubt) file (extends_itself es) (known_longer es now doubt grown) (is_at es file (k.same ∙ was))))
 
   -- where no entry was written
-  along_kept : (before : List ℕ → Type 0) (bytes bytes' file : List ℕ) → before bytes → Keeps bytes bytes' → IsOldOrKept before bytes file → IsOldOrAlong before bytes bytes' file
+  along_kept : (before : List ℕ → Type 0) (bytes bytes' file : List ℕ) → before bytes → KeepsRecord bytes bytes' → IsOldOrKept before bytes file → IsOldOrAlong before bytes bytes' file
   along_kept before bytes bytes' file here kept (inl past) = inl past
   along_kept before bytes bytes' file here kept (inr k) = by_record (record_of bytes) refl where
     by_record : (r : Result (List Entry) ℕ) → record_of bytes ≡ r → IsOldOrAlong before bytes bytes' file
@@ -221,14 +221,14 @@ module _ {D : Type 0} (may_leave : D → List ℕ → Type 0) (moment : D → �
     by_record (Err offset) q = elim k.bytes [ inl none ↦ (let no : ⊥ = cc in absurd no) | inr same ↦ inl (subst before (sym same) here) ]
 
   pub moments_kept :
-      (old new : D) (bytes bytes' : List ℕ) → may_leave old bytes → Keeps bytes bytes' → LeavesOnly moment left_since old new (IsOldOrKept (may_leave old) bytes)
+      (old new : D) (bytes bytes' : List ℕ) → may_leave old bytes → KeepsRecord bytes bytes' → LeavesOnly moment left_since old new (IsOldOrKept (may_leave old) bytes)
       → LeavesOnly moment left_since old new (IsOldOrAlong (may_leave old) bytes bytes')
   moments_kept old new bytes bytes' here kept l =
       weaker moment left_since old new (IsOldOrKept (may_leave old) bytes) (IsOldOrAlong (may_leave old) bytes bytes') l
       (λ file h. along_kept (may_leave old) bytes bytes' file here kept h)
 
 -- what is certain of an operation that ended stays so, whatever is answered
-pub leaves_ended : (m : Meeting) (before may_leave : List ℕ → Type 0) (e : Exit) → LeavesAs m before may_leave exit.Done → LeavesAs m before may_leave e
+pub leaves_ended : (m : Environment) (before may_leave : List ℕ → Type 0) (e : Exit) → LeavesAs m before may_leave exit.Done → LeavesAs m before may_leave e
 leaves_ended m before may_leave e (inl k) = inl k
 leaves_ended m before may_leave e (inr s) =
     inr (record {
@@ -245,7 +245,7 @@ leaves_ended m before may_leave e (inr s) =
 
 -- where another answer is given for want of a sink or of memory, something may be in doubt
 pub leaves_printed :
-    (m : Meeting) (p : Printing) (text : List ℕ) (before may_leave : List ℕ → Type 0) (e result : Exit) → LeavesAs m before may_leave e
+    (m : Environment) (p : Printing) (text : List ℕ) (before may_leave : List ℕ → Type 0) (e result : Exit) → LeavesAs m before may_leave e
     → PrintTells p.held p.held' p.faults p.faults' text e result → LeavesAs m before may_leave result
 leaves_printed m p text before may_leave e result (inl k) t = inl k
 leaves_printed m p text before may_leave e result (inr s) t =
@@ -267,7 +267,7 @@ leaves_printed m p text before may_leave e result (inr s) t =
 
 -- each file that a crash may leave is sound
 pub each_sound :
-    (m : Meeting) (before may_leave : List ℕ → Type 0) (e : Exit) → before m.bytes → LeavesAs m before may_leave e → EachSound before m.told
+    (m : Environment) (before may_leave : List ℕ → Type 0) (e : Exit) → before m.bytes → LeavesAs m before may_leave e → EachSound before m.told
     → EachSound may_leave m.told'
 each_sound m before may_leave e here (inl k) sound file left =
     let quiet = k.kept.quiet in
@@ -283,7 +283,7 @@ each_sound m before may_leave e here (inr s) sound file left =
 
 -- the same where no entry was written and no lane was called
 pub kept_sound :
-    (before may_leave : List ℕ → Type 0) (bytes : List ℕ) (told : Told) → before bytes → ((file : List ℕ) → may_leave file → IsOldOrKept before bytes file)
+    (before may_leave : List ℕ → Type 0) (bytes : List ℕ) (told : LaneStates) → before bytes → ((file : List ℕ) → may_leave file → IsOldOrKept before bytes file)
     → EachSound before told → EachSound may_leave told
 kept_sound before may_leave bytes told here each sound file left =
     elim (each file left) [

@@ -3,10 +3,10 @@ use Rattle.std.proofs.Common.{◌≡◌, ◌⊎◌, inl, inr, refl, ap}
 use Rattle.cf_face.specs.declared.exit.Exit.{Exit}
 use Rattle.cf_face.specs.declared.exit.Exit.TheVariants as exit
 use Rattle.cf_face.specs.declared.exit.Refusal.{Refusal}
-use Rattle.cf_top.specs.Refusals.{RefusesAs}
+use Rattle.cf_top.specs.Refusals.{RefusesTemplate}
 
 -- what is refused so is told, or memory is short
-pub told_or_short : (f : Refusal) (e : Exit) → RefusesAs f e → (e ≡ exit.TemplateRefused f) ⊎ (e ≡ exit.NoMemory)
+pub told_or_short : (f : Refusal) (e : Exit) → RefusesTemplate f e → (e ≡ exit.TemplateRefused f) ⊎ (e ≡ exit.NoMemory)
 told_or_short f (exit.TemplateRefused fault) r = inl (ap exit.TemplateRefused r)
 told_or_short f exit.NoMemory r = inr refl
 told_or_short f exit.Done r = absurd r

@@ -24,9 +24,12 @@ use Rattle.cf_effect.specs.Operation.{is_of}
 use Rattle.cf_effect.specs.Reply.{intending, keeping, replying}
 use Rattle.cf_effect.specs.End.{ended_effect}
 use Rattle.cf_effect.specs.Fold.{effect_at, fold_of, world_after}
-use Rattle.cf_plan.specs.Forward.{In, here, there, IsCause, first_failing, path_of_token}
+use Rattle.cf_plan.specs.Forward.{IsCause, first_failing, path_of_token}
+use Rattle.cf_tree.specs.Lists.{there}
+use Rattle.cf_tree.specs.Lists.{here}
+use Rattle.cf_tree.specs.Lists.{In}
 use Rattle.cf_plan.specs.Follow.{EndsAs, MayFollowIn, MayFollowOn, MayTurn}
-use Rattle.cf_plan.specs.Run.{IsDone, IsOwn, Runs, Told}
+use Rattle.cf_plan.specs.Run.{IsRunEntry, IsOwn, Runs, LaneStates}
 use Rattle.cf_plan.proofs.Frame.{IsOn, here_after, here_of, none_after, number_is, on_after}
 use Rattle.cf_top.specs.Telling.{cause_in}
 use Rattle.cf_top.specs.Turning.{TurnsBack, reason_in}
@@ -304,9 +307,9 @@ module _ (schemas : List Schema) (names : List (List ℕ)) (began : World) (numb
           (way_more es e s (after_of e) n (λ token path p. paths token path (l.paths token path p)) (same ∙ st) h.way))
 
     -- an entry of the operation
-    module _ (told told' : Told) (counts counts' : List ℕ) where
+    module _ (told told' : LaneStates) (counts counts' : List ℕ) where
       abbrev Steps : Entry → Type 0
-      Steps e = IsDone schemas names now told told' counts counts' e → Later e
+      Steps e = IsRunEntry schemas names now told told' counts counts' e → Later e
 
       step : (e : Entry) → IsOwn number e → Steps e
       step (entry.Kept n path physical w) own =
@@ -327,12 +330,12 @@ module _ (schemas : List Schema) (names : List (List ℕ)) (began : World) (numb
       step (entry.ChangeSet n stack from rows outputs) own = absurd own
 
   -- nothing of an operation follows where none is in progress
-  module _ (es : List Entry) (t : StackState) (h : Ends es t) (told told' : Told) (counts counts' : List ℕ) where
+  module _ (es : List Entry) (t : StackState) (h : Ends es t) (told told' : LaneStates) (counts counts' : List ℕ) where
     never : (n : ℕ) (e : Entry) (out : List ℕ) → n ≡ number → MayFollowOn schemas n (fold_of began es) out e → ⊥
     never n e out own may =
         let no : ◌≡◌ {A = Option (List ℕ × StackState)} None (Some (may.0, may.1)) = sym h.none_going ∙ ap (λ (m : ℕ). stack_of_operation m (fold_of began es)) (sym own) ∙ may.3 in cc
 
-    none_follows : (e : Entry) → IsOwn number e → IsDone schemas names (fold_of began es) told told' counts counts' e → ⊥
+    none_follows : (e : Entry) → IsOwn number e → IsRunEntry schemas names (fold_of began es) told told' counts counts' e → ⊥
     none_follows (entry.Kept n path physical w) own d = never n (entry.Kept n path physical w) [] own d.0
     none_follows (entry.Intent n token lane path r) own d = never n (entry.Intent n token lane path r) [] own d.0
     none_follows (entry.Outcome n token a before after) own d = never n (entry.Outcome n token a before after) (token ∷ []) own d.0
@@ -352,12 +355,12 @@ module _ (schemas : List Schema) (names : List (List ℕ)) (began : World) (numb
   After es = ((s : StackState) × Course es s) ⊎ ((t : StackState) × Ends es t)
 
   module _ (no_outcome : (n token before after : ℕ) (answer : Reply) → In (entry.Outcome n token answer before after) kept → ⊥) where
-    one_more : (es : List Entry) (e : Entry) (told told' : Told) (counts counts' : List ℕ) → After es → IsOwn number e → IsDone schemas names (fold_of began es) told told' counts counts' e → After (es ++ e ∷ [])
+    one_more : (es : List Entry) (e : Entry) (told told' : LaneStates) (counts counts' : List ℕ) → After es → IsOwn number e → IsRunEntry schemas names (fold_of began es) told told' counts counts' e → After (es ++ e ∷ [])
     one_more es e told told' counts counts' (inl c) own d =
         elim (step no_outcome es c.0 c.1 told told' counts counts' e own d) [ inl k ↦ inl (after_of no_outcome es c.0 c.1 e, k) | inr k ↦ inr (after_of no_outcome es c.0 c.1 e, k) ]
     one_more es e told told' counts counts' (inr c) own d = absurd (none_follows es c.0 c.1 told told' counts counts' e own d)
 
-    run : (fs es : List Entry) (told told' : Told) (counts counts' : List ℕ) → After es → Runs schemas names (fold_of began es) told counts fs told' counts' → ((e : Entry) → In e fs → IsOwn number e) → After (es ++ fs)
+    run : (fs es : List Entry) (told told' : LaneStates) (counts counts' : List ℕ) → After es → Runs schemas names (fold_of began es) told counts fs told' counts' → ((e : Entry) → In e fs → IsOwn number e) → After (es ++ fs)
     run [] es told told' counts counts' a r own = subst After (sym (append-nil es)) a
     run (e ∷ fs) es told told' counts counts' a r own =
         subst After (append_assoc es (e ∷ []) fs)
@@ -376,7 +379,7 @@ module _ (schemas : List Schema) (names : List (List ℕ)) (began : World) (numb
         let same : c.0 ≡ t = some_same (sym c.1.here ∙ at) in
         subst (IsLeft es) same (record { operation = c.1.operation; entries = c.1.entries; back = c.1.back })
 
-    pub left : (es : List Entry) (told told' : Told) (counts counts' : List ℕ) (s t : StackState) → IsOn number name began s → s.entries ≡ kept → s.status ≡ status.CreateInProgress → Runs schemas names began told counts es told' counts' → ((e : Entry) → In e es → IsOwn number e) → stack_at name (fold_of began es) ≡ Some t → IsLeft es t
+    pub left : (es : List Entry) (told told' : LaneStates) (counts counts' : List ℕ) (s t : StackState) → IsOn number name began s → s.entries ≡ kept → s.status ≡ status.CreateInProgress → Runs schemas names began told counts es told' counts' → ((e : Entry) → In e es → IsOwn number e) → stack_at name (fold_of began es) ≡ Some t → IsLeft es t
     left es told told' counts counts' s t on entries creating r own found =
         left_so es t found
         (run es [] told told' counts counts' (inl (s, record { on = on; entries = entries ∙ sym (append-nil kept); way = makes creating refl })) r own)

@@ -5,7 +5,7 @@ use Rattle.cf_template.specs.Refusals.{Reading}
 use Rattle.cf_template.specs.Whole.{template_of}
 use Rattle.cf_tree.specs.Counts.{HasRisen}
 use Rattle.cf_io.specs.Library.{StandsUnder}
-use Rattle.cf_journal.specs.Record.{Keeps}
+use Rattle.cf_journal.specs.Record.{KeepsRecord}
 use Rattle.cf_entry.specs.declared.entry.Entry.{Entry}
 use Rattle.cf_desired.specs.declared.flaw.Flaw.TheVariants.{TemplateMissing}
 use Rattle.cf_effect.specs.World.{StackState, stack_at}
@@ -18,13 +18,13 @@ use Rattle.cf_face.specs.declared.exit.Refusal.TheVariants.{Read, Plan}
 use Rattle.cf_face.specs.Exit.{exit_line}
 use Rattle.cf_face.specs.Words.{command_of, drives}
 use Rattle.cf_face.specs.Print.{PrintTells}
-use Rattle.cf_top.specs.Book.{Holds, world_of}
+use Rattle.cf_top.specs.Book.{Holds, world_left}
 use Rattle.cf_top.specs.Opening.{HasOpenCause}
 use Rattle.cf_top.specs.Refusals.{IsMiss}
-use Rattle.cf_top.specs.Deployment.{Shelf, IsUnasked}
-use Rattle.cf_top.specs.Meeting.{Meeting, IsKept}
+use Rattle.cf_top.specs.Deployment.{LibraryUse, IsUnasked}
+use Rattle.cf_top.specs.Meeting.{Environment, KeepsAll}
 use Rattle.cf_top.specs.Telling.{described_text, described_exit}
-use Rattle.cf_top.specs.Alone.{Printing, IsAnswered, Untouched}
+use Rattle.cf_top.specs.Alone.{Printing, IsAnswered, NothingTouched}
 
 -- the command drives no handlers
 abbrev pub is_asking : Option Command → Bool
@@ -41,7 +41,7 @@ invalid_of name None = Some (Plan (TemplateMissing name))
 invalid_of name (Some bytes) = unread_as name (template_of bytes)
 
 -- what the validation of the template under a name comes to: it is one, or the exit with its cause
-abbrev pub Validates : Shelf → List ℕ → Exit → Type 0
+abbrev pub Validates : LibraryUse → List ℕ → Exit → Type 0
 Validates o name exit.Done = (bytes : List ℕ) × StandsUnder o.texts name (Some bytes) × (invalid_of name (Some bytes) ≡ None)
 Validates o name (exit.TemplateRefused fault) =
     (found : Option (List ℕ)) × StandsUnder o.texts name found × (invalid_of name found ≡ Some fault) × IsMiss found o.misses o.misses'
@@ -59,25 +59,28 @@ DescribesIn name p st result = Prints p (described_text name st) (described_exit
 
 abbrev pub Describes : Bool → List ℕ → List ℕ → ℕ → ℕ → Printing → List ℕ → Exit → Type 0
 Describes tells bytes bytes' faults faults' p name result =
-    ((es : List Entry) × Holds tells bytes es × Holds tells bytes' es × DescribesIn name p (stack_at name (world_of es)) result)
+    ((es : List Entry) × Holds tells bytes es × Holds tells bytes' es × DescribesIn name p (stack_at name (world_left es)) result)
     ⊎ ((e : Exit) × HasOpenCause tells bytes faults faults' e × Prints p (exit_line e) e result)
 
 -- words that are neither a validation nor a description: they ask for nothing, or memory is short
 abbrev pub AsksNothing : List (List ℕ) → Exit → Type 0
 AsksNothing words e = ((e ≡ exit.BadWords) × (is_asking (command_of words) ≡ false)) ⊎ (e ≡ exit.NoMemory)
 
--- all of it: the words are a validation, which asks the library alone, or a description, which asks the disk alone and keeps its record, or neither
-abbrev pub AnswerTells : Shelf → Bool → List ℕ → List ℕ → ℕ → ℕ → Printing → List (List ℕ) → Exit → Type 0
+-- all of it: the words are a validation, which asks the library alone, or a description, which asks the disk alone and keeps its record,
+-- or neither
+abbrev pub AnswerTells : LibraryUse → Bool → List ℕ → List ℕ → ℕ → ℕ → Printing → List (List ℕ) → Exit → Type 0
 AnswerTells o tells bytes bytes' faults faults' p words result =
-    ((template : List ℕ) × (e : Exit) × (command_of words ≡ Some (Validate template)) × Validates o template e × (bytes' ≡ bytes) × (faults' ≡ faults)
+    ((template : List ℕ) × (e : Exit) × (command_of words ≡ Some (Validate template)) × Validates o template e × (bytes' ≡ bytes)
+    × (faults' ≡ faults)
     × Prints p (exit_line e) e result)
-    ⊎ (((stack : List ℕ) × (command_of words ≡ Some (Describe stack)) × IsUnasked o × (IsTrue tells → Keeps bytes bytes')
+    ⊎ (((stack : List ℕ) × (command_of words ≡ Some (Describe stack)) × IsUnasked o × (IsTrue tells → KeepsRecord bytes bytes')
     × Describes tells bytes bytes' faults faults' p stack result)
     ⊎ ((e : Exit) × AsksNothing words e × IsUnasked o × (bytes' ≡ bytes) × (faults' ≡ faults) × Prints p (exit_line e) e result))
 
--- the words are a command that drives no handlers, which is answered and calls no lane; or they are not, and are for one thread alone; or there was no memory to read them, and nothing was done
-abbrev pub RanAs : Meeting → Printing → List (List ℕ) → Exit → Type 0
+-- the words are a command that drives no handlers, which is answered and calls no lane; or they are not, and are for one thread alone; or
+-- there was no memory to read them, and nothing was done
+abbrev pub RanAs : Environment → Printing → List (List ℕ) → Exit → Type 0
 RanAs m p words result =
-    ((is_asking (command_of words) ≡ true) × IsKept m × AnswerTells m.shelf m.tells m.bytes m.bytes' m.faults m.faults' p words result)
+    ((is_asking (command_of words) ≡ true) × KeepsAll m × AnswerTells m.shelf m.tells m.bytes m.bytes' m.faults m.faults' p words result)
     ⊎ (((is_asking (command_of words) ≡ false) × IsAnswered m p words result)
-    ⊎ (Untouched m × Prints p (exit_line exit.NoMemory) exit.NoMemory result))
+    ⊎ (NothingTouched m × Prints p (exit_line exit.NoMemory) exit.NoMemory result))

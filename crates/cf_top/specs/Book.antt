@@ -17,14 +17,15 @@ abbrev pub Holds : Bool → List ℕ → List Entry → Type 0
 Holds tells bytes es = IsTrue tells → record_of bytes ≡ Ok es
 
 -- the world that entries leave
-abbrev pub world_of : List Entry → World
-world_of es = fold_of empty_world es
+abbrev pub world_left : List Entry → World
+world_left es = fold_of empty_world es
 
 -- the journal stands for the disk, and the book has its entries and the world that they leave
-pub record IsOpen {D : Type 0} (tells : Bool) (seen : D → List ℕ) (may_leave : D → List ℕ → Type 0) (room_of : D → ℕ) (book : Book) (disk : D) : Type 0 where
+pub record IsOpen {D : Type 0} (tells : Bool) (seen : D → List ℕ) (may_leave : D → List ℕ → Type 0) (room_of : D → ℕ) (book : Book)
+    (disk : D) : Type 0 where
   pub stands : Stands tells seen may_leave room_of book.journal disk
   pub holds : Holds tells (seen disk) book.entries.items
-  pub world : book.world.world ≡ world_of book.entries.items
+  pub world : book.world.world ≡ world_left book.entries.items
 
 -- what a disk that tells its bytes has is just what a crash leaves
 abbrev pub Lasts : Bool → List ℕ → (List ℕ → Type 0) → Type 0
@@ -38,11 +39,13 @@ need_of e = capped (length (spelling_of e)) + 5
 abbrev pub HasFaulted : ℕ → ℕ → Type 0
 HasFaulted faults faults' = (faults ≤ faults') × HasRisen faults faults'
 
--- Why an entry was not appended to these: the disk has no room for it and nothing has changed; the disk failed and has it or not; or memory was not there and nothing has changed.
+-- Why an entry was not appended to these: the disk has no room for it and nothing has changed; the disk failed and has it or not; or
+-- memory was not there and nothing has changed.
 abbrev pub HaltsAt : Bool → List ℕ → ℕ → ℕ → ℕ → List Entry → Entry → Halt → Type 0
 HaltsAt tells bytes room faults faults' es e (halt.Full length need r) =
     Holds tells bytes es × (IsTrue tells → length_of bytes ≡ length) × (need ≡ need_of e) × (r ≡ room) × (room < length + need)
-HaltsAt tells bytes room faults faults' es e halt.DiskFault = HasFaulted faults faults' × (Holds tells bytes es ⊎ Holds tells bytes (es ++ e ∷ []))
+HaltsAt tells bytes room faults faults' es e halt.DiskFault =
+    HasFaulted faults faults' × (Holds tells bytes es ⊎ Holds tells bytes (es ++ e ∷ []))
 HaltsAt tells bytes room faults faults' es e halt.NoMemory = Holds tells bytes es
 
 -- what an append leaves of the book's entries

@@ -8,8 +8,8 @@ use Rattle.cf_plan.specs.Follow.{MayFollow}
 use Rattle.cf_face.specs.declared.exit.Exit.{Exit}
 use Rattle.cf_face.specs.declared.exit.Exit.TheVariants as exit
 use Rattle.cf_top.specs.declared.book.Halt.{Halt}
-use Rattle.cf_top.specs.Book.{world_of}
-use Rattle.cf_top.specs.Opening.{exit_of, missing, opening, twice}
+use Rattle.cf_top.specs.Book.{world_left}
+use Rattle.cf_top.specs.Opening.{halt_exit, missing, opening, twice}
 
 -- the second list begins with the first
 abbrev pub Extends : List Entry → List Entry → Type 0
@@ -33,7 +33,7 @@ HasKnown es doubt file = (record_of file ≡ Ok es) ⊎ (record_of file ≡ Ok (
 
 -- the entry may follow these
 abbrev pub Follows : List Entry → Entry → Type 0
-Follows es e = (schemas : List Schema) × (out : List ℕ) × MayFollow schemas (world_of es) out e
+Follows es e = (schemas : List Schema) × (out : List ℕ) × MayFollow schemas (world_left es) out e
 
 -- Entries were written behind the first ones, and all up to the last were acknowledged. At each moment of that a crash leaves no less
 -- than the first and no more than the last.
@@ -64,12 +64,12 @@ abbrev pub Passes : {D T : Type 0} → Bool → (D → List ℕ → Type 0) → 
     → List Entry → List Entry → (Entry → Type 0) → Result T Halt → Type 0
 Passes tells may_leave moment left_since old new es es' May (Ok done) = IsTrue tells → Grows moment left_since old new es es'
 Passes tells may_leave moment left_since old new es es' May (Err h) =
-    IsTrue tells → Breaks may_leave moment left_since old new es es' May (exit_of h)
+    IsTrue tells → Breaks may_leave moment left_since old new es es' May (halt_exit h)
 
 -- the entry opens the journal over these lanes, whose names differ and of which none is missing
 abbrev pub MayEnter : List (List ℕ) → List (List ℕ) → List Entry → Entry → Type 0
 MayEnter names kinds es e =
-    (twice names ≡ None) × (missing names kinds (world_of es) ≡ None) × (e ≡ opening names kinds (world_of es))
+    (twice names ≡ None) × (missing names kinds (world_left es) ≡ None) × (e ≡ opening names kinds (world_left es))
 
 -- A file on the way from one to another: its record begins with that of the first, and goes no further than that of the second, or
 -- than that with one entry more.

@@ -17,14 +17,14 @@ use Rattle.cf_face.specs.declared.exit.Exit.{Exit}
 use Rattle.cf_face.specs.declared.exit.Exit.TheVariants as exit
 use Rattle.cf_face.specs.declared.exit.StackFault.TheVariants.{WrongStatus}
 use Rattle.cf_top.specs.declared.book.Halt.{Halt}
-use Rattle.cf_top.specs.Book.{Holds, world_of}
-use Rattle.cf_top.specs.Scene.{Scene}
-use Rattle.cf_top.specs.Creating.{beginning, next_number, CreateTells}
-use Rattle.cf_top.specs.Opening.{exit_of}
-use Rattle.cf_top.specs.Refusals.{source_of, refusal_of, IsMiss}
+use Rattle.cf_top.specs.Book.{Holds, world_left}
+use Rattle.cf_top.specs.Scene.{EngineRun}
+use Rattle.cf_top.specs.Creating.{create_entry, next_number, CreateTells}
+use Rattle.cf_top.specs.Opening.{halt_exit}
+use Rattle.cf_top.specs.Refusals.{deployed_source, creation_refusal, IsMiss}
 
 -- a library before and after: its texts, its faults and its misses
-pub record Shelf : Type 0 where
+pub record LibraryUse : Type 0 where
   pub texts : Option Texts
   pub faults : ℕ
   pub faults' : ℕ
@@ -32,13 +32,13 @@ pub record Shelf : Type 0 where
   pub misses' : ℕ
 
 -- the library was not asked
-abbrev pub IsUnasked : Shelf → Type 0
+abbrev pub IsUnasked : LibraryUse → Type 0
 IsUnasked o = (o.faults' ≡ o.faults) × (o.misses' ≡ o.misses)
 
 -- what was found in the library is refused so
-abbrev pub IsRefusedFor : Shelf → List Schema → World → List ℕ → Choice → Exit → Type 0
+abbrev pub IsRefusedFor : LibraryUse → List Schema → World → List ℕ → Choice → Exit → Type 0
 IsRefusedFor o schemas x stack choice (exit.TemplateRefused fault) =
-    (found : Option (List ℕ)) × StandsUnder o.texts choice.template found × (refusal_of schemas x stack choice found ≡ Some fault)
+    (found : Option (List ℕ)) × StandsUnder o.texts choice.template found × (creation_refusal schemas x stack choice found ≡ Some fault)
     × IsMiss found o.misses o.misses'
 IsRefusedFor o schemas x stack choice exit.LibraryFault = HasRisen o.faults o.faults'
 IsRefusedFor o schemas x stack choice exit.NoMemory = ⊤
@@ -46,56 +46,59 @@ IsRefusedFor o schemas x stack choice _ = ⊥
 
 -- The creation of a stack from these bytes begins with this source: that of the choice, with just the exports of other stacks that
 -- it uses. The beginning may follow.
-pub record IsBegunWith (schemas : List Schema) (x : World) (stack : List ℕ) (choice : Choice) (bytes : List ℕ) (source : Source) : Type 0 where
-  pub written : IsWritten schemas x stack (source_of stack choice bytes) source
-  pub follows : MayFollow schemas x [] (beginning (x.operation + 1) stack source)
+pub record IsBegunWith (schemas : List Schema) (x : World) (stack : List ℕ) (choice : Choice) (bytes : List ℕ) (source : Source) : Type 0
+  where
+    pub written : IsWritten schemas x stack (deployed_source stack choice bytes) source
+    pub follows : MayFollow schemas x [] (create_entry (x.operation + 1) stack source)
 
 abbrev pub IsBegunBy : List Schema → World → List ℕ → Choice → List ℕ → Entry → Type 0
 IsBegunBy schemas x stack choice bytes begun =
-    (source : Source) × IsBegunWith schemas x stack choice bytes source × (begun ≡ beginning (x.operation + 1) stack source)
+    (source : Source) × IsBegunWith schemas x stack choice bytes source × (begun ≡ create_entry (x.operation + 1) stack source)
 
 -- What the fetch of the template for a new stack comes to: the entry that begins its creation, or the exit with its cause.
-abbrev pub FetchesAs : Shelf → List Schema → World → List ℕ → Choice → Result Entry Exit → Type 0
+abbrev pub FetchesAs : LibraryUse → List Schema → World → List ℕ → Choice → Result Entry Exit → Type 0
 FetchesAs o schemas x stack choice (Ok begun) =
-    (bytes : List ℕ) × StandsUnder o.texts choice.template (Some bytes) × (refusal_of schemas x stack choice (Some bytes) ≡ None)
+    (bytes : List ℕ) × StandsUnder o.texts choice.template (Some bytes) × (creation_refusal schemas x stack choice (Some bytes) ≡ None)
     × IsBegunBy schemas x stack choice bytes begun
 FetchesAs o schemas x stack choice (Err e) = IsRefusedFor o schemas x stack choice e
 
 -- the status that bars a deployment: that of a stack that is there
-abbrev pub barred : Status → Option Status
-barred status = if creates_from status then None else Some status
+abbrev pub status_in_use : Status → Option Status
+status_in_use status = if creates_from status then None else Some status
 
-abbrev pub barring : List ℕ → World → Option Status
-barring name x = option_and_then (λ st. barred st.status) (stack_at name x)
+abbrev pub existing_status : List ℕ → World → Option Status
+existing_status name x = option_and_then (λ st. status_in_use st.status) (stack_at name x)
 
 -- the lanes and the journal are as they were
-abbrev pub IsQuiet : Scene → Type 0
+abbrev pub IsQuiet : EngineRun → Type 0
 IsQuiet s = (s.told' ≡ s.told) × (s.counts' ≡ s.counts) × Holds s.tells s.bytes' s.entries × (s.entries' ≡ s.entries)
 
 -- No stack of the name bars it, and the template was found there and is not refused; its creation begins with this source.
-pub record IsFound (o : Shelf) (s : Scene) (name : List ℕ) (choice : Choice) (source : Source) : Type 0 where
-  pub free : barring name (world_of s.entries) ≡ None
+pub record IsFound (o : LibraryUse) (s : EngineRun) (name : List ℕ) (choice : Choice) (source : Source) : Type 0 where
+  pub free : existing_status name (world_left s.entries) ≡ None
   pub bytes : List ℕ
   pub stands : StandsUnder o.texts choice.template (Some bytes)
-  pub sound : refusal_of s.schemas (world_of s.entries) name choice (Some bytes) ≡ None
-  pub begun : IsBegunWith s.schemas (world_of s.entries) name choice bytes source
+  pub sound : creation_refusal s.schemas (world_left s.entries) name choice (Some bytes) ≡ None
+  pub begun : IsBegunWith s.schemas (world_left s.entries) name choice bytes source
 
 -- why nothing was made: a stack of the name bars it, or the library failed, or what was found there is refused
-abbrev pub RefusesEarly : Shelf → Scene → List ℕ → Choice → Exit → Type 0
-RefusesEarly o s name choice (exit.StackRefused (WrongStatus status)) = (barring name (world_of s.entries) ≡ Some status) × IsUnasked o
-RefusesEarly o s name choice e = (barring name (world_of s.entries) ≡ None) × IsRefusedFor o s.schemas (world_of s.entries) name choice e
+abbrev pub RefusesEarly : LibraryUse → EngineRun → List ℕ → Choice → Exit → Type 0
+RefusesEarly o s name choice (exit.StackRefused (WrongStatus status)) =
+    (existing_status name (world_left s.entries) ≡ Some status) × IsUnasked o
+RefusesEarly o s name choice e =
+    (existing_status name (world_left s.entries) ≡ None) × IsRefusedFor o s.schemas (world_left s.entries) name choice e
 
 -- each operation is of one stack
-abbrev pub IsApart : Scene → Type 0
-IsApart s = AreApart (world_of s.entries)
+abbrev pub IsApart : EngineRun → Type 0
+IsApart s = AreApart (world_left s.entries)
 
 -- the creation by a source came to this
-abbrev pub CreatesBy : Scene → List ℕ → Source → Result (Unit {0}) Halt → Type 0
-CreatesBy s name source r = CreateTells s (beginning (next_number s.entries) name source) r
+abbrev pub CreatesBy : EngineRun → List ℕ → Source → Result (Unit {0}) Halt → Type 0
+CreatesBy s name source r = CreateTells s (create_entry (next_number s.entries) name source) r
 
 -- What a deployment comes to: it is refused early and nothing was done, or it is the creation of a stack from the template that was found.
-abbrev pub DeploysAs : Shelf → Scene → List ℕ → Choice → Result (Unit {0}) Exit → Type 0
+abbrev pub DeploysAs : LibraryUse → EngineRun → List ℕ → Choice → Result (Unit {0}) Exit → Type 0
 DeploysAs o s name choice (Ok done) = (source : Source) × IsFound o s name choice source × CreatesBy s name source (Ok done) × IsApart s
 DeploysAs o s name choice (Err e) =
     (RefusesEarly o s name choice e × IsQuiet s)
-    ⊎ ((source : Source) × (h : Halt) × IsFound o s name choice source × (e ≡ exit_of h) × CreatesBy s name source (Err h))
+    ⊎ ((source : Source) × (h : Halt) × IsFound o s name choice source × (e ≡ halt_exit h) × CreatesBy s name source (Err h))

@@ -1,4 +1,5 @@
--- What of a template this engine does not make yet: imports from other stacks, exports, policies and nested stacks (this project's own order of growth).
+-- What of a template this engine does not make yet: imports from other stacks, exports, policies and nested stacks (this project's own
+-- order of growth).
 use Rattle.std.specs.Prelude.{Bool, true, false, ◌||◌, Option, Some, None, is_some}
 use Rattle.std.specs.List.{list_any}
 use Rattle.cf_tree.specs.Forms.{Form, Node, Forms, Fields, expr, lit, ref, get_att, sub, join, select, split, choice, find_in_map, import_value, base64, no_forms, form, no_fields, field, fields_of}

@@ -18,7 +18,7 @@ use Rattle.cf_face.specs.declared.exit.Exit.{Exit}
 use Rattle.cf_face.specs.declared.exit.Exit.TheVariants as exit
 use Rattle.cf_top.specs.declared.book.Halt.{Halt}
 use Rattle.cf_top.specs.declared.book.Halt.TheVariants as halt
-use Rattle.cf_top.specs.Book.{Holds, HaltsAt, world_of}
+use Rattle.cf_top.specs.Book.{Holds, HaltsAt, world_left}
 use Rattle.cf_top.specs.Lanes.{lane_pairs}
 
 -- how many of the names are this one
@@ -34,9 +34,9 @@ abbrev pub twice : List (List ℕ) → Option (List ℕ)
 twice names = find (is_shared names) names
 
 -- a lane of this name and type is handed in
-abbrev pub has_lane : List (List ℕ) → List (List ℕ) → List ℕ → List ℕ → Bool
-has_lane (n ∷ names) (k ∷ kinds) name kind = (bytes_eq name n && bytes_eq kind k) || has_lane names kinds name kind
-has_lane _ _ name kind = false
+abbrev pub is_handed_in : List (List ℕ) → List (List ℕ) → List ℕ → List ℕ → Bool
+is_handed_in (n ∷ names) (k ∷ kinds) name kind = (bytes_eq name n && bytes_eq kind k) || is_handed_in names kinds name kind
+is_handed_in _ _ name kind = false
 
 -- the lane that a physical id names: what stands before its first colon
 abbrev pub lane_of : List ℕ → List ℕ
@@ -44,11 +44,11 @@ lane_of physical = option_map_or (λ c. c.0) (cut_at (codes ":") physical) physi
 
 -- a resource is served where a lane of its type is handed in that its physical id names
 abbrev pub serves_held : List (List ℕ) → List (List ℕ) → Held → Bool
-serves_held names kinds h = option_map_or (λ c. has_lane names kinds c.0 h.kind) (cut_at (codes ":") h.physical) false
+serves_held names kinds h = option_map_or (λ c. is_handed_in names kinds c.0 h.kind) (cut_at (codes ":") h.physical) false
 
 -- an open call is served where its lane is handed in, of the type that it makes a resource of
 abbrev pub serves_call : List (List ℕ) → List (List ℕ) → List ℕ → Request → Bool
-serves_call names kinds lane (request.Create kind props) = has_lane names kinds lane kind
+serves_call names kinds lane (request.Create kind props) = is_handed_in names kinds lane kind
 serves_call names kinds lane _ = is_among lane names
 
 -- the lower of a name and the best one so far, in the order of their bytes
@@ -76,10 +76,10 @@ abbrev pub opening : List (List ℕ) → List (List ℕ) → World → Entry
 opening names kinds x = entry.Opened (x.epoch + 1) (lane_pairs names kinds)
 
 -- the exit of a run that halted
-abbrev pub exit_of : Halt → Exit
-exit_of (halt.Full length need room) = exit.Full length need room
-exit_of halt.DiskFault = exit.DiskFault
-exit_of halt.NoMemory = exit.NoMemory
+abbrev pub halt_exit : Halt → Exit
+halt_exit (halt.Full length need room) = exit.Full length need room
+halt_exit halt.DiskFault = exit.DiskFault
+halt_exit halt.NoMemory = exit.NoMemory
 
 -- why no journal was opened: there is none on these bytes of a disk that tells them; its count of faults rose; or memory was not there
 abbrev pub HasOpenCause : Bool → List ℕ → ℕ → ℕ → Exit → Type 0
@@ -88,18 +88,20 @@ HasOpenCause tells bytes faults faults' exit.DiskFault = HasRisen faults faults'
 HasOpenCause tells bytes faults faults' exit.NoMemory = ⊤
 HasOpenCause tells bytes faults faults' _ = ⊥
 
--- The opening is written where no two lanes have one name and none is missing. Else the first such name is told and nothing is written, or the opening could not be.
-abbrev pub EnterTells : Bool → List ℕ → ℕ → ℕ → ℕ → List (List ℕ) → List (List ℕ) → List Entry → List Entry → Result (Unit {0}) Exit → Type 0
+-- The opening is written where no two lanes have one name and none is missing. Else the first such name is told and nothing is written, or
+-- the opening could not be.
+abbrev pub EnterTells : Bool → List ℕ → ℕ → ℕ → ℕ → List (List ℕ) → List (List ℕ) → List Entry → List Entry → Result (Unit {0}) Exit
+    → Type 0
 EnterTells tells bytes room faults faults' names kinds es es' (Ok done) =
-    (twice names ≡ None) × (missing names kinds (world_of es) ≡ None) × (es' ≡ es ++ opening names kinds (world_of es) ∷ [])
+    (twice names ≡ None) × (missing names kinds (world_left es) ≡ None) × (es' ≡ es ++ opening names kinds (world_left es) ∷ [])
 EnterTells tells bytes room faults faults' names kinds es es' (Err (exit.LaneTwice name)) = (twice names ≡ Some name) × Holds tells bytes es
 EnterTells tells bytes room faults faults' names kinds es es' (Err (exit.LaneMissing name)) =
-    (twice names ≡ None) × (missing names kinds (world_of es) ≡ Some name) × Holds tells bytes es
+    (twice names ≡ None) × (missing names kinds (world_left es) ≡ Some name) × Holds tells bytes es
 EnterTells tells bytes room faults faults' names kinds es es' (Err (exit.Full length need r)) =
-    (twice names ≡ None) × (missing names kinds (world_of es) ≡ None)
-    × HaltsAt tells bytes room faults faults' es (opening names kinds (world_of es)) (halt.Full length need r)
+    (twice names ≡ None) × (missing names kinds (world_left es) ≡ None)
+    × HaltsAt tells bytes room faults faults' es (opening names kinds (world_left es)) (halt.Full length need r)
 EnterTells tells bytes room faults faults' names kinds es es' (Err exit.DiskFault) =
-    (twice names ≡ None) × (missing names kinds (world_of es) ≡ None)
-    × HaltsAt tells bytes room faults faults' es (opening names kinds (world_of es)) halt.DiskFault
+    (twice names ≡ None) × (missing names kinds (world_left es) ≡ None)
+    × HaltsAt tells bytes room faults faults' es (opening names kinds (world_left es)) halt.DiskFault
 EnterTells tells bytes room faults faults' names kinds es es' (Err exit.NoMemory) = Holds tells bytes es
 EnterTells tells bytes room faults faults' names kinds es es' (Err _) = ⊥

@@ -21,8 +21,8 @@ use Rattle.cf_face.specs.declared.exit.Refusal.TheVariants as refusal
 use Rattle.cf_top.specs.NotYet.{is_not_yet}
 
 -- what a creation rests on: one template and what is given for its parameters, without imports
-abbrev pub source_of : List ℕ → Choice → List ℕ → Source
-source_of stack choice bytes = record {
+abbrev pub deployed_source : List ℕ → Choice → List ℕ → Source
+deployed_source stack choice bytes = record {
   root = choice.template;
   texts = (choice.template, bytes) ∷ [];
   given = choice.given;
@@ -48,30 +48,31 @@ refusal_in _ = None
 abbrev pub template_refusal : List Schema → World → List ℕ → Choice → List ℕ → Reading Template → Option Refusal
 template_refusal schemas x stack choice bytes (Err fault) = Some (refusal.Read choice.template fault)
 template_refusal schemas x stack choice bytes (Ok t) =
-    if is_not_yet t then Some (refusal.NotYet choice.template) else refusal_in (deploy_refusal schemas x stack (source_of stack choice bytes))
+    if is_not_yet t then Some (refusal.NotYet choice.template) else refusal_in
+    (deploy_refusal schemas x stack (deployed_source stack choice bytes))
 
 -- why a new stack of this name is refused, by what was found under the template's name (the order is this project's own)
-abbrev pub refusal_of : List Schema → World → List ℕ → Choice → Option (List ℕ) → Option Refusal
-refusal_of schemas x stack choice None = Some (refusal.Plan (TemplateMissing choice.template))
-refusal_of schemas x stack choice (Some bytes) = template_refusal schemas x stack choice bytes (template_of bytes)
+abbrev pub creation_refusal : List Schema → World → List ℕ → Choice → Option (List ℕ) → Option Refusal
+creation_refusal schemas x stack choice None = Some (refusal.Plan (TemplateMissing choice.template))
+creation_refusal schemas x stack choice (Some bytes) = template_refusal schemas x stack choice bytes (template_of bytes)
 
 -- the exit of a refusal, where there was memory to tell it
-abbrev pub RefusesAs : Refusal → Exit → Type 0
-RefusesAs f (exit.TemplateRefused fault) = fault ≡ f
-RefusesAs f exit.NoMemory = ⊤
-RefusesAs f _ = ⊥
+abbrev pub RefusesTemplate : Refusal → Exit → Type 0
+RefusesTemplate f (exit.TemplateRefused fault) = fault ≡ f
+RefusesTemplate f exit.NoMemory = ⊤
+RefusesTemplate f _ = ⊥
 
 -- the exit of bytes that were not read
 abbrev pub UnreadAs : List ℕ → TemplateFault → Exit → Type 0
 UnreadAs name unread.NoMemory e = e ≡ exit.NoMemory
-UnreadAs name f e = RefusesAs (refusal.Read name f) e
+UnreadAs name f e = RefusesTemplate (refusal.Read name f) e
 
 -- what a test of a template answers: nothing where nothing is refused, else the refusal; want of memory may come in its place
-abbrev pub TestsAs : {A : Type 0} → Option Refusal → (A → Type 0) → Result A Exit → Type 0
-TestsAs o P (Ok a) = (o ≡ None) × P a
-TestsAs o P (Err (exit.TemplateRefused fault)) = o ≡ Some fault
-TestsAs o P (Err exit.NoMemory) = ⊤
-TestsAs o P (Err _) = ⊥
+abbrev pub TestsTemplate : {A : Type 0} → Option Refusal → (A → Type 0) → Result A Exit → Type 0
+TestsTemplate o P (Ok a) = (o ≡ None) × P a
+TestsTemplate o P (Err (exit.TemplateRefused fault)) = o ≡ Some fault
+TestsTemplate o P (Err exit.NoMemory) = ⊤
+TestsTemplate o P (Err _) = ⊥
 
 -- a fetch that found nothing counts as a miss
 abbrev pub IsMiss : Option (List ℕ) → ℕ → ℕ → Type 0

@@ -37,13 +37,13 @@ abbrev pub exit_for : StackState → Exit
 exit_for s = exit_at s s.status
 
 -- the stack that a creation left is reported with its exit, and of every other end the line of the exit alone is printed
-abbrev pub text_of : List ℕ → Result StackState Exit → List ℕ
-text_of name (Ok st) = stack_report name st (exit_for st)
-text_of name (Err e) = exit_line e
+abbrev pub outcome_text : List ℕ → Result StackState Exit → List ℕ
+outcome_text name (Ok st) = stack_report name st (exit_for st)
+outcome_text name (Err e) = exit_line e
 
-abbrev pub exit_of : Result StackState Exit → Exit
-exit_of (Ok st) = exit_for st
-exit_of (Err e) = e
+abbrev pub outcome_exit : Result StackState Exit → Exit
+outcome_exit (Ok st) = exit_for st
+outcome_exit (Err e) = e
 
 -- a description reports a stack that is there
 abbrev pub described_text : List ℕ → Option StackState → List ℕ

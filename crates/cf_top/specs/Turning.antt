@@ -15,7 +15,8 @@ use Rattle.cf_effect.specs.World.{StackState, World, stack_at}
 use Rattle.cf_effect.specs.declared.call.Call.{Call}
 use Rattle.cf_effect.specs.Calls.{call_under}
 use Rattle.cf_effect.specs.Fold.{fold_of}
-use Rattle.cf_plan.specs.Forward.{In, IsCause}
+use Rattle.cf_plan.specs.Forward.{IsCause}
+use Rattle.cf_tree.specs.Lists.{In}
 
 -- why a call failed: the code of its refusal, or that it broke off
 abbrev pub reason_in : Reply → Option Reason
@@ -23,19 +24,21 @@ reason_in (reply.Success physical attrs) = None
 reason_in (reply.Failed code) = Some (reason.Code code)
 reason_in reply.Doubt = Some reason.Fault
 
--- One of the operation's calls failed: a call at this path, as the stack's ledger says, was refused or broke off for this reason, and the count of a lane rose in it.
-pub record HasFailedCall (counts counts' : List ℕ) (number : ℕ) (es : List Entry) (s : StackState) (path : List ℕ) (why : Reason) : Type 0 where
-  pub token : ℕ
-  pub answer : Reply
-  pub before : ℕ
-  pub after : ℕ
-  pub stands : In (entry.Outcome number token answer before after) es
-  pub told : reason_in answer ≡ Some why
-  pub call : Call
-  pub of_call : call_under token s ≡ Some call
-  pub at_path : call.path ≡ path
-  pub rose : HasRisen before after
-  pub lane : (k : ℕ) × (slice_index_or counts k 0 ≤ before) × (before ≤ after) × (after ≤ slice_index_or counts' k 0)
+-- One of the operation's calls failed: a call at this path, as the stack's ledger says, was refused or broke off for this reason, and the
+-- count of a lane rose in it.
+pub record HasFailedCall (counts counts' : List ℕ) (number : ℕ) (es : List Entry) (s : StackState) (path : List ℕ) (why : Reason) : Type 0
+  where
+    pub token : ℕ
+    pub answer : Reply
+    pub before : ℕ
+    pub after : ℕ
+    pub stands : In (entry.Outcome number token answer before after) es
+    pub told : reason_in answer ≡ Some why
+    pub call : Call
+    pub of_call : call_under token s ≡ Some call
+    pub at_path : call.path ≡ path
+    pub rose : HasRisen before after
+    pub lane : (k : ℕ) × (slice_index_or counts k 0 ≤ before) × (before ≤ after) × (after ≤ slice_index_or counts' k 0)
 
 -- the operation turned back among these entries, for this cause, as it stood then
 pub record TurnsBack (schemas : List Schema) (x : World) (number : ℕ) (name : List ℕ) (es : List Entry) (c : Cause) : Type 0 where

@@ -4,7 +4,7 @@ ghost use Rattle.cf_tree.specs.SizeOf.{capped};
 ghost use Rattle.cf_entry.specs.Entry.{IsProper, spelling_of};
 ghost use Rattle.cf_stacks.specs.Room.{HasRoom};
 ghost use Rattle.cf_journal.specs.Record.{Stands, is_broken, journal_length, spare_of};
-ghost use Rattle.cf_top.specs.Book.{IsOpen, Holds, AppendTells, world_of};
+ghost use Rattle.cf_top.specs.Book.{IsOpen, Holds, AppendTells, world_left};
 ghost use Rattle.cf_top.specs.Crash.{Passes};
 
 use cf_disk::Disk;
@@ -88,7 +88,7 @@ fn take_memory(alloc: Global, book: &mut Book, entry: &Entry) -> Result<Entry, N
 fn write<D: Disk>(book: &mut Book, disk: &mut D, entry: Entry, copy: Entry) -> Result<(), Halt>
     requires stands { Stands D.tells D.seen D.may_leave D.room_of book.old.journal disk.old }
     requires holds { Holds D.tells (D.seen disk.old) book.old.entries.items }
-    requires world { book.old.world.world ≡ world_of book.old.entries.items }
+    requires world { book.old.world.world ≡ world_left book.old.entries.items }
     requires made { HasRoom book.old.world entry }
     requires proper { IsProper entry }
     requires copied { copy ≡ entry }

@@ -2,7 +2,7 @@
 ghost use Rattle.std.specs.Prelude.{◌≡◌, ◌≤◌, ◌+◌, ℕ, List, map, IfSome, OnOk};
 ghost use Rattle.cf_stacks.specs.Apart.{AreApart};
 ghost use Rattle.cf_plan.specs.Going.{IsOver};
-ghost use Rattle.cf_top.specs.Book.{IsOpen, world_of};
+ghost use Rattle.cf_top.specs.Book.{IsOpen, world_left};
 ghost use Rattle.cf_top.specs.Lanes.{one_of_each};
 ghost use Rattle.cf_top.specs.Crash.{Follows, Passes};
 ghost use Rattle.cf_top.specs.Creating.{Begins, CreateTells, next_number};
@@ -74,8 +74,8 @@ pub fn create<D: Disk, H: Handler>(
       entries' = book.new.entries.items;
     }) begun result }
     ensures over { (name : List ℕ) → Begins (next_number book.old.entries.items) name begun
-        → OnOk result (IsOver (next_number book.old.entries.items) name (world_of book.new.entries.items)) }
-    ensures apart { OnOk result (AreApart (world_of book.old.entries.items)) }
+        → OnOk result (IsOver (next_number book.old.entries.items) name (world_left book.new.entries.items)) }
+    ensures apart { OnOk result (AreApart (world_left book.old.entries.items)) }
 {
     creation_starts();
     creation_ends();

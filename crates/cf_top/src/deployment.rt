@@ -3,11 +3,11 @@ ghost use Rattle.std.specs.Prelude.{◌≡◌, ◌≤◌, map, None, OnOk};
 ghost use Rattle.cf_face.specs.declared.exit.Exit.TheVariants.{StackRefused};
 ghost use Rattle.cf_face.specs.declared.exit.StackFault.TheVariants.{WrongStatus};
 ghost use Rattle.cf_plan.specs.Going.{IsOver};
-ghost use Rattle.cf_top.specs.Book.{IsOpen, world_of};
+ghost use Rattle.cf_top.specs.Book.{IsOpen, world_left};
 ghost use Rattle.cf_top.specs.Lanes.{one_of_each};
 ghost use Rattle.cf_top.specs.Crash.{Follows, PassesTo};
 ghost use Rattle.cf_top.specs.Creating.{next_number};
-ghost use Rattle.cf_top.specs.Deployment.{DeploysAs, FetchesAs, barred, barring};
+ghost use Rattle.cf_top.specs.Deployment.{DeploysAs, FetchesAs, status_in_use, existing_status};
 
 use crate::book::Book;
 use crate::creating::create;
@@ -34,7 +34,7 @@ fn fetch<L: Library>(
     choice: &Choice,
     stack: &Txt,
 ) -> Result<Entry, Exit>
-    requires free { barring stack.now world.now.world ≡ None }
+    requires free { existing_status stack.now world.now.world ≡ None }
     ensures same { L.texts library.new ≡ L.texts library.old }
     ensures faults { L.count library.old ≤ L.count library.new }
     ensures misses { L.missed library.old ≤ L.missed library.new }
@@ -57,7 +57,7 @@ fn fetch<L: Library>(
 
 /// The status of a stack that is there.
 fn barred(status: Status) -> Option<Status>
-    ensures { result ≡ barred status }
+    ensures { result ≡ status_in_use status }
 {
     match status {
         Status::DeleteComplete | Status::ReviewInProgress => None,
@@ -67,7 +67,7 @@ fn barred(status: Status) -> Option<Status>
 
 /// The status of the stack of the name, where there is one.
 fn barring(stack: &Txt, book: &Book) -> Option<Status>
-    ensures { result ≡ barring stack.now book.now.world.world }
+    ensures { result ≡ existing_status stack.now book.now.world.world }
 {
     match book.world.stack(stack.as_str()) {
         Some(found) => barred(found.status()),
@@ -86,14 +86,14 @@ fn deploy_new<L: Library, D: Disk, H: Handler>(
     choice: &Choice,
 ) -> Result<(), Exit>
     requires open { IsOpen D.tells D.seen D.may_leave D.room_of book.old disk.old }
-    requires free { barring stack.now (world_of book.old.entries.items) ≡ None }
+    requires free { existing_status stack.now (world_left book.old.entries.items) ≡ None }
     ensures same { L.texts library.new ≡ L.texts library.old }
     ensures faults { L.count library.old ≤ L.count library.new }
     ensures names { map H.label lanes.new.items ≡ map H.label lanes.old.items }
     ensures schemas { map H.schema_of lanes.new.items ≡ map H.schema_of lanes.old.items }
     ensures room { D.room_of disk.new ≡ D.room_of disk.old }
     ensures open { OnOk result (IsOpen D.tells D.seen D.may_leave D.room_of book.new disk.new) }
-    ensures over { OnOk result (IsOver (next_number book.old.entries.items) stack.now (world_of book.new.entries.items)) }
+    ensures over { OnOk result (IsOver (next_number book.old.entries.items) stack.now (world_left book.new.entries.items)) }
     ensures count { D.count disk.old ≤ D.count disk.new }
     ensures passes { PassesTo D.tells D.may_leave D.moment D.left_since disk.old disk.new
         book.old.entries.items book.new.entries.items
@@ -168,7 +168,7 @@ pub fn deploy_in<L: Library, D: Disk, H: Handler>(
     ensures schemas { map H.schema_of lanes.new.items ≡ map H.schema_of lanes.old.items }
     ensures room { D.room_of disk.new ≡ D.room_of disk.old }
     ensures open { OnOk result (IsOpen D.tells D.seen D.may_leave D.room_of book.new disk.new) }
-    ensures over { OnOk result (IsOver (next_number book.old.entries.items) stack.now (world_of book.new.entries.items)) }
+    ensures over { OnOk result (IsOver (next_number book.old.entries.items) stack.now (world_left book.new.entries.items)) }
     ensures count { D.count disk.old ≤ D.count disk.new }
     ensures passes { PassesTo D.tells D.may_leave D.moment D.left_since disk.old disk.new
         book.old.entries.items book.new.entries.items

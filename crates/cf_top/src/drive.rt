@@ -7,11 +7,11 @@ ghost use Rattle.cf_plan.specs.Follow.{MayFollow};
 ghost use Rattle.cf_effect.specs.declared.held.Pending.{Pending};
 ghost use Rattle.cf_plan.specs.Run.{MovesAt, open_call};
 ghost use Rattle.cf_effect.specs.Words.{has_token};
-ghost use Rattle.cf_next.specs.Chosen.{IsInProgress, IsNext, entry_of, leases_of, schemas_of};
-ghost use Rattle.cf_top.specs.Book.{IsOpen, world_of};
+ghost use Rattle.cf_next.specs.Chosen.{IsInProgress, IsNext, entry_for, leases_of, schemas_of};
+ghost use Rattle.cf_top.specs.Book.{IsOpen, world_left};
 ghost use Rattle.cf_top.specs.Lanes.{homes_of};
 ghost use Rattle.cf_top.specs.Crash.{Follows, Passes};
-ghost use Rattle.cf_top.specs.Driving.{CallEnds, CallsEnd, ConcludeTells, DriveTells, GoesOn, IsOutcome, NoteTells, RepliesAs, TakeTells, called_by, taken_by};
+ghost use Rattle.cf_top.specs.Driving.{CallEnds, CallsEnd, ConcludeTells, DriveTells, StaysInProgress, IsOutcome, NoteTells, RepliesAs, TakeTells, called_by, taken_by};
 
 use crate::book::{Book, Halt, append};
 use cf_disk::Disk;
@@ -205,7 +205,7 @@ fn call<D: Disk, H: Handler>(
     token: u64,
 ) -> Result<(), Halt>
     requires open { IsOpen D.tells D.seen D.may_leave D.room_of book.old disk.old }
-    requires called { (p : Pending) × (open_call number token (world_of book.old.entries.items) ≡ Some p) }
+    requires called { (p : Pending) × (open_call number token (world_left book.old.entries.items) ≡ Some p) }
     ensures names { map H.label lanes.new.items ≡ map H.label lanes.old.items }
     ensures schemas { map H.schema_of lanes.new.items ≡ map H.schema_of lanes.old.items }
     ensures open { OnOk result (IsOpen D.tells D.seen D.may_leave D.room_of book.new disk.new) }
@@ -254,7 +254,7 @@ fn call_if_any<D: Disk, H: Handler>(
     token: Option<u64>,
 ) -> Result<(), Halt>
     requires open { IsOpen D.tells D.seen D.may_leave D.room_of book.old disk.old }
-    requires called { IfSome token (λ t. (p : Pending) × (open_call number t (world_of book.old.entries.items) ≡ Some p)) }
+    requires called { IfSome token (λ t. (p : Pending) × (open_call number t (world_left book.old.entries.items) ≡ Some p)) }
     ensures names { map H.label lanes.new.items ≡ map H.label lanes.old.items }
     ensures schemas { map H.schema_of lanes.new.items ≡ map H.schema_of lanes.old.items }
     ensures open { OnOk result (IsOpen D.tells D.seen D.may_leave D.room_of book.new disk.new) }
@@ -287,7 +287,7 @@ fn call_if_any<D: Disk, H: Handler>(
 
 /// The entry that writes a step down; a call that is made again has none.
 fn entry_of(number: u64, next: Next) -> Option<Entry>
-    ensures { result ≡ entry_of number next }
+    ensures { result ≡ entry_for number next }
 {
     match next {
         Next::Step {
@@ -394,9 +394,9 @@ fn take_step<D: Disk, H: Handler>(
     next: Next,
 ) -> Result<Taken, Halt>
     requires open { IsOpen D.tells D.seen D.may_leave D.room_of book.old disk.old }
-    requires goes_on { GoesOn number (world_of book.old.entries.items) }
-    requires comes { IsNext (schemas_of homes.now) (world_of book.old.entries.items) [] number next }
-    requires may { (e : Entry) → entry_of number next ≡ Some e → MayFollow (schemas_of homes.now) (world_of book.old.entries.items) [] e }
+    requires goes_on { StaysInProgress number (world_left book.old.entries.items) }
+    requires comes { IsNext (schemas_of homes.now) (world_left book.old.entries.items) [] number next }
+    requires may { (e : Entry) → entry_for number next ≡ Some e → MayFollow (schemas_of homes.now) (world_left book.old.entries.items) [] e }
     ensures names { map H.label lanes.new.items ≡ map H.label lanes.old.items }
     ensures schemas { map H.schema_of lanes.new.items ≡ map H.schema_of lanes.old.items }
     ensures open { OnOk result (IsOpen D.tells D.seen D.may_leave D.room_of book.new disk.new) }
@@ -440,7 +440,7 @@ fn coming(alloc: Global, book: &mut Book, number: u64, homes: &Homes) -> Result<
     requires { IsInProgress book.old.world.world number }
     ensures stays { book.new ≡ book.old }
     ensures chosen { IfOk result (λ n. IsNext (schemas_of homes.now) book.old.world.world (leases_of homes.now) number n) }
-    ensures may_follow { IfOk result (λ n. (e : Entry) → entry_of number n ≡ Some e
+    ensures may_follow { IfOk result (λ n. (e : Entry) → entry_for number n ≡ Some e
         → MayFollow (schemas_of homes.now) book.old.world.world (leases_of homes.now) e) }
 {
     next(alloc, &mut book.world, number, homes)
@@ -456,7 +456,7 @@ fn take<D: Disk, H: Handler>(
     number: u64,
 ) -> Result<Taken, Halt>
     requires open { IsOpen D.tells D.seen D.may_leave D.room_of book.old disk.old }
-    requires goes_on { GoesOn number (world_of book.old.entries.items) }
+    requires goes_on { StaysInProgress number (world_left book.old.entries.items) }
     requires home { leases_of homes.now ≡ [] }
     ensures names { map H.label lanes.new.items ≡ map H.label lanes.old.items }
     ensures schemas { map H.schema_of lanes.new.items ≡ map H.schema_of lanes.old.items }
@@ -505,7 +505,7 @@ pub fn drive<D: Disk, H: Handler>(
     number: u64,
 ) -> Result<(), Halt>
     requires open { IsOpen D.tells D.seen D.may_leave D.room_of book.old disk.old }
-    requires goes_on { GoesOn number (world_of book.old.entries.items) }
+    requires goes_on { StaysInProgress number (world_left book.old.entries.items) }
     requires home { leases_of homes.now ≡ [] }
     ensures names { map H.label lanes.new.items ≡ map H.label lanes.old.items }
     ensures schemas { map H.schema_of lanes.new.items ≡ map H.schema_of lanes.old.items }

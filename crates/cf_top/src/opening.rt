@@ -4,11 +4,11 @@ ghost use Rattle.std.specs.List.{list_all};
 ghost use Rattle.cf_tree.specs.Lists.{is_among};
 ghost use Rattle.cf_handler.specs.Name.{is_lane_name};
 ghost use Rattle.cf_disk.specs.Disk.{LeavesOnly};
-ghost use Rattle.cf_journal.specs.Record.{IsOldOrKept, Keeps};
-ghost use Rattle.cf_top.specs.Book.{IsOpen, Holds, world_of};
+ghost use Rattle.cf_journal.specs.Record.{IsOldOrKept, KeepsRecord};
+ghost use Rattle.cf_top.specs.Book.{IsOpen, Holds, world_left};
 ghost use Rattle.cf_top.specs.Crash.{MayEnter, PassesTo};
 ghost use Rattle.cf_top.specs.Lanes.{kinds_of, lane_pairs};
-ghost use Rattle.cf_top.specs.Opening.{EnterTells, HasOpenCause, exit_of, has_lane, lane_of, lower, missing, missing_in, number_named, opening, or_missing_call, or_missing_held, serves_call, serves_held, twice};
+ghost use Rattle.cf_top.specs.Opening.{EnterTells, HasOpenCause, halt_exit, is_handed_in, lane_of, lower, missing, missing_in, number_named, opening, or_missing_call, or_missing_held, serves_call, serves_held, twice};
 
 use crate::book::{Book, Halt, append};
 use cf_disk::Disk;
@@ -23,7 +23,7 @@ use std::alloc::{AllocError, Global};
 
 /// The exit of a run that halted.
 pub fn exit_of(halt: Halt) -> Exit
-    ensures { result ≡ exit_of halt }
+    ensures { result ≡ halt_exit halt }
 {
     match halt {
         Halt::Full { length, need, room } => Exit::Full { length, need, room },
@@ -47,7 +47,7 @@ pub fn open<D: Disk>(alloc: Global, disk: &mut D) -> Result<Book, Exit>
     requires most { D.room_of disk.old ≤ 2 ^ 32 }
     ensures open { IfOk result (λ book. IsOpen D.tells D.seen D.may_leave D.room_of book disk.new) }
     ensures found { IfOk result (λ book. Holds D.tells (D.seen disk.old) book.entries.items) }
-    ensures kept { IsTrue D.tells → Keeps (D.seen disk.old) (D.seen disk.new) }
+    ensures kept { IsTrue D.tells → KeepsRecord (D.seen disk.old) (D.seen disk.new) }
     ensures cause { IfErr result (HasOpenCause D.tells (D.seen disk.old) (D.count disk.old) (D.count disk.new)) }
     ensures room { D.room_of disk.new ≡ D.room_of disk.old }
     ensures count { D.count disk.old ≤ D.count disk.new }
@@ -75,7 +75,7 @@ pub fn open<D: Disk>(alloc: Global, disk: &mut D) -> Result<Book, Exit>
 /// Entries with the world that they leave.
 fn folded(alloc: Global, entries: Entries) -> Result<(Vec<Entry>, World), AllocError>
     ensures entries { IfOk result (λ both. both.0.items ≡ entries) }
-    ensures world { IfOk result (λ both. both.1.world ≡ world_of both.0.items) }
+    ensures world { IfOk result (λ both. both.1.world ≡ world_left both.0.items) }
 {
     match entries.try_clone(alloc) {
         Ok(copy) => match fold(alloc, entries) {
@@ -119,7 +119,7 @@ fn first_twice<H: Handler>(alloc: Global, lanes: &[H]) -> Result<Option<Txt>, Al
 
 /// Whether a lane of this name and type is handed in.
 fn has_lane<H: Handler>(lanes: &[H], name: &str, kind: &str) -> bool
-    ensures { result ≡ has_lane (map H.label lanes.now) (kinds_of (map H.schema_of lanes.now)) name.now kind.now }
+    ensures { result ≡ is_handed_in (map H.label lanes.now) (kinds_of (map H.schema_of lanes.now)) name.now kind.now }
 {
     for lane in lanes.iter() {
         if name == lane.name() && lane.schema().kind.is(kind) {
@@ -407,7 +407,7 @@ fn write_opening<D: Disk, H: Handler>(
 ) -> Result<(), Exit>
     requires open { IsOpen D.tells D.seen D.may_leave D.room_of book.old disk.old }
     requires differ { twice (map H.label lanes.now) ≡ None }
-    requires present { missing (map H.label lanes.now) (kinds_of (map H.schema_of lanes.now)) (world_of book.old.entries.items) ≡ None }
+    requires present { missing (map H.label lanes.now) (kinds_of (map H.schema_of lanes.now)) (world_left book.old.entries.items) ≡ None }
     ensures open { OnOk result (IsOpen D.tells D.seen D.may_leave D.room_of book.new disk.new) }
     ensures room { D.room_of disk.new ≡ D.room_of disk.old }
     ensures count { D.count disk.old ≤ D.count disk.new }

@@ -5,8 +5,8 @@ ghost use Rattle.cf_entry.specs.declared.entry.Entry.{Entry as Begun};
 ghost use Rattle.cf_prepare.specs.Refusals.{deploy_refusal};
 ghost use Rattle.cf_prepare.specs.declared.wish.Order.TheVariants.{Begin};
 ghost use Rattle.cf_prepare.specs.declared.wish.Wish.TheVariants.{Deploy};
-ghost use Rattle.cf_top.specs.Deployment.{IsBegunBy, barring};
-ghost use Rattle.cf_top.specs.Refusals.{TestsAs, refusal_in, refusal_of, source_of};
+ghost use Rattle.cf_top.specs.Deployment.{IsBegunBy, existing_status};
+ghost use Rattle.cf_top.specs.Refusals.{TestsTemplate, refusal_in, creation_refusal, deployed_source};
 
 use crate::not_yet::is_not_yet;
 use crate::refusals::{not_yet, refused, unread};
@@ -35,8 +35,8 @@ pub fn examine(
     stack: &Txt,
     bytes: Vec<u8>,
 ) -> Result<Entry, Exit>
-    requires free { barring stack.now world.now.world ≡ None }
-    ensures { TestsAs (refusal_of schemas.now world.now.world stack.now choice.now (Some bytes.items))
+    requires free { existing_status stack.now world.now.world ≡ None }
+    ensures { TestsTemplate (creation_refusal schemas.now world.now.world stack.now choice.now (Some bytes.items))
         (IsBegunBy schemas.now world.now.world stack.now choice.now bytes.items) result }
 {
     match read_template(alloc, bytes.as_slice()) {
@@ -65,9 +65,9 @@ fn order_template(
     bytes: Vec<u8>,
     template: Template,
 ) -> Result<Entry, Exit>
-    requires free { barring stack.now world.now.world ≡ None }
+    requires free { existing_status stack.now world.now.world ≡ None }
     requires read { template_of bytes.items ≡ Ok template }
-    ensures { TestsAs (refusal_in (deploy_refusal schemas.now world.now.world stack.now (source_of stack.now choice.now bytes.items)))
+    ensures { TestsTemplate (refusal_in (deploy_refusal schemas.now world.now.world stack.now (deployed_source stack.now choice.now bytes.items)))
         (IsBegunBy schemas.now world.now.world stack.now choice.now bytes.items) result }
 {
     let Ok(templates) = templates_under(alloc, &choice.template, template) else {
@@ -125,7 +125,7 @@ fn templates_under(alloc: Global, name: &Txt, template: Template) -> Result<Temp
 
 /// What a deployment wishes: a stack from what a choice of a template rests on.
 fn wish_of(alloc: Global, stack: &Txt, choice: &Choice, bytes: Vec<u8>) -> Result<Wish, AllocError>
-    ensures { IfOk result (λ wish. wish ≡ Deploy stack.now (source_of stack.now choice.now bytes.items)) }
+    ensures { IfOk result (λ wish. wish ≡ Deploy stack.now (deployed_source stack.now choice.now bytes.items)) }
 {
     match source_of(alloc, stack, choice, bytes) {
         Ok(source) => match stack.try_clone(alloc) {
@@ -146,7 +146,7 @@ fn source_of(
     choice: &Choice,
     bytes: Vec<u8>,
 ) -> Result<Source, AllocError>
-    ensures { IfOk result (λ source. source ≡ source_of stack.now choice.now bytes.items) }
+    ensures { IfOk result (λ source. source ≡ deployed_source stack.now choice.now bytes.items) }
 {
     let mut source = Source {
         root: Txt::new(String::new(alloc)),
@@ -174,7 +174,7 @@ fn fill_source(
     bytes: Vec<u8>,
 ) -> Result<(), AllocError>
     requires { source.old.texts ≡ [] }
-    ensures { IfOk result (λ _. source.new ≡ record (source_of stack.now choice.now bytes.items)
+    ensures { IfOk result (λ _. source.new ≡ record (deployed_source stack.now choice.now bytes.items)
         { imports = source.old.imports; number = source.old.number }) }
 {
     let name = choice.template.try_clone(alloc)?;

@@ -2,7 +2,7 @@
 ghost use Rattle.std.specs.Prelude.{◌≡◌};
 ghost use Rattle.cf_desired.specs.declared.flaw.Flaw.TheVariants.{TemplateMissing};
 ghost use Rattle.cf_face.specs.declared.exit.Refusal.TheVariants.{Read, NotYet, Plan};
-ghost use Rattle.cf_top.specs.Refusals.{RefusesAs, UnreadAs, exit_of_fault};
+ghost use Rattle.cf_top.specs.Refusals.{RefusesTemplate, UnreadAs, exit_of_fault};
 
 use cf_desired::Flaw;
 use cf_face::{Exit, Refusal};
@@ -13,7 +13,7 @@ use std::alloc::Global;
 
 /// The exit where the library holds no template of the name.
 pub fn missing(alloc: Global, name: &Txt) -> Exit
-    ensures { RefusesAs (Plan (TemplateMissing name.now)) result }
+    ensures { RefusesTemplate (Plan (TemplateMissing name.now)) result }
 {
     match name.try_clone(alloc) {
         Ok(name) => Exit::TemplateRefused {
@@ -40,7 +40,7 @@ pub fn unread(alloc: Global, name: &Txt, fault: TemplateFault) -> Exit
 
 /// The exit where the template under the name holds what is not made yet.
 pub fn not_yet(alloc: Global, name: &Txt) -> Exit
-    ensures { RefusesAs (NotYet name.now) result }
+    ensures { RefusesTemplate (NotYet name.now) result }
 {
     match name.try_clone(alloc) {
         Ok(name) => Exit::TemplateRefused {

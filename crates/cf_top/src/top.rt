@@ -1,7 +1,7 @@
 //! The top calls.
 ghost use Rattle.std.specs.Prelude.{◌≡◌, ◌≤◌, ◌^◌, ℕ, List, IfOk, IsTrue, map, false};
 ghost use Rattle.cf_disk.specs.Disk.{LeavesOnly};
-ghost use Rattle.cf_journal.specs.Record.{IsOldOrKept, Keeps};
+ghost use Rattle.cf_journal.specs.Record.{IsOldOrKept, KeepsRecord};
 ghost use Rattle.cf_top.specs.Alone.{AloneTells, IsAnswered, LastsWhereOver, deploy_words};
 ghost use Rattle.cf_face.specs.Words.{command_of};
 ghost use Rattle.cf_top.specs.Answer.{AnswerTells, is_asking, RanAs};
@@ -260,7 +260,7 @@ pub fn answer<L: Library, K: Sink, D: Disk>(
     requires most { D.room_of disk.old ≤ 2 ^ 32 }
     ensures same { L.texts library.new ≡ L.texts library.old }
     ensures room { D.room_of disk.new ≡ D.room_of disk.old }
-    ensures kept { IsTrue D.tells → Keeps (D.seen disk.old) (D.seen disk.new) }
+    ensures kept { IsTrue D.tells → KeepsRecord (D.seen disk.old) (D.seen disk.new) }
     ensures any_moment { IsTrue D.tells → LeavesOnly D.moment D.left_since disk.old disk.new
         (IsOldOrKept (D.may_leave disk.old) (D.seen disk.old)) }
     ensures leaves { IsTrue D.tells → (file : List ℕ) → D.may_leave disk.new file

@@ -1,4 +1,5 @@
--- The codes with which a handler refuses (CloudFormation handler contract, handler error codes), with the names that reports print and the numbers that the journal has (this project's own).
+-- The codes with which a handler refuses (CloudFormation handler contract, handler error codes), with the names that reports print and the
+-- numbers that the journal has (this project's own).
 use Rattle.std.specs.Prelude.{ℕ, ◌==◌, List, [], ◌∷◌, Option, find, codes}
 use Rattle.cf_tree.specs.declared.code.Code.{Code}
 use Rattle.cf_tree.specs.declared.code.Code.TheVariants as code
@@ -40,7 +41,9 @@ name_of code.InternalFailure = codes "InternalFailure"
 -- all codes
 abbrev pub all_codes : List Code
 all_codes =
-    code.NotUpdatable ∷ code.InvalidRequest ∷ code.AccessDenied ∷ code.InvalidCredentials ∷ code.AlreadyExists ∷ code.NotFound ∷ code.ResourceConflict ∷ code.Throttling ∷ code.ServiceLimitExceeded ∷ code.NotStabilized ∷ code.GeneralServiceException ∷ code.ServiceInternalError ∷ code.NetworkFailure ∷ code.InternalFailure ∷ []
+    code.NotUpdatable ∷ code.InvalidRequest ∷ code.AccessDenied ∷ code.InvalidCredentials ∷ code.AlreadyExists ∷ code.NotFound
+    ∷ code.ResourceConflict ∷ code.Throttling ∷ code.ServiceLimitExceeded ∷ code.NotStabilized ∷ code.GeneralServiceException
+    ∷ code.ServiceInternalError ∷ code.NetworkFailure ∷ code.InternalFailure ∷ []
 
 -- the code with the number n, if there is one
 abbrev pub code_of : ℕ → Option Code

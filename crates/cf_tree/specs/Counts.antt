@@ -1,4 +1,4 @@
--- What is said of a count that a contract reads: it never falls, and answers of failure come only where it rose.
+-- What is said of a count that a contract reads: it never falls, and answers of failure come only where it rose (this project's own).
 use Rattle.std.specs.Prelude.{ℕ, ◌+◌, ◌-◌, ◌^◌, ◌<◌, min, Bool, if◌then◌else◌}
 
 -- the last value of a count, at which it stays (this project's own)

@@ -1,4 +1,4 @@
--- What the expressions of the crate stand for.
+-- What the expressions of the crate stand for (this project's own).
 use Rattle.std.specs.Prelude.{ℕ, List, map}
 use Rattle.cf_tree.specs.Forms.{Form, Node, lit, list, dict, ref, get_att, sub, join, select, split, choice, find_in_map, import_value, base64, forms_of, fields_of}
 use Rattle.cf_tree.specs.Value.{datum_of}

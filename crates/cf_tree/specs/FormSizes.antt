@@ -1,4 +1,4 @@
--- An expression is larger than what it holds.
+-- An expression is larger than what it holds (this project's own).
 use Rattle.std.specs.Prelude.{◌+◌, ◌≤◌, List, [], ◌∷◌}
 use Rattle.std.proofs.Common.{arith}
 use denote.Param.Weighed.{most}

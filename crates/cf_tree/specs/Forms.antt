@@ -1,4 +1,5 @@
--- What an expression of a template is (template reference, intrinsic functions): a literal value, a list or an object of expressions, or a function.
+-- What an expression of a template is (template reference, intrinsic functions): a literal value, a list or an object of expressions, or a
+-- function.
 use Rattle.std.specs.Prelude.{◌≡◌, ℕ, ◌+◌, ◌==◌, List, [], ◌∷◌, if◌then◌else◌, refl}
 use Rattle.std.proofs.Common.{ap}
 use Rattle.std.specs.Coded.{Coded, code_by}
@@ -105,7 +106,8 @@ abbrev mutual
   node_data at (select f g) = headed at 7 [] (datum.item (form_data f) (datum.item (form_data g) datum.no_items)) datum.no_members
   node_data at (split t f) = headed at 8 t (datum.item (form_data f) datum.no_items) datum.no_members
   node_data at (choice t f g) = headed at 9 t (datum.item (form_data f) (datum.item (form_data g) datum.no_items)) datum.no_members
-  node_data at (find_in_map f g h) = headed at 10 [] (datum.item (form_data f) (datum.item (form_data g) (datum.item (form_data h) datum.no_items))) datum.no_members
+  node_data at (find_in_map f g h) =
+      headed at 10 [] (datum.item (form_data f) (datum.item (form_data g) (datum.item (form_data h) datum.no_items))) datum.no_members
   node_data at (import_value f) = headed at 11 [] (datum.item (form_data f) datum.no_items) datum.no_members
   node_data at (base64 f) = headed at 12 [] (datum.item (form_data f) datum.no_items) datum.no_members
 

@@ -1,4 +1,4 @@
--- Two lists of texts pass the test exactly if they are equal.
+-- Two lists of texts pass the test exactly if they are equal (this project's own).
 use Rattle.std.specs.Str.{bytes_eq}
 use Rattle.std.specs.Cmp.{IsEquivalence}
 use Rattle.std.specs.Cmp.Lexicographic.{pointwise, nat_list_eq_equiv, lists_equiv}

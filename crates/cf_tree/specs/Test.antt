@@ -1,4 +1,4 @@
--- What the conditions of the crate stand for.
+-- What the conditions of the crate stand for (this project's own).
 use Rattle.cf_tree.specs.Tests.{TestNode, equals, negation, all_of, any_of, named, tests_of}
 use Rattle.cf_tree.specs.declared.cond.CondNode.{CondNode}
 use Rattle.cf_tree.specs.declared.cond.CondNode.TheVariants as node

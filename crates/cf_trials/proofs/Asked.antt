@@ -10,20 +10,20 @@ use Rattle.cf_entry.specs.declared.entry.Reply.{Reply}
 use Rattle.cf_effect.specs.World.{StackState, stack_of_operation}
 use Rattle.cf_stacks.specs.Room.{HasRoom, Standing, stepped, with_room}
 use Rattle.cf_effect.specs.Bounds.{IsShortReply}
-use Rattle.cf_stacks.specs.RoomStays.{Act, MakesRoom, Steps, RoomStays, Spare, acted, all_acted, spares}
+use Rattle.cf_stacks.specs.RoomStays.{RoomAct, MakesRoom, Steps, RoomStays, Spare, room_acted, all_acted, spares}
 use Rattle.cf_trials.specs.Asked.{WasAsked, intent_of, is_on_s}
 
-all_more : (x : Standing) (acts more : List Act) → all_acted x (acts ++ more) ≡ all_acted (all_acted x acts) more
+all_more : (x : Standing) (acts more : List RoomAct) → all_acted x (acts ++ more) ≡ all_acted (all_acted x acts) more
 all_more x [] more = refl
-all_more x (a ∷ acts) more = all_more (acted x a) acts more
+all_more x (a ∷ acts) more = all_more (room_acted x a) acts more
 
-spare_more : (name : List ℕ) (token : ℕ) (acts more : List Act) → Spare name token acts → Spare name token more → Spare name token (acts ++ more)
+spare_more : (name : List ℕ) (token : ℕ) (acts more : List RoomAct) → Spare name token acts → Spare name token more → Spare name token (acts ++ more)
 spare_more name token [] more h k = k
 spare_more name token (MakesRoom e ∷ acts) more h k = spare_more name token acts more h k
 spare_more name token (Steps e ∷ acts) more h k = (h.0, spare_more name token acts more h.1 k)
 
 -- what is done besides takes no room
-asked_more : (token : ℕ) (x : Standing) (more : List Act) → Spare (codes "s") token more → WasAsked token x → WasAsked token (all_acted x more)
+asked_more : (token : ℕ) (x : Standing) (more : List RoomAct) → Spare (codes "s") token more → WasAsked token x → WasAsked token (all_acted x more)
 asked_more token x more h w = record {
   before = w.before;
   path = w.path;

@@ -7,7 +7,7 @@ use Rattle.cf_entry.specs.declared.entry.Entry.{Entry}
 use Rattle.cf_entry.specs.declared.entry.Entry.TheVariants as entry
 use Rattle.cf_effect.specs.World.{World, stack_of_operation}
 use Rattle.cf_stacks.specs.Room.{Standing, stepped}
-use Rattle.cf_stacks.specs.RoomStays.{Act, Spare, all_acted}
+use Rattle.cf_stacks.specs.RoomStays.{RoomAct, Spare, all_acted}
 
 -- operation 1 is in progress on the stack `s`
 abbrev pub is_on_s : World → Bool
@@ -22,7 +22,7 @@ pub record WasAsked (token : ℕ) (x : Standing) : Type 0 where
   pub before : Standing
   pub path : List ℕ
   pub request : Request
-  pub acts : List Act
+  pub acts : List RoomAct
   pub on_s : is_on_s before.world ≡ true
   pub spare : Spare (codes "s") token acts
   pub since : x ≡ all_acted (stepped before (intent_of token path request)) acts

@@ -1,6 +1,6 @@
 //! How entries are written.
 ghost use Rattle.std.specs.Prelude.{◌≡◌, ◌+◌, ◌<◌, ◌≤◌, ◌^◌, ◌++◌, length, vec_len, vec_capacity, IsTrue, List, ℕ, [], Some, None};
-ghost use Rattle.cf_entry.specs.Bytes.{HasRoom, Adds, AreAll, IsText};
+ghost use Rattle.cf_entry.specs.Bytes.{HasCapacity, AddsBytes, AreAll, IsText};
 ghost use Rattle.cf_entry.specs.Numbers.{has_cause};
 ghost use Rattle.cf_entry.specs.Status.{is_end};
 ghost use Rattle.cf_entry.specs.Entry.{spelling_of, begun_bytes, parts_bytes, source_bytes, request_bytes, reply_bytes, IsEntry, IsProper, IsFor, AreNamed, IsTied, IsBegun, IsSource, IsRequest, IsReply};
@@ -78,8 +78,8 @@ pub fn write_entry(entry: &Entry, to: &mut Vec<u8>)
 
 fn put_opened(to: &mut Vec<u8>, epoch: u64, lanes: &LaneNames)
     requires small { length (spelling_of (Entry.Opened epoch lanes.now)) < 2 ^ 32 }
-    requires room { HasRoom to.old (spelling_of (Entry.Opened epoch lanes.now)) }
-    ensures added { Adds to.old to.new (spelling_of (Entry.Opened epoch lanes.now)) }
+    requires room { HasCapacity to.old (spelling_of (Entry.Opened epoch lanes.now)) }
+    ensures added { AddsBytes to.old to.new (spelling_of (Entry.Opened epoch lanes.now)) }
     ensures fits { IsEntry (Entry.Opened epoch lanes.now) }
 {
     put_byte(to, 1);
@@ -89,8 +89,8 @@ fn put_opened(to: &mut Vec<u8>, epoch: u64, lanes: &LaneNames)
 
 fn put_begin(to: &mut Vec<u8>, number: u64, stack: &Txt, kind: &Begun)
     requires small { length (spelling_of (Entry.Begin number stack.now kind.now)) < 2 ^ 32 }
-    requires room { HasRoom to.old (spelling_of (Entry.Begin number stack.now kind.now)) }
-    ensures added { Adds to.old to.new (spelling_of (Entry.Begin number stack.now kind.now)) }
+    requires room { HasCapacity to.old (spelling_of (Entry.Begin number stack.now kind.now)) }
+    ensures added { AddsBytes to.old to.new (spelling_of (Entry.Begin number stack.now kind.now)) }
     ensures fits { IsTied stack.now kind.now → IsEntry (Entry.Begin number stack.now kind.now) }
 {
     put_byte(to, 2);
@@ -101,8 +101,8 @@ fn put_begin(to: &mut Vec<u8>, number: u64, stack: &Txt, kind: &Begun)
 
 fn put_begun(to: &mut Vec<u8>, kind: &Begun)
     requires small { length (begun_bytes kind.now) < 2 ^ 32 }
-    requires room { HasRoom to.old (begun_bytes kind.now) }
-    ensures added { Adds to.old to.new (begun_bytes kind.now) }
+    requires room { HasCapacity to.old (begun_bytes kind.now) }
+    ensures added { AddsBytes to.old to.new (begun_bytes kind.now) }
     ensures fits { (stack : List ℕ) → IsTied stack kind.now → IsBegun stack kind.now }
 {
     match kind {
@@ -116,8 +116,8 @@ fn put_begun(to: &mut Vec<u8>, kind: &Begun)
 /// The number of a kind with a source, and the source.
 fn put_with_source(to: &mut Vec<u8>, number: u8, source: &Source)
     requires small { length (parts_bytes number (Some source.now) []) < 2 ^ 32 }
-    requires room { HasRoom to.old (parts_bytes number (Some source.now) []) }
-    ensures added { Adds to.old to.new (parts_bytes number (Some source.now) []) }
+    requires room { HasCapacity to.old (parts_bytes number (Some source.now) []) }
+    ensures added { AddsBytes to.old to.new (parts_bytes number (Some source.now) []) }
     ensures fits { IsSource source.now }
 {
     put_byte(to, number);
@@ -129,8 +129,8 @@ fn put_with_source(to: &mut Vec<u8>, number: u8, source: &Source)
 /// The number of a kind with paths, and the paths.
 fn put_with_paths(to: &mut Vec<u8>, number: u8, paths: &Names)
     requires small { length (parts_bytes number None paths.now) < 2 ^ 32 }
-    requires room { HasRoom to.old (parts_bytes number None paths.now) }
-    ensures added { Adds to.old to.new (parts_bytes number None paths.now) }
+    requires room { HasCapacity to.old (parts_bytes number None paths.now) }
+    ensures added { AddsBytes to.old to.new (parts_bytes number None paths.now) }
     ensures fits { AreAll IsText paths.now }
 {
     put_byte(to, number);
@@ -140,8 +140,8 @@ fn put_with_paths(to: &mut Vec<u8>, number: u8, paths: &Names)
 
 fn put_source(to: &mut Vec<u8>, source: &Source)
     requires small { length (source_bytes source.now) < 2 ^ 32 }
-    requires room { HasRoom to.old (source_bytes source.now) }
-    ensures added { Adds to.old to.new (source_bytes source.now) }
+    requires room { HasCapacity to.old (source_bytes source.now) }
+    ensures added { AddsBytes to.old to.new (source_bytes source.now) }
     ensures fits { IsSource source.now }
 {
     put_text(to, &source.root);
@@ -152,8 +152,8 @@ fn put_source(to: &mut Vec<u8>, source: &Source)
 
 fn put_kept(to: &mut Vec<u8>, number: u64, path: &Txt, physical: &Txt, why: Why)
     requires small { length (spelling_of (Entry.Kept number path.now physical.now why)) < 2 ^ 32 }
-    requires room { HasRoom to.old (spelling_of (Entry.Kept number path.now physical.now why)) }
-    ensures added { Adds to.old to.new (spelling_of (Entry.Kept number path.now physical.now why)) }
+    requires room { HasCapacity to.old (spelling_of (Entry.Kept number path.now physical.now why)) }
+    ensures added { AddsBytes to.old to.new (spelling_of (Entry.Kept number path.now physical.now why)) }
     ensures fits { IsEntry (Entry.Kept number path.now physical.now why) }
 {
     put_byte(to, 3);
@@ -165,8 +165,8 @@ fn put_kept(to: &mut Vec<u8>, number: u64, path: &Txt, physical: &Txt, why: Why)
 
 fn put_intent(to: &mut Vec<u8>, number: u64, token: u64, lane: &Txt, path: &Txt, request: &Request)
     requires small { length (spelling_of (Entry.Intent number token lane.now path.now request.now)) < 2 ^ 32 }
-    requires room { HasRoom to.old (spelling_of (Entry.Intent number token lane.now path.now request.now)) }
-    ensures added { Adds to.old to.new (spelling_of (Entry.Intent number token lane.now path.now request.now)) }
+    requires room { HasCapacity to.old (spelling_of (Entry.Intent number token lane.now path.now request.now)) }
+    ensures added { AddsBytes to.old to.new (spelling_of (Entry.Intent number token lane.now path.now request.now)) }
     ensures fits { IsEntry (Entry.Intent number token lane.now path.now request.now) }
 {
     put_byte(to, 4);
@@ -179,8 +179,8 @@ fn put_intent(to: &mut Vec<u8>, number: u64, token: u64, lane: &Txt, path: &Txt,
 
 fn put_outcome(to: &mut Vec<u8>, numbers: (u64, u64), answer: &Reply, counts: (u64, u64))
     requires small { length (spelling_of (Entry.Outcome numbers.0 numbers.1 answer.now counts.0 counts.1)) < 2 ^ 32 }
-    requires room { HasRoom to.old (spelling_of (Entry.Outcome numbers.0 numbers.1 answer.now counts.0 counts.1)) }
-    ensures added { Adds to.old to.new (spelling_of (Entry.Outcome numbers.0 numbers.1 answer.now counts.0 counts.1)) }
+    requires room { HasCapacity to.old (spelling_of (Entry.Outcome numbers.0 numbers.1 answer.now counts.0 counts.1)) }
+    ensures added { AddsBytes to.old to.new (spelling_of (Entry.Outcome numbers.0 numbers.1 answer.now counts.0 counts.1)) }
     ensures fits { IsEntry (Entry.Outcome numbers.0 numbers.1 answer.now counts.0 counts.1) }
 {
     put_byte(to, 5);
@@ -193,8 +193,8 @@ fn put_outcome(to: &mut Vec<u8>, numbers: (u64, u64), answer: &Reply, counts: (u
 
 fn put_phase(to: &mut Vec<u8>, number: u64, phase: Phase, cause: &Option<Cause>)
     requires small { length (spelling_of (Entry.Phase number phase cause.now)) < 2 ^ 32 }
-    requires room { HasRoom to.old (spelling_of (Entry.Phase number phase cause.now)) }
-    ensures added { Adds to.old to.new (spelling_of (Entry.Phase number phase cause.now)) }
+    requires room { HasCapacity to.old (spelling_of (Entry.Phase number phase cause.now)) }
+    ensures added { AddsBytes to.old to.new (spelling_of (Entry.Phase number phase cause.now)) }
     ensures fits { IsTrue (has_cause phase cause.now) → IsEntry (Entry.Phase number phase cause.now) }
 {
     put_byte(to, 6);
@@ -205,8 +205,8 @@ fn put_phase(to: &mut Vec<u8>, number: u64, phase: Phase, cause: &Option<Cause>)
 
 fn put_done(to: &mut Vec<u8>, number: u64, status: Status, failed: &Names)
     requires small { length (spelling_of (Entry.Done number status failed.now)) < 2 ^ 32 }
-    requires room { HasRoom to.old (spelling_of (Entry.Done number status failed.now)) }
-    ensures added { Adds to.old to.new (spelling_of (Entry.Done number status failed.now)) }
+    requires room { HasCapacity to.old (spelling_of (Entry.Done number status failed.now)) }
+    ensures added { AddsBytes to.old to.new (spelling_of (Entry.Done number status failed.now)) }
     ensures fits { IsTrue (is_end status) → IsEntry (Entry.Done number status failed.now) }
 {
     put_byte(to, 7);
@@ -224,8 +224,8 @@ fn put_change_set(
     outputs: bool,
 )
     requires small { length (spelling_of (Entry.ChangeSet number stack.now source.now rows.now outputs)) < 2 ^ 32 }
-    requires room { HasRoom to.old (spelling_of (Entry.ChangeSet number stack.now source.now rows.now outputs)) }
-    ensures added { Adds to.old to.new (spelling_of (Entry.ChangeSet number stack.now source.now rows.now outputs)) }
+    requires room { HasCapacity to.old (spelling_of (Entry.ChangeSet number stack.now source.now rows.now outputs)) }
+    ensures added { AddsBytes to.old to.new (spelling_of (Entry.ChangeSet number stack.now source.now rows.now outputs)) }
     ensures fits { IsFor stack.now source.now × AreNamed rows.now → IsEntry (Entry.ChangeSet number stack.now source.now rows.now outputs) }
 {
     put_byte(to, 8);
@@ -238,8 +238,8 @@ fn put_change_set(
 
 fn put_request(to: &mut Vec<u8>, request: &Request)
     requires small { length (request_bytes request.now) < 2 ^ 32 }
-    requires room { HasRoom to.old (request_bytes request.now) }
-    ensures added { Adds to.old to.new (request_bytes request.now) }
+    requires room { HasCapacity to.old (request_bytes request.now) }
+    ensures added { AddsBytes to.old to.new (request_bytes request.now) }
     ensures fits { IsRequest request.now }
 {
     match request {
@@ -262,8 +262,8 @@ fn put_request(to: &mut Vec<u8>, request: &Request)
 
 fn put_reply(to: &mut Vec<u8>, reply: &Reply)
     requires small { length (reply_bytes reply.now) < 2 ^ 32 }
-    requires room { HasRoom to.old (reply_bytes reply.now) }
-    ensures added { Adds to.old to.new (reply_bytes reply.now) }
+    requires room { HasCapacity to.old (reply_bytes reply.now) }
+    ensures added { AddsBytes to.old to.new (reply_bytes reply.now) }
     ensures fits { IsReply reply.now }
 {
     match reply {

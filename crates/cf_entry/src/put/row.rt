@@ -1,6 +1,6 @@
 //! How the rows of change sets are written.
 ghost use Rattle.std.specs.Prelude.{◌≡◌, ◌<◌, ◌^◌, length};
-ghost use Rattle.cf_entry.specs.Bytes.{list_bytes, AreAll, HasRoom, Adds};
+ghost use Rattle.cf_entry.specs.Bytes.{list_bytes, AreAll, HasCapacity, AddsBytes};
 ghost use Rattle.std.specs.List.{AllByRecursion};
 ghost use Rattle.cf_entry.specs.Entry.{row_bytes, detail_bytes, IsNamed, HasNamed, IsRow, IsDetail};
 ghost use Rattle.cf_entry.specs.Numbers.{action_number, attribute_number, recreation_number, evaluation_number, replacement_number};
@@ -12,8 +12,8 @@ use cf_tree::{Action, Attribute, Detail, Evaluation, Recreation, Replacement, Ro
 #[tactic(auto, using(crate::proofs::Counts::few_rows))]
 pub fn put_rows(to: &mut Vec<u8>, rows: &[Row])
     requires small { length (list_bytes row_bytes rows.now) < 2 ^ 32 }
-    requires room { HasRoom to.old (list_bytes row_bytes rows.now) }
-    ensures added { Adds to.old to.new (list_bytes row_bytes rows.now) }
+    requires room { HasCapacity to.old (list_bytes row_bytes rows.now) }
+    ensures added { AddsBytes to.old to.new (list_bytes row_bytes rows.now) }
     ensures fits { AllByRecursion HasNamed rows.now → AreAll IsRow rows.now }
 {
     put_four(to, rows.len() as u32);
@@ -24,8 +24,8 @@ pub fn put_rows(to: &mut Vec<u8>, rows: &[Row])
 
 fn put_row(to: &mut Vec<u8>, row: &Row)
     requires small { length (row_bytes row.now) < 2 ^ 32 }
-    requires room { HasRoom to.old (row_bytes row.now) }
-    ensures added { Adds to.old to.new (row_bytes row.now) }
+    requires room { HasCapacity to.old (row_bytes row.now) }
+    ensures added { AddsBytes to.old to.new (row_bytes row.now) }
     ensures fits { HasNamed row.now → IsRow row.now }
 {
     put_byte(to, action_number(row.action));
@@ -40,8 +40,8 @@ fn put_row(to: &mut Vec<u8>, row: &Row)
 #[tactic(auto, using(crate::proofs::Counts::few_details))]
 fn put_details(to: &mut Vec<u8>, details: &[Detail])
     requires small { length (list_bytes detail_bytes details.now) < 2 ^ 32 }
-    requires room { HasRoom to.old (list_bytes detail_bytes details.now) }
-    ensures added { Adds to.old to.new (list_bytes detail_bytes details.now) }
+    requires room { HasCapacity to.old (list_bytes detail_bytes details.now) }
+    ensures added { AddsBytes to.old to.new (list_bytes detail_bytes details.now) }
     ensures fits { AllByRecursion IsNamed details.now → AreAll IsDetail details.now }
 {
     put_four(to, details.len() as u32);
@@ -52,8 +52,8 @@ fn put_details(to: &mut Vec<u8>, details: &[Detail])
 
 fn put_detail(to: &mut Vec<u8>, detail: &Detail)
     requires small { length (detail_bytes detail.now) < 2 ^ 32 }
-    requires room { HasRoom to.old (detail_bytes detail.now) }
-    ensures added { Adds to.old to.new (detail_bytes detail.now) }
+    requires room { HasCapacity to.old (detail_bytes detail.now) }
+    ensures added { AddsBytes to.old to.new (detail_bytes detail.now) }
     ensures fits { IsNamed detail.now → IsDetail detail.now }
 {
     put_byte(to, attribute_number(detail.attribute));

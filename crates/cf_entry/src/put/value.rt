@@ -2,7 +2,7 @@
 ghost use Rattle.std.specs.Prelude.{◌<◌, ◌^◌, length};
 ghost use Rattle.cf_tree.specs.Datum.{items_of};
 ghost use Rattle.cf_tree.specs.Value.{datum_of};
-ghost use Rattle.cf_entry.specs.Bytes.{HasRoom, Adds};
+ghost use Rattle.cf_entry.specs.Bytes.{HasCapacity, AddsBytes};
 ghost use Rattle.cf_entry.specs.Value.{value_bytes, values_bytes, dict_bytes, IsValue, IsList, IsDict};
 
 use crate::put::{put_byte, put_eight, put_four, put_text, put_truth};
@@ -12,8 +12,8 @@ use cf_tree::{Dict, Val, Vals};
 #[cycle(put_value)]
 pub fn put_value(to: &mut Vec<u8>, value: &Val)
     requires small { length (value_bytes (datum_of value.now)) < 2 ^ 32 }
-    requires room { HasRoom to.old (value_bytes (datum_of value.now)) }
-    ensures added { Adds to.old to.new (value_bytes (datum_of value.now)) }
+    requires room { HasCapacity to.old (value_bytes (datum_of value.now)) }
+    ensures added { AddsBytes to.old to.new (value_bytes (datum_of value.now)) }
     ensures fits { IsValue (datum_of value.now) }
 {
     match value {
@@ -45,8 +45,8 @@ pub fn put_value(to: &mut Vec<u8>, value: &Val)
 #[tactic(auto, using(cf_tree::proofs::Falls::item_falls, crate::proofs::Counts::few_items, crate::proofs::Counts::items_are))]
 fn put_values(to: &mut Vec<u8>, values: &Vals)
     requires small { length (values_bytes (items_of values.now)) < 2 ^ 32 }
-    requires room { HasRoom to.old (values_bytes (items_of values.now)) }
-    ensures added { Adds to.old to.new (values_bytes (items_of values.now)) }
+    requires room { HasCapacity to.old (values_bytes (items_of values.now)) }
+    ensures added { AddsBytes to.old to.new (values_bytes (items_of values.now)) }
     ensures fits { IsList (items_of values.now) }
 {
     let all = values.as_slice();
@@ -61,8 +61,8 @@ fn put_values(to: &mut Vec<u8>, values: &Vals)
 #[tactic(auto, using(cf_tree::proofs::Falls::pair_falls, crate::proofs::Counts::few_members, crate::proofs::Counts::members_are, crate::proofs::Counts::pairs_are))]
 pub fn put_dict(to: &mut Vec<u8>, pairs: &Dict)
     requires small { length (dict_bytes pairs.now) < 2 ^ 32 }
-    requires room { HasRoom to.old (dict_bytes pairs.now) }
-    ensures added { Adds to.old to.new (dict_bytes pairs.now) }
+    requires room { HasCapacity to.old (dict_bytes pairs.now) }
+    ensures added { AddsBytes to.old to.new (dict_bytes pairs.now) }
     ensures fits { IsDict pairs.now }
 {
     let all = pairs.as_slice();

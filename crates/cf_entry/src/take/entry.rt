@@ -1,6 +1,6 @@
 //! How entries are read.
 ghost use Rattle.std.specs.Prelude.{◌≡◌, ◌≢◌, IfOk, IfSome, IfNone, Some};
-ghost use Rattle.cf_entry.specs.Reading.{Gives, option_at, pick_at, ordered_of, list_at, text_at, byte_at, then_at, pair_at, template_at};
+ghost use Rattle.cf_entry.specs.Reading.{Decodes, option_at, pick_at, ordered_of, list_at, text_at, byte_at, then_at, pair_at, template_at};
 ghost use Rattle.cf_tree.specs.Codes.{code_of};
 ghost use Rattle.cf_entry.specs.Entry.{spelling_of, texts_ascend, IsEntry};
 ghost use Rattle.cf_entry.specs.declared.entry.Entry.{Entry};
@@ -46,7 +46,7 @@ pub fn read_entry(alloc: Global, bytes: &[u8]) -> Result<Option<Entry>, NoMemory
 
 #[tactic(auto, unfolding(crate::specs::EntryReading::entry_of))]
 fn take_all(alloc: Global, bytes: &[u8]) -> Result<Entry, Unread>
-    ensures { Gives (λ e. e) result (entry_of bytes.now) }
+    ensures { Decodes (λ e. e) result (entry_of bytes.now) }
 {
     let (entry, rest) = take_entry(alloc, bytes)?;
     if rest.is_empty() {
@@ -58,7 +58,7 @@ fn take_all(alloc: Global, bytes: &[u8]) -> Result<Entry, Unread>
 
 #[tactic(auto, unfolding(crate::specs::EntryReading::entry_at))]
 fn take_entry(alloc: Global, bytes: &[u8]) -> Result<(Entry, &[u8]), Unread>
-    ensures { Gives (λ x. (x.0, x.1.now)) result (entry_at bytes.now) }
+    ensures { Decodes (λ x. (x.0, x.1.now)) result (entry_at bytes.now) }
 {
     let (kind, rest) = take_byte(bytes)?;
     match kind {
@@ -76,7 +76,7 @@ fn take_entry(alloc: Global, bytes: &[u8]) -> Result<(Entry, &[u8]), Unread>
 
 #[tactic(auto, unfolding(crate::specs::EntryReading::opened_at))]
 fn take_opened(alloc: Global, bytes: &[u8]) -> Result<(Entry, &[u8]), Unread>
-    ensures { Gives (λ x. (x.0, x.1.now)) result (opened_at bytes.now) }
+    ensures { Decodes (λ x. (x.0, x.1.now)) result (opened_at bytes.now) }
 {
     let (epoch, rest) = take_eight(bytes)?;
     let (lanes, rest) = take_list(alloc, rest)?;
@@ -86,7 +86,7 @@ fn take_opened(alloc: Global, bytes: &[u8]) -> Result<(Entry, &[u8]), Unread>
 
 #[tactic(auto, unfolding(crate::specs::EntryReading::begin_at))]
 fn take_begin(alloc: Global, bytes: &[u8]) -> Result<(Entry, &[u8]), Unread>
-    ensures { Gives (λ x. (x.0, x.1.now)) result (begin_at bytes.now) }
+    ensures { Decodes (λ x. (x.0, x.1.now)) result (begin_at bytes.now) }
 {
     let (number, rest) = take_eight(bytes)?;
     let (stack, rest) = take_text(alloc, rest)?;
@@ -103,7 +103,7 @@ fn take_begin(alloc: Global, bytes: &[u8]) -> Result<(Entry, &[u8]), Unread>
 
 #[tactic(auto, unfolding(crate::specs::EntryReading::begun_at))]
 fn take_begun<'a>(alloc: Global, stack: &Txt, bytes: &'a [u8]) -> Result<(Begun, &'a [u8]), Unread>
-    ensures { Gives (λ x. (x.0, x.1.now)) result (begun_at stack.now bytes.now) }
+    ensures { Decodes (λ x. (x.0, x.1.now)) result (begun_at stack.now bytes.now) }
 {
     let (number, rest) = take_byte(bytes)?;
     let (source, rest) = take_source_if_any(alloc, stack, rest)?;
@@ -114,7 +114,7 @@ fn take_begun<'a>(alloc: Global, stack: &Txt, bytes: &'a [u8]) -> Result<(Begun,
 
 /// What an operation sets out to do, by its number, its source if it has one, and its paths.
 fn begun_of(number: u8, source: Option<Source>, paths: Names) -> Result<Begun, Unread>
-    ensures { Gives (λ x. x) result (begun_of (number, (source, paths))) }
+    ensures { Decodes (λ x. x) result (begun_of (number, (source, paths))) }
 {
     match source {
         Some(source) => match (paths.is_empty(), number) {
@@ -152,7 +152,7 @@ fn take_source_if_any<'a>(
     stack: &Txt,
     bytes: &'a [u8],
 ) -> Result<(Option<Source>, &'a [u8]), Unread>
-    ensures { Gives (λ x. (x.0, x.1.now)) result (option_at (source_at stack.now) bytes.now) }
+    ensures { Decodes (λ x. (x.0, x.1.now)) result (option_at (source_at stack.now) bytes.now) }
 {
     let (flag, rest) = take_byte(bytes)?;
     match flag {
@@ -171,7 +171,7 @@ fn take_source<'a>(
     stack: &Txt,
     bytes: &'a [u8],
 ) -> Result<(Source, &'a [u8]), Unread>
-    ensures { Gives (λ x. (x.0, x.1.now)) result (source_at stack.now bytes.now) }
+    ensures { Decodes (λ x. (x.0, x.1.now)) result (source_at stack.now bytes.now) }
 {
     let (root, rest) = take_text(alloc, bytes)?;
     let (texts, rest) = take_templates(alloc, rest)?;
@@ -190,7 +190,7 @@ fn take_source<'a>(
 
 /// Names with their templates behind their number, the names strictly ascending.
 fn take_templates(alloc: Global, bytes: &[u8]) -> Result<(Texts, &[u8]), Unread>
-    ensures { Gives (λ x. (x.0, x.1.now)) result (pick_at ordered_of (list_at template_at) bytes.now) }
+    ensures { Decodes (λ x. (x.0, x.1.now)) result (pick_at ordered_of (list_at template_at) bytes.now) }
 {
     let (pairs, rest) = take_list(alloc, bytes)?;
     match ByName::try_from_vec(pairs) {
@@ -201,7 +201,7 @@ fn take_templates(alloc: Global, bytes: &[u8]) -> Result<(Texts, &[u8]), Unread>
 
 /// Names with their texts behind their number, the names strictly ascending.
 fn take_pairs(alloc: Global, bytes: &[u8]) -> Result<(Pairs, &[u8]), Unread>
-    ensures { Gives (λ x. (x.0, x.1.now)) result (pick_at ordered_of (list_at pair_at) bytes.now) }
+    ensures { Decodes (λ x. (x.0, x.1.now)) result (pick_at ordered_of (list_at pair_at) bytes.now) }
 {
     let (pairs, rest) = take_list(alloc, bytes)?;
     match ByName::try_from_vec(pairs) {
@@ -211,7 +211,7 @@ fn take_pairs(alloc: Global, bytes: &[u8]) -> Result<(Pairs, &[u8]), Unread>
 }
 
 fn take_names(alloc: Global, bytes: &[u8]) -> Result<(Names, &[u8]), Unread>
-    ensures { Gives (λ x. (x.0, x.1.now)) result (list_at text_at bytes.now) }
+    ensures { Decodes (λ x. (x.0, x.1.now)) result (list_at text_at bytes.now) }
 {
     let (names, rest) = take_list(alloc, bytes)?;
     Ok((Names::from_vec(names), rest))
@@ -219,7 +219,7 @@ fn take_names(alloc: Global, bytes: &[u8]) -> Result<(Names, &[u8]), Unread>
 
 #[tactic(auto, unfolding(crate::specs::EntryReading::kept_at))]
 fn take_kept(alloc: Global, bytes: &[u8]) -> Result<(Entry, &[u8]), Unread>
-    ensures { Gives (λ x. (x.0, x.1.now)) result (kept_at bytes.now) }
+    ensures { Decodes (λ x. (x.0, x.1.now)) result (kept_at bytes.now) }
 {
     let (number, rest) = take_eight(bytes)?;
     let (path, rest) = take_text(alloc, rest)?;
@@ -236,7 +236,7 @@ fn take_kept(alloc: Global, bytes: &[u8]) -> Result<(Entry, &[u8]), Unread>
 
 #[tactic(auto, unfolding(crate::specs::EntryReading::intent_at))]
 fn take_intent(alloc: Global, bytes: &[u8]) -> Result<(Entry, &[u8]), Unread>
-    ensures { Gives (λ x. (x.0, x.1.now)) result (intent_at bytes.now) }
+    ensures { Decodes (λ x. (x.0, x.1.now)) result (intent_at bytes.now) }
 {
     let (number, rest) = take_eight(bytes)?;
     let (token, rest) = take_eight(rest)?;
@@ -255,7 +255,7 @@ fn take_intent(alloc: Global, bytes: &[u8]) -> Result<(Entry, &[u8]), Unread>
 
 #[tactic(auto, unfolding(crate::specs::EntryReading::request_at))]
 fn take_request(alloc: Global, bytes: &[u8]) -> Result<(Request, &[u8]), Unread>
-    ensures { Gives (λ x. (x.0, x.1.now)) result (request_at bytes.now) }
+    ensures { Decodes (λ x. (x.0, x.1.now)) result (request_at bytes.now) }
 {
     let (kind, rest) = take_byte(bytes)?;
     match kind {
@@ -279,14 +279,14 @@ fn take_request(alloc: Global, bytes: &[u8]) -> Result<(Request, &[u8]), Unread>
 
 #[tactic(auto, unfolding(crate::specs::EntryReading::properties_at))]
 fn take_properties(alloc: Global, bytes: &[u8]) -> Result<(Dict, &[u8]), Unread>
-    ensures { Gives (λ x. (x.0, x.1.now)) result (properties_at bytes.now) }
+    ensures { Decodes (λ x. (x.0, x.1.now)) result (properties_at bytes.now) }
 {
     take_dict(alloc, bytes.len(), bytes)
 }
 
 #[tactic(auto, unfolding(crate::specs::EntryReading::outcome_at))]
 fn take_outcome(alloc: Global, bytes: &[u8]) -> Result<(Entry, &[u8]), Unread>
-    ensures { Gives (λ x. (x.0, x.1.now)) result (outcome_at bytes.now) }
+    ensures { Decodes (λ x. (x.0, x.1.now)) result (outcome_at bytes.now) }
 {
     let (number, rest) = take_eight(bytes)?;
     let (token, rest) = take_eight(rest)?;
@@ -305,7 +305,7 @@ fn take_outcome(alloc: Global, bytes: &[u8]) -> Result<(Entry, &[u8]), Unread>
 
 #[tactic(auto, unfolding(crate::specs::EntryReading::reply_at))]
 fn take_reply(alloc: Global, bytes: &[u8]) -> Result<(Reply, &[u8]), Unread>
-    ensures { Gives (λ x. (x.0, x.1.now)) result (reply_at bytes.now) }
+    ensures { Decodes (λ x. (x.0, x.1.now)) result (reply_at bytes.now) }
 {
     let (kind, rest) = take_byte(bytes)?;
     match kind {
@@ -324,7 +324,7 @@ fn take_reply(alloc: Global, bytes: &[u8]) -> Result<(Reply, &[u8]), Unread>
 }
 
 fn take_code(bytes: &[u8]) -> Result<(Code, &[u8]), Unread>
-    ensures { Gives (λ x. (x.0, x.1.now)) result (pick_at code_of byte_at bytes.now) }
+    ensures { Decodes (λ x. (x.0, x.1.now)) result (pick_at code_of byte_at bytes.now) }
 {
     let (number, rest) = take_byte(bytes)?;
     match Code::from_number(number) {
@@ -335,7 +335,7 @@ fn take_code(bytes: &[u8]) -> Result<(Code, &[u8]), Unread>
 
 #[tactic(auto, unfolding(crate::specs::EntryReading::phase_at))]
 fn take_phase_entry(alloc: Global, bytes: &[u8]) -> Result<(Entry, &[u8]), Unread>
-    ensures { Gives (λ x. (x.0, x.1.now)) result (phase_at bytes.now) }
+    ensures { Decodes (λ x. (x.0, x.1.now)) result (phase_at bytes.now) }
 {
     let (number, rest) = take_eight(bytes)?;
     let (phase, rest) = take_phase(rest)?;
@@ -353,7 +353,7 @@ fn take_phase_entry(alloc: Global, bytes: &[u8]) -> Result<(Entry, &[u8]), Unrea
 
 #[tactic(auto, unfolding(crate::specs::EntryReading::done_at))]
 fn take_done(alloc: Global, bytes: &[u8]) -> Result<(Entry, &[u8]), Unread>
-    ensures { Gives (λ x. (x.0, x.1.now)) result (done_at bytes.now) }
+    ensures { Decodes (λ x. (x.0, x.1.now)) result (done_at bytes.now) }
 {
     let (number, rest) = take_eight(bytes)?;
     let (status, rest) = take_end(rest)?;
@@ -368,7 +368,7 @@ fn take_done(alloc: Global, bytes: &[u8]) -> Result<(Entry, &[u8]), Unread>
 
 /// A status in which operations end.
 fn take_end(bytes: &[u8]) -> Result<(Status, &[u8]), Unread>
-    ensures { Gives (λ x. (x.0, x.1.now)) result (pick_at end_of (pick_at status_numbered byte_at) bytes.now) }
+    ensures { Decodes (λ x. (x.0, x.1.now)) result (pick_at end_of (pick_at status_numbered byte_at) bytes.now) }
 {
     let (number, rest) = take_byte(bytes)?;
     match Status::from_number(number) {
@@ -379,7 +379,7 @@ fn take_end(bytes: &[u8]) -> Result<(Status, &[u8]), Unread>
 
 #[tactic(auto, unfolding(crate::specs::EntryReading::change_set_at))]
 fn take_change_set(alloc: Global, bytes: &[u8]) -> Result<(Entry, &[u8]), Unread>
-    ensures { Gives (λ x. (x.0, x.1.now)) result (change_set_at bytes.now) }
+    ensures { Decodes (λ x. (x.0, x.1.now)) result (change_set_at bytes.now) }
 {
     let (number, rest) = take_eight(bytes)?;
     let (stack, rest) = take_text(alloc, rest)?;
@@ -397,7 +397,7 @@ fn take_change_set(alloc: Global, bytes: &[u8]) -> Result<(Entry, &[u8]), Unread
 }
 
 fn take_rows(alloc: Global, bytes: &[u8]) -> Result<(Rows, &[u8]), Unread>
-    ensures { Gives (λ x. (x.0, x.1.now)) result (list_at row_at bytes.now) }
+    ensures { Decodes (λ x. (x.0, x.1.now)) result (list_at row_at bytes.now) }
 {
     let (rows, rest) = take_list(alloc, bytes)?;
     Ok((Rows::from_vec(rows), rest))

@@ -1,7 +1,7 @@
 //! How the rows of change sets are read.
 ghost use Rattle.std.specs.Prelude.{◌≡◌};
-ghost use Rattle.cf_entry.specs.Reading.{Gives, pick_at, byte_at};
-ghost use Rattle.cf_entry.specs.Numbers.{action_of, attribute_of, recreation_of, evaluation_of, replacement_of, is_named};
+ghost use Rattle.cf_entry.specs.Reading.{Decodes, pick_at, byte_at};
+ghost use Rattle.cf_entry.specs.Numbers.{action_of, attribute_numbered, recreation_numbered, evaluation_of, replacement_numbered, is_named};
 ghost use Rattle.cf_entry.specs.EntryReading.{detail_at, row_at};
 
 use crate::take::{Member, take_byte, take_list, take_text, take_truth};
@@ -19,7 +19,7 @@ impl Member for Row {
 
 #[tactic(auto, unfolding(crate::specs::EntryReading::row_at))]
 fn take_row(alloc: Global, bytes: &[u8]) -> Result<(Row, &[u8]), Unread>
-    ensures { Gives (λ x. (x.0, x.1.now)) result (row_at bytes.now) }
+    ensures { Decodes (λ x. (x.0, x.1.now)) result (row_at bytes.now) }
 {
     let (action, rest) = take_action(bytes)?;
     let (path, rest) = take_text(alloc, rest)?;
@@ -48,7 +48,7 @@ impl Member for Detail {
 
 #[tactic(auto, unfolding(crate::specs::EntryReading::detail_at))]
 fn take_detail(alloc: Global, bytes: &[u8]) -> Result<(Detail, &[u8]), Unread>
-    ensures { Gives (λ x. (x.0, x.1.now)) result (detail_at bytes.now) }
+    ensures { Decodes (λ x. (x.0, x.1.now)) result (detail_at bytes.now) }
 {
     let (attribute, rest) = take_attribute(bytes)?;
     let (name, rest) = take_text(alloc, rest)?;
@@ -77,7 +77,7 @@ fn is_named(attribute: Attribute, name: &Txt) -> bool
 }
 
 fn take_action(bytes: &[u8]) -> Result<(Action, &[u8]), Unread>
-    ensures { Gives (λ x. (x.0, x.1.now)) result (pick_at action_of byte_at bytes.now) }
+    ensures { Decodes (λ x. (x.0, x.1.now)) result (pick_at action_of byte_at bytes.now) }
 {
     let (number, rest) = take_byte(bytes)?;
     match number {
@@ -89,7 +89,7 @@ fn take_action(bytes: &[u8]) -> Result<(Action, &[u8]), Unread>
 }
 
 fn take_attribute(bytes: &[u8]) -> Result<(Attribute, &[u8]), Unread>
-    ensures { Gives (λ x. (x.0, x.1.now)) result (pick_at attribute_of byte_at bytes.now) }
+    ensures { Decodes (λ x. (x.0, x.1.now)) result (pick_at attribute_numbered byte_at bytes.now) }
 {
     let (number, rest) = take_byte(bytes)?;
     match number {
@@ -101,7 +101,7 @@ fn take_attribute(bytes: &[u8]) -> Result<(Attribute, &[u8]), Unread>
 }
 
 fn take_recreation(bytes: &[u8]) -> Result<(Recreation, &[u8]), Unread>
-    ensures { Gives (λ x. (x.0, x.1.now)) result (pick_at recreation_of byte_at bytes.now) }
+    ensures { Decodes (λ x. (x.0, x.1.now)) result (pick_at recreation_numbered byte_at bytes.now) }
 {
     let (number, rest) = take_byte(bytes)?;
     match number {
@@ -113,7 +113,7 @@ fn take_recreation(bytes: &[u8]) -> Result<(Recreation, &[u8]), Unread>
 }
 
 fn take_evaluation(bytes: &[u8]) -> Result<(Evaluation, &[u8]), Unread>
-    ensures { Gives (λ x. (x.0, x.1.now)) result (pick_at evaluation_of byte_at bytes.now) }
+    ensures { Decodes (λ x. (x.0, x.1.now)) result (pick_at evaluation_of byte_at bytes.now) }
 {
     let (number, rest) = take_byte(bytes)?;
     match number {
@@ -124,7 +124,7 @@ fn take_evaluation(bytes: &[u8]) -> Result<(Evaluation, &[u8]), Unread>
 }
 
 fn take_replacement(bytes: &[u8]) -> Result<(Option<Replacement>, &[u8]), Unread>
-    ensures { Gives (λ x. (x.0, x.1.now)) result (pick_at replacement_of byte_at bytes.now) }
+    ensures { Decodes (λ x. (x.0, x.1.now)) result (pick_at replacement_numbered byte_at bytes.now) }
 {
     let (number, rest) = take_byte(bytes)?;
     match number {

@@ -1,6 +1,6 @@
 //! How turns and their causes are read.
 ghost use Rattle.std.specs.Prelude.{◌≡◌};
-ghost use Rattle.cf_entry.specs.Reading.{Gives, pick_at, byte_at, option_at};
+ghost use Rattle.cf_entry.specs.Reading.{Decodes, pick_at, byte_at, option_at};
 ghost use Rattle.cf_entry.specs.Numbers.{why_of, phase_of, reason_of};
 ghost use Rattle.cf_entry.specs.EntryReading.{cause_at};
 
@@ -13,7 +13,7 @@ use std::alloc::Global;
 /// A cause, or that there is none.
 #[tactic(auto, unfolding(crate::specs::Reading::option_at))]
 pub fn take_cause_if_any(alloc: Global, bytes: &[u8]) -> Result<(Option<Cause>, &[u8]), Unread>
-    ensures { Gives (λ x. (x.0, x.1.now)) result (option_at cause_at bytes.now) }
+    ensures { Decodes (λ x. (x.0, x.1.now)) result (option_at cause_at bytes.now) }
 {
     let (flag, rest) = take_byte(bytes)?;
     match flag {
@@ -28,7 +28,7 @@ pub fn take_cause_if_any(alloc: Global, bytes: &[u8]) -> Result<(Option<Cause>, 
 
 #[tactic(auto, unfolding(crate::specs::EntryReading::cause_at))]
 fn take_cause(alloc: Global, bytes: &[u8]) -> Result<(Cause, &[u8]), Unread>
-    ensures { Gives (λ x. (x.0, x.1.now)) result (cause_at bytes.now) }
+    ensures { Decodes (λ x. (x.0, x.1.now)) result (cause_at bytes.now) }
 {
     let (kind, rest) = take_byte(bytes)?;
     match kind {
@@ -50,7 +50,7 @@ fn take_cause(alloc: Global, bytes: &[u8]) -> Result<(Cause, &[u8]), Unread>
 }
 
 fn take_reason(bytes: &[u8]) -> Result<(Reason, &[u8]), Unread>
-    ensures { Gives (λ x. (x.0, x.1.now)) result (pick_at reason_of byte_at bytes.now) }
+    ensures { Decodes (λ x. (x.0, x.1.now)) result (pick_at reason_of byte_at bytes.now) }
 {
     let (number, rest) = take_byte(bytes)?;
     if number == 0 {
@@ -64,7 +64,7 @@ fn take_reason(bytes: &[u8]) -> Result<(Reason, &[u8]), Unread>
 
 /// A phase.
 pub fn take_phase(bytes: &[u8]) -> Result<(Phase, &[u8]), Unread>
-    ensures { Gives (λ x. (x.0, x.1.now)) result (pick_at phase_of byte_at bytes.now) }
+    ensures { Decodes (λ x. (x.0, x.1.now)) result (pick_at phase_of byte_at bytes.now) }
 {
     let (number, rest) = take_byte(bytes)?;
     match number {
@@ -77,7 +77,7 @@ pub fn take_phase(bytes: &[u8]) -> Result<(Phase, &[u8]), Unread>
 
 /// Why a resource became a leftover.
 pub fn take_why(bytes: &[u8]) -> Result<(Why, &[u8]), Unread>
-    ensures { Gives (λ x. (x.0, x.1.now)) result (pick_at why_of byte_at bytes.now) }
+    ensures { Decodes (λ x. (x.0, x.1.now)) result (pick_at why_of byte_at bytes.now) }
 {
     let (number, rest) = take_byte(bytes)?;
     match number {

@@ -1,7 +1,7 @@
 //! How values are read.
 ghost use Rattle.std.specs.Prelude.{◌≡◌};
 ghost use Rattle.cf_tree.specs.Value.{datum_of, data_of, pairs_of};
-ghost use Rattle.cf_entry.specs.Reading.{Gives, value_at, dict_at, many_at, then_at, pick_at, list_at, text_at, byte_at, truth_of};
+ghost use Rattle.cf_entry.specs.Reading.{Decodes, datum_at, dict_at, many_at, then_at, pick_at, list_at, text_at, byte_at, truth_of};
 
 use crate::take::{take_byte, take_eight, take_four, take_text};
 use crate::unread::Unread;
@@ -12,7 +12,7 @@ use std::alloc::Global;
 #[cycle(take_value)]
 #[tactic(auto, unfolding(crate::specs::Reading::value_at))]
 fn take_value(alloc: Global, depth: usize, bytes: &[u8]) -> Result<(Val, &[u8]), Unread>
-    ensures { Gives (λ x. (datum_of x.0, x.1.now)) result (value_at depth bytes.now) }
+    ensures { Decodes (λ x. (datum_of x.0, x.1.now)) result (datum_at depth bytes.now) }
 {
     if depth == 0 {
         return Err(Unread::NoEntry);
@@ -45,7 +45,7 @@ fn take_value(alloc: Global, depth: usize, bytes: &[u8]) -> Result<(Val, &[u8]),
 
 /// A truth value.
 pub fn take_truth(bytes: &[u8]) -> Result<(bool, &[u8]), Unread>
-    ensures { Gives (λ x. (x.0, x.1.now)) result (pick_at truth_of byte_at bytes.now) }
+    ensures { Decodes (λ x. (x.0, x.1.now)) result (pick_at truth_of byte_at bytes.now) }
 {
     let (truth, rest) = take_byte(bytes)?;
     match truth {
@@ -59,7 +59,7 @@ pub fn take_truth(bytes: &[u8]) -> Result<(bool, &[u8]), Unread>
 #[cycle(take_value)]
 #[tactic(auto, unfolding(crate::specs::Reading::list_at))]
 fn take_values(alloc: Global, depth: usize, bytes: &[u8]) -> Result<(Vals, &[u8]), Unread>
-    ensures { Gives (λ x. (x.0, x.1.now)) result (list_at (value_at depth) bytes.now) }
+    ensures { Decodes (λ x. (x.0, x.1.now)) result (list_at (datum_at depth) bytes.now) }
 {
     let (count, rest) = take_four(bytes)?;
     let (values, rest) = take_many_values(alloc, depth, count, rest)?;
@@ -74,7 +74,7 @@ fn take_many_values(
     count: u32,
     bytes: &[u8],
 ) -> Result<(Vec<Val>, &[u8]), Unread>
-    ensures { Gives (λ x. (data_of x.0.items, x.1.now)) result (many_at (value_at depth) count bytes.now) }
+    ensures { Decodes (λ x. (data_of x.0.items, x.1.now)) result (many_at (datum_at depth) count bytes.now) }
 {
     let mut values = Vec::new(alloc);
     let mut rest = bytes;
@@ -94,7 +94,7 @@ fn take_many_values(
 #[cycle(take_value)]
 #[tactic(auto, unfolding(crate::specs::Reading::list_at))]
 pub fn take_dict(alloc: Global, depth: usize, bytes: &[u8]) -> Result<(Dict, &[u8]), Unread>
-    ensures { Gives (λ x. (x.0, x.1.now)) result (dict_at depth bytes.now) }
+    ensures { Decodes (λ x. (x.0, x.1.now)) result (dict_at depth bytes.now) }
 {
     let (count, rest) = take_four(bytes)?;
     let (pairs, rest) = take_many_pairs(alloc, depth, count, rest)?;
@@ -112,7 +112,7 @@ fn take_many_pairs(
     count: u32,
     bytes: &[u8],
 ) -> Result<(Vec<Pair>, &[u8]), Unread>
-    ensures { Gives (λ x. (pairs_of x.0.items, x.1.now)) result (many_at (then_at text_at (value_at depth)) count bytes.now) }
+    ensures { Decodes (λ x. (pairs_of x.0.items, x.1.now)) result (many_at (then_at text_at (datum_at depth)) count bytes.now) }
 {
     let mut pairs = Vec::new(alloc);
     let mut rest = bytes;
@@ -131,7 +131,7 @@ fn take_many_pairs(
 /// A text and a value.
 #[cycle(take_value)]
 fn take_pair(alloc: Global, depth: usize, bytes: &[u8]) -> Result<(Pair, &[u8]), Unread>
-    ensures { Gives (λ x. ((x.0.name, datum_of x.0.value), x.1.now)) result (then_at text_at (value_at depth) bytes.now) }
+    ensures { Decodes (λ x. ((x.0.name, datum_of x.0.value), x.1.now)) result (then_at text_at (datum_at depth) bytes.now) }
 {
     let (name, rest) = take_text(alloc, bytes)?;
     let (value, rest) = take_value(alloc, depth, rest)?;

@@ -1,4 +1,4 @@
-use Rattle.cf_examples.proofs.LeftOutLife.{starts, deletes, clears_as_promised, goes_on, ends_as_promised, holds}
+use Rattle.cf_examples.proofs.LeftOutLife.{starts, deletes, clears_as_promised, goes_on, ends_as_promised}
 use Rattle.cf_examples.proofs.the_left_out_life.Goals as goal
 
 pub returns-clause-start : goal.returns-clause-start
@@ -15,6 +15,3 @@ returns-clause-goes_on c = goes_on
 
 pub returns-clause-complete : goal.returns-clause-complete
 returns-clause-complete c = ends_as_promised
-
-pub returns-clause-holds : goal.returns-clause-holds
-returns-clause-holds c = holds

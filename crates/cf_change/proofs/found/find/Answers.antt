@@ -4,10 +4,10 @@ use Rattle.cf_tree.specs.Keys.{put}
 use Rattle.cf_tree.specs.declared.row.Row.{Row}
 use Rattle.cf_schema.specs.declared.described.Schema.{Schema}
 use Rattle.cf_desired.specs.declared.wanted.Wanted.{Wanted}
-use Rattle.cf_change.specs.Changes.{Found, HeldAt, found_with, is_other_kind, resource_held, row_for, row_list, seen_after}
+use Rattle.cf_change.specs.Changes.{RowsFound, HeldAt, found_with, is_other_kind, resource_held, row_for, row_list, seen_after}
 use Rattle.cf_change.proofs.found.find.Goals as goal
 
-module _ (schemas : List Schema) (held : List HeldAt) (f : Found) (w : Wanted) where
+module _ (schemas : List Schema) (held : List HeldAt) (f : RowsFound) (w : Wanted) where
   -- of a path that is held with another type, and of one that isn't
   clashing : is_other_kind (resource_held w.path held) w ≡ true
       → found_with schemas held f w ≡ record f { clash = f.clash ++ w.path ∷ []; seen = put w.path (seen_after (resource_held w.path held) None) f.seen }

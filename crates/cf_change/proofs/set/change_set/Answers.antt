@@ -2,7 +2,7 @@ use Rattle.std.proofs.Common.{◌∙◌, sym, ap, subst}
 use Rattle.std.specs.Prelude.{Err}
 use Rattle.cf_desired.specs.Plan.{plan_of}
 use Rattle.cf_change.specs.declared.set.ChangeFault.{ChangeFault}
-use Rattle.cf_change.specs.Changes.{Changed, Changes, Found, changes_by, changes_of}
+use Rattle.cf_change.specs.Changes.{Changed, Changes, RowsFound, changes_by, changes_of}
 use Rattle.cf_change.proofs.Refused.{changed_not}
 use Rattle.cf_change.proofs.set.change_set.Goals as goal
 
@@ -12,11 +12,11 @@ returns-in-Err c =
     let source = c.args.source.now in
     let changes = changes_of c.args.schemas.now held.resources held.outputs held.exports source in
     subst (λ (f : ChangeFault). Changed changes (Err f)) (sym c.refused.ensures)
-    (changed_not changes c.in-Err.fault (plan_of source c.in_ok-found.found.seen) (ap (λ (f : Found). (plan_of source f.seen).flaws) c.in_ok-found.ensures) c.in-Err.ensures)
+    (changed_not changes c.in-Err.fault (plan_of source c.in_ok-found.found.seen) (ap (λ (f : RowsFound). (plan_of source f.seen).flaws) c.in_ok-found.ensures) c.in-Err.ensures)
 
 pub returns : goal.returns
 returns c =
     let held = c.args.held.now in
     let found = c.in_ok-found.ensures in
-    let plan = c.in-Ok.ensures.1 ∙ ap (λ (f : Found). plan_of c.args.source.now f.seen) found in
+    let plan = c.in-Ok.ensures.1 ∙ ap (λ (f : RowsFound). plan_of c.args.source.now f.seen) found in
     subst (λ (x : Changes). Changed x c.changed.result) (λ j. changes_by held.resources held.outputs held.exports (found j) (plan j)) c.changed.ensures

@@ -3,8 +3,8 @@ use Rattle.std.specs.Prelude.{codes}
 use Rattle.cf_tree.specs.Keys.{value_at}
 use Rattle.cf_eval.specs.Env.{scope_in}
 use Rattle.cf_desired.specs.declared.shape.Turn.TheVariants as turn
-use Rattle.cf_desired.specs.Kept.{decision_in, entering_in, entry_in, offer_in, scope_by, stack_in}
-use Rattle.cf_desired.specs.Laying.{begun, below, step_by}
+use Rattle.cf_desired.specs.Kept.{decision_in, entering_in, kept_entry_in, offer_in, scope_by, kept_stack_in}
+use Rattle.cf_desired.specs.Laying.{path_begun, enterable_below, step_by}
 use Rattle.cf_desired.specs.Shape.{own_in}
 use Rattle.cf_desired.specs.Stack.{Stack}
 use Rattle.cf_desired.proofs.LaidBy.{barred_by, contents_by, halted_by, nested_by, opened_by, shut_by}
@@ -12,13 +12,13 @@ use Rattle.cf_desired.proofs.laying.+laying.Goals as goal
 
 pub lay-returns-in-Halted-clause-laid : goal.lay-returns-in-Halted-clause-laid
 lay-returns-in-Halted-clause-laid t c =
-    halted_by c.args.left c.args.laying.now.source.now c.args.laying.now.seen.now (entering_in c.args.entering) (entry_in c.args.entry) (offer_in c.args.given.now) c.args.count
+    halted_by c.args.left c.args.laying.now.source.now c.args.laying.now.seen.now (entering_in c.args.entering) (kept_entry_in c.args.entry) (offer_in c.args.given.now) c.args.count
     c.in_ok-bound.bound c.in_ok-pseudo.pseudo c.in_ok-bound.ensures c.in_ok-pseudo.ensures
     c.in_ok-flaw.field-0 c.in-Halted.flaw c.halted.result c.in_ok-flaw.ensures c.in-Halted.is c.halted.ensures.laid
 
 pub lay-returns-clause-laid : goal.lay-returns-clause-laid
 lay-returns-clause-laid t c =
-    opened_by c.args.left c.args.laying.now.source.now c.args.laying.now.seen.now (entering_in c.args.entering) (entry_in c.args.entry) (offer_in c.args.given.now) c.args.count
+    opened_by c.args.left c.args.laying.now.source.now c.args.laying.now.seen.now (entering_in c.args.entering) (kept_entry_in c.args.entry) (offer_in c.args.given.now) c.args.count
     c.in_ok-bound.bound c.in_ok-pseudo.pseudo c.in_ok-bound.ensures c.in_ok-pseudo.ensures
     c.in-Opened.conds c.in-Opened.order.entries c.requires.ordered (sym (ap decision_in c.in-Opened.is) ∙ c.in_ok-flaw.ensures)
     (turn.Opened c.args.entry c.args.entering.stack c.in-Opened.conds c.in_ok-contents-in-Opened.contents.made) c.in_ok-contents-in-Opened.contents c.opened.result
@@ -29,10 +29,10 @@ pub contents_of-returns-clause-contents : goal.contents_of-returns-clause-conten
 contents_of-returns-clause-contents t c =
     let source = c.args.laying.now.source.now in
     let seen = c.args.laying.now.seen.now in
-    let stack = stack_in c.args.ground.now.stack.now in
+    let stack = kept_stack_in c.args.ground.now.stack.now in
     let conds = c.args.ground.now.conds.now in
-    contents_by stack conds (scope_by c.args.ground.now) (step_by (below c.args.left source seen) source seen (entering_in c.args.entering.now) conds (scope_by c.args.ground.now))
-    (λ ids. begun seen stack conds ids c.args.count.templates c.args.count.members) c.args.order.now.entries c.in_ok-course.course c.work.new.course
+    contents_by stack conds (scope_by c.args.ground.now) (step_by (enterable_below c.args.left source seen) source seen (entering_in c.args.entering.now) conds (scope_by c.args.ground.now))
+    (λ ids. path_begun seen stack conds ids c.args.count.templates c.args.count.members) c.args.order.now.entries c.in_ok-course.course c.work.new.course
     c.in_ok-own.own (own_in stack.template c.args.order.now.entries) c.in_ok-made.made c.in_ok-laid.laid c.in_ok-own.ensures c.in_ok-made.ensures
     (c.in_ok-course.ensures conds c.in_ok-made.ensures) c.in_ok-work.ensures.course c.in_ok-laid.ensures.laid
 
@@ -52,4 +52,4 @@ within-returns-in-Shut-clause-laid t c =
 pub within-returns-in-Barred-clause-laid : goal.within-returns-in-Barred-clause-laid
 within-returns-in-Barred-clause-laid t c =
     barred_by c.args.laying.now.source.now c.args.laying.now.seen.now (entering_in c.args.entering.now) c.args.inner.nesting (value_at (codes "Parameters") c.args.inner.resource.props) c.args.inner.resource c.args.left
-    c.args.count c.args.way c.in-Barred.flaw c.barred.result (entry_in c.entry_of.result) c.in-Barred.is c.entry_of.ensures c.barred.ensures.laid
+    c.args.count c.args.way c.in-Barred.flaw c.barred.result (kept_entry_in c.entry_of.result) c.in-Barred.is c.entry_of.ensures c.barred.ensures.laid

@@ -11,7 +11,7 @@ use Rattle.cf_eval.specs.declared.fault.EvalWhy.TheVariants.{UnknownName}
 use Rattle.cf_desired.specs.declared.flaw.Flaw.TheVariants as flaw
 use Rattle.cf_desired.specs.declared.told.Blame.{Blame}
 use Rattle.cf_desired.specs.Given.{Offers, offers_in, value_offers}
-use Rattle.cf_desired.specs.Kept.{IsOffers, flaw_by}
+use Rattle.cf_desired.specs.Kept.{IsOffers, flaw_of_blame}
 use Rattle.cf_desired.proofs.Offering.{by_value, by_undecided}
 use Rattle.cf_desired.proofs.offers.+offered_in.Goals as goal
 
@@ -29,7 +29,7 @@ returns-in_ok-undecided-in-None t c =
     (record {
       given = c.unknown-in-None.ensures.given;
       flaw =
-          c.unknown-in-None.ensures.flaw ∙ ap (λ (b : Blame). Some (flaw_by b)) (c.in_ok-undecided-in-None.ensures name)
+          c.unknown-in-None.ensures.flaw ∙ ap (λ (b : Blame). Some (flaw_of_blame b)) (c.in_ok-undecided-in-None.ensures name)
           ∙ ap (λ (a : List ℕ). Some (flaw.Eval UnknownName path a)) c.at-in-None.ensures;
     })
 

@@ -8,7 +8,7 @@ use Rattle.cf_eval.specs.Outcome.{got}
 use Rattle.cf_eval.specs.Texts.{known}
 use Rattle.cf_param.specs.declared.offered.Piece.{Piece}
 use Rattle.cf_desired.specs.Given.{offered_members, pieces}
-use Rattle.cf_desired.specs.Kept.{flaw_by}
+use Rattle.cf_desired.specs.Kept.{flaw_of_blame}
 use Rattle.cf_desired.proofs.Offering.{IsTaking, all_pieces, drop_all, member_flaws, members_ascend, pieces_in_order, take_one}
 use Rattle.cf_desired.proofs.offers.dict_offered.Goals as goal
 
@@ -45,5 +45,5 @@ returns c =
     let offered = offered_members at (members_of c.args.dict.now) in
     let done = subst (λ (ps : List Pair). IsTaking c.args.stack.now offered (offered_members at (members_of (pairs_of ps))) c.loop-pair.taken) none c.loop-pair.invariant in record {
       given = ap pieces (c.from_names.ensures ∙ c.from_vec.ensures ∙ all_pieces c.args.stack.now offered c.loop-pair.taken done);
-      flaw = c.some_flaw_by.ensures ∙ ap (option_map flaw_by) c.or.ensures ∙ member_flaws c.args.stack.now offered c.loop-pair.taken done;
+      flaw = c.some_flaw_by.ensures ∙ ap (option_map flaw_of_blame) c.or.ensures ∙ member_flaws c.args.stack.now offered c.loop-pair.taken done;
     }

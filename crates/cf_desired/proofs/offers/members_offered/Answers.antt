@@ -12,7 +12,7 @@ use Rattle.cf_param.specs.declared.offered.Piece.{Piece}
 use Rattle.cf_desired.specs.declared.offers.Offer.TheVariants as offer
 use Rattle.cf_desired.specs.declared.told.Blame.{Blame}
 use Rattle.cf_desired.specs.Given.{blamed_on, offered_fields, offers_in, pieces}
-use Rattle.cf_desired.specs.Kept.{IsOffers, Takes, blame_at, flaw_by}
+use Rattle.cf_desired.specs.Kept.{IsOffers, Takes, blame_at, flaw_of_blame}
 use Rattle.cf_desired.specs.Stack.{stop_in}
 use Rattle.cf_desired.proofs.Offering.{IsTaking, all_flaws, all_pieces, drop_all, fields_ascend, pieces_in_order, take_one}
 use Rattle.cf_desired.proofs.offers.members_offered.Goals as goal
@@ -64,8 +64,8 @@ returns c =
     (record {
       given = ap pieces (c.from_names.ensures ∙ c.from_vec.ensures ∙ all_pieces stack offered c.loop-pair.taken done);
       flaw =
-          c.some_flaw_by.ensures ∙ ap (option_map flaw_by) c.in_ok-blame.ensures
-          ∙ ap (λ (o : Option Blame). option_map flaw_by (option_or o (option_map (blame_at stack) (whole c.args.form.now)))) c.or.ensures
-          ∙ ap (λ (x : Form). option_map flaw_by (option_or (option_or c.loop-pair.taken.part c.loop-pair.taken.kind) (option_map (blame_at stack) (whole x)))) c.requires
+          c.some_flaw_by.ensures ∙ ap (option_map flaw_of_blame) c.in_ok-blame.ensures
+          ∙ ap (λ (o : Option Blame). option_map flaw_of_blame (option_or o (option_map (blame_at stack) (whole c.args.form.now)))) c.or.ensures
+          ∙ ap (λ (x : Form). option_map flaw_of_blame (option_or (option_or c.loop-pair.taken.part c.loop-pair.taken.kind) (option_map (blame_at stack) (whole x)))) c.requires
           ∙ all_flaws stack offered c.loop-pair.taken done (whole form);
     })

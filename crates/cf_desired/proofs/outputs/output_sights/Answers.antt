@@ -3,7 +3,7 @@ use Rattle.std.proofs.lemmas.List.{drop_more}
 use Rattle.cf_tree.specs.Keys.{put}
 use Rattle.cf_tree.specs.declared.template.Out.{Out}
 use Rattle.cf_eval.specs.Env.{scope_in}
-use Rattle.cf_desired.specs.Kept.{stack_in}
+use Rattle.cf_desired.specs.Kept.{kept_stack_in}
 use Rattle.cf_desired.specs.Seeing.{by_names, output_seen, sight_of_output}
 use Rattle.cf_desired.proofs.outputs.output_sights.Goals as goal
 
@@ -16,7 +16,7 @@ loop-at-preserved c =
     let left : List Out = drop (i + 1) items in
     let split : drop i items ≡ c.index-outputs-at.result ∷ left = drop_more items i c.index-outputs-at.result below ∙ ap (λ (o : Out). o ∷ left) (sym c.index-outputs-at.is) in
     let s = scope_in c.args.env.now in
-    let seen = output_seen (stack_in c.args.stack.now) c.args.conds.now s in (
+    let seen = output_seen (kept_stack_in c.args.stack.now) c.args.conds.now s in (
       omega arith,
       c.in_ok-insert.ensures.ok
           ∙ (λ j. put (c.in_ok-output_attribute.ensures j) ((c.in_ok-sight.ensures ∙ ap (λ (p : List ℕ). sight_of_output p c.args.conds.now s c.index-outputs-at.result) c.requires.stack) j) (c.loop-at.invariant.1 j))

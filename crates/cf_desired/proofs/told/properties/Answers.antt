@@ -5,7 +5,7 @@ use Rattle.cf_tree.specs.Form.{field_of, fields_in}
 use Rattle.cf_tree.specs.Keys.{ascends}
 use Rattle.cf_tree.specs.declared.expr.ExprPair.{ExprPair}
 use Rattle.cf_eval.specs.Env.{scope_in}
-use Rattle.cf_desired.specs.Kept.{taken}
+use Rattle.cf_desired.specs.Kept.{prop_taken}
 use Rattle.cf_desired.specs.Stack.{props_in}
 use Rattle.cf_desired.proofs.Ordered.{InOrder, known_in_order, one_taken, prop_step}
 use Rattle.cf_desired.proofs.Properties.{props_after}
@@ -32,4 +32,4 @@ loop-prop-preserved c =
     prop_step s stack c.loop-prop.known c.add_prop.new.known (field_of c.prop-item.result) (fields_in left) c.in-Ok.got (props_in stack s c.args.props.now) c.in-Ok.ensures
     (c.loop-prop.invariant.0 ∙ ap (λ (ps : List ExprPair). props_after s stack (fields_in ps) c.loop-prop.known) split)
     (subst (λ (ps : List ExprPair). InOrder c.loop-prop.known (fields_in ps)) split c.loop-prop.invariant.1)
-    (c.in_ok-add_prop-in-Ok.ensures ∙ ap (λ (name : List ℕ). c.loop-prop.known ++ taken name c.in-Ok.got) c.in_ok-try_clone-in-Ok.ensures)
+    (c.in_ok-add_prop-in-Ok.ensures ∙ ap (λ (name : List ℕ). c.loop-prop.known ++ prop_taken name c.in-Ok.got) c.in_ok-try_clone-in-Ok.ensures)

@@ -1,7 +1,7 @@
 use Rattle.std.proofs.Common.{◌≡◌, ◌++◌, map, drop, false}
 use Rattle.cf_eval.specs.Outcome.{each}
 use Rattle.cf_eval.specs.Conditions.{verdict_found}
-use Rattle.cf_eval.specs.Deciding.{IsRight, ground_of, noted_of}
+use Rattle.cf_eval.specs.Deciding.{AreNotedRight, ground_of, noted_of}
 use Rattle.cf_eval.proofs.Each.{each_after}
 use Rattle.cf_eval.proofs.Settling.{IsSettling}
 use Rattle.cf_eval.proofs.condition_map.decide_all.Given as goal

@@ -1,7 +1,7 @@
 use Rattle.std.proofs.Common.{◌≡◌, ◌≤◌, None, ◌++◌, ◌∷◌, [], ◌-◌, suc, refl, sym, ap, subst, ◌∙◌, arith, take, length}
 use Rattle.std.proofs.Math.Seq.{take-append_seam}
 use Rattle.cf_eval.specs.Conditions.{condition_found, decided_by, test_found}
-use Rattle.cf_eval.specs.Deciding.{ground_of, left_of, Apart, IsSettled, IsNoted}
+use Rattle.cf_eval.specs.Deciding.{ground_of, left_of, Apart, IsDecided, IsNoted}
 use Rattle.cf_tree.specs.Keys.{put}
 use Rattle.cf_eval.specs.Gives.{Stops}
 use Rattle.cf_eval.proofs.Noting.{asked_fresh, looked_at, stop_asked, stop_bad, stop_below, open_less, one_at_least, descended, noted_all, apart_enter, pushed}
@@ -80,7 +80,7 @@ descend-returns-in_ok-insert-in-Ok t c =
     let under = c.args.under.now.items in
     let entered : c.push.new.self.items ≡ under ++ c.args.name.now ∷ [] = pushed _ c.in_ok-push.ensures.items c.in_ok-try_clone.ensures in
     let depth : c.len-depth.result ≡ length under = omega (arith, c.len-depth.ensures) in
-    let settled = subst (λ u. IsSettled s conds u c.args.done.now c.decide.new.done c.args.cond.now c.in-Ok.verdict) entered c.in-Ok.ensures.0 in
+    let settled = subst (λ u. IsDecided s conds u c.args.done.now c.decide.new.done c.args.cond.now c.in-Ok.verdict) entered c.in-Ok.ensures.0 in
     let put_in = ap (λ n. put n c.in-Ok.verdict c.decide.new.done) c.in_ok-noted.ensures in (
       subst (λ d. IsNoted s conds under c.args.done.now d c.args.name.now c.in-Ok.verdict) (sym (c.in_ok-insert-in-Ok.ensures.ok ∙ put_in))
           (noted_all s conds under c.args.done.now c.decide.new.done c.args.name.now c.in-Ok.verdict c.args.cond.now settled c.requires.declared c.requires.out),

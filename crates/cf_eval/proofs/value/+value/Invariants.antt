@@ -3,7 +3,7 @@ use Rattle.std.specs.Option.{option_copied}
 use Rattle.cf_tree.specs.Form.{node_of, fields_in}
 use Rattle.cf_tree.specs.Forms.{parts_of_form, parts_of_node, parts_of_forms, parts_of_fields, forms_of, fields_of}
 use Rattle.cf_eval.specs.Value.{forms_found, fields_found}
-use Rattle.cf_eval.specs.Gives.{found_of, binding_of}
+use Rattle.cf_eval.specs.Gives.{got_found, member_found}
 use Rattle.cf_eval.specs.ScopeOf.{scope_of}
 use Rattle.cf_eval.proofs.value.+value.Given as goal
 
@@ -20,10 +20,10 @@ abbrev pub decreases-bindings : goal.decreases-bindings
 decreases-bindings l = 4 * parts_of_fields (fields_of l.pairs.now) + 1
 
 abbrev pub invariant-values-loop-item : goal.invariant-values-loop-item
-invariant-values-loop-item l = forms_found (scope_of l.scope) (option_copied l.around) (forms_of l.items) ≡ map found_of l.gots.items ++ forms_found (scope_of l.scope) (option_copied l.around) (forms_of (drop l.item-index l.item-items))
+invariant-values-loop-item l = forms_found (scope_of l.scope) (option_copied l.around) (forms_of l.items) ≡ map got_found l.gots.items ++ forms_found (scope_of l.scope) (option_copied l.around) (forms_of (drop l.item-index l.item-items))
 
 abbrev pub invariant-bindings-loop-pair : goal.invariant-bindings-loop-pair
-invariant-bindings-loop-pair l = fields_found (scope_of l.scope) (option_copied l.around) (fields_of l.pairs) ≡ map binding_of l.bound.items ++ fields_found (scope_of l.scope) (option_copied l.around) (fields_of (fields_in (drop l.pair-index l.pair-items)))
+invariant-bindings-loop-pair l = fields_found (scope_of l.scope) (option_copied l.around) (fields_of l.pairs) ≡ map member_found l.bound.items ++ fields_found (scope_of l.scope) (option_copied l.around) (fields_of (fields_in (drop l.pair-index l.pair-items)))
 
 abbrev pub decreases-select_value : goal.decreases-select_value
 decreases-select_value l = 4 * (parts_of_form l.index.now + parts_of_form l.list.now) + 4

@@ -1,7 +1,7 @@
 use Rattle.std.proofs.Common.{◌∙◌, ◌++◌, ◌∷◌, [], ap, sym, subst, ℕ, List, is_some, arith}
 use Rattle.std.proofs.lemmas.List.{get_or_read}
-use Rattle.cf_graph.specs.Waiting.{times, copies, needs_at, with_next}
-use Rattle.cf_graph.specs.UnderWay.{IsCounted}
+use Rattle.cf_graph.specs.Waiting.{times, copies, row_needs, with_next}
+use Rattle.cf_graph.specs.UnderWay.{MissingAreCounted}
 use Rattle.cf_graph.proofs.Steps.{none_next, counted_still, at_within, found_next, enough, counted_now}
 use Rattle.cf_graph.proofs.sequence.place_next.Goals as goal
 
@@ -10,7 +10,7 @@ release-requires c =
     let all = c.args.all.now in let p = c.args.progress.now in let at = c.in-Some.at in
     let entry = get_or_read all at c.index-all-at.result (at_within all p.placed.entries p.missing.items p.ready c.requires.under_way c.next.new.ready at c.in-Some.ensures) c.index-all-at.is ([], []) in
     enough all p.placed.entries p.missing.items p.ready c.requires.under_way c.next.new.ready at c.in-Some.ensures c.behind.result.now
-    (λ q. ap (λ (ps : List ℕ). copies q ps) c.behind.ensures ∙ c.requires.waits c.index-all-at.result.0 q ∙ ap (λ (r : List ℕ × List (List ℕ)). times r.0 (needs_at all q)) entry)
+    (λ q. ap (λ (ps : List ℕ). copies q ps) c.behind.ensures ∙ c.requires.waits c.index-all-at.result.0 q ∙ ap (λ (r : List ℕ × List (List ℕ)). times r.0 (row_needs all q)) entry)
 
 pub returns-in-None-clause-under_way : goal.returns-in-None-clause-under_way
 returns-in-None-clause-under_way c =
@@ -34,10 +34,10 @@ returns-in_ok-release-in-Some-clause-under_way c =
     let within = at_within all p.placed.entries p.missing.items p.ready c.requires.under_way c.next.new.ready at c.in-Some.ensures in
     let entry = get_or_read all at c.index-all-at.result within c.index-all-at.is ([], []) in
     let placed = c.in_ok-append-in-Some.ensures ∙ ap (λ (r : List ℕ × List (List ℕ)). p.placed.entries ++ (r.0, r.1) ∷ []) entry in
-    subst (λ (ps : List (List ℕ × List (List ℕ))). IsCounted all ps c.release.new.missing.items c.release.new.ready) (sym placed)
+    subst (λ (ps : List (List ℕ × List (List ℕ))). MissingAreCounted all ps c.release.new.missing.items c.release.new.ready) (sym placed)
     (counted_now all p.placed.entries p.missing.items p.ready c.requires.under_way c.next.new.ready at c.in-Some.ensures c.behind.result.now
-    (λ q. ap (λ (ps : List ℕ). copies q ps) c.behind.ensures ∙ c.requires.waits c.index-all-at.result.0 q ∙ ap (λ (r : List ℕ × List (List ℕ)). times r.0 (needs_at all q)) entry)
-    (needs_at all at) c.release.new.missing.items c.release.new.ready (omega (arith, c.in_ok-release-in-Some.ensures.long, c.release.new.missing.ok.0, p.missing.ok.0)) c.in_ok-release-in-Some.ensures.counted c.in_ok-release-in-Some.ensures.listed)
+    (λ q. ap (λ (ps : List ℕ). copies q ps) c.behind.ensures ∙ c.requires.waits c.index-all-at.result.0 q ∙ ap (λ (r : List ℕ × List (List ℕ)). times r.0 (row_needs all q)) entry)
+    (row_needs all at) c.release.new.missing.items c.release.new.ready (omega (arith, c.in_ok-release-in-Some.ensures.long, c.release.new.missing.ok.0, p.missing.ok.0)) c.in_ok-release-in-Some.ensures.counted c.in_ok-release-in-Some.ensures.listed)
 
 pub returns-in_ok-release-in-Some-clause-placed : goal.returns-in_ok-release-in-Some-clause-placed
 returns-in_ok-release-in-Some-clause-placed c =

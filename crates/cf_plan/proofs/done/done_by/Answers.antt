@@ -1,6 +1,6 @@
 use Rattle.std.proofs.Common.{◌++◌, ◌∙◌, ℕ, List, ap, subst}
 use Rattle.cf_effect.specs.declared.held.Held.{Held}
-use Rattle.cf_plan.specs.Done.{IsNext, Joined, updated_paths}
+use Rattle.cf_plan.specs.Done.{CanJoin, Joined, updated_paths}
 use Rattle.cf_plan.proofs.Doing.{are_done}
 use Rattle.cf_plan.proofs.done.done_by.Goals as goal
 
@@ -11,5 +11,5 @@ returns c =
     (c.in_ok-push_updated.ensures ∙ ap (λ l. l ++ updated_paths c.args.stack.now.stack) c.in_ok-done.ensures)
     (subst (λ (hs : List Held). Joined c.args.terms.now c.args.now.now hs c.push_updated.new.paths c.add_all_right.new.done) held
     c.in_ok-add_all_right.ensures.joined)
-    (subst (λ (hs : List Held). (p : List ℕ) → IsNext c.args.terms.now c.args.now.now hs c.add_all_right.new.done p → ⊥) held
+    (subst (λ (hs : List Held). (p : List ℕ) → CanJoin c.args.terms.now c.args.now.now hs c.add_all_right.new.done p → ⊥) held
     c.in_ok-add_all_right.ensures.all)

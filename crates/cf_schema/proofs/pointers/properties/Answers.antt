@@ -1,8 +1,8 @@
 use Rattle.std.proofs.Common.{◌≡◌, ◌∙◌, sym, ap, Some, None, Ok, ◌++◌, ◌∷◌, [], List, ℕ, find, Option}
 use Rattle.std.specs.Vec.Iter.{into_iter_items}
 use Rattle.std.specs.Str.{bytes_eq}
-use Rattle.cf_schema.specs.Reading.{and_then, named_by}
-use Rattle.cf_schema.specs.Spelling.{spelled}
+use Rattle.cf_schema.specs.Reading.{and_then, properties_named}
+use Rattle.cf_schema.specs.Spelling.{spelled_as}
 use Rattle.cf_schema.proofs.Naming.{named_not, named_more}
 use Rattle.cf_schema.proofs.pointers.properties.Goals as goal
 
@@ -12,19 +12,19 @@ looked f t u ps qs o a b h = ap (λ v. find (λ p. bytes_eq v (f p)) ps) (sym a)
 
 pub returns-in-None-property : goal.returns-in-None-property
 returns-in-None-property c =
-    let f = spelled c.args.spelling in
+    let f = spelled_as c.args.spelling in
     let props = c.args.props.now in
     let nothing : find (λ p. bytes_eq c.in-Some.text (f p)) props ≡ None = looked f _ c.as_str.result.now _ c.as_slice.result.now None c.as_str.ensures c.as_slice.ensures c.in-None-property.ensures in
-    c.loop-text.invariant ∙ ap (λ ts. and_then (named_by f props ts) (λ ps. Ok (c.loop-text.found ++ ps))) c.in-Some.ensures.steps.0
+    c.loop-text.invariant ∙ ap (λ ts. and_then (properties_named f props ts) (λ ps. Ok (c.loop-text.found ++ ps))) c.in-Some.ensures.steps.0
     ∙ named_not f props c.in-Some.text (into_iter_items c.next.new.self) c.loop-text.found nothing
 
 pub loop-text-preserved : goal.loop-text-preserved
 loop-text-preserved c =
-    let f = spelled c.args.spelling in
+    let f = spelled_as c.args.spelling in
     let props = c.args.props.now in
     let p = c.in-Some-property.property.now in
     let one : find (λ q. bytes_eq c.in-Some.text (f q)) props ≡ Some p = looked f _ c.as_str.result.now _ c.as_slice.result.now (Some p) c.as_str.ensures c.as_slice.ensures c.in-Some-property.ensures in
     let more : c.push.new.self ≡ c.loop-text.found ++ p ∷ [] = c.in_ok-push-in-Some-property.ensures.ok ∙ ap (λ q. c.loop-text.found ++ q ∷ []) c.in_ok-try_clone-in-Some-property.ensures in
-    c.loop-text.invariant ∙ ap (λ ts. and_then (named_by f props ts) (λ ps. Ok (c.loop-text.found ++ ps))) c.in-Some.ensures.steps.0
+    c.loop-text.invariant ∙ ap (λ ts. and_then (properties_named f props ts) (λ ps. Ok (c.loop-text.found ++ ps))) c.in-Some.ensures.steps.0
     ∙ named_more f props c.in-Some.text (into_iter_items c.next.new.self) c.loop-text.found p one
-    ∙ ap (λ found. and_then (named_by f props (into_iter_items c.next.new.self)) (λ ps. Ok (found ++ ps))) (sym more)
+    ∙ ap (λ found. and_then (properties_named f props (into_iter_items c.next.new.self)) (λ ps. Ok (found ++ ps))) (sym more)

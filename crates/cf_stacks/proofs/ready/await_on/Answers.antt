@@ -1,12 +1,12 @@
 use Rattle.std.proofs.Common.{◌≡◌, Option, sym, ap, ◌∙◌}
 use Rattle.cf_stacks.specs.Room.{StackStanding}
-use Rattle.cf_stacks.specs.Standing.{Named, calls_in, has_open, stack_in}
+use Rattle.cf_stacks.specs.Standing.{NamedStanding, calls_in, has_open, stack_in}
 use Rattle.cf_stacks.proofs.Places.{awaits_at, awaits_none, either_way, on_err, on_ok, same_at, within}
 use Rattle.cf_stacks.proofs.ready.await_on.Goals as goal
 
 pub returns-in-Some-clause-stacks : goal.returns-in-Some-clause-stacks
 returns-in-Some-clause-stacks c =
-    let x : Named = c.index_mut.result.now in
+    let x : NamedStanding = c.index_mut.result.now in
     let same : c.await_call.new.self.stack ≡ x.1.stack =
     either_way c.await_call.result c.await_call.ensures.ok c.await_call.ensures.err (λ h. ap (λ (v : StackStanding). v.stack) h) (λ h. ap (λ (v : StackStanding). v.stack) h) in
     same_at stack_in c.args.pairs.now.items c.in-Some.at x (x.0, c.await_call.new.self) (within (has_open c.args.token) c.args.pairs.now.items c.in-Some.at x (cc))
@@ -19,7 +19,7 @@ returns-in-Some-clause-ok c =
 
 pub returns-in-Some-clause-err : goal.returns-in-Some-clause-err
 returns-in-Some-clause-err c =
-    let x : Named = c.index_mut.result.now in
+    let x : NamedStanding = c.index_mut.result.now in
     on_err c.await_call.result c.await_call.ensures.err (λ h.
     same_at calls_in c.args.pairs.now.items c.in-Some.at x (x.0, c.await_call.new.self) (within (has_open c.args.token) c.args.pairs.now.items c.in-Some.at x (cc))
     (ap (λ (v : StackStanding). (x.0, v.awaited)) h ∙ ap calls_in c.index_mut.ensures.value))

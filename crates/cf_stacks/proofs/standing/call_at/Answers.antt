@@ -1,6 +1,6 @@
 use Rattle.std.proofs.Common.{arith}
 use Rattle.cf_tree.proofs.Lookups.{entry_in}
-use Rattle.cf_stacks.specs.Standing.{called}
+use Rattle.cf_stacks.specs.Standing.{stack_called}
 use Rattle.cf_stacks.proofs.Places.{calls_place}
 use Rattle.cf_stacks.proofs.standing.call_at.Goals as goal
 
@@ -11,4 +11,4 @@ index_mut-requires c =
 
 pub returns : goal.returns
 returns c =
-    calls_place c.args.name.now c.args.pairs.now.items c.requires.order (called c.args.parts c.args.entry) c.args.at c.index_mut.result.now c.call.new.self c.requires.place c.index_mut.ensures.value c.call.ensures
+    calls_place c.args.name.now c.args.pairs.now.items c.requires.order (stack_called c.args.parts c.args.entry) c.args.at c.index_mut.result.now c.call.new.self c.requires.place c.index_mut.ensures.value c.call.ensures

@@ -9,7 +9,7 @@ use Rattle.cf_top.proofs.Created.{begun_goes, begun_proper, created, created_ove
 use Rattle.cf_top.proofs.Crashes.{breaks_as, passes_on, untouched}
 use Rattle.cf_face.specs.declared.exit.Exit.TheVariants as exit
 use Rattle.cf_top.specs.Crash.{Follows}
-use Rattle.cf_top.specs.Opening.{exit_of}
+use Rattle.cf_top.specs.Opening.{halt_exit}
 use Rattle.cf_top.proofs.Doubted.{begun_doubted}
 use Rattle.cf_top.proofs.creating.create.Goals as goal
 
@@ -84,7 +84,7 @@ returns-in-Ok-append-clause-passes g c =
 
 pub returns-in-Err-clause-passes : goal.returns-in-Err-clause-passes
 returns-in-Err-clause-passes g c told =
-    breaks_as g.D.Disk.may_leave g.D.Disk.moment g.D.Disk.left_since c.args.disk.now c.append.new.disk c.args.book.now.entries.items c.append.new.book.entries.items (λ e. e ≡ c.args.begun) (Follows c.append.new.book.entries.items) (exit_of c.in-Err.halt)
+    breaks_as g.D.Disk.may_leave g.D.Disk.moment g.D.Disk.left_since c.args.disk.now c.append.new.disk c.args.book.now.entries.items c.append.new.book.entries.items (λ e. e ≡ c.args.begun) (Follows c.append.new.book.entries.items) (halt_exit c.in-Err.halt)
     (λ e q. begun_doubted g.D.Disk.tells (g.D.Disk.seen c.append.new.disk) (g.D.Disk.room_of c.args.disk.now) (g.D.Disk.count c.args.disk.now) (g.D.Disk.count c.append.new.disk)
     c.args.book.now.entries.items c.append.new.book.entries.items c.args.begun c.in-Err.halt e c.in-Err.ensures.tells q c.requires.follows)
     (c.in-Err.ensures.passes told)

@@ -1,5 +1,5 @@
 use Rattle.std.proofs.Common.{◌≡◌, map, None, refl, sym, subst}
-use Rattle.cf_top.specs.Deployment.{barring}
+use Rattle.cf_top.specs.Deployment.{existing_status}
 use Rattle.cf_top.specs.Lanes.{one_of_each}
 use Rattle.cf_top.proofs.Deployed.{barred_so}
 use Rattle.cf_top.proofs.Crashes.{untouched}
@@ -7,7 +7,7 @@ use Rattle.cf_top.specs.Crash.{Follows}
 use Rattle.cf_top.proofs.deployment.deploy_in.Goals as goal
 
 pub deploy_new-requires-clause-free : goal.deploy_new-requires-clause-free
-deploy_new-requires-clause-free g c = subst (λ x. barring c.args.stack.now x ≡ None) c.requires.open.world (sym c.in-None.ensures)
+deploy_new-requires-clause-free g c = subst (λ x. existing_status c.args.stack.now x ≡ None) c.requires.open.world (sym c.in-None.ensures)
 
 pub returns-in-Some-clause-tells : goal.returns-in-Some-clause-tells
 returns-in-Some-clause-tells g c =

@@ -1,5 +1,5 @@
 use Rattle.std.proofs.Common.{Some, None, Ok, subst}
-use Rattle.cf_io.specs.Library.{CountsMisses, StandsUnder, found_of}
+use Rattle.cf_io.specs.Library.{CountsMisses, StandsUnder, bytes_found}
 use Rattle.cf_top.proofs.Deployed.{fetched, missed}
 use Rattle.cf_top.proofs.deployment.fetch.Goals as goal
 
@@ -11,7 +11,7 @@ returns-in-Ok-Some-clause-fetches g c =
       faults' = g.L.Library.count c.fetch.new.self;
       misses = g.L.Library.missed c.args.library.now;
       misses' = g.L.Library.missed c.fetch.new.self;
-    }) c.args.schemas.now c.args.world.now.world c.args.stack.now c.args.choice.now c.in-Ok-Some.bytes.items c.examine.result (subst (λ name. StandsUnder (g.L.Library.texts c.args.library.now) name (Some c.in-Ok-Some.bytes.items)) c.as_str.ensures (subst (λ f. StandsUnder (g.L.Library.texts c.args.library.now) c.as_str.result.now (found_of f)) c.in-Ok-Some.field-0-is c.in-Ok-Some.ensures.found)) c.examine.ensures
+    }) c.args.schemas.now c.args.world.now.world c.args.stack.now c.args.choice.now c.in-Ok-Some.bytes.items c.examine.result (subst (λ name. StandsUnder (g.L.Library.texts c.args.library.now) name (Some c.in-Ok-Some.bytes.items)) c.as_str.ensures (subst (λ f. StandsUnder (g.L.Library.texts c.args.library.now) c.as_str.result.now (bytes_found f)) c.in-Ok-Some.field-0-is c.in-Ok-Some.ensures.found)) c.examine.ensures
 
 pub returns-in-Ok-None-clause-fetches : goal.returns-in-Ok-None-clause-fetches
 returns-in-Ok-None-clause-fetches g c =
@@ -21,4 +21,4 @@ returns-in-Ok-None-clause-fetches g c =
       faults' = g.L.Library.count c.fetch.new.self;
       misses = g.L.Library.missed c.args.library.now;
       misses' = g.L.Library.missed c.fetch.new.self;
-    }) c.args.schemas.now c.args.world.now.world c.args.stack.now c.args.choice.now c.missing.result (subst (λ name. StandsUnder (g.L.Library.texts c.args.library.now) name None) c.as_str.ensures (subst (λ f. StandsUnder (g.L.Library.texts c.args.library.now) c.as_str.result.now (found_of f)) c.in-Ok-None.field-0-is c.in-Ok-None.ensures.found)) (subst (λ f. CountsMisses (g.L.Library.missed c.args.library.now) (g.L.Library.missed c.fetch.new.self) (Ok f)) c.in-Ok-None.field-0-is c.in-Ok-None.ensures.misses).1 c.missing.ensures
+    }) c.args.schemas.now c.args.world.now.world c.args.stack.now c.args.choice.now c.missing.result (subst (λ name. StandsUnder (g.L.Library.texts c.args.library.now) name None) c.as_str.ensures (subst (λ f. StandsUnder (g.L.Library.texts c.args.library.now) c.as_str.result.now (bytes_found f)) c.in-Ok-None.field-0-is c.in-Ok-None.ensures.found)) (subst (λ f. CountsMisses (g.L.Library.missed c.args.library.now) (g.L.Library.missed c.fetch.new.self) (Ok f)) c.in-Ok-None.field-0-is c.in-Ok-None.ensures.misses).1 c.missing.ensures

@@ -5,7 +5,7 @@ use Rattle.cf_top.proofs.Driven.{so_far, goes_further, is_driven, cut_later, no_
 use Rattle.cf_top.proofs.Crashes.{breaks_on, grows_on, unmoved, untouched}
 use Rattle.cf_face.specs.declared.exit.Exit.TheVariants.{NoMemory}
 use Rattle.cf_top.specs.Crash.{Follows}
-use Rattle.cf_top.specs.Opening.{exit_of}
+use Rattle.cf_top.specs.Opening.{halt_exit}
 use Rattle.cf_top.proofs.drive.drive.Goals as goal
 
 pub loop-init : goal.loop-init
@@ -130,7 +130,7 @@ returns-in-Ok-Over-clause-passes g c told =
 pub returns-in-Err-clause-passes : goal.returns-in-Err-clause-passes
 returns-in-Err-clause-passes g c told =
     breaks_on g.D.Disk.may_leave g.D.Disk.moment g.D.Disk.left_since c.args.disk.now c.loop.disk c.take.new.disk c.args.book.now.entries.items c.loop.book.entries.items c.take.new.book.entries.items
-    (Follows c.take.new.book.entries.items) (exit_of c.in-Err.halt) (c.loop.invariant.passes told) (c.in-Err.ensures.passes told)
+    (Follows c.take.new.book.entries.items) (halt_exit c.in-Err.halt) (c.loop.invariant.passes told) (c.in-Err.ensures.passes told)
 
 pub returns-clause-passes : goal.returns-clause-passes
 returns-clause-passes g c told =

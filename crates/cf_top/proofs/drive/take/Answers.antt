@@ -2,8 +2,8 @@ use Rattle.std.proofs.Common.{[], ap, map, refl, subst, sym}
 use Rattle.cf_plan.specs.Follow.{MayFollow}
 use Rattle.cf_next.specs.Chosen.{IsNext, leases_of, schemas_of}
 use Rattle.cf_top.specs.declared.book.Book.{Book}
-use Rattle.cf_top.specs.Book.{IsOpen, world_of}
-use Rattle.cf_top.specs.Driving.{GoesOn}
+use Rattle.cf_top.specs.Book.{IsOpen, world_left}
+use Rattle.cf_top.specs.Driving.{StaysInProgress}
 use Rattle.cf_top.proofs.Driven.{comes_next, follows_next, in_progress, no_memory}
 use Rattle.cf_top.proofs.Crashes.{untouched}
 use Rattle.cf_face.specs.declared.exit.Exit.TheVariants.{NoMemory}
@@ -11,7 +11,7 @@ use Rattle.cf_top.specs.Crash.{Follows}
 use Rattle.cf_top.proofs.drive.take.Goals as goal
 
 pub coming-requires : goal.coming-requires
-coming-requires g c = in_progress (world_of c.args.book.now.entries.items) c.args.book.now.world.world c.args.number c.requires.open.world c.requires.goes_on
+coming-requires g c = in_progress (world_left c.args.book.now.entries.items) c.args.book.now.world.world c.args.number c.requires.open.world c.requires.goes_on
 
 pub take_step-requires-clause-open : goal.take_step-requires-clause-open
 take_step-requires-clause-open g c =
@@ -19,19 +19,19 @@ take_step-requires-clause-open g c =
 
 pub take_step-requires-clause-goes_on : goal.take_step-requires-clause-goes_on
 take_step-requires-clause-goes_on g c =
-    subst (λ (b : Book). GoesOn c.args.number (world_of b.entries.items)) (sym c.coming.ensures.stays) c.requires.goes_on
+    subst (λ (b : Book). StaysInProgress c.args.number (world_left b.entries.items)) (sym c.coming.ensures.stays) c.requires.goes_on
 
 pub take_step-requires-clause-comes : goal.take_step-requires-clause-comes
 take_step-requires-clause-comes g c =
     let homes = c.args.homes.now in
-    subst (λ (b : Book). IsNext (schemas_of homes) (world_of b.entries.items) [] c.args.number c.in-Ok.next) (sym c.coming.ensures.stays)
-    (comes_next (schemas_of homes) (world_of c.args.book.now.entries.items) c.args.book.now.world.world (leases_of homes) c.args.number c.in-Ok.next c.requires.open.world c.requires.home c.in-Ok.ensures.chosen)
+    subst (λ (b : Book). IsNext (schemas_of homes) (world_left b.entries.items) [] c.args.number c.in-Ok.next) (sym c.coming.ensures.stays)
+    (comes_next (schemas_of homes) (world_left c.args.book.now.entries.items) c.args.book.now.world.world (leases_of homes) c.args.number c.in-Ok.next c.requires.open.world c.requires.home c.in-Ok.ensures.chosen)
 
 pub take_step-requires-clause-may : goal.take_step-requires-clause-may
 take_step-requires-clause-may g c e q =
     let homes = c.args.homes.now in
-    subst (λ (b : Book). MayFollow (schemas_of homes) (world_of b.entries.items) [] e) (sym c.coming.ensures.stays)
-    (follows_next (schemas_of homes) (world_of c.args.book.now.entries.items) c.args.book.now.world.world (leases_of homes) e c.requires.open.world c.requires.home (c.in-Ok.ensures.may_follow e q))
+    subst (λ (b : Book). MayFollow (schemas_of homes) (world_left b.entries.items) [] e) (sym c.coming.ensures.stays)
+    (follows_next (schemas_of homes) (world_left c.args.book.now.entries.items) c.args.book.now.world.world (leases_of homes) e c.requires.open.world c.requires.home (c.in-Ok.ensures.may_follow e q))
 
 pub returns-in-Err-clause-tells : goal.returns-in-Err-clause-tells
 returns-in-Err-clause-tells g c =

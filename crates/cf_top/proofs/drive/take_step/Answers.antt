@@ -2,15 +2,15 @@ use Rattle.std.proofs.Common.{◌≡◌, ◌∙◌, map, Some, refl, sym, subst}
 use Rattle.std.specs.Prelude.{IfSome, Ok, Err}
 use Rattle.cf_entry.specs.Entry.{IsProper}
 use Rattle.cf_effect.specs.declared.held.Pending.{Pending}
-use Rattle.cf_next.specs.Chosen.{entry_of}
+use Rattle.cf_next.specs.Chosen.{entry_for}
 use Rattle.cf_plan.specs.Run.{open_call}
 use Rattle.cf_next.specs.Chosen.{schemas_of}
-use Rattle.cf_top.specs.Book.{world_of}
+use Rattle.cf_top.specs.Book.{world_left}
 use Rattle.cf_top.specs.Driving.{CallsEnd, NoteTells, TakeTells}
 use Rattle.cf_top.proofs.Driven.{call_halts, is_taken, note_halts, note_opens, note_proper, noted_is}
 use Rattle.cf_top.proofs.Crashes.{breaks_as, breaks_on, grows_on}
 use Rattle.cf_top.specs.Crash.{Follows}
-use Rattle.cf_top.specs.Opening.{exit_of}
+use Rattle.cf_top.specs.Opening.{halt_exit}
 use Rattle.cf_top.proofs.Doubted.{note_doubted}
 use Rattle.cf_top.proofs.drive.take_step.Goals as goal
 
@@ -36,7 +36,7 @@ note-requires-clause-proper g c =
 
 pub call_if_any-requires-clause-called : goal.call_if_any-requires-clause-called
 call_if_any-requires-clause-called g c =
-    subst (λ o. IfSome o (λ t. (p : Pending) × (open_call c.args.number t (world_of c.note.new.book.entries.items) ≡ Some p))) (sym c.called_by-token.ensures)
+    subst (λ o. IfSome o (λ t. (p : Pending) × (open_call c.args.number t (world_left c.note.new.book.entries.items) ≡ Some p))) (sym c.called_by-token.ensures)
     (note_opens (record { goes_on = c.creation_goes_on.ensures; proper = c.creation_is_proper.ensures; opens = c.intent_opens.ensures }) (record {
       names = map g.H.Handler.label c.args.lanes.now.items;
       schemas = schemas_of c.args.homes.now;
@@ -54,7 +54,7 @@ call_if_any-requires-clause-called g c =
     })
     c.args.number c.requires.goes_on c.args.next c.note.new.book.entries.items (c.requires.comes, c.requires.may)
     (noted_is g.D.Disk.tells (g.D.Disk.seen c.note.new.disk) (g.D.Disk.room_of c.args.disk.now) (g.D.Disk.count c.args.disk.now) (g.D.Disk.count c.note.new.disk)
-    c.args.book.now.entries.items c.note.new.book.entries.items (entry_of c.args.number c.args.next) tt
+    c.args.book.now.entries.items c.note.new.book.entries.items (entry_for c.args.number c.args.next) tt
     (subst (λ o. NoteTells g.D.Disk.tells (g.D.Disk.seen c.note.new.disk) (g.D.Disk.room_of c.args.disk.now) (g.D.Disk.count c.args.disk.now) (g.D.Disk.count c.note.new.disk)
     c.args.book.now.entries.items c.note.new.book.entries.items o (Ok tt)) c.entry_of.ensures c.in-Ok.ensures.tells)))
 
@@ -92,7 +92,7 @@ returns-in-Ok-call_if_any-clause-tells g c =
     })
     c.args.number c.requires.goes_on c.args.next c.note.new.book.entries.items (g.D.Disk.room_of c.note.new.disk) (g.D.Disk.count c.note.new.disk) (c.requires.comes, c.requires.may)
     (noted_is g.D.Disk.tells (g.D.Disk.seen c.note.new.disk) (g.D.Disk.room_of c.args.disk.now) (g.D.Disk.count c.args.disk.now) (g.D.Disk.count c.note.new.disk)
-    c.args.book.now.entries.items c.note.new.book.entries.items (entry_of c.args.number c.args.next) tt
+    c.args.book.now.entries.items c.note.new.book.entries.items (entry_for c.args.number c.args.next) tt
     (subst (λ o. NoteTells g.D.Disk.tells (g.D.Disk.seen c.note.new.disk) (g.D.Disk.room_of c.args.disk.now) (g.D.Disk.count c.args.disk.now) (g.D.Disk.count c.note.new.disk)
     c.args.book.now.entries.items c.note.new.book.entries.items o (Ok tt)) c.entry_of.ensures c.in-Ok.ensures.tells)) tt
     (subst (λ o. CallsEnd (record {
@@ -130,7 +130,7 @@ returns-in-Err-call_if_any-clause-tells g c =
     })
     c.args.number c.requires.goes_on c.args.next c.note.new.book.entries.items (g.D.Disk.room_of c.note.new.disk) (g.D.Disk.count c.note.new.disk) (c.requires.comes, c.requires.may)
     (noted_is g.D.Disk.tells (g.D.Disk.seen c.note.new.disk) (g.D.Disk.room_of c.args.disk.now) (g.D.Disk.count c.args.disk.now) (g.D.Disk.count c.note.new.disk)
-    c.args.book.now.entries.items c.note.new.book.entries.items (entry_of c.args.number c.args.next) tt
+    c.args.book.now.entries.items c.note.new.book.entries.items (entry_for c.args.number c.args.next) tt
     (subst (λ o. NoteTells g.D.Disk.tells (g.D.Disk.seen c.note.new.disk) (g.D.Disk.room_of c.args.disk.now) (g.D.Disk.count c.args.disk.now) (g.D.Disk.count c.note.new.disk)
     c.args.book.now.entries.items c.note.new.book.entries.items o (Ok tt)) c.entry_of.ensures c.in-Ok.ensures.tells)) c.in-Err-call_if_any.halt c.in-Ok.ensures.room c.in-Ok.ensures.count
     (subst (λ o. CallsEnd (record {
@@ -178,13 +178,13 @@ returns-in-Ok-call_if_any-clause-passes g c told =
 pub returns-in-Err-call_if_any-clause-passes : goal.returns-in-Err-call_if_any-clause-passes
 returns-in-Err-call_if_any-clause-passes g c told =
     breaks_on g.D.Disk.may_leave g.D.Disk.moment g.D.Disk.left_since c.args.disk.now c.note.new.disk c.call_if_any.new.disk
-    c.args.book.now.entries.items c.note.new.book.entries.items c.call_if_any.new.book.entries.items (Follows c.call_if_any.new.book.entries.items) (exit_of c.in-Err-call_if_any.halt)
+    c.args.book.now.entries.items c.note.new.book.entries.items c.call_if_any.new.book.entries.items (Follows c.call_if_any.new.book.entries.items) (halt_exit c.in-Err-call_if_any.halt)
     (c.in-Ok.ensures.passes told) (c.in-Err-call_if_any.ensures.passes told)
 
 pub returns-in-Err-clause-passes : goal.returns-in-Err-clause-passes
 returns-in-Err-clause-passes g c told =
     breaks_as g.D.Disk.may_leave g.D.Disk.moment g.D.Disk.left_since c.args.disk.now c.note.new.disk c.args.book.now.entries.items c.note.new.book.entries.items
-    (λ e. c.entry_of.result ≡ Some e) (Follows c.note.new.book.entries.items) (exit_of c.in-Err.halt)
+    (λ e. c.entry_of.result ≡ Some e) (Follows c.note.new.book.entries.items) (halt_exit c.in-Err.halt)
     (λ e q. note_doubted g.D.Disk.tells (g.D.Disk.seen c.note.new.disk) (g.D.Disk.room_of c.args.disk.now) (g.D.Disk.count c.args.disk.now) (g.D.Disk.count c.note.new.disk)
     c.args.book.now.entries.items c.note.new.book.entries.items c.entry_of.result (schemas_of c.args.homes.now) c.in-Err.halt e c.in-Err.ensures.tells q
     (c.requires.may e (sym c.entry_of.ensures ∙ q)))

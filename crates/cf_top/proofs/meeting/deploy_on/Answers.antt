@@ -3,7 +3,7 @@ use Rattle.std.specs.Bool.{IsTrue}
 use Rattle.std.specs.List.{list_all}
 use Rattle.cf_handler.specs.Name.{is_lane_name}
 use Rattle.cf_plan.specs.Going.{IsOver}
-use Rattle.cf_top.specs.Book.{world_of}
+use Rattle.cf_top.specs.Book.{world_left}
 use Rattle.cf_top.specs.Creating.{next_number}
 use Rattle.cf_top.specs.Lanes.{kinds_of}
 use Rattle.cf_top.specs.Opening.{EnterTells, missing, opening, twice}
@@ -23,7 +23,7 @@ returns-in-Ok-deploy_in-clause-over g c = (
 pub returns-in-Ok-deploy_in-clause-tells : goal.returns-in-Ok-deploy_in-clause-tells
 returns-in-Ok-deploy_in-clause-tells g c =
     let old = c.in-Ok.book.entries.items in
-    let t = subst (λ xs. (twice (map g.H.Handler.label xs) ≡ None) × (missing (map g.H.Handler.label xs) (kinds_of (map g.H.Handler.schema_of xs)) (world_of old) ≡ None) × (c.enter.new.book.entries.items ≡ old ++ opening (map g.H.Handler.label xs) (kinds_of (map g.H.Handler.schema_of xs)) (world_of old) ∷ [])) c.as_slice.ensures.value c.in-Ok-enter.ensures.tells in
+    let t = subst (λ xs. (twice (map g.H.Handler.label xs) ≡ None) × (missing (map g.H.Handler.label xs) (kinds_of (map g.H.Handler.schema_of xs)) (world_left old) ≡ None) × (c.enter.new.book.entries.items ≡ old ++ opening (map g.H.Handler.label xs) (kinds_of (map g.H.Handler.schema_of xs)) (world_left old) ∷ [])) c.as_slice.ensures.value c.in-Ok-enter.ensures.tells in
     entered (record {
       shelf = record {
         texts = g.L.Library.texts c.args.library.now;
@@ -53,7 +53,7 @@ returns-in-Ok-deploy_in-clause-tells g c =
 pub returns-in-Err-deploy_in-clause-tells : goal.returns-in-Err-deploy_in-clause-tells
 returns-in-Err-deploy_in-clause-tells g c =
     let old = c.in-Ok.book.entries.items in
-    let t = subst (λ xs. (twice (map g.H.Handler.label xs) ≡ None) × (missing (map g.H.Handler.label xs) (kinds_of (map g.H.Handler.schema_of xs)) (world_of old) ≡ None) × (c.enter.new.book.entries.items ≡ old ++ opening (map g.H.Handler.label xs) (kinds_of (map g.H.Handler.schema_of xs)) (world_of old) ∷ [])) c.as_slice.ensures.value c.in-Ok-enter.ensures.tells in
+    let t = subst (λ xs. (twice (map g.H.Handler.label xs) ≡ None) × (missing (map g.H.Handler.label xs) (kinds_of (map g.H.Handler.schema_of xs)) (world_left old) ≡ None) × (c.enter.new.book.entries.items ≡ old ++ opening (map g.H.Handler.label xs) (kinds_of (map g.H.Handler.schema_of xs)) (world_left old) ∷ [])) c.as_slice.ensures.value c.in-Ok-enter.ensures.tells in
     inr (inr (
       c.deploy_in.new.book.entries.items,
       entered (record {
@@ -156,7 +156,7 @@ returns-in-Err-deploy_in-clause-any_moment g c told =
 pub returns-in-Err-deploy_in-clause-leaves : goal.returns-in-Err-deploy_in-clause-leaves
 returns-in-Err-deploy_in-clause-leaves g c told =
     let old = c.in-Ok.book.entries.items in
-    let t = subst (λ xs. (twice (map g.H.Handler.label xs) ≡ None) × (missing (map g.H.Handler.label xs) (kinds_of (map g.H.Handler.schema_of xs)) (world_of old) ≡ None) × (c.enter.new.book.entries.items ≡ old ++ opening (map g.H.Handler.label xs) (kinds_of (map g.H.Handler.schema_of xs)) (world_of old) ∷ [])) c.as_slice.ensures.value c.in-Ok-enter.ensures.tells in
+    let t = subst (λ xs. (twice (map g.H.Handler.label xs) ≡ None) × (missing (map g.H.Handler.label xs) (kinds_of (map g.H.Handler.schema_of xs)) (world_left old) ≡ None) × (c.enter.new.book.entries.items ≡ old ++ opening (map g.H.Handler.label xs) (kinds_of (map g.H.Handler.schema_of xs)) (world_left old) ∷ [])) c.as_slice.ensures.value c.in-Ok-enter.ensures.tells in
     inr (broken g.D.Disk.may_leave g.D.Disk.moment g.D.Disk.left_since (record {
       shelf = record {
         texts = g.L.Library.texts c.args.library.now;

@@ -1,5 +1,5 @@
 use Rattle.std.proofs.Common.{[], ◌∷◌, ◌++◌}
-use Rattle.cf_entry.specs.Bytes.{text_bytes, Adds}
+use Rattle.cf_entry.specs.Bytes.{text_bytes, AddsBytes}
 use Rattle.cf_entry.specs.Numbers.{attribute_number, recreation_number, evaluation_number}
 use Rattle.cf_entry.proofs.Joined.{adds_then}
 use Rattle.cf_entry.proofs.put.row.put_detail.Goals as goal
@@ -11,9 +11,9 @@ returns-clause-added c =
     let name = text_bytes detail.name in
     let recreation = recreation_number detail.recreation ∷ [] in
     let evaluation = evaluation_number detail.evaluation ∷ [] in
-    let a : Adds c.args.to.now c.put_byte.new.to attribute = rw (← c.attribute_number.ensures) c.put_byte.ensures in
-    let s : Adds c.put_text.new.to c.put_byte-2.new.to recreation = rw (← c.recreation_number.ensures) c.put_byte-2.ensures in
-    let u : Adds c.put_byte-2.new.to c.put_byte-3.new.to evaluation = rw (← c.evaluation_number.ensures) c.put_byte-3.ensures in
+    let a : AddsBytes c.args.to.now c.put_byte.new.to attribute = rw (← c.attribute_number.ensures) c.put_byte.ensures in
+    let s : AddsBytes c.put_text.new.to c.put_byte-2.new.to recreation = rw (← c.recreation_number.ensures) c.put_byte-2.ensures in
+    let u : AddsBytes c.put_byte-2.new.to c.put_byte-3.new.to evaluation = rw (← c.evaluation_number.ensures) c.put_byte-3.ensures in
     adds_then c.args.to.now c.put_byte.new.to c.put_byte-3.new.to attribute (name ++ (recreation ++ evaluation)) a
     (adds_then c.put_byte.new.to c.put_text.new.to c.put_byte-3.new.to name (recreation ++ evaluation) c.put_text.ensures.added
     (adds_then c.put_text.new.to c.put_byte-2.new.to c.put_byte-3.new.to recreation evaluation s u))

@@ -1,7 +1,7 @@
 use Rattle.std.proofs.Common.{IsTrue, ◌≡◌, ◌+◌, ◌<◌, ◌^◌, ℕ, List, length, refl, ◌∙◌, ap, subst, arith}
 use Rattle.cf_entry.specs.Entry.{spelling_of}
 use Rattle.cf_journal.specs.Frames.{frame_of}
-use Rattle.cf_journal.specs.Runs.{opened, IsMidway}
+use Rattle.cf_journal.specs.Runs.{gate_opened, IsMidway}
 use Rattle.cf_journal.specs.Record.{reading_of, record_of, IsBeforeOrAfter}
 use Rattle.cf_journal.proofs.Moments.{weaker}
 use Rattle.cf_journal.proofs.Entries.{read_whole, starts, midway, Holds, holds}
@@ -25,7 +25,7 @@ returns-in-Ok-clause-acknowledged g c =
     let small : length body < 2 ^ 32 = omega (arith, s.room) in
     let frame : c.as_slice.result.now ≡ frame_of body = c.as_slice.ensures.value ∙ c.build.ensures.bytes in
     let h : IsTrue g.D.Disk.tells → Holds file new (end + (5 + length body)) e = λ told.
-    let written : new ≡ opened file end (frame_of body) = c.in-Ok.ensures.written told ∙ ap (λ (f : List ℕ). opened file end f) frame in
+    let written : new ≡ gate_opened file end (frame_of body) = c.in-Ok.ensures.written told ∙ ap (λ (f : List ℕ). gate_opened file end f) frame in
     holds file new end (end + (5 + length body)) e body (s.is_made told) (s.is_read told) (s.length_is told) (spelled_is_read (spelling_of e) e (c.build.ensures.readable c.requires.proper) refl) small written refl in
     record {
       sound = s.sound;
@@ -45,7 +45,7 @@ returns-in-Ok-clause-added g c told =
     let body = spelling_of e in
     let small : length body < 2 ^ 32 = omega (arith, s.room) in
     let frame : c.as_slice.result.now ≡ frame_of body = c.as_slice.ensures.value ∙ c.build.ensures.bytes in
-    let written : g.D.Disk.seen c.append_frame.new.disk ≡ opened file end (frame_of body) = c.in-Ok.ensures.written told ∙ ap (λ (f : List ℕ). opened file end f) frame in
+    let written : g.D.Disk.seen c.append_frame.new.disk ≡ gate_opened file end (frame_of body) = c.in-Ok.ensures.written told ∙ ap (λ (f : List ℕ). gate_opened file end f) frame in
     (holds file (g.D.Disk.seen c.append_frame.new.disk) end (end + (5 + length body)) e body (s.is_made told) (s.is_read told) (s.length_is told) (spelled_is_read (spelling_of e) e (c.build.ensures.readable c.requires.proper) refl) small written refl).has
 
 pub returns-in-Ok-clause-any_moment : goal.returns-in-Ok-clause-any_moment

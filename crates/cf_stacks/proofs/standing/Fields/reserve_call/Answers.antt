@@ -1,5 +1,5 @@
 use Rattle.std.proofs.Common.{◌≡◌, ◌≤◌, IfSome, List, find, refl, sym, ap, map, subst, ◌∙◌}
-use Rattle.cf_stacks.specs.Standing.{Named, calls_in, stack_in}
+use Rattle.cf_stacks.specs.Standing.{NamedStanding, calls_in, stack_in}
 use Rattle.cf_effect.specs.World.{is_going}
 use Rattle.cf_stacks.proofs.Awaiting.{same_order_stacks}
 use Rattle.cf_stacks.proofs.Places.{on_ok}
@@ -19,4 +19,4 @@ returns-clause-kept c =
 pub returns-clause-ok : goal.returns-clause-ok
 returns-clause-ok c =
     on_ok c.reserve_going-reserved.result c.reserve_going-reserved.ensures.ok
-    (λ h. subst (λ (ss : List Named). IfSome (find (λ s. is_going c.args.number s.1.stack) ss) (λ s. 2 ≤ s.1.spare)) (sym c.from_vec.ensures) h)
+    (λ h. subst (λ (ss : List NamedStanding). IfSome (find (λ s. is_going c.args.number s.1.stack) ss) (λ s. 2 ≤ s.1.spare)) (sym c.from_vec.ensures) h)

@@ -4,7 +4,7 @@ use Rattle.cf_tree.specs.Keys.{put, value_at}
 use Rattle.cf_entry.specs.declared.entry.Entry.{Entry}
 use Rattle.cf_stacks.specs.declared.standing.Fields.{Fields}
 use Rattle.cf_stacks.specs.Room.{StackStanding, calls_after, has_call, without_awaited}
-use Rattle.cf_stacks.specs.Standing.{Named, answered_at, awaited_known, calls_in, world_in}
+use Rattle.cf_stacks.specs.Standing.{NamedStanding, answered_at, awaited_known, calls_in, world_in}
 use Rattle.cf_effect.specs.World.{World}
 use Rattle.cf_stacks.proofs.Answering.{is_of_it, is_outcome, stands_there, waits, waits_there}
 use Rattle.cf_stacks.proofs.Calling.{outcome_calls}
@@ -28,7 +28,7 @@ returns c =
     let v : StackStanding = answered_at (x.place + 1) e s in
     let stands : value_at name x.stacks ≡ Some s = stands_there x c.in_order.ensures c.args.number c.args.token o.awaited in
     let is_put : c.answer_going.new.stacks ≡ put name v x.stacks =
-    c.answer_going.ensures ∙ ap (λ (p : Option Named). option_map_or (λ (t : Named). put t.0 (answered_at (x.place + 1) e t.1) x.stacks) p x.stacks) w.1 in
+    c.answer_going.ensures ∙ ap (λ (p : Option NamedStanding). option_map_or (λ (t : NamedStanding). put t.0 (answered_at (x.place + 1) e t.1) x.stacks) p x.stacks) w.1 in
     record {
       steps = stepped_on x c.answer_going.new.stacks _ e name s v c.in_order.ensures stands (o.of_it ∙ is_of_it x c.in_order.ensures c.args.number c.args.token o.awaited) is_put
           o.opening refl refl (o.exports (x.place + 1) s.stack) (o.pins (x.place + 1) s.stack) (o.claims (x.place + 1) s.stack)

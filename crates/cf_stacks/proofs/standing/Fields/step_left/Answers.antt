@@ -4,7 +4,7 @@ use Rattle.cf_tree.specs.Keys.{put, value_at}
 use Rattle.cf_stacks.specs.declared.standing.Fields.{Fields}
 use Rattle.cf_effect.specs.Fold.{numbered}
 use Rattle.cf_stacks.specs.Room.{StackStanding}
-use Rattle.cf_stacks.specs.Standing.{Named, calls_in, calls_total, left_as, stack_known, world_in}
+use Rattle.cf_stacks.specs.Standing.{NamedStanding, calls_in, calls_total, left_as, stack_known, world_in}
 use Rattle.cf_effect.specs.World.{World}
 use Rattle.cf_stacks.proofs.Stepped.{after, awaited_put, changed_put}
 use Rattle.cf_stacks.proofs.Totals.{total_left}

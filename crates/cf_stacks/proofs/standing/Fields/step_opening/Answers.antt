@@ -1,6 +1,6 @@
 use Rattle.std.proofs.Common.{◌≡◌, ◌+◌, refl, ap, map, ◌∙◌}
 use Rattle.cf_stacks.specs.declared.standing.Fields.{Fields}
-use Rattle.cf_stacks.specs.Standing.{Named, calls_in, calls_total, opened_as, standing_in, world_in}
+use Rattle.cf_stacks.specs.Standing.{NamedStanding, calls_in, calls_total, opened_as, standing_in, world_in}
 use Rattle.cf_stacks.proofs.Stepped.{after, awaited_all, changed_all}
 use Rattle.cf_stacks.proofs.Totals.{total_opened}
 use Rattle.cf_stacks.proofs.standing.Fields.step_opening.Goals as goal
